@@ -1,0 +1,13 @@
+pub mod Views
+pub mod Trimming
+pub mod KeySets
+pub mod LineCuts
+pub mod Groups
+pub mod Steps
+pub mod PlainTexts
+pub mod Heads
+pub mod Runs
+pub mod Meaning
+pub mod Levels
+pub mod LineContents
+pub mod Theorem

@@ -1,0 +1,153 @@
+-- The plain text at the front of a line is what reading it from the left gives.
+use Rattle.std.proofs.Common.{◌≡◌, ℕ, zero, suc, ◌<◌, ◌≤◌, Bool, true, false, List, [], ◌∷◌, ◌++◌, length, take, drop, get_or, refl, sym, ap, subst, ◌∙◌, inl, inr, arith, append_assoc, length-take-le, take-append-drop}
+use Rattle.std.proofs.lemmas.Bool.{cases_Bool, cases_lt, both_ways}
+use Rattle.std.proofs.lemmas.List.{append-nil}
+use Rattle.std.proofs.Math.Seq.{take-append_seam, drop-append_seam}
+use Rattle.yaml_subset.specs.Bytes.{is_blank, begins_blank, begins_plain}
+use Rattle.yaml_subset.specs.Plain.{AreBlank, IsBehindBlanks, ends_plain, ends_at, IsFirstEnd, EndsInNoBlank, IsPlain}
+use Rattle.yaml_subset.specs.Scanning.{plain_len, onto_trimmed, trimmed, skipped, plain_front, plain_rest}
+use Rattle.yaml_subset.proofs.Trimming.{last_split, trimmed-blank, trimmed_all}
+
+-- ---- where a plain text ends
+
+-- whether it ends at the place n, behind a byte
+abbrev ends_from : ℕ → List ℕ → ℕ → Bool
+ends_from before text n = ends_plain (get_or (before ∷ text) n 0) (drop n text)
+
+here_step : (before b : ℕ) (bs : List ℕ) (e : Bool) → ends_plain before (b ∷ bs) ≡ e → ends_from b bs (plain_len b bs) ≡ true → ends_from before (b ∷ bs) (plain_len before (b ∷ bs)) ≡ true
+here_step before b bs true e h = rw e e
+here_step before b bs false e h = rw e h
+
+here : (before : ℕ) (text : List ℕ) → ends_from before text (plain_len before text) ≡ true
+here before [] = refl
+here before (b ∷ bs) = here_step before b bs (ends_plain before (b ∷ bs)) refl (here b bs)
+
+len_yes : (before b : ℕ) (bs : List ℕ) → ends_plain before (b ∷ bs) ≡ true → plain_len before (b ∷ bs) ≡ 0
+len_yes before b bs e = rw e refl
+
+len_no : (before b : ℕ) (bs : List ℕ) → ends_plain before (b ∷ bs) ≡ false → plain_len before (b ∷ bs) ≡ suc (plain_len b bs)
+len_no before b bs e = rw e refl
+
+not_before : (before : ℕ) (text : List ℕ) (k : ℕ) → k < plain_len before text → ends_from before text k ≡ false
+not_before before [] k h = absurd (omega arith)
+not_before before (b ∷ bs) zero h =
+    elim (cases_Bool (ends_plain before (b ∷ bs))) [
+      | inl t ↦ let z = len_yes before b bs t in absurd (omega arith)
+      | inr f ↦ f
+    ]
+not_before before (b ∷ bs) (suc k) h =
+    elim (cases_Bool (ends_plain before (b ∷ bs))) [
+      | inl t ↦ let z = len_yes before b bs t in absurd (omega arith)
+      | inr f ↦ let z = len_no before b bs f in not_before b bs k (omega arith)
+    ]
+
+pub plain_len-le : (before : ℕ) (text : List ℕ) → plain_len before text ≤ length text
+plain_len-le before [] = omega arith
+plain_len-le before (b ∷ bs) =
+    let below = plain_len-le b bs in
+    elim (cases_Bool (ends_plain before (b ∷ bs))) [
+      | inl t ↦ let z = len_yes before b bs t in omega arith
+      | inr f ↦ let z = len_no before b bs f in omega arith
+    ]
+
+pub first_end : (text : List ℕ) → IsFirstEnd text (plain_len 32 text)
+first_end text = record { here = here 32 text; not_before = not_before 32 text }
+
+pub first_end-is : (text : List ℕ) (n : ℕ) → IsFirstEnd text n → n ≡ plain_len 32 text
+first_end-is text n h =
+    elim (cases_lt n (plain_len 32 text)) [
+      | inl less ↦ absurd (both_ways (ends_at text n) (not_before 32 text n less) h.here)
+      | inr le ↦ elim (cases_lt (plain_len 32 text) n) [
+        | inl more ↦ absurd (both_ways (ends_at text (plain_len 32 text)) (h.not_before (plain_len 32 text) more) (here 32 text))
+        | inr ge ↦ omega arith
+      ]
+    ]
+
+-- ---- blanks at the end
+
+push_is_no_nil : (front : List ℕ) (b : ℕ) → [] ≡ front ++ b ∷ [] → ⊥
+push_is_no_nil [] b e = absurd cc
+push_is_no_nil (f ∷ fs) b e = absurd cc
+
+trimmed_step : (x : ℕ) (xs ts : List ℕ) → trimmed xs ≡ ts → (blanks : List ℕ) → AreBlank blanks → xs ≡ ts ++ blanks → (more : List ℕ) × AreBlank more × (x ∷ xs ≡ onto_trimmed x ts ++ more)
+trimmed_step x xs [] e blanks are parts =
+    elim (cases_Bool (is_blank x)) [
+      | inl t ↦ (x ∷ blanks, (t, are), rw t (ap (λ (ys : List ℕ). x ∷ ys) parts))
+      | inr f ↦ (blanks, are, rw f (ap (λ (ys : List ℕ). x ∷ ys) parts))
+    ]
+trimmed_step x xs (t ∷ ts) e blanks are parts = (blanks, are, ap (λ (ys : List ℕ). x ∷ ys) parts)
+
+trimmed_parts : (xs : List ℕ) → (blanks : List ℕ) × AreBlank blanks × (xs ≡ trimmed xs ++ blanks)
+trimmed_parts [] = ([], tt, refl)
+trimmed_parts (x ∷ xs) = let r = trimmed_parts xs in trimmed_step x xs (trimmed xs) refl r.0 r.1 r.2
+
+one_end : (x : ℕ) (front : List ℕ) (b : ℕ) → is_blank x ≡ false → x ∷ [] ≡ front ++ b ∷ [] → is_blank b ≡ false
+one_end x [] b f e = let same : x ≡ b = cc in subst (λ y. is_blank y ≡ false) same f
+one_end x (g ∷ gs) b f e = let more : [] ≡ gs ++ b ∷ [] = cc in absurd (push_is_no_nil gs b more)
+
+onto_ends : (x : ℕ) (ts : List ℕ) → EndsInNoBlank ts → EndsInNoBlank (onto_trimmed x ts)
+onto_ends x [] h front b e =
+    elim (cases_Bool (is_blank x)) [
+      | inl t ↦ absurd (push_is_no_nil front b (rw t at e))
+      | inr f ↦ one_end x front b f (rw f at e)
+    ]
+onto_ends x (t ∷ ts) h [] b e = absurd cc
+onto_ends x (t ∷ ts) h (f ∷ fs) b e = let k : t ∷ ts ≡ fs ++ b ∷ [] = cc in h fs b k
+
+trimmed_ends : (xs : List ℕ) → EndsInNoBlank (trimmed xs)
+trimmed_ends [] = λ front b e. absurd (push_is_no_nil front b e)
+trimmed_ends (x ∷ xs) = onto_ends x (trimmed xs) (trimmed_ends xs)
+
+trimmed-blanks : (xs blanks : List ℕ) → AreBlank blanks → trimmed (xs ++ blanks) ≡ trimmed xs
+trimmed-blanks xs [] h = ap trimmed (append-nil xs)
+trimmed-blanks xs (b ∷ bs) h = ap trimmed (sym (append_assoc xs (b ∷ []) bs)) ∙ trimmed-blanks (xs ++ b ∷ []) bs h.1 ∙ trimmed-blank xs b h.0
+
+trimmed_same : (xs : List ℕ) → EndsInNoBlank xs → trimmed xs ≡ xs
+trimmed_same [] h = refl
+trimmed_same (x ∷ xs) h =
+    let long : 1 ≤ length (x ∷ xs) = omega arith in
+    trimmed_all (x ∷ xs) long (h _ _ (sym (last_split (x ∷ xs) long)))
+
+pub trimmed_is : (plain blanks : List ℕ) → AreBlank blanks → EndsInNoBlank plain → trimmed (plain ++ blanks) ≡ plain
+trimmed_is plain blanks are h = trimmed-blanks plain blanks are ∙ trimmed_same plain h
+
+-- ---- blanks at the front
+
+pub behind_blanks : (text : List ℕ) → IsBehindBlanks text (skipped text)
+behind_blanks [] = record { blanks = []; are_blank = tt; parts = refl; no_more = refl }
+behind_blanks (b ∷ bs) =
+    elim (cases_Bool (is_blank b)) [
+      | inl t ↦ let r = behind_blanks bs in rw t (record { blanks = b ∷ r.blanks; are_blank = (t, r.are_blank); parts = ap (λ (xs : List ℕ). b ∷ xs) r.parts; no_more = r.no_more })
+      | inr f ↦ rw f (record { blanks = []; are_blank = tt; parts = refl; no_more = f })
+    ]
+
+skipped_none : (rest : List ℕ) → begins_blank rest ≡ false → skipped rest ≡ rest
+skipped_none [] h = refl
+skipped_none (b ∷ bs) h = rw h refl
+
+skipped_all : (blanks rest : List ℕ) → AreBlank blanks → begins_blank rest ≡ false → skipped (blanks ++ rest) ≡ rest
+skipped_all [] rest are h = skipped_none rest h
+skipped_all (b ∷ bs) rest are h = rw are.0 (skipped_all bs rest are.1 h)
+
+pub behind_blanks-is : (text rest : List ℕ) → IsBehindBlanks text rest → skipped text ≡ rest
+behind_blanks-is text rest h = ap skipped h.parts ∙ skipped_all h.blanks rest h.are_blank h.no_more
+
+-- ---- both together
+
+pub plain_at : (text : List ℕ) → begins_plain text ≡ true → (blanks : List ℕ) × IsPlain text (trimmed (plain_front text)) blanks (plain_rest text) × (plain_front text ≡ trimmed (plain_front text) ++ blanks)
+plain_at text begins =
+    let front = plain_front text in
+    let r = trimmed_parts front in
+    let len : length (trimmed front ++ r.0) ≡ plain_len 32 text = ap length (sym r.2) ∙ length-take-le (plain_len 32 text) text (plain_len-le 32 text) in
+    let whole : text ≡ trimmed front ++ (r.0 ++ plain_rest text) =
+    sym (take-append-drop (plain_len 32 text) text) ∙ ap (λ (xs : List ℕ). xs ++ plain_rest text) r.2 ∙ append_assoc (trimmed front) r.0 (plain_rest text) in
+    (r.0, record { begins = begins; parts = whole; ends = subst (IsFirstEnd text) (sym len) (first_end text); are_blank = r.1; no_more = trimmed_ends front }, r.2)
+
+pub plain_is : (text plain blanks rest : List ℕ) → IsPlain text plain blanks rest → (plain_front text ≡ plain ++ blanks) × (plain_rest text ≡ rest) × (trimmed (plain ++ blanks) ≡ plain)
+plain_is text plain blanks rest h =
+    let len = first_end-is text (length (plain ++ blanks)) h.ends in
+    let whole : text ≡ (plain ++ blanks) ++ rest = h.parts ∙ sym (append_assoc plain blanks rest) in (
+      ap (λ n. take n text) (sym len) ∙ ap (take (length (plain ++ blanks))) whole ∙ take-append_seam (plain ++ blanks) rest,
+      ap (λ n. drop n text) (sym len) ∙ ap (drop (length (plain ++ blanks))) whole ∙ drop-append_seam (plain ++ blanks) rest,
+      trimmed_is plain blanks h.are_blank h.no_more,
+    )

@@ -1,0 +1,9 @@
+pub mod Node
+pub mod Bytes
+pub mod Plain
+pub mod TextLines
+pub mod TreeOf
+pub mod Scanning
+pub mod Reading
+pub mod View
+pub mod Inside

@@ -1,0 +1,52 @@
+-- The lines of a text, and which of them have content.
+use Rattle.std.specs.Prelude.{◌≡◌, ℕ, ◌+◌, true, false, List, [], ◌∷◌, ◌++◌, replicate, Option, Some, None, if◌then◌else◌, ◌==◌}
+use Rattle.std.specs.List.{slice_split, AllByRecursion}
+use Rattle.std.specs.Option.{option_to_list}
+use Rattle.std.specs.Str.{IsUtf8, chars}
+use Rattle.yaml_subset.specs.Bytes.{begins_blank, is_over, is_marker, is_forbidden}
+use Rattle.yaml_subset.specs.Plain.{IsBehindBlanks}
+
+-- a line with content: its number, its indentation, and what stands behind the spaces at its front
+pub record Line : Type 0 where
+  pub number : ℕ
+  pub indent : ℕ
+  pub text : List ℕ
+
+-- a line without the CR before its LF
+abbrev pub without_cr : List ℕ → List ℕ
+without_cr [] = []
+without_cr (b ∷ []) = if b == 13 then [] else b ∷ []
+without_cr (b ∷ c ∷ cs) = b ∷ without_cr (c ∷ cs)
+
+-- the lines that the parts between LFs are: each but the last ends with LF or CR LF
+abbrev pub lines_between : List (List ℕ) → List (List ℕ)
+lines_between [] = []
+lines_between (last ∷ []) = last ∷ []
+lines_between (part ∷ next ∷ more) = without_cr part ∷ lines_between (next ∷ more)
+
+-- the lines of a text
+abbrev pub lines_of : List ℕ → List (List ℕ)
+lines_of text = lines_between (slice_split (λ b. b == 10) text)
+
+-- Spaces, and then a text: neither a blank comes first nor a comment, and the line is no `---` or `...`.
+pub record IsContent (raw : List ℕ) (l : Line) : Type 0 where
+  pub parts : raw ≡ replicate l.indent 32 ++ l.text
+  pub no_more : begins_blank l.text ≡ false
+  pub not_over : is_over l.text ≡ false
+  pub no_marker : is_marker raw ≡ false
+
+-- What the line n holds: nothing but blanks and a comment, or content.
+abbrev pub Holds : ℕ → List ℕ → Option Line → Type 0
+Holds n raw None = (rest : List ℕ) × IsBehindBlanks raw rest × (is_over rest ≡ true)
+Holds n raw (Some l) = (l.number ≡ n) × IsContent raw l
+
+-- a line of UTF-8 without a forbidden character
+pub record IsTextLine (n : ℕ) (raw : List ℕ) (found : Option Line) : Type 0 where
+  pub utf8 : IsUtf8 raw
+  pub allowed : AllByRecursion (λ c. is_forbidden c ≡ false) (chars raw)
+  pub holds : Holds n raw found
+
+-- the lines with content, of lines with the numbers from n on
+abbrev pub HaveContent : ℕ → List (List ℕ) → List Line → Type 0
+HaveContent n [] lines = lines ≡ []
+HaveContent n (raw ∷ raws) lines = (found : Option Line) × (rest : List Line) × IsTextLine n raw found × HaveContent (n + 1) raws rest × (lines ≡ option_to_list found ++ rest)

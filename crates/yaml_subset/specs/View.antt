@@ -1,0 +1,57 @@
+-- What contracts see of a tree, and of an answer.
+use Rattle.std.specs.Prelude.{◌≡◌, ℕ, List, map, Option, Some, None, Result, Ok, Err}
+use Rattle.std.specs.Borrow.{Bor}
+use Rattle.yaml_subset.specs.declared.fault.Fault.{Fault}
+use Rattle.yaml_subset.specs.declared.fault.YamlFault.{YamlFault}
+use Rattle.yaml_subset.specs.declared.fault.YamlFault.TheVariants as faults
+use Rattle.yaml_subset.specs.declared.tree.Key.{Key}
+use Rattle.yaml_subset.specs.declared.tree.Tree.{Tree, fold-Tree}
+use Rattle.yaml_subset.specs.declared.tree.Tree.TheOpen.{Tree-F}
+use Rattle.yaml_subset.specs.Node.{Node, scalar, sequence, mapping, Pair, nodes_of, pairs_of, list_pairs}
+
+-- one level of a tree, each value in it seen already
+abbrev pub pair_step : (Key × Node) → Pair
+pair_step p = record { line = p.0.line; key = p.0.text.items; value = p.1 }
+
+abbrev pub node_step : Tree-F Node → Node
+node_step (Tree-F.Scalar n text) = scalar n text.items
+node_step (Tree-F.List n items) = sequence n (nodes_of items.items)
+node_step (Tree-F.Map n pairs) = mapping n (pairs_of (map pair_step pairs.items))
+
+-- the node that a tree is
+abbrev pub node_view : Tree → Node
+node_view = fold-Tree Node node_step
+
+-- the pair that a key and its tree are
+abbrev pub pair_view : (Key × Tree) → Pair
+pair_view p = record { line = p.0.line; key = p.0.text.items; value = node_view p.1 }
+
+-- the line of a node
+abbrev pub line_of : Node → ℕ
+line_of (scalar n text) = n
+line_of (sequence n items) = n
+line_of (mapping n pairs) = n
+
+-- the text of a scalar
+abbrev pub text_in : Node → Option (List ℕ)
+text_in (scalar n text) = Some text
+text_in _ = None
+
+-- the pairs of a mapping
+abbrev pub pairs_in : Node → Option (List Pair)
+pairs_in (mapping n pairs) = Some (list_pairs pairs)
+pairs_in _ = None
+
+-- what stands behind an optional reference to a list, seen by f
+abbrev pub option_slice : {A B : Type 0} → (List A → B) → Option (Bor (List A)) → Option B
+option_slice f None = None
+option_slice f (Some s) = Some (f s.now)
+
+-- An answer, seen by view, is what reading gives, unless memory ran out.
+abbrev pub Fails : {Y : Type 0} → YamlFault → Result Y Fault → Type 0
+Fails faults.NoMemory read = Unit {0}
+Fails (faults.Text f) read = read ≡ Err f
+
+abbrev pub Gives : {X Y : Type 0} → (X → Y) → Result X YamlFault → Result Y Fault → Type 0
+Gives view (Ok x) read = read ≡ Ok (view x)
+Gives view (Err e) read = Fails e read

@@ -1,0 +1,91 @@
+//! Why a text has no tree.
+
+ghost use Rattle.std.specs.Prelude.{◌≡◌};
+ghost use Rattle.yaml_subset.specs.declared.fault.YamlFault.TheVariants.{NoMemory};
+
+use std::alloc::{AllocError, AllocFailed};
+use thiserror::Error;
+
+/// What is wrong with a text at a line.
+#[derive(Clone, Copy, Debug, PartialEq, Eq, Error)]
+pub enum FaultKind {
+    /// The bytes of the line are not UTF-8.
+    #[error("NotUtf8")]
+    NotUtf8,
+    /// A tab stands among the blanks that indent a line with content.
+    #[error("Tab")]
+    Tab,
+    /// The line is deeper than its block allows, or at an indentation that no open block has.
+    #[error("Indent")]
+    Indent,
+    /// The key stands in its mapping already.
+    #[error("DuplicateKey")]
+    DuplicateKey,
+    /// A quoted text is not closed on its line, has an unknown escape, or is followed by other
+    /// text. It is answered from the stage on that reads quotes; till then they are `NotInSubset`.
+    #[error("Quote")]
+    Quote,
+    /// A list in brackets or a mapping in braces is malformed. It is answered from the stage on that
+    /// reads these; till then they are `NotInSubset`.
+    #[error("Flow")]
+    Flow,
+    /// A form of YAML that is not read, or a character that no text may have.
+    #[error("NotInSubset")]
+    NotInSubset,
+    /// More than 32 mappings stand one inside the other.
+    #[error("TooDeep")]
+    TooDeep,
+    /// The text has more than 1 MiB.
+    #[error("TooLong")]
+    TooLong,
+}
+
+/// A fault and the line where it stands, counted from 1.
+#[derive(Clone, Copy, Debug, PartialEq, Eq)]
+pub struct Fault {
+    pub kind: FaultKind,
+    pub line: u32,
+}
+
+/// Why a text was not read.
+#[derive(Clone, Copy, Debug, PartialEq, Eq)]
+pub enum YamlFault {
+    /// Memory ran out.
+    NoMemory,
+    /// The text has a fault: the first one.
+    Text(Fault),
+}
+
+impl Fault {
+    /// A fault of a kind at a line.
+    pub fn new(kind: FaultKind, line: u32) -> Self
+        ensures { result ≡ record { kind = kind; line = line } }
+    {
+        Fault { kind, line }
+    }
+}
+
+impl YamlFault {
+    /// The answer that a text has a fault of a kind at a line.
+    pub fn at(kind: FaultKind, line: u32) -> Self
+        ensures { result ≡ YamlFault.Text (record { kind = kind; line = line }) }
+    {
+        YamlFault::Text(Fault::new(kind, line))
+    }
+}
+
+impl From<AllocError> for YamlFault {
+    ghost from_gives = { λ _ e. e ≡ NoMemory };
+
+    fn from(_e: AllocError) -> YamlFault {
+        YamlFault::NoMemory
+    }
+}
+
+impl<T: Drop> From<AllocFailed<T>> for YamlFault {
+    ghost from_gives = { λ _ e. e ≡ NoMemory };
+
+    fn from(_e: AllocFailed<T>) -> YamlFault {
+        YamlFault::NoMemory
+    }
+}

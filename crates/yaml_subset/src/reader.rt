@@ -1,0 +1,57 @@
+//! The tree of a text.
+
+ghost use Rattle.std.specs.Prelude.{◌≡◌, ◌≢◌, ℕ, IfOk, IfErr};
+ghost use Rattle.yaml_subset.specs.Node.{Node};
+ghost use Rattle.yaml_subset.specs.TreeOf.{IsTreeOf, IsAbove};
+ghost use Rattle.yaml_subset.specs.Reading.{read_at};
+ghost use Rattle.yaml_subset.specs.View.{node_view, Gives};
+
+use crate::block::tree;
+use crate::fault::{FaultKind, YamlFault};
+use crate::lines::content_lines;
+use crate::tree::Tree;
+use std::alloc::Global;
+
+/// The most bytes that a text may have: 1 MiB.
+pub const MAX_BYTES: usize = 1_048_576;
+
+/// The most mappings that may stand one inside the other, the one of the text itself among them.
+pub const MAX_LEVELS: u8 = 32;
+
+// The tree of a text, or its first fault.
+#[tactic(auto, unfolding(crate::specs::Reading::read_at))]
+fn read_exactly(alloc: Global, text: &[u8]) -> Result<Tree, YamlFault>
+    ensures { Gives node_view result (read_at text.now) }
+{
+    if text.len() > MAX_BYTES {
+        return Err(YamlFault::at(FaultKind::TooLong, 1));
+    }
+    let found = content_lines(alloc, text)?;
+    let tree = tree(alloc, &found.lines, MAX_LEVELS)?;
+    match found.fault {
+        None => Ok(tree),
+        Some(fault) => Err(YamlFault::Text(fault)),
+    }
+}
+
+/// The tree of a text, or its first fault: the fault of the first line that has one, and there the
+/// left one, but that bytes which are not UTF-8 and characters which no text may have are found
+/// before all else on their line. A text of more than 1 MiB is `TooLong` at line 1, whatever else
+/// is wrong with it. A text without content is an empty mapping at line 1.
+///
+/// `NoMemory` is answered where memory runs out before a fault is found.
+pub fn read(alloc: Global, text: &[u8]) -> Result<Tree, YamlFault>
+    // What is read is the tree of the text.
+    ensures found { IfOk result (λ tree. IsTreeOf 32 text.now (node_view tree)) }
+
+    // The text has no other tree, however many levels are allowed.
+    ensures only { IfOk result (λ tree. (levels : ℕ) (t : Node) → IsTreeOf levels text.now t → t ≡ node_view tree) }
+
+    // A text that is refused has no tree within the limits.
+    ensures refused { IfErr result (λ e. e ≢ YamlFault.NoMemory → (levels : ℕ) (t : Node) → IsTreeOf levels text.now t → IsAbove levels text.now) }
+
+    // Which fault it is, and its line, is what reading line by line gives.
+    ensures exact { Gives node_view result (read_at text.now) }
+{
+    read_exactly(alloc, text)
+}

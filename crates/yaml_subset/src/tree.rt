@@ -1,0 +1,56 @@
+//! What a text says.
+
+ghost use Rattle.std.specs.Prelude.{◌≡◌, map};
+ghost use Rattle.yaml_subset.specs.View.{node_view, pair_view, line_of, text_in, pairs_in, option_slice};
+
+/// A key, with the line where it begins.
+#[derive(Debug, Drop)]
+pub struct Key {
+    pub line: u32,
+    pub text: Vec<u8>,
+}
+
+/// A node of a text, with the line where it begins, counted from 1. An empty value has the line
+/// of its key.
+#[derive(Debug, Drop)]
+pub enum Tree {
+    /// A text; the empty text where no value stands.
+    Scalar(u32, Vec<u8>),
+    /// Nodes in order.
+    List(u32, Vec<Tree>),
+    /// Keys with their values, in order; no key stands twice.
+    Map(u32, Vec<(Key, Tree)>),
+}
+
+impl Tree {
+    /// The line where the node begins.
+    pub fn line(&self) -> u32
+        ensures { result ≡ line_of (node_view self.now) }
+    {
+        match self {
+            Tree::Scalar(line, _) => *line,
+            Tree::List(line, _) => *line,
+            Tree::Map(line, _) => *line,
+        }
+    }
+
+    /// The text of a scalar.
+    pub fn as_scalar(&self) -> Option<&[u8]>
+        ensures { option_slice (λ text. text) result ≡ text_in (node_view self.now) }
+    {
+        match self {
+            Tree::Scalar(_, text) => Some(text),
+            _ => None,
+        }
+    }
+
+    /// The pairs of a mapping.
+    pub fn as_map(&self) -> Option<&[(Key, Tree)]>
+        ensures { option_slice (map pair_view) result ≡ pairs_in (node_view self.now) }
+    {
+        match self {
+            Tree::Map(_, pairs) => Some(pairs),
+            _ => None,
+        }
+    }
+}
