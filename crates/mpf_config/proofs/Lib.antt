@@ -1,0 +1,12 @@
+pub mod Writing
+pub mod EachRead
+pub mod Items
+pub mod Names
+pub mod Pairs
+pub mod Trimming
+pub mod ListTexts
+pub mod Steps
+pub mod FirstLines
+pub mod MachineTexts
+pub mod Meaning
+pub mod Theorem
