@@ -1,0 +1,9 @@
+pub mod Places
+pub mod Named
+pub mod Firsts
+pub mod Noted
+pub mod Added
+pub mod BoundSteps
+pub mod Judged
+pub mod ValidPlan
+pub mod Planned

@@ -1,0 +1,50 @@
+-- The place of a name among named things: it is there, and nothing else has the name.
+use Rattle.std.proofs.Common.{◌≡◌, ℕ, ◌+◌, ◌<◌, ◌≤◌, ◌≢◌, Bool, true, false, cond, not, List, [], ◌∷◌, length, map, get_or, Some, None, nat_lt, refl, sym, ◌∙◌, ap, true≢false, arith}
+use Rattle.std.specs.Str.{bytes_eq}
+use Rattle.std.specs.List.{position, position_or_len}
+use Rattle.std.proofs.lemmas.Bool.{ltb-false}
+use Rattle.std.proofs.lemmas.List.{length-map}
+use Rattle.std.proofs.lemmas.List.Quantifiers.{position-Some}
+use Rattle.std.proofs.lemmas.List.Sums.{fails_before_first, prefix_len-le-length}
+use Rattle.std.specs.Prelude.{unwrap_or}
+use Rattle.std.proofs.lemmas.Slice.Eq.{bytes_eq-Decides}
+use Rattle.std.proofs.lemmas.Option.{none-some}
+
+-- the first place where an item passes as it is seen
+pub position_or_len-map : {X Y : Type 0} (f : X → Y) (p : Y → Bool) (xs : List X) → position_or_len p (map f xs) ≡ position_or_len (λ x. p (f x)) xs
+position_or_len-map f p [] = refl
+position_or_len-map f p (x ∷ xs) = ap (λ n. cond (not (p (f x))) (1 + n) 0) (position_or_len-map f p xs)
+
+pub position-map : {X Y : Type 0} (f : X → Y) (p : Y → Bool) (xs : List X) → position p (map f xs) ≡ position (λ x. p (f x)) xs
+position-map f p xs = rw (position_or_len-map f p xs, length-map xs f) refl
+
+-- the place, or the length where there is none
+pub position-or_len : {X : Type 0} (p : X → Bool) (xs : List X) → unwrap_or (position p xs) (length xs) ≡ position_or_len p xs
+position-or_len p xs = by (nat_lt (position_or_len p xs) (length xs)) (ltb-false (position_or_len p xs) (length xs))
+  where
+    by : (b : Bool) → (b ≡ false → length xs ≤ position_or_len p xs) → unwrap_or (cond b (Some (position_or_len p xs)) None) (length xs) ≡ position_or_len p xs
+    by true past = refl
+    by false past = omega (arith, past refl, prefix_len-le-length (λ x. not (p x)) xs)
+
+none_within : (place count : ℕ) → cond (nat_lt place count) (Some place) None ≡ None → count ≤ place
+none_within place count = by (nat_lt place count) (ltb-false place count)
+  where
+    by : (b : Bool) → (b ≡ false → count ≤ place) → cond b (Some place) None ≡ None → count ≤ place
+    by true past e = absurd (none-some place (sym e))
+    by false past e = past refl
+
+module _ {X : Type 0} (key : X → List ℕ) (name : List ℕ) where
+  -- where a name is found, it stands
+  pub found_at : (xs : List X) (i : ℕ) (d : X) → position (λ x. bytes_eq name (key x)) xs ≡ Some i → key (get_or xs i d) ≡ name
+  found_at xs i d at = sym ((bytes_eq-Decides name (key (get_or xs i d))).0 (position-Some (λ x. bytes_eq name (key x)) xs i d at).1)
+
+  pub found_within : (xs : List X) (i : ℕ) → position (λ x. bytes_eq name (key x)) xs ≡ Some i → i < length xs
+  found_within [] i at = absurd (none-some i at)
+  found_within (x ∷ xs) i at = (position-Some (λ y. bytes_eq name (key y)) (x ∷ xs) i x at).0
+
+  -- where it is not found, nothing has it
+  pub absent : (xs : List X) → position (λ x. bytes_eq name (key x)) xs ≡ None → (i : ℕ) (d : X) → i < length xs → key (get_or xs i d) ≢ name
+  absent xs none i d within same =
+      let past : length xs ≤ position_or_len (λ x. bytes_eq name (key x)) xs = none_within (position_or_len (λ x. bytes_eq name (key x)) xs) (length xs) none in
+      let at : i < position_or_len (λ x. bytes_eq name (key x)) xs = omega arith in
+      true≢false (sym ((bytes_eq-Decides name (key (get_or xs i d))).1 (sym same)) ∙ fails_before_first (λ x. bytes_eq name (key x)) xs i d at)

@@ -1,0 +1,10 @@
+use Rattle.std.proofs.Common.{map, drop}
+use Rattle.std.specs.List.{flat_map}
+use Rattle.mpf_config.specs.View.{switch_view}
+use Rattle.mpf_plan.specs.Uses.{switch_uses}
+use Rattle.mpf_plan.specs.Noting.{names_of}
+use Rattle.mpf_plan.proofs.Noted.{IsNoting}
+use Rattle.mpf_plan.proofs.events.note_switches.Given as goal
+
+abbrev pub invariant-loop-row : goal.invariant-loop-row
+invariant-loop-row l = IsNoting (names_of l.initial.events.keys) (flat_map switch_uses (map switch_view l.rows)) (names_of l.events.keys) (flat_map switch_uses (map switch_view (drop l.row-index l.rows)))

@@ -1,0 +1,12 @@
+use Rattle.std.proofs.Common.{sym, ap, ◌∙◌}
+use Rattle.std.specs.Prelude.{unwrap_or}
+use Rattle.std.specs.Str.{bytes_eq}
+use Rattle.std.specs.List.{position}
+use Rattle.mpf_plan.proofs.Places.{position_or_len-map, position-or_len}
+use Rattle.mpf_plan.proofs.events.number_of.Goals as goal
+
+pub returns : goal.returns
+returns c =
+    let keys = c.args.events.now.keys in
+    let place = c.unwrap_or-place.ensures ∙ ap (λ o. unwrap_or o c.len.result) c.get_index_of.ensures.index ∙ ap (unwrap_or (position (λ k. bytes_eq c.args.name.now k.items) keys)) c.len.ensures.len ∙ position-or_len (λ k. bytes_eq c.args.name.now k.items) keys in
+    ap (λ n. record { 0 = n }) (place ∙ sym (position_or_len-map (λ k. k.items) (bytes_eq c.args.name.now) keys))

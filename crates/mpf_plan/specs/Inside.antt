@@ -1,0 +1,24 @@
+-- What a plan's fields hold.
+use Rattle.std.specs.Prelude.{ℕ, List, map, Vec}
+use Rattle.std.specs.Global.{Global}
+use Rattle.mpf_plan.specs.declared.entries.Action.{Action}
+use Rattle.mpf_plan.specs.declared.entries.Binding.{Binding}
+use Rattle.mpf_plan.specs.declared.tables.SwitchPosts.{SwitchPosts}
+use Rattle.mpf_plan.specs.declared.tables.Plan.TheInside.{Inside}
+use Rattle.mpf_plan.specs.PlanView.{Switch, PlanView}
+
+-- a switch's name, with its posts
+abbrev pub switch_view : Vec ℕ Global × SwitchPosts → Switch
+switch_view e = record { name = e.0.items; active = e.1.active.items; inactive = e.1.inactive.items }
+
+-- the tables as they lie in a plan's fields
+abbrev pub tables_view : List (Vec ℕ Global) → List (Vec ℕ Global × SwitchPosts) → List (Vec Action Global) → List Binding → PlanView
+tables_view events switches lists bindings = record {
+  events = map (λ v. v.items) events;
+  switches = map switch_view switches;
+  lists = map (λ v. v.items) lists;
+  bindings = bindings;
+}
+
+abbrev pub plan_view : Inside → PlanView
+plan_view p = tables_view p.events.keys p.switches.entries p.lists.items p.bindings.items

@@ -1,0 +1,45 @@
+-- A plan, apart from where it lies in memory.
+use Rattle.std.specs.Prelude.{ℕ, List, [], Bool, Option, if◌then◌else◌, slice_index_or, position, option_map}
+use Rattle.std.specs.Str.{bytes_eq}
+use Rattle.mpf_plan.specs.declared.entries.EventId.{EventId}
+use Rattle.mpf_plan.specs.declared.entries.SwitchId.{SwitchId}
+use Rattle.mpf_plan.specs.declared.entries.ListId.{ListId}
+use Rattle.mpf_plan.specs.declared.entries.Action.{Action}
+use Rattle.mpf_plan.specs.declared.entries.Binding.{Binding}
+
+-- a switch: its name, and what it posts when it becomes active and inactive
+pub record Switch : Type 0 where
+  pub name : List ℕ
+  pub active : List EventId
+  pub inactive : List EventId
+
+-- names stand at their numbers, effect lists at theirs, and bindings in plan order
+pub record PlanView : Type 0 where
+  pub events : List (List ℕ)
+  pub switches : List Switch
+  pub lists : List (List Action)
+  pub bindings : List Binding
+
+-- the name of an event
+abbrev pub name_of_event : PlanView → EventId → List ℕ
+name_of_event plan e = slice_index_or plan.events e.0 []
+
+-- the event of a name, if there is one
+abbrev pub event_named : PlanView → List ℕ → Option EventId
+event_named plan name = option_map (λ n. record { 0 = n }) (position (bytes_eq name) plan.events)
+
+-- a switch by its number
+abbrev pub switch_at : PlanView → SwitchId → Switch
+switch_at plan s = slice_index_or plan.switches s.0 (record { name = []; active = []; inactive = [] })
+
+-- the switch of a name, if there is one
+abbrev pub switch_named : PlanView → List ℕ → Option SwitchId
+switch_named plan name = option_map (λ n. record { 0 = n }) (position (λ s. bytes_eq name s.name) plan.switches)
+
+-- what a switch posts when it becomes active, or inactive
+abbrev pub posts_of : PlanView → SwitchId → Bool → List EventId
+posts_of plan s active = if active then (switch_at plan s).active else (switch_at plan s).inactive
+
+-- the actions of an effect list
+abbrev pub list_at : PlanView → ListId → List Action
+list_at plan l = slice_index_or plan.lists l.0 []

@@ -1,0 +1,38 @@
+-- Every number in a plan is that of an entry, no two entries have one name, and every table is within its limit.
+use Rattle.std.specs.Prelude.{ℕ, ◌≡◌, ◌<◌, ◌≤◌, ◌≢◌, length}
+use Rattle.std.specs.List.{All, AllPairs}
+use Rattle.mpf_plan.specs.declared.entries.EventId.{EventId}
+use Rattle.mpf_plan.specs.declared.entries.Action.{Action}
+use Rattle.mpf_plan.specs.declared.entries.Action.TheVariants.{Post}
+use Rattle.mpf_plan.specs.declared.entries.Target.{Target}
+use Rattle.mpf_plan.specs.declared.entries.Target.TheVariants.{Run}
+use Rattle.mpf_plan.specs.declared.entries.Binding.{Binding}
+use Rattle.mpf_plan.specs.PlanView.{Switch, PlanView}
+
+abbrev pub IsEventWithin : ℕ → EventId → Type 0
+IsEventWithin events e = e.0 < events
+
+abbrev pub IsActionWithin : ℕ → Action → Type 0
+IsActionWithin events (Post e) = e.0 < events
+
+abbrev pub IsTargetWithin : ℕ → Target → Type 0
+IsTargetWithin lists (Run l) = l.0 < lists
+
+abbrev pub IsBindingWithin : PlanView → Binding → Type 0
+IsBindingWithin plan b = (b.event.0 < length plan.events) × IsTargetWithin (length plan.lists) b.target
+
+abbrev pub IsSwitchWithin : ℕ → Switch → Type 0
+IsSwitchWithin events s = All (IsEventWithin events) s.active × All (IsEventWithin events) s.inactive
+
+pub record IsValid (plan : PlanView) : Type 0 where
+  pub event_limit : length plan.events ≤ 4096
+  pub binding_limit : length plan.bindings ≤ 16384
+  pub switch_limit : length plan.switches ≤ 256
+  pub list_limit : length plan.lists ≤ 16384
+  pub event_names : AllPairs (λ x y. x ≢ y) plan.events
+  pub switch_names : AllPairs (λ s t. s.name ≢ t.name) plan.switches
+  pub switches : All (IsSwitchWithin (length plan.events)) plan.switches
+  pub lists : All (All (IsActionWithin (length plan.events))) plan.lists
+  pub bindings : All (IsBindingWithin plan) plan.bindings
+  -- every binding is of the machine, so that equal priorities leave the plan's own order
+  pub priorities : All (λ b. b.priority ≡ 0) plan.bindings

@@ -1,0 +1,39 @@
+//! The plan of rows.
+
+ghost use Rattle.std.specs.Prelude.{◌≡◌, ◌≤◌, IfOk};
+ghost use Rattle.mpf_config.specs.View.{rows_view};
+ghost use Rattle.mpf_plan.specs.declared.fault.Table.{Table as TableValue};
+ghost use Rattle.mpf_plan.specs.Limits.{entry_count, limit_of};
+ghost use Rattle.mpf_plan.specs.PlanOf.{plan_at, plan_of, GivesPlan, IsExceeded};
+
+use crate::bindings::{bind, check_bindings};
+use crate::events::number_events;
+use crate::fault::PlanFault;
+use crate::switches::number_switches;
+use crate::tables::Plan;
+use mpf_config::config::Config;
+use std::alloc::Global;
+
+/// The plan of the rows.
+///
+/// Events are numbered in the order of their first uses: sections and entries as they are
+/// written; a switch uses what it posts, first when it becomes active, then when it becomes
+/// inactive; an entry of `event_player` uses the event that it handles, then those that it posts.
+///
+/// # Errors
+///
+/// `Limit` where a table is above its limit: the first one, in the order of `Table`. The events
+/// are given up on at the first one too many. `NoMemory` where memory runs out.
+pub fn plan(alloc: Global, config: &Config) -> Result<Plan, PlanFault>
+    ensures exact { GivesPlan result (plan_at (rows_view config.now)) }
+    ensures plan { IfOk result (λ p. p ≡ plan_of (rows_view config.now)) }
+    ensures within { IfOk result (λ _. (t : TableValue) → entry_count (plan_of (rows_view config.now)) t ≤ limit_of t) }
+    ensures limit { (t : TableValue) → result ≡ Err (PlanFault.Limit t) → IsExceeded (rows_view config.now) t }
+{
+    let sections = config.machine.sections.as_slice();
+    let events = number_events(alloc, sections)?;
+    check_bindings(sections)?;
+    let switches = number_switches(alloc, &events, sections)?;
+    let bound = bind(alloc, &events, sections)?;
+    Ok(Plan::assemble(events, switches, bound.lists, bound.bindings))
+}

@@ -1,0 +1,47 @@
+//! What stands in a plan's tables.
+
+/// An event, by its number in order of first use.
+#[derive(Clone, Copy, Debug, Default, PartialEq, Eq)]
+pub struct EventId(pub u16);
+
+/// A switch, by its number in order of first use.
+#[derive(Clone, Copy, Debug, Default, PartialEq, Eq)]
+pub struct SwitchId(pub u16);
+
+/// An effect list, by its number.
+#[derive(Clone, Copy, Debug, Default, PartialEq, Eq)]
+pub struct ListId(pub u16);
+
+/// A binding, by its place in plan order.
+#[derive(Clone, Copy, Debug, Default, PartialEq, Eq)]
+pub struct BindingId(pub u16);
+
+/// Who acts: what stands in the machine text belongs to the machine.
+#[derive(Clone, Copy, Debug, PartialEq, Eq)]
+pub enum Owner {
+    Machine,
+}
+
+/// One thing that an effect list does.
+#[derive(Clone, Copy, Debug, PartialEq, Eq)]
+pub enum Action {
+    /// The event goes to the end of the queue.
+    Post(EventId),
+}
+
+/// What a binding does when its turn comes.
+#[derive(Clone, Copy, Debug, PartialEq, Eq)]
+pub enum Target {
+    /// The actions of the effect list, in order.
+    Run(ListId),
+}
+
+/// What is done when an event is handled.
+#[derive(Clone, Copy, Debug, PartialEq, Eq)]
+pub struct Binding {
+    pub event: EventId,
+    pub owner: Owner,
+    /// Of an event's handlers those of higher priority run first: 0 to 1,000,000.
+    pub priority: u32,
+    pub target: Target,
+}

@@ -1,0 +1,175 @@
+//! The plan, and its tables read by number and by text.
+
+use crate::entries::{Action, Binding, BindingId, EventId, ListId, SwitchId};
+use indexmap::{IndexMap, IndexSet};
+use std::marker::Model;
+
+/// A switch's posts when it becomes active, and when it becomes inactive.
+#[derive(Debug, Drop)]
+pub struct SwitchPosts {
+    pub active: Vec<EventId>,
+    pub inactive: Vec<EventId>,
+}
+
+/// The plan of a configuration. Each number in it is that of an entry of its table, no two
+/// events and no two switches have one name, and each table is within its limit.
+#[derive(Drop)]
+pub struct Plan {
+    events: IndexSet<Vec<u8>>,
+    switches: IndexMap<Vec<u8>, SwitchPosts>,
+    lists: Vec<Vec<Action>>,
+    bindings: Vec<Binding>,
+}
+
+impl Model for Plan {
+    ghost use Rattle.mpf_plan.specs.PlanView.{PlanView};
+
+    ghost Value = { PlanView };
+
+    ghost use Rattle.mpf_plan.specs.Inside.{plan_view};
+    ghost use Rattle.mpf_plan.specs.Valid.{IsValid};
+
+    ghost view = { plan_view };
+
+    ghost invariant = { λ p. IsValid (plan_view p) };
+}
+
+impl Plan {
+    ghost use Rattle.std.specs.Prelude.{◌≡◌, ◌<◌, length, slice_get, Contains, IfSome, IfNone};
+    ghost use Rattle.mpf_plan.specs.PlanView.{name_of_event, event_named, switch_at, switch_named, posts_of, list_at};
+    ghost use Rattle.mpf_plan.specs.Inside.{tables_view};
+    ghost use Rattle.mpf_plan.specs.Valid.{IsValid};
+
+    pub(crate) fn assemble(
+        events: IndexSet<Vec<u8>>,
+        switches: IndexMap<Vec<u8>, SwitchPosts>,
+        lists: Vec<Vec<Action>>,
+        bindings: Vec<Binding>,
+    ) -> Plan
+        requires { IsValid (tables_view events.keys switches.entries lists.items bindings.items) }
+        ensures { result ≡ tables_view events.keys switches.entries lists.items bindings.items }
+    {
+        Plan {
+            events,
+            switches,
+            lists,
+            bindings,
+        }
+    }
+
+    /// How many events there are: their numbers are those below.
+    pub fn event_count(&self) -> usize
+        ensures count { result ≡ length self.now.events }
+        ensures valid { IsValid self.now }
+    {
+        self.events.len()
+    }
+
+    /// The name of an event of the plan.
+    pub fn event_name(&self, event: EventId) -> &[u8]
+        requires { event.0 < length self.now.events }
+        ensures name { result.now ≡ name_of_event self.now event }
+        ensures valid { IsValid self.now }
+    {
+        let names = self.events.as_slice();
+        names[event.0 as usize].as_slice()
+    }
+
+    /// The event of a name, or none where no event has it.
+    pub fn find_event(&self, name: &[u8]) -> Option<EventId>
+        ensures event { result ≡ event_named self.now name.now }
+        ensures found { IfSome result (λ e. slice_get self.now.events e.0 ≡ Some name.now) }
+        ensures absent { IfNone result (¬ (Contains self.now.events name.now)) }
+        ensures valid { IsValid self.now }
+    {
+        let place = self.events.get_index_of(name)?;
+        Some(EventId(place as u16))
+    }
+
+    /// How many switches there are: their numbers are those below.
+    pub fn switch_count(&self) -> usize
+        ensures count { result ≡ length self.now.switches }
+        ensures valid { IsValid self.now }
+    {
+        self.switches.len()
+    }
+
+    /// The name of a switch of the plan.
+    pub fn switch_name(&self, switch: SwitchId) -> &[u8]
+        requires { switch.0 < length self.now.switches }
+        ensures name { result.now ≡ (switch_at self.now switch).name }
+        ensures valid { IsValid self.now }
+    {
+        let Some((name, _)) = self.switches.get_index(switch.0 as usize) else {
+            unreachable!()
+        };
+        name.as_slice()
+    }
+
+    /// The switch of a name, or none where no switch has it.
+    pub fn find_switch(&self, name: &[u8]) -> Option<SwitchId>
+        ensures switch { result ≡ switch_named self.now name.now }
+        ensures found { IfSome result (λ s. (switch_at self.now s).name ≡ name.now) }
+        ensures within { IfSome result (λ s. s.0 < length self.now.switches) }
+        ensures valid { IsValid self.now }
+    {
+        let place = self.switches.get_index_of(name)?;
+        Some(SwitchId(place as u16))
+    }
+
+    /// What a switch of the plan posts, in order, when it becomes active, or inactive.
+    pub fn posts(&self, switch: SwitchId, active: bool) -> &[EventId]
+        requires { switch.0 < length self.now.switches }
+        ensures posts { result.now ≡ posts_of self.now switch active }
+        ensures valid { IsValid self.now }
+    {
+        let posts = &self.switches[switch.0 as usize];
+        if active {
+            posts.active.as_slice()
+        } else {
+            posts.inactive.as_slice()
+        }
+    }
+
+    /// How many effect lists there are: their numbers are those below.
+    pub fn list_count(&self) -> usize
+        ensures count { result ≡ length self.now.lists }
+        ensures valid { IsValid self.now }
+    {
+        self.lists.len()
+    }
+
+    /// The actions of an effect list of the plan, in order.
+    pub fn list(&self, list: ListId) -> &[Action]
+        requires { list.0 < length self.now.lists }
+        ensures actions { result.now ≡ list_at self.now list }
+        ensures valid { IsValid self.now }
+    {
+        self.lists[list.0 as usize].as_slice()
+    }
+
+    /// How many bindings there are: their numbers are those below.
+    pub fn binding_count(&self) -> usize
+        ensures count { result ≡ length self.now.bindings }
+        ensures valid { IsValid self.now }
+    {
+        self.bindings.len()
+    }
+
+    /// A binding of the plan.
+    pub fn binding(&self, binding: BindingId) -> Binding
+        requires { binding.0 < length self.now.bindings }
+        ensures binding { slice_get self.now.bindings binding.0 ≡ Some result }
+        ensures valid { IsValid self.now }
+    {
+        self.bindings[binding.0 as usize]
+    }
+
+    /// What is bound to events, in plan order.
+    pub fn bindings(&self) -> &[Binding]
+        ensures bindings { result.now ≡ self.now.bindings }
+        ensures valid { IsValid self.now }
+    {
+        &self.bindings
+    }
+}
