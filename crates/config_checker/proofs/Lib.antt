@@ -1,0 +1,17 @@
+pub mod Prices
+pub mod Within
+pub mod Does
+pub mod Parts
+pub mod Sort
+pub mod Order
+pub mod Keeps
+pub mod Cascade
+pub mod Writing
+pub mod PlanSteps
+pub mod LeastWeights
+pub mod Alarms
+pub mod Reached
+pub mod Marks
+pub mod Fed
+pub mod Weighing
+pub mod Judging

@@ -1,0 +1,11 @@
+use Rattle.std.proofs.Common.{◌≡◌, ◌==◌, List, length, map, subst}
+use Rattle.std.specs.List.{list_any, range_with_len}
+use Rattle.mpf_plan.specs.declared.entries.Binding.{Binding}
+use Rattle.config_checker.proofs.Marks.{marked-all}
+use Rattle.config_checker.proofs.feeding.mark_handled.Goals as goal
+
+pub returns : goal.returns
+returns c =
+    let Marks : List Binding → Type 0 = λ bindings. c.loop-binding.marks.items ≡ map (λ e. list_any (λ b. b.event.0 == e) bindings) (range_with_len 0 (length c.args.plan.now.events)) in
+    subst Marks c.bindings-binding-items.ensures.bindings
+    (marked-all (λ e b. b.event.0 == e) c.bindings-binding-items.result.now c.loop-binding.binding-index (length c.args.plan.now.events) c.loop-binding.marks.items c.loop-binding.invariant.count c.loop-binding-test.false c.loop-binding.invariant.marked)

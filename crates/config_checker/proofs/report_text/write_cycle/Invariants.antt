@@ -1,0 +1,10 @@
+use Rattle.std.proofs.Common.{take}
+use Rattle.std.specs.List.{flat_map}
+use Rattle.std.specs.Io.KnownBytes.{Appends}
+use Rattle.config_checker.specs.ReportText.{spaced}
+use Rattle.config_checker.proofs.report_text.write_cycle.Given as goal
+
+-- the names so far are written
+abbrev pub invariant-loop-event : goal.invariant-loop-event
+invariant-loop-event g l =
+    Appends (g.W.Write.contents l.initial.writer) (g.W.Write.contents l.writer) (flat_map (λ v. spaced v.items) (take l.event-index l.events))

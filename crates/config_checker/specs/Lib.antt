@@ -1,0 +1,16 @@
+pub mod Cost
+pub mod Weights
+pub mod Feeding
+pub mod Machine
+pub mod EventStep
+pub mod Run
+pub mod PlanOrder
+pub mod CheckedView
+pub mod GoodRun
+pub mod Accepted
+pub mod Checking
+pub mod View
+pub mod Refused
+pub mod Capped
+pub mod CertificateText
+pub mod ReportText

@@ -1,0 +1,25 @@
+-- The text of a report.
+use Rattle.std.specs.Prelude.{ℕ, List, [], ◌∷◌, ◌++◌, codes}
+use Rattle.std.specs.List.{flat_map}
+use Rattle.mpf_plan.specs.declared.fault.Table.{Table}
+use Rattle.mpf_plan.specs.declared.fault.Table.TheVariants.{Events, Bindings, Switches}
+use Rattle.config_checker.specs.Checking.{FaultView, limit, cycle, bound}
+
+abbrev pub table_name : Table → List ℕ
+table_name Events = codes "events"
+table_name Bindings = codes "bindings"
+table_name Switches = codes "switches"
+
+-- a name, and the blank in front of it
+abbrev pub spaced : List ℕ → List ℕ
+spaced name = 32 ∷ name
+
+-- `fault 7 Limit TABLE`, `fault 8 Cycle E1 E2 ..` or `fault 9 Bound`, and LF
+abbrev pub fault_line : FaultView → List ℕ
+fault_line (limit t) = codes "fault 7 Limit " ++ table_name t ++ 10 ∷ []
+fault_line (cycle names) = codes "fault 8 Cycle" ++ flat_map spaced names ++ 10 ∷ []
+fault_line bound = codes "fault 9 Bound" ++ 10 ∷ []
+
+-- a line for each fault, in order
+abbrev pub report_text : List FaultView → List ℕ
+report_text faults = flat_map fault_line faults

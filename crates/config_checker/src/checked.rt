@@ -1,0 +1,69 @@
+//! A configuration that was accepted.
+
+use mpf_plan::Plan;
+use std::marker::Model;
+
+/// A plan that was accepted, with the weights and the bound of its certificate.
+#[derive(Drop)]
+pub struct Checked {
+    plan: Plan,
+    weights: Vec<u32>,
+    bound: u32,
+}
+
+impl Model for Checked {
+    ghost use Rattle.config_checker.specs.CheckedView.{CheckedView};
+
+    ghost Value = { CheckedView };
+
+    ghost use Rattle.config_checker.specs.Accepted.{IsAccepted};
+
+    ghost view = { λ c. record { plan = c.plan; weights = c.weights.items; bound = c.bound } };
+
+    ghost invariant = { λ c. IsAccepted (record { plan = c.plan; weights = c.weights.items; bound = c.bound }) };
+}
+
+impl Checked {
+    ghost use Rattle.std.specs.Prelude.{◌≡◌};
+    ghost use Rattle.config_checker.specs.CheckedView.{CheckedView};
+    ghost use Rattle.config_checker.specs.Accepted.{IsAccepted};
+    ghost use Rattle.config_checker.specs.GoodRun.{IsGood};
+
+    pub(crate) fn new(plan: Plan, weights: Vec<u32>, bound: u32) -> Checked
+        requires { IsAccepted (record { plan = plan; weights = weights.items; bound = bound }) }
+        ensures { result ≡ record { plan = plan; weights = weights.items; bound = bound } }
+    {
+        Checked {
+            plan,
+            weights,
+            bound,
+        }
+    }
+
+    /// The plan.
+    pub fn plan(&self) -> &Plan
+        ensures plan { result.now ≡ self.now.plan }
+        ensures accepted { IsAccepted self.now }
+        ensures good { IsGood self.now }
+    {
+        &self.plan
+    }
+
+    /// The weight of each event, in the order of their numbers.
+    pub fn weights(&self) -> &[u32]
+        ensures weights { result.now ≡ self.now.weights }
+        ensures accepted { IsAccepted self.now }
+        ensures good { IsGood self.now }
+    {
+        &self.weights
+    }
+
+    /// The bound: how many lines a stimulus leads to at most.
+    pub fn bound(&self) -> u32
+        ensures bound { result ≡ self.now.bound }
+        ensures accepted { IsAccepted self.now }
+        ensures good { IsGood self.now }
+    {
+        self.bound
+    }
+}

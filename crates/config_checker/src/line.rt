@@ -1,0 +1,20 @@
+//! The lines of a trace.
+
+use mpf_plan::entries::{EventId, Owner, SwitchId};
+
+/// What a line tells.
+#[derive(Clone, Copy, Debug, PartialEq, Eq)]
+pub enum Happening {
+    /// The switch was accepted as active (`true`) or inactive.
+    Switch(SwitchId, bool),
+    /// The event was taken from the queue.
+    Event(EventId),
+}
+
+/// A line of a trace: the moment in milliseconds, who acted, and what happened.
+#[derive(Clone, Copy, Debug, PartialEq, Eq)]
+pub struct Line {
+    pub moment: u64,
+    pub owner: Owner,
+    pub happening: Happening,
+}

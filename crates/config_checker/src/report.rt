@@ -1,0 +1,43 @@
+//! Why a configuration is refused.
+
+ghost use Rattle.std.specs.Prelude.{◌≡◌};
+ghost use Rattle.config_checker.specs.declared.report.Report.TheVariants.{NoMemory};
+
+use mpf_plan::fault::Table;
+use std::alloc::{AllocError, AllocFailed};
+
+/// A fault of a configuration.
+#[derive(Debug, Drop)]
+pub enum Fault {
+    /// The table is above its limit: the first one that is.
+    Limit(Table),
+    /// The events lead to each other without end, by their names.
+    Cycle(Vec<Vec<u8>>),
+    /// A weight or the bound of a stimulus is above 10,000.
+    Bound,
+}
+
+/// Why a configuration is refused.
+#[derive(Debug, Drop)]
+pub enum Report {
+    /// Memory ran out.
+    NoMemory,
+    /// The faults, in the order in which they are told.
+    Faults(Vec<Fault>),
+}
+
+impl From<AllocError> for Report {
+    ghost from_gives = { λ _ e. e ≡ NoMemory };
+
+    fn from(_e: AllocError) -> Report {
+        Report::NoMemory
+    }
+}
+
+impl<T: Drop> From<AllocFailed<T>> for Report {
+    ghost from_gives = { λ _ e. e ≡ NoMemory };
+
+    fn from(_e: AllocFailed<T>) -> Report {
+        Report::NoMemory
+    }
+}

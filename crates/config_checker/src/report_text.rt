@@ -1,0 +1,53 @@
+//! The report of a refused configuration, as a text.
+
+ghost use Rattle.std.specs.Prelude.{◌≡◌, OnOk, map};
+ghost use Rattle.std.specs.Io.KnownBytes.{Appends};
+ghost use Rattle.config_checker.specs.View.{fault_view};
+ghost use Rattle.config_checker.specs.Checking.{cycle};
+ghost use Rattle.config_checker.specs.ReportText.{table_name, fault_line, report_text};
+
+use crate::report::Fault;
+use mpf_plan::fault::Table;
+use std::io::{self, Write};
+
+/// Writes a line for each fault, in order. An error is the writer's; the text is then cut short
+/// somewhere.
+pub fn write_report<W: Write>(faults: &[Fault], writer: &mut W) -> io::Result<()>
+    ensures { OnOk result (Appends (W.contents writer.old) (W.contents writer.new) (report_text (map fault_view faults.now))) }
+{
+    for fault in faults {
+        write_fault(fault, writer)?;
+    }
+    Ok(())
+}
+
+fn write_fault<W: Write>(fault: &Fault, writer: &mut W) -> io::Result<()>
+    ensures { OnOk result (Appends (W.contents writer.old) (W.contents writer.new) (fault_line (fault_view fault.now))) }
+{
+    match fault {
+        Fault::Limit(table) => writeln!(writer, "fault 7 Limit {}", name_of(*table)),
+        Fault::Cycle(events) => write_cycle(events, writer),
+        Fault::Bound => writeln!(writer, "fault 9 Bound"),
+    }
+}
+
+fn name_of(table: Table) -> &'static str
+    ensures { result.now ≡ table_name table }
+{
+    match table {
+        Table::Events => "events",
+        Table::Bindings => "bindings",
+        Table::Switches => "switches",
+    }
+}
+
+fn write_cycle<W: Write>(events: &[Vec<u8>], writer: &mut W) -> io::Result<()>
+    ensures { OnOk result (Appends (W.contents writer.old) (W.contents writer.new) (fault_line (cycle (map (λ v. v.items) events.now)))) }
+{
+    writer.write_all(b"fault 8 Cycle")?;
+    for event in events {
+        writer.write_all(b" ")?;
+        writer.write_all(event)?;
+    }
+    writer.write_all(b"\n")
+}

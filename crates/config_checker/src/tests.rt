@@ -1,0 +1,157 @@
+//! Small configurations by hand, from their rows to the texts.
+
+use super::*;
+use mpf_config::config::{Config, EventPlayerRow, MachineText, Name, Section, SwitchRow};
+use std::alloc::{AllocError, Global};
+use std::io::{self, ErrorKind, Write};
+use std::test::Fail;
+
+fn name(alloc: Global, text: &[u8]) -> Result<Name, AllocError> {
+    Ok(Name {
+        line: 1,
+        text: Vec::from_slice(alloc, text)?,
+    })
+}
+
+/// An entry that posts the event so many times.
+fn player(
+    alloc: Global,
+    event: &[u8],
+    post: &[u8],
+    count: u32,
+) -> Result<EventPlayerRow, AllocError> {
+    let mut posts = Vec::new(alloc);
+    for _ in 0..count {
+        posts.push(name(alloc, post)?)?;
+    }
+    Ok(EventPlayerRow {
+        event: name(alloc, event)?,
+        posts,
+    })
+}
+
+fn config(
+    alloc: Global,
+    switches: &[&[u8]],
+    players: Vec<EventPlayerRow>,
+) -> Result<Config, AllocError> {
+    let mut rows = Vec::new(alloc);
+    for switch in switches {
+        rows.push(SwitchRow {
+            name: name(alloc, switch)?,
+        })?;
+    }
+    let mut sections = Vec::new(alloc);
+    sections.push(Section::Switches(rows))?;
+    sections.push(Section::EventPlayer(players))?;
+    Ok(Config {
+        machine: MachineText { sections },
+    })
+}
+
+/// A switch, and an entry that posts two events when it becomes active.
+fn one_switch(alloc: Global) -> Result<Config, AllocError> {
+    let mut entry = player(alloc, b"s_left_active", b"a", 1)?;
+    entry.posts.push(name(alloc, b"b")?)?;
+    let mut players = Vec::new(alloc);
+    players.push(entry)?;
+    config(alloc, &[b"s_left"], players)
+}
+
+/// One entry, which posts an event so many times.
+fn one_entry(alloc: Global, count: u32) -> Result<Config, AllocError> {
+    let mut players = Vec::new(alloc);
+    players.push(player(alloc, b"e0", b"e1", count)?)?;
+    config(alloc, &[], players)
+}
+
+/// The certificate, or the report.
+fn answer(alloc: Global, config: &Config) -> Result<Vec<u8>, Fail> {
+    let mut text: Vec<u8> = Vec::new(alloc);
+    match check(alloc, config) {
+        Ok(checked) => write_certificate(&checked, &mut text)?,
+        Err(Report::Faults(faults)) => write_report(&faults, &mut text)?,
+        Err(Report::NoMemory) => return Err(Fail::from(AllocError)),
+    }
+    Ok(text)
+}
+
+#[test]
+fn one_switch_check(rt: HostRuntime) -> Result<(), Fail> {
+    let config = one_switch(rt.alloc())?;
+    let checked = check(rt.alloc(), &config)?;
+    assert_eq!(rt; checked.bound(), 4);
+    assert!(rt; checked.weights() == [3, 1, 1, 1].as_slice());
+    assert_eq!(rt; checked.plan().event_count(), 4);
+    let text = answer(rt.alloc(), &config)?;
+    let want: &[u8] =
+        b"pinball-certificate 1\nbound 4\nevent s_left_active 3\nevent s_left_inactive 1\nevent a 1\nevent b 1\n";
+    assert_eq!(rt; text.as_slice(), want);
+    Ok(())
+}
+
+#[test]
+fn fed_event_is_told(rt: HostRuntime) -> Result<(), Fail> {
+    let mut players = Vec::new(rt.alloc());
+    players.push(player(rt.alloc(), b"s_left_active", b"b", 1)?)?;
+    players.push(player(rt.alloc(), b"a", b"c", 1)?)?;
+    players.push(player(rt.alloc(), b"b", b"a", 1)?)?;
+    let config = config(rt.alloc(), &[b"s_left"], players)?;
+    let text = answer(rt.alloc(), &config)?;
+    assert_eq!(rt; text.as_slice(), b"fault 8 Cycle b\n".as_slice());
+    Ok(())
+}
+
+#[test]
+fn weight_at_the_limit(rt: HostRuntime) -> Result<(), Fail> {
+    let checked = check(rt.alloc(), &one_entry(rt.alloc(), 9_999)?)?;
+    assert_eq!(rt; checked.bound(), 0);
+    assert!(rt; checked.weights() == [10_000, 1].as_slice());
+    let text = answer(rt.alloc(), &one_entry(rt.alloc(), 10_000)?)?;
+    assert_eq!(rt; text.as_slice(), b"fault 9 Bound\n".as_slice());
+    Ok(())
+}
+
+#[test]
+fn table_above_its_limit(rt: HostRuntime) -> Result<(), Fail> {
+    let mut players = Vec::new(rt.alloc());
+    for _ in 0..16_385u32 {
+        players.push(player(rt.alloc(), b"e", b"", 0)?)?;
+    }
+    let text = answer(rt.alloc(), &config(rt.alloc(), &[], players)?)?;
+    assert_eq!(rt; text.as_slice(), b"fault 7 Limit bindings\n".as_slice());
+    Ok(())
+}
+
+/// Takes so many bytes, and then fails.
+#[derive(Drop)]
+struct Full {
+    room: usize,
+}
+
+impl Write for Full {
+    fn write(&mut self, buf: &[u8]) -> io::Result<usize> {
+        if buf.len() > self.room {
+            return Err(io::Error::from(ErrorKind::Other));
+        }
+        self.room -= buf.len();
+        Ok(buf.len())
+    }
+
+    fn flush(&mut self) -> io::Result<()> {
+        Ok(())
+    }
+}
+
+#[test]
+fn writer_fails(rt: HostRuntime) -> Result<(), Fail> {
+    let checked = check(rt.alloc(), &one_switch(rt.alloc())?)?;
+    for room in [0, 30, 70] {
+        assert!(rt;
+            write_certificate(&checked, &mut Full { room }).is_err(),
+            "{room}"
+        );
+    }
+    assert!(rt; write_report(&[Fault::Bound], &mut Full { room: 5 }).is_err());
+    Ok(())
+}
