@@ -1,0 +1,11 @@
+pub mod Writing
+pub mod Words
+pub mod FirstPlace
+pub mod TextLines
+pub mod LineWords
+pub mod Digits
+pub mod SwitchViews
+pub mod Alarms
+pub mod PlanSteps
+pub mod Playing
+pub mod LogRuns

@@ -1,0 +1,194 @@
+-- Stimuli and lines of a log that are played one after another.
+use Rattle.std.proofs.Common.{◌≡◌, ℕ, zero, suc, ◌+◌, ◌-◌, ◌<◌, ◌≤◌, Bool, true, false, ◌||◌, cond, Option, Some, None, option_map, Result, Ok, Err, List, [], ◌∷◌, ◌++◌, length, map, refl, ap, sym, ◌∙◌, subst, arith, append_assoc, append-nil}
+use Rattle.std.specs.List.{flat_map, list_any}
+use Rattle.std.specs.Option.{option_map_or}
+use Rattle.std.specs.Io.KnownBytes.{Appends}
+use Rattle.std.specs.Str.Lines.{lines}
+use Rattle.std.proofs.lemmas.Grind.{flat_map-append}
+use Rattle.std.proofs.lemmas.List.Folds.{flat_map-map}
+use Rattle.mpf_plan.specs.PlanView.{PlanView}
+use Rattle.config_checker.specs.declared.line.Line.{Line}
+use Rattle.config_checker.specs.Machine.{Machine}
+use Rattle.config_checker.specs.Run.{Stimulus, Alarm}
+use Rattle.config_checker.proofs.Writing.{written-nil, written-then}
+use Rattle.pinball_shell.specs.declared.fault.Verdict.{Verdict}
+use Rattle.pinball_shell.specs.declared.fault.Verdict.TheVariants as verdicts
+use Rattle.pinball_shell.specs.declared.refusal.Refusal.{Refusal}
+use Rattle.pinball_shell.specs.LogText.{Said, said}
+use Rattle.pinball_shell.specs.RunOfLog.{judged, due_by, next_alarm, settled, state_after, lines_of, alarms_by, moment_of, with_alarms, Told, Traced, Refused, told_of, after_line, told_by}
+use Rattle.pinball_shell.specs.TraceText.{line_text, told_text, refused_text, is_refused, verdict_of}
+use Rattle.pinball_shell.specs.Played.{worse_of, GivesJudged, IsPlayed, text_of, IsLinePlayed, AreLinesPlayed}
+use Rattle.pinball_shell.specs.declared.stimulus.Stimulus.{Stimulus as PlayedStimulus}
+use Rattle.pinball_shell.specs.PlayerView.{stimulus_view}
+
+module _ (plan : PlanView) (bound : ℕ) where
+  pub state_after-append : (xs ys : List Stimulus) (s : Machine) → state_after plan bound (xs ++ ys) s ≡ state_after plan bound ys (state_after plan bound xs s)
+  state_after-append [] ys s = refl
+  state_after-append (x ∷ xs) ys s = state_after-append xs ys (settled plan bound x s)
+
+  pub lines_of-append : (xs ys : List Stimulus) (s : Machine) → lines_of plan bound (xs ++ ys) s ≡ lines_of plan bound xs s ++ lines_of plan bound ys (state_after plan bound xs s)
+  lines_of-append [] ys s = refl
+  lines_of-append (x ∷ xs) ys s =
+      let next = settled plan bound x s in
+      ap (λ (ls : List Line). next.lines ++ ls) (lines_of-append xs ys next)
+      ∙ sym (append_assoc next.lines (lines_of plan bound xs next) (lines_of plan bound ys (state_after plan bound xs next)))
+
+  pub played-none : (s : Machine) (a : Option (List ℕ)) → IsPlayed plan bound [] s s a a
+  played-none s a = record { state = refl; text = written-nil a }
+
+  pub played-one : (stimulus : Stimulus) (s t : Machine) (a b : Option (List ℕ)) → t ≡ settled plan bound stimulus s → Appends a b (flat_map (line_text plan) t.lines) → IsPlayed plan bound (stimulus ∷ []) s t a b
+  played-one stimulus s t a b is h = record {
+    state = is;
+    text = subst (λ (ls : List Line). Appends a b (flat_map (line_text plan) ls)) (ap (λ (m : Machine). m.lines) is ∙ sym (append-nil (settled plan bound stimulus s).lines)) h;
+  }
+
+  pub played-then : (xs ys : List Stimulus) (s t u : Machine) (a b c : Option (List ℕ)) → IsPlayed plan bound xs s t a b → IsPlayed plan bound ys t u b c → IsPlayed plan bound (xs ++ ys) s u a c
+  played-then xs ys s t u a b c h k =
+      let middle = state_after plan bound xs s in
+      let texts : flat_map (line_text plan) (lines_of plan bound (xs ++ ys) s) ≡ flat_map (line_text plan) (lines_of plan bound xs s) ++ flat_map (line_text plan) (lines_of plan bound ys t) =
+      ap (flat_map (line_text plan)) (lines_of-append xs ys s) ∙ flat_map-append (line_text plan) (lines_of plan bound xs s) (lines_of plan bound ys middle)
+      ∙ ap (λ (m : Machine). flat_map (line_text plan) (lines_of plan bound xs s) ++ flat_map (line_text plan) (lines_of plan bound ys m)) (sym h.state) in
+      record {
+        state = k.state ∙ ap (state_after plan bound ys) h.state ∙ sym (state_after-append xs ys s);
+        text = subst (Appends a c) (sym texts) (written-then a b c _ _ h.text k.text);
+      }
+
+  -- some alarms are played, and those that are left complete them
+  pub record AreAlarmsGoing (until left : ℕ) (old now : Machine) (before after : Option (List ℕ)) (all : List Stimulus) : Type 0 where
+    pub done : List Stimulus
+    pub played : IsPlayed plan bound done old now before after
+    pub whole : done ++ alarms_by plan bound until left now ≡ all
+
+  pub alarms-start : (until n : ℕ) (s : Machine) (a : Option (List ℕ)) → AreAlarmsGoing until (n - 0) s s a a (alarms_by plan bound until n s)
+  alarms-start until n s a =
+      let all : n - 0 ≡ n = omega arith in
+      record { done = []; played = played-none s a; whole = ap (λ (k : ℕ). alarms_by plan bound until k s) all }
+
+  -- the next alarm is played
+  pub alarms-more : (until n i at switch : ℕ) (old s t : Machine) (a b c : Option (List ℕ)) (all : List Stimulus) → i < n → AreAlarmsGoing until (n - i) old s a b all
+      → due_by until (next_alarm 0 s.switches) ≡ Some (at, switch) → IsPlayed plan bound (Alarm at switch ∷ []) s t b c → AreAlarmsGoing until (n - (i + 1)) old t a c all
+  alarms-more until n i at switch old s t a b c all within h due played =
+      let alarm = Alarm at switch in
+      let count : n - i ≡ suc (n - (i + 1)) = omega arith in
+      let next : alarms_by plan bound until (n - i) s ≡ alarm ∷ alarms_by plan bound until (n - (i + 1)) t =
+      ap (λ (k : ℕ). alarms_by plan bound until k s) count
+      ∙ ap (λ (o : Option (ℕ × ℕ)). option_map_or (λ x. Alarm x.0 x.1 ∷ alarms_by plan bound until (n - (i + 1)) (settled plan bound (Alarm x.0 x.1) s)) o []) due
+      ∙ ap (λ (m : Machine). alarm ∷ alarms_by plan bound until (n - (i + 1)) m) (sym played.state) in
+      record {
+        done = h.done ++ alarm ∷ [];
+        played = played-then h.done (alarm ∷ []) old s t a b c h.played played;
+        whole = append_assoc h.done (alarm ∷ []) (alarms_by plan bound until (n - (i + 1)) t) ∙ sym (ap (λ (xs : List Stimulus). h.done ++ xs) next) ∙ h.whole;
+      }
+
+  alarms-none : (until k : ℕ) (s : Machine) → due_by until (next_alarm 0 s.switches) ≡ None → alarms_by plan bound until k s ≡ []
+  alarms-none until zero s none = refl
+  alarms-none until (suc k) s none =
+      ap (λ (o : Option (ℕ × ℕ)). option_map_or (λ x. Alarm x.0 x.1 ∷ alarms_by plan bound until k (settled plan bound (Alarm x.0 x.1) s)) o []) none
+
+  alarms-whole : (until k : ℕ) (old s : Machine) (a b : Option (List ℕ)) (all : List Stimulus) → AreAlarmsGoing until k old s a b all → alarms_by plan bound until k s ≡ [] → IsPlayed plan bound all old s a b
+  alarms-whole until k old s a b all h none =
+      let same : h.done ≡ all = sym (append-nil h.done) ∙ sym (ap (λ (xs : List Stimulus). h.done ++ xs) none) ∙ h.whole in
+      subst (λ (xs : List Stimulus). IsPlayed plan bound xs old s a b) same h.played
+
+  -- no alarm is due any more
+  pub alarms-stop : (until k : ℕ) (old s : Machine) (a b : Option (List ℕ)) (all : List Stimulus) → AreAlarmsGoing until k old s a b all → due_by until (next_alarm 0 s.switches) ≡ None → IsPlayed plan bound all old s a b
+  alarms-stop until k old s a b all h none = alarms-whole until k old s a b all h (alarms-none until k s none)
+
+  -- as many alarms as there are switches were played
+  pub alarms-end : (until n i : ℕ) (old s : Machine) (a b : Option (List ℕ)) (all : List Stimulus) → n ≤ i → AreAlarmsGoing until (n - i) old s a b all → IsPlayed plan bound all old s a b
+  alarms-end until n i old s a b all past h =
+      let none : n - i ≡ 0 = omega arith in
+      alarms-whole until (n - i) old s a b all h (ap (λ (k : ℕ). alarms_by plan bound until k s) none)
+
+  -- ---- a line
+
+  traced-text : (ls : List Line) → text_of plan (map Traced ls) ≡ flat_map (line_text plan) ls
+  traced-text ls = flat_map-map (told_text plan) Traced ls
+
+  none_refused : (ls : List Line) → list_any is_refused (map Traced ls) ≡ false
+  none_refused [] = refl
+  none_refused (l ∷ ls) = none_refused ls
+
+  module _ (number : ℕ) (line : List ℕ) (s : Machine) where
+    line-is : (given : Result (Option Stimulus) Refusal) (t : Machine) (a b : Option (List ℕ)) (v : Verdict) → judged plan s.moment (said line) ≡ given → t ≡ after_line plan bound s given → Appends a b (text_of plan (told_of plan bound number s given)) → v ≡ verdict_of (told_of plan bound number s given) → IsLinePlayed plan bound number line s t a b v
+    line-is given t a b v is state text verdict = record {
+      state = subst (λ (g : Result (Option Stimulus) Refusal). t ≡ after_line plan bound s g) (sym is) state;
+      text = subst (λ (g : Result (Option Stimulus) Refusal). Appends a b (text_of plan (told_of plan bound number s g))) (sym is) text;
+      verdict_is = subst (λ (g : Result (Option Stimulus) Refusal). v ≡ verdict_of (told_of plan bound number s g)) (sym is) verdict;
+    }
+
+    pub line-skipped : (a : Option (List ℕ)) → judged plan s.moment (said line) ≡ Ok None → IsLinePlayed plan bound number line s s a a verdicts.Yes
+    line-skipped a is = line-is (Ok None) s a a verdicts.Yes is refl (written-nil a) refl
+
+    pub line-refused : (refusal : Refusal) (a b : Option (List ℕ)) → judged plan s.moment (said line) ≡ Err refusal → Appends a b (refused_text number refusal) → IsLinePlayed plan bound number line s s a b verdicts.Refused
+    line-refused refusal a b is text =
+        line-is (Err refusal) s a b verdicts.Refused is refl (subst (Appends a b) (sym (append-nil (refused_text number refusal))) text) refl
+
+    pub line-played : (stimulus : Stimulus) (until : ℕ) (t u : Machine) (a b c : Option (List ℕ)) → judged plan s.moment (said line) ≡ Ok (Some stimulus) → until ≡ moment_of stimulus
+        → IsPlayed plan bound (alarms_by plan bound until (length s.switches) s) s t a b → IsPlayed plan bound (stimulus ∷ []) t u b c → IsLinePlayed plan bound number line s u a c verdicts.Yes
+    line-played stimulus until t u a b c is same alarms one =
+        let there = subst (λ (at : ℕ). IsPlayed plan bound (alarms_by plan bound at (length s.switches) s) s t a b) same alarms in
+        let both = played-then (alarms_by plan bound (moment_of stimulus) (length s.switches) s) (stimulus ∷ []) s t u a b c there one in
+        let told = lines_of plan bound (with_alarms plan bound stimulus s) s in
+        line-is (Ok (Some stimulus)) u a c verdicts.Yes is both.state (subst (Appends a c) (sym (traced-text told)) both.text)
+        (sym (ap (λ (b : Bool). cond b verdicts.Refused verdicts.Yes) (none_refused told)))
+
+  -- what a line was judged to give
+  pub judged-some : (r : Result (Option PlayedStimulus) Refusal) (x : PlayedStimulus) (s : Machine) (line : List ℕ) (now : ℕ) (read : Said) → now ≡ s.moment → read ≡ said line → r ≡ Ok (Some x) → GivesJudged r (judged plan now read) → judged plan s.moment (said line) ≡ Ok (Some (stimulus_view x))
+  judged-some r x s line now read moment says is given =
+      ap (λ (m : ℕ). judged plan m (said line)) (sym moment) ∙ ap (judged plan now) (sym says)
+      ∙ subst (λ (y : Result (Option PlayedStimulus) Refusal). GivesJudged y (judged plan now read)) is given
+
+  -- ---- the lines of a log
+
+  any-append : (xs ys : List Told) → list_any is_refused (xs ++ ys) ≡ (list_any is_refused xs || list_any is_refused ys)
+  any-append [] ys = refl
+  any-append (Traced l ∷ xs) ys = any-append xs ys
+  any-append (Refused n r ∷ xs) ys = refl
+
+  pub record AreLinesGoing (log : List ℕ) (old : Machine) (before : Option (List ℕ)) (number : ℕ) (rest : List ℕ) (now : Machine) (after : Option (List ℕ)) (verdict : Verdict) : Type 0 where
+    pub done : List Told
+    pub written : Appends before after (text_of plan done)
+    pub whole : done ++ told_by plan bound number (lines rest) now ≡ told_by plan bound 1 (lines log) old
+    pub verdict_is : verdict ≡ verdict_of done
+    pub few : number + length rest ≤ 1 + length log
+
+  pub lines-start : (log : List ℕ) (old : Machine) (a : Option (List ℕ)) → AreLinesGoing log old a 1 log old a verdicts.Yes
+  lines-start log old a = record { done = []; written = written-nil a; whole = refl; verdict_is = refl; few = omega arith }
+
+  either_refused : (t u : Bool) → worse_of (cond t verdicts.Refused verdicts.Yes) (cond u verdicts.Refused verdicts.Yes) ≡ cond (t || u) verdicts.Refused verdicts.Yes
+  either_refused true true = refl
+  either_refused true false = refl
+  either_refused false true = refl
+  either_refused false false = refl
+
+  verdict-append : (xs ys : List Told) → worse_of (verdict_of xs) (verdict_of ys) ≡ verdict_of (xs ++ ys)
+  verdict-append xs ys =
+      either_refused (list_any is_refused xs) (list_any is_refused ys) ∙ sym (ap (λ (b : Bool). cond b verdicts.Refused verdicts.Yes) (any-append xs ys))
+
+  pub lines-more : (log : List ℕ) (old : Machine) (number : ℕ) (rest line left : List ℕ) (s t : Machine) (a b c : Option (List ℕ)) (v w x : Verdict) → AreLinesGoing log old a number rest s b v
+      → lines rest ≡ line ∷ lines left → length left < length rest → IsLinePlayed plan bound number line s t b c x → w ≡ worse_of v x → AreLinesGoing log old a (number + 1) left t c w
+  lines-more log old number rest line left s t a b c v w x h is shorter played next =
+      let told = told_of plan bound number s (judged plan s.moment (said line)) in
+      let going : told_by plan bound number (lines rest) s ≡ told ++ told_by plan bound (number + 1) (lines left) t =
+      ap (λ (ls : List (List ℕ)). told_by plan bound number ls s) is ∙ ap (λ (m : Machine). told ++ told_by plan bound (number + 1) (lines left) m) (sym played.state) in
+      let few = h.few in
+      record {
+        done = h.done ++ told;
+        written = subst (Appends a c) (sym (flat_map-append (told_text plan) h.done told)) (written-then a b c _ _ h.written played.text);
+        whole = append_assoc h.done told (told_by plan bound (number + 1) (lines left) t) ∙ sym (ap (λ (ts : List Told). h.done ++ ts) going) ∙ h.whole;
+        verdict_is = next ∙ ap (λ (y : Verdict). worse_of y x) h.verdict_is ∙ ap (worse_of (verdict_of h.done)) played.verdict_is ∙ verdict-append h.done told;
+        few = omega (arith, few, shorter);
+      }
+
+  pub lines-end : (log : List ℕ) (old : Machine) (number : ℕ) (rest : List ℕ) (s : Machine) (a b : Option (List ℕ)) (v : Verdict) → AreLinesGoing log old a number rest s b v → length rest ≡ 0 → AreLinesPlayed plan bound log old a b v
+  lines-end log old number rest s a b v h none =
+      let all : h.done ≡ told_by plan bound 1 (lines log) old = sym (append-nil h.done) ∙ sym (ap (λ (r : List ℕ). h.done ++ told_by plan bound number (lines r) s) (empty rest none)) ∙ h.whole in
+      record {
+        text = subst (λ (ts : List Told). Appends a b (text_of plan ts)) all h.written;
+        verdict_is = h.verdict_is ∙ ap verdict_of all;
+      }
+    where
+      empty : (xs : List ℕ) → length xs ≡ 0 → xs ≡ []
+      empty [] e = refl
+      empty (x ∷ xs) e = absurd (omega arith)

@@ -1,0 +1,23 @@
+use Rattle.std.proofs.Common.{◌≡◌, Some, IsSome, option_map, codes, sym, ap, ◌∙◌, subst}
+use Rattle.std.proofs.lemmas.Result.{IfErr-weaker, IfOk-weaker}
+use Rattle.clap.specs.Words.{found_of, rows_of, subcommand_rows_of}
+use Rattle.clap.proofs.WalkLemmas.{first_value-rows}
+use Rattle.pinball_shell.specs.CommandLine.{asked_by, asked_of}
+use Rattle.pinball_shell.proofs.Words.{met_together}
+use Rattle.pinball_shell.proofs.command_line.ask_of.Goals as goal
+
+pub returns-in-Some-clause-asked : goal.returns-in-Some-clause-asked
+returns-in-Some-clause-asked c =
+    let met : subcommand_rows_of c.args.matches.now ≡ Some (c.in-Some.name.now, rows_of (found_of c.in-Some.found.now)) =
+    met_together _ _ _ _ _ c.in-Some.ensures.name c.in-Some.ensures.rows in
+    let is : asked_of (subcommand_rows_of c.args.matches.now) ≡ asked_by c.in-Some.name.now (option_map (λ s. s.now) c.get_str.result) =
+    ap asked_of met ∙ ap (asked_by c.in-Some.name.now) (sym (c.get_str.ensures ∙ first_value-rows (found_of c.in-Some.found.now) (codes "log"))) in
+    IfOk-weaker c.ask_by.result _ _ (λ ask h. is ∙ h) c.ask_by.ensures.asked
+
+pub returns-in-Some-clause-only : goal.returns-in-Some-clause-only
+returns-in-Some-clause-only c =
+    let met : subcommand_rows_of c.args.matches.now ≡ Some (c.in-Some.name.now, rows_of (found_of c.in-Some.found.now)) =
+    met_together _ _ _ _ _ c.in-Some.ensures.name c.in-Some.ensures.rows in
+    let is : asked_of (subcommand_rows_of c.args.matches.now) ≡ asked_by c.in-Some.name.now (option_map (λ s. s.now) c.get_str.result) =
+    ap asked_of met ∙ ap (asked_by c.in-Some.name.now) (sym (c.get_str.ensures ∙ first_value-rows (found_of c.in-Some.found.now) (codes "log"))) in
+    IfErr-weaker c.ask_by.result _ _ (λ fault h some. h (subst IsSome is some)) c.ask_by.ensures.only

@@ -1,0 +1,7 @@
+use Rattle.std.proofs.Common.{◌≡◌, ◌-◌}
+use Rattle.config_checker.specs.PlanOrder.{plan_steps}
+use Rattle.pinball_shell.proofs.steps.settle.Given as goal
+
+-- the steps that are left, taken now, are all, taken at the start
+abbrev pub invariant-loop : goal.invariant-loop
+invariant-loop l = plan_steps l.plan (l.bound - l.counter) l.player ≡ plan_steps l.plan l.bound l.fn.player

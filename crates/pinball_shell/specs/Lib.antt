@@ -1,0 +1,10 @@
+pub mod Status
+pub mod Judged
+pub mod CheckOutput
+pub mod CommandLine
+pub mod LogText
+pub mod LogView
+pub mod RunOfLog
+pub mod TraceText
+pub mod PlayerView
+pub mod Played

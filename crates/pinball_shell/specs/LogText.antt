@@ -1,0 +1,67 @@
+-- What the lines of a log say.
+use Rattle.std.specs.Prelude.{ℕ, ◌+◌, ◌*◌, ◌-◌, ◌^◌, nat_lt, nat_le, ◌==◌, Bool, true, false, not, ◌&&◌, ◌||◌, if◌then◌else◌, Option, Some, None, List, [], ◌∷◌, length, slice_index, filter}
+use Rattle.std.specs.List.{slice_split, list_all}
+use Rattle.std.specs.Char.{is_ascii_digit}
+use Rattle.std.specs.Str.{byte}
+
+-- what a line asks for: a wait up to a moment, or at a moment a new raw level of the switch of a name
+pub data Said : Type 0 where
+  -- the line is empty, or a comment
+  Nothing : Said
+  Waits : (at : ℕ) → Said
+  Changes : (at : ℕ) (name : List ℕ) (level : Bool) → Said
+  -- the line is none of these
+  Unreadable : Said
+
+-- a space or a tab
+abbrev pub is_blank : ℕ → Bool
+is_blank b = b == byte " " || b == byte "\t"
+
+-- the words of a line, which blanks part
+abbrev pub words : List ℕ → List (List ℕ)
+words line = filter (λ w. nat_lt 0 (length w)) (slice_split is_blank line)
+
+-- whether the line begins or ends with a blank
+abbrev pub has_outer_blank : List ℕ → Bool
+has_outer_blank line = is_blank (slice_index line 0) || is_blank (slice_index line (length line - 1))
+
+-- the number that is written before these digits, and then these
+abbrev pub number_on : ℕ → List ℕ → ℕ
+number_on n [] = n
+number_on n (d ∷ ds) = number_on (n * 10 + (d - byte "0")) ds
+
+-- the number that a word of digits says, where it is below 2^64
+abbrev pub number_in : List ℕ → Option ℕ
+number_in word = if list_all is_ascii_digit word && nat_lt (number_on 0 word) (2 ^ 64) then Some (number_on 0 word) else None
+
+-- a moment is a number of 1 to 20 digits
+abbrev pub moment_in : List ℕ → Option ℕ
+moment_in word = if nat_lt 0 (length word) && nat_le (length word) 20 then number_in word else None
+
+-- `0` and `1` are the raw levels
+abbrev pub level_in : List ℕ → Option Bool
+level_in (digit ∷ []) = if digit == byte "0" then Some false else if digit == byte "1" then Some true else None
+level_in other = None
+
+abbrev pub wait : Option ℕ → Said
+wait None = Unreadable
+wait (Some at) = Waits at
+
+abbrev pub change : Option ℕ → List ℕ → Option Bool → Said
+change (Some at) name (Some level) = Changes at name level
+change (Some at) name None = Unreadable
+change None name level = Unreadable
+
+-- `MOMENT`, or `MOMENT SWITCH LEVEL`
+abbrev pub said_in : List (List ℕ) → Said
+said_in (moment ∷ []) = wait (moment_in moment)
+said_in (moment ∷ name ∷ level ∷ []) = change (moment_in moment) name (level_in level)
+said_in other = Unreadable
+
+-- a line that is empty, or begins with `#`
+abbrev pub is_skipped : List ℕ → Bool
+is_skipped line = length line == 0 || slice_index line 0 == byte "#"
+
+-- what a line says
+abbrev pub said : List ℕ → Said
+said line = if is_skipped line then Nothing else if has_outer_blank line then Unreadable else said_in (words line)

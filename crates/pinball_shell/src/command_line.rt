@@ -1,0 +1,139 @@
+//! What the words after the program's name ask for.
+
+ghost use Rattle.std.specs.Prelude.{◌≡◌, ℕ, List, [], ◌∷◌, Some, true, false, IfOk, IfErr, IsSome, map, option_map, codes, string_bytes};
+ghost use Rattle.clap.specs.Words.{app_of, kind_of, rule_of, subcommand_rows_of};
+ghost use Rattle.pinball_shell.specs.CommandLine.{log_rule, pinball_app, check, play, ask_view, asked_by, asked_of, asked_at, is_taken, begins_with_hyphen, Asks};
+ghost use Rattle.pinball_shell.specs.declared.command_line.AskFault.TheVariants.{NoMemory};
+
+use clap::error::ErrorKind;
+use clap::{Arg, ArgAction, ArgMatches, Command, Error};
+use std::alloc::{AllocError, AllocFailed, Global};
+
+/// What is asked for.
+#[derive(Debug, Drop)]
+pub enum Ask {
+    /// To check the bundle.
+    Check,
+    /// To play the log of this path on the bundle.
+    Play {
+        /// The path of the log.
+        log: String,
+    },
+}
+
+/// Why the words ask for nothing that is done.
+#[derive(Debug, Drop)]
+pub enum AskFault {
+    /// Memory ran out.
+    NoMemory,
+    /// The words are not understood, or ask for help: the text that is shown then.
+    Usage(String),
+}
+
+impl From<AllocError> for AskFault {
+    ghost from_gives = { λ _ e. e ≡ NoMemory };
+
+    fn from(_e: AllocError) -> AskFault {
+        AskFault::NoMemory
+    }
+}
+
+impl<T: Drop> From<AllocFailed<T>> for AskFault {
+    ghost from_gives = { λ _ e. e ≡ NoMemory };
+
+    fn from(_e: AllocFailed<T>) -> AskFault {
+        AskFault::NoMemory
+    }
+}
+
+/// What the words after the program's name ask for: `check`, or `play LOG`. `Usage` for all other
+/// words, and for those that ask for help.
+pub fn command(alloc: Global, words: Vec<String>) -> Result<Ask, AskFault>
+    ensures asked { IfOk result (λ ask. asked_at (map string_bytes words.items) ≡ Some (ask_view ask)) }
+    ensures checks { map string_bytes words.items ≡ codes "check" ∷ [] → Asks check result }
+    ensures plays { (log : List ℕ) → begins_with_hyphen log ≡ false → map string_bytes words.items ≡ codes "play" ∷ log ∷ [] → Asks (play log) result }
+{
+    read_words(alloc, &words)
+}
+
+/// What the words ask for. Words that are in order and ask for something fail only by memory.
+fn read_words(alloc: Global, words: &[String]) -> Result<Ask, AskFault>
+    ensures asked { IfOk result (λ ask. asked_at (map string_bytes words.now) ≡ Some (ask_view ask)) }
+    ensures only { IfErr result (λ fault. is_taken (map string_bytes words.now) ≡ true → IsSome (asked_at (map string_bytes words.now)) → fault ≡ AskFault.NoMemory) }
+{
+    match pinball(alloc)?.try_get_matches_from(words) {
+        Ok(matches) => ask_of(alloc, &matches),
+        Err(error) => Err(fault_of(alloc, &error)),
+    }
+}
+
+/// The program's command line.
+fn pinball<'a>(alloc: Global) -> Result<Command<'a>, AllocError>
+    ensures { IfOk result (λ command. app_of command ≡ pinball_app) }
+{
+    let check = Command::new(alloc, "check").about("Checks the bundle on standard input");
+    let play = Command::new(alloc, "play")
+        .about("Plays a log on the bundle on standard input")
+        .arg(log_argument(alloc))?;
+    let program = Command::new(alloc, "pinball")
+        .about("Checks and plays configurations of pinball machines")
+        .no_binary_name(true)
+        .subcommand_required(true);
+    program.subcommand(check)?.subcommand(play)
+}
+
+fn log_argument<'a>(alloc: Global) -> Arg<'a>
+    ensures rule { rule_of result ≡ log_rule }
+    ensures local { result.global ≡ false }
+{
+    Arg::new(alloc, "log")
+        .help("The file with the log of the switches")
+        .value_name("LOG")
+        .required(true)
+        .action(ArgAction::Set)
+}
+
+fn ask_of(alloc: Global, matches: &ArgMatches<'_>) -> Result<Ask, AskFault>
+    ensures asked { IfOk result (λ ask. asked_of (subcommand_rows_of matches.now) ≡ Some (ask_view ask)) }
+    ensures only { IfErr result (λ fault. IsSome (asked_of (subcommand_rows_of matches.now)) → fault ≡ AskFault.NoMemory) }
+{
+    match matches.subcommand() {
+        Some((name, found)) => ask_by(alloc, name, found.get_str("log")),
+        None => Err(not_understood(alloc)),
+    }
+}
+
+/// What a subcommand's name and the value of its `log` ask for.
+fn ask_by(alloc: Global, name: &str, log: Option<&str>) -> Result<Ask, AskFault>
+    ensures asked { IfOk result (λ ask. asked_by name.now (option_map (λ s. s.now) log.entry) ≡ Some (ask_view ask)) }
+    ensures only { IfErr result (λ fault. IsSome (asked_by name.now (option_map (λ s. s.now) log.entry)) → fault ≡ AskFault.NoMemory) }
+{
+    if name == "check" {
+        return Ok(Ask::Check);
+    }
+    match log {
+        Some(log) if name == "play" => Ok(Ask::Play {
+            log: String::from_str(alloc, log)?,
+        }),
+        _ => Err(not_understood(alloc)),
+    }
+}
+
+fn not_understood(alloc: Global) -> AskFault {
+    match String::from_str(alloc, "error: the words are not understood\n") {
+        Ok(text) => AskFault::Usage(text),
+        Err(_) => AskFault::NoMemory,
+    }
+}
+
+fn fault_of(alloc: Global, error: &Error) -> AskFault
+    ensures { kind_of error.now ≡ ErrorKind.OutOfMemory → result ≡ AskFault.NoMemory }
+{
+    if error.kind() == ErrorKind::OutOfMemory {
+        return AskFault::NoMemory;
+    }
+    match error.to_string(alloc) {
+        Ok(text) => AskFault::Usage(text),
+        Err(_) => AskFault::NoMemory,
+    }
+}

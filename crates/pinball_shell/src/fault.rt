@@ -1,0 +1,61 @@
+//! What can go wrong outside of the texts.
+
+ghost use Rattle.std.specs.Prelude.{◌≡◌};
+ghost use Rattle.pinball_shell.specs.Status.{status_of};
+ghost use Rattle.pinball_shell.specs.declared.fault.ShellFault.TheVariants.{NoMemory};
+
+use std::alloc::{AllocError, AllocFailed};
+use thiserror::Error;
+
+/// Why there is no verdict.
+#[derive(Clone, Copy, Debug, PartialEq, Eq, Error)]
+pub enum ShellFault {
+    /// Memory ran out.
+    #[error("NoMemory")]
+    NoMemory,
+    /// A reader failed.
+    #[error("Read")]
+    Read,
+    /// A writer failed.
+    #[error("Write")]
+    Write,
+    /// A text is longer than its limit.
+    #[error("TooLong")]
+    TooLong,
+}
+
+/// What a text was found to be.
+#[derive(Clone, Copy, Debug, PartialEq, Eq)]
+pub enum Verdict {
+    /// Accepted, or played with no line refused.
+    Yes,
+    /// Refused, or played with a line refused.
+    Refused,
+}
+
+impl From<AllocError> for ShellFault {
+    ghost from_gives = { λ _ e. e ≡ NoMemory };
+
+    fn from(_e: AllocError) -> ShellFault {
+        ShellFault::NoMemory
+    }
+}
+
+impl<T: Drop> From<AllocFailed<T>> for ShellFault {
+    ghost from_gives = { λ _ e. e ≡ NoMemory };
+
+    fn from(_e: AllocFailed<T>) -> ShellFault {
+        ShellFault::NoMemory
+    }
+}
+
+/// The status with which the program ends: 0 for a yes, 1 for a refusal, 3 for a fault.
+pub fn status(answer: &Result<Verdict, ShellFault>) -> u8
+    ensures { result ≡ status_of answer.now }
+{
+    match answer {
+        Ok(Verdict::Yes) => 0,
+        Ok(Verdict::Refused) => 1,
+        Err(_) => 3,
+    }
+}

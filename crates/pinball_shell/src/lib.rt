@@ -1,0 +1,21 @@
+//! The program's work as functions from the bytes of a reader to the bytes of a writer.
+#![tactic(auto)]
+
+mod bundle_refusal;
+pub mod check;
+pub mod command_line;
+pub mod fault;
+mod log_line;
+pub mod play;
+mod player;
+mod refusal;
+mod steps;
+mod stimulus;
+pub mod text;
+mod trace;
+
+pub use check::{check_text, load_text};
+pub use command_line::{Ask, AskFault, command};
+pub use fault::{ShellFault, Verdict, status};
+pub use play::play_text;
+pub use text::read_all;

@@ -1,0 +1,189 @@
+//! What the lines of a log say.
+
+ghost use Rattle.std.specs.Prelude.{◌≡◌, ◌<◌, ◌==◌, not, [], ◌∷◌, MatchOption, length, position};
+ghost use Rattle.std.specs.List.{position_or_len};
+ghost use Rattle.std.specs.Str.Lines.{lines, strip_carriage_return};
+ghost use Rattle.pinball_shell.specs.LogText.{is_blank as blank, words, has_outer_blank as outer_blank, number_in, moment_in, level_in, wait as wait_at, change as change_at, said_in, is_skipped as skipped, said};
+ghost use Rattle.pinball_shell.specs.LogView.{said_view};
+
+/// What a line of a log asks for.
+#[derive(Clone, Copy)]
+pub enum Said<'a> {
+    /// The line is empty, or a comment.
+    Nothing,
+    /// All that is due up to the moment, in milliseconds.
+    Waits(u64),
+    /// At the moment the switch of that name has a new raw level.
+    Changes(u64, &'a [u8], bool),
+    /// The line is none of these.
+    Unreadable,
+}
+
+/// The first line of a text that is not empty, and the text after it. A line ends with LF or
+/// CR LF, the last one of a text also with the text.
+pub fn first_line(text: &[u8]) -> (&[u8], &[u8])
+    requires { 0 < length text.now }
+    ensures first { lines text.now ≡ result.0.now ∷ lines result.1.now }
+    ensures shorter { length result.1.now < length text.now }
+{
+    match line_end(text) {
+        None => (text, &[]),
+        Some(end) => (without_return(&text[..end]), &text[end + 1..]),
+    }
+}
+
+/// Where the first LF of a text stands.
+fn line_end(text: &[u8]) -> Option<usize>
+    ensures { result ≡ position (λ b. b == 10) text.now }
+{
+    text.iter().position(|b| *b == b'\n')
+}
+
+/// A line without the CR at its end, if it has one.
+fn without_return(line: &[u8]) -> &[u8]
+    ensures { result.now ≡ strip_carriage_return line.now }
+{
+    match line {
+        [front @ .., b'\r'] => front,
+        _ => line,
+    }
+}
+
+/// What a line says.
+pub fn read_line(line: &[u8]) -> Said<'_>
+    ensures { said_view result ≡ said line.now }
+{
+    if is_skipped(line) {
+        Said::Nothing
+    } else if has_outer_blank(line) {
+        Said::Unreadable
+    } else {
+        read_words(line)
+    }
+}
+
+fn is_skipped(line: &[u8]) -> bool
+    ensures { result ≡ skipped line.now }
+{
+    line.is_empty() || line[0] == b'#'
+}
+
+fn is_blank(b: u8) -> bool
+    ensures { result ≡ blank b }
+{
+    b == b' ' || b == b'\t'
+}
+
+fn has_outer_blank(line: &[u8]) -> bool
+    requires { 0 < length line.now }
+    ensures { result ≡ outer_blank line.now }
+{
+    is_blank(line[0]) || is_blank(line[line.len() - 1])
+}
+
+/// What the words of a line say: `MOMENT`, or `MOMENT SWITCH LEVEL`.
+fn read_words(line: &[u8]) -> Said<'_>
+    ensures { said_view result ≡ said_in (words line.now) }
+{
+    let Some((moment, rest)) = first_word(line) else {
+        return Said::Unreadable;
+    };
+    let Some((name, rest)) = first_word(rest) else {
+        return wait(moment);
+    };
+    let Some((level, rest)) = first_word(rest) else {
+        return Said::Unreadable;
+    };
+    match first_word(rest) {
+        None => change(moment, name, level),
+        Some(_) => Said::Unreadable,
+    }
+}
+
+/// The first word of a text, and the text after it.
+fn first_word(text: &[u8]) -> Option<(&[u8], &[u8])>
+    ensures { MatchOption result (words text.now ≡ []) (λ x. words text.now ≡ x.0.now ∷ words x.1.now) }
+{
+    let start = word_start(text)?;
+    let (_, word_on) = text.split_at(start);
+    let (word, rest) = word_on.split_at(word_len(word_on));
+    Some((word, rest))
+}
+
+/// Where the first word of a text begins.
+fn word_start(text: &[u8]) -> Option<usize>
+    ensures { result ≡ position (λ b. not (blank b)) text.now }
+{
+    text.iter().position(|b| !is_blank(*b))
+}
+
+/// How many bytes stand before the first blank of a text.
+fn word_len(text: &[u8]) -> usize
+    ensures { result ≡ position_or_len blank text.now }
+{
+    match first_blank(text) {
+        None => text.len(),
+        Some(end) => end,
+    }
+}
+
+/// Where the first blank of a text stands.
+fn first_blank(text: &[u8]) -> Option<usize>
+    ensures { result ≡ position blank text.now }
+{
+    text.iter().position(|b| is_blank(*b))
+}
+
+fn wait(moment: &[u8]) -> Said<'_>
+    ensures { said_view result ≡ wait_at (moment_in moment.now) }
+{
+    match read_moment(moment) {
+        None => Said::Unreadable,
+        Some(at) => Said::Waits(at),
+    }
+}
+
+fn change<'a>(moment: &[u8], name: &'a [u8], level: &[u8]) -> Said<'a>
+    ensures { said_view result ≡ change_at (moment_in moment.now) name.now (level_in level.now) }
+{
+    match (read_moment(moment), read_level(level)) {
+        (Some(at), Some(level)) => Said::Changes(at, name, level),
+        _ => Said::Unreadable,
+    }
+}
+
+/// The level that a word says.
+fn read_level(word: &[u8]) -> Option<bool>
+    ensures { result ≡ level_in word.now }
+{
+    match word {
+        b"0" => Some(false),
+        b"1" => Some(true),
+        _ => None,
+    }
+}
+
+/// The moment that a word says: 1 to 20 digits, below 2^64.
+fn read_moment(word: &[u8]) -> Option<u64>
+    ensures { result ≡ moment_in word.now }
+{
+    if word.is_empty() || word.len() > 20 {
+        None
+    } else {
+        read_number(word)
+    }
+}
+
+/// The number that a word of digits says, where it is below 2^64.
+fn read_number(word: &[u8]) -> Option<u64>
+    ensures { result ≡ number_in word.now }
+{
+    let mut number: u64 = 0;
+    for digit in word {
+        if !digit.is_ascii_digit() {
+            return None;
+        }
+        number = number.checked_mul(10)?.checked_add((*digit - b'0') as u64)?;
+    }
+    Some(number)
+}

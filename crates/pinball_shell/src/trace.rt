@@ -1,0 +1,111 @@
+//! The lines of a trace, as text.
+
+ghost use Rattle.std.specs.Prelude.{◌≡◌, OnOk, slice_index_or};
+ghost use Rattle.std.specs.List.{flat_map};
+ghost use Rattle.std.specs.Io.KnownBytes.{Appends};
+ghost use Rattle.mpf_plan.specs.PlanView.{name_of_event, switch_at};
+ghost use Rattle.pinball_shell.specs.TraceText.{owner_text, level_text, switch_text, event_text, happening_text, line_text, refusal_text, refused_text};
+
+use crate::refusal::Refusal;
+use config_checker::{Happening, Line};
+use mpf_plan::{EventId, Owner, Plan, SwitchId};
+use std::io::{self, Write};
+
+/// Writes the lines of a stimulus.
+pub fn write_lines<W: Write>(plan: &Plan, lines: &[Line], writer: &mut W) -> io::Result<()>
+    ensures { OnOk result (Appends (W.contents writer.old) (W.contents writer.new) (flat_map (line_text plan.now) lines.now)) }
+{
+    for line in lines {
+        write_line(plan, *line, writer)?;
+    }
+    Ok(())
+}
+
+/// Writes that a line of the log is refused.
+pub fn write_refused<W: Write>(number: usize, refusal: Refusal, writer: &mut W) -> io::Result<()>
+    ensures { OnOk result (Appends (W.contents writer.old) (W.contents writer.new) (refused_text number refusal)) }
+{
+    writeln!(writer, "refused {number} {}", refusal_name(refusal))
+}
+
+/// The number of a refusal, and its name.
+fn refusal_name(refusal: Refusal) -> &'static str
+    ensures { result.now ≡ refusal_text refusal }
+{
+    match refusal {
+        Refusal::Backwards => "1 Backwards",
+        Refusal::TooLate => "2 TooLate",
+        Refusal::NoSuchSwitch => "3 NoSuchSwitch",
+        Refusal::BadLine => "8 BadLine",
+    }
+}
+
+fn write_line<W: Write>(plan: &Plan, line: Line, writer: &mut W) -> io::Result<()>
+    ensures { OnOk result (Appends (W.contents writer.old) (W.contents writer.new) (line_text plan.now line)) }
+{
+    write!(writer, "{} {} ", line.moment, owner_name(line.owner))?;
+    write_happening(plan, line.happening, writer)
+}
+
+fn write_happening<W: Write>(plan: &Plan, happening: Happening, writer: &mut W) -> io::Result<()>
+    ensures { OnOk result (Appends (W.contents writer.old) (W.contents writer.new) (happening_text plan.now happening)) }
+{
+    match happening {
+        Happening::Switch(switch, active) => {
+            write_switch(switch_name(plan, switch), active, writer)
+        }
+        Happening::Event(event) => write_event(event_name(plan, event), writer),
+    }
+}
+
+fn write_switch<W: Write>(name: &[u8], active: bool, writer: &mut W) -> io::Result<()>
+    ensures { OnOk result (Appends (W.contents writer.old) (W.contents writer.new) (switch_text name.now active)) }
+{
+    writer.write_all(b"switch ")?;
+    writer.write_all(name)?;
+    writeln!(writer, " {}", level_name(active))
+}
+
+fn write_event<W: Write>(name: &[u8], writer: &mut W) -> io::Result<()>
+    ensures { OnOk result (Appends (W.contents writer.old) (W.contents writer.new) (event_text name.now)) }
+{
+    writer.write_all(b"event ")?;
+    writer.write_all(name)?;
+    writer.write_all(b"\n")
+}
+
+fn owner_name(owner: Owner) -> &'static str
+    ensures { result.now ≡ owner_text owner }
+{
+    match owner {
+        Owner::Machine => "machine",
+    }
+}
+
+fn level_name(active: bool) -> &'static str
+    ensures { result.now ≡ level_text active }
+{
+    if active { "active" } else { "inactive" }
+}
+
+/// The name of an event: nothing where the plan lacks it.
+fn event_name(plan: &Plan, event: EventId) -> &[u8]
+    ensures { result.now ≡ name_of_event plan.now event }
+{
+    if (event.0 as usize) < plan.event_count() {
+        plan.event_name(event)
+    } else {
+        &[]
+    }
+}
+
+/// The name of a switch: nothing where the plan lacks it.
+fn switch_name(plan: &Plan, switch: SwitchId) -> &[u8]
+    ensures { result.now ≡ (switch_at plan.now switch).name }
+{
+    if (switch.0 as usize) < plan.switch_count() {
+        plan.switch_name(switch)
+    } else {
+        &[]
+    }
+}
