@@ -1,0 +1,16 @@
+//! Tests that cross the crates, over their public calls: worked bundles and logs with what is
+//! printed for them, readers and writers that fail, and the words of the command line.
+#![tactic(auto)]
+
+#[cfg(test)]
+mod check_rows;
+#[cfg(test)]
+mod faulty;
+#[cfg(test)]
+mod limits;
+#[cfg(test)]
+mod play_rows;
+#[cfg(test)]
+mod row;
+#[cfg(test)]
+mod words;

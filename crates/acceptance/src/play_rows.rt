@@ -1,0 +1,71 @@
+//! Logs that are played.
+
+use crate::row::{ONE_SWITCH, assert_plays};
+use pinball_shell::Verdict;
+use std::test::Fail;
+
+#[test]
+fn one_switch_play(rt: HostRuntime) -> Result<(), Fail> {
+    assert_plays(
+        &rt,
+        ONE_SWITCH,
+        b"100 s_left 1\n200\n",
+        Verdict::Yes,
+        b"105 machine switch s_left active\n105 machine event s_left_active\n105 machine event a\n105 machine event b\n",
+    )
+}
+
+#[test]
+fn bounce_is_filtered(rt: HostRuntime) -> Result<(), Fail> {
+    assert_plays(
+        &rt,
+        ONE_SWITCH,
+        b"100 s_left 1\n103 s_left 0\n200\n",
+        Verdict::Yes,
+        b"",
+    )
+}
+
+#[test]
+fn normal_switch_both_ways(rt: HostRuntime) -> Result<(), Fail> {
+    assert_plays(
+        &rt,
+        ONE_SWITCH,
+        b"100 s_left 1\n105 s_left 0\n200\n",
+        Verdict::Yes,
+        b"105 machine switch s_left active\n105 machine event s_left_active\n105 machine event a\n105 machine event b\n110 machine switch s_left inactive\n110 machine event s_left_inactive\n",
+    )
+}
+
+#[test]
+fn log_goes_backwards(rt: HostRuntime) -> Result<(), Fail> {
+    assert_plays(
+        &rt,
+        ONE_SWITCH,
+        b"100 s_left 1\n99 s_left 0\n200\n",
+        Verdict::Refused,
+        b"refused 2 1 Backwards\n105 machine switch s_left active\n105 machine event s_left_active\n105 machine event a\n105 machine event b\n",
+    )
+}
+
+#[test]
+fn refused_log_lines(rt: HostRuntime) -> Result<(), Fail> {
+    assert_plays(
+        &rt,
+        ONE_SWITCH,
+        b"5 nope 1\nx\n",
+        Verdict::Refused,
+        b"refused 1 3 NoSuchSwitch\nrefused 2 8 BadLine\n",
+    )
+}
+
+#[test]
+fn moments_at_and_above_the_last(rt: HostRuntime) -> Result<(), Fail> {
+    assert_plays(
+        &rt,
+        ONE_SWITCH,
+        b"1099511627775 s_left 1\n1099511627776 s_left 0\n18446744073709551616\n",
+        Verdict::Refused,
+        b"refused 2 2 TooLate\nrefused 3 8 BadLine\n",
+    )
+}
