@@ -1,94 +1,261 @@
 -- What a line is read as is what it is.
-use Rattle.std.proofs.Common.{◌≡◌, ℕ, ◌≤◌, ltb, ◌==◌, true, false, cond, List, [], ◌∷◌, ◌++◌, Option, Some, None, Ok, refl, sym, ap, subst, ◌∙◌, inl, inr, arith}
-use Rattle.std.proofs.lemmas.Bool.{eqb-true, ne_eqb, le-ltb, ltb-false}
-use Rattle.yaml_subset.specs.declared.fault.FaultKind.TheVariants.{NotInSubset}
-use Rattle.yaml_subset.specs.Bytes.{begins_plain, is_over, characters}
+use Rattle.std.proofs.Common.{◌≡◌, ◌≢◌, ℕ, suc, zero, ◌+◌, ◌-◌, ◌≤◌, ltb, ◌==◌, true, false, ◌&&◌, List, [], ◌∷◌, ◌++◌, length, take, Option, Some, None, Result, Ok, Err, refl, sym, ap, subst, ◌∙◌, ◌⊎◌, inl, inr, arith}
+use Rattle.std.proofs.lemmas.Bool.{eqb-true, ne_eqb, le-ltb, ltb-false, cases_Bool, and_parts, or_cases, both_ways}
+use Rattle.std.proofs.lemmas.List.{length-append}
+use Rattle.std.proofs.Math.Seq.{take-append_seam}
+use Rattle.yaml_subset.specs.declared.flaw.Flaw.{Flaw}
+use Rattle.yaml_subset.specs.declared.place.PlacedFault.{PlacedFault}
+use Rattle.yaml_subset.specs.declared.fault.FaultKind.TheVariants.{Flow}
+use Rattle.yaml_subset.specs.Bytes.{is_blank, is_indicator, is_mark, begins_blank, begins_gap, begins_item, is_over, characters}
 use Rattle.yaml_subset.specs.Node.{Node, scalar}
-use Rattle.yaml_subset.specs.Plain.{IsPlain, IsEntry, IsNode, IsInline}
-use Rattle.yaml_subset.specs.Scanning.{trimmed, skipped, plain_front, plain_rest}
-use Rattle.yaml_subset.specs.Reading.{◌>>=◌, fault_at, node_at, inline_at, entry, alone, head_from, head_at}
+use Rattle.yaml_subset.specs.Part.{◌>>=◌}
+use Rattle.yaml_subset.specs.Plain.{ends_word}
+use Rattle.yaml_subset.specs.Values.{IsKey, IsEntry, IsNode, IsInline}
+use Rattle.yaml_subset.specs.Words.{IsWord, word_at}
+use Rattle.yaml_subset.specs.Flow.{IsFlow, begins_bracket, flow_at}
+use Rattle.yaml_subset.specs.Scanning.{skipped, behind_dash, before_colon}
+use Rattle.yaml_subset.specs.TreeOf.{IsDash}
+use Rattle.yaml_subset.specs.Reading.{Head, item, entry, alone, word_head, flow_head, text_head, on_line, head_from, head_at, node_from, inline_at}
 use Rattle.yaml_subset.proofs.Steps.{bind_ok, guard_true, chosen, ok_is}
-use Rattle.yaml_subset.proofs.PlainTexts.{plain_at, plain_is, behind_blanks, behind_blanks-is}
+use Rattle.yaml_subset.proofs.PlainTexts.{behind_blanks, behind_blanks-is}
+use Rattle.yaml_subset.proofs.WordTexts.{BeginsWord, word_sound, word_complete, word_begins, word_parts, word-rest_ends}
+use Rattle.yaml_subset.proofs.FlowReads.{flow_sound, flow_complete}
 
-pub node_sound : (n : ℕ) (text : List ℕ) (t : Node) → node_at n text ≡ Ok t → IsNode n text t
-unfolding node_at
-node_sound n text t e =
-    let value = trimmed (plain_front text) in
-    let a = guard_true (begins_plain text) (cond (is_over (plain_rest text)) (Ok (scalar n value)) (fault_at NotInSubset n)) (record { kind = NotInSubset; line = n }) t e in
-    let b = guard_true (is_over (plain_rest text)) (Ok (scalar n value)) (record { kind = NotInSubset; line = n }) t a.1 in
-    let p = plain_at text a.0 in
-    (value, (p.0, plain_rest text, p.1, b.0), sym (ok_is (scalar n value) t b.1))
+-- ---- items
 
-pub node_complete : (n : ℕ) (text : List ℕ) (t : Node) → IsNode n text t → node_at n text ≡ Ok t
-unfolding node_at
-node_complete n text t h =
-    let s = h.1 in
-    let p = plain_is text h.0 s.0 s.1 s.2 in
-    let over : is_over (plain_rest text) ≡ true = ap is_over p.1 ∙ s.3 in
-    let value : trimmed (plain_front text) ≡ h.0 = ap trimmed p.0 ∙ p.2 in
-    rw (s.2.begins, over, value, h.2) refl
+pub dash_sound : (text after : List ℕ) → behind_dash text ≡ Some after → IsDash text after
+dash_sound [] after e = absurd cc
+dash_sound (b ∷ bs) after e =
+    elim (chosen ((b == 45) && begins_gap bs) (Some bs) None (Some after) e) [
+      | inl p ↦
+          let both = and_parts (b == 45) (begins_gap bs) p.0 in
+          let h : Some bs ≡ Some after = p.1 in
+          let same : bs ≡ after = cc in
+          (ap (λ (x : ℕ). x ∷ bs) (eqb-true b 45 both.0) ∙ ap (λ (xs : List ℕ). 45 ∷ xs) same, ap begins_gap (sym same) ∙ both.1)
+      | inr p ↦ let h : None ≡ Some after = p.1 in absurd cc
+    ]
 
-alone_over : (front rest : List ℕ) → is_over rest ≡ true → head_from front rest ≡ alone
-unfolding head_from
-alone_over front [] e = refl
-alone_over front (b ∷ after) e =
+pub dash_complete : (text after : List ℕ) → IsDash text after → behind_dash text ≡ Some after
+dash_complete text after h = rw (h.0, h.1) refl
+
+item_dash : (text : List ℕ) → begins_item text ≡ true → (after : List ℕ) × (behind_dash text ≡ Some after)
+item_dash [] e = absurd cc
+item_dash (b ∷ bs) e = (bs, rw e refl)
+
+-- ---- how words, lists and mappings begin
+
+no_dash : (b : ℕ) (bs : List ℕ) → (is_mark b && begins_gap bs) ≡ false → behind_dash (b ∷ bs) ≡ None
+no_dash b bs e =
+    elim (cases_Bool ((b == 45) && begins_gap bs)) [
+      | inl t ↦
+          let both = and_parts (b == 45) (begins_gap bs) t in
+          let m : is_mark b ≡ true = rw both.0 refl in
+          let bad : (is_mark b && begins_gap bs) ≡ true = rw (m, both.1) refl in
+          absurd (both_ways (is_mark b && begins_gap bs) e bad)
+      | inr f ↦ rw f refl
+    ]
+
+word_no_dash : (text : List ℕ) → BeginsWord false text → behind_dash text ≡ None
+word_no_dash text w = rw w.parts (no_dash w.first w.others w.no_mark)
+
+word_no_bracket : (text : List ℕ) → BeginsWord false text → begins_bracket text ≡ false
+word_no_bracket text w =
+    let not_it : (x : ℕ) → is_indicator x ≡ true → x ≢ 39 → x ≢ 34 → (w.first == x) ≡ false = λ x i s d. ne_eqb w.first x (w.no_indicator x i s d) in
+    rw (w.parts, not_it 91 refl (λ e. omega (arith, e)) (λ e. omega (arith, e)), not_it 123 refl (λ e. omega (arith, e)) (λ e. omega (arith, e))) refl
+
+flow_begins_so : (depth n : ℕ) (text : List ℕ) (t : Node) (rest : List ℕ) → IsFlow depth n text t rest → (behind_dash text ≡ None) × (begins_bracket text ≡ true)
+flow_begins_so zero n text t rest h = absurd h
+flow_begins_so (suc depth) n text t rest h =
+    elim h [
+      | inl l ↦ (rw l.1.opens refl, rw l.1.opens refl)
+      | inr m ↦ (rw m.1.opens refl, rw m.1.opens refl)
+    ]
+
+-- ---- values
+
+abbrev ok_head : Head → Result Head PlacedFault
+ok_head h = Ok h
+
+is_alone : (n : ℕ) (text : List ℕ) (h : Head) (t : Node) → node_from n text h ≡ Ok t → h ≡ alone t
+unfolding node_from
+is_alone n text (item after) t e = absurd cc
+is_alone n text (entry key after) t e = absurd cc
+is_alone n text (alone u) t e = ap (λ (v : Node). alone v) (ok_is u t e)
+
+-- behind a word a comment stands, or a colon
+over_or_colon : (rest : List ℕ) → ends_word false 32 rest ≡ true → (is_over rest ≡ true) ⊎ ((after : List ℕ) × (rest ≡ 58 ∷ after))
+over_or_colon [] e = inl refl
+over_or_colon (b ∷ bs) e =
+    elim (or_cases ((b == 35) && is_blank 32) ((b == 58) && begins_gap bs) e) [
+      | inl c ↦ inl (and_parts (b == 35) (is_blank 32) c).0
+      | inr c ↦ inr (bs, ap (λ (x : ℕ). x ∷ bs) (eqb-true b 58 (and_parts (b == 58) (begins_gap bs) c).0))
+    ]
+
+head_over : (n : ℕ) (value rest : List ℕ) → is_over rest ≡ true → word_head n value rest ≡ alone (scalar n value)
+unfolding word_head
+head_over n value [] e = refl
+head_over n value (b ∷ after) e =
     let no : (b == 58) ≡ false = ne_eqb b 58 (λ k. omega (arith, eqb-true b 35 e)) in
     rw no refl
 
--- a value is no entry
-pub node_alone : (n : ℕ) (text : List ℕ) (t : Node) → IsNode n text t → head_at n text ≡ Ok alone
-unfolding head_at
-node_alone n text t h =
-    let s = h.1 in
-    let p = plain_is text h.0 s.0 s.1 s.2 in
-    let over : is_over (plain_rest text) ≡ true = ap is_over p.1 ∙ s.3 in
-    rw (s.2.begins, alone_over (plain_front text) (plain_rest text) over) refl
-
-pub inline_sound : (n : ℕ) (text : List ℕ) (value : Option Node) → inline_at n text ≡ Ok value → IsInline n text value
-unfolding inline_at
-inline_sound n text value e =
-    elim (chosen (is_over (skipped text)) (Ok None) (node_at n (skipped text) >>= λ v. Ok (Some v)) (Ok value) e) [
-      | inl p ↦ subst (IsInline n text) (ok_is None value p.1) (skipped text, behind_blanks text, p.0)
-      | inr p ↦
-          let b = bind_ok (node_at n (skipped text)) (λ v. Ok (Some v)) value p.1 in
-          subst (IsInline n text) (ok_is (Some b.0) value b.2) (skipped text, behind_blanks text, p.0, node_sound n (skipped text) b.0 b.1)
+word_alone : (n : ℕ) (value rest : List ℕ) (t : Node) → ends_word false 32 rest ≡ true → word_head n value rest ≡ alone t → (is_over rest ≡ true) × (t ≡ scalar n value)
+unfolding word_head
+word_alone n value rest t ends e =
+    elim (over_or_colon rest ends) [
+      | inl over ↦ let h : alone (scalar n value) ≡ alone t = sym (head_over n value rest over) ∙ e in (over, cc)
+      | inr colon ↦ let h : entry value colon.0 ≡ alone t = ap (word_head n value) (sym colon.1) ∙ e in absurd cc
     ]
 
-pub inline_complete : (n : ℕ) (text : List ℕ) (value : Option Node) → IsInline n text value → inline_at n text ≡ Ok value
-unfolding inline_at
-inline_complete n text None h = rw (behind_blanks-is text h.0 h.1, h.2) refl
-inline_complete n text (Some t) h = rw (behind_blanks-is text h.0 h.1, h.2, node_complete n h.0 t h.3) refl
-
-entry_from : (front rest found after : List ℕ) → head_from front rest ≡ entry found after → (rest ≡ 58 ∷ after) × (found ≡ front)
-unfolding head_from
-entry_from front [] found after e = absurd cc
-entry_from front (b ∷ bs) found after e =
-    elim (chosen (b == 58) (entry front bs) alone (entry found after) e) [
+word_entry : (n : ℕ) (value rest key after : List ℕ) → word_head n value rest ≡ entry key after → (rest ≡ 58 ∷ after) × (value ≡ key)
+unfolding word_head
+word_entry n value [] key after e = absurd cc
+word_entry n value (b ∷ bs) key after e =
+    elim (chosen (b == 58) (entry value bs) (alone (scalar n value)) (entry key after) e) [
       | inl p ↦
-          let h : entry front bs ≡ entry found after = p.1 in
-          let k : found ≡ front = cc in
+          let h : entry value bs ≡ entry key after = p.1 in
+          let k : value ≡ key = cc in
           let a : bs ≡ after = cc in
           (ap (λ (x : ℕ). x ∷ bs) (eqb-true b 58 p.0) ∙ ap (λ (xs : List ℕ). 58 ∷ xs) a, k)
-      | inr p ↦ let h : alone ≡ entry found after = p.1 in absurd cc
+      | inr p ↦ let h : alone (scalar n value) ≡ entry key after = p.1 in absurd cc
     ]
 
-pub entry_sound : (n : ℕ) (text front after : List ℕ) → head_at n text ≡ Ok (entry front after) → ltb 1024 (characters front) ≡ false → IsEntry text (trimmed front) after
+-- ---- from the line to its text
+
+line_ok : {A : Type 0} (n : ℕ) (r : Result A Flaw) (x : A) → on_line n r ≡ Ok x → r ≡ Ok x
+line_ok n (Ok y) x e = ap (λ z. Ok z) (ok_is y x e)
+line_ok n (Err f) x e = absurd cc
+
+head_from_cases : (depth n : ℕ) (text : List ℕ) (found : Option (List ℕ)) (h : Head) → head_from depth n text found ≡ Ok h → ((after : List ℕ) × (found ≡ Some after) × (h ≡ item after)) ⊎ (text_head depth n text ≡ Ok h)
+unfolding head_from
+head_from_cases depth n text None h e = inr (line_ok n (text_head depth n text) h e)
+head_from_cases depth n text (Some after) h e = inl (after, refl, sym (ok_is (item after) h e))
+
+-- an item, or no item
+head_cases : (depth n : ℕ) (text : List ℕ) (h : Head) → head_at depth n text ≡ Ok h → ((after : List ℕ) × (behind_dash text ≡ Some after) × (h ≡ item after)) ⊎ (text_head depth n text ≡ Ok h)
 unfolding head_at
-entry_sound n text front after e short =
-    let a = guard_true (begins_plain text) (Ok (head_from (plain_front text) (plain_rest text))) (record { kind = NotInSubset; line = n }) (entry front after) e in
-    let b = entry_from (plain_front text) (plain_rest text) front after (ok_is (head_from (plain_front text) (plain_rest text)) (entry front after) a.1) in
-    let p = plain_at text a.0 in
-    let plain : IsPlain text (trimmed front) p.0 (58 ∷ after) = subst (λ xs. IsPlain text (trimmed xs) p.0 (58 ∷ after)) (sym b.1) (subst (λ rest. IsPlain text (trimmed (plain_front text)) p.0 rest) b.0 p.1) in
-    let whole : front ≡ trimmed front ++ p.0 = b.1 ∙ p.2 ∙ ap (λ xs. trimmed xs ++ p.0) (sym b.1) in
-    let few : characters front ≤ 1024 = ltb-false 1024 (characters front) short in
-    (p.0, plain, subst (λ xs. characters xs ≤ 1024) whole few)
+head_cases depth n text h e = head_from_cases depth n text (behind_dash text) h e
 
--- what an entry is read as
-pub entry_complete : (n : ℕ) (text key after : List ℕ) → IsEntry text key after → (front : List ℕ) × (head_at n text ≡ Ok (entry front after)) × (trimmed front ≡ key) × (ltb 1024 (characters front) ≡ false)
+-- a list or mapping alone, or a word
+text_cases : (depth n : ℕ) (text : List ℕ) (h : Head) → text_head depth n text ≡ Ok h
+    → ((t : Node) × (rest : List ℕ) × IsFlow depth n text t rest × (is_over rest ≡ true) × (h ≡ alone t))
+    ⊎ ((value : List ℕ) × (rest : List ℕ) × IsWord false text value rest × (word_head n value rest ≡ h))
+unfolding text_head flow_head
+text_cases depth n text h e =
+    let worded : List ℕ × List ℕ → Result Head Flaw = λ r. Ok (word_head n r.0 r.1) in
+    elim (chosen (begins_bracket text) (flow_at depth n text >>= λ r. flow_head r) (word_at false text >>= worded) (Ok h) e) [
+      | inl p ↦
+          let a = bind_ok (flow_at depth n text) (λ r. flow_head r) h p.1 in
+          let r = a.0 in
+          let g = guard_true (is_over r.1) (Ok (alone r.0)) (record { kind = Flow; left = length r.1 }) h a.2 in
+          inl (r.0, r.1, flow_sound depth n text r.0 r.1 a.1, g.0, sym (ok_is (alone r.0) h g.1))
+      | inr p ↦
+          let a = bind_ok (word_at false text) worded h p.1 in
+          let r = a.0 in
+          inr (r.0, r.1, word_sound false text r.0 r.1 a.1, ok_is (word_head n r.0 r.1) h a.2)
+    ]
+
+pub alone_sound : (depth n : ℕ) (text : List ℕ) (t : Node) → head_at depth n text ≡ Ok (alone t) → IsNode depth n text t
+alone_sound depth n text t e =
+    elim (head_cases depth n text (alone t) e) [
+      | inl i ↦ let h : alone t ≡ item i.0 = i.2 in absurd cc
+      | inr w ↦ elim (text_cases depth n text (alone t) w) [
+        | inl f ↦
+            let h : alone t ≡ alone f.0 = f.4 in
+            let same : f.0 ≡ t = cc in
+            (f.1, inr (subst (λ u. IsFlow depth n text u f.1) same f.2), f.3)
+        | inr v ↦
+            let a = word_alone n v.0 v.1 t (word-rest_ends false text v.0 v.1 v.2) v.3 in
+            (v.1, inl (v.0, v.2, a.1), a.0)
+      ]
+    ]
+
+pub alone_complete : (depth n : ℕ) (text : List ℕ) (t : Node) → IsNode depth n text t → head_at depth n text ≡ Ok (alone t)
+unfolding head_at head_from text_head flow_head
+alone_complete depth n text t h =
+    elim h.1 [
+      | inl v ↦
+          let w = word_begins false text v.0 h.0 v.1 in
+          rw (word_no_dash text w, word_no_bracket text w, word_complete false text v.0 h.0 v.1, head_over n v.0 h.0 h.2, v.2) refl
+      | inr f ↦
+          let b = flow_begins_so depth n text t h.0 f in
+          rw (b.0, b.1, flow_complete depth n text t h.0 f, h.2) refl
+    ]
+
+-- ---- keys
+
+pub key_sound : (depth n : ℕ) (text key after : List ℕ) → head_at depth n text ≡ Ok (entry key after) → IsKey text key after
+key_sound depth n text key after e =
+    elim (head_cases depth n text (entry key after) e) [
+      | inl i ↦ let h : entry key after ≡ item i.0 = i.2 in absurd cc
+      | inr w ↦ elim (text_cases depth n text (entry key after) w) [
+        | inl f ↦ let h : entry key after ≡ alone f.0 = f.4 in absurd cc
+        | inr v ↦
+            let a = word_entry n v.0 v.1 key after v.3 in
+            subst (λ k. IsWord false text k (58 ∷ after)) a.1 (subst (λ rest. IsWord false text v.0 rest) a.0 v.2)
+      ]
+    ]
+
+pub key_complete : (depth n : ℕ) (text key after : List ℕ) → IsKey text key after → head_at depth n text ≡ Ok (entry key after)
+unfolding head_at head_from text_head word_head
+key_complete depth n text key after h =
+    let w = word_begins false text key (58 ∷ after) h in
+    rw (word_no_dash text w, word_no_bracket text w, word_complete false text key (58 ∷ after) h) refl
+
+-- a key begins with no blank, and with no comment
+pub key_begins : (text key after : List ℕ) → IsKey text key after → (begins_blank text ≡ false) × (is_over text ≡ false)
+key_begins text key after h =
+    let w = word_begins false text key (58 ∷ after) h in
+    (rw w.parts w.no_blank, rw w.parts (ne_eqb w.first 35 (w.no_indicator 35 refl (λ e. omega (arith, e)) (λ e. omega (arith, e)))))
+
+pub key_no_item : (text key after : List ℕ) → IsKey text key after → begins_item text ≡ false
+key_no_item text key after h =
+    elim (cases_Bool (begins_item text)) [
+      | inl t ↦
+          let d = item_dash text t in
+          let both : None ≡ Some d.0 = sym (word_no_dash text (word_begins false text key (58 ∷ after) h)) ∙ d.1 in
+          absurd cc
+      | inr f ↦ f
+    ]
+
+-- what an item is read as
+pub item_head : (depth n : ℕ) (text after : List ℕ) → behind_dash text ≡ Some after → head_at depth n text ≡ Ok (item after)
 unfolding head_at head_from
-entry_complete n text key after h =
-    let p = plain_is text key h.0 (58 ∷ after) h.1 in
-    (key ++ h.0, rw (h.1.begins, p.0, p.1) refl, p.2, le-ltb 1024 (characters (key ++ h.0)) h.2)
+item_head depth n text after e = rw e refl
 
-pub entry_begins : (text key after : List ℕ) → IsEntry text key after → begins_plain text ≡ true
-entry_begins text key after h = h.1.begins
+-- ---- entries
+
+before_colon-is : (text front after : List ℕ) → text ≡ front ++ 58 ∷ after → before_colon text after ≡ front
+before_colon-is text front after e =
+    let len : length text - (length after + 1) ≡ length front = omega (arith, ap length e, length-append front (58 ∷ after)) in
+    ap (λ n. take n text) len ∙ ap (take (length front)) e ∙ take-append_seam front (58 ∷ after)
+
+pub entry_sound : (depth n : ℕ) (text key after : List ℕ) → head_at depth n text ≡ Ok (entry key after) → ltb 1024 (characters (before_colon text after)) ≡ false → IsEntry text key after
+entry_sound depth n text key after e short =
+    let k = key_sound depth n text key after e in
+    let f = word_parts false text key (58 ∷ after) k in
+    let few : characters (before_colon text after) ≤ 1024 = ltb-false 1024 (characters (before_colon text after)) short in
+    record { is_key = k; front = f.0; parts = f.1; short = subst (λ xs. characters xs ≤ 1024) (before_colon-is text f.0 after f.1) few }
+
+-- an entry's key is short
+pub entry_short : (text key after : List ℕ) → IsEntry text key after → ltb 1024 (characters (before_colon text after)) ≡ false
+entry_short text key after h = rw (before_colon-is text h.front after h.parts) (le-ltb 1024 (characters h.front) h.short)
+
+-- ---- what stands behind a colon
+
+pub inline_sound : (depth n : ℕ) (text : List ℕ) (value : Option Node) → inline_at depth n text ≡ Ok value → IsInline depth n text value
+unfolding inline_at
+inline_sound depth n text value e =
+    let rest = skipped text in
+    let made : Head → Result (Option Node) PlacedFault = λ h. node_from n rest h >>= λ t. Ok (Some t) in
+    elim (chosen (is_over rest) (Ok None) (head_at depth n rest >>= made) (Ok value) e) [
+      | inl p ↦ subst (IsInline depth n text) (ok_is None value p.1) (rest, behind_blanks text, p.0)
+      | inr p ↦
+          let b = bind_ok (head_at depth n rest) made value p.1 in
+          let c = bind_ok (node_from n rest b.0) (λ t. Ok (Some t)) value b.2 in
+          subst (IsInline depth n text) (ok_is (Some c.0) value c.2) (rest, behind_blanks text, p.0, alone_sound depth n rest c.0 (b.1 ∙ ap ok_head (is_alone n rest b.0 c.0 c.1)))
+    ]
+
+pub inline_complete : (depth n : ℕ) (text : List ℕ) (value : Option Node) → IsInline depth n text value → inline_at depth n text ≡ Ok value
+unfolding inline_at node_from
+inline_complete depth n text None h = rw (behind_blanks-is text h.0 h.1, h.2) refl
+inline_complete depth n text (Some t) h = rw (behind_blanks-is text h.0 h.1, h.2, alone_complete depth n h.0 t h.3) refl

@@ -1,7 +1,7 @@
 -- A set of keys, by their bytes.
-use Rattle.std.proofs.Common.{is_eq, ◌≡◌, ℕ, Bool, true, false, ◌||◌, List, [], ◌∷◌, map, refl, sym, ap, ◌∙◌, arith}
-use Rattle.std.specs.Borrow.{Bor}
-use Rattle.std.specs.List.{list_any}
+use Rattle.std.proofs.Common.{is_eq, ◌≡◌, ℕ, Bool, true, false, ◌||◌, List, [], ◌∷◌, ◌++◌, map, refl, sym, ap, ◌∙◌, inl, inr, arith}
+use Rattle.std.specs.Bool.{Decides}
+use Rattle.std.specs.List.{list_any, Contains}
 use Rattle.std.specs.Str.{bytes_eq}
 use Rattle.std.specs.Ordering.{nat_cmp, match_ordering}
 use Rattle.std.specs.declared.cmp.Ordering.{Ordering}
@@ -9,18 +9,12 @@ use Rattle.std.specs.declared.cmp.Ordering.TheVariants.{Less, Equal, Greater}
 use Rattle.std.specs.Cmp.Lexicographic.{slice_cmp}
 use Rattle.std.specs.BTreeMap.{is_at}
 use Rattle.std.specs.BTreeSet.{insert_key}
-use Rattle.std.proofs.lemmas.Bool.{le-ltb, eq-eqb}
-use Rattle.std.proofs.lemmas.Bool.Decides.{same_from_decides}
+use Rattle.std.proofs.lemmas.Bool.{le-ltb, eq-eqb, cases_Bool, both_ways}
+use Rattle.std.proofs.lemmas.Bool.Decides.{same_from_decides, Decides-by_or}
+use Rattle.std.proofs.lemmas.List.Elements.{Decides-contains}
 use Rattle.std.proofs.lemmas.Slice.Eq.{bytes_eq-Decides}
 use Rattle.std.proofs.lemmas.Map.Lookups.{exact_bytes}
-use Rattle.yaml_subset.specs.Reading.{is_among}
-
--- the order of slices of bytes
-abbrev pub by_bytes : Bor (List ℕ) → Bor (List ℕ) → Ordering
-by_bytes x y = slice_cmp nat_cmp x.now y.now
-
-abbrev pub bytes_of : Bor (List ℕ) → List ℕ
-bytes_of k = k.now
+use Rattle.yaml_subset.specs.Keys.{is_among}
 
 nat_cmp-same : (x : ℕ) → nat_cmp x x ≡ Equal
 nat_cmp-same x = rw (le-ltb x x (omega arith), eq-eqb x x refl) refl
@@ -34,17 +28,6 @@ equal Less e = absurd cc
 equal Equal e = refl
 equal Greater e = absurd cc
 
-same_test : (k q : Bor (List ℕ)) → is_at (by_bytes q) k ≡ bytes_eq k.now q.now
-same_test k q =
-    same_from_decides (is_at (by_bytes q) k) (bytes_eq k.now q.now)
-    (λ e. sym (exact_bytes q.now k.now (equal (by_bytes q k) e)), λ p. ap (λ xs. is_eq (slice_cmp nat_cmp q.now xs)) p ∙ ap is_eq (slice_cmp-same q.now))
-    (bytes_eq-Decides k.now q.now)
-
--- the set's own test is whether the bytes are among those of its keys
-pub contains_key : (keys : List (Bor (List ℕ))) (q : Bor (List ℕ)) → list_any (is_at (by_bytes q)) keys ≡ is_among (map bytes_of keys) q.now
-contains_key [] q = refl
-contains_key (k ∷ keys) q = rw (same_test k q, contains_key keys q) refl
-
 or_swap : (a b c : Bool) → (a || (b || c)) ≡ (b || (a || c))
 or_swap true true c = refl
 or_swap true false c = refl
@@ -54,14 +37,52 @@ or_again : (a c : Bool) → (a || c) ≡ (a || (a || c))
 or_again true c = refl
 or_again false c = refl
 
-insert_step : (o : Ordering) (k x : Bor (List ℕ)) (xs : List (Bor (List ℕ))) (q : List ℕ) → by_bytes k x ≡ o
-    → is_among (map bytes_of (insert_key by_bytes xs k)) q ≡ (bytes_eq k.now q || is_among (map bytes_of xs) q)
-    → is_among (map bytes_of (match_ordering o (k ∷ x ∷ xs) (x ∷ xs) (x ∷ insert_key by_bytes xs k))) q ≡ (bytes_eq k.now q || (bytes_eq x.now q || is_among (map bytes_of xs) q))
-insert_step Less k x xs q e h = refl
-insert_step Equal k x xs q e h = let same : k.now ≡ x.now = exact_bytes k.now x.now e in rw same (or_again (bytes_eq x.now q) (is_among (map bytes_of xs) q))
-insert_step Greater k x xs q e h = rw h (or_swap (bytes_eq x.now q) (bytes_eq k.now q) (is_among (map bytes_of xs) q))
+module _ {K : Type 0} (bytes_of : K → List ℕ) where
+  -- the order of keys, which is that of their bytes
+  abbrev by_bytes : K → K → Ordering
+  by_bytes x y = slice_cmp nat_cmp (bytes_of x) (bytes_of y)
 
--- after a key was taken, it and those before are among the keys
-pub insert_key-among : (keys : List (Bor (List ℕ))) (k : Bor (List ℕ)) (q : List ℕ) → is_among (map bytes_of (insert_key by_bytes keys k)) q ≡ (bytes_eq k.now q || is_among (map bytes_of keys) q)
-insert_key-among [] k q = refl
-insert_key-among (x ∷ xs) k q = insert_step (by_bytes k x) k x xs q refl (insert_key-among xs k q)
+  same_test : (k q : K) → is_at (by_bytes q) k ≡ bytes_eq (bytes_of k) (bytes_of q)
+  same_test k q =
+      same_from_decides (is_at (by_bytes q) k) (bytes_eq (bytes_of k) (bytes_of q))
+      (λ e. sym (exact_bytes (bytes_of q) (bytes_of k) (equal (by_bytes q k) e)), λ p. ap (λ xs. is_eq (slice_cmp nat_cmp (bytes_of q) xs)) p ∙ ap is_eq (slice_cmp-same (bytes_of q)))
+      (bytes_eq-Decides (bytes_of k) (bytes_of q))
+
+  -- the set's own test is whether the bytes are among those of its keys
+  pub contains_key : (keys : List K) (q : K) → list_any (is_at (by_bytes q)) keys ≡ is_among (map bytes_of keys) (bytes_of q)
+  contains_key [] q = refl
+  contains_key (k ∷ keys) q = rw (same_test k q, contains_key keys q) refl
+
+  insert_step : (o : Ordering) (k x : K) (xs : List K) (q : List ℕ) → by_bytes k x ≡ o
+      → is_among (map bytes_of (insert_key by_bytes xs k)) q ≡ (bytes_eq (bytes_of k) q || is_among (map bytes_of xs) q)
+      → is_among (map bytes_of (match_ordering o (k ∷ x ∷ xs) (x ∷ xs) (x ∷ insert_key by_bytes xs k))) q ≡ (bytes_eq (bytes_of k) q || (bytes_eq (bytes_of x) q || is_among (map bytes_of xs) q))
+  insert_step Less k x xs q e h = refl
+  insert_step Equal k x xs q e h = let same : bytes_of k ≡ bytes_of x = exact_bytes (bytes_of k) (bytes_of x) e in rw same (or_again (bytes_eq (bytes_of x) q) (is_among (map bytes_of xs) q))
+  insert_step Greater k x xs q e h = rw h (or_swap (bytes_eq (bytes_of x) q) (bytes_eq (bytes_of k) q) (is_among (map bytes_of xs) q))
+
+  -- after a key was taken, it and those before are among the keys
+  pub insert_key-among : (keys : List K) (k : K) (q : List ℕ) → is_among (map bytes_of (insert_key by_bytes keys k)) q ≡ (bytes_eq (bytes_of k) q || is_among (map bytes_of keys) q)
+  insert_key-among [] k q = refl
+  insert_key-among (x ∷ xs) k q = insert_step (by_bytes k x) k x xs q refl (insert_key-among xs k q)
+
+-- ---- keys by their bytes
+
+among_decides : (keys : List (List ℕ)) (key : List ℕ) → Decides (is_among keys key) (Contains keys key)
+among_decides keys key =
+    Decides-contains keys key (is_among keys key)
+    (Decides-by_or (λ k. bytes_eq k key) (λ k. k ≡ key) (λ ks. is_among ks key) (λ k. bytes_eq-Decides k key) refl (λ _ _. refl) keys)
+
+pub fresh_sound : (keys : List (List ℕ)) (key : List ℕ) → is_among keys key ≡ false → Contains keys key → ⊥
+fresh_sound keys key e h = both_ways (is_among keys key) e ((among_decides keys key).1 h)
+
+pub fresh_complete : (keys : List (List ℕ)) (key : List ℕ) → (Contains keys key → ⊥) → is_among keys key ≡ false
+fresh_complete keys key h =
+    elim (cases_Bool (is_among keys key)) [
+      | inl e ↦ absurd (h ((among_decides keys key).0 e))
+      | inr e ↦ e
+    ]
+
+-- a key behind others is among them as well as in front of them
+pub among-push : (keys : List (List ℕ)) (key q : List ℕ) → is_among (keys ++ key ∷ []) q ≡ (bytes_eq key q || is_among keys q)
+among-push [] key q = refl
+among-push (k ∷ ks) key q = ap (λ b. bytes_eq k q || b) (among-push ks key q) ∙ or_swap (bytes_eq k q) (bytes_eq key q) (is_among ks q)

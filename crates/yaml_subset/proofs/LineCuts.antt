@@ -4,9 +4,10 @@ use Rattle.std.specs.List.{slice_split, position_or_len, onto_first}
 use Rattle.std.specs.Borrow.{Bor}
 use Rattle.std.proofs.lemmas.List.{append-nil}
 use Rattle.std.proofs.Math.Seq.{take-length}
-use Rattle.yaml_subset.specs.declared.fault.Fault.{Fault}
+use Rattle.std.specs.Option.{option_to_list}
+use Rattle.yaml_subset.specs.declared.place.PlacedFault.{PlacedFault}
 use Rattle.yaml_subset.specs.TextLines.{Line, without_cr, lines_between, lines_of}
-use Rattle.yaml_subset.specs.Reading.{content_at, contents_from}
+use Rattle.yaml_subset.specs.Reading.{content_at, blemish_at, contents_from}
 use Rattle.yaml_subset.specs.Inside.{lines_behind}
 use Rattle.yaml_subset.proofs.Trimming.{last_split}
 
@@ -65,11 +66,11 @@ more_lines : (part after : List ℕ) → lines_between (part ∷ slice_split is_
 more_lines part [] = refl
 more_lines part (b ∷ bs) = more_step part b bs (is_lf b) refl
 
-none_at : (xs : List ℕ) → length xs < 1 → xs ≡ []
+pub none_at : (xs : List ℕ) → length xs < 1 → xs ≡ []
 none_at [] h = refl
 none_at (x ∷ xs) h = absurd (omega arith)
 
-behind_at : (xs : List ℕ) → 1 ≤ length xs → xs ≡ get_or xs 0 0 ∷ take (length xs - 1) (drop 1 xs)
+pub behind_at : (xs : List ℕ) → 1 ≤ length xs → xs ≡ get_or xs 0 0 ∷ take (length xs - 1) (drop 1 xs)
 behind_at [] h = absurd (omega arith)
 behind_at (x ∷ xs) h =
     let e : length xs ≡ length (x ∷ xs) - 1 = omega arith in
@@ -91,7 +92,7 @@ next_line text line end n k l d e =
 
 -- ---- the lines so far, in front of those that are still read
 
-abbrev pub in_front : List Line → List Line × Option Fault → List Line × Option Fault
+abbrev pub in_front : List Line → List Line × Option PlacedFault → List Line × Option PlacedFault
 in_front front r = (front ++ r.0, r.1)
 
 -- how many lines there still may be
@@ -99,27 +100,27 @@ abbrev pub room : Option (Bor (List ℕ)) → ℕ
 room None = 0
 room (Some text) = suc (length text.now)
 
-module _ (front : List Line) (n : ℕ) (rest : Option (List ℕ)) (raw : List ℕ) (after : Option (List ℕ)) (total : List Line × Option Fault) (lines : lines_behind rest ≡ raw ∷ lines_behind after) where
-  pub skips : content_at n raw ≡ Ok None → in_front front (contents_from n (lines_behind rest)) ≡ total → in_front front (contents_from (n + 1) (lines_behind after)) ≡ total
+module _ (front : List Line) (n : ℕ) (rest : Option (List ℕ)) (raw : List ℕ) (after : Option (List ℕ)) (total : List Line × Option PlacedFault) (lines : lines_behind rest ≡ raw ∷ lines_behind after) (so_far : in_front front (contents_from n (lines_behind rest)) ≡ total) where
+  pub goes_on : (found : Option Line) → content_at n raw ≡ Ok found → blemish_at n raw ≡ None → in_front (front ++ option_to_list found) (contents_from (n + 1) (lines_behind after)) ≡ total
   unfolding contents_from
-  skips e so_far =
-      let one : in_front front (contents_from n (lines_behind rest)) ≡ in_front front (contents_from (n + 1) (lines_behind after)) = rw (lines, e) refl in
-      sym one ∙ so_far
-
-  pub adds : (l : Line) → content_at n raw ≡ Ok (Some l) → in_front front (contents_from n (lines_behind rest)) ≡ total → in_front (front ++ l ∷ []) (contents_from (n + 1) (lines_behind after)) ≡ total
-  unfolding contents_from
-  adds l e so_far =
+  goes_on found e b =
       let r = contents_from (n + 1) (lines_behind after) in
-      let one : in_front front (contents_from n (lines_behind rest)) ≡ in_front (front ++ l ∷ []) r = rw (lines, e) (ap (λ (ls : List Line). (ls, r.1)) (sym (append_assoc front (l ∷ []) r.0))) in
+      let one : in_front front (contents_from n (lines_behind rest)) ≡ in_front (front ++ option_to_list found) r = rw (lines, e, b) (ap (λ (ls : List Line). (ls, r.1)) (sym (append_assoc front (option_to_list found) r.0))) in
       sym one ∙ so_far
 
-  pub stops : (f : Fault) → content_at n raw ≡ Err f → in_front front (contents_from n (lines_behind rest)) ≡ total → total ≡ (front, Some f)
+  pub stops : (f : PlacedFault) → content_at n raw ≡ Err f → total ≡ (front, Some f)
   unfolding contents_from
-  stops f e so_far =
+  stops f e =
       let one : in_front front (contents_from n (lines_behind rest)) ≡ (front, Some f) = rw (lines, e) (ap (λ (ls : List Line). (ls, Some f)) (append-nil front)) in
       sym so_far ∙ one
 
-pub all_read : (front : List Line) (n : ℕ) (rest : Option (List ℕ)) (total : List Line × Option Fault) → rest ≡ None → in_front front (contents_from n (lines_behind rest)) ≡ total → total ≡ (front, None)
+  pub stops_behind : (found : Option Line) (f : PlacedFault) → content_at n raw ≡ Ok found → blemish_at n raw ≡ Some f → total ≡ (front ++ option_to_list found, Some f)
+  unfolding contents_from
+  stops_behind found f e b =
+      let one : in_front front (contents_from n (lines_behind rest)) ≡ (front ++ option_to_list found, Some f) = rw (lines, e, b) refl in
+      sym so_far ∙ one
+
+pub all_read : (front : List Line) (n : ℕ) (rest : Option (List ℕ)) (total : List Line × Option PlacedFault) → rest ≡ None → in_front front (contents_from n (lines_behind rest)) ≡ total → total ≡ (front, None)
 unfolding contents_from
 all_read front n rest total e so_far =
     let one : in_front front (contents_from n (lines_behind rest)) ≡ (front, None) = rw e (ap (λ (ls : List Line). (ls, None)) (append-nil front)) in

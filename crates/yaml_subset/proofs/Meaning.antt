@@ -1,223 +1,346 @@
 -- The tree that lines are read as is the tree that they are, and no other.
-use Rattle.std.proofs.Common.{◌≡◌, ℕ, zero, suc, ◌==◌, ltb, false, cond, List, [], ◌∷◌, ◌++◌, Option, Some, None, Result, Ok, refl, sym, ap, subst, ◌⊎◌, inl, inr, arith}
-use Rattle.std.specs.List.{Contains}
-use Rattle.std.specs.Str.{bytes_eq}
-use Rattle.std.specs.Bool.{Decides}
-use Rattle.std.proofs.lemmas.Bool.{eqb-true, eq-eqb, le-ltb, cases_Bool, both_ways}
-use Rattle.std.proofs.lemmas.Bool.Decides.{Decides-by_or}
-use Rattle.std.proofs.lemmas.List.Elements.{Decides-contains}
-use Rattle.std.proofs.lemmas.Slice.Eq.{bytes_eq-Decides}
-use Rattle.yaml_subset.specs.declared.fault.Fault.{Fault}
-use Rattle.yaml_subset.specs.declared.fault.FaultKind.TheVariants.{Indent, DuplicateKey, NotInSubset}
-use Rattle.yaml_subset.specs.Bytes.{characters}
-use Rattle.yaml_subset.specs.Node.{Node, scalar, mapping, no_pairs, Pair, pairs_of}
-use Rattle.yaml_subset.specs.Plain.{IsNode}
-use Rattle.yaml_subset.specs.Scanning.{trimmed}
+use Rattle.std.proofs.Common.{◌≡◌, ℕ, zero, suc, ◌+◌, ◌==◌, ltb, ◌&&◌, Bool, true, false, cond, List, [], ◌∷◌, ◌++◌, drop, length, Option, Some, None, Result, Ok, refl, sym, ap, subst, ◌∙◌, inl, inr, arith}
+use Rattle.std.proofs.lemmas.Bool.{eqb-true, eq-eqb, le-ltb}
+use Rattle.yaml_subset.specs.declared.place.PlacedFault.{PlacedFault}
+use Rattle.yaml_subset.specs.declared.fault.FaultKind.TheVariants.{Tab, DuplicateKey, NotInSubset}
+use Rattle.yaml_subset.specs.Bytes.{begins_blank, begins_item, is_over, characters}
+use Rattle.yaml_subset.specs.Node.{Node, scalar, sequence, nodes_of, mapping, no_pairs, Pair, pairs_of}
+use Rattle.yaml_subset.specs.Keys.{is_among}
+use Rattle.yaml_subset.specs.Values.{IsKey, IsNode, IsInline}
+use Rattle.yaml_subset.specs.Scanning.{skipped, spaces_len, behind_spaces, behind_dash, before_colon}
 use Rattle.yaml_subset.specs.TextLines.{Line}
-use Rattle.yaml_subset.specs.TreeOf.{Group, is_deeper, IsRun, IsValue, IsPair, ArePairs, IsMapping, IsAlone, ByLines, IsTree}
-use Rattle.yaml_subset.specs.Reading.{◌>>=◌, fault_at, Head, entry, alone, node_at, inline_at, head_at, groups_of, closed_at, value_at, is_among, pair_from, pair_at, pairs_at, mapping_at, too_deep_at, block_from, block_at, entries_at, tree_at}
-use Rattle.yaml_subset.proofs.Steps.{bind_ok, guard_true, guard_false, ok_is}
-use Rattle.yaml_subset.proofs.Heads.{node_sound, node_complete, node_alone, inline_sound, inline_complete, entry_sound, entry_complete}
+use Rattle.yaml_subset.specs.TreeOf.{Group, IsRun, IsValue, IsPair, ArePairs, IsMapping, IsDash, IsInner, IsItem, AreItems, IsSequence, IsAlone, IsBlock, ByLines, IsTree}
+use Rattle.yaml_subset.specs.Part.{◌>>=◌}
+use Rattle.yaml_subset.specs.Reading.{fault_at, Head, item, entry, alone, head_at, inline_at, BlockReader, hangs, groups_of, misplaced, closed_at, value_at, pair_from, pair_at, pairs_at, mapping_at, inner, item_with, item_from, item_at, items_at, sequence_at, block_from, deep_from, block_at, tree_at}
+use Rattle.yaml_subset.proofs.Steps.{bind_ok, guard_true, guard_false, chosen, ok_is}
+use Rattle.yaml_subset.proofs.PlainTexts.{behind_blanks, behind_blanks-is}
+use Rattle.yaml_subset.proofs.KeySets.{fresh_sound, fresh_complete}
+use Rattle.yaml_subset.proofs.Spaces.{spaces_parts, spaces_len-is, drop_spaces, skipped_spaces}
+use Rattle.yaml_subset.proofs.Heads.{dash_sound, dash_complete, item_head, alone_sound, alone_complete, key_sound, key_complete, key_begins, key_no_item, entry_sound, entry_short, inline_sound, inline_complete}
 use Rattle.yaml_subset.proofs.Runs.{AllStand, groups_are_run, run_stands, run_is_groups}
 
 -- f gives the tree that lines have, and gives none where they have none
-pub record Computes (f : List Line → Result Node Fault) (R : List Line → Node → Type 0) : Type 0 where
+pub record Computes (f : List Line → Result Node PlacedFault) (R : List Line → Node → Type 0) : Type 0 where
   pub sound : (ls : List Line) (t : Node) → f ls ≡ Ok t → R ls t
   pub complete : (ls : List Line) (t : Node) → R ls t → f ls ≡ Ok t
 
--- ---- keys
-
-among_decides : (keys : List (List ℕ)) (key : List ℕ) → Decides (is_among keys key) (Contains keys key)
-among_decides keys key =
-    Decides-contains keys key (is_among keys key)
-    (Decides-by_or (λ k. bytes_eq k key) (λ k. k ≡ key) (λ ks. is_among ks key) (λ k. bytes_eq-Decides k key) refl (λ _ _. refl) keys)
-
-fresh_sound : (keys : List (List ℕ)) (key : List ℕ) → is_among keys key ≡ false → Contains keys key → ⊥
-fresh_sound keys key e h = both_ways (is_among keys key) e ((among_decides keys key).1 h)
-
-fresh_complete : (keys : List (List ℕ)) (key : List ℕ) → (Contains keys key → ⊥) → is_among keys key ≡ false
-fresh_complete keys key h =
-    elim (cases_Bool (is_among keys key)) [
-      | inl e ↦ absurd (h ((among_decides keys key).0 e))
-      | inr e ↦ e
-    ]
-
--- a line at an indentation is not deeper
-not_deeper : (i : ℕ) (l : Line) → l.indent ≡ i → is_deeper i l ≡ false
-not_deeper i l e = le-ltb i l.indent (omega (arith, e))
+-- a line at an indentation hangs from none there, unless it is an item
+hangs_not : (entry : Bool) (i : ℕ) (l : Line) → l.indent ≡ i → (entry && begins_item l.text) ≡ false → hangs entry i l ≡ false
+hangs_not false i l e f = le-ltb i l.indent (omega (arith, e))
+hangs_not true i l e f = rw (le-ltb i l.indent (omega (arith, e)), eq-eqb l.indent i e, f) refl
 
 -- a value on a line, with nothing below it
-closed_sound : (u : Node) (below : List Line) (t : Node) → closed_at u below ≡ Ok t → (below ≡ []) × (t ≡ u)
+closed_sound : (around : Option ℕ) (u : Node) (below : List Line) (t : Node) → closed_at around u below ≡ Ok t → (below ≡ []) × (t ≡ u)
 unfolding closed_at
-closed_sound u [] t e = (refl, sym (ok_is u t e))
-closed_sound u (l ∷ ls) t e = absurd cc
+closed_sound around u [] t e = (refl, sym (ok_is u t e))
+closed_sound around u (l ∷ ls) t e = absurd cc
 
-closed_complete : (u : Node) (below : List Line) (t : Node) → (below ≡ []) × (t ≡ u) → closed_at u below ≡ Ok t
+closed_complete : (around : Option ℕ) (u : Node) (below : List Line) (t : Node) → (below ≡ []) × (t ≡ u) → closed_at around u below ≡ Ok t
 unfolding closed_at
-closed_complete u below t h = rw (h.0, h.1) refl
+closed_complete around u below t h = rw (h.0, h.1) refl
 
 -- ---- a block of one line
 
-alone_sound : (first : Line) (others : List Line) (t : Node) → (node_at first.number first.text >>= λ u. closed_at u others) ≡ Ok t → IsAlone first others t
-alone_sound first others t e =
-    let b = bind_ok (node_at first.number first.text) (λ u. closed_at u others) t e in
-    let v = closed_sound b.0 others t b.2 in
-    record { alone = v.0; value = subst (IsNode first.number first.text) (sym v.1) (node_sound first.number first.text b.0 b.1) }
+alone_is : (depth : ℕ) (around : Option ℕ) (first : Line) (others : List Line) (t u : Node) → head_at depth first.number first.text ≡ Ok (alone u) → closed_at around u others ≡ Ok t → IsAlone depth first others t
+alone_is depth around first others t u e k =
+    let v = closed_sound around u others t k in
+    record { alone = v.0; value = subst (IsNode depth first.number first.text) (sym v.1) (alone_sound depth first.number first.text u e) }
 
-alone_complete : (entries : ℕ → ℕ → List Line → Result Node Fault) (first : Line) (others : List Line) (t : Node) → IsAlone first others t → block_at entries (first ∷ others) ≡ Ok t
-unfolding block_at block_from
-alone_complete entries first others t h =
-    rw (node_alone first.number first.text t h.value, node_complete first.number first.text t h.value) (closed_complete t others t (h.alone, refl))
+-- ---- what stands behind a `-`
+
+inner_sound : (depth : ℕ) (l : Line) (after key behind : List ℕ) → begins_blank (behind_spaces after) ≡ false → head_at depth l.number (skipped after) ≡ Ok (entry key behind) → IsInner l after (inner l after)
+inner_sound depth l after key behind no_tab e =
+    let same = skipped_spaces after (behind_spaces after) (spaces_len after) (spaces_parts after) no_tab in
+    record {
+      spaces = spaces_len after;
+      parts = spaces_parts after;
+      number = refl;
+      column = refl;
+      key = key;
+      behind = behind;
+      is_key = subst (λ text. IsKey text key behind) same (key_sound depth l.number (skipped after) key behind e);
+    }
+
+inner_complete : (depth : ℕ) (l : Line) (after : List ℕ) (found : Line) (h : IsInner l after found)
+    → (inner l after ≡ found) × (is_over (skipped after) ≡ false) × (head_at depth l.number (skipped after) ≡ Ok (entry h.key h.behind)) × (begins_blank (behind_spaces after) ≡ false)
+inner_complete depth l after found h =
+    let begins = key_begins found.text h.key h.behind h.is_key in
+    let len : spaces_len after ≡ h.spaces = ap spaces_len h.parts ∙ spaces_len-is h.spaces found.text begins.0 in
+    let text : behind_spaces after ≡ found.text = ap (λ n. drop n after) len ∙ ap (drop h.spaces) h.parts ∙ drop_spaces h.spaces found.text in
+    let behind : skipped after ≡ found.text = skipped_spaces after found.text h.spaces h.parts begins.0 in
+    let at_column : ℕ → Line = λ i. record { number = l.number; indent = i; text = behind_spaces after } in
+    let with_text : List ℕ → Line = λ xs. record { number = l.number; indent = found.indent; text = xs } in
+    let on_line : ℕ → Line = λ n. record { number = n; indent = found.indent; text = found.text } in (
+      ap (λ n. at_column (l.indent + (1 + n))) len ∙ ap at_column (sym h.column) ∙ ap with_text text ∙ ap on_line (sym h.number),
+      ap is_over behind ∙ begins.1,
+      ap (head_at depth l.number) behind ∙ key_complete depth l.number found.text h.key h.behind h.is_key,
+      ap begins_blank text ∙ begins.0,
+    )
 
 -- ---- one level
 
-module _ (block : List Line → Result Node Fault) (R : List Line → Node → Type 0) (computes : Computes block R) where
-  value_sound : (n : ℕ) (inline : Option Node) (below : List Line) (t : Node) → value_at block n inline below ≡ Ok t → IsValue R n inline below t
+module _ (depth : ℕ) (block : BlockReader) (R : List Line → Node → Type 0) (computes : (around : Option ℕ) → Computes (block around) R) where
+  value_sound : (n i : ℕ) (inline : Option Node) (below : List Line) (t : Node) → value_at block n i inline below ≡ Ok t → IsValue R n inline below t
   unfolding value_at
-  value_sound n (Some u) below t e = closed_sound u below t e
-  value_sound n None [] t e = sym (ok_is (scalar n []) t e)
-  value_sound n None (l ∷ ls) t e = computes.sound (l ∷ ls) t e
+  value_sound n i (Some u) below t e = closed_sound (Some i) u below t e
+  value_sound n i None [] t e = sym (ok_is (scalar n []) t e)
+  value_sound n i None (l ∷ ls) t e = (computes (Some i)).sound (l ∷ ls) t e
 
-  value_complete : (n : ℕ) (inline : Option Node) (below : List Line) (t : Node) → IsValue R n inline below t → value_at block n inline below ≡ Ok t
+  value_complete : (n i : ℕ) (inline : Option Node) (below : List Line) (t : Node) → IsValue R n inline below t → value_at block n i inline below ≡ Ok t
   unfolding value_at
-  value_complete n (Some u) below t h = closed_complete u below t h
-  value_complete n None [] t h = rw h refl
-  value_complete n None (l ∷ ls) t h = computes.complete (l ∷ ls) t h
+  value_complete n i (Some u) below t h = closed_complete (Some i) u below t h
+  value_complete n i None [] t h = rw h refl
+  value_complete n i None (l ∷ ls) t h = (computes (Some i)).complete (l ∷ ls) t h
 
-  pair_from_sound : (before : List (List ℕ)) (g : Group) (h : Head) (p : Pair) → head_at g.head.number g.head.text ≡ Ok h → pair_from block before g h ≡ Ok p → IsPair R before g p
+  -- ---- mappings
+
+  pair_from_sound : (i : ℕ) (before : List (List ℕ)) (g : Group) (h : Head) (p : Pair) → head_at depth g.head.number g.head.text ≡ Ok h → pair_from depth block i before g h ≡ Ok p → IsPair depth R before g p
   unfolding pair_from
-  pair_from_sound before g alone p e k = absurd cc
-  pair_from_sound before g (entry front after) p e k =
+  pair_from_sound i before g (item after) p e k = absurd cc
+  pair_from_sound i before g (alone t) p e k = absurd cc
+  pair_from_sound i before g (entry key after) p e k =
       let n = g.head.number in
-      let key = trimmed front in
-      let made : Node → Result Pair Fault = λ t. Ok (record { line = n; key = key; value = t }) in
-      let read : Result Pair Fault = inline_at n after >>= λ inline. value_at block n inline g.below >>= made in
-      let a = guard_false (is_among before key) (cond (ltb 1024 (characters front)) (fault_at NotInSubset n) read) (record { kind = DuplicateKey; line = n }) p k in
-      let c = guard_false (ltb 1024 (characters front)) read (record { kind = NotInSubset; line = n }) p a.1 in
-      let i = bind_ok (inline_at n after) (λ inline. value_at block n inline g.below >>= made) p c.1 in
-      let b = bind_ok (value_at block n i.0 g.below) made p i.2 in
-      subst (IsPair R before g) (ok_is (record { line = n; key = key; value = b.0 }) p b.2) (record {
+      let front = before_colon g.head.text after in
+      let made : Node → Result Pair PlacedFault = λ t. Ok (record { line = n; key = key; value = t }) in
+      let read : Result Pair PlacedFault = inline_at depth n after >>= λ inline. value_at block n i inline g.below >>= made in
+      let a = guard_false (is_among before key) (cond (ltb 1024 (characters front)) (fault_at NotInSubset n (length after + 1)) read) (record { kind = DuplicateKey; line = n; left = length g.head.text }) p k in
+      let c = guard_false (ltb 1024 (characters front)) read (record { kind = NotInSubset; line = n; left = length after + 1 }) p a.1 in
+      let inline = bind_ok (inline_at depth n after) (λ inline. value_at block n i inline g.below >>= made) p c.1 in
+      let b = bind_ok (value_at block n i inline.0 g.below) made p inline.2 in
+      subst (IsPair depth R before g) (ok_is (record { line = n; key = key; value = b.0 }) p b.2) (record {
         line = refl;
         after = after;
-        entry = entry_sound n g.head.text front after e c.0;
+        entry = entry_sound depth n g.head.text key after e c.0;
         fresh = fresh_sound before key a.0;
-        inline = i.0;
-        is_inline = inline_sound n after i.0 i.1;
-        value = value_sound n i.0 g.below b.0 b.1;
+        inline = inline.0;
+        is_inline = inline_sound depth n after inline.0 inline.1;
+        value = value_sound n i inline.0 g.below b.0 b.1;
       })
 
-  pair_sound : (i : ℕ) (before : List (List ℕ)) (g : Group) (p : Pair) → pair_at block i before g ≡ Ok p → (g.head.indent ≡ i) × IsPair R before g p
+  pair_sound : (around : Option ℕ) (i : ℕ) (before : List (List ℕ)) (g : Group) (p : Pair) → pair_at depth block around i before g ≡ Ok p → (g.head.indent ≡ i) × IsPair depth R before g p
   unfolding pair_at
-  pair_sound i before g p e =
-      let a = guard_true (g.head.indent == i) (head_at g.head.number g.head.text >>= λ h. pair_from block before g h) (record { kind = Indent; line = g.head.number }) p e in
-      let b = bind_ok (head_at g.head.number g.head.text) (λ h. pair_from block before g h) p a.1 in
-      (eqb-true g.head.indent i a.0, pair_from_sound before g b.0 p b.1 b.2)
+  pair_sound around i before g p e =
+      let a = guard_true (g.head.indent == i) (head_at depth g.head.number g.head.text >>= λ h. pair_from depth block i before g h) (record { kind = misplaced around g.head; line = g.head.number; left = length g.head.text }) p e in
+      let b = bind_ok (head_at depth g.head.number g.head.text) (λ h. pair_from depth block i before g h) p a.1 in
+      (eqb-true g.head.indent i a.0, pair_from_sound i before g b.0 p b.1 b.2)
 
-  pair_complete : (i : ℕ) (before : List (List ℕ)) (g : Group) (p : Pair) → g.head.indent ≡ i → IsPair R before g p → pair_at block i before g ≡ Ok p
+  pair_complete : (around : Option ℕ) (i : ℕ) (before : List (List ℕ)) (g : Group) (p : Pair) → g.head.indent ≡ i → IsPair depth R before g p → pair_at depth block around i before g ≡ Ok p
   unfolding pair_at pair_from
-  pair_complete i before g p at h =
-      let c = entry_complete g.head.number g.head.text p.key h.after h.entry in
-      rw (eq-eqb g.head.indent i at, c.1, c.2, fresh_complete before p.key h.fresh, c.3, inline_complete g.head.number h.after h.inline h.is_inline, value_complete g.head.number h.inline g.below p.value h.value)
+  pair_complete around i before g p at h =
+      rw (eq-eqb g.head.indent i at, key_complete depth g.head.number g.head.text p.key h.after h.entry.is_key, fresh_complete before p.key h.fresh, entry_short g.head.text p.key h.after h.entry, inline_complete depth g.head.number h.after h.inline h.is_inline, value_complete g.head.number i h.inline g.below p.value h.value)
       (ap (λ (n : ℕ). Ok (record { line = n; key = p.key; value = p.value })) (sym h.line))
 
-  pairs_sound : (i : ℕ) (before : List (List ℕ)) (gs : List Group) (ps : List Pair) → pairs_at block i before gs ≡ Ok ps → AllStand (is_deeper i) i gs × ArePairs R before gs ps
+  pairs_sound : (around : Option ℕ) (i : ℕ) (before : List (List ℕ)) (gs : List Group) (ps : List Pair) → pairs_at depth block around i before gs ≡ Ok ps → AllStand (hangs true i) i gs × ArePairs depth R before gs ps
   unfolding pairs_at
-  pairs_sound i before [] ps e = (tt, subst (ArePairs R before []) (ok_is [] ps e) tt)
-  pairs_sound i before (g ∷ gs) ps e =
-      let a = bind_ok (pair_at block i before g) (λ p. pairs_at block i (p.key ∷ before) gs >>= λ qs. Ok (p ∷ qs)) ps e in
-      let b = bind_ok (pairs_at block i (a.0.key ∷ before) gs) (λ qs. Ok (a.0 ∷ qs)) ps a.2 in
-      let one = pair_sound i before g a.0 a.1 in
-      let more = pairs_sound i (a.0.key ∷ before) gs b.0 b.1 in
-      (((one.0, not_deeper i g.head one.0), more.0), subst (ArePairs R before (g ∷ gs)) (ok_is (a.0 ∷ b.0) ps b.2) (one.1, more.1))
+  pairs_sound around i before [] ps e = (tt, subst (ArePairs depth R before []) (ok_is [] ps e) tt)
+  pairs_sound around i before (g ∷ gs) ps e =
+      let a = bind_ok (pair_at depth block around i before g) (λ p. pairs_at depth block around i (p.key ∷ before) gs >>= λ qs. Ok (p ∷ qs)) ps e in
+      let b = bind_ok (pairs_at depth block around i (a.0.key ∷ before) gs) (λ qs. Ok (a.0 ∷ qs)) ps a.2 in
+      let one = pair_sound around i before g a.0 a.1 in
+      let more = pairs_sound around i (a.0.key ∷ before) gs b.0 b.1 in
+      let stands = hangs_not true i g.head one.0 (key_no_item g.head.text a.0.key one.1.after one.1.entry.is_key) in
+      (((one.0, stands), more.0), subst (ArePairs depth R before (g ∷ gs)) (ok_is (a.0 ∷ b.0) ps b.2) (one.1, more.1))
 
-  pairs_complete : (i : ℕ) (before : List (List ℕ)) (gs : List Group) (ps : List Pair) → AllStand (is_deeper i) i gs → ArePairs R before gs ps → pairs_at block i before gs ≡ Ok ps
+  pairs_complete : (around : Option ℕ) (i : ℕ) (before : List (List ℕ)) (gs : List Group) (ps : List Pair) → AllStand (hangs true i) i gs → ArePairs depth R before gs ps → pairs_at depth block around i before gs ≡ Ok ps
   unfolding pairs_at
-  pairs_complete i before [] [] at h = refl
-  pairs_complete i before [] (p ∷ ps) at h = absurd h
-  pairs_complete i before (g ∷ gs) [] at h = absurd h
-  pairs_complete i before (g ∷ gs) (p ∷ ps) at h =
-      rw (pair_complete i before g p at.0.0 h.0, pairs_complete i (p.key ∷ before) gs ps at.1 h.1) refl
+  pairs_complete around i before [] [] at h = refl
+  pairs_complete around i before [] (p ∷ ps) at h = absurd h
+  pairs_complete around i before (g ∷ gs) [] at h = absurd h
+  pairs_complete around i before (g ∷ gs) (p ∷ ps) at h =
+      rw (pair_complete around i before g p at.0.0 h.0, pairs_complete around i (p.key ∷ before) gs ps at.1 h.1) refl
 
-  mapping_sound : (first : Line) (others : List Line) (t : Node) → mapping_at block first.number first.indent (first ∷ others) ≡ Ok t → IsMapping R first others t
+  mapping_sound : (around : Option ℕ) (first : Line) (others : List Line) (t : Node) → mapping_at depth block around first others ≡ Ok t → IsMapping depth R first others t
   unfolding mapping_at
-  mapping_sound first others t e =
+  mapping_sound around first others t e =
       let i = first.indent in
-      let gs = groups_of (is_deeper i) (first ∷ others) in
-      let a = bind_ok (pairs_at block i [] gs) (λ ps. Ok (mapping first.number (pairs_of ps))) t e in
-      let b = pairs_sound i [] gs a.0 a.1 in
+      let gs = groups_of (hangs true i) (first ∷ others) in
+      let a = bind_ok (pairs_at depth block around i [] gs) (λ ps. Ok (mapping first.number (pairs_of ps))) t e in
+      let b = pairs_sound around i [] gs a.0 a.1 in
       record {
         groups = gs;
         pairs = a.0;
-        run = groups_are_run (is_deeper i) i (first ∷ others) b.0;
+        run = groups_are_run (hangs true i) i (first ∷ others) b.0;
         each = b.1;
         tree = sym (ok_is (mapping first.number (pairs_of a.0)) t a.2);
       }
 
-  mapping_complete : (first : Line) (others : List Line) (t : Node) → IsMapping R first others t → mapping_at block first.number first.indent (first ∷ others) ≡ Ok t
+  mapping_complete : (around : Option ℕ) (first : Line) (others : List Line) (t : Node) → IsMapping depth R first others t → mapping_at depth block around first others ≡ Ok t
   unfolding mapping_at
-  mapping_complete first others t h =
+  mapping_complete around first others t h =
       let i = first.indent in
-      let at = run_stands (is_deeper i) i (first ∷ others) h.groups h.run in
-      let ps : pairs_at block i [] (groups_of (is_deeper i) (first ∷ others)) ≡ Ok h.pairs =
-      subst (λ gs. pairs_at block i [] gs ≡ Ok h.pairs) (run_is_groups (is_deeper i) i (first ∷ others) h.groups h.run) (pairs_complete i [] h.groups h.pairs at h.each) in
+      let at = run_stands (hangs true i) i (first ∷ others) h.groups h.run in
+      let ps : pairs_at depth block around i [] (groups_of (hangs true i) (first ∷ others)) ≡ Ok h.pairs =
+      subst (λ gs. pairs_at depth block around i [] gs ≡ Ok h.pairs) (run_is_groups (hangs true i) i (first ∷ others) h.groups h.run) (pairs_complete around i [] h.groups h.pairs at h.each) in
       rw (ps, h.tree) refl
 
   -- a mapping begins with an entry
-  mapping_head : (first : Line) (others : List Line) (gs : List Group) (ps : List Pair) → IsRun (is_deeper first.indent) first.indent (first ∷ others) gs → ArePairs R [] gs ps → (front : List ℕ) × (after : List ℕ) × (head_at first.number first.text ≡ Ok (entry front after))
+  mapping_head : (first : Line) (others : List Line) (gs : List Group) (ps : List Pair) → IsRun (hangs true first.indent) first.indent (first ∷ others) gs → ArePairs depth R [] gs ps → (key : List ℕ) × (after : List ℕ) × (head_at depth first.number first.text ≡ Ok (entry key after))
   mapping_head first others [] ps run each = absurd cc
   mapping_head first others (g ∷ gs) [] run each = absurd each
   mapping_head first others (g ∷ gs) (p ∷ ps) run each =
       let heads : first ∷ others ≡ g.head ∷ (g.below ++ run.0) = run.1 in
       let same : g.head ≡ first = cc in
-      let c = entry_complete g.head.number g.head.text p.key each.0.after each.0.entry in
-      (c.0, each.0.after, subst (λ (l : Line). head_at l.number l.text ≡ Ok (entry c.0 each.0.after)) same c.1)
+      (p.key, each.0.after, subst (λ (l : Line). head_at depth l.number l.text ≡ Ok (entry p.key each.0.after)) same (key_complete depth g.head.number g.head.text p.key each.0.after each.0.entry.is_key))
 
-  block_from_sound : (first : Line) (others : List Line) (h : Head) (t : Node) → block_from (mapping_at block) first others h ≡ Ok t → IsMapping R first others t ⊎ IsAlone first others t
+  -- ---- sequences
+
+  item_with_sound : (i : ℕ) (g : Group) (after : List ℕ) (h : Head) (t : Node) → IsDash g.head.text after → is_over (skipped after) ≡ false → head_at depth g.head.number (skipped after) ≡ Ok h → item_with depth block i g after h ≡ Ok t → IsItem depth R g t
+  unfolding item_with
+  item_with_sound i g after (item behind) t dash some e k = absurd cc
+  item_with_sound i g after (alone u) t dash some e k = record {
+    after = after;
+    dash = dash;
+    node = inl (Some u, (skipped after, behind_blanks after, some, alone_sound depth g.head.number (skipped after) u e), value_sound g.head.number i (Some u) g.below t k);
+  }
+  item_with_sound i g after (entry key behind) t dash some e k =
+      let a = guard_false (begins_blank (behind_spaces after)) (block (Some i) (inner g.head after ∷ g.below)) (record { kind = Tab; line = g.head.number; left = length (behind_spaces after) }) t k in
+      record { after = after; dash = dash; node = inr (inner g.head after, inner_sound depth g.head after key behind a.0 e, (computes (Some i)).sound (inner g.head after ∷ g.below) t a.1) }
+
+  item_from_sound : (i : ℕ) (g : Group) (found : Option (List ℕ)) (t : Node) → behind_dash g.head.text ≡ found → item_from depth block i g found ≡ Ok t → IsItem depth R g t
+  unfolding item_from
+  item_from_sound i g None t d e = absurd cc
+  item_from_sound i g (Some after) t d e =
+      let n = g.head.number in
+      let dash = dash_sound g.head.text after d in
+      elim (chosen (is_over (skipped after)) (value_at block n i None g.below) (head_at depth n (skipped after) >>= λ h. item_with depth block i g after h) (Ok t) e) [
+        | inl p ↦ record { after = after; dash = dash; node = inl (None, (skipped after, behind_blanks after, p.0), value_sound n i None g.below t p.1) }
+        | inr p ↦
+            let b = bind_ok (head_at depth n (skipped after)) (λ h. item_with depth block i g after h) t p.1 in
+            item_with_sound i g after b.0 t dash p.0 b.1 b.2
+      ]
+
+  item_sound : (around : Option ℕ) (i : ℕ) (g : Group) (t : Node) → item_at depth block around i g ≡ Ok t → (g.head.indent ≡ i) × IsItem depth R g t
+  unfolding item_at
+  item_sound around i g t e =
+      let a = guard_true (g.head.indent == i) (item_from depth block i g (behind_dash g.head.text)) (record { kind = misplaced around g.head; line = g.head.number; left = length g.head.text }) t e in
+      (eqb-true g.head.indent i a.0, item_from_sound i g (behind_dash g.head.text) t refl a.1)
+
+  -- an item with a value as entries have them
+  valued : (i : ℕ) (g : Group) (after : List ℕ) (inline : Option Node) (t : Node) → behind_dash g.head.text ≡ Some after → IsInline depth g.head.number after inline → IsValue R g.head.number inline g.below t
+      → item_from depth block i g (behind_dash g.head.text) ≡ Ok t
+  unfolding item_from item_with
+  valued i g after None t d h v = rw (d, behind_blanks-is after h.0 h.1, h.2) (value_complete g.head.number i None g.below t v)
+  valued i g after (Some u) t d h v = rw (d, behind_blanks-is after h.0 h.1, h.2, alone_complete depth g.head.number h.0 u h.3) (value_complete g.head.number i (Some u) g.below t v)
+
+  item_from_complete : (i : ℕ) (g : Group) (t : Node) → IsItem depth R g t → item_from depth block i g (behind_dash g.head.text) ≡ Ok t
+  unfolding item_from item_with
+  item_from_complete i g t h =
+      let n = g.head.number in
+      let d = dash_complete g.head.text h.after h.dash in
+      elim h.node [
+        | inl v ↦ valued i g h.after v.0 t d v.1 v.2
+        | inr m ↦
+            let c = inner_complete depth g.head h.after m.0 m.1 in
+            rw (d, c.1, c.2, c.3, c.0) ((computes (Some i)).complete (m.0 ∷ g.below) t m.2)
+      ]
+
+  item_complete : (around : Option ℕ) (i : ℕ) (g : Group) (t : Node) → g.head.indent ≡ i → IsItem depth R g t → item_at depth block around i g ≡ Ok t
+  unfolding item_at
+  item_complete around i g t at h = rw (eq-eqb g.head.indent i at) (item_from_complete i g t h)
+
+  items_sound : (around : Option ℕ) (i : ℕ) (gs : List Group) (ts : List Node) → items_at depth block around i gs ≡ Ok ts → AllStand (hangs false i) i gs × AreItems depth R gs ts
+  unfolding items_at
+  items_sound around i [] ts e = (tt, subst (AreItems depth R []) (ok_is [] ts e) tt)
+  items_sound around i (g ∷ gs) ts e =
+      let a = bind_ok (item_at depth block around i g) (λ t. items_at depth block around i gs >>= λ us. Ok (t ∷ us)) ts e in
+      let b = bind_ok (items_at depth block around i gs) (λ us. Ok (a.0 ∷ us)) ts a.2 in
+      let one = item_sound around i g a.0 a.1 in
+      let more = items_sound around i gs b.0 b.1 in
+      (((one.0, hangs_not false i g.head one.0 refl), more.0), subst (AreItems depth R (g ∷ gs)) (ok_is (a.0 ∷ b.0) ts b.2) (one.1, more.1))
+
+  items_complete : (around : Option ℕ) (i : ℕ) (gs : List Group) (ts : List Node) → AllStand (hangs false i) i gs → AreItems depth R gs ts → items_at depth block around i gs ≡ Ok ts
+  unfolding items_at
+  items_complete around i [] [] at h = refl
+  items_complete around i [] (t ∷ ts) at h = absurd h
+  items_complete around i (g ∷ gs) [] at h = absurd h
+  items_complete around i (g ∷ gs) (t ∷ ts) at h = rw (item_complete around i g t at.0.0 h.0, items_complete around i gs ts at.1 h.1) refl
+
+  sequence_sound : (around : Option ℕ) (first : Line) (others : List Line) (t : Node) → sequence_at depth block around first others ≡ Ok t → IsSequence depth R first others t
+  unfolding sequence_at
+  sequence_sound around first others t e =
+      let i = first.indent in
+      let gs = groups_of (hangs false i) (first ∷ others) in
+      let a = bind_ok (items_at depth block around i gs) (λ ts. Ok (sequence first.number (nodes_of ts))) t e in
+      let b = items_sound around i gs a.0 a.1 in
+      record {
+        groups = gs;
+        nodes = a.0;
+        run = groups_are_run (hangs false i) i (first ∷ others) b.0;
+        each = b.1;
+        tree = sym (ok_is (sequence first.number (nodes_of a.0)) t a.2);
+      }
+
+  sequence_complete : (around : Option ℕ) (first : Line) (others : List Line) (t : Node) → IsSequence depth R first others t → sequence_at depth block around first others ≡ Ok t
+  unfolding sequence_at
+  sequence_complete around first others t h =
+      let i = first.indent in
+      let at = run_stands (hangs false i) i (first ∷ others) h.groups h.run in
+      let ts : items_at depth block around i (groups_of (hangs false i) (first ∷ others)) ≡ Ok h.nodes =
+      subst (λ gs. items_at depth block around i gs ≡ Ok h.nodes) (run_is_groups (hangs false i) i (first ∷ others) h.groups h.run) (items_complete around i h.groups h.nodes at h.each) in
+      rw (ts, h.tree) refl
+
+  -- a sequence begins with an item
+  sequence_head : (first : Line) (others : List Line) (gs : List Group) (ts : List Node) → IsRun (hangs false first.indent) first.indent (first ∷ others) gs → AreItems depth R gs ts → (after : List ℕ) × (head_at depth first.number first.text ≡ Ok (item after))
+  sequence_head first others [] ts run each = absurd cc
+  sequence_head first others (g ∷ gs) [] run each = absurd each
+  sequence_head first others (g ∷ gs) (t ∷ ts) run each =
+      let heads : first ∷ others ≡ g.head ∷ (g.below ++ run.0) = run.1 in
+      let same : g.head ≡ first = cc in
+      (each.0.after, subst (λ (l : Line). head_at depth l.number l.text ≡ Ok (item each.0.after)) same (item_head depth g.head.number g.head.text each.0.after (dash_complete g.head.text each.0.after each.0.dash)))
+
+  -- ---- blocks
+
+  block_from_sound : (around : Option ℕ) (first : Line) (others : List Line) (h : Head) (t : Node) → head_at depth first.number first.text ≡ Ok h → block_from depth block around first others h ≡ Ok t → IsBlock depth R first others t
   unfolding block_from
-  block_from_sound first others (entry front after) t e = inl (mapping_sound first others t e)
-  block_from_sound first others alone t e = inr (alone_sound first others t e)
+  block_from_sound around first others (item after) t e k = inl (sequence_sound around first others t k)
+  block_from_sound around first others (entry key after) t e k = inr (inl (mapping_sound around first others t k))
+  block_from_sound around first others (alone u) t e k = inr (inr (alone_is depth around first others t u e k))
 
-  block_sound : (ls : List Line) (t : Node) → block_at (mapping_at block) ls ≡ Ok t → ByLines (λ first others t. IsMapping R first others t ⊎ IsAlone first others t) ls t
+  block_sound : (around : Option ℕ) (ls : List Line) (t : Node) → block_at depth (block_from depth block) around ls ≡ Ok t → ByLines (IsBlock depth R) ls t
   unfolding block_at
-  block_sound [] t e = sym (ok_is (mapping 1 no_pairs) t e)
-  block_sound (first ∷ others) t e =
-      let a = bind_ok (head_at first.number first.text) (λ h. block_from (mapping_at block) first others h) t e in
-      block_from_sound first others a.0 t a.2
+  block_sound around [] t e = sym (ok_is (mapping 1 no_pairs) t e)
+  block_sound around (first ∷ others) t e =
+      let a = bind_ok (head_at depth first.number first.text) (λ h. block_from depth block around first others h) t e in
+      block_from_sound around first others a.0 t a.1 a.2
 
-  block_complete : (ls : List Line) (t : Node) → ByLines (λ first others t. IsMapping R first others t ⊎ IsAlone first others t) ls t → block_at (mapping_at block) ls ≡ Ok t
+  block_complete : (around : Option ℕ) (ls : List Line) (t : Node) → ByLines (IsBlock depth R) ls t → block_at depth (block_from depth block) around ls ≡ Ok t
   unfolding block_at block_from
-  block_complete [] t h = rw h refl
-  block_complete (first ∷ others) t h =
+  block_complete around [] t h = rw h refl
+  block_complete around (first ∷ others) t h =
       elim h [
-        | inl m ↦ let k = mapping_head first others m.groups m.pairs m.run m.each in rw k.2 (mapping_complete first others t m)
-        | inr a ↦ alone_complete (mapping_at block) first others t a
+        | inl s ↦ rw (sequence_head first others s.groups s.nodes s.run s.each).1 (sequence_complete around first others t s)
+        | inr o ↦ elim o [
+          | inl m ↦ rw (mapping_head first others m.groups m.pairs m.run m.each).2 (mapping_complete around first others t m)
+          | inr a ↦ rw (alone_complete depth first.number first.text t a.value) (closed_complete around t others t (a.alone, refl))
+        ]
       ]
 
 -- ---- all levels
 
-deep_from_sound : (first : Line) (others : List Line) (h : Head) (t : Node) → block_from too_deep_at first others h ≡ Ok t → IsAlone first others t
-unfolding block_from too_deep_at
-deep_from_sound first others (entry front after) t e = absurd cc
-deep_from_sound first others alone t e = alone_sound first others t e
+deep_from_sound : (depth : ℕ) (around : Option ℕ) (first : Line) (others : List Line) (h : Head) (t : Node) → head_at depth first.number first.text ≡ Ok h → deep_from around first others h ≡ Ok t → IsAlone depth first others t
+unfolding deep_from
+deep_from_sound depth around first others (item after) t e k = absurd cc
+deep_from_sound depth around first others (entry key after) t e k = absurd cc
+deep_from_sound depth around first others (alone u) t e k = alone_is depth around first others t u e k
 
-deep_sound : (ls : List Line) (t : Node) → block_at too_deep_at ls ≡ Ok t → ByLines (λ first others t. IsAlone first others t) ls t
+deep_sound : (depth : ℕ) (around : Option ℕ) (ls : List Line) (t : Node) → block_at depth deep_from around ls ≡ Ok t → ByLines (λ first others t. IsAlone depth first others t) ls t
 unfolding block_at
-deep_sound [] t e = sym (ok_is (mapping 1 no_pairs) t e)
-deep_sound (first ∷ others) t e =
-    let a = bind_ok (head_at first.number first.text) (λ h. block_from too_deep_at first others h) t e in
-    deep_from_sound first others a.0 t a.2
+deep_sound depth around [] t e = sym (ok_is (mapping 1 no_pairs) t e)
+deep_sound depth around (first ∷ others) t e =
+    let a = bind_ok (head_at depth first.number first.text) (λ h. deep_from around first others h) t e in
+    deep_from_sound depth around first others a.0 t a.1 a.2
 
-deep_complete : (ls : List Line) (t : Node) → ByLines (λ first others t. IsAlone first others t) ls t → block_at too_deep_at ls ≡ Ok t
-unfolding block_at
-deep_complete [] t h = rw h refl
-deep_complete (first ∷ others) t h = alone_complete too_deep_at first others t h
+deep_complete : (depth : ℕ) (around : Option ℕ) (ls : List Line) (t : Node) → ByLines (λ first others t. IsAlone depth first others t) ls t → block_at depth deep_from around ls ≡ Ok t
+unfolding block_at deep_from
+deep_complete depth around [] t h = rw h refl
+deep_complete depth around (first ∷ others) t h = rw (alone_complete depth first.number first.text t h.value) (closed_complete around t others t (h.alone, refl))
 
-pub tree_computes : (levels : ℕ) → Computes (tree_at levels) (IsTree levels)
-unfolding tree_at entries_at
-tree_computes zero = record { sound = deep_sound; complete = deep_complete }
-tree_computes (suc levels) =
-    let below = tree_computes levels in
+pub tree_computes : (levels depth : ℕ) (around : Option ℕ) → Computes (tree_at levels depth around) (IsTree levels depth)
+unfolding tree_at
+tree_computes zero depth around = record { sound = deep_sound depth around; complete = deep_complete depth around }
+tree_computes (suc levels) depth around =
+    let below = tree_computes levels depth in
     record {
-      sound = block_sound (tree_at levels) (IsTree levels) below;
-      complete = block_complete (tree_at levels) (IsTree levels) below;
+      sound = block_sound depth (tree_at levels depth) (IsTree levels depth) below around;
+      complete = block_complete depth (tree_at levels depth) (IsTree levels depth) below around;
     }

@@ -3,62 +3,62 @@ use Rattle.std.proofs.Common.{◌≡◌, ℕ, zero, suc, ◌<◌, ◌≤◌, Boo
 use Rattle.std.proofs.lemmas.Bool.{cases_Bool, cases_lt, both_ways}
 use Rattle.std.proofs.lemmas.List.{append-nil}
 use Rattle.std.proofs.Math.Seq.{take-append_seam, drop-append_seam}
-use Rattle.yaml_subset.specs.Bytes.{is_blank, begins_blank, begins_plain}
-use Rattle.yaml_subset.specs.Plain.{AreBlank, IsBehindBlanks, ends_plain, ends_at, IsFirstEnd, EndsInNoBlank, IsPlain}
-use Rattle.yaml_subset.specs.Scanning.{plain_len, onto_trimmed, trimmed, skipped, plain_front, plain_rest}
+use Rattle.yaml_subset.specs.Bytes.{is_blank, begins_blank, begins_word}
+use Rattle.yaml_subset.specs.Plain.{AreBlank, IsBehindBlanks, ends_word, ends_word_at, IsWordEnd, EndsInNoBlank, IsPlainWord}
+use Rattle.yaml_subset.specs.Scanning.{word_len, onto_trimmed, trimmed, skipped, word_front, word_rest}
 use Rattle.yaml_subset.proofs.Trimming.{last_split, trimmed-blank, trimmed_all}
 
--- ---- where a plain text ends
+-- ---- where a plain word ends
 
 -- whether it ends at the place n, behind a byte
-abbrev ends_from : ℕ → List ℕ → ℕ → Bool
-ends_from before text n = ends_plain (get_or (before ∷ text) n 0) (drop n text)
+abbrev ends_from : Bool → ℕ → List ℕ → ℕ → Bool
+ends_from flow before text n = ends_word flow (get_or (before ∷ text) n 0) (drop n text)
 
-here_step : (before b : ℕ) (bs : List ℕ) (e : Bool) → ends_plain before (b ∷ bs) ≡ e → ends_from b bs (plain_len b bs) ≡ true → ends_from before (b ∷ bs) (plain_len before (b ∷ bs)) ≡ true
-here_step before b bs true e h = rw e e
-here_step before b bs false e h = rw e h
+here_step : (flow : Bool) (before b : ℕ) (bs : List ℕ) (e : Bool) → ends_word flow before (b ∷ bs) ≡ e → ends_from flow b bs (word_len flow b bs) ≡ true → ends_from flow before (b ∷ bs) (word_len flow before (b ∷ bs)) ≡ true
+here_step flow before b bs true e h = rw e e
+here_step flow before b bs false e h = rw e h
 
-here : (before : ℕ) (text : List ℕ) → ends_from before text (plain_len before text) ≡ true
-here before [] = refl
-here before (b ∷ bs) = here_step before b bs (ends_plain before (b ∷ bs)) refl (here b bs)
+here : (flow : Bool) (before : ℕ) (text : List ℕ) → ends_from flow before text (word_len flow before text) ≡ true
+here flow before [] = refl
+here flow before (b ∷ bs) = here_step flow before b bs (ends_word flow before (b ∷ bs)) refl (here flow b bs)
 
-len_yes : (before b : ℕ) (bs : List ℕ) → ends_plain before (b ∷ bs) ≡ true → plain_len before (b ∷ bs) ≡ 0
-len_yes before b bs e = rw e refl
+len_yes : (flow : Bool) (before b : ℕ) (bs : List ℕ) → ends_word flow before (b ∷ bs) ≡ true → word_len flow before (b ∷ bs) ≡ 0
+len_yes flow before b bs e = rw e refl
 
-len_no : (before b : ℕ) (bs : List ℕ) → ends_plain before (b ∷ bs) ≡ false → plain_len before (b ∷ bs) ≡ suc (plain_len b bs)
-len_no before b bs e = rw e refl
+len_no : (flow : Bool) (before b : ℕ) (bs : List ℕ) → ends_word flow before (b ∷ bs) ≡ false → word_len flow before (b ∷ bs) ≡ suc (word_len flow b bs)
+len_no flow before b bs e = rw e refl
 
-not_before : (before : ℕ) (text : List ℕ) (k : ℕ) → k < plain_len before text → ends_from before text k ≡ false
-not_before before [] k h = absurd (omega arith)
-not_before before (b ∷ bs) zero h =
-    elim (cases_Bool (ends_plain before (b ∷ bs))) [
-      | inl t ↦ let z = len_yes before b bs t in absurd (omega arith)
+not_before : (flow : Bool) (before : ℕ) (text : List ℕ) (k : ℕ) → k < word_len flow before text → ends_from flow before text k ≡ false
+not_before flow before [] k h = absurd (omega arith)
+not_before flow before (b ∷ bs) zero h =
+    elim (cases_Bool (ends_word flow before (b ∷ bs))) [
+      | inl t ↦ let z = len_yes flow before b bs t in absurd (omega arith)
       | inr f ↦ f
     ]
-not_before before (b ∷ bs) (suc k) h =
-    elim (cases_Bool (ends_plain before (b ∷ bs))) [
-      | inl t ↦ let z = len_yes before b bs t in absurd (omega arith)
-      | inr f ↦ let z = len_no before b bs f in not_before b bs k (omega arith)
+not_before flow before (b ∷ bs) (suc k) h =
+    elim (cases_Bool (ends_word flow before (b ∷ bs))) [
+      | inl t ↦ let z = len_yes flow before b bs t in absurd (omega arith)
+      | inr f ↦ let z = len_no flow before b bs f in not_before flow b bs k (omega arith)
     ]
 
-pub plain_len-le : (before : ℕ) (text : List ℕ) → plain_len before text ≤ length text
-plain_len-le before [] = omega arith
-plain_len-le before (b ∷ bs) =
-    let below = plain_len-le b bs in
-    elim (cases_Bool (ends_plain before (b ∷ bs))) [
-      | inl t ↦ let z = len_yes before b bs t in omega arith
-      | inr f ↦ let z = len_no before b bs f in omega arith
+pub word_len-le : (flow : Bool) (before : ℕ) (text : List ℕ) → word_len flow before text ≤ length text
+word_len-le flow before [] = omega arith
+word_len-le flow before (b ∷ bs) =
+    let below = word_len-le flow b bs in
+    elim (cases_Bool (ends_word flow before (b ∷ bs))) [
+      | inl t ↦ let z = len_yes flow before b bs t in omega arith
+      | inr f ↦ let z = len_no flow before b bs f in omega arith
     ]
 
-pub first_end : (text : List ℕ) → IsFirstEnd text (plain_len 32 text)
-first_end text = record { here = here 32 text; not_before = not_before 32 text }
+pub word_end : (flow : Bool) (text : List ℕ) → IsWordEnd flow text (word_len flow 32 text)
+word_end flow text = record { here = here flow 32 text; not_before = not_before flow 32 text }
 
-pub first_end-is : (text : List ℕ) (n : ℕ) → IsFirstEnd text n → n ≡ plain_len 32 text
-first_end-is text n h =
-    elim (cases_lt n (plain_len 32 text)) [
-      | inl less ↦ absurd (both_ways (ends_at text n) (not_before 32 text n less) h.here)
-      | inr le ↦ elim (cases_lt (plain_len 32 text) n) [
-        | inl more ↦ absurd (both_ways (ends_at text (plain_len 32 text)) (h.not_before (plain_len 32 text) more) (here 32 text))
+pub word_end-is : (flow : Bool) (text : List ℕ) (n : ℕ) → IsWordEnd flow text n → n ≡ word_len flow 32 text
+word_end-is flow text n h =
+    elim (cases_lt n (word_len flow 32 text)) [
+      | inl less ↦ absurd (both_ways (ends_word_at flow text n) (not_before flow 32 text n less) h.here)
+      | inr le ↦ elim (cases_lt (word_len flow 32 text) n) [
+        | inl more ↦ absurd (both_ways (ends_word_at flow text (word_len flow 32 text)) (h.not_before (word_len flow 32 text) more) (here flow 32 text))
         | inr ge ↦ omega arith
       ]
     ]
@@ -134,18 +134,18 @@ behind_blanks-is text rest h = ap skipped h.parts ∙ skipped_all h.blanks rest 
 
 -- ---- both together
 
-pub plain_at : (text : List ℕ) → begins_plain text ≡ true → (blanks : List ℕ) × IsPlain text (trimmed (plain_front text)) blanks (plain_rest text) × (plain_front text ≡ trimmed (plain_front text) ++ blanks)
-plain_at text begins =
-    let front = plain_front text in
+pub plain_word : (flow : Bool) (text : List ℕ) → begins_word flow text ≡ true → (blanks : List ℕ) × IsPlainWord flow text (trimmed (word_front flow text)) blanks (word_rest flow text) × (word_front flow text ≡ trimmed (word_front flow text) ++ blanks)
+plain_word flow text begins =
+    let front = word_front flow text in
     let r = trimmed_parts front in
-    let len : length (trimmed front ++ r.0) ≡ plain_len 32 text = ap length (sym r.2) ∙ length-take-le (plain_len 32 text) text (plain_len-le 32 text) in
-    let whole : text ≡ trimmed front ++ (r.0 ++ plain_rest text) =
-    sym (take-append-drop (plain_len 32 text) text) ∙ ap (λ (xs : List ℕ). xs ++ plain_rest text) r.2 ∙ append_assoc (trimmed front) r.0 (plain_rest text) in
-    (r.0, record { begins = begins; parts = whole; ends = subst (IsFirstEnd text) (sym len) (first_end text); are_blank = r.1; no_more = trimmed_ends front }, r.2)
+    let len : length (trimmed front ++ r.0) ≡ word_len flow 32 text = ap length (sym r.2) ∙ length-take-le (word_len flow 32 text) text (word_len-le flow 32 text) in
+    let whole : text ≡ trimmed front ++ (r.0 ++ word_rest flow text) =
+    sym (take-append-drop (word_len flow 32 text) text) ∙ ap (λ (xs : List ℕ). xs ++ word_rest flow text) r.2 ∙ append_assoc (trimmed front) r.0 (word_rest flow text) in
+    (r.0, record { begins = begins; parts = whole; ends = subst (IsWordEnd flow text) (sym len) (word_end flow text); are_blank = r.1; no_more = trimmed_ends front }, r.2)
 
-pub plain_is : (text plain blanks rest : List ℕ) → IsPlain text plain blanks rest → (plain_front text ≡ plain ++ blanks) × (plain_rest text ≡ rest) × (trimmed (plain ++ blanks) ≡ plain)
-plain_is text plain blanks rest h =
-    let len = first_end-is text (length (plain ++ blanks)) h.ends in
+pub plain_word-is : (flow : Bool) (text plain blanks rest : List ℕ) → IsPlainWord flow text plain blanks rest → (word_front flow text ≡ plain ++ blanks) × (word_rest flow text ≡ rest) × (trimmed (plain ++ blanks) ≡ plain)
+plain_word-is flow text plain blanks rest h =
+    let len = word_end-is flow text (length (plain ++ blanks)) h.ends in
     let whole : text ≡ (plain ++ blanks) ++ rest = h.parts ∙ sym (append_assoc plain blanks rest) in (
       ap (λ n. take n text) (sym len) ∙ ap (take (length (plain ++ blanks))) whole ∙ take-append_seam (plain ++ blanks) rest,
       ap (λ n. drop n text) (sym len) ∙ ap (drop (length (plain ++ blanks))) whole ∙ drop-append_seam (plain ++ blanks) rest,

@@ -2,6 +2,7 @@
 use Rattle.std.proofs.Common.{◌≡◌, ◌≢◌, ℕ, ◌≤◌, ◌^◌, ltb, List, length, Option, Some, None, Result, Ok, Err, IfOk, IfErr, refl, sym, ap, subst, ◌∙◌, inl, inr}
 use Rattle.std.proofs.lemmas.Bool.{cases_lt, le-ltb}
 use Rattle.yaml_subset.specs.declared.fault.Fault.{Fault}
+use Rattle.yaml_subset.specs.declared.place.PlacedFault.{PlacedFault}
 use Rattle.yaml_subset.specs.declared.fault.FaultKind.TheVariants.{TooLong}
 use Rattle.yaml_subset.specs.declared.fault.YamlFault.{YamlFault}
 use Rattle.yaml_subset.specs.declared.fault.YamlFault.TheVariants as faults
@@ -10,61 +11,68 @@ use Rattle.yaml_subset.specs.Node.{Node}
 use Rattle.yaml_subset.specs.View.{node_view, Gives}
 use Rattle.yaml_subset.specs.TextLines.{lines_of}
 use Rattle.yaml_subset.specs.TreeOf.{IsTree, IsTreeOf, IsAbove}
-use Rattle.yaml_subset.specs.Reading.{◌>>=◌, tree_at, contents_from, unless, read_at}
-use Rattle.yaml_subset.proofs.Steps.{bind_ok, guard_false, ok_is}
+use Rattle.yaml_subset.specs.Reading.{tree_at, contents_from, unless, without_place, read_at}
+use Rattle.yaml_subset.proofs.Steps.{guard_false, ok_is}
 use Rattle.yaml_subset.proofs.Meaning.{tree_computes}
 use Rattle.yaml_subset.proofs.Levels.{more_levels, one_tree}
 use Rattle.yaml_subset.proofs.LineContents.{contents_sound, contents_complete, one_content}
 
-no_fault : (f : Option Fault) (u v : Node) → unless f u ≡ Ok v → (f ≡ None) × (u ≡ v)
-no_fault None u v e = (refl, ok_is u v e)
-no_fault (Some f) u v e = absurd cc
+abbrev ok_node : Node → Result Node PlacedFault
+ok_node t = Ok t
 
-pub read_sound : (text : List ℕ) (t : Node) → read_at text ≡ Ok t → IsTreeOf 32 text t
+no_fault : (known : Option PlacedFault) (read : Result Node PlacedFault) (t : Node) → without_place (unless known read) ≡ Ok t → (known ≡ None) × (read ≡ Ok t)
+no_fault None (Ok u) t e = (refl, ap ok_node (ok_is u t e))
+no_fault (Some f) (Ok u) t e = absurd cc
+no_fault None (Err f) t e = absurd cc
+no_fault (Some g) (Err f) t e = absurd cc
+
+pub read_sound : (text : List ℕ) (t : Node) → read_at text ≡ Ok t → IsTreeOf 32 8 text t
 unfolding read_at
 read_sound text t e =
     let r = contents_from 1 (lines_of text) in
-    let a = guard_false (ltb (2 ^ 20) (length text)) (tree_at 32 r.0 >>= λ u. unless r.1 u) (record { kind = TooLong; line = 1 }) t e in
-    let b = bind_ok (tree_at 32 r.0) (λ u. unless r.1 u) t a.1 in
-    let last = no_fault r.1 b.0 t b.2 in
-    let whole : r ≡ (r.0, None) = ap (λ (f : Option Fault). (r.0, f)) last.0 in
+    let a = guard_false (ltb (2 ^ 20) (length text)) (without_place (unless r.1 (tree_at 32 8 None r.0))) (record { kind = TooLong; line = 1 }) t e in
+    let b = no_fault r.1 (tree_at 32 8 None r.0) t a.1 in
+    let whole : r ≡ (r.0, None) = ap (λ (f : Option PlacedFault). (r.0, f)) b.0 in
     record {
       lines = r.0;
       content = contents_sound 1 (lines_of text) r.0 whole;
-      is_tree = subst (IsTree 32 r.0) last.1 ((tree_computes 32).sound r.0 b.0 b.1);
+      is_tree = (tree_computes 32 8 None).sound r.0 t b.1;
     }
 
-pub read_complete : (text : List ℕ) (t : Node) → length text ≤ 2 ^ 20 → IsTreeOf 32 text t → read_at text ≡ Ok t
+pub read_complete : (text : List ℕ) (t : Node) → length text ≤ 2 ^ 20 → IsTreeOf 32 8 text t → read_at text ≡ Ok t
 unfolding read_at
 read_complete text t short h =
-    rw (le-ltb (2 ^ 20) (length text) short, contents_complete 1 (lines_of text) h.lines h.content, (tree_computes 32).complete h.lines t h.is_tree) refl
+    rw (le-ltb (2 ^ 20) (length text) short, contents_complete 1 (lines_of text) h.lines h.content, (tree_computes 32 8 None).complete h.lines t h.is_tree) refl
 
-pub is_found : (text : List ℕ) (r : Result Tree YamlFault) → Gives node_view r (read_at text) → IfOk r (λ tree. IsTreeOf 32 text (node_view tree))
+pub is_found : (text : List ℕ) (r : Result Tree YamlFault) → Gives node_view r (read_at text) → IfOk r (λ tree. IsTreeOf 32 8 text (node_view tree))
 is_found text (Ok tree) h = read_sound text (node_view tree) h
 is_found text (Err e) h = tt
 
-pub is_only : (text : List ℕ) (r : Result Tree YamlFault) → Gives node_view r (read_at text) → IfOk r (λ tree. (levels : ℕ) (t : Node) → IsTreeOf levels text t → t ≡ node_view tree)
-is_only text (Ok tree) h = λ levels t k.
+pub is_only : (text : List ℕ) (r : Result Tree YamlFault) → Gives node_view r (read_at text) → IfOk r (λ tree. (levels depth : ℕ) (t : Node) → IsTreeOf levels depth text t → t ≡ node_view tree)
+is_only text (Ok tree) h = λ levels depth t k.
     let s = read_sound text (node_view tree) h in
     let same = one_content 1 (lines_of text) k.lines s.lines k.content s.content in
-    one_tree levels 32 s.lines t (node_view tree) (subst (λ ls. IsTree levels ls t) same k.is_tree) s.is_tree
+    one_tree levels depth 32 8 s.lines t (node_view tree) (subst (λ ls. IsTree levels depth ls t) same k.is_tree) s.is_tree
 is_only text (Err e) h = tt
 
 -- a text that is refused has no tree within the limits
-none_within : (text : List ℕ) (f : Fault) → read_at text ≡ Err f → (levels : ℕ) (t : Node) → IsTreeOf levels text t → IsAbove levels text
-none_within text f e levels t k =
+none_within : (text : List ℕ) (f : Fault) → read_at text ≡ Err f → (levels depth : ℕ) (t : Node) → IsTreeOf levels depth text t → IsAbove levels depth text
+none_within text f e levels depth t k =
     elim (cases_lt (2 ^ 20) (length text)) [
       | inl long ↦ inl long
       | inr short ↦ elim (cases_lt 32 levels) [
-        | inl deep ↦ inr deep
-        | inr within ↦
-            let whole : IsTreeOf 32 text t = record { lines = k.lines; content = k.content; is_tree = more_levels levels 32 k.lines t within k.is_tree } in
-            let r = sym e ∙ read_complete text t short whole in
-            absurd cc
+        | inl many ↦ inr (inl many)
+        | inr few ↦ elim (cases_lt 8 depth) [
+          | inl deep ↦ inr (inr deep)
+          | inr within ↦
+              let whole : IsTreeOf 32 8 text t = record { lines = k.lines; content = k.content; is_tree = more_levels levels depth 32 8 k.lines t few within k.is_tree } in
+              let r = sym e ∙ read_complete text t short whole in
+              absurd cc
+        ]
       ]
     ]
 
-pub is_refused : (text : List ℕ) (r : Result Tree YamlFault) → Gives node_view r (read_at text) → IfErr r (λ e. e ≢ faults.NoMemory → (levels : ℕ) (t : Node) → IsTreeOf levels text t → IsAbove levels text)
+pub is_refused : (text : List ℕ) (r : Result Tree YamlFault) → Gives node_view r (read_at text) → IfErr r (λ e. e ≢ faults.NoMemory → (levels depth : ℕ) (t : Node) → IsTreeOf levels depth text t → IsAbove levels depth text)
 is_refused text (Ok tree) h = tt
 is_refused text (Err faults.NoMemory) h = λ other. absurd (other refl)
 is_refused text (Err (faults.Text f)) h = λ _. none_within text f h

@@ -16,6 +16,24 @@ abbrev pub begins_gap : List ℕ → Bool
 begins_gap [] = true
 begins_gap (b ∷ bs) = is_blank b
 
+-- `, [ ] { }`, which part a list or mapping on one line
+abbrev pub is_flow_indicator : ℕ → Bool
+is_flow_indicator b = (b == 44) || (b == 91) || (b == 93) || (b == 123) || (b == 125)
+
+-- whether one of these comes first
+abbrev pub begins_flow_indicator : List ℕ → Bool
+begins_flow_indicator [] = false
+begins_flow_indicator (b ∷ bs) = is_flow_indicator b
+
+-- whether a gap comes first, or in flow one of `, [ ] { }`
+abbrev pub begins_break : Bool → List ℕ → Bool
+begins_break flow text = (flow && begins_flow_indicator text) || begins_gap text
+
+-- whether `:` comes first, and directly behind it one of `, [ ] { }`
+abbrev pub begins_bare_colon : List ℕ → Bool
+begins_bare_colon [] = false
+begins_bare_colon (b ∷ after) = (b == 58) && begins_flow_indicator after
+
 -- whether nothing comes, or a comment
 abbrev pub is_over : List ℕ → Bool
 is_over [] = true
@@ -31,10 +49,15 @@ is_indicator b =
 abbrev pub is_mark : ℕ → Bool
 is_mark b = (b == 45) || (b == 63) || (b == 58)
 
--- Whether a plain text may begin so: with no blank, no indicator, and no mark before a gap.
-abbrev pub begins_plain : List ℕ → Bool
-begins_plain [] = false
-begins_plain (b ∷ bs) = not (is_blank b) && (not (is_indicator b) && not (is_mark b && begins_gap bs))
+-- Whether a plain word may begin so: with no blank, no indicator, and no mark before a gap or in flow before one of `, [ ] { }`.
+abbrev pub begins_word : Bool → List ℕ → Bool
+begins_word flow [] = false
+begins_word flow (b ∷ bs) = not (is_blank b) && (not (is_indicator b) && not (is_mark b && begins_break flow bs))
+
+-- whether an item begins so: with `-` and a gap behind it
+abbrev pub begins_item : List ℕ → Bool
+begins_item [] = false
+begins_item (b ∷ after) = (b == 45) && begins_gap after
 
 -- whether `---` or `...` comes first, and then a gap
 abbrev pub is_marker : List ℕ → Bool

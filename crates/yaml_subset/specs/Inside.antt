@@ -2,27 +2,41 @@
 use Rattle.std.specs.Prelude.{◌≡◌, ℕ, List, [], map, drop, Option, Some, None, Result, Ok, Err}
 use Rattle.std.specs.Borrow.{Bor}
 use Rattle.std.specs.BTreeSet.{BTreeSet}
-use Rattle.yaml_subset.specs.declared.fault.Fault.{Fault}
+use Rattle.std.specs.Global.{Vec}
+use Rattle.yaml_subset.specs.declared.place.PlacedFault.{PlacedFault}
+use Rattle.yaml_subset.specs.declared.place.Halt.{Halt}
+use Rattle.yaml_subset.specs.declared.place.Halt.TheVariants as halts
 use Rattle.yaml_subset.specs.declared.entry.Head as heads
 use Rattle.yaml_subset.specs.declared.line.Line as lines
+use Rattle.yaml_subset.specs.declared.tree.Key.{Key}
 use Rattle.yaml_subset.specs.declared.tree.Tree.{Tree}
-use Rattle.yaml_subset.specs.Node.{Node}
+use Rattle.yaml_subset.specs.Node.{Node, Pair}
 use Rattle.yaml_subset.specs.TextLines.{Line, lines_of}
-use Rattle.yaml_subset.specs.Reading.{Head, entry, alone}
-use Rattle.yaml_subset.specs.View.{node_view}
+use Rattle.yaml_subset.specs.Reading.{Head, item, entry, alone}
+use Rattle.yaml_subset.specs.View.{node_view, pair_view}
 
 -- An answer without want of memory, seen by view, is what reading gives.
-abbrev pub GivesOrFaults : {X Y : Type 0} → (X → Y) → Result X Fault → Result Y Fault → Type 0
+abbrev pub GivesOrFaults : {X Y : Type 0} → (X → Y) → Result X PlacedFault → Result Y PlacedFault → Type 0
 GivesOrFaults view (Ok x) read = read ≡ Ok (view x)
 GivesOrFaults view (Err f) read = read ≡ Err f
+
+-- An answer, seen by view, is what reading gives, unless memory ran out.
+abbrev pub FailsLines : {Y : Type 0} → Halt → Result Y PlacedFault → Type 0
+FailsLines halts.NoMemory read = Unit {0}
+FailsLines (halts.At f) read = read ≡ Err f
+
+abbrev pub GivesLines : {X Y : Type 0} → (X → Y) → Result X Halt → Result Y PlacedFault → Type 0
+GivesLines view (Ok x) read = read ≡ Ok (view x)
+GivesLines view (Err e) read = FailsLines e read
 
 abbrev pub node_option_view : Option Tree → Option Node
 node_option_view None = None
 node_option_view (Some t) = Some (node_view t)
 
 abbrev pub head_view : heads.Head → Head
-head_view (heads.TheVariants.Entry front after) = entry front.now after.now
-head_view heads.TheVariants.Alone = alone
+head_view (heads.TheVariants.Item after) = item after.now
+head_view (heads.TheVariants.Entry key after) = entry key.items after.now
+head_view (heads.TheVariants.Alone t) = alone (node_view t)
 
 abbrev pub line_view : lines.Line → Line
 line_view l = record { number = l.number; indent = l.indent; text = drop l.indent l.raw.now }
@@ -38,11 +52,28 @@ abbrev pub text_option_view : Option (Bor (List ℕ)) → Option (List ℕ)
 text_option_view None = None
 text_option_view (Some s) = Some s.now
 
+-- a byte or a value, and the part of a line that stands behind it
+abbrev pub byte_view : ℕ × Bor (List ℕ) → ℕ × List ℕ
+byte_view r = (r.0, r.1.now)
+
+abbrev pub word_view : Vec ℕ × Bor (List ℕ) → List ℕ × List ℕ
+word_view r = (r.0.items, r.1.now)
+
+abbrev pub rest_view : Bor (List ℕ) → List ℕ
+rest_view rest = rest.now
+
 -- the lines of what follows a line, where something does
 abbrev pub lines_behind : Option (List ℕ) → List (List ℕ)
 lines_behind None = []
 lines_behind (Some text) = lines_of text
 
 -- the keys of a set
-abbrev pub keys_view : BTreeSet (Bor (List ℕ)) → List (List ℕ)
-keys_view s = map (λ k. k.now) s.keys
+abbrev pub copies_view : BTreeSet (Vec ℕ) → List (List ℕ)
+copies_view s = map (λ k. k.items) s.keys
+
+-- a node or a pair, and what stands behind it on its line
+abbrev pub flow_view : Tree × Bor (List ℕ) → Node × List ℕ
+flow_view r = (node_view r.0, r.1.now)
+
+abbrev pub flow_pair_view : (Key × Tree) × Bor (List ℕ) → Pair × List ℕ
+flow_pair_view r = (pair_view r.0, r.1.now)

@@ -2,8 +2,14 @@ pub mod Node
 pub mod Bytes
 pub mod Plain
 pub mod TextLines
+pub mod Values
 pub mod TreeOf
 pub mod Scanning
+pub mod Keys
 pub mod Reading
 pub mod View
+pub mod Part
+pub mod Quoted
+pub mod Words
+pub mod Flow
 pub mod Inside

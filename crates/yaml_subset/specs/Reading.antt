@@ -1,52 +1,87 @@
 -- Reading a text from its first line to its last, with the first fault that is met.
-use Rattle.std.specs.Prelude.{ℕ, zero, suc, ◌+◌, ◌^◌, Bool, true, false, List, [], ◌∷◌, drop, length, Option, Some, None, Result, Ok, Err, nat_lt, ◌==◌, if◌then◌else◌}
-use Rattle.std.specs.List.{list_any}
-use Rattle.std.specs.Str.{bytes_eq, is_utf8, chars}
+use Rattle.std.specs.Prelude.{ℕ, zero, suc, ◌+◌, ◌-◌, ◌^◌, Bool, true, false, ◌&&◌, ◌||◌, List, [], ◌∷◌, ◌++◌, take, length, Option, Some, None, Result, Ok, Err, nat_lt, ◌==◌, if◌then◌else◌}
+use Rattle.std.specs.Str.{chars, encode_utf8_all}
+use Rattle.std.specs.Str.Lossy.{utf8_valid_len}
+use Rattle.std.specs.Option.{option_to_list}
 use Rattle.yaml_subset.specs.declared.fault.Fault.{Fault}
+use Rattle.yaml_subset.specs.declared.place.PlacedFault.{PlacedFault}
 use Rattle.yaml_subset.specs.declared.fault.FaultKind.{FaultKind}
-use Rattle.yaml_subset.specs.declared.fault.FaultKind.TheVariants.{NotUtf8, Tab, Indent, DuplicateKey, NotInSubset, TooDeep, TooLong}
-use Rattle.yaml_subset.specs.Bytes.{begins_blank, begins_plain, is_over, is_marker, characters, is_forbidden}
-use Rattle.yaml_subset.specs.Node.{Node, scalar, mapping, no_pairs, Pair, pairs_of}
-use Rattle.yaml_subset.specs.Scanning.{trimmed, skipped, plain_front, plain_rest, spaces_len}
+use Rattle.yaml_subset.specs.declared.fault.FaultKind.TheVariants.{NotUtf8, Tab, Indent, DuplicateKey, Flow, NotInSubset, TooDeep, TooLong}
+use Rattle.yaml_subset.specs.declared.flaw.Flaw.{Flaw}
+use Rattle.yaml_subset.specs.Keys.{is_among}
+use Rattle.yaml_subset.specs.Bytes.{begins_blank, is_over, is_marker, characters, is_forbidden}
+use Rattle.yaml_subset.specs.Part.{◌>>=◌, flaw_at}
+use Rattle.yaml_subset.specs.Node.{Node, scalar, sequence, nodes_of, mapping, no_pairs, Pair, pairs_of}
+use Rattle.yaml_subset.specs.Scanning.{skipped, spaces_len, behind_spaces, behind_dash, before_colon}
+use Rattle.yaml_subset.specs.Words.{word_at}
+use Rattle.yaml_subset.specs.Flow.{begins_bracket, flow_at}
 use Rattle.yaml_subset.specs.TextLines.{Line, lines_of}
-use Rattle.yaml_subset.specs.TreeOf.{Group, is_deeper}
+use Rattle.yaml_subset.specs.TreeOf.{Group, is_deeper, hangs_from_entry}
 
-infixl 10 ◌>>=◌
-abbrev pub ◌>>=◌ : {A B : Type 0} → Result A Fault → (A → Result B Fault) → Result B Fault
-(Ok x) >>= f = f x
-(Err e) >>= f = Err e
+-- a fault on the line n where so many bytes of the line are left
+abbrev pub fault_at : {A : Type 0} → FaultKind → ℕ → ℕ → Result A PlacedFault
+fault_at kind n left = Err (record { kind = kind; line = n; left = left })
 
--- a fault at the line n
-abbrev pub fault_at : {A : Type 0} → FaultKind → ℕ → Result A Fault
-fault_at kind n = Err (record { kind = kind; line = n })
+-- a fault at the begin of a line
+abbrev pub fault_of : {A : Type 0} → FaultKind → Line → Result A PlacedFault
+fault_of kind l = fault_at kind l.number (length l.text)
 
 -- ---- one line
 
--- a value on a line
-unfoldable pub node_at : ℕ → List ℕ → Result Node Fault
-node_at n text =
-    if begins_plain text
-    then (if is_over (plain_rest text) then Ok (scalar n (trimmed (plain_front text))) else fault_at NotInSubset n)
-    else fault_at NotInSubset n
-
--- what stands behind the colon of an entry: a value or nothing
-unfoldable pub inline_at : ℕ → List ℕ → Result (Option Node) Fault
-inline_at n text = if is_over (skipped text) then Ok None else (node_at n (skipped text) >>= λ t. Ok (Some t))
-
--- what a line begins: an entry, with the text before its colon and the text behind it; or none
+-- what a line begins: an item, with what stands behind its `-`; an entry, with its key and what stands behind its colon; or a value
 pub data Head : Type 0 where
+  item : List ℕ → Head
   entry : List ℕ → List ℕ → Head
-  alone : Head
+  alone : Node → Head
 
--- behind a plain text
-unfoldable pub head_from : List ℕ → List ℕ → Head
-head_from front [] = alone
-head_from front (b ∷ after) = if b == 58 then entry front after else alone
+-- behind a word: the colon of a key, or nothing but a comment
+unfoldable pub word_head : ℕ → List ℕ → List ℕ → Head
+word_head n value [] = alone (scalar n value)
+word_head n value (b ∷ after) = if b == 58 then entry value after else alone (scalar n value)
 
-unfoldable pub head_at : ℕ → List ℕ → Result Head Fault
-head_at n text = if begins_plain text then Ok (head_from (plain_front text) (plain_rest text)) else fault_at NotInSubset n
+-- behind a list or mapping: nothing but a comment
+unfoldable pub flow_head : Node × List ℕ → Result Head Flaw
+flow_head r = if is_over r.1 then Ok (alone r.0) else flaw_at Flow (length r.1)
+
+-- an entry or a value
+unfoldable pub text_head : ℕ → ℕ → List ℕ → Result Head Flaw
+text_head depth n text =
+    if begins_bracket text
+    then (flow_at depth n text >>= λ r. flow_head r)
+    else (word_at false text >>= λ r. Ok (word_head n r.0 r.1))
+
+-- a part of the line n
+abbrev pub on_line : {A : Type 0} → ℕ → Result A Flaw → Result A PlacedFault
+on_line n (Ok x) = Ok x
+on_line n (Err f) = fault_at f.kind n f.left
+
+unfoldable pub head_from : ℕ → ℕ → List ℕ → Option (List ℕ) → Result Head PlacedFault
+head_from depth n text None = on_line n (text_head depth n text)
+head_from depth n text (Some after) = Ok (item after)
+
+unfoldable pub head_at : ℕ → ℕ → List ℕ → Result Head PlacedFault
+head_at depth n text = head_from depth n text (behind_dash text)
+
+-- where a value has to stand, at the front of a text
+unfoldable pub node_from : ℕ → List ℕ → Head → Result Node PlacedFault
+node_from n text (item after) = fault_at NotInSubset n (length text)
+node_from n text (entry key after) = fault_at NotInSubset n (length after + 1)
+node_from n text (alone t) = Ok t
+
+-- what stands behind the colon of an entry or the `-` of an item: a value or nothing
+unfoldable pub inline_at : ℕ → ℕ → List ℕ → Result (Option Node) PlacedFault
+inline_at depth n text = if is_over (skipped text) then Ok None else (head_at depth n (skipped text) >>= λ h. node_from n (skipped text) h >>= λ t. Ok (Some t))
 
 -- ---- blocks
+
+-- whether a line hangs from an entry, or else from an item
+abbrev pub hangs : Bool → ℕ → Line → Bool
+hangs true i l = hangs_from_entry i l
+hangs false i l = is_deeper i l
+
+-- reading the lines of a block, within a block at an indentation or within none
+abbrev pub BlockReader : Type 0
+BlockReader = Option ℕ → List Line → Result Node PlacedFault
 
 -- the lines that hang at the front, and the groups behind them
 abbrev pub chunk_step : Bool → Line → List Line × List Group → List Line × List Group
@@ -67,101 +102,170 @@ abbrev pub hanging_len : (Line → Bool) → List Line → ℕ
 hanging_len hangs [] = 0
 hanging_len hangs (l ∷ ls) = if hangs l then suc (hanging_len hangs ls) else 0
 
+-- What is wrong with a line that has no place in its block: it stands where the block around stands, or where no open block does.
+abbrev pub misplaced : Option ℕ → Line → FaultKind
+misplaced None l = Indent
+misplaced (Some around) l = if l.indent == around then NotInSubset else Indent
+
 -- a value that stands on a line, where these lines are below it
-unfoldable pub closed_at : Node → List Line → Result Node Fault
-closed_at t [] = Ok t
-closed_at t (l ∷ ls) = fault_at Indent l.number
+unfoldable pub closed_at : Option ℕ → Node → List Line → Result Node PlacedFault
+closed_at around t [] = Ok t
+closed_at around t (l ∷ ls) = fault_of (misplaced around l) l
 
--- the value of an entry
-unfoldable pub value_at : (List Line → Result Node Fault) → ℕ → Option Node → List Line → Result Node Fault
-value_at block n (Some t) below = closed_at t below
-value_at block n None [] = Ok (scalar n [])
-value_at block n None (l ∷ ls) = block (l ∷ ls)
-
--- whether a key is among these
-abbrev pub is_among : List (List ℕ) → List ℕ → Bool
-is_among keys key = list_any (λ k. bytes_eq k key) keys
+-- the value of an entry or item at the indentation i
+unfoldable pub value_at : BlockReader → ℕ → ℕ → Option Node → List Line → Result Node PlacedFault
+value_at block n i (Some t) below = closed_at (Some i) t below
+value_at block n i None [] = Ok (scalar n [])
+value_at block n i None (l ∷ ls) = block (Some i) (l ∷ ls)
 
 -- the pair of an entry, with the fault that stands first on its line
-unfoldable pub pair_from : (List Line → Result Node Fault) → List (List ℕ) → Group → Head → Result Pair Fault
-pair_from block before g alone = fault_at NotInSubset g.head.number
-pair_from block before g (entry front after) =
-    if is_among before (trimmed front)
-    then fault_at DuplicateKey g.head.number
-    else (if nat_lt 1024 (characters front)
-    then fault_at NotInSubset g.head.number
-    else (inline_at g.head.number after >>= λ inline. value_at block g.head.number inline g.below >>= λ t. Ok (record { line = g.head.number; key = trimmed front; value = t })))
+unfoldable pub pair_from : ℕ → BlockReader → ℕ → List (List ℕ) → Group → Head → Result Pair PlacedFault
+pair_from depth block i before g (item after) = fault_of NotInSubset g.head
+pair_from depth block i before g (alone t) = fault_at NotInSubset g.head.number 0
+pair_from depth block i before g (entry key after) =
+    if is_among before key
+    then fault_of DuplicateKey g.head
+    else (if nat_lt 1024 (characters (before_colon g.head.text after))
+    then fault_at NotInSubset g.head.number (length after + 1)
+    else (inline_at depth g.head.number after >>= λ inline. value_at block g.head.number i inline g.below >>= λ t. Ok (record { line = g.head.number; key = key; value = t })))
 
-unfoldable pub pair_at : (List Line → Result Node Fault) → ℕ → List (List ℕ) → Group → Result Pair Fault
-pair_at block i before g =
+unfoldable pub pair_at : ℕ → BlockReader → Option ℕ → ℕ → List (List ℕ) → Group → Result Pair PlacedFault
+pair_at depth block around i before g =
     if g.head.indent == i
-    then (head_at g.head.number g.head.text >>= λ h. pair_from block before g h)
-    else fault_at Indent g.head.number
+    then (head_at depth g.head.number g.head.text >>= λ h. pair_from depth block i before g h)
+    else fault_of (misplaced around g.head) g.head
 
-unfoldable pub pairs_at : (List Line → Result Node Fault) → ℕ → List (List ℕ) → List Group → Result (List Pair) Fault
-pairs_at block i before [] = Ok []
-pairs_at block i before (g ∷ gs) = do
-  p ← pair_at block i before g
-  ps ← pairs_at block i (p.key ∷ before) gs
+unfoldable pub pairs_at : ℕ → BlockReader → Option ℕ → ℕ → List (List ℕ) → List Group → Result (List Pair) PlacedFault
+pairs_at depth block around i before [] = Ok []
+pairs_at depth block around i before (g ∷ gs) = do
+  p ← pair_at depth block around i before g
+  ps ← pairs_at depth block around i (p.key ∷ before) gs
   Ok (p ∷ ps)
 
--- the mapping that lines from the line n on are
-unfoldable pub mapping_at : (List Line → Result Node Fault) → ℕ → ℕ → List Line → Result Node Fault
-mapping_at block n i lines = pairs_at block i [] (groups_of (is_deeper i) lines) >>= λ ps. Ok (mapping n (pairs_of ps))
+-- the mapping that lines are
+unfoldable pub mapping_at : ℕ → BlockReader → Option ℕ → Line → List Line → Result Node PlacedFault
+mapping_at depth block around first others =
+    pairs_at depth block around first.indent [] (groups_of (hangs true first.indent) (first ∷ others)) >>= λ ps. Ok (mapping first.number (pairs_of ps))
 
--- in place of a mapping that would be too deep
-unfoldable pub too_deep_at : ℕ → ℕ → List Line → Result Node Fault
-too_deep_at n i lines = fault_at TooDeep n
+-- what stands behind the `-` of a line and the spaces there, as a line at its own column
+abbrev pub inner : Line → List ℕ → Line
+inner l after = record { number = l.number; indent = l.indent + (1 + spaces_len after); text = behind_spaces after }
 
-unfoldable pub block_from : (ℕ → ℕ → List Line → Result Node Fault) → Line → List Line → Head → Result Node Fault
-block_from entries first others (entry front after) = entries first.number first.indent (first ∷ others)
-block_from entries first others alone = node_at first.number first.text >>= λ t. closed_at t others
+-- behind the `-` of an item, where this begins there
+unfoldable pub item_with : ℕ → BlockReader → ℕ → Group → List ℕ → Head → Result Node PlacedFault
+item_with depth block i g after (item behind) = fault_at NotInSubset g.head.number (length (skipped after))
+item_with depth block i g after (alone t) = value_at block g.head.number i (Some t) g.below
+item_with depth block i g after (entry key behind) =
+    if begins_blank (behind_spaces after) then fault_at Tab g.head.number (length (behind_spaces after)) else block (Some i) (inner g.head after ∷ g.below)
 
-unfoldable pub block_at : (ℕ → ℕ → List Line → Result Node Fault) → List Line → Result Node Fault
-block_at entries [] = Ok (mapping 1 no_pairs)
-block_at entries (first ∷ others) = head_at first.number first.text >>= λ h. block_from entries first others h
+unfoldable pub item_from : ℕ → BlockReader → ℕ → Group → Option (List ℕ) → Result Node PlacedFault
+item_from depth block i g None = fault_of NotInSubset g.head
+item_from depth block i g (Some after) =
+    if is_over (skipped after)
+    then value_at block g.head.number i None g.below
+    else (head_at depth g.head.number (skipped after) >>= λ h. item_with depth block i g after h)
 
--- the mapping that lines are, with at most so many mappings one inside the other
-unfoldable pub entries_at : ℕ → ℕ → ℕ → List Line → Result Node Fault
-entries_at zero = too_deep_at
-entries_at (suc levels) = mapping_at (block_at (entries_at levels))
+unfoldable pub item_at : ℕ → BlockReader → Option ℕ → ℕ → Group → Result Node PlacedFault
+item_at depth block around i g =
+    if g.head.indent == i
+    then item_from depth block i g (behind_dash g.head.text)
+    else fault_of (misplaced around g.head) g.head
 
--- the tree of lines with at most so many mappings one inside the other
-unfoldable pub tree_at : ℕ → List Line → Result Node Fault
-tree_at levels = block_at (entries_at levels)
+unfoldable pub items_at : ℕ → BlockReader → Option ℕ → ℕ → List Group → Result (List Node) PlacedFault
+items_at depth block around i [] = Ok []
+items_at depth block around i (g ∷ gs) = do
+  t ← item_at depth block around i g
+  ts ← items_at depth block around i gs
+  Ok (t ∷ ts)
+
+-- the sequence that lines are
+unfoldable pub sequence_at : ℕ → BlockReader → Option ℕ → Line → List Line → Result Node PlacedFault
+sequence_at depth block around first others =
+    items_at depth block around first.indent (groups_of (hangs false first.indent) (first ∷ others)) >>= λ ts. Ok (sequence first.number (nodes_of ts))
+
+-- the block that lines are, by what the first of them begins
+unfoldable pub block_from : ℕ → BlockReader → Option ℕ → Line → List Line → Head → Result Node PlacedFault
+block_from depth block around first others (item after) = sequence_at depth block around first others
+block_from depth block around first others (entry key after) = mapping_at depth block around first others
+block_from depth block around first others (alone t) = closed_at around t others
+
+-- the same where no level is left
+unfoldable pub deep_from : Option ℕ → Line → List Line → Head → Result Node PlacedFault
+deep_from around first others (item after) = fault_of TooDeep first
+deep_from around first others (entry key after) = fault_of TooDeep first
+deep_from around first others (alone t) = closed_at around t others
+
+unfoldable pub block_at : ℕ → (Option ℕ → Line → List Line → Head → Result Node PlacedFault) → BlockReader
+block_at depth from around [] = Ok (mapping 1 no_pairs)
+block_at depth from around (first ∷ others) = head_at depth first.number first.text >>= λ h. from around first others h
+
+-- the tree of lines with at most so many sequences and mappings one inside the other, and of those on one line at most so many
+unfoldable pub tree_at : ℕ → ℕ → BlockReader
+tree_at zero depth = block_at depth deep_from
+tree_at (suc levels) depth = block_at depth (block_from depth (tree_at levels depth))
 
 -- ---- texts
 
 -- one line: its content, or nothing where it is blank or a comment
-unfoldable pub content_at : ℕ → List ℕ → Result (Option Line) Fault
+unfoldable pub content_at : ℕ → List ℕ → Result (Option Line) PlacedFault
 content_at n raw =
-    if is_utf8 raw
-    then (if list_any is_forbidden (chars raw) then fault_at NotInSubset n
-    else (if is_over (skipped raw) then Ok None
-    else (if begins_blank (drop (spaces_len raw) raw) then fault_at Tab n
-    else (if is_marker raw then fault_at NotInSubset n
-    else Ok (Some (record { number = n; indent = spaces_len raw; text = drop (spaces_len raw) raw }))))))
-    else fault_at NotUtf8 n
+    if is_over (skipped raw)
+    then Ok None
+    else (if begins_blank (behind_spaces raw) then fault_at Tab n (length (behind_spaces raw))
+    else (if is_marker raw then fault_at NotInSubset n (length raw)
+    else Ok (Some (record { number = n; indent = spaces_len raw; text = behind_spaces raw }))))
 
--- a line in front of those behind it, where it has no fault
-abbrev pub add_line : Result (Option Line) Fault → List Line × Option Fault → List Line × Option Fault
-add_line (Ok None) r = r
-add_line (Ok (Some l)) r = (l ∷ r.0, r.1)
-add_line (Err f) r = ([], Some f)
+-- how many bytes have the characters from the first one on that no text may have
+abbrev pub forbidden_left : List ℕ → ℕ
+forbidden_left [] = 0
+forbidden_left (c ∷ cs) = if is_forbidden c then length (encode_utf8_all (c ∷ cs)) else forbidden_left cs
 
--- the lines with content up to the first line with a fault, and that fault
-unfoldable pub contents_from : ℕ → List (List ℕ) → List Line × Option Fault
+-- the front of a line that is UTF-8
+abbrev pub utf8_front : List ℕ → List ℕ
+utf8_front raw = take (utf8_valid_len raw) raw
+
+-- the first character of a line that no text may have, or its first bytes that are not UTF-8
+unfoldable pub blemish_at : ℕ → List ℕ → Option PlacedFault
+blemish_at n raw =
+    if nat_lt 0 (forbidden_left (chars (utf8_front raw)))
+    then Some (record { kind = NotInSubset; line = n; left = forbidden_left (chars (utf8_front raw)) + (length raw - length (utf8_front raw)) })
+    else (if nat_lt (length (utf8_front raw)) (length raw) then Some (record { kind = NotUtf8; line = n; left = length raw - length (utf8_front raw) })
+    else None)
+
+-- A line in front of those behind it; no line is read behind one with a fault.
+abbrev pub add_line : Result (Option Line) PlacedFault → Option PlacedFault → List Line × Option PlacedFault → List Line × Option PlacedFault
+add_line (Err f) blemish r = ([], Some f)
+add_line (Ok found) (Some f) r = (option_to_list found, Some f)
+add_line (Ok found) None r = (option_to_list found ++ r.0, r.1)
+
+-- the lines with content up to the first line with a fault by itself, and that fault
+unfoldable pub contents_from : ℕ → List (List ℕ) → List Line × Option PlacedFault
 contents_from n [] = ([], None)
-contents_from n (raw ∷ raws) = add_line (content_at n raw) (contents_from (n + 1) raws)
+contents_from n (raw ∷ raws) = add_line (content_at n raw) (blemish_at n raw) (contents_from (n + 1) raws)
 
--- a fault behind the lines of which the tree is
-abbrev pub unless : Option Fault → Node → Result Node Fault
-unless None t = Ok t
-unless (Some f) t = Err f
+-- whether a fault stands on an earlier line, or to the left on the same one
+abbrev pub is_before : PlacedFault → PlacedFault → Bool
+is_before e f = nat_lt e.line f.line || ((e.line == f.line) && nat_lt f.left e.left)
+
+-- the first of a fault and one that may be known of the last line
+abbrev pub first_fault : Option PlacedFault → PlacedFault → PlacedFault
+first_fault None e = e
+first_fault (Some f) e = if is_before e f then e else f
+
+-- what lines are read as, where a fault may be known of the last of them by itself
+abbrev pub unless : Option PlacedFault → Result Node PlacedFault → Result Node PlacedFault
+unless known (Err e) = Err (first_fault known e)
+unless None (Ok t) = Ok t
+unless (Some f) (Ok t) = Err f
+
+-- a fault without its place on the line
+abbrev pub without_place : Result Node PlacedFault → Result Node Fault
+without_place (Ok t) = Ok t
+without_place (Err e) = Err (record { kind = e.kind; line = e.line })
 
 -- the tree of a text, or its first fault
 unfoldable pub read_at : List ℕ → Result Node Fault
 read_at text =
     if nat_lt (2 ^ 20) (length text)
-    then fault_at TooLong 1
-    else (tree_at 32 (contents_from 1 (lines_of text)).0 >>= λ t. unless (contents_from 1 (lines_of text)).1 t)
+    then Err (record { kind = TooLong; line = 1 })
+    else without_place (unless (contents_from 1 (lines_of text)).1 (tree_at 32 8 None (contents_from 1 (lines_of text)).0))

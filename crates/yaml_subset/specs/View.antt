@@ -7,7 +7,7 @@ use Rattle.yaml_subset.specs.declared.fault.YamlFault.TheVariants as faults
 use Rattle.yaml_subset.specs.declared.tree.Key.{Key}
 use Rattle.yaml_subset.specs.declared.tree.Tree.{Tree, fold-Tree}
 use Rattle.yaml_subset.specs.declared.tree.Tree.TheOpen.{Tree-F}
-use Rattle.yaml_subset.specs.Node.{Node, scalar, sequence, mapping, Pair, nodes_of, pairs_of, list_pairs}
+use Rattle.yaml_subset.specs.Node.{Node, scalar, sequence, mapping, Pair, nodes_of, list_nodes, pairs_of, list_pairs}
 
 -- one level of a tree, each value in it seen already
 abbrev pub pair_step : (Key × Node) → Pair
@@ -36,6 +36,11 @@ line_of (mapping n pairs) = n
 abbrev pub text_in : Node → Option (List ℕ)
 text_in (scalar n text) = Some text
 text_in _ = None
+
+-- the nodes of a list
+abbrev pub items_in : Node → Option (List Node)
+items_in (sequence n items) = Some (list_nodes items)
+items_in _ = None
 
 -- the pairs of a mapping
 abbrev pub pairs_in : Node → Option (List Pair)

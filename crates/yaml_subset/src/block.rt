@@ -1,34 +1,40 @@
 //! Blocks of lines.
 
-ghost use Rattle.std.specs.Prelude.{◌≡◌, ℕ, ◌≤◌, ◌||◌, List, [], length, drop, IfOk};
+ghost use Rattle.std.specs.Prelude.{◌≡◌, ℕ, ◌≤◌, ◌||◌, List, [], ◌∷◌, length, drop, get_or, Option, Some, None, IfOk};
 ghost use Rattle.std.specs.Str.{bytes_eq};
+ghost use Rattle.yaml_subset.specs.Keys.{is_among};
 ghost use Rattle.yaml_subset.specs.Node.{scalar};
-ghost use Rattle.yaml_subset.specs.TreeOf.{is_deeper};
-ghost use Rattle.yaml_subset.specs.Reading.{is_among, chunks, groups_of, hanging_len, closed_at, value_at, pair_at, mapping_at, block_at, entries_at, tree_at};
-ghost use Rattle.yaml_subset.specs.View.{Gives, node_view, pair_view};
-ghost use Rattle.yaml_subset.specs.Inside.{line_view, lines_view, node_option_view, keys_view};
+ghost use Rattle.yaml_subset.specs.Reading.{hangs, chunks, groups_of, hanging_len, misplaced, closed_at, value_at, pair_at, mapping_at, inner, item_at, sequence_at, tree_at};
+ghost use Rattle.yaml_subset.specs.View.{node_view, pair_view};
+ghost use Rattle.yaml_subset.specs.Inside.{GivesLines, line_view, lines_view, node_option_view, copies_view};
 
-use crate::entry::{Head, head_of, inline, node_of};
-use crate::fault::{FaultKind, YamlFault};
-use crate::keys::take_key;
+use crate::bytes::{begins_blank, begins_item, is_over};
+use crate::entry::{Head, head_of, inline};
+use crate::fault::FaultKind;
+use crate::keys::{MAX_KEY, take_copy};
 use crate::line::Line;
-use crate::scan::{characters, trimmed};
+use crate::place::Halt;
+use crate::scan::{before_colon, behind_dash, behind_spaces, characters, skipped, spaces_len};
 use crate::tree::{Key, Tree};
 use std::alloc::Global;
 use std::collections::BTreeSet;
 
-// How many characters of a line may stand before the colon of its key.
-const MAX_KEY: usize = 1024;
+// Whether a line hangs from an entry, or else from an item, at an indentation.
+fn hangs(entry: bool, indent: usize, line: &Line) -> bool
+    ensures { result ≡ hangs entry indent (line_view line.now) }
+{
+    indent < line.indent || (entry && line.indent == indent && begins_item(line.text()))
+}
 
-// How many lines at the front are deeper.
-fn deeper_len(indent: usize, lines: &[Line]) -> usize
+// How many lines at the front hang.
+fn hanging_len(entry: bool, indent: usize, lines: &[Line]) -> usize
     ensures within { result ≤ length lines.now }
-    ensures value { result ≡ hanging_len (is_deeper indent) (lines_view lines.now) }
+    ensures value { result ≡ hanging_len (hangs entry indent) (lines_view lines.now) }
 {
     let mut len = 0;
     let mut rest = lines;
     while let [line, after @ ..] = rest {
-        if line.indent <= indent {
+        if !hangs(entry, indent, line) {
             break;
         }
         rest = after;
@@ -37,23 +43,50 @@ fn deeper_len(indent: usize, lines: &[Line]) -> usize
     len
 }
 
-// The deeper lines at the front, and the lines behind them.
-fn split_below<'a, 'b>(indent: usize, lines: &'a [Line<'b>]) -> (&'a [Line<'b>], &'a [Line<'b>])
+// The lines at the front that hang, and the lines behind them.
+fn split_below<'a, 'b>(
+    entry: bool,
+    indent: usize,
+    lines: &'a [Line<'b>],
+) -> (&'a [Line<'b>], &'a [Line<'b>])
     ensures within { length result.0.now ≤ length lines.now }
     ensures after { result.1.now ≡ drop (length result.0.now) lines.now }
-    ensures parts { chunks (is_deeper indent) (lines_view lines.now) ≡ (lines_view result.0.now, groups_of (is_deeper indent) (lines_view result.1.now)) }
+    ensures parts { chunks (hangs entry indent) (lines_view lines.now) ≡ (lines_view result.0.now, groups_of (hangs entry indent) (lines_view result.1.now)) }
 {
-    lines.split_at(deeper_len(indent, lines))
+    lines.split_at(hanging_len(entry, indent, lines))
+}
+
+// The line of a block at a place, where the first stands apart from the others.
+fn line_at<'a>(first: &Line<'a>, others: &[Line<'a>], at: usize) -> Line<'a>
+    requires { at ≤ length others.now }
+    ensures { result ≡ get_or (first.now ∷ others.now) at first.now }
+{
+    if at == 0 { *first } else { others[at - 1] }
+}
+
+// The fault of a line that has no place in its block.
+fn misplaced(around: Option<usize>, line: &Line) -> Halt
+    ensures { result ≡ Halt.At (record { kind = misplaced around (line_view line.now); line = line.now.number; left = length (drop line.now.indent line.now.raw.now) }) }
+{
+    let kind = match around {
+        None => FaultKind::Indent,
+        Some(around) => if line.indent == around {
+            FaultKind::NotInSubset
+        } else {
+            FaultKind::Indent
+        },
+    };
+    line.fault(kind)
 }
 
 // A value that stands on a line, where no line may be below it.
 #[tactic(auto, unfolding(crate::specs::Reading::closed_at))]
-fn closed(value: Tree, below: &[Line]) -> Result<Tree, YamlFault>
-    ensures { Gives node_view result (closed_at (node_view value) (lines_view below.now)) }
+fn closed(around: Option<usize>, value: Tree, below: &[Line]) -> Result<Tree, Halt>
+    ensures { GivesLines node_view result (closed_at around (node_view value) (lines_view below.now)) }
 {
     match below {
         [] => Ok(value),
-        [first, ..] => Err(YamlFault::at(FaultKind::Indent, first.number)),
+        [first, ..] => Err(misplaced(around, first)),
     }
 }
 
@@ -64,107 +97,201 @@ fn empty(alloc: Global, number: u32) -> Tree
     Tree::Scalar(number, Vec::new(alloc))
 }
 
-// The value of an entry: on its line, or the block below it, or the empty text.
-#[cycle(tree)]
+// The value of an entry or item at an indentation: on its line, or the block below it, or the empty
+// text.
+#[cycle(block)]
 #[tactic(auto, unfolding(crate::specs::Reading::value_at))]
 fn value(
     alloc: Global,
     number: u32,
+    indent: usize,
     inline: Option<Tree>,
     below: &[Line],
     levels: u8,
-) -> Result<Tree, YamlFault>
-    ensures { Gives node_view result (value_at (tree_at levels) number (node_option_view inline) (lines_view below.now)) }
+) -> Result<Tree, Halt>
+    ensures { GivesLines node_view result (value_at (tree_at levels 8) number indent (node_option_view inline) (lines_view below.now)) }
 {
     match inline {
-        Some(value) => closed(value, below),
+        Some(value) => closed(Some(indent), value, below),
         None => match below {
             [] => Ok(empty(alloc, number)),
-            [_, ..] => tree(alloc, below, levels),
+            [first, others @ ..] => block(alloc, Some(indent), first, others, levels),
         },
     }
 }
 
-// A line with the deeper lines behind it, as the next pair of a mapping with these keys.
-#[cycle(tree)]
+// A line with the lines that hang from it, as the next pair of a mapping with these keys.
+#[cycle(block)]
 #[tactic(auto, unfolding(crate::specs::Reading::pair_at, crate::specs::Reading::pair_from))]
-fn pair<'a>(
+fn pair(
     alloc: Global,
-    line: &Line<'a>,
-    below: &[Line<'a>],
-    keys: &mut BTreeSet<&'a [u8]>,
+    around: Option<usize>,
     indent: usize,
+    line: &Line,
+    below: &[Line],
+    keys: &mut BTreeSet<Vec<u8>>,
     levels: u8,
-) -> Result<(Key, Tree), YamlFault>
-    ensures value { Gives pair_view result (pair_at (tree_at levels) indent (keys_view keys.old) (record { head = line_view line.now; below = lines_view below.now })) }
-    ensures known { IfOk result (λ pair. (q : List ℕ) → is_among (keys_view keys.new) q ≡ (bytes_eq (pair_view pair).key q || is_among (keys_view keys.old) q)) }
+) -> Result<(Key, Tree), Halt>
+    ensures value { GivesLines pair_view result (pair_at 8 (tree_at levels 8) around indent (copies_view keys.old) (record { head = line_view line.now; below = lines_view below.now })) }
+    ensures known { IfOk result (λ pair. (q : List ℕ) → is_among (copies_view keys.new) q ≡ (bytes_eq (pair_view pair).key q || is_among (copies_view keys.old) q)) }
 {
     let number = line.number;
     if line.indent != indent {
-        return Err(YamlFault::at(FaultKind::Indent, number));
+        return Err(misplaced(around, line));
     }
-    match head_of(number, line.text())? {
-        Head::Alone => Err(YamlFault::at(FaultKind::NotInSubset, number)),
-        Head::Entry(front, after) => {
-            let key = trimmed(front);
-            let fresh = take_key(keys, key)?;
+    match head_of(alloc, number, line.text())? {
+        Head::Item(_) => Err(line.fault(FaultKind::NotInSubset)),
+        Head::Alone(_) => Err(Halt::at(FaultKind::NotInSubset, number, 0)),
+        Head::Entry(key, after) => {
+            let fresh = take_copy(alloc, keys, &key)?;
             if !fresh {
-                return Err(YamlFault::at(FaultKind::DuplicateKey, number));
+                return Err(line.fault(FaultKind::DuplicateKey));
             }
-            if characters(front) > MAX_KEY {
-                return Err(YamlFault::at(FaultKind::NotInSubset, number));
+            if characters(before_colon(line.text(), after)) > MAX_KEY {
+                return Err(Halt::at(FaultKind::NotInSubset, number, after.len() + 1));
             }
             let inline = inline(alloc, number, after)?;
-            let value = value(alloc, number, inline, below, levels)?;
-            let text = Vec::from_slice(alloc, key)?;
-            Ok((Key { line: number, text }, value))
+            let value = value(alloc, number, indent, inline, below, levels)?;
+            Ok((
+                Key {
+                    line: number,
+                    text: key,
+                },
+                value,
+            ))
         }
     }
 }
 
-// The mapping that lines are, the first of them with this number and indentation.
-#[cycle(tree)]
+// The mapping that lines are.
+#[cycle(block)]
 #[tactic(auto, unfolding(crate::specs::Reading::mapping_at))]
-fn mapping(
+fn mapping<'a>(
     alloc: Global,
-    number: u32,
-    indent: usize,
-    lines: &[Line],
+    around: Option<usize>,
+    first: &Line<'a>,
+    others: &[Line<'a>],
     levels: u8,
-) -> Result<Tree, YamlFault>
-    ensures { Gives node_view result (mapping_at (tree_at levels) number indent (lines_view lines.now)) }
+) -> Result<Tree, Halt>
+    ensures { GivesLines node_view result (mapping_at 8 (tree_at levels 8) around (line_view first.now) (lines_view others.now)) }
 {
+    let indent = first.indent;
     let mut keys = BTreeSet::new(alloc);
     let mut pairs = Vec::new(alloc);
     let mut at = 0;
-    while at < lines.len() {
-        let (below, _) = split_below(indent, &lines[at + 1..]);
-        let next = pair(alloc, &lines[at], below, &mut keys, indent, levels)?;
+    while at <= others.len() {
+        let line = line_at(first, others, at);
+        let (below, _) = split_below(true, indent, &others[at..]);
+        let next = pair(alloc, around, indent, &line, below, &mut keys, levels)?;
         pairs.push(next)?;
         at += 1 + below.len();
     }
-    Ok(Tree::Map(number, pairs))
+    Ok(Tree::Map(first.number, pairs))
 }
 
-/// The tree of lines with at most so many mappings one inside the other.
-#[cycle(tree)]
-#[tactic(auto, unfolding(crate::specs::Reading::tree_at, crate::specs::Reading::entries_at, crate::specs::Reading::too_deep_at, crate::specs::Reading::block_at, crate::specs::Reading::block_from))]
-pub fn tree(alloc: Global, lines: &[Line], levels: u8) -> Result<Tree, YamlFault>
-    ensures { Gives node_view result (tree_at levels (lines_view lines.now)) }
+// What stands behind the `-` of a line and the spaces there, as a line at its own column.
+fn inner<'a>(line: &Line<'a>, after: &[u8]) -> Line<'a>
+    requires { drop line.now.indent line.now.raw.now ≡ 45 ∷ after.now }
+    ensures { line_view result ≡ inner (line_view line.now) after.now }
+{
+    Line {
+        number: line.number,
+        indent: line.indent + 1 + spaces_len(after),
+        raw: line.raw,
+    }
+}
+
+// A line with the deeper lines behind it, as the next item of a sequence.
+#[cycle(block)]
+#[tactic(auto, unfolding(crate::specs::Reading::item_at, crate::specs::Reading::item_from, crate::specs::Reading::item_with))]
+fn item<'a>(
+    alloc: Global,
+    around: Option<usize>,
+    indent: usize,
+    line: &Line<'a>,
+    below: &[Line<'a>],
+    levels: u8,
+) -> Result<Tree, Halt>
+    ensures { GivesLines node_view result (item_at 8 (tree_at levels 8) around indent (record { head = line_view line.now; below = lines_view below.now })) }
+{
+    let number = line.number;
+    if line.indent != indent {
+        return Err(misplaced(around, line));
+    }
+    let after = match behind_dash(line.text()) {
+        Some(after) => after,
+        None => return Err(line.fault(FaultKind::NotInSubset)),
+    };
+    let rest = skipped(after);
+    if is_over(rest) {
+        return value(alloc, number, indent, None, below, levels);
+    }
+    match head_of(alloc, number, rest)? {
+        Head::Item(_) => Err(Halt::at(FaultKind::NotInSubset, number, rest.len())),
+        Head::Alone(node) => value(alloc, number, indent, Some(node), below, levels),
+        Head::Entry(_, _) => {
+            let key = behind_spaces(after);
+            if begins_blank(key) {
+                return Err(Halt::at(FaultKind::Tab, number, key.len()));
+            }
+            block(alloc, Some(indent), &inner(line, after), below, levels)
+        }
+    }
+}
+
+// The sequence that lines are.
+#[cycle(block)]
+#[tactic(auto, unfolding(crate::specs::Reading::sequence_at))]
+fn sequence<'a>(
+    alloc: Global,
+    around: Option<usize>,
+    first: &Line<'a>,
+    others: &[Line<'a>],
+    levels: u8,
+) -> Result<Tree, Halt>
+    ensures { GivesLines node_view result (sequence_at 8 (tree_at levels 8) around (line_view first.now) (lines_view others.now)) }
+{
+    let indent = first.indent;
+    let mut items = Vec::new(alloc);
+    let mut at = 0;
+    while at <= others.len() {
+        let line = line_at(first, others, at);
+        let (below, _) = split_below(false, indent, &others[at..]);
+        let next = item(alloc, around, indent, &line, below, levels)?;
+        items.push(next)?;
+        at += 1 + below.len();
+    }
+    Ok(Tree::List(first.number, items))
+}
+
+// The block that lines are, within a block at an indentation or within none, with at most so many
+// sequences and mappings one inside the other.
+#[cycle(block)]
+#[tactic(auto, unfolding(crate::specs::Reading::tree_at, crate::specs::Reading::block_at, crate::specs::Reading::block_from, crate::specs::Reading::deep_from))]
+fn block<'a>(
+    alloc: Global,
+    around: Option<usize>,
+    first: &Line<'a>,
+    others: &[Line<'a>],
+    levels: u8,
+) -> Result<Tree, Halt>
+    ensures { GivesLines node_view result (tree_at levels 8 around (line_view first.now ∷ lines_view others.now)) }
+{
+    match head_of(alloc, first.number, first.text())? {
+        Head::Alone(value) => closed(around, value, others),
+        _ if levels == 0 => Err(first.fault(FaultKind::TooDeep)),
+        Head::Item(_) => sequence(alloc, around, first, others, levels - 1),
+        Head::Entry(_, _) => mapping(alloc, around, first, others, levels - 1),
+    }
+}
+
+/// The tree of lines with at most so many sequences and mappings one inside the other.
+#[tactic(auto, unfolding(crate::specs::Reading::tree_at, crate::specs::Reading::block_at))]
+pub fn tree(alloc: Global, lines: &[Line], levels: u8) -> Result<Tree, Halt>
+    ensures { GivesLines node_view result (tree_at levels 8 None (lines_view lines.now)) }
 {
     match lines {
         [] => Ok(Tree::Map(1, Vec::new(alloc))),
-        [first, others @ ..] => match head_of(first.number, first.text())? {
-            Head::Entry(_, _) => {
-                if levels == 0 {
-                    return Err(YamlFault::at(FaultKind::TooDeep, first.number));
-                }
-                mapping(alloc, first.number, first.indent, lines, levels - 1)
-            }
-            Head::Alone => {
-                let value = node_of(alloc, first.number, first.text())?;
-                closed(value, others)
-            }
-        },
+        [first, others @ ..] => block(alloc, None, first, others, levels),
     }
 }

@@ -1,7 +1,7 @@
 //! What the bytes of a line are.
 
 ghost use Rattle.std.specs.Prelude.{◌≡◌};
-ghost use Rattle.yaml_subset.specs.Bytes.{is_blank, begins_blank, begins_gap, is_over, is_indicator, is_mark, begins_plain, is_marker, begins_character, is_forbidden};
+ghost use Rattle.yaml_subset.specs.Bytes.{is_blank, begins_blank, begins_gap, is_flow_indicator, begins_flow_indicator, begins_break, begins_bare_colon, is_over, is_indicator, is_mark, begins_word, begins_item, is_marker, begins_character, is_forbidden};
 
 /// Whether a byte is a space or a tab.
 pub fn is_blank(b: u8) -> bool
@@ -27,6 +27,40 @@ pub fn begins_gap(text: &[u8]) -> bool
     match text {
         [] => true,
         [b, ..] => is_blank(*b),
+    }
+}
+
+/// Whether a byte is one of `, [ ] { }`, which part a list or mapping on one line.
+pub fn is_flow_indicator(b: u8) -> bool
+    ensures { result ≡ is_flow_indicator b }
+{
+    b == b',' || b == b'[' || b == b']' || b == b'{' || b == b'}'
+}
+
+/// Whether one of `, [ ] { }` comes first.
+pub fn begins_flow_indicator(text: &[u8]) -> bool
+    ensures { result ≡ begins_flow_indicator text.now }
+{
+    match text {
+        [] => false,
+        [b, ..] => is_flow_indicator(*b),
+    }
+}
+
+/// Whether a gap comes first, or in flow one of `, [ ] { }`.
+pub fn begins_break(flow: bool, text: &[u8]) -> bool
+    ensures { result ≡ begins_break flow text.now }
+{
+    (flow && begins_flow_indicator(text)) || begins_gap(text)
+}
+
+/// Whether `:` comes first, and directly behind it one of `, [ ] { }`.
+pub fn begins_bare_colon(text: &[u8]) -> bool
+    ensures { result ≡ begins_bare_colon text.now }
+{
+    match text {
+        [] => false,
+        [b, after @ ..] => *b == b':' && begins_flow_indicator(after),
     }
 }
 
@@ -62,22 +96,32 @@ fn is_indicator(b: u8) -> bool
         || b == b'`'
 }
 
-// Whether a byte begins something other than a plain text where a gap follows it.
-fn is_mark(b: u8) -> bool
+/// Whether a byte begins something other than a plain text where a gap follows it.
+pub fn is_mark(b: u8) -> bool
     ensures { result ≡ is_mark b }
 {
     b == b'-' || b == b'?' || b == b':'
 }
 
-/// Whether a plain text may begin so.
-pub fn begins_plain(text: &[u8]) -> bool
-    ensures { result ≡ begins_plain text.now }
+/// Whether a plain word may begin so.
+pub fn begins_word(flow: bool, text: &[u8]) -> bool
+    ensures { result ≡ begins_word flow text.now }
 {
     match text {
         [] => false,
         [b, after @ ..] => {
-            !is_blank(*b) && !is_indicator(*b) && !(is_mark(*b) && begins_gap(after))
+            !is_blank(*b) && !is_indicator(*b) && !(is_mark(*b) && begins_break(flow, after))
         }
+    }
+}
+
+/// Whether an item begins so: with `-` and a gap behind it.
+pub fn begins_item(text: &[u8]) -> bool
+    ensures { result ≡ begins_item text.now }
+{
+    match text {
+        [] => false,
+        [b, after @ ..] => *b == b'-' && begins_gap(after),
     }
 }
 

@@ -1,64 +1,80 @@
 //! What a line begins, and what stands behind the colon of an entry.
 
 ghost use Rattle.std.specs.Prelude.{◌≡◌};
-ghost use Rattle.yaml_subset.specs.Reading.{node_at, inline_at, head_at};
-ghost use Rattle.yaml_subset.specs.View.{Gives, node_view};
-ghost use Rattle.yaml_subset.specs.Inside.{node_option_view, head_view};
+ghost use Rattle.yaml_subset.specs.Part.{GivesPart};
+ghost use Rattle.yaml_subset.specs.Reading.{text_head, head_at, inline_at};
+ghost use Rattle.yaml_subset.specs.Inside.{GivesLines, node_option_view, head_view};
 
-use crate::bytes::{begins_plain, is_over};
-use crate::fault::{FaultKind, YamlFault};
-use crate::scan::{skipped, split_plain, trimmed};
+use crate::bytes::is_over;
+use crate::fault::FaultKind;
+use crate::flaw::Stop;
+use crate::flow::{begins_bracket, flow};
+use crate::place::Halt;
+use crate::scan::{behind_dash, skipped};
 use crate::tree::Tree;
+use crate::words::word;
 use std::alloc::Global;
 
+/// The most lists and mappings that may stand one inside the other on one line.
+pub const MAX_DEPTH: u8 = 8;
+
 /// What a line begins.
-#[derive(Clone, Copy)]
+#[derive(Drop)]
 pub enum Head<'a> {
-    /// An entry: the text before its colon, and the text behind it.
-    Entry(&'a [u8], &'a [u8]),
-    /// No entry.
-    Alone,
+    /// An item: the text behind its `-`.
+    Item(&'a [u8]),
+    /// An entry: its key, and the text behind its colon.
+    Entry(Vec<u8>, &'a [u8]),
+    /// A value, and nothing after it but a comment.
+    Alone(Tree),
+}
+
+// What a line begins that is no item: an entry or a value.
+#[tactic(auto, unfolding(crate::specs::Reading::text_head, crate::specs::Reading::word_head, crate::specs::Reading::flow_head))]
+fn text_head(alloc: Global, number: u32, text: &[u8]) -> Result<Head<'_>, Stop>
+    ensures { GivesPart head_view result (text_head 8 number text.now) }
+{
+    if begins_bracket(text) {
+        let (value, rest) = flow(alloc, MAX_DEPTH, number, text)?;
+        if !is_over(rest) {
+            return Err(Stop::at(FaultKind::Flow, rest.len()));
+        }
+        return Ok(Head::Alone(value));
+    }
+    let (value, rest) = word(alloc, false, text)?;
+    match rest {
+        [b':', after @ ..] => Ok(Head::Entry(value, after)),
+        _ => Ok(Head::Alone(Tree::Scalar(number, value))),
+    }
 }
 
 /// What a line begins.
 #[tactic(auto, unfolding(crate::specs::Reading::head_at, crate::specs::Reading::head_from))]
-pub fn head_of(number: u32, text: &[u8]) -> Result<Head<'_>, YamlFault>
-    ensures { Gives head_view result (head_at number text.now) }
+pub fn head_of(alloc: Global, number: u32, text: &[u8]) -> Result<Head<'_>, Halt>
+    ensures { GivesLines head_view result (head_at 8 number text.now) }
 {
-    if !begins_plain(text) {
-        return Err(YamlFault::at(FaultKind::NotInSubset, number));
+    if let Some(after) = behind_dash(text) {
+        return Ok(Head::Item(after));
     }
-    let (front, rest) = split_plain(text);
-    match rest {
-        [b':', after @ ..] => Ok(Head::Entry(front, after)),
-        _ => Ok(Head::Alone),
+    match text_head(alloc, number, text) {
+        Ok(head) => Ok(head),
+        Err(Stop::NoMemory) => Err(Halt::NoMemory),
+        Err(Stop::At(flaw)) => Err(Halt::at(flaw.kind, number, flaw.left)),
     }
-}
-
-/// A value on a line.
-#[tactic(auto, unfolding(crate::specs::Reading::node_at))]
-pub fn node_of(alloc: Global, number: u32, text: &[u8]) -> Result<Tree, YamlFault>
-    ensures { Gives node_view result (node_at number text.now) }
-{
-    if !begins_plain(text) {
-        return Err(YamlFault::at(FaultKind::NotInSubset, number));
-    }
-    let (front, rest) = split_plain(text);
-    if !is_over(rest) {
-        return Err(YamlFault::at(FaultKind::NotInSubset, number));
-    }
-    Ok(Tree::Scalar(number, Vec::from_slice(alloc, trimmed(front))?))
 }
 
 /// What stands behind the colon of an entry: a value or nothing.
-#[tactic(auto, unfolding(crate::specs::Reading::inline_at))]
-pub fn inline(alloc: Global, number: u32, text: &[u8]) -> Result<Option<Tree>, YamlFault>
-    ensures { Gives node_option_view result (inline_at number text.now) }
+#[tactic(auto, unfolding(crate::specs::Reading::inline_at, crate::specs::Reading::node_from))]
+pub fn inline(alloc: Global, number: u32, text: &[u8]) -> Result<Option<Tree>, Halt>
+    ensures { GivesLines node_option_view result (inline_at 8 number text.now) }
 {
     let rest = skipped(text);
     if is_over(rest) {
         return Ok(None);
     }
-    let value = node_of(alloc, number, rest)?;
-    Ok(Some(value))
+    match head_of(alloc, number, rest)? {
+        Head::Alone(value) => Ok(Some(value)),
+        Head::Item(_) => Err(Halt::at(FaultKind::NotInSubset, number, rest.len())),
+        Head::Entry(_, after) => Err(Halt::at(FaultKind::NotInSubset, number, after.len() + 1)),
+    }
 }

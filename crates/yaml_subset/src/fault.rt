@@ -21,18 +21,20 @@ pub enum FaultKind {
     /// The key stands in its mapping already.
     #[error("DuplicateKey")]
     DuplicateKey,
-    /// A quoted text is not closed on its line, has an unknown escape, or is followed by other
-    /// text. It is answered from the stage on that reads quotes; till then they are `NotInSubset`.
+    /// A text in quotes is not closed on its line, has an unknown escape, or is followed by other
+    /// text.
     #[error("Quote")]
     Quote,
-    /// A list in brackets or a mapping in braces is malformed. It is answered from the stage on that
-    /// reads these; till then they are `NotInSubset`.
+    /// A list in brackets or a mapping in braces is not closed on its line, is malformed, or is
+    /// followed by other text.
     #[error("Flow")]
     Flow,
-    /// A form of YAML that is not read, or a character that no text may have.
+    /// A form of YAML that is not read, a key of more than 1,024 characters, or a character that no
+    /// text may have.
     #[error("NotInSubset")]
     NotInSubset,
-    /// More than 32 mappings stand one inside the other.
+    /// More than 32 sequences and mappings of lines stand one inside the other, or more than 8 lists
+    /// and mappings on one line.
     #[error("TooDeep")]
     TooDeep,
     /// The text has more than 1 MiB.

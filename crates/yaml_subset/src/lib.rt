@@ -1,11 +1,19 @@
 //! A subset of YAML 1.2.2, read into a tree whose nodes know their lines.
 //!
 //! A text is UTF-8, and its lines end with LF or CR LF. Blank lines and lines whose first character
-//! after blanks is `#` have no content. Of the others these are read so far: mappings, each a run
-//! of lines `KEY: VALUE` or `KEY:` at one indentation with a value on the key's line or in the
-//! deeper lines below it, keys and values without quotes, and comments. Everything else is refused:
-//! sequences, quotes, brackets and braces, anchors and tags, block scalars, scalars on several
-//! lines, document markers, control characters and a byte order mark.
+//! after blanks is `#` have no content. The others are blocks:
+//!
+//! - a sequence: lines `- VALUE`, `-` or `- KEY: ..` at one indentation,
+//! - a mapping: lines `KEY: VALUE` or `KEY:` at one indentation, with keys that differ,
+//! - or one line with a value.
+//!
+//! Where no value stands on the line, it is the block of the deeper lines below, for an entry also the
+//! items at its own indentation, or else the empty text. `- KEY: ..` begins a mapping at the column
+//! of KEY. A value on a line is a text without quotes or in single or double quotes, a list `[a, b]`
+//! or a mapping `{k: v}`; a key is a text. A comment may follow. Everything else of YAML is refused:
+//! anchors, aliases and tags, block scalars, scalars, lists and mappings on several lines, `? ` keys,
+//! empty values in lists and mappings on one line, document markers, control characters and a byte
+//! order mark. All values that are read are texts.
 //!
 //! [`read`] answers the tree of a text, which `specs/TreeOf.antt` defines, or the first fault.
 #![tactic(auto)]
@@ -14,14 +22,19 @@ mod block;
 mod bytes;
 mod entry;
 pub mod fault;
+mod flaw;
+mod flow;
 mod keys;
 mod line;
 mod lines;
+mod place;
+mod quotes;
 pub mod reader;
 mod scan;
 #[cfg(test)]
 mod tests;
 pub mod tree;
+mod words;
 
 pub use fault::{Fault, FaultKind, YamlFault};
 pub use reader::read;

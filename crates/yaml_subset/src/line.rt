@@ -1,6 +1,9 @@
 //! A line with content.
 
-ghost use Rattle.std.specs.Prelude.{◌≡◌, drop};
+ghost use Rattle.std.specs.Prelude.{◌≡◌, drop, length};
+
+use crate::fault::FaultKind;
+use crate::place::Halt;
 
 /// A line of a text, read from a column on.
 #[derive(Clone, Copy)]
@@ -25,5 +28,12 @@ impl<'a> Line<'a> {
         } else {
             &[]
         }
+    }
+
+    /// The answer that the line has a fault of a kind at its begin.
+    pub fn fault(&self, kind: FaultKind) -> Halt
+        ensures { result ≡ Halt.At (record { kind = kind; line = self.now.number; left = length (drop self.now.indent self.now.raw.now) }) }
+    {
+        Halt::at(kind, self.number, self.text().len())
     }
 }

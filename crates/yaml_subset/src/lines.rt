@@ -1,17 +1,18 @@
 //! The lines of a text that have content.
 
-ghost use Rattle.std.specs.Prelude.{◌≡◌, ◌∷◌, ◌<◌, ◌≤◌, ◌==◌, ◌^◌, length, true, false, IfSome, IfOk, MatchOption};
-ghost use Rattle.std.specs.List.{position_or_len, list_any};
-ghost use Rattle.std.specs.Str.{chars, is_utf8};
-ghost use Rattle.yaml_subset.specs.Bytes.{is_forbidden};
+ghost use Rattle.std.specs.Prelude.{◌≡◌, ◌∷◌, ◌++◌, ◌<◌, ◌≤◌, ◌==◌, ◌^◌, length, IfSome, IfOk};
+ghost use Rattle.std.specs.List.{position_or_len};
+ghost use Rattle.std.specs.Option.{option_to_list};
+ghost use Rattle.std.specs.Str.{chars};
 ghost use Rattle.yaml_subset.specs.TextLines.{without_cr, lines_of};
-ghost use Rattle.yaml_subset.specs.Reading.{content_at, contents_from};
+ghost use Rattle.yaml_subset.specs.Reading.{utf8_front, forbidden_left, blemish_at, content_at, contents_from};
 ghost use Rattle.yaml_subset.specs.Inside.{text_option_view, lines_behind, lines_view, line_option_view, GivesOrFaults};
 
 use crate::bytes::{begins_blank, is_forbidden, is_marker, is_over};
-use crate::fault::{Fault, FaultKind};
+use crate::fault::FaultKind;
 use crate::line::Line;
-use crate::scan::{skipped, spaces_len};
+use crate::place::PlacedFault;
+use crate::scan::{behind_spaces, skipped, spaces_len};
 use std::alloc::{AllocError, Global};
 
 // How many bytes stand before the first LF.
@@ -53,58 +54,89 @@ fn split_line(text: &[u8]) -> (&[u8], Option<&[u8]>)
     }
 }
 
-// The text that bytes are, where they are UTF-8.
-fn text_of(raw: &[u8]) -> Option<&str>
-    ensures { MatchOption result (is_utf8 raw.now ≡ false) (λ text. (is_utf8 raw.now ≡ true) × (text.now ≡ raw.now)) }
+// The front of a line that is UTF-8.
+fn utf8_front(raw: &[u8]) -> &str
+    ensures { result.now ≡ utf8_front raw.now }
 {
     match std::str::from_utf8(raw) {
-        Ok(text) => Some(text),
-        Err(_) => None,
+        Ok(text) => text,
+        Err(e) => match std::str::from_utf8(&raw[..e.valid_up_to()]) {
+            Ok(front) => front,
+            Err(_) => "",
+        },
     }
 }
 
-// Whether a character stands in a text that none may have.
-fn has_forbidden(text: &str) -> bool
-    ensures { result ≡ list_any is_forbidden (chars text.now) }
+// How many bytes have the characters from the first one on that no text may have.
+fn forbidden_left(text: &str) -> usize
+    ensures within { result ≤ length text.now }
+    ensures value { result ≡ forbidden_left (chars text.now) }
 {
-    text.chars().any(|c| is_forbidden(c))
+    let mut left = text.len();
+    for c in text.chars() {
+        if is_forbidden(c) {
+            return left;
+        }
+        left -= c.len_utf8();
+    }
+    0
+}
+
+// The first character of a line that no text may have, or its first bytes that are not UTF-8.
+#[tactic(auto, unfolding(crate::specs::Reading::blemish_at))]
+fn blemish(number: u32, raw: &[u8]) -> Option<PlacedFault>
+    ensures { result ≡ blemish_at number raw.now }
+{
+    let front = utf8_front(raw);
+    let behind = raw.len() - front.len();
+    let left = forbidden_left(front);
+    if left > 0 {
+        return Some(PlacedFault::new(FaultKind::NotInSubset, number, left + behind));
+    }
+    if front.len() < raw.len() {
+        return Some(PlacedFault::new(FaultKind::NotUtf8, number, behind));
+    }
+    None
 }
 
 // The content of a line, or nothing where it is blank or a comment.
 #[tactic(auto, unfolding(crate::specs::Reading::content_at))]
-fn content(number: u32, raw: &[u8]) -> Result<Option<Line<'_>>, Fault>
+fn content(number: u32, raw: &[u8]) -> Result<Option<Line<'_>>, PlacedFault>
     ensures { GivesOrFaults line_option_view result (content_at number raw.now) }
 {
-    let text = match text_of(raw) {
-        Some(text) => text,
-        None => return Err(Fault::new(FaultKind::NotUtf8, number)),
-    };
-    if has_forbidden(text) {
-        return Err(Fault::new(FaultKind::NotInSubset, number));
-    }
     if is_over(skipped(raw)) {
         return Ok(None);
     }
-    let indent = spaces_len(raw);
-    let (_, text) = raw.split_at(indent);
+    let text = behind_spaces(raw);
     if begins_blank(text) {
-        return Err(Fault::new(FaultKind::Tab, number));
+        return Err(PlacedFault::new(FaultKind::Tab, number, text.len()));
     }
     if is_marker(raw) {
-        return Err(Fault::new(FaultKind::NotInSubset, number));
+        return Err(PlacedFault::new(FaultKind::NotInSubset, number, raw.len()));
     }
     Ok(Some(Line {
         number,
-        indent,
+        indent: spaces_len(raw),
         raw,
     }))
 }
 
-/// The lines with content up to the first line that has a fault by itself, and that fault.
+/// The lines with content up to the first line that has a fault by itself, and that fault. Where
+/// only the line's characters are at fault, it is the last of the lines.
 #[derive(Drop)]
 pub struct Contents<'a> {
     pub lines: Vec<Line<'a>>,
-    pub fault: Option<Fault>,
+    pub fault: Option<PlacedFault>,
+}
+
+// Puts a line behind others, where there is one.
+fn push_line<'a>(lines: &mut Vec<Line<'a>>, found: Option<Line<'a>>) -> Result<(), AllocError>
+    ensures { IfOk result (λ _. lines_view lines.new.items ≡ lines_view lines.old.items ++ option_to_list (line_option_view found.entry)) }
+{
+    if let Some(line) = found {
+        lines.push(line)?;
+    }
+    Ok(())
 }
 
 /// The lines of a text that have content.
@@ -126,8 +158,12 @@ pub fn content_lines(alloc: Global, text: &[u8]) -> Result<Contents<'_>, AllocEr
                 });
             }
         };
-        if let Some(line) = found {
-            lines.push(line)?;
+        push_line(&mut lines, found)?;
+        if let Some(fault) = blemish(number, raw) {
+            return Ok(Contents {
+                lines,
+                fault: Some(fault),
+            });
         }
         rest = after;
         number += 1;

@@ -9,13 +9,15 @@ ghost use Rattle.yaml_subset.specs.View.{node_view, Gives};
 use crate::block::tree;
 use crate::fault::{FaultKind, YamlFault};
 use crate::lines::content_lines;
+use crate::place::Halt;
 use crate::tree::Tree;
 use std::alloc::Global;
 
 /// The most bytes that a text may have: 1 MiB.
 pub const MAX_BYTES: usize = 1_048_576;
 
-/// The most mappings that may stand one inside the other, the one of the text itself among them.
+/// The most sequences and mappings of lines that may stand one inside the other, the one of the text
+/// itself among them.
 pub const MAX_LEVELS: u8 = 32;
 
 // The tree of a text, or its first fault.
@@ -27,28 +29,34 @@ fn read_exactly(alloc: Global, text: &[u8]) -> Result<Tree, YamlFault>
         return Err(YamlFault::at(FaultKind::TooLong, 1));
     }
     let found = content_lines(alloc, text)?;
-    let tree = tree(alloc, &found.lines, MAX_LEVELS)?;
-    match found.fault {
-        None => Ok(tree),
-        Some(fault) => Err(YamlFault::Text(fault)),
+    match tree(alloc, &found.lines, MAX_LEVELS) {
+        Ok(tree) => match found.fault {
+            None => Ok(tree),
+            Some(fault) => Err(YamlFault::at(fault.kind, fault.line)),
+        },
+        Err(Halt::NoMemory) => Err(YamlFault::NoMemory),
+        Err(Halt::At(fault)) => {
+            let first = fault.or_known(found.fault);
+            Err(YamlFault::at(first.kind, first.line))
+        }
     }
 }
 
 /// The tree of a text, or its first fault: the fault of the first line that has one, and there the
-/// left one, but that bytes which are not UTF-8 and characters which no text may have are found
-/// before all else on their line. A text of more than 1 MiB is `TooLong` at line 1, whatever else
-/// is wrong with it. A text without content is an empty mapping at line 1.
+/// left one; in the same place bytes which are not UTF-8 or a character which no text may have. A
+/// text of more than 1 MiB is `TooLong` at line 1, whatever else is wrong with it. A text without
+/// content is an empty mapping at line 1.
 ///
 /// `NoMemory` is answered where memory runs out before a fault is found.
 pub fn read(alloc: Global, text: &[u8]) -> Result<Tree, YamlFault>
     // What is read is the tree of the text.
-    ensures found { IfOk result (λ tree. IsTreeOf 32 text.now (node_view tree)) }
+    ensures found { IfOk result (λ tree. IsTreeOf 32 8 text.now (node_view tree)) }
 
     // The text has no other tree, however many levels are allowed.
-    ensures only { IfOk result (λ tree. (levels : ℕ) (t : Node) → IsTreeOf levels text.now t → t ≡ node_view tree) }
+    ensures only { IfOk result (λ tree. (levels depth : ℕ) (t : Node) → IsTreeOf levels depth text.now t → t ≡ node_view tree) }
 
     // A text that is refused has no tree within the limits.
-    ensures refused { IfErr result (λ e. e ≢ YamlFault.NoMemory → (levels : ℕ) (t : Node) → IsTreeOf levels text.now t → IsAbove levels text.now) }
+    ensures refused { IfErr result (λ e. e ≢ YamlFault.NoMemory → (levels depth : ℕ) (t : Node) → IsTreeOf levels depth text.now t → IsAbove levels depth text.now) }
 
     // Which fault it is, and its line, is what reading line by line gives.
     ensures exact { Gives node_view result (read_at text.now) }

@@ -2,9 +2,11 @@
 
 ghost use Rattle.std.specs.Prelude.{◌≡◌, ◌≤◌, length};
 ghost use Rattle.yaml_subset.specs.Bytes.{characters};
-ghost use Rattle.yaml_subset.specs.Scanning.{skipped, trimmed, plain_len, plain_front, plain_rest, spaces_len};
+ghost use Rattle.yaml_subset.specs.Plain.{ends_word};
+ghost use Rattle.yaml_subset.specs.Scanning.{skipped, trimmed, word_len, word_front, word_rest, spaces_len, behind_spaces, behind_dash, before_colon};
+ghost use Rattle.yaml_subset.specs.Inside.{text_option_view};
 
-use crate::bytes::{begins_character, begins_gap, is_blank};
+use crate::bytes::{begins_break, begins_character, begins_gap, is_blank, is_flow_indicator};
 
 /// A text without the blanks at its front.
 pub fn skipped(text: &[u8]) -> &[u8]
@@ -34,16 +36,30 @@ pub fn trimmed(text: &[u8]) -> &[u8]
     rest
 }
 
-// How many bytes a plain text has, the blanks at its end too.
-fn plain_len(text: &[u8]) -> usize
+// Whether a plain word ends before what follows, behind this byte.
+fn ends_word(flow: bool, before: u8, text: &[u8]) -> bool
+    ensures { result ≡ ends_word flow before text.now }
+{
+    match text {
+        [] => true,
+        [b, after @ ..] => {
+            (flow && is_flow_indicator(*b))
+                || (*b == b'#' && is_blank(before))
+                || (*b == b':' && begins_break(flow, after))
+        }
+    }
+}
+
+// How many bytes a plain word has, the blanks at its end too.
+fn word_len(flow: bool, text: &[u8]) -> usize
     ensures within { result ≤ length text.now }
-    ensures value { result ≡ plain_len 32 text.now }
+    ensures value { result ≡ word_len flow 32 text.now }
 {
     let mut len = 0;
     let mut before = b' ';
     let mut rest = text;
     while let [b, after @ ..] = rest {
-        if (*b == b'#' && is_blank(before)) || (*b == b':' && begins_gap(after)) {
+        if ends_word(flow, before, rest) {
             break;
         }
         before = *b;
@@ -53,12 +69,12 @@ fn plain_len(text: &[u8]) -> usize
     len
 }
 
-/// The plain text at the front, with the blanks at its end, and what follows it.
-pub fn split_plain(text: &[u8]) -> (&[u8], &[u8])
-    ensures front { result.0.now ≡ plain_front text.now }
-    ensures rest { result.1.now ≡ plain_rest text.now }
+/// The plain word at the front, with the blanks at its end, and what follows it.
+pub fn split_word(flow: bool, text: &[u8]) -> (&[u8], &[u8])
+    ensures front { result.0.now ≡ word_front flow text.now }
+    ensures rest { result.1.now ≡ word_rest flow text.now }
 {
-    text.split_at(plain_len(text))
+    text.split_at(word_len(flow, text))
 }
 
 /// The number of characters.
@@ -88,4 +104,36 @@ pub fn spaces_len(text: &[u8]) -> usize
         len += 1;
     }
     len
+}
+
+/// A text without the spaces at its front.
+pub fn behind_spaces(text: &[u8]) -> &[u8]
+    ensures { result.now ≡ behind_spaces text.now }
+{
+    let (_, rest) = text.split_at(spaces_len(text));
+    rest
+}
+
+/// What stands behind the `-` of an item, where a text is one.
+pub fn behind_dash(text: &[u8]) -> Option<&[u8]>
+    ensures { text_option_view result ≡ behind_dash text.now }
+{
+    match text {
+        [] => None,
+        [b, after @ ..] => {
+            if *b == b'-' && begins_gap(after) {
+                Some(after)
+            } else {
+                None
+            }
+        }
+    }
+}
+
+/// What stands before the colon of an entry, and after it this.
+pub fn before_colon<'a>(text: &'a [u8], after: &[u8]) -> &'a [u8]
+    ensures { result.now ≡ before_colon text.now after.now }
+{
+    let (front, _) = text.split_at(text.len().saturating_sub(after.len() + 1));
+    front
 }

@@ -1,7 +1,7 @@
 //! What a text says.
 
 ghost use Rattle.std.specs.Prelude.{◌≡◌, map};
-ghost use Rattle.yaml_subset.specs.View.{node_view, pair_view, line_of, text_in, pairs_in, option_slice};
+ghost use Rattle.yaml_subset.specs.View.{node_view, pair_view, line_of, text_in, items_in, pairs_in, option_slice};
 
 /// A key, with the line where it begins.
 #[derive(Debug, Drop)]
@@ -40,6 +40,16 @@ impl Tree {
     {
         match self {
             Tree::Scalar(_, text) => Some(text),
+            _ => None,
+        }
+    }
+
+    /// The nodes of a list.
+    pub fn as_list(&self) -> Option<&[Tree]>
+        ensures { option_slice (map node_view) result ≡ items_in (node_view self.now) }
+    {
+        match self {
+            Tree::List(_, items) => Some(items),
             _ => None,
         }
     }

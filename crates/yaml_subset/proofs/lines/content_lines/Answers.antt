@@ -1,12 +1,10 @@
-use Rattle.std.proofs.Common.{◌≡◌, ◌<◌, Option, Some, None, List, ℕ, [], ◌∷◌, ◌++◌, length, ap, arith}
+use Rattle.std.proofs.Common.{◌≡◌, ◌<◌, Option, Some, None, List, ℕ, ◌∷◌, length, sym, ap, ◌∙◌, arith}
 use Rattle.std.specs.Borrow.{Bor}
 use Rattle.std.specs.Option.{IfSome}
-use Rattle.std.proofs.lemmas.List.{map_push}
 use Rattle.yaml_subset.specs.TextLines.{lines_of}
 use Rattle.yaml_subset.specs.Reading.{contents_from}
-use Rattle.yaml_subset.specs.Inside.{lines_view, line_view, text_option_view, lines_behind}
-use Rattle.yaml_subset.proofs.LineCuts.{room, skips, adds, stops, all_read}
-use Rattle.yaml_subset.proofs.lines.content_lines.Goals.{in-Some-found+in_ok-push, in_default-found}
+use Rattle.yaml_subset.specs.Inside.{lines_view, line_option_view, text_option_view, lines_behind}
+use Rattle.yaml_subset.proofs.LineCuts.{room, goes_on, stops, stops_behind, all_read}
 use Rattle.yaml_subset.proofs.lines.content_lines.Goals as goal
 
 less_room : (rest after : Option (Bor (List ℕ))) (current : Bor (List ℕ)) → rest ≡ Some current → IfSome after (λ s. length s.now < length current.now) → room after < room rest
@@ -17,23 +15,14 @@ pub loop-rest-preserved : goal.loop-rest-preserved
 loop-rest-preserved c =
     let shrinks = less_room c.loop-rest.rest c.split_line.result.1 c.in-Some.current c.in-Some.is c.split_line.ensures.shorter in
     let total = contents_from 1 (lines_of c.args.text.now) in
-    let front = lines_view c.loop-rest.lines.items in
     let rest = text_option_view c.loop-rest.rest in
     let raw = c.split_line.result.0.now in
     let after = text_option_view c.split_line.result.1 in
     let lines : lines_behind rest ≡ raw ∷ lines_behind after = rw c.in-Some.is c.split_line.ensures.lines in
     record {
       few = omega arith;
-      so_far = elim c.match-found.branch [
-        | in-Some-found+in_ok-push w ↦
-            let l = w.in-Some-found.line in
-            let e = rw w.in-Some-found.is at c.in-Ok.ensures in
-            let is : lines_view c.match-found.lines.items ≡ front ++ line_view l ∷ [] = rw (w.lines-is, w.in_ok-push.ensures.items) (map_push line_view c.loop-rest.lines.items l) in
-            rw is (adds front c.loop-rest.number rest raw after total lines (line_view l) e c.loop-rest.invariant.so_far)
-        | in_default-found w ↦
-            let e = rw w.in_default-found.is at c.in-Ok.ensures in
-            rw w.lines-is (skips front c.loop-rest.number rest raw after total lines e c.loop-rest.invariant.so_far)
-      ];
+      so_far = rw c.in_ok-push_line.ensures
+          (goes_on (lines_view c.loop-rest.lines.items) c.loop-rest.number rest raw after total lines c.loop-rest.invariant.so_far (line_option_view c.in-Ok.found) c.in-Ok.ensures (sym c.blemish.ensures ∙ c.in_default-blemish.is));
     }
 
 pub returns-in-Err : goal.returns-in-Err
@@ -42,7 +31,16 @@ returns-in-Err c =
     let raw = c.split_line.result.0.now in
     let after = text_option_view c.split_line.result.1 in
     let lines : lines_behind rest ≡ raw ∷ lines_behind after = rw c.in-Some.is c.split_line.ensures.lines in
-    stops (lines_view c.loop-rest.lines.items) c.loop-rest.number rest raw after (contents_from 1 (lines_of c.args.text.now)) lines c.in-Err.fault c.in-Err.ensures c.loop-rest.invariant.so_far
+    stops (lines_view c.loop-rest.lines.items) c.loop-rest.number rest raw after (contents_from 1 (lines_of c.args.text.now)) lines c.loop-rest.invariant.so_far c.in-Err.fault c.in-Err.ensures
+
+pub returns-in-Some-blemish : goal.returns-in-Some-blemish
+returns-in-Some-blemish c =
+    let rest = text_option_view c.loop-rest.rest in
+    let raw = c.split_line.result.0.now in
+    let after = text_option_view c.split_line.result.1 in
+    let lines : lines_behind rest ≡ raw ∷ lines_behind after = rw c.in-Some.is c.split_line.ensures.lines in
+    rw c.in_ok-push_line.ensures
+    (stops_behind (lines_view c.loop-rest.lines.items) c.loop-rest.number rest raw after (contents_from 1 (lines_of c.args.text.now)) lines c.loop-rest.invariant.so_far (line_option_view c.in-Ok.found) c.in-Some-blemish.fault c.in-Ok.ensures (sym c.blemish.ensures ∙ c.in-Some-blemish.is))
 
 pub returns : goal.returns
 returns c = all_read (lines_view c.loop-rest.lines.items) c.loop-rest.number (text_option_view c.loop-rest.rest) (contents_from 1 (lines_of c.args.text.now)) (ap text_option_view c.in_default.is) c.loop-rest.invariant.so_far

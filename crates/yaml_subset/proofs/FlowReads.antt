@@ -1,0 +1,293 @@
+-- A list or mapping is what reading it from the left gives, and nothing else.
+use Rattle.std.proofs.Common.{◌≡◌, ℕ, zero, suc, ◌+◌, ◌-◌, ◌≤◌, ◌<◌, ltb, ◌==◌, true, false, cond, List, [], ◌∷◌, ◌++◌, length, take, Result, Ok, Err, refl, sym, ap, subst, ◌∙◌, inl, inr, arith, length-append, zero-add}
+use Rattle.std.proofs.lemmas.Bool.{eqb-true, le-ltb, ltb-false}
+use Rattle.std.proofs.Math.Seq.{take-append_seam}
+use Rattle.yaml_subset.specs.declared.fault.FaultKind.TheVariants.{DuplicateKey, Flow, NotInSubset}
+use Rattle.yaml_subset.specs.declared.flaw.Flaw.{Flaw}
+use Rattle.yaml_subset.specs.Bytes.{characters}
+use Rattle.yaml_subset.specs.Keys.{is_among}
+use Rattle.yaml_subset.specs.Node.{Node, scalar, sequence, mapping, Pair, nodes_of, pairs_of}
+use Rattle.yaml_subset.specs.Part.{◌>>=◌, flaw_at}
+use Rattle.yaml_subset.specs.Words.{IsWord, word_at}
+use Rattle.yaml_subset.specs.Flow.{begins_bracket, keys_of, ArePartsTo, IsBetween, IsFlowPair, IsBracketed, IsFlowValue, IsFlow, start_at, behind_colon_at, between_at, flow_pair_at, flow_list_at, flow_mapping_at, bracketed_at, flow_value_at, flow_at}
+use Rattle.yaml_subset.proofs.KeySets.{fresh_sound, fresh_complete}
+use Rattle.yaml_subset.proofs.Steps.{bind_ok, guard_true, guard_false}
+use Rattle.yaml_subset.proofs.Steps.{chosen}
+use Rattle.yaml_subset.proofs.WordTexts.{word_parts}
+use Rattle.yaml_subset.proofs.FlowParts.{part_is, BeginsPart, Reads, part_goes_on, start_sound, start_complete, behind_shorter, colon_sound, colon_complete, closes_list, closes_mapping, between_sound, between_complete, between_shorter}
+use Rattle.yaml_subset.proofs.FlowWords.{word_begins_part, word_reads}
+
+abbrev pub ValueReader : Type 0
+ValueReader = List ℕ → Result (Node × List ℕ) Flaw
+
+abbrev pub ValueRelation : Type 1
+ValueRelation = List ℕ → Node → List ℕ → Type 0
+
+-- what stands in front of the rest
+front_is : (text front rest : List ℕ) → text ≡ front ++ rest → take (length text - length rest) text ≡ front
+front_is text front rest e =
+    let k : length front ≡ length text - length rest = omega (arith, ap length e, length-append front rest) in
+    subst (λ n. take n text ≡ front) k (ap (take (length front)) e ∙ take-append_seam front rest)
+
+bind_same : {A B : Type 0} (r : Result A Flaw) (f g : A → Result B Flaw) → ((x : A) → f x ≡ g x) → (r >>= f) ≡ (r >>= g)
+bind_same (Ok x) f g same = same x
+bind_same (Err e) f g same = refl
+
+-- ---- pairs
+
+module _ (n : ℕ) (value : ValueReader) where
+  -- a pair whose value was read, and the steps before that, the last first
+  abbrev made : List ℕ → Node × List ℕ → Result (Pair × List ℕ) Flaw
+  made key v = Ok (record { line = n; key = key; value = v.0 }, v.1)
+
+  abbrev inside : List ℕ → List ℕ → Result (Pair × List ℕ) Flaw
+  inside key after = start_at after >>= λ inner. value inner >>= made key
+
+  abbrev measured : List ℕ → List ℕ × List ℕ → List ℕ → Result (Pair × List ℕ) Flaw
+  measured text w after = cond (ltb 1024 (characters (take (length text - length w.1) text))) (flaw_at NotInSubset (length w.1)) (inside w.0 after)
+
+  abbrev compared : List (List ℕ) → List ℕ → List ℕ × List ℕ → List ℕ → Result (Pair × List ℕ) Flaw
+  compared keys text w after = cond (is_among keys w.0) (flaw_at DuplicateKey (length text)) (measured text w after)
+
+  abbrev behind_key : List (List ℕ) → List ℕ → List ℕ × List ℕ → Result (Pair × List ℕ) Flaw
+  behind_key keys text w = behind_colon_at w.1 >>= compared keys text w
+
+  -- a key is compared with those before it, whatever their order
+  pub pair_same : (keys others : List (List ℕ)) (text : List ℕ) → ((q : List ℕ) → is_among keys q ≡ is_among others q) → flow_pair_at n value keys text ≡ flow_pair_at n value others text
+  unfolding flow_pair_at
+  pair_same keys others text same =
+      bind_same (word_at true text) (behind_key keys text) (behind_key others text)
+      (λ w. bind_same (behind_colon_at w.1) (compared keys text w) (compared others text w) (λ after. rw (same w.0) refl))
+
+module _ (n : ℕ) (value : ValueReader) (R : ValueRelation) (reads : Reads value R) where
+  pair_of : (before : List Pair) (text : List ℕ) (w : List ℕ × List ℕ) (after inner : List ℕ) (v : Node × List ℕ) (p : Pair) (rest : List ℕ)
+      → word_at true text ≡ Ok w → behind_colon_at w.1 ≡ Ok after → is_among (keys_of before) w.0 ≡ false → ltb 1024 (characters (take (length text - length w.1) text)) ≡ false → start_at after ≡ Ok inner → value inner ≡ Ok v
+      → made n value w.0 v ≡ Ok (p, rest) → IsFlowPair n R before text p rest
+  pair_of before text w after inner v p rest e c a l s r m =
+      let colon = colon_sound w.1 after c in
+      let is_word = word_reads.sound text w.0 w.1 e in
+      let f = word_parts true text w.0 w.1 is_word in
+      let few : characters (take (length text - length w.1) text) ≤ 1024 = ltb-false 1024 (characters (take (length text - length w.1) text)) l in
+      subst (λ (q : Pair × List ℕ). IsFlowPair n R before text q.0 q.1) (part_is (record { line = n; key = w.0; value = v.0 }, v.1) (p, rest) m) (record {
+        line = refl;
+        after = after;
+        is_key = subst (IsWord true text w.0) colon.0 is_word;
+        gap = colon.1;
+        fresh = fresh_sound (keys_of before) w.0 a;
+        front = f.0;
+        parts = f.1 ∙ ap (λ (xs : List ℕ). f.0 ++ xs) colon.0;
+        near = subst (λ xs. characters xs ≤ 1024) (front_is text f.0 w.1 f.1) few;
+        inner = inner;
+        behind = start_sound after inner s;
+        value = reads.sound inner v.0 v.1 r;
+      })
+
+  pair_sound : (before : List Pair) (text : List ℕ) (p : Pair) (rest : List ℕ) → flow_pair_at n value (keys_of before) text ≡ Ok (p, rest) → IsFlowPair n R before text p rest
+  unfolding flow_pair_at
+  pair_sound before text p rest e =
+      let keys = keys_of before in
+      let w = bind_ok (word_at true text) (behind_key n value keys text) (p, rest) e in
+      let c = bind_ok (behind_colon_at w.0.1) (compared n value keys text w.0) (p, rest) w.2 in
+      let a = guard_false (is_among keys w.0.0) (measured n value text w.0 c.0) (record { kind = DuplicateKey; left = length text }) (p, rest) c.2 in
+      let l = guard_false (ltb 1024 (characters (take (length text - length w.0.1) text))) (inside n value w.0.0 c.0) (record { kind = NotInSubset; left = length w.0.1 }) (p, rest) a.1 in
+      let s = bind_ok (start_at c.0) (λ inner. value inner >>= made n value w.0.0) (p, rest) l.1 in
+      let v = bind_ok (value s.0) (made n value w.0.0) (p, rest) s.2 in
+      pair_of before text w.0 c.0 s.0 v.0 p rest w.1 c.1 a.0 l.0 s.1 v.1 v.2
+
+  pair_complete : (before : List Pair) (text : List ℕ) (p : Pair) (rest : List ℕ) → IsFlowPair n R before text p rest → flow_pair_at n value (keys_of before) text ≡ Ok (p, rest)
+  unfolding flow_pair_at
+  pair_complete before text p rest h =
+      let few : ltb 1024 (characters (take (length text - length (58 ∷ h.after)) text)) ≡ false =
+      subst (λ xs. ltb 1024 (characters xs) ≡ false) (sym (front_is text h.front (58 ∷ h.after) h.parts)) (le-ltb 1024 (characters h.front) h.near) in
+      let inside = start_complete h.after h.inner h.behind (part_goes_on h.inner (reads.begins h.inner p.value rest h.value)) in
+      rw (word_reads.complete text p.key (58 ∷ h.after) h.is_key, colon_complete h.after h.gap, fresh_complete (keys_of before) p.key h.fresh, few, inside, reads.complete h.inner p.value rest h.value)
+      (ap (λ (m : ℕ). Ok (record { line = m; key = p.key; value = p.value }, rest)) (sym h.line))
+
+  pair_shorter : (before : List Pair) (text : List ℕ) (p : Pair) (rest : List ℕ) → IsFlowPair n R before text p rest → length rest < length text
+  pair_shorter before text p rest h =
+      omega (arith, ap length h.parts, length-append h.front (58 ∷ h.after), behind_shorter h.after h.inner h.behind, reads.shorter h.inner p.value rest h.value)
+
+  pub pair_reads : (before : List Pair) → Reads (flow_pair_at n value (keys_of before)) (IsFlowPair n R before)
+  pair_reads before = record {
+    sound = pair_sound before;
+    complete = pair_complete before;
+    shorter = pair_shorter before;
+    begins = λ text p rest h. (word_begins_part text p.key (58 ∷ h.after) h.is_key).0;
+  }
+
+  -- ---- lists and mappings
+
+  list_sound : (after : List ℕ) (t : Node) (rest : List ℕ) → flow_list_at n value after ≡ Ok (t, rest) → (items : List Node) × IsBetween 91 93 (λ before. R) (91 ∷ after) items rest × (t ≡ sequence n (nodes_of items))
+  unfolding flow_list_at
+  list_sound after t rest e =
+      let b = bind_ok (between_at 93 (λ before. value) after) (λ r. Ok (sequence n (nodes_of r.0), r.1)) (t, rest) e in
+      let q = part_is (sequence n (nodes_of b.0.0), b.0.1) (t, rest) b.2 in
+      let ends : b.0.1 ≡ rest = ap (λ (z : Node × List ℕ). z.1) q in
+      let between : IsBetween 91 93 (λ before. R) (91 ∷ after) b.0.0 b.0.1 = between_sound 93 closes_list (λ before. value) (λ before. R) (λ before. reads) 91 after b.0.0 b.0.1 b.1 in
+      (b.0.0, subst (IsBetween 91 93 (λ before. R) (91 ∷ after) b.0.0) ends between, sym (ap (λ (z : Node × List ℕ). z.0) q))
+
+  mapping_sound : (after : List ℕ) (t : Node) (rest : List ℕ) → flow_mapping_at n value after ≡ Ok (t, rest) → (pairs : List Pair) × IsBetween 123 125 (IsFlowPair n R) (123 ∷ after) pairs rest × (t ≡ mapping n (pairs_of pairs))
+  unfolding flow_mapping_at
+  mapping_sound after t rest e =
+      let part : List Pair → List ℕ → Result (Pair × List ℕ) Flaw = λ before. flow_pair_at n value (keys_of before) in
+      let b = bind_ok (between_at 125 part after) (λ r. Ok (mapping n (pairs_of r.0), r.1)) (t, rest) e in
+      let q = part_is (mapping n (pairs_of b.0.0), b.0.1) (t, rest) b.2 in
+      let ends : b.0.1 ≡ rest = ap (λ (z : Node × List ℕ). z.1) q in
+      let between : IsBetween 123 125 (IsFlowPair n R) (123 ∷ after) b.0.0 b.0.1 = between_sound 125 closes_mapping part (IsFlowPair n R) pair_reads 123 after b.0.0 b.0.1 b.1 in
+      (b.0.0, subst (IsBetween 123 125 (IsFlowPair n R) (123 ∷ after) b.0.0) ends between, sym (ap (λ (z : Node × List ℕ). z.0) q))
+
+  bracketed_sound : (text : List ℕ) (t : Node) (rest : List ℕ) → bracketed_at n value text ≡ Ok (t, rest) → IsBracketed n R text t rest
+  unfolding bracketed_at
+  bracketed_sound [] t rest e = absurd cc
+  bracketed_sound (b ∷ after) t rest e =
+      elim (chosen (b == 91) (flow_list_at n value after) (cond (b == 123) (flow_mapping_at n value after) (flaw_at Flow (length (b ∷ after)))) (Ok (t, rest)) e) [
+        | inl p ↦ inl (subst (λ (x : ℕ). (items : List Node) × IsBetween 91 93 (λ before. R) (x ∷ after) items rest × (t ≡ sequence n (nodes_of items))) (sym (eqb-true b 91 p.0)) (list_sound after t rest p.1))
+        | inr p ↦
+            let g = guard_true (b == 123) (flow_mapping_at n value after) (record { kind = Flow; left = length (b ∷ after) }) (t, rest) p.1 in
+            inr (subst (λ (x : ℕ). (pairs : List Pair) × IsBetween 123 125 (IsFlowPair n R) (x ∷ after) pairs rest × (t ≡ mapping n (pairs_of pairs))) (sym (eqb-true b 123 g.0)) (mapping_sound after t rest g.1))
+      ]
+
+  bracketed_complete : (text : List ℕ) (t : Node) (rest : List ℕ) → IsBracketed n R text t rest → bracketed_at n value text ≡ Ok (t, rest)
+  unfolding bracketed_at flow_list_at flow_mapping_at
+  bracketed_complete text t rest (inl h) =
+      rw (h.1.opens, between_complete 93 closes_list (λ before. value) (λ before. R) (λ before. reads) 91 text h.0 rest h.1, h.2) refl
+  bracketed_complete text t rest (inr h) =
+      rw (h.1.opens, between_complete 125 closes_mapping (λ before. flow_pair_at n value (keys_of before)) (IsFlowPair n R) pair_reads 123 text h.0 rest h.1, h.2) refl
+
+  bracketed_shorter : (text : List ℕ) (t : Node) (rest : List ℕ) → IsBracketed n R text t rest → length rest < length text
+  bracketed_shorter text t rest (inl h) = between_shorter 93 closes_list (λ before. value) (λ before. R) (λ before. reads) 91 text h.0 rest h.1
+  bracketed_shorter text t rest (inr h) = between_shorter 125 closes_mapping (λ before. flow_pair_at n value (keys_of before)) (IsFlowPair n R) pair_reads 123 text h.0 rest h.1
+
+bracketed_begins : (n : ℕ) (R : ValueRelation) (text : List ℕ) (t : Node) (rest : List ℕ) → IsBracketed n R text t rest → BeginsPart text × (begins_bracket text ≡ true)
+bracketed_begins n R text t rest (inl h) =
+    (record { first = 91; others = h.1.after; parts = h.1.opens; no_list_end = λ e. omega (arith, e); no_mapping_end = λ e. omega (arith, e); no_comment = λ e. omega (arith, e) }, rw h.1.opens refl)
+bracketed_begins n R text t rest (inr h) =
+    (record { first = 123; others = h.1.after; parts = h.1.opens; no_list_end = λ e. omega (arith, e); no_mapping_end = λ e. omega (arith, e); no_comment = λ e. omega (arith, e) }, rw h.1.opens refl)
+
+-- ---- values
+
+module _ (n : ℕ) (inner : ValueReader) (R : ValueRelation) (reads : Reads inner R) (opens : (text : List ℕ) (t : Node) (rest : List ℕ) → R text t rest → begins_bracket text ≡ true) where
+  value_sound : (text : List ℕ) (t : Node) (rest : List ℕ) → flow_value_at n inner text ≡ Ok (t, rest) → IsFlowValue n R text t rest
+  unfolding flow_value_at
+  value_sound text t rest e =
+      elim (chosen (begins_bracket text) (inner text) (word_at true text >>= λ w. Ok (scalar n w.0, w.1)) (Ok (t, rest)) e) [
+        | inl p ↦ inr (reads.sound text t rest p.1)
+        | inr p ↦
+            let b = bind_ok (word_at true text) (λ w. Ok (scalar n w.0, w.1)) (t, rest) p.1 in
+            let q = part_is (scalar n b.0.0, b.0.1) (t, rest) b.2 in
+            let ends : b.0.1 ≡ rest = ap (λ (z : Node × List ℕ). z.1) q in
+            inl (b.0.0, subst (IsWord true text b.0.0) ends (word_reads.sound text b.0.0 b.0.1 b.1), sym (ap (λ (z : Node × List ℕ). z.0) q))
+      ]
+
+  value_complete : (text : List ℕ) (t : Node) (rest : List ℕ) → IsFlowValue n R text t rest → flow_value_at n inner text ≡ Ok (t, rest)
+  unfolding flow_value_at
+  value_complete text t rest (inl w) = rw ((word_begins_part text w.0 rest w.1).1, word_reads.complete text w.0 rest w.1, w.2) refl
+  value_complete text t rest (inr h) = rw (opens text t rest h) (reads.complete text t rest h)
+
+  value_shorter : (text : List ℕ) (t : Node) (rest : List ℕ) → IsFlowValue n R text t rest → length rest < length text
+  value_shorter text t rest (inl w) = word_reads.shorter text w.0 rest w.1
+  value_shorter text t rest (inr h) = reads.shorter text t rest h
+
+  value_begins : (text : List ℕ) (t : Node) (rest : List ℕ) → IsFlowValue n R text t rest → BeginsPart text
+  value_begins text t rest (inl w) = word_reads.begins text w.0 rest w.1
+  value_begins text t rest (inr h) = reads.begins text t rest h
+
+  pub value_reads : Reads (flow_value_at n inner) (IsFlowValue n R)
+  value_reads = record { sound = value_sound; complete = value_complete; shorter = value_shorter; begins = value_begins }
+
+-- ---- all levels
+
+-- a list or mapping begins with its bracket or brace
+pub flow_begins : (levels n : ℕ) (text : List ℕ) (t : Node) (rest : List ℕ) → IsFlow levels n text t rest → begins_bracket text ≡ true
+flow_begins zero n text t rest h = absurd h
+flow_begins (suc levels) n text t rest h = (bracketed_begins n (IsFlowValue n (IsFlow levels n)) text t rest h).1
+
+pub flow_reads : (levels n : ℕ) → Reads (flow_at levels n) (IsFlow levels n)
+unfolding flow_at
+flow_reads zero n = record { sound = λ text t rest e. absurd cc; complete = λ text t rest h. absurd h; shorter = λ text t rest h. absurd h; begins = λ text t rest h. absurd h }
+flow_reads (suc levels) n =
+    let value = flow_value_at n (flow_at levels n) in
+    let R = IsFlowValue n (IsFlow levels n) in
+    let reads = value_reads n (flow_at levels n) (IsFlow levels n) (flow_reads levels n) (flow_begins levels n) in
+    record {
+      sound = bracketed_sound n value R reads;
+      complete = bracketed_complete n value R reads;
+      shorter = bracketed_shorter n value R reads;
+      begins = λ text t rest h. (bracketed_begins n R text t rest h).0;
+    }
+
+pub flow_sound : (levels n : ℕ) (text : List ℕ) (t : Node) (rest : List ℕ) → flow_at levels n text ≡ Ok (t, rest) → IsFlow levels n text t rest
+flow_sound levels n text t rest e = (flow_reads levels n).sound text t rest e
+
+pub flow_complete : (levels n : ℕ) (text : List ℕ) (t : Node) (rest : List ℕ) → IsFlow levels n text t rest → flow_at levels n text ≡ Ok (t, rest)
+flow_complete levels n text t rest h = (flow_reads levels n).complete text t rest h
+
+-- ---- what a loop needs: each part has a byte
+
+pub value_less : (levels n : ℕ) (text : List ℕ) (t : Node) (rest : List ℕ) → flow_value_at n (flow_at levels n) text ≡ Ok (t, rest) → length rest < length text
+value_less levels n text t rest e =
+    let reads = value_reads n (flow_at levels n) (IsFlow levels n) (flow_reads levels n) (flow_begins levels n) in
+    reads.shorter text t rest (reads.sound text t rest e)
+
+pub pair_less : (levels n : ℕ) (before : List Pair) (text : List ℕ) (p : Pair) (rest : List ℕ) → flow_pair_at n (flow_value_at n (flow_at levels n)) (keys_of before) text ≡ Ok (p, rest) → length rest < length text
+pair_less levels n before text p rest e =
+    let value = value_reads n (flow_at levels n) (IsFlow levels n) (flow_reads levels n) (flow_begins levels n) in
+    let reads = pair_reads n (flow_value_at n (flow_at levels n)) (IsFlowValue n (IsFlow levels n)) value before in
+    reads.shorter text p rest (reads.sound text p rest e)
+
+-- ---- more levels change nothing
+
+module _ (n : ℕ) (R S : ValueRelation) (more : (text : List ℕ) (t : Node) (rest : List ℕ) → R text t rest → S text t rest) where
+  items_more : (before : List Node) (text : List ℕ) (ts : List Node) (rest : List ℕ) → ArePartsTo 93 (λ before. R) before text ts rest → ArePartsTo 93 (λ before. S) before text ts rest
+  items_more before text [] rest h = h
+  items_more before text (t ∷ ts) rest h = (h.0, h.1, more text t h.0 h.2, h.3, items_more (before ++ t ∷ []) h.1 ts rest h.4)
+
+  pair_more : (before : List Pair) (text : List ℕ) (p : Pair) (rest : List ℕ) → IsFlowPair n R before text p rest → IsFlowPair n S before text p rest
+  pair_more before text p rest h = record {
+    line = h.line;
+    after = h.after;
+    is_key = h.is_key;
+    gap = h.gap;
+    fresh = h.fresh;
+    front = h.front;
+    parts = h.parts;
+    near = h.near;
+    inner = h.inner;
+    behind = h.behind;
+    value = more h.inner p.value rest h.value;
+  }
+
+  pairs_more : (before : List Pair) (text : List ℕ) (ps : List Pair) (rest : List ℕ) → ArePartsTo 125 (IsFlowPair n R) before text ps rest → ArePartsTo 125 (IsFlowPair n S) before text ps rest
+  pairs_more before text [] rest h = h
+  pairs_more before text (p ∷ ps) rest h = (h.0, h.1, pair_more before text p h.0 h.2, h.3, pairs_more (before ++ p ∷ []) h.1 ps rest h.4)
+
+  bracketed_more : (text : List ℕ) (t : Node) (rest : List ℕ) → IsBracketed n R text t rest → IsBracketed n S text t rest
+  bracketed_more text t rest (inl h) =
+      inl (h.0, record { after = h.1.after; opens = h.1.opens; body = h.1.body; behind = h.1.behind; each = items_more [] h.1.body h.0 rest h.1.each }, h.2)
+  bracketed_more text t rest (inr h) =
+      inr (h.0, record { after = h.1.after; opens = h.1.opens; body = h.1.body; behind = h.1.behind; each = pairs_more [] h.1.body h.0 rest h.1.each }, h.2)
+
+value_more : (n : ℕ) (R S : ValueRelation) (more : (text : List ℕ) (t : Node) (rest : List ℕ) → R text t rest → S text t rest) (text : List ℕ) (t : Node) (rest : List ℕ) → IsFlowValue n R text t rest → IsFlowValue n S text t rest
+value_more n R S more text t rest (inl w) = inl w
+value_more n R S more text t rest (inr h) = inr (more text t rest h)
+
+one_more : (levels n : ℕ) (text : List ℕ) (t : Node) (rest : List ℕ) → IsFlow levels n text t rest → IsFlow (suc levels) n text t rest
+one_more zero n text t rest h = absurd h
+one_more (suc levels) n text t rest h =
+    bracketed_more n (IsFlowValue n (IsFlow levels n)) (IsFlowValue n (IsFlow (suc levels) n)) (value_more n (IsFlow levels n) (IsFlow (suc levels) n) (one_more levels n)) text t rest h
+
+added_levels : (k levels n : ℕ) (text : List ℕ) (t : Node) (rest : List ℕ) → IsFlow levels n text t rest → IsFlow (k + levels) n text t rest
+added_levels zero levels n text t rest h = subst (λ m. IsFlow m n text t rest) (sym (zero-add levels)) h
+added_levels (suc k) levels n text t rest h =
+    subst (λ m. IsFlow m n text t rest) (let e : suc (k + levels) ≡ suc k + levels = omega arith in e) (one_more (k + levels) n text t rest (added_levels k levels n text t rest h))
+
+pub more_flow_levels : (levels limit n : ℕ) (text : List ℕ) (t : Node) (rest : List ℕ) → levels ≤ limit → IsFlow levels n text t rest → IsFlow limit n text t rest
+more_flow_levels levels limit n text t rest le h = subst (λ m. IsFlow m n text t rest) (let e : limit - levels + levels ≡ limit = omega arith in e) (added_levels (limit - levels) levels n text t rest h)
+
+-- a text begins with one list or mapping, however many levels are allowed
+pub one_flow : (levels limit n : ℕ) (text : List ℕ) (t u : Node) (rest other : List ℕ) → IsFlow levels n text t rest → IsFlow limit n text u other → (t ≡ u) × (rest ≡ other)
+one_flow levels limit n text t u rest other h k =
+    let a = flow_complete (levels + limit) n text t rest (more_flow_levels levels (levels + limit) n text t rest (omega arith) h) in
+    let b = flow_complete (levels + limit) n text u other (more_flow_levels limit (levels + limit) n text u other (omega arith) k) in
+    let q = part_is (t, rest) (u, other) (sym a ∙ b) in
+    (ap (λ (z : Node × List ℕ). z.0) q, ap (λ (z : Node × List ℕ). z.1) q)

@@ -1,0 +1,110 @@
+use Rattle.std.proofs.Common.{◌≡◌, ℕ, ◌+◌, Bool, true, false, List, [], ◌∷◌, ◌++◌, length, map, drop, Ok, refl, arith}
+use Rattle.std.proofs.lemmas.Result.{err_from_is_err_and}
+use Rattle.std.proofs.lemmas.List.{map_push}
+use Rattle.yaml_subset.specs.Node.{mapping, pairs_of, sequence, nodes_of}
+use Rattle.yaml_subset.specs.TreeOf.{Group}
+use Rattle.yaml_subset.specs.Reading.{hangs, groups_of, pairs_at, mapping_at, items_at, sequence_at, tree_at}
+use Rattle.yaml_subset.specs.View.{node_view, pair_view}
+use Rattle.yaml_subset.specs.Inside.{line_view, lines_view, copies_view}
+use Rattle.yaml_subset.specs.declared.line.Line as lines
+use Rattle.yaml_subset.proofs.Groups.{groups_at, at_start, pairs_go_on, pairs_stop, pairs_done, items_go_on, items_stop, items_done, fails_then}
+use Rattle.yaml_subset.proofs.Views.{node_view-Map, node_view-List}
+use Rattle.yaml_subset.proofs.block.+block.Goals as goal
+
+abbrev group : lines.Line → List lines.Line → Group
+group l below = record { head = line_view l; below = lines_view below }
+
+abbrev groups_from : Bool → ℕ → ℕ → List lines.Line → List Group
+groups_from entry i at ls = groups_of (hangs entry i) (lines_view (drop at ls))
+
+pub mapping-loop-at-init : goal.mapping-loop-at-init
+mapping-loop-at-init t c =
+    let total = pairs_at 8 (tree_at c.args.levels 8) c.args.around c.args.first.now.indent [] (groups_from true c.args.first.now.indent 0 (c.args.first.now ∷ c.args.others.now)) in
+    rw (c.new-pairs.ensures.items, c.new-keys.ensures.empty) (at_start total)
+
+pub mapping-returns-in_err-next : goal.mapping-returns-in_err-next
+unfolding mapping_at
+mapping-returns-in_err-next t c =
+    let p = err_from_is_err_and c.from_residual.result c.from_residual.ensures.1 in
+    let first = c.args.first.now in
+    let i = first.indent in
+    let ls : List lines.Line = first ∷ c.args.others.now in
+    let line = c.line_at-line.result in
+    let below = c.split_below.result.0.now in
+    let gs = groups_at (hangs true i) c.loop-at.at line first c.args.others.now below c.split_below.result.1.now c.loop-at-test.true c.line_at-line.ensures c.split_below.ensures.parts c.split_below.ensures.after in
+    let total = pairs_at 8 (tree_at c.args.levels 8) c.args.around i [] (groups_from true i 0 ls) in
+    let d = pairs_stop 8 (tree_at c.args.levels 8) c.args.around i (map pair_view c.loop-at.pairs.items) (copies_view c.loop-at.keys) (groups_from true i c.loop-at.at ls)
+    (group line below) (groups_from true i (c.loop-at.at + (1 + length below)) ls) total gs
+    c.in_err-next.field-0.0 c.in_err-next.ensures.value c.loop-at.invariant in
+    rw (p.1, p.2) (fails_then c.in_err-next.field-0.0 total (λ ps. Ok (mapping first.number (pairs_of ps))) d)
+
+pub mapping-loop-at-preserved : goal.mapping-loop-at-preserved
+mapping-loop-at-preserved t c =
+    let first = c.args.first.now in
+    let i = first.indent in
+    let ls : List lines.Line = first ∷ c.args.others.now in
+    let line = c.line_at-line.result in
+    let below = c.split_below.result.0.now in
+    let next = c.in_ok-next.next in
+    let gs = groups_at (hangs true i) c.loop-at.at line first c.args.others.now below c.split_below.result.1.now c.loop-at-test.true c.line_at-line.ensures c.split_below.ensures.parts c.split_below.ensures.after in
+    let e : map pair_view c.push.new.self.items ≡ map pair_view c.loop-at.pairs.items ++ pair_view next ∷ [] = rw c.in_ok-push.ensures.items (map_push _ c.loop-at.pairs.items next) in
+    let total = pairs_at 8 (tree_at c.args.levels 8) c.args.around i [] (groups_from true i 0 ls) in
+    rw e (pairs_go_on 8 (tree_at c.args.levels 8) c.args.around i (map pair_view c.loop-at.pairs.items) (copies_view c.loop-at.keys) (groups_from true i c.loop-at.at ls)
+    (group line below) (groups_from true i (c.loop-at.at + (1 + length below)) ls) total gs
+    (pair_view next) (copies_view c.pair.new.keys) c.in_ok-next.ensures.known c.in_ok-next.ensures.value c.loop-at.invariant)
+
+pub mapping-returns : goal.mapping-returns
+unfolding mapping_at
+mapping-returns t c =
+    let first = c.args.first.now in
+    let i = first.indent in
+    let ls : List lines.Line = first ∷ c.args.others.now in
+    let total = pairs_at 8 (tree_at c.args.levels 8) c.args.around i [] (groups_from true i 0 ls) in
+    let d : total ≡ Ok (map pair_view c.loop-at.pairs.items) = pairs_done 8 (tree_at c.args.levels 8) c.args.around i c.loop-at.at (hangs true i) ls (omega (arith, c.loop-at-test.false)) (map pair_view c.loop-at.pairs.items) (copies_view c.loop-at.keys) total c.loop-at.invariant in
+    rw (d, node_view-Map) refl
+
+pub sequence-loop-at-init : goal.sequence-loop-at-init
+sequence-loop-at-init t c =
+    let total = items_at 8 (tree_at c.args.levels 8) c.args.around c.args.first.now.indent (groups_from false c.args.first.now.indent 0 (c.args.first.now ∷ c.args.others.now)) in
+    rw c.new-items.ensures.items (at_start total)
+
+pub sequence-returns-in_err-next : goal.sequence-returns-in_err-next
+unfolding sequence_at
+sequence-returns-in_err-next t c =
+    let p = err_from_is_err_and c.from_residual.result c.from_residual.ensures.1 in
+    let first = c.args.first.now in
+    let i = first.indent in
+    let ls : List lines.Line = first ∷ c.args.others.now in
+    let line = c.line_at-line.result in
+    let below = c.split_below.result.0.now in
+    let gs = groups_at (hangs false i) c.loop-at.at line first c.args.others.now below c.split_below.result.1.now c.loop-at-test.true c.line_at-line.ensures c.split_below.ensures.parts c.split_below.ensures.after in
+    let total = items_at 8 (tree_at c.args.levels 8) c.args.around i (groups_from false i 0 ls) in
+    let d = items_stop 8 (tree_at c.args.levels 8) c.args.around i (map node_view c.loop-at.items.items) (groups_from false i c.loop-at.at ls)
+    (group line below) (groups_from false i (c.loop-at.at + (1 + length below)) ls) total gs
+    c.in_err-next.field-0.0 c.in_err-next.ensures c.loop-at.invariant in
+    rw (p.1, p.2) (fails_then c.in_err-next.field-0.0 total (λ ts. Ok (sequence first.number (nodes_of ts))) d)
+
+pub sequence-loop-at-preserved : goal.sequence-loop-at-preserved
+sequence-loop-at-preserved t c =
+    let first = c.args.first.now in
+    let i = first.indent in
+    let ls : List lines.Line = first ∷ c.args.others.now in
+    let line = c.line_at-line.result in
+    let below = c.split_below.result.0.now in
+    let next = c.in_ok-next.next in
+    let gs = groups_at (hangs false i) c.loop-at.at line first c.args.others.now below c.split_below.result.1.now c.loop-at-test.true c.line_at-line.ensures c.split_below.ensures.parts c.split_below.ensures.after in
+    let e : map node_view c.push.new.self.items ≡ map node_view c.loop-at.items.items ++ node_view next ∷ [] = rw c.in_ok-push.ensures.items (map_push _ c.loop-at.items.items next) in
+    let total = items_at 8 (tree_at c.args.levels 8) c.args.around i (groups_from false i 0 ls) in
+    rw e (items_go_on 8 (tree_at c.args.levels 8) c.args.around i (map node_view c.loop-at.items.items) (groups_from false i c.loop-at.at ls)
+    (group line below) (groups_from false i (c.loop-at.at + (1 + length below)) ls) total gs
+    (node_view next) c.in_ok-next.ensures c.loop-at.invariant)
+
+pub sequence-returns : goal.sequence-returns
+unfolding sequence_at
+sequence-returns t c =
+    let first = c.args.first.now in
+    let i = first.indent in
+    let ls : List lines.Line = first ∷ c.args.others.now in
+    let total = items_at 8 (tree_at c.args.levels 8) c.args.around i (groups_from false i 0 ls) in
+    let d : total ≡ Ok (map node_view c.loop-at.items.items) = items_done 8 (tree_at c.args.levels 8) c.args.around i c.loop-at.at (hangs false i) ls (omega (arith, c.loop-at-test.false)) (map node_view c.loop-at.items.items) total c.loop-at.invariant in
+    rw (d, node_view-List) refl

@@ -1,0 +1,12 @@
+use Rattle.std.proofs.Common.{◌≡◌, ◌≤◌, length, drop}
+use Rattle.std.specs.Str.{chars}
+use Rattle.yaml_subset.specs.Reading.{forbidden_left}
+use Rattle.yaml_subset.proofs.Blemishes.{bytes_len}
+use Rattle.yaml_subset.proofs.lines.forbidden_left.Given as goal
+
+abbrev pub invariant-loop-c : goal.invariant-loop-c
+invariant-loop-c l = record {
+  within : l.left ≤ length l.text;
+  left : l.left ≡ bytes_len (drop (length l.yielded) (chars l.text));
+  same : forbidden_left (drop (length l.yielded) (chars l.text)) ≡ forbidden_left (chars l.text);
+}

@@ -1,0 +1,77 @@
+-- Texts in quotes, as they stand on a line behind the opening quote.
+use Rattle.std.specs.Prelude.{◌≡◌, ◌≢◌, ℕ, Bool, false, List, [], ◌∷◌, ◌++◌, length, Option, Some, None, Result, Ok, Err, if◌then◌else◌, ◌==◌, ◌⊎◌}
+use Rattle.yaml_subset.specs.declared.fault.FaultKind.TheVariants.{Quote}
+use Rattle.yaml_subset.specs.declared.flaw.Flaw.{Flaw}
+use Rattle.yaml_subset.specs.Part.{flaw_at}
+
+-- ---- what stands in quotes
+
+-- how a byte is written between single quotes: a quote twice, any other as it is
+abbrev pub IsSingleByte : ℕ → List ℕ → Type 0
+IsSingleByte b text = ((b ≡ 39) × (text ≡ 39 ∷ 39 ∷ [])) ⊎ ((b ≢ 39) × (text ≡ b ∷ []))
+
+-- what stands behind the backslash for a byte: `\` and `"` for themselves, `n` for LF and `t` for the tab
+abbrev pub unescaped : ℕ → Option ℕ
+unescaped e = if e == 92 then Some 92 else (if e == 34 then Some 34 else (if e == 110 then Some 10 else (if e == 116 then Some 9 else None)))
+
+-- how a byte is written between double quotes: as it is, but for the quote and the backslash; or behind a backslash
+abbrev pub IsDoubleByte : ℕ → List ℕ → Type 0
+IsDoubleByte b text = ((b ≢ 34) × (b ≢ 92) × (text ≡ b ∷ [])) ⊎ ((e : ℕ) × (unescaped e ≡ Some b) × (text ≡ 92 ∷ e ∷ []))
+
+-- how a value is written: its bytes, one behind the other
+abbrev pub IsWritten : (ℕ → List ℕ → Type 0) → List ℕ → List ℕ → Type 0
+IsWritten IsByte [] text = text ≡ []
+IsWritten IsByte (b ∷ bs) text = (front : List ℕ) × (rest : List ℕ) × (text ≡ front ++ rest) × IsByte b front × IsWritten IsByte bs rest
+
+-- whether a single quote comes first
+abbrev pub begins_single : List ℕ → Bool
+begins_single [] = false
+begins_single (b ∷ bs) = b == 39
+
+-- A value, and the quote that ends it: no other follows that one.
+pub record IsSingle (text value after : List ℕ) : Type 0 where
+  pub written : List ℕ
+  pub is_written : IsWritten IsSingleByte value written
+  pub parts : text ≡ written ++ 39 ∷ after
+  pub ends : begins_single after ≡ false
+
+-- a value, and the quote that ends it
+pub record IsDouble (text value after : List ℕ) : Type 0 where
+  pub written : List ℕ
+  pub is_written : IsWritten IsDoubleByte value written
+  pub parts : text ≡ written ++ 34 ∷ after
+
+-- ---- reading it from the first byte to the last: the value, and what follows the quote that ends it
+
+-- a byte in front of the value
+abbrev pub onto_value : ℕ → Result (List ℕ × List ℕ) Flaw → Result (List ℕ × List ℕ) Flaw
+onto_value b (Ok r) = Ok (b ∷ r.0, r.1)
+onto_value b (Err f) = Err f
+
+unfoldable pub single_at : List ℕ → Result (List ℕ × List ℕ) Flaw
+single_at [] = flaw_at Quote 0
+single_at (b ∷ []) = if b == 39 then Ok ([], []) else flaw_at Quote 0
+single_at (b ∷ c ∷ cs) = if b == 39 then (if c == 39 then onto_value 39 (single_at cs) else Ok ([], c ∷ cs)) else onto_value b (single_at (c ∷ cs))
+
+-- a byte behind a backslash, in front of a text that was read; `left` counts from the backslash on
+abbrev pub escape_at : Option ℕ → ℕ → Result (List ℕ × List ℕ) Flaw → Result (List ℕ × List ℕ) Flaw
+escape_at (Some b) left r = onto_value b r
+escape_at None left r = flaw_at Quote left
+
+unfoldable pub double_at : List ℕ → Result (List ℕ × List ℕ) Flaw
+double_at [] = flaw_at Quote 0
+double_at (b ∷ []) = if b == 34 then Ok ([], []) else (if b == 92 then flaw_at Quote 1 else flaw_at Quote 0)
+double_at (b ∷ c ∷ cs) =
+    if b == 34
+    then Ok ([], c ∷ cs)
+    else (if b == 92 then escape_at (unescaped c) (length (b ∷ c ∷ cs)) (double_at cs) else onto_value b (double_at (c ∷ cs)))
+
+-- the byte at the front, which an escape may write, and what follows it
+abbrev pub escaped_byte : Option ℕ → ℕ → List ℕ → Result (ℕ × List ℕ) Flaw
+escaped_byte (Some b) left after = Ok (b, after)
+escaped_byte None left after = flaw_at Quote left
+
+unfoldable pub double_byte_at : List ℕ → Result (ℕ × List ℕ) Flaw
+double_byte_at [] = flaw_at Quote 0
+double_byte_at (b ∷ []) = if b == 92 then flaw_at Quote 1 else Ok (b, [])
+double_byte_at (b ∷ c ∷ cs) = if b == 92 then escaped_byte (unescaped c) (length (b ∷ c ∷ cs)) cs else Ok (b, c ∷ cs)

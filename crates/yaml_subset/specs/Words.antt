@@ -1,0 +1,69 @@
+-- Words: the keys and scalars of a line, plain or in quotes, in blocks and in flow.
+use Rattle.std.specs.Prelude.{◌≡◌, ℕ, Bool, true, false, ◌&&◌, ◌||◌, List, [], ◌∷◌, length, Result, Ok, if◌then◌else◌, ◌==◌, ◌⊎◌}
+use Rattle.yaml_subset.specs.declared.fault.FaultKind.{FaultKind}
+use Rattle.yaml_subset.specs.declared.fault.FaultKind.TheVariants.{Quote, Flow, NotInSubset}
+use Rattle.yaml_subset.specs.declared.flaw.Flaw.{Flaw}
+use Rattle.yaml_subset.specs.Bytes.{begins_blank, begins_gap, is_flow_indicator, begins_flow_indicator, begins_bare_colon, is_mark, begins_word}
+use Rattle.yaml_subset.specs.Part.{◌>>=◌, flaw_at}
+use Rattle.yaml_subset.specs.Plain.{IsBehindBlanks, IsPlainWord}
+use Rattle.yaml_subset.specs.Scanning.{trimmed, skipped, word_front, word_rest}
+use Rattle.yaml_subset.specs.Quoted.{IsSingle, IsDouble, single_at, double_at}
+
+-- ---- what a word is
+
+-- whether in flow a `:` comes first, and directly behind it one of `, [ ] { }`
+abbrev pub breaks_flow : Bool → List ℕ → Bool
+breaks_flow flow text = flow && begins_bare_colon text
+
+-- Whether a text in quotes may stand before this, behind a blank or not: nothing, `#` behind a blank, `:` before a gap, or in flow `,` `]` `}`.
+abbrev pub may_follow : Bool → Bool → List ℕ → Bool
+may_follow flow blank [] = true
+may_follow flow blank (b ∷ after) = (flow && ((b == 44) || (b == 93) || (b == 125))) || (((b == 35) && blank) || ((b == 58) && begins_gap after))
+
+-- a plain word, and what stands behind it and the blanks after it
+pub record IsPlainAt (flow : Bool) (text value rest : List ℕ) : Type 0 where
+  pub blanks : List ℕ
+  pub is_plain : IsPlainWord flow text value blanks rest
+  pub unbroken : breaks_flow flow rest ≡ false
+
+-- a text in quotes, and what stands behind it and the blanks after it
+pub record IsQuotedAt (quote : ℕ) (IsInside : List ℕ → List ℕ → List ℕ → Type 0) (flow : Bool) (text value rest : List ℕ) : Type 0 where
+  pub inside : List ℕ
+  pub opens : text ≡ quote ∷ inside
+  pub after : List ℕ
+  pub is_inside : IsInside inside value after
+  pub behind : IsBehindBlanks after rest
+  pub follows : may_follow flow (begins_blank after) rest ≡ true
+
+-- A text begins with a word of this value, and this rest stands behind it and the blanks after it.
+abbrev pub IsWord : Bool → List ℕ → List ℕ → List ℕ → Type 0
+IsWord flow text value rest = IsPlainAt flow text value rest ⊎ (IsQuotedAt 39 IsSingle flow text value rest ⊎ IsQuotedAt 34 IsDouble flow text value rest)
+
+-- ---- reading a word
+
+-- why no word begins so
+abbrev pub misfit : Bool → List ℕ → FaultKind
+misfit flow [] = if flow then Flow else NotInSubset
+misfit flow (b ∷ after) = if flow && (is_flow_indicator b || (is_mark b && begins_flow_indicator after)) then Flow else NotInSubset
+
+unfoldable pub plain_at : Bool → List ℕ → Result (List ℕ × List ℕ) Flaw
+plain_at flow text =
+    if begins_word flow text
+    then (if breaks_flow flow (word_rest flow text) then flaw_at Flow (length (word_rest flow text)) else Ok (trimmed (word_front flow text), word_rest flow text))
+    else flaw_at (misfit flow text) (length text)
+
+-- what stands behind a closing quote and the blanks after it
+unfoldable pub behind_quote : Bool → List ℕ → Result (List ℕ) Flaw
+behind_quote flow after =
+    if may_follow flow (begins_blank after) (skipped after)
+    then Ok (skipped after)
+    else flaw_at (if breaks_flow flow (skipped after) then Flow else Quote) (length (skipped after))
+
+-- a text in quotes, read up to its closing quote
+abbrev pub quoted_at : Bool → Result (List ℕ × List ℕ) Flaw → Result (List ℕ × List ℕ) Flaw
+quoted_at flow inside = inside >>= λ r. behind_quote flow r.1 >>= λ rest. Ok (r.0, rest)
+
+-- The word at the front of a text, and what stands behind it and the blanks after it.
+unfoldable pub word_at : Bool → List ℕ → Result (List ℕ × List ℕ) Flaw
+word_at flow [] = plain_at flow []
+word_at flow (b ∷ bs) = if b == 39 then quoted_at flow (single_at bs) else (if b == 34 then quoted_at flow (double_at bs) else plain_at flow (b ∷ bs))

@@ -1,0 +1,85 @@
+//! Texts in quotes.
+
+ghost use Rattle.std.specs.Prelude.{◌≡◌};
+ghost use Rattle.yaml_subset.specs.Part.{GivesPart};
+ghost use Rattle.yaml_subset.specs.Quoted.{begins_single, single_at, double_byte_at, double_at, unescaped};
+ghost use Rattle.yaml_subset.specs.Inside.{word_view, byte_view};
+
+use crate::fault::FaultKind;
+use crate::flaw::Stop;
+use std::alloc::Global;
+
+// Whether a single quote comes first.
+fn begins_single(text: &[u8]) -> bool
+    ensures { result ≡ begins_single text.now }
+{
+    match text {
+        [] => false,
+        [b, ..] => *b == b'\'',
+    }
+}
+
+/// The value of a text in single quotes, from behind the first quote, and what follows the last.
+pub fn single(alloc: Global, text: &[u8]) -> Result<(Vec<u8>, &[u8]), Stop>
+    ensures { GivesPart word_view result (single_at text.now) }
+{
+    let mut value = Vec::new(alloc);
+    let mut rest = text;
+    while let [b, after @ ..] = rest {
+        rest = after;
+        if *b == b'\'' {
+            if !begins_single(after) {
+                return Ok((value, after));
+            }
+            rest = &after[1..];
+        }
+        value.push(*b)?;
+    }
+    Err(Stop::at(FaultKind::Quote, 0))
+}
+
+// What stands behind a backslash for a byte.
+fn unescaped(b: u8) -> Option<u8>
+    ensures { result ≡ unescaped b }
+{
+    match b {
+        b'\\' => Some(b'\\'),
+        b'"' => Some(b'"'),
+        b'n' => Some(b'\n'),
+        b't' => Some(b'\t'),
+        _ => None,
+    }
+}
+
+// The byte at the front of a text in double quotes, which an escape may write, and what follows it.
+#[tactic(auto, unfolding(crate::specs::Quoted::double_byte_at))]
+fn double_byte(text: &[u8]) -> Result<(u8, &[u8]), Stop>
+    ensures { GivesPart byte_view result (double_byte_at text.now) }
+{
+    match text {
+        [b'\\', e, after @ ..] => match unescaped(*e) {
+            Some(b) => Ok((b, after)),
+            None => Err(Stop::at(FaultKind::Quote, text.len())),
+        },
+        [b'\\'] => Err(Stop::at(FaultKind::Quote, 1)),
+        [b, after @ ..] => Ok((*b, after)),
+        [] => Err(Stop::at(FaultKind::Quote, 0)),
+    }
+}
+
+/// The value of a text in double quotes, from behind the first quote, and what follows the last.
+pub fn double(alloc: Global, text: &[u8]) -> Result<(Vec<u8>, &[u8]), Stop>
+    ensures { GivesPart word_view result (double_at text.now) }
+{
+    let mut value = Vec::new(alloc);
+    let mut rest = text;
+    while let [b, after @ ..] = rest {
+        if *b == b'"' {
+            return Ok((value, after));
+        }
+        let (byte, more) = double_byte(rest)?;
+        value.push(byte)?;
+        rest = more;
+    }
+    Err(Stop::at(FaultKind::Quote, 0))
+}
