@@ -1,0 +1,84 @@
+-- The bytes at the front of a text that pass a test, and what stands behind them.
+use Rattle.std.proofs.Common.{◌≡◌, ℕ, suc, ◌+◌, ◌≤◌, Bool, true, false, ◌&&◌, List, [], ◌∷◌, ◌++◌, length, take, drop, refl, ap, ◌∙◌, inl, inr, arith, take-append-drop}
+use Rattle.std.specs.List.{prefix_len, list_all}
+use Rattle.std.proofs.lemmas.Bool.{cases_Bool, and_parts, and_from}
+use Rattle.mpf_values.specs.Bytes.{Are}
+use Rattle.mpf_values.specs.Reading.{front, behind}
+
+-- whether a byte comes first that passes the test
+abbrev pub begins : (ℕ → Bool) → List ℕ → Bool
+begins p [] = false
+begins p (b ∷ bs) = p b
+
+len_yes : (p : ℕ → Bool) (x : ℕ) (xs : List ℕ) → p x ≡ true → prefix_len p (x ∷ xs) ≡ suc (prefix_len p xs)
+len_yes p x xs t = rw t (omega arith)
+
+len_no : (p : ℕ → Bool) (x : ℕ) (xs : List ℕ) → p x ≡ false → prefix_len p (x ∷ xs) ≡ 0
+len_no p x xs t = rw t refl
+
+pub len_le : (p : ℕ → Bool) (xs : List ℕ) → prefix_len p xs ≤ length xs
+len_le p [] = omega arith
+len_le p (x ∷ xs) =
+    let below = len_le p xs in
+    elim (cases_Bool (p x)) [
+      | inl t ↦ let e = len_yes p x xs t in omega arith
+      | inr f ↦ let e = len_no p x xs f in omega arith
+    ]
+
+front_yes : (p : ℕ → Bool) (x : ℕ) (xs : List ℕ) → p x ≡ true → front p (x ∷ xs) ≡ x ∷ front p xs
+front_yes p x xs t = ap (λ n. take n (x ∷ xs)) (len_yes p x xs t)
+
+front_no : (p : ℕ → Bool) (x : ℕ) (xs : List ℕ) → p x ≡ false → front p (x ∷ xs) ≡ []
+front_no p x xs f = ap (λ n. take n (x ∷ xs)) (len_no p x xs f)
+
+pub behind_yes : (p : ℕ → Bool) (x : ℕ) (xs : List ℕ) → p x ≡ true → behind p (x ∷ xs) ≡ behind p xs
+behind_yes p x xs t = ap (λ n. drop n (x ∷ xs)) (len_yes p x xs t)
+
+pub behind_no : (p : ℕ → Bool) (x : ℕ) (xs : List ℕ) → p x ≡ false → behind p (x ∷ xs) ≡ x ∷ xs
+behind_no p x xs f = ap (λ n. drop n (x ∷ xs)) (len_no p x xs f)
+
+pub parts : (p : ℕ → Bool) (xs : List ℕ) → front p xs ++ behind p xs ≡ xs
+parts p xs = take-append-drop (prefix_len p xs) xs
+
+pub are_front : (p : ℕ → Bool) (xs : List ℕ) → Are p (front p xs)
+are_front p [] = tt
+are_front p (x ∷ xs) =
+    elim (cases_Bool (p x)) [
+      | inl t ↦ rw (front_yes p x xs t) (t, are_front p xs)
+      | inr f ↦ rw (front_no p x xs f) tt
+    ]
+
+pub stops : (p : ℕ → Bool) (xs : List ℕ) → begins p (behind p xs) ≡ false
+stops p [] = refl
+stops p (x ∷ xs) =
+    elim (cases_Bool (p x)) [
+      | inl t ↦ rw (behind_yes p x xs t) (stops p xs)
+      | inr f ↦ rw (behind_no p x xs f) f
+    ]
+
+pub front_is : (p : ℕ → Bool) (xs ys : List ℕ) → Are p xs → begins p ys ≡ false → front p (xs ++ ys) ≡ xs
+front_is p [] [] h s = refl
+front_is p [] (y ∷ ys) h s = front_no p y ys s
+front_is p (x ∷ xs) ys h s = front_yes p x (xs ++ ys) h.0 ∙ ap (λ (zs : List ℕ). x ∷ zs) (front_is p xs ys h.1 s)
+
+pub behind_is : (p : ℕ → Bool) (xs ys : List ℕ) → Are p xs → begins p ys ≡ false → behind p (xs ++ ys) ≡ ys
+behind_is p [] [] h s = refl
+behind_is p [] (y ∷ ys) h s = behind_no p y ys s
+behind_is p (x ∷ xs) ys h s = behind_yes p x (xs ++ ys) h.0 ∙ behind_is p xs ys h.1 s
+
+-- bytes of another kind in front of a text that begins with none that passes
+pub begins_behind : (p q : ℕ → Bool) (xs ys : List ℕ) → ((b : ℕ) → p b ≡ true → q b ≡ false) → Are p xs → begins q ys ≡ false → begins q (xs ++ ys) ≡ false
+begins_behind p q [] ys other h s = s
+begins_behind p q (x ∷ xs) ys other h s = other x h.0
+
+pub Are-from_list_all : (p : ℕ → Bool) (xs : List ℕ) → list_all p xs ≡ true → Are p xs
+Are-from_list_all p [] h = tt
+Are-from_list_all p (x ∷ xs) h = let both = and_parts (p x) (list_all p xs) h in (both.0, Are-from_list_all p xs both.1)
+
+pub list_all-from_Are : (p : ℕ → Bool) (xs : List ℕ) → Are p xs → list_all p xs ≡ true
+list_all-from_Are p [] h = refl
+list_all-from_Are p (x ∷ xs) h = and_from (p x) (list_all p xs) h.0 (list_all-from_Are p xs h.1)
+
+pub no_bytes : (text : List ℕ) → length text ≡ 0 → text ≡ []
+no_bytes [] h = refl
+no_bytes (b ∷ bs) h = absurd (omega arith)

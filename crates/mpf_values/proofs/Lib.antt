@@ -1,0 +1,14 @@
+pub mod Steps
+pub mod Fronts
+pub mod Computing
+pub mod ByteKinds
+pub mod WrittenNumbers
+pub mod BooleanTexts
+pub mod IntegerTexts
+pub mod TimeTexts
+pub mod PowerTexts
+pub mod NameTexts
+pub mod EventTexts
+pub mod ListItems
+pub mod ListTexts
+pub mod ListNodes

@@ -1,0 +1,27 @@
+-- What a reading that gave something went through.
+use Rattle.std.proofs.Common.{◌≡◌, ℕ, ◌<◌, ◌^◌, Bool, true, false, cond, ltb, Option, Some, None, refl, ◌⊎◌, inl, inr}
+use Rattle.std.proofs.lemmas.Bool.{ltb-true, lt-ltb}
+use Rattle.std.proofs.lemmas.Option.{cond_some}
+use Rattle.mpf_values.specs.Reading.{◌>>=◌, fitting}
+
+pub bind_some : {A B : Type 0} (r : Option A) (f : A → Option B) (y : B) → (r >>= f) ≡ Some y → (x : A) × (r ≡ Some x) × (f x ≡ Some y)
+bind_some (Some x) f y e = (x, refl, e)
+bind_some None f y e = absurd cc
+
+pub guard_true : {A : Type 0} (b : Bool) (r : Option A) (y : A) → cond b r None ≡ Some y → (b ≡ true) × (r ≡ Some y)
+guard_true true r y e = (refl, e)
+guard_true false r y e = absurd cc
+
+pub guard_false : {A : Type 0} (b : Bool) (r : Option A) (y : A) → cond b None r ≡ Some y → (b ≡ false) × (r ≡ Some y)
+guard_false true r y e = absurd cc
+guard_false false r y e = (refl, e)
+
+pub chosen : {A : Type 0} (b : Bool) (x y z : A) → cond b x y ≡ z → ((b ≡ true) × (x ≡ z)) ⊎ ((b ≡ false) × (y ≡ z))
+chosen true x y z e = inl (refl, e)
+chosen false x y z e = inr (refl, e)
+
+pub fitting_some : (n m : ℕ) → fitting n ≡ Some m → (n ≡ m) × (n < 2 ^ 64)
+fitting_some n m e = let h = cond_some (ltb n (2 ^ 64)) n m e in (h.1, ltb-true n (2 ^ 64) h.0)
+
+pub fitting_is : (n : ℕ) → n < 2 ^ 64 → fitting n ≡ Some n
+fitting_is n h = rw (lt-ltb n (2 ^ 64) h) refl

@@ -1,0 +1,15 @@
+use Rattle.mpf_values.specs.Events.{IsEvent}
+use Rattle.mpf_values.specs.Reading.{event_at}
+use Rattle.mpf_values.specs.View.{event_view}
+use Rattle.mpf_values.proofs.Computing.{is_found, is_only, is_refused}
+use Rattle.mpf_values.proofs.EventTexts.{event_computes}
+use Rattle.mpf_values.proofs.events.event.Goals as goal
+
+pub returns-clause-found : goal.returns-clause-found
+returns-clause-found c = is_found event_view (IsEvent c.args.text.now) (event_at c.args.text.now) (event_computes c.args.text.now) c.handled.result c.handled.ensures
+
+pub returns-clause-only : goal.returns-clause-only
+returns-clause-only c = is_only event_view (IsEvent c.args.text.now) (event_at c.args.text.now) (event_computes c.args.text.now) c.handled.result c.handled.ensures
+
+pub returns-clause-refused : goal.returns-clause-refused
+returns-clause-refused c = is_refused event_view (IsEvent c.args.text.now) (event_at c.args.text.now) (event_computes c.args.text.now) c.handled.result c.handled.ensures

@@ -1,0 +1,13 @@
+pub mod Bytes
+pub mod Numbers
+pub mod Booleans
+pub mod Integers
+pub mod Times
+pub mod Powers
+pub mod Names
+pub mod Events
+pub mod ListText
+pub mod Lists
+pub mod Reading
+pub mod View
+pub mod Inside

@@ -1,0 +1,30 @@
+-- Numbers as they are written, in decimal digits.
+use Rattle.std.specs.Prelude.{◌≡◌, ℕ, ◌+◌, ◌-◌, ◌*◌, ◌^◌, ◌<◌, ◌≤◌, List, [], ◌∷◌, ◌++◌, length}
+use Rattle.std.specs.Char.{is_ascii_digit}
+use Rattle.mpf_values.specs.Bytes.{Are}
+
+-- one decimal digit or more
+pub record AreDigits (digits : List ℕ) : Type 0 where
+  pub some : 0 < length digits
+  pub each : Are is_ascii_digit digits
+
+-- the number that digits write: each is worth ten times the one behind it
+abbrev pub number_of : List ℕ → ℕ
+number_of [] = 0
+number_of (d ∷ ds) = (d - 48) * 10 ^ length ds + number_of ds
+
+-- digits, or digits, a point and more digits
+abbrev pub decimal_text : List ℕ → List ℕ → List ℕ
+decimal_text whole [] = whole
+decimal_text whole (d ∷ ds) = whole ++ 46 ∷ d ∷ ds
+
+-- The text is a number with so many decimals, at most three; it is so many thousandths.
+pub record IsDecimal (text : List ℕ) (thousandths places : ℕ) : Type 0 where
+  pub whole : List ℕ
+  pub decimals : List ℕ
+  pub parts : text ≡ decimal_text whole decimals
+  pub is_whole : AreDigits whole
+  pub are_decimals : Are is_ascii_digit decimals
+  pub count : length decimals ≡ places
+  pub few : places ≤ 3
+  pub value : thousandths ≡ number_of whole * 1000 + number_of decimals * 10 ^ (3 - places)

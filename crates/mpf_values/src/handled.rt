@@ -1,0 +1,33 @@
+//! What a handled event says.
+
+/// How a variable is to compare with a number.
+#[derive(Clone, Copy, Debug, PartialEq, Eq)]
+pub enum Comparison {
+    /// `==`
+    Equal,
+    /// `!=`
+    NotEqual,
+    /// `<`
+    Less,
+    /// `<=`
+    LessOrEqual,
+    /// `>`
+    Greater,
+    /// `>=`
+    GreaterOrEqual,
+}
+
+/// That a variable of the current player compares so with a number.
+#[derive(Clone, Copy, Debug, PartialEq, Eq)]
+pub struct Condition<'a> {
+    pub variable: &'a [u8],
+    pub comparison: Comparison,
+    pub number: i64,
+}
+
+/// An event by its name, and the condition under which it is handled, where it has one.
+#[derive(Clone, Copy, Debug, PartialEq, Eq)]
+pub struct Event<'a> {
+    pub name: &'a [u8],
+    pub condition: Option<Condition<'a>>,
+}
