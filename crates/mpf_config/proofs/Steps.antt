@@ -1,7 +1,11 @@
 -- What a reading that did not fail went through.
-use Rattle.std.proofs.Common.{◌≡◌, Bool, true, false, cond, Option, Some, None, Result, Ok, Err, refl, ap, ◌⊎◌, inl, inr}
+use Rattle.std.proofs.Common.{◌≡◌, ℕ, List, Bool, true, false, cond, Option, Some, None, Result, Ok, Err, refl, ap, ◌⊎◌, inl, inr}
+use Rattle.std.specs.Str.{bytes_eq}
+use Rattle.std.proofs.lemmas.Slice.Eq.{bytes_eq-Decides}
 use Rattle.mpf_config.specs.Rows.{RowsFault}
-use Rattle.mpf_config.specs.Reading.{◌>>=◌, Spot, expect}
+use Rattle.yaml_subset.specs.Node.{Pair}
+use Rattle.mpf_config.specs.Entries.{entries_of}
+use Rattle.mpf_config.specs.Reading.{◌>>=◌, Spot, expect, key_spot, entries_at}
 
 pub bind_ok : {A B : Type 0} (r : Result A RowsFault) (f : A → Result B RowsFault) (y : B) → (r >>= f) ≡ Ok y → (x : A) × (r ≡ Ok x) × (f x ≡ Ok y)
 bind_ok (Ok x) f y e = (x, refl, e)
@@ -28,3 +32,22 @@ ok_is x y e = cc
 pub expected : {A : Type 0} (spot : Spot) (o : Option A) (x : A) → expect spot o ≡ Ok x → o ≡ Some x
 expected spot (Some y) x e = let same : y ≡ x = cc in ap Some same
 expected spot None x e = absurd cc
+
+pub entries_sound : (text : List ℕ) (p : Pair) (entries : List Pair) → entries_at text p ≡ Ok entries → entries_of p.value ≡ Some entries
+unfolding entries_at
+entries_sound text p entries e = expected (key_spot text p) (entries_of p.value) entries e
+
+pub entries_complete : (text : List ℕ) (p : Pair) (entries : List Pair) → entries_of p.value ≡ Some entries → entries_at text p ≡ Ok entries
+unfolding entries_at
+entries_complete text p entries e = rw e refl
+
+-- ---- words
+
+pub word_is : (key word : List ℕ) → bytes_eq key word ≡ true → key ≡ word
+word_is key word e = (bytes_eq-Decides key word).0 e
+
+pub is_word : (key word : List ℕ) → key ≡ word → bytes_eq key word ≡ true
+is_word key word e = (bytes_eq-Decides key word).1 e
+
+pub is_other : (key word other : List ℕ) → key ≡ word → bytes_eq word other ≡ false → bytes_eq key other ≡ false
+is_other key word other e differ = rw e differ

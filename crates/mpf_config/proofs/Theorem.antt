@@ -1,10 +1,9 @@
 -- The rows that are read are those of the bundle, and it has no others.
-use Rattle.std.proofs.Common.{◌≡◌, ◌≢◌, ℕ, ◌≤◌, ◌^◌, ltb, Bool, true, false, List, length, Result, Ok, Err, IfOk, IfErr, refl, sym, ap, subst, ◌∙◌, inl, inr, codes}
+use Rattle.std.proofs.Common.{◌≡◌, ◌≢◌, ℕ, ◌≤◌, ◌^◌, ltb, true, List, [], ◌++◌, length, Result, Ok, Err, IfOk, IfErr, refl, sym, ap, subst, ◌∙◌, inl, inr, codes}
 use Rattle.std.proofs.lemmas.Bool.{cases_lt, le-ltb}
-use Rattle.std.specs.List.{AllZip, list_any}
 use Rattle.yaml_subset.specs.declared.fault.Fault as yaml
 use Rattle.yaml_subset.specs.declared.fault.YamlFault.TheVariants as yaml_faults
-use Rattle.yaml_subset.specs.Node.{Node}
+use Rattle.yaml_subset.specs.Node.{Node, Pair}
 use Rattle.yaml_subset.specs.TextLines.{lines_of}
 use Rattle.yaml_subset.specs.TreeOf.{IsTree, IsTreeOf}
 use Rattle.yaml_subset.specs.Reading.{read_at}
@@ -17,13 +16,16 @@ use Rattle.mpf_config.specs.declared.fault.ConfigFault.TheVariants as faults
 use Rattle.mpf_config.specs.declared.fault.FaultKind.TheVariants.{Version, Limit}
 use Rattle.mpf_config.specs.Rows.{SectionRows, Rows, RowsFault}
 use Rattle.mpf_config.specs.View.{rows_view, fault_view, GivesRows}
-use Rattle.mpf_config.specs.BundleText.{machine_name, behind_first_line, has_version}
-use Rattle.mpf_config.specs.RowsOf.{IsMachineText, IsSection, IsRowsOf, IsAbove, has_long_list}
-use Rattle.mpf_config.specs.Reading.{◌>>=◌, fault_at, line_spot, text_at, tree_from, tree_at, sections_at, rows_at}
+use Rattle.mpf_config.specs.BundleText.{Text, machine_name, behind_first_line, has_version}
+use Rattle.mpf_config.specs.Unread.{skipped_notes, unlisted_notes}
+use Rattle.mpf_config.specs.RowsOf.{AreTexts, IsRowsOf, IsAbove}
+use Rattle.mpf_config.specs.Reading.{◌>>=◌, fault_at, line_spot, texts_at, machine_at, new_at, tree_from, tree_at, sections_in, sections_at, rows_at}
 use Rattle.mpf_config.proofs.Steps.{bind_ok, guard_true, guard_false, ok_is}
 use Rattle.mpf_config.proofs.FirstLines.{version_sound, version_complete}
-use Rattle.mpf_config.proofs.MachineTexts.{text_sound, text_complete}
-use Rattle.mpf_config.proofs.Meaning.{IsReadOrLong, sections_sound, sections_complete}
+use Rattle.mpf_config.proofs.BundleTexts.{texts_sound, texts_complete}
+use Rattle.mpf_config.proofs.TextNames.{new_sound, new_complete, machine_sound, machine_complete}
+use Rattle.mpf_config.proofs.Outcomes.{only_read}
+use Rattle.mpf_config.proofs.Meaning.{sections_sound, sections_complete, pairs_sound, pairs_complete}
 
 -- ---- the tree of a text
 
@@ -42,118 +44,157 @@ unfolding tree_at
 tree_again name text t v r = rw (v, r) refl
 
 -- a text that is read has no other tree
-only_tree : (text : List ℕ) (t u : Node) (levels : ℕ) → read_at text ≡ Ok t → IsTreeOf levels text u → u ≡ t
-only_tree text t u levels e k =
+only_tree : (text : List ℕ) (t u : Node) (levels depth : ℕ) → read_at text ≡ Ok t → IsTreeOf levels depth text u → u ≡ t
+only_tree text t u levels depth e k =
     let s = read_sound text t e in
     let same = one_content 1 (lines_of text) k.lines s.lines k.content s.content in
-    one_tree levels 32 s.lines u t (subst (λ ls. IsTree levels ls u) same k.is_tree) s.is_tree
+    one_tree levels depth 32 8 s.lines u t (subst (λ ls. IsTree levels depth ls u) same k.is_tree) s.is_tree
 
 -- ---- the rows
 
+abbrev made : List SectionRows → List Pair → List Text → Rows
+made rows sections texts = record { machine = rows; notes = skipped_notes machine_name sections ++ unlisted_notes texts }
+
 -- the steps of a bundle that was read
 record WasRead (bundle : List ℕ) (rows : Rows) : Type 0 where
+  texts : List Text
   text : List ℕ
   tree : Node
-  sections : List SectionRows
-  text_is : text_at bundle ≡ Ok text
+  sections : List Pair
+  found : List SectionRows
+  texts_are : texts_at bundle ≡ Ok texts
+  text_is : machine_at texts ≡ Ok text
   version : has_version text ≡ true
   tree_is : read_at text ≡ Ok tree
-  sections_are : sections_at machine_name tree ≡ Ok sections
-  rows_are : rows ≡ record { machine = sections }
+  sections_are : sections_in machine_name tree ≡ Ok sections
+  found_are : sections_at machine_name sections ≡ Ok found
+  all_new : new_at [] texts ≡ Ok tt
+  rows_are : made found sections texts ≡ rows
 
 was_read : (bundle : List ℕ) (rows : Rows) → rows_at bundle ≡ Ok rows → WasRead bundle rows
 unfolding rows_at
 was_read bundle rows e =
-    let made : List SectionRows → Rows = λ sections. record { machine = sections } in
-    let a = guard_false (ltb (2 ^ 23) (length bundle))
-    (text_at bundle >>= λ text. tree_at machine_name text >>= λ tree. sections_at machine_name tree >>= λ sections. Ok (made sections))
-    (fault_at Limit (line_spot (codes "-") 1)) rows e in
-    let b = bind_ok (text_at bundle) (λ text. tree_at machine_name text >>= λ tree. sections_at machine_name tree >>= λ sections. Ok (made sections)) rows a.1 in
-    let d = bind_ok (tree_at machine_name b.0) (λ tree. sections_at machine_name tree >>= λ sections. Ok (made sections)) rows b.2 in
-    let f = bind_ok (sections_at machine_name d.0) (λ sections. Ok (made sections)) rows d.2 in
-    let t = tree_parts machine_name b.0 d.0 d.1 in
-    record { text = b.0; tree = d.0; sections = f.0; text_is = b.1; version = t.0; tree_is = t.1; sections_are = f.1; rows_are = sym (ok_is (made f.0) rows f.2) }
+    let last : List Text → List Pair → List SectionRows → Result Rows RowsFault = λ texts sections found. new_at [] texts >>= λ all_new. Ok (made found sections texts) in
+    let from_sections : List Text → List Pair → Result Rows RowsFault = λ texts sections. sections_at machine_name sections >>= λ found. last texts sections found in
+    let from_tree : List Text → Node → Result Rows RowsFault = λ texts tree. sections_in machine_name tree >>= λ sections. from_sections texts sections in
+    let from_text : List Text → List ℕ → Result Rows RowsFault = λ texts text. tree_at machine_name text >>= λ tree. from_tree texts tree in
+    let from_texts : List Text → Result Rows RowsFault = λ texts. machine_at texts >>= λ text. from_text texts text in
+    let a = guard_false (ltb (2 ^ 23) (length bundle)) (texts_at bundle >>= from_texts) (fault_at Limit (line_spot (codes "-") 1)) rows e in
+    let b = bind_ok (texts_at bundle) from_texts rows a.1 in
+    let c = bind_ok (machine_at b.0) (from_text b.0) rows b.2 in
+    let d = bind_ok (tree_at machine_name c.0) (from_tree b.0) rows c.2 in
+    let f = bind_ok (sections_in machine_name d.0) (from_sections b.0) rows d.2 in
+    let g = bind_ok (sections_at machine_name f.0) (last b.0 f.0) rows f.2 in
+    let h = bind_ok (new_at [] b.0) (λ all_new. Ok (made g.0 f.0 b.0)) rows g.2 in
+    let t = tree_parts machine_name c.0 d.0 d.1 in
+    record {
+      texts = b.0;
+      text = c.0;
+      tree = d.0;
+      sections = f.0;
+      found = g.0;
+      texts_are = b.1;
+      text_is = c.1;
+      version = t.0;
+      tree_is = t.1;
+      sections_are = f.1;
+      found_are = g.1;
+      all_new = h.1;
+      rows_are = ok_is (made g.0 f.0 b.0) rows h.2;
+    }
 
-rows_sound : (bundle : List ℕ) (rows : Rows) → rows_at bundle ≡ Ok rows → IsRowsOf 32 bundle rows
+rows_sound : (bundle : List ℕ) (rows : Rows) → rows_at bundle ≡ Ok rows → IsRowsOf 32 8 1024 bundle rows
 rows_sound bundle rows e =
     let w = was_read bundle rows e in
-    let s = sections_sound machine_name w.tree w.sections w.sections_are in
-    record {
+    subst (IsRowsOf 32 8 1024 bundle) w.rows_are (record {
+      texts = w.texts;
+      are_texts = texts_sound bundle w.texts w.texts_are;
+      all_new = new_sound [] w.texts tt w.all_new;
       text = w.text;
-      machine = text_sound bundle w.text w.text_is;
+      machine = machine_sound w.texts w.text w.text_is;
       behind = behind_first_line w.text;
       version = version_sound w.text w.version;
       tree = w.tree;
       is_tree = read_sound w.text w.tree w.tree_is;
-      sections = s.0;
-      has = s.1;
-      each = subst (λ (r : Rows). AllZip IsSection s.0 r.machine) (sym w.rows_are) s.2;
-    }
+      sections = w.sections;
+      has = pairs_sound machine_name w.tree w.sections w.sections_are;
+      each = sections_sound machine_name w.sections w.found w.found_are;
+      notes = refl;
+    })
 
-same_text : (bundle text other : List ℕ) → text_at bundle ≡ Ok text → IsMachineText bundle other → other ≡ text
-same_text bundle text other e h = ok_is other text (sym (text_complete bundle other h) ∙ e)
+same_texts : (bundle : List ℕ) (texts others : List Text) → texts_at bundle ≡ Ok texts → AreTexts bundle others → others ≡ texts
+same_texts bundle texts others e h = ok_is others texts (sym (texts_complete bundle others h) ∙ e)
 
-only_sections : (read : Result (List SectionRows) RowsFault) (found sections : List SectionRows) (long : Bool) → read ≡ Ok found → IsReadOrLong read sections long → sections ≡ found
-only_sections read found sections long e (inl k) = ok_is sections found (sym k ∙ e)
-only_sections read found sections long e (inr k) = absurd (let no : false ≡ true = sym k.1 ∙ rw e refl in cc)
-
-rows_only : (bundle : List ℕ) (rows : Rows) → rows_at bundle ≡ Ok rows → (levels : ℕ) (other : Rows) → IsRowsOf levels bundle other → other ≡ rows
-rows_only bundle rows e levels other h =
+rows_only : (bundle : List ℕ) (rows : Rows) → rows_at bundle ≡ Ok rows → (levels depth longest : ℕ) (other : Rows) → IsRowsOf levels depth longest bundle other → other ≡ rows
+rows_only bundle rows e levels depth longest other h =
     let w = was_read bundle rows e in
-    let text : h.text ≡ w.text = same_text bundle w.text h.text w.text_is h.machine in
-    let tree : h.tree ≡ w.tree = only_tree w.text w.tree h.tree levels w.tree_is (subst (λ t. IsTreeOf levels t h.tree) text h.is_tree) in
-    let read : sections_at machine_name h.tree ≡ Ok w.sections = ap (sections_at machine_name) tree ∙ w.sections_are in
-    let s = sections_complete machine_name h.tree h.sections other.machine h.has h.each in
-    let same = only_sections (sections_at machine_name h.tree) w.sections other.machine (list_any has_long_list other.machine) read s in
-    ap (λ (sections : List SectionRows). record { machine = sections }) same ∙ sym w.rows_are
+    let texts : h.texts ≡ w.texts = same_texts bundle w.texts h.texts w.texts_are h.are_texts in
+    let found : machine_at h.texts ≡ Ok w.text = ap machine_at texts ∙ w.text_is in
+    let text : h.text ≡ w.text = ok_is h.text w.text (sym (machine_complete [] h.texts h.text h.all_new h.machine) ∙ found) in
+    let tree : h.tree ≡ w.tree = only_tree w.text w.tree h.tree levels depth w.tree_is (subst (λ t. IsTreeOf levels depth t h.tree) text h.is_tree) in
+    let pairs : sections_in machine_name h.tree ≡ Ok w.sections = ap (sections_in machine_name) tree ∙ w.sections_are in
+    let sections : h.sections ≡ w.sections = ok_is h.sections w.sections (sym (pairs_complete machine_name h.tree h.sections h.has) ∙ pairs) in
+    let read : sections_at machine_name h.sections ≡ Ok w.found = ap (sections_at machine_name) sections ∙ w.found_are in
+    let same = only_read longest (sections_at machine_name h.sections) w.found other.machine read (sections_complete longest machine_name h.sections other.machine h.each) in
+    let notes : other.notes ≡ skipped_notes machine_name w.sections ++ unlisted_notes w.texts = h.notes ∙ (λ i. skipped_notes machine_name (sections i) ++ unlisted_notes (texts i)) in
+    (λ i. record { machine = same i; notes = notes i }) ∙ w.rows_are
 
 -- ---- a bundle that is refused
 
 abbrev refused : RowsFault → Result Rows RowsFault
 refused f = Err f
 
-rows_again : (bundle text : List ℕ) (tree : Node) (rows : Rows) → length bundle ≤ 2 ^ 23 → text_at bundle ≡ Ok text → has_version text ≡ true → read_at text ≡ Ok tree
-    → sections_at machine_name tree ≡ Ok rows.machine → rows_at bundle ≡ Ok rows
-unfolding rows_at
-rows_again bundle text tree rows short t v r s = rw (le-ltb (2 ^ 23) (length bundle) short, t, tree_again machine_name text tree v r, s) refl
-
 differ : (f : RowsFault) (rows : Rows) → refused f ≡ Ok rows → ⊥
 differ f rows e = cc
 
+rows_again : (levels depth longest : ℕ) (bundle : List ℕ) (rows : Rows) (h : IsRowsOf levels depth longest bundle rows) → length bundle ≤ 2 ^ 23 → read_at h.text ≡ Ok h.tree
+    → sections_at machine_name h.sections ≡ Ok rows.machine → rows_at bundle ≡ Ok rows
+unfolding rows_at
+rows_again levels depth longest bundle rows h short r s =
+    let tree = tree_again machine_name h.text h.tree (version_complete h.text h.behind h.version) r in
+    rw (
+      le-ltb (2 ^ 23) (length bundle) short,
+      texts_complete bundle h.texts h.are_texts,
+      machine_complete [] h.texts h.text h.all_new h.machine,
+      tree,
+      pairs_complete machine_name h.tree h.sections h.has,
+      s,
+      new_complete [] h.texts h.all_new,
+    )
+    (λ i. Ok (record { machine = rows.machine; notes = sym h.notes i }))
+
 -- the tree that is read has the sections of the rows, so that a list is too long
-too_long : (bundle : List ℕ) (f : RowsFault) (rows : Rows) (levels : ℕ) → rows_at bundle ≡ Err f → (h : IsRowsOf levels bundle rows) → length bundle ≤ 2 ^ 23
-    → (read : Result Node yaml.Fault) → read_at h.text ≡ read → IsAbove levels bundle rows
-too_long bundle f rows levels e h short (Err g) r =
-    inr (inl (h.text, h.machine, no_tree h.text (Err (yaml_faults.Text g)) r (λ same. cc) levels h.tree h.is_tree))
-too_long bundle f rows levels e h short (Ok tree) r =
-    let same : h.tree ≡ tree = only_tree h.text tree h.tree levels r h.is_tree in
-    elim (sections_complete machine_name h.tree h.sections rows.machine h.has h.each) [
-      | inl k ↦
-          let whole = rows_again bundle h.text h.tree rows short (text_complete bundle h.text h.machine) (version_complete h.text h.behind h.version) (r ∙ ap (λ (t : Node). Ok t) (sym same)) k in
-          absurd (differ f rows (sym e ∙ whole))
+too_long : (bundle : List ℕ) (f : RowsFault) (rows : Rows) (levels depth longest : ℕ) → rows_at bundle ≡ Err f → (h : IsRowsOf levels depth longest bundle rows) → length bundle ≤ 2 ^ 23
+    → (read : Result Node yaml.Fault) → read_at h.text ≡ read → IsAbove levels depth longest bundle
+too_long bundle f rows levels depth longest e h short (Err g) r =
+    inr (inl (h.text, (h.texts, h.are_texts, h.machine), no_tree h.text (Err (yaml_faults.Text g)) r (λ same. cc) levels depth h.tree h.is_tree))
+too_long bundle f rows levels depth longest e h short (Ok tree) r =
+    let same : h.tree ≡ tree = only_tree h.text tree h.tree levels depth r h.is_tree in
+    elim (sections_complete longest machine_name h.sections rows.machine h.each) [
+      | inl k ↦ absurd (differ f rows (sym e ∙ rows_again levels depth longest bundle rows h short (r ∙ ap (λ (t : Node). Ok t) (sym same)) k))
       | inr k ↦ inr (inr k.0)
     ]
 
-rows_refused : (bundle : List ℕ) (f : RowsFault) → rows_at bundle ≡ Err f → (levels : ℕ) (rows : Rows) → IsRowsOf levels bundle rows → IsAbove levels bundle rows
-rows_refused bundle f e levels rows h =
+rows_refused : (bundle : List ℕ) (f : RowsFault) → rows_at bundle ≡ Err f → (levels depth longest : ℕ) (rows : Rows) → IsRowsOf levels depth longest bundle rows → IsAbove levels depth longest bundle
+rows_refused bundle f e levels depth longest rows h =
     elim (cases_lt (2 ^ 23) (length bundle)) [
       | inl long ↦ inl long
-      | inr short ↦ too_long bundle f rows levels e h short (read_at h.text) refl
+      | inr short ↦ too_long bundle f rows levels depth longest e h short (read_at h.text) refl
     ]
 
 -- ---- what the code answers
 
-pub is_found : (bundle : List ℕ) (r : Result Config ConfigFault) → GivesRows rows_view r (rows_at bundle) → IfOk r (λ config. IsRowsOf 32 bundle (rows_view config))
+pub is_found : (bundle : List ℕ) (r : Result Config ConfigFault) → GivesRows rows_view r (rows_at bundle) → IfOk r (λ config. IsRowsOf 32 8 1024 bundle (rows_view config))
 is_found bundle (Ok config) h = rows_sound bundle (rows_view config) h
 is_found bundle (Err e) h = tt
 
 pub is_only : (bundle : List ℕ) (r : Result Config ConfigFault) → GivesRows rows_view r (rows_at bundle)
-    → IfOk r (λ config. (levels : ℕ) (rows : Rows) → IsRowsOf levels bundle rows → rows ≡ rows_view config)
+    → IfOk r (λ config. (levels depth longest : ℕ) (rows : Rows) → IsRowsOf levels depth longest bundle rows → rows ≡ rows_view config)
 is_only bundle (Ok config) h = rows_only bundle (rows_view config) h
 is_only bundle (Err e) h = tt
 
 pub is_refused : (bundle : List ℕ) (r : Result Config ConfigFault) → GivesRows rows_view r (rows_at bundle)
-    → IfErr r (λ e. e ≢ faults.NoMemory → (levels : ℕ) (rows : Rows) → IsRowsOf levels bundle rows → IsAbove levels bundle rows)
+    → IfErr r (λ e. e ≢ faults.NoMemory → (levels depth longest : ℕ) (rows : Rows) → IsRowsOf levels depth longest bundle rows → IsAbove levels depth longest bundle)
 is_refused bundle (Ok config) h = tt
 is_refused bundle (Err faults.NoMemory) h = λ other. absurd (other refl)
 is_refused bundle (Err (faults.Bundle f)) h = λ _. rows_refused bundle (fault_view f) h

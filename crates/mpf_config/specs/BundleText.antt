@@ -1,6 +1,12 @@
--- How a bundle holds a text, and how a text begins.
-use Rattle.std.specs.Prelude.{ℕ, suc, ◌+◌, Bool, false, ◌&&◌, ◌||◌, ◌==◌, if◌then◌else◌, List, [], ◌∷◌, take, drop, Option, Some, None, codes}
+-- How a bundle holds texts, and how a text begins.
+use Rattle.std.specs.Prelude.{ℕ, suc, ◌+◌, Bool, true, false, ◌&&◌, ◌||◌, ◌==◌, if◌then◌else◌, List, [], ◌∷◌, take, drop, Option, Some, None, codes}
+use Rattle.std.specs.List.{count_by}
 use Rattle.std.specs.Str.{bytes_eq}
+
+-- a text, and the name in the line `@ NAME` in front of it
+pub record Text : Type 0 where
+  pub name : List ℕ
+  pub text : List ℕ
 
 -- the name of the machine text
 abbrev pub machine_name : List ℕ
@@ -60,11 +66,42 @@ name_in [] = None
 name_in (a ∷ []) = None
 name_in (a ∷ b ∷ rest) = if (a == 64) && is_blank b then Some (trimmed (behind_blanks rest)) else None
 
--- The first line that begins with `@`, where the first of these bytes begins a line or not, and the line that it stands in has this number.
-abbrev pub at_line_from : Bool → ℕ → List ℕ → Option ℕ
-at_line_from begins line [] = None
-at_line_from begins line (b ∷ bs) =
-    if begins && (b == 64) then Some line else at_line_from (b == 10) (if b == 10 then line + 1 else line) bs
+-- ---- pieces of a bundle: each a line that begins with `@`, and what stands behind it up to the next
+
+-- a piece in front of others; an empty one is dropped
+abbrev pub onto_pieces : List ℕ → List (List ℕ) → List (List ℕ)
+onto_pieces [] pieces = pieces
+onto_pieces (b ∷ piece) pieces = (b ∷ piece) ∷ pieces
+
+-- a byte in front of a piece and those behind it, or as the first of the next
+abbrev pub onto_piece : Bool → ℕ → List ℕ × List (List ℕ) → List ℕ × List (List ℕ)
+onto_piece true b pieces = ([], (b ∷ pieces.0) ∷ pieces.1)
+onto_piece false b pieces = (b ∷ pieces.0, pieces.1)
+
+-- the bytes before the next line that begins with `@`, and the pieces from there on, where the first byte begins a line or not
+abbrev pub pieces_from : Bool → List ℕ → List ℕ × List (List ℕ)
+pieces_from begins [] = ([], [])
+pieces_from begins (b ∷ bs) = onto_piece (begins && (b == 64)) b (pieces_from (b == 10) bs)
+
+-- the pieces of a bundle; the first may begin with another line
+unfoldable pub pieces_of : List ℕ → List (List ℕ)
+pieces_of bundle = onto_pieces (pieces_from true bundle).0 (pieces_from true bundle).1
+
+-- how many bytes stand before the next line that begins with `@`
+abbrev pub piece_len : Bool → List ℕ → ℕ
+piece_len begins [] = 0
+piece_len begins (b ∷ bs) = if begins && (b == 64) then 0 else suc (piece_len (b == 10) bs)
+
+-- how many lines end in a piece
+abbrev pub line_ends : List ℕ → ℕ
+line_ends piece = count_by (λ b. b == 10) piece
+
+-- pieces with the numbers of their first lines, the first of which has this one
+abbrev pub numbered : ℕ → List (List ℕ) → List (ℕ × List ℕ)
+numbered line [] = []
+numbered line (piece ∷ pieces) = (line, piece) ∷ numbered (line + line_ends piece) pieces
+
+-- ---- the version
 
 -- whether a text begins with the line of the version that is read
 abbrev pub has_version : List ℕ → Bool

@@ -1,5 +1,6 @@
 -- What contracts of the functions inside this crate see.
-use Rattle.std.specs.Prelude.{ℕ, List, [], ◌∷◌, map, Option, Some, None}
+use Rattle.std.specs.Prelude.{ℕ, List, map}
+use Rattle.std.specs.BTreeSet.{BTreeSet}
 use Rattle.std.specs.Borrow.{Bor}
 use Rattle.std.specs.Global.{Vec}
 use Rattle.mpf_config.specs.declared.config.Name.{Name}
@@ -10,14 +11,29 @@ use Rattle.yaml_subset.specs.declared.tree.Key.{Key}
 use Rattle.yaml_subset.specs.declared.tree.Tree.{Tree}
 use Rattle.yaml_subset.specs.Node.{Pair}
 use Rattle.yaml_subset.specs.View.{pair_view}
+use Rattle.mpf_config.specs.declared.config.Note as notes
 use Rattle.mpf_config.specs.declared.spot.Spot as spots
-use Rattle.mpf_config.specs.Rows.{Written, Switch, EventPlayer, SectionRows}
+use Rattle.mpf_config.specs.declared.texts.Text as texts
+use Rattle.mpf_config.specs.Rows.{Written, Switch, EventPlayer, SectionRows, Note}
+use Rattle.mpf_config.specs.BundleText.{Text}
 use Rattle.mpf_config.specs.Reading.{Spot}
-use Rattle.mpf_config.specs.Values.{items_of}
-use Rattle.mpf_config.specs.View.{name_view, switch_view, player_view, section_view}
+use Rattle.mpf_config.specs.View.{name_view, switch_view, player_view, section_view, note_view}
 
-abbrev pub text_view : Bor (List ℕ) → List ℕ
-text_view text = text.now
+abbrev pub bytes_view : Bor (List ℕ) → List ℕ
+bytes_view bytes = bytes.now
+
+abbrev pub text_view : texts.Text → Text
+text_view t = record { name = t.name.now; text = t.text.now }
+
+abbrev pub texts_view : List texts.Text → List Text
+texts_view = map text_view
+
+abbrev pub notes_view : Vec notes.Note → List Note
+notes_view notes = map note_view notes.items
+
+-- the keys of a set
+abbrev pub keys_view : BTreeSet (Bor (List ℕ)) → List (List ℕ)
+keys_view s = map (λ k. k.now) s.keys
 
 abbrev pub names_view : Vec Name → List Written
 names_view names = map name_view names.items
@@ -39,8 +55,3 @@ sections_view sections = map section_view sections.items
 
 abbrev pub spot_view : spots.Spot → Spot
 spot_view s = record { text = s.text.now; line = s.line; key = s.key.now }
-
--- the items of a list text, by its first one and what stands behind it
-abbrev pub next_items : Option (Bor (List ℕ) × Bor (List ℕ)) → List (List ℕ)
-next_items None = []
-next_items (Some found) = found.0.now ∷ items_of found.1.now

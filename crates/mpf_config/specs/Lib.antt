@@ -1,10 +1,10 @@
 pub mod Rows
-pub mod Values
-pub mod ListText
 pub mod Entries
 pub mod BundleText
+pub mod Unread
 pub mod RowsOf
 pub mod Reading
 pub mod View
 pub mod Inside
 pub mod FaultLine
+pub mod NoteLine

@@ -1,17 +1,20 @@
 -- The rows of a bundle: what they are, however a bundle is read.
-use Rattle.std.specs.Prelude.{◌≡◌, ◌≢◌, ℕ, ◌<◌, ◌^◌, nat_lt, Bool, true, false, List, [], ◌∷◌, ◌++◌, length, map, Some, ◌⊎◌, codes}
-use Rattle.std.specs.List.{AllByRecursion, AllZip, list_any}
+use Rattle.std.specs.Prelude.{◌≡◌, ◌≢◌, ℕ, ◌<◌, ◌≤◌, ◌^◌, true, false, List, [], ◌∷◌, ◌++◌, length, map, Option, Some, ◌⊎◌, codes}
+use Rattle.std.specs.List.{Contains, AllByRecursion, AllZip}
 use Rattle.yaml_subset.specs.Node.{Node, Pair}
-use Rattle.yaml_subset.specs.View.{line_of, text_in, pairs_in}
+use Rattle.yaml_subset.specs.View.{text_in, pairs_in}
 use Rattle.yaml_subset.specs.TreeOf.{IsTreeOf}
 use Rattle.yaml_subset.specs.TreeOf as yaml
-use Rattle.mpf_config.specs.Rows.{Switch, EventPlayer, SectionRows, switches, event_player, Rows}
-use Rattle.mpf_config.specs.Values.{is_name}
-use Rattle.mpf_config.specs.ListText.{IsListText}
-use Rattle.mpf_config.specs.Entries.{entries_of, is_ignored, written_at}
-use Rattle.mpf_config.specs.BundleText.{machine_name, version_line, is_blank}
+use Rattle.mpf_config.specs.declared.config.Contact.{Contact}
+use Rattle.mpf_config.specs.declared.config.Debounce.{Debounce}
+use Rattle.mpf_config.specs.Rows.{Written, Switch, EventPlayer, SectionRows, switches, event_player, Rows}
+use Rattle.mpf_values.specs.Names.{IsName}
+use Rattle.mpf_values.specs.Lists.{Item, IsList}
+use Rattle.mpf_config.specs.Entries.{entries_of, is_ignored, written_at, bare_switch, with_contact, with_debounce, with_tags, with_activated, with_deactivated, contact_of, debounce_of}
+use Rattle.mpf_config.specs.BundleText.{Text, machine_name, version_line, is_blank, ends_line}
+use Rattle.mpf_config.specs.Unread.{read_of, skipped_notes, unlisted_notes}
 
--- ---- the bundle and its text
+-- ---- the bundle and its texts
 
 abbrev pub AreBlanks : List ℕ → Type 0
 AreBlanks = AllByRecursion (λ b. is_blank b ≡ true)
@@ -20,79 +23,126 @@ AreBlanks = AllByRecursion (λ b. is_blank b ≡ true)
 abbrev pub IsLineEnd : List ℕ → List ℕ → Type 0
 IsLineEnd end behind = (end ≡ 10 ∷ []) ⊎ ((end ≡ 13 ∷ 10 ∷ []) ⊎ ((end ≡ []) × (behind ≡ [])))
 
--- the first line of a text is this one, blanks at its end apart, and this stands behind it
+-- The first line of a text is this one, and this stands behind it: no line ends before.
+pub record IsFirstLine (line text behind : List ℕ) : Type 0 where
+  pub end : List ℕ
+  pub is_end : IsLineEnd end behind
+  pub parts : text ≡ line ++ (end ++ behind)
+  pub first : (front rest : List ℕ) (b : ℕ) → line ≡ front ++ b ∷ rest → ends_line b (rest ++ (end ++ behind)) ≡ false
+
+-- the same, blanks at the end of the line apart
 pub record BeginsWith (line text behind : List ℕ) : Type 0 where
   pub blanks : List ℕ
-  pub end : List ℕ
   pub are_blanks : AreBlanks blanks
-  pub is_end : IsLineEnd end behind
-  pub parts : text ≡ line ++ (blanks ++ (end ++ behind))
+  pub whole : IsFirstLine (line ++ blanks) text behind
 
--- no line of a text begins with `@`
-pub record HasNoAtLine (text : List ℕ) : Type 0 where
-  pub first : (rest : List ℕ) → text ≢ 64 ∷ rest
-  pub later : (front rest : List ℕ) → text ≢ front ++ 10 ∷ 64 ∷ rest
+-- neither the first byte is a blank nor the last
+pub record IsBare (name : List ℕ) : Type 0 where
+  pub first : (rest : List ℕ) (b : ℕ) → name ≡ b ∷ rest → is_blank b ≡ false
+  pub last : (front : List ℕ) (b : ℕ) → name ≡ front ++ b ∷ [] → is_blank b ≡ false
 
--- A bundle is one line `@ config/config.yaml`, and the machine text behind it.
-pub record IsMachineText (bundle text : List ℕ) : Type 0 where
+-- A line `@ NAME`, and a text behind it: no other line begins with `@`.
+pub record IsPiece (piece : List ℕ) (t : Text) : Type 0 where
   pub blank : ℕ
   pub blanks : List ℕ
   pub are_blanks : AreBlanks (blank ∷ blanks)
-  pub begins : BeginsWith (64 ∷ blank ∷ (blanks ++ machine_name)) bundle text
-  pub alone : HasNoAtLine text
+  pub bare : IsBare t.name
+  pub begins : BeginsWith (64 ∷ blank ∷ (blanks ++ t.name)) piece t.text
+  pub alone : (front rest : List ℕ) → piece ≢ front ++ 10 ∷ 64 ∷ rest
+
+-- another piece begins where a line begins
+abbrev pub EndsLine : List ℕ → List ℕ → Type 0
+EndsLine piece [] = Unit {0}
+EndsLine piece (b ∷ behind) = (front : List ℕ) × (piece ≡ front ++ 10 ∷ [])
+
+-- The texts of a bundle, one behind the other.
+abbrev pub AreTexts : List ℕ → List Text → Type 0
+AreTexts bundle [] = bundle ≡ []
+AreTexts bundle (t ∷ ts) =
+    (piece : List ℕ) × (behind : List ℕ) × (bundle ≡ piece ++ behind) × IsPiece piece t × EndsLine piece behind × AreTexts behind ts
+
+-- no text has one of these names, or that of one before it
+abbrev pub AreNew : List (List ℕ) → List Text → Type 0
+AreNew names [] = Unit {0}
+AreNew names (t ∷ ts) = (Contains names t.name → ⊥) × AreNew (t.name ∷ names) ts
+
+-- the text of this bundle that has the machine text's name
+abbrev pub IsMachineText : List ℕ → List ℕ → Type 0
+IsMachineText bundle text = (texts : List Text) × AreTexts bundle texts × Contains texts (record { name = machine_name; text = text })
+
+-- ---- values
+
+-- the names in a list of at most so many items
+pub record AreNames (longest : ℕ) (value : Node) (names : List Written) : Type 0 where
+  pub items : List Item
+  pub list : IsList value items
+  pub few : length items ≤ longest
+  pub each : AllByRecursion (λ item. IsName item.text) items
+  pub says : names ≡ map (λ item. written_at item.line item.text) items
+
+-- a word that a scalar is
+abbrev pub IsWord : {A : Type 0} → (List ℕ → Option A) → Node → A → Type 0
+IsWord meaning value x = (word : List ℕ) × (text_in value ≡ Some word) × (meaning word ≡ Some x)
 
 -- ---- entries of the sections
 
--- a switch: its settings are all ignored
-pub record IsSwitch (entry : Pair) (row : Switch) : Type 0 where
-  pub name : is_name entry.key ≡ true
+-- a switch, and what one setting makes of it
+pub data Overwrites : ℕ → Pair → Switch → Switch → Type 0 where
+  contact : (longest : ℕ) (s : Pair) (row : Switch) (x : Contact) → s.key ≡ codes "type" → IsWord contact_of s.value x → Overwrites longest s row (with_contact x row)
+  debounce : (longest : ℕ) (s : Pair) (row : Switch) (x : Debounce) → s.key ≡ codes "debounce" → IsWord debounce_of s.value x → Overwrites longest s row (with_debounce x row)
+  tags : (longest : ℕ) (s : Pair) (row : Switch) (xs : List Written) → s.key ≡ codes "tags" → AreNames longest s.value xs → Overwrites longest s row (with_tags xs row)
+  activated : (longest : ℕ) (s : Pair) (row : Switch) (xs : List Written) → s.key ≡ codes "events_when_activated" → AreNames longest s.value xs → Overwrites longest s row (with_activated xs row)
+  deactivated : (longest : ℕ) (s : Pair) (row : Switch) (xs : List Written) → s.key ≡ codes "events_when_deactivated" → AreNames longest s.value xs → Overwrites longest s row (with_deactivated xs row)
+  ignored : (longest : ℕ) (s : Pair) (row : Switch) → is_ignored s.key ≡ true → Overwrites longest s row row
+
+-- a switch, and what settings make of it
+abbrev pub IsOverwritten : ℕ → List Pair → Switch → Switch → Type 0
+IsOverwritten longest [] row made = made ≡ row
+IsOverwritten longest (s ∷ ss) row made = (next : Switch) × Overwrites longest s row next × IsOverwritten longest ss next made
+
+-- a switch: the default, overwritten by its settings
+pub record IsSwitch (longest : ℕ) (entry : Pair) (row : Switch) : Type 0 where
+  pub name : IsName entry.key
   pub settings : List Pair
   pub has : entries_of entry.value ≡ Some settings
-  pub ignored : AllByRecursion (λ s. is_ignored s.key ≡ true) settings
-  pub says : row ≡ record { name = written_at entry.line entry.key }
+  pub overwritten : IsOverwritten longest settings (bare_switch (written_at entry.line entry.key)) row
 
--- an event, and the names in its list text
-pub record IsEventPlayer (entry : Pair) (row : EventPlayer) : Type 0 where
-  pub event : is_name entry.key ≡ true
-  pub text : List ℕ
-  pub has : text_in entry.value ≡ Some text
-  pub items : List (List ℕ)
-  pub list : IsListText text items
-  pub names : AllByRecursion (λ item. is_name item ≡ true) items
-  pub says : row ≡ record { event = written_at entry.line entry.key; posts = map (written_at (line_of entry.value)) items }
+-- an event, and the names in its list
+pub record IsEventPlayer (longest : ℕ) (entry : Pair) (row : EventPlayer) : Type 0 where
+  pub event : IsName entry.key
+  pub posts : List Written
+  pub are_posts : AreNames longest entry.value posts
+  pub says : row ≡ record { event = written_at entry.line entry.key; posts = posts }
 
 -- a section by its name, and a row for each of its entries
-abbrev pub IsSection : Pair → SectionRows → Type 0
-IsSection entry (switches rows) =
-    (entry.key ≡ codes "switches") × ((entries : List Pair) × (entries_of entry.value ≡ Some entries) × AllZip IsSwitch entries rows)
-IsSection entry (event_player rows) =
-    (entry.key ≡ codes "event_player") × ((entries : List Pair) × (entries_of entry.value ≡ Some entries) × AllZip IsEventPlayer entries rows)
+abbrev pub IsSection : ℕ → Pair → SectionRows → Type 0
+IsSection longest entry (switches rows) =
+    (entry.key ≡ codes "switches") × ((entries : List Pair) × (entries_of entry.value ≡ Some entries) × AllZip (IsSwitch longest) entries rows)
+IsSection longest entry (event_player rows) =
+    (entry.key ≡ codes "event_player") × ((entries : List Pair) × (entries_of entry.value ≡ Some entries) × AllZip (IsEventPlayer longest) entries rows)
 
 -- ---- the rows
 
--- The rows of a bundle whose text has at most so many mappings one inside the other.
-pub record IsRowsOf (levels : ℕ) (bundle : List ℕ) (rows : Rows) : Type 0 where
+-- The rows of a bundle whose machine text has at most so many sequences and mappings one inside the other, of those on one line at most so many, and
+-- at most so many items in a list.
+pub record IsRowsOf (levels depth longest : ℕ) (bundle : List ℕ) (rows : Rows) : Type 0 where
+  pub texts : List Text
+  pub are_texts : AreTexts bundle texts
+  pub all_new : AreNew [] texts
   pub text : List ℕ
-  pub machine : IsMachineText bundle text
+  pub machine : Contains texts (record { name = machine_name; text = text })
   pub behind : List ℕ
   pub version : BeginsWith version_line text behind
   pub tree : Node
-  pub is_tree : IsTreeOf levels text tree
+  pub is_tree : IsTreeOf levels depth text tree
   pub sections : List Pair
   pub has : pairs_in tree ≡ Some sections
-  pub each : AllZip IsSection sections rows.machine
+  pub each : AllZip (IsSection longest) (read_of sections) rows.machine
+  pub notes : rows.notes ≡ skipped_notes machine_name sections ++ unlisted_notes texts
 
 -- ---- limits
 
--- more than 1,024 posts of one event
-abbrev pub is_long : EventPlayer → Bool
-is_long row = nat_lt 1024 (length row.posts)
-
-abbrev pub has_long_list : SectionRows → Bool
-has_long_list (switches rows) = false
-has_long_list (event_player rows) = list_any is_long rows
-
 -- above the limits: a bundle of 8 MiB, those of a text, and lists of 1,024 items
-abbrev pub IsAbove : ℕ → List ℕ → Rows → Type 0
-IsAbove levels bundle rows =
-    (2 ^ 23 < length bundle) ⊎ (((text : List ℕ) × IsMachineText bundle text × yaml.IsAbove levels text) ⊎ (list_any has_long_list rows.machine ≡ true))
+abbrev pub IsAbove : ℕ → ℕ → ℕ → List ℕ → Type 0
+IsAbove levels depth longest bundle =
+    (2 ^ 23 < length bundle) ⊎ (((text : List ℕ) × IsMachineText bundle text × yaml.IsAbove levels depth text) ⊎ (1024 < longest))

@@ -1,20 +1,21 @@
 //! A bundle of texts.
 
-ghost use Rattle.std.specs.Prelude.{◌≡◌, ◌≢◌, ℕ, ◌≤◌, ◌^◌, true, length, IfOk, IfErr};
-ghost use Rattle.yaml_subset.specs.View.{node_view, option_slice};
-ghost use Rattle.mpf_config.specs.BundleText.{name_in, at_line_from, has_version};
+ghost use Rattle.std.specs.Prelude.{◌≡◌, ◌≢◌, ℕ, IfOk, IfErr};
+ghost use Rattle.yaml_subset.specs.View.{node_view};
+ghost use Rattle.mpf_config.specs.BundleText.{has_version};
 ghost use Rattle.mpf_config.specs.FaultLine.{yaml_kind_name};
-ghost use Rattle.mpf_config.specs.Reading.{line_spot, text_at, tree_at, rows_at};
+ghost use Rattle.mpf_config.specs.Reading.{tree_at, rows_at};
 ghost use Rattle.mpf_config.specs.Rows.{Rows};
 ghost use Rattle.mpf_config.specs.RowsOf.{IsRowsOf, IsAbove};
 ghost use Rattle.mpf_config.specs.View.{rows_view, GivesRows};
-ghost use Rattle.mpf_config.specs.Inside.{spot_view, text_view};
 
 use crate::config::{Config, MachineText};
 use crate::fault::{ConfigFault, FaultKind};
-use crate::lines::{behind_blanks, is_blank, split_line, trimmed};
-use crate::sections::sections;
-use crate::spot::Spot;
+use crate::lines::{split_line, trimmed};
+use crate::sections::{sections, sections_in};
+use crate::spot::{NONE, Spot, line_of};
+use crate::texts::{MACHINE_NAME, compare_names, machine_text, texts};
+use crate::unread::{add_skipped, add_unlisted};
 use std::alloc::Global;
 use yaml_subset::fault::{FaultKind as YamlKind, YamlFault};
 use yaml_subset::reader::read;
@@ -23,79 +24,8 @@ use yaml_subset::tree::Tree;
 /// The most bytes of a bundle: 8 MiB.
 const MAX_BUNDLE_LEN: usize = 8_388_608;
 
-/// The name of the machine text.
-const MACHINE_NAME: &[u8] = b"config/config.yaml";
-
 /// The first line of a text, of the version that is read.
 const VERSION_LINE: &[u8] = b"#config_version=6";
-
-/// Stands for the text or the key where a fault has none.
-const NONE: &[u8] = b"-";
-
-/// A line of a text as a whole, or of the bundle itself.
-fn line_of<'a>(text: &'a [u8], line: u32) -> Spot<'a>
-    ensures { spot_view result ≡ line_spot text.now line }
-{
-    Spot {
-        text,
-        line,
-        key: NONE,
-    }
-}
-
-/// The name in a line `@ NAME`; or nothing where the line is none.
-fn name_in(line: &[u8]) -> Option<&[u8]>
-    ensures { option_slice (λ name. name) result ≡ name_in line.now }
-{
-    match line {
-        [b'@', b, rest @ ..] if is_blank(*b) => Some(trimmed(behind_blanks(rest))),
-        _ => None,
-    }
-}
-
-/// The number of the first line that begins with `@`, in a text that begins with the second
-/// line of a bundle.
-fn next_at_line(text: &[u8]) -> Option<u32>
-    requires { length text.now ≤ 2 ^ 23 }
-    ensures { result ≡ at_line_from true 2 text.now }
-{
-    let mut line = 2;
-    let mut begins = true;
-    let mut rest = text;
-    while let [b, after @ ..] = rest {
-        if begins && *b == b'@' {
-            return Some(line);
-        }
-        begins = *b == b'\n';
-        if begins {
-            line += 1;
-        }
-        rest = after;
-    }
-    None
-}
-
-/// The machine text of a bundle, which is to be its only text; or Bundle.
-#[tactic(auto, unfolding(crate::specs::Reading::text_at))]
-fn machine_text(alloc: Global, bundle: &[u8]) -> Result<&[u8], ConfigFault>
-    requires { length bundle.now ≤ 2 ^ 23 }
-    ensures { GivesRows text_view result (text_at bundle.now) }
-{
-    let (line, text) = split_line(bundle);
-    let Some(name) = name_in(line) else {
-        let fault = line_of(NONE, 1).fault(alloc, FaultKind::Bundle)?;
-        return Err(ConfigFault::Bundle(fault));
-    };
-    if let Some(line) = next_at_line(text) {
-        let fault = line_of(NONE, line).fault(alloc, FaultKind::Bundle)?;
-        return Err(ConfigFault::Bundle(fault));
-    }
-    if name != MACHINE_NAME {
-        let fault = line_of(NONE, 1).fault(alloc, FaultKind::Bundle)?;
-        return Err(ConfigFault::Bundle(fault));
-    }
-    Ok(text)
-}
 
 /// The name of a kind of the YAML reader.
 fn yaml_kind_name(kind: YamlKind) -> &'static [u8]
@@ -154,28 +84,39 @@ fn read_exactly(alloc: Global, bundle: &[u8]) -> Result<Config, ConfigFault>
         let fault = line_of(NONE, 1).fault(alloc, FaultKind::Limit)?;
         return Err(ConfigFault::Bundle(fault));
     }
-    let text = machine_text(alloc, bundle)?;
+    let texts = texts(alloc, bundle)?;
+    let text = machine_text(alloc, &texts)?;
     let tree = tree_of(alloc, MACHINE_NAME, text)?;
-    let sections = sections(alloc, MACHINE_NAME, &tree)?;
+    let entries = sections_in(alloc, MACHINE_NAME, &tree)?;
+    let sections = sections(alloc, MACHINE_NAME, entries)?;
+    compare_names(alloc, &texts)?;
+    let mut notes = Vec::new(alloc);
+    add_skipped(alloc, MACHINE_NAME, entries, &mut notes)?;
+    add_unlisted(alloc, &texts, &mut notes)?;
     Ok(Config {
         machine: MachineText { sections },
+        notes,
     })
 }
 
-/// The rows of a bundle, which has the machine text alone: `config/config.yaml`, behind the one
-/// line that begins with `@`. An error is that memory ran out, or the first fault: a bundle above
-/// 8 MiB (Limit), a bad bundle (Bundle), a text of another version (Version), or one that is no
-/// YAML of the subset (Yaml), and then the faults of its sections, entries and settings as
-/// written.
+/// The rows of a bundle, and notes on what is not read of it. A bundle is texts, each behind a line
+/// `@ NAME`, and is read for its machine text, `config/config.yaml`; the sections that are carried
+/// out nowhere are skipped, and texts that no other lists are left unread.
+///
+/// An error is that memory ran out, or the first fault: a bundle above 8 MiB (Limit); a bundle that
+/// does not begin with a line `@ NAME`, has another line that begins with `@` and is none, or has no
+/// machine text (Bundle); then, in the machine text, another version (Version), text that is no YAML
+/// of the subset (Yaml), and the faults of its sections, entries and settings as written; and then a
+/// text with the name of one before it (Duplicate).
 pub fn read_bundle(alloc: Global, bundle: &[u8]) -> Result<Config, ConfigFault>
-    // What is read are the rows of the bundle.
-    ensures found { IfOk result (λ config. IsRowsOf 32 bundle.now (rows_view config)) }
+    // What is read are the rows of the bundle, with the notes.
+    ensures found { IfOk result (λ config. IsRowsOf 32 8 1024 bundle.now (rows_view config)) }
 
-    // The bundle has no other rows, however many levels its text may have.
-    ensures only { IfOk result (λ config. (levels : ℕ) (rows : Rows) → IsRowsOf levels bundle.now rows → rows ≡ rows_view config) }
+    // The bundle has no other rows, however many levels its text and items its lists may have.
+    ensures only { IfOk result (λ config. (levels depth longest : ℕ) (rows : Rows) → IsRowsOf levels depth longest bundle.now rows → rows ≡ rows_view config) }
 
     // A bundle that is refused has no rows within the limits.
-    ensures refused { IfErr result (λ e. e ≢ ConfigFault.NoMemory → (levels : ℕ) (rows : Rows) → IsRowsOf levels bundle.now rows → IsAbove levels bundle.now rows) }
+    ensures refused { IfErr result (λ e. e ≢ ConfigFault.NoMemory → (levels depth longest : ℕ) (rows : Rows) → IsRowsOf levels depth longest bundle.now rows → IsAbove levels depth longest bundle.now) }
 
     // Which fault it is, with its text, line and key, is what reading from the first line gives.
     ensures exact { GivesRows rows_view result (rows_at bundle.now) }

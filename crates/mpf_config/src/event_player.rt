@@ -8,12 +8,12 @@ ghost use Rattle.mpf_config.specs.Inside.{pairs_view, players_view};
 use crate::config::EventPlayerRow;
 use crate::entry::spot_of;
 use crate::fault::{ConfigFault, FaultKind};
-use crate::values::{is_name, name_list, name_of};
+use crate::values::{is_name, name_of, names};
 use std::alloc::Global;
 use yaml_subset::tree::{Key, Tree};
 
 /// The row of an entry; or a fault at its key: BadValue where the key is no name, or the value
-/// no list text of names, and Limit where the list is too long.
+/// no list of names, and Limit where the list is too long.
 #[tactic(auto, unfolding(crate::specs::Reading::event_player_at))]
 fn event_player_row(
     alloc: Global,
@@ -27,10 +27,7 @@ fn event_player_row(
     if !is_name(&key.text) {
         return Err(ConfigFault::Bundle(spot.fault(alloc, FaultKind::BadValue)?));
     }
-    let Some(list) = entry.1.as_scalar() else {
-        return Err(ConfigFault::Bundle(spot.fault(alloc, FaultKind::BadValue)?));
-    };
-    let posts = name_list(alloc, spot, entry.1.line(), list)?;
+    let posts = names(alloc, spot, &entry.1)?;
     let event = name_of(alloc, key.line, &key.text)?;
     Ok(EventPlayerRow { event, posts })
 }

@@ -13,7 +13,7 @@ use yaml_subset::fault::FaultKind as YamlKind;
 /// What is wrong.
 #[derive(Clone, Copy, Debug, PartialEq, Eq)]
 pub enum FaultKind {
-    /// The bundle has no `@` line first, a bad `@` line, or no machine text.
+    /// The bundle has no line `@ NAME` first, a bad `@` line, or no machine text.
     Bundle,
     /// The text does not begin with `#config_version=6`.
     Version,
@@ -25,6 +25,8 @@ pub enum FaultKind {
     UnknownSetting,
     /// The value is not one that the setting takes.
     BadValue,
+    /// The name is taken already.
+    Duplicate,
     /// The bundle or a list is above its limit.
     Limit,
 }
@@ -41,6 +43,7 @@ impl FaultKind {
             FaultKind::UnknownSection => 4,
             FaultKind::UnknownSetting => 5,
             FaultKind::BadValue => 6,
+            FaultKind::Duplicate => 8,
             FaultKind::Limit => 9,
         }
     }
@@ -56,6 +59,7 @@ impl FaultKind {
             FaultKind::UnknownSection => "UnknownSection",
             FaultKind::UnknownSetting => "UnknownSetting",
             FaultKind::BadValue => "BadValue",
+            FaultKind::Duplicate => "Duplicate",
             FaultKind::Limit => "Limit",
         }
     }

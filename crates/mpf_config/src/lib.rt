@@ -7,13 +7,20 @@ mod entry;
 mod event_player;
 pub mod fault;
 mod lines;
+pub mod notes;
 mod sections;
 mod spot;
 mod switches;
 #[cfg(test)]
 mod tests;
+mod texts;
+mod unread;
 mod values;
 
 pub use bundle::read_bundle;
-pub use config::{Config, EventPlayerRow, MachineText, Name, Section, SwitchRow};
-pub use fault::{ConfigFault, Fault, FaultKind};
+pub use config::{
+    Config, Contact, Debounce, EventPlayerRow, MachineText, Name, Note, NoteKind, Section,
+    SwitchRow,
+};
+pub use fault::{ConfigFault, Fault, FaultKind, write_fault};
+pub use notes::write_note;

@@ -1,7 +1,7 @@
 //! Where a fault stands.
 
 ghost use Rattle.std.specs.Prelude.{◌≡◌, IfOk};
-ghost use Rattle.mpf_config.specs.Reading.{fault_at};
+ghost use Rattle.mpf_config.specs.Reading.{fault_at, line_spot};
 ghost use Rattle.mpf_config.specs.View.{fault_view};
 ghost use Rattle.mpf_config.specs.Inside.{spot_view};
 
@@ -28,5 +28,19 @@ impl Spot<'_> {
             line: self.line,
             key: Vec::from_slice(alloc, self.key)?,
         })
+    }
+}
+
+/// Stands for the text or the key where a fault has none.
+pub const NONE: &[u8] = b"-";
+
+/// A line of a text as a whole, or of the bundle itself.
+pub fn line_of<'a>(text: &'a [u8], line: u32) -> Spot<'a>
+    ensures { spot_view result ≡ line_spot text.now line }
+{
+    Spot {
+        text,
+        line,
+        key: NONE,
     }
 }

@@ -1,6 +1,7 @@
 use crate::bundle::read_bundle;
-use crate::config::{Config, Name, Section};
+use crate::config::{Config, Contact, Debounce, Name, Section};
 use crate::fault::{ConfigFault, write_fault};
+use crate::notes::write_note;
 use std::alloc::Global;
 use std::test::*;
 
@@ -75,6 +76,32 @@ fn rows_have_lines(rt: HostRuntime) -> Result<(), Fail> {
 }
 
 #[test]
+fn switch_settings(rt: HostRuntime) -> Result<(), Fail> {
+    let text =
+        "switches:\n  a:\n    events_when_deactivated: e\n    type: NC\n    tags: b, c\n    debounce: quick\n    events_when_activated:\n      d\n    label: g h/\n  b:\n    debounce: normal\n    type: NO\n  c:\n    debounce: auto\n";
+    let config = rows_of(rt.alloc(), text).ok().ok_or("rows")?;
+    let [Section::Switches(switches)] = config.machine.sections.as_slice() else {
+        return Err("a section".into());
+    };
+    let [a, b, c] = switches.as_slice() else {
+        return Err("three switches".into());
+    };
+    assert!(rt; a.contact == Contact::NormallyClosed && a.debounce == Debounce::Quick);
+    assert!(rt; b.contact == Contact::NormallyOpen && b.debounce == Debounce::Normal);
+    assert!(rt; c.contact == Contact::NormallyOpen && c.debounce == Debounce::Auto);
+    let [first, second] = a.tags.as_slice() else {
+        return Err("two tags".into());
+    };
+    assert!(rt; is_written(first, 6, "b") && is_written(second, 6, "c"));
+    let ([activated], [deactivated]) = (a.activated.as_slice(), a.deactivated.as_slice()) else {
+        return Err("two events".into());
+    };
+    assert!(rt; is_written(activated, 9, "d") && is_written(deactivated, 4, "e"));
+    assert!(rt; b.tags.is_empty() && b.activated.is_empty() && b.deactivated.is_empty());
+    Ok(())
+}
+
+#[test]
 fn bundle_faults(rt: HostRuntime) {
     let alloc = rt.alloc();
     assert!(rt; has_fault(alloc, b"", "error 1 Bundle - 1 -\n"));
@@ -92,7 +119,21 @@ fn bundle_faults(rt: HostRuntime) {
         has_fault(
             alloc,
             b"@ config/config.yaml\n#config_version=6\n@ config/config.yaml\n",
-            "error 1 Bundle - 3 -\n"
+            "error 8 Duplicate config/config.yaml 1 -\n"
+        )
+    );
+    assert!(rt;
+        has_fault(
+            alloc,
+            b"@ a\n@ b\n@ a\n@ config/config.yaml\n#config_version=6\n@ b\n",
+            "error 8 Duplicate a 1 -\n"
+        )
+    );
+    assert!(rt;
+        has_fault(
+            alloc,
+            b"@ a\n@ a\n@ config/config.yaml\n",
+            "error 2 Version config/config.yaml 1 -\n"
         )
     );
     assert!(rt;
@@ -121,6 +162,33 @@ fn bundle_faults(rt: HostRuntime) {
             alloc,
             b"@\tconfig/config.yaml \r\n#config_version=6 \t\r\nb\n",
             "error 6 BadValue config/config.yaml 2 -\n"
+        )
+    );
+}
+
+// Whether the notes on a bundle are these lines.
+fn has_notes(alloc: Global, bundle: &[u8], lines: &str) -> bool {
+    let Ok(config) = read_bundle(alloc, bundle) else {
+        return false;
+    };
+    let mut found = Vec::new(alloc);
+    for note in &config.notes {
+        if write_note(note, &mut found).is_err() {
+            return false;
+        }
+    }
+    found.as_slice() == lines.as_bytes()
+}
+
+#[test]
+fn notes(rt: HostRuntime) {
+    let alloc = rt.alloc();
+    assert!(rt; has_notes(alloc, b"@ config/config.yaml\n#config_version=6\n", ""));
+    assert!(rt;
+        has_notes(
+            alloc,
+            b"@  modes/m/config/m.yaml \n@ \n#config_version=6\ncoils:\n@\tconfig/config.yaml\r\n#config_version=6\nmpf-mc:\nswitches:\n  a:\nlights: b\n@ c d",
+            "note config/config.yaml 2 skipped mpf-mc\nnote config/config.yaml 5 skipped lights\nnote modes/m/config/m.yaml 0 unlisted modes/m/config/m.yaml\nnote  0 unlisted \nnote c d 0 unlisted c d\n"
         )
     );
 }
@@ -163,8 +231,26 @@ fn text_faults(rt: HostRuntime) {
     );
     assert!(rt;
         refused(
-            "switches:\n  a:\n    x: 1\n    tags: b\n",
-            "error 5 UnknownSetting config/config.yaml 5 tags\n"
+            "switches:\n  a:\n    x: 1\n    coil: b\n",
+            "error 5 UnknownSetting config/config.yaml 5 coil\n"
+        )
+    );
+    assert!(rt;
+        refused(
+            "switches:\n  a:\n    type: no\n    tags: b/\n",
+            "error 6 BadValue config/config.yaml 4 type\n"
+        )
+    );
+    assert!(rt;
+        refused(
+            "switches:\n  a:\n    tags:\n      b/\n    debounce:\n",
+            "error 6 BadValue config/config.yaml 4 tags\n"
+        )
+    );
+    assert!(rt;
+        refused(
+            "switches:\n  a:\n    debounce:\n      b: c\n",
+            "error 6 BadValue config/config.yaml 4 debounce\n"
         )
     );
     assert!(rt;

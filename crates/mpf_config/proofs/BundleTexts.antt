@@ -1,0 +1,154 @@
+-- The texts of a bundle are those that are read, and no others.
+use Rattle.std.proofs.Common.{◌≡◌, ◌≢◌, ℕ, ◌+◌, ◌-◌, ◌≤◌, ◌==◌, true, ◌&&◌, List, [], ◌∷◌, ◌++◌, length, take, get_or, Option, Some, None, Ok, refl, sym, ap, subst, ◌∙◌, append_assoc, inl, inr, arith}
+use Rattle.std.proofs.lemmas.Bool.{eqb-true, and_parts}
+use Rattle.std.proofs.lemmas.List.{append-nil}
+use Rattle.mpf_config.specs.BundleText.{Text, is_blank, behind_blanks, trimmed, first_line, behind_first_line, name_in, pieces_of, line_ends, numbered}
+use Rattle.mpf_config.specs.RowsOf.{AreBlanks, IsFirstLine, IsBare, IsPiece, EndsLine, AreTexts}
+use Rattle.mpf_config.specs.Reading.{◌>>=◌, each_read, text_from, text_at, texts_at}
+use Rattle.mpf_config.proofs.Steps.{bind_ok, chosen, ok_is}
+use Rattle.mpf_config.proofs.Trimming.{front_and_last, trimmed_all, last_is_none}
+use Rattle.mpf_config.proofs.FirstLines.{trimmed_behind, trimming, skipping, skips, first_is_none, splitting, begins_is}
+use Rattle.mpf_config.proofs.Pieces.{piece_sound, none_is_empty, BeginsAt, piece_complete}
+
+-- ---- the name
+
+abbrev named : List ℕ → Option (List ℕ)
+named name = Some name
+
+some_is : (x y : List ℕ) → named x ≡ named y → x ≡ y
+some_is x y e = cc
+
+no_name : (name : List ℕ) → None ≡ named name → ⊥
+no_name name e = cc
+
+-- a line `@ NAME`
+record Named (line name : List ℕ) : Type 0 where
+  blank : ℕ
+  rest : List ℕ
+  is : line ≡ 64 ∷ blank ∷ rest
+  is_a_blank : is_blank blank ≡ true
+  name_is : trimmed (behind_blanks rest) ≡ name
+
+name_sound : (line name : List ℕ) → name_in line ≡ Some name → Named line name
+name_sound [] name e = absurd (no_name name e)
+name_sound (a ∷ []) name e = absurd (no_name name e)
+name_sound (a ∷ b ∷ rest) name e =
+    elim (chosen ((a == 64) && is_blank b) (named (trimmed (behind_blanks rest))) None (named name) e) [
+      | inl p ↦
+          let both = and_parts (a == 64) (is_blank b) p.0 in
+          record {
+            blank = b;
+            rest = rest;
+            is = ap (λ (c : ℕ). c ∷ b ∷ rest) (eqb-true a 64 both.0);
+            is_a_blank = both.1;
+            name_is = some_is (trimmed (behind_blanks rest)) name p.1;
+          }
+      | inr p ↦ absurd (no_name name p.1)
+    ]
+
+bare_from : (rest name : List ℕ) → trimmed (behind_blanks rest) ≡ name → IsBare name
+bare_from rest name e =
+    let t = trimming (behind_blanks rest) in
+    record {
+      first = λ after b is. first_is_none rest b (after ++ t.blanks) (t.parts ∙ ap (λ (xs : List ℕ). xs ++ t.blanks) (e ∙ is));
+      last = λ front b is. last_is_none (behind_blanks rest) front b (e ∙ is);
+    }
+
+bare_again : (name blanks : List ℕ) → IsBare name → AreBlanks blanks → trimmed (behind_blanks (name ++ blanks)) ≡ name
+bare_again [] blanks h k = ap (λ (xs : List ℕ). trimmed (behind_blanks xs)) (sym (append-nil blanks)) ∙ ap trimmed (skips blanks [] k)
+bare_again (b ∷ bs) blanks h k =
+    let some : 1 ≤ length (b ∷ bs) = omega arith in
+    let last = h.last (take (length (b ∷ bs) - 1) (b ∷ bs)) (get_or (b ∷ bs) (length (b ∷ bs) - 1) 0) (sym (front_and_last (b ∷ bs) some)) in
+    rw (h.first bs b refl) (trimmed_behind (b ∷ bs) blanks k ∙ trimmed_all (b ∷ bs) some last)
+
+-- ---- one text
+
+from_sound : (line : ℕ) (piece : List ℕ) (name : Option (List ℕ)) (t : Text) → text_from line piece name ≡ Ok t → (name ≡ Some t.name) × (t.text ≡ behind_first_line piece)
+from_sound line piece None t e = absurd cc
+from_sound line piece (Some name) t e =
+    let same : record { name = name; text = behind_first_line piece } ≡ t = ok_is (record { name = name; text = behind_first_line piece }) t e in
+    (ap (λ (u : Text). named u.name) same, sym (ap (λ (u : Text). u.text) same))
+
+text_sound : (line : ℕ) (piece : List ℕ) (t : Text) → text_at (line, piece) ≡ Ok t → ((front rest : List ℕ) → piece ≢ front ++ 10 ∷ 64 ∷ rest) → IsPiece piece t
+unfolding text_at
+text_sound line piece t e alone =
+    let f = from_sound line piece (name_in (first_line piece)) t e in
+    let n = name_sound (first_line piece) t.name f.0 in
+    let s = skipping n.rest in
+    let r = trimming (behind_blanks n.rest) in
+    let front = 64 ∷ n.blank ∷ (s.blanks ++ t.name) in
+    let behind : behind_blanks n.rest ≡ t.name ++ r.blanks = r.parts ∙ ap (λ (xs : List ℕ). xs ++ r.blanks) n.name_is in
+    let rest : n.rest ≡ (s.blanks ++ t.name) ++ r.blanks = s.parts ∙ ap (λ (xs : List ℕ). s.blanks ++ xs) behind ∙ sym (append_assoc s.blanks t.name r.blanks) in
+    let whole : first_line piece ≡ front ++ r.blanks = n.is ∙ ap (λ (xs : List ℕ). 64 ∷ n.blank ∷ xs) rest in
+    let first : IsFirstLine (front ++ r.blanks) piece t.text =
+    subst (λ xs. IsFirstLine xs piece t.text) whole (subst (λ xs. IsFirstLine (first_line piece) piece xs) (sym f.1) (splitting piece)) in
+    record {
+      blank = n.blank;
+      blanks = s.blanks;
+      are_blanks = (n.is_a_blank, s.are_blanks);
+      bare = bare_from n.rest t.name n.name_is;
+      begins = record { blanks = r.blanks; are_blanks = r.are_blanks; whole = first };
+      alone = alone;
+    }
+
+text_complete : (line : ℕ) (piece : List ℕ) (t : Text) → IsPiece piece t → text_at (line, piece) ≡ Ok t
+unfolding text_at
+text_complete line piece t h =
+    let front = 64 ∷ h.blank ∷ (h.blanks ++ t.name) in
+    let r = begins_is front piece t.text h.begins in
+    let after = h.begins.blanks in
+    let name : trimmed (behind_blanks ((h.blanks ++ t.name) ++ after)) ≡ t.name =
+    ap (λ (xs : List ℕ). trimmed (behind_blanks xs)) (append_assoc h.blanks t.name after)
+    ∙ ap trimmed (skips h.blanks (t.name ++ after) h.are_blanks.1)
+    ∙ bare_again t.name after h.bare h.begins.are_blanks in
+    let found : name_in (first_line piece) ≡ Some t.name = ap name_in r.0 ∙ rw (h.are_blanks.0, name) refl in
+    rw (found, r.1) refl
+
+-- ---- all of them
+
+each_sound : (line : ℕ) (pieces : List (List ℕ)) (bundle : List ℕ) (texts : List Text) → pieces_of bundle ≡ pieces → each_read text_at (numbered line pieces) ≡ Ok texts → AreTexts bundle texts
+unfolding each_read
+each_sound line [] bundle texts p e = subst (AreTexts bundle) (ok_is [] texts e) (none_is_empty bundle p)
+each_sound line (piece ∷ pieces) bundle texts p e =
+    let f = piece_sound bundle piece pieces p in
+    let others = numbered (line + line_ends piece) pieces in
+    let a = bind_ok (text_at (line, piece)) (λ t. each_read text_at others >>= λ ts. Ok (t ∷ ts)) texts e in
+    let b = bind_ok (each_read text_at others) (λ ts. Ok (a.0 ∷ ts)) texts a.2 in
+    let rest = each_sound (line + line_ends piece) pieces f.behind b.0 f.others b.1 in
+    subst (AreTexts bundle) (ok_is (a.0 ∷ b.0) texts b.2) (piece, f.behind, f.parts, text_sound line piece a.0 a.1 f.alone, f.ends, rest)
+
+pub texts_sound : (bundle : List ℕ) (texts : List Text) → texts_at bundle ≡ Ok texts → AreTexts bundle texts
+unfolding texts_at
+texts_sound bundle texts e = each_sound 1 (pieces_of bundle) bundle texts refl e
+
+-- a piece begins with `@`
+record BeginsPiece (piece : List ℕ) : Type 0 where
+  rest : List ℕ
+  is : piece ≡ 64 ∷ rest
+
+begins_piece : (piece : List ℕ) (t : Text) → IsPiece piece t → BeginsPiece piece
+begins_piece piece t h = record { rest = h.blank ∷ (((h.blanks ++ t.name) ++ h.begins.blanks) ++ (h.begins.whole.end ++ t.text)); is = h.begins.whole.parts }
+
+begins_at : (bundle : List ℕ) (texts : List Text) → AreTexts bundle texts → BeginsAt bundle
+begins_at [] texts h = tt
+begins_at (b ∷ bs) [] h = absurd cc
+begins_at (b ∷ bs) (t ∷ ts) h =
+    let k = begins_piece h.0 t h.3 in
+    let whole : b ∷ bs ≡ 64 ∷ k.rest ++ h.1 = h.2 ∙ ap (λ (xs : List ℕ). xs ++ h.1) k.is in
+    cc
+
+each_complete : (line : ℕ) (bundle : List ℕ) (texts : List Text) → AreTexts bundle texts → each_read text_at (numbered line (pieces_of bundle)) ≡ Ok texts
+unfolding each_read pieces_of
+each_complete line bundle [] h = rw h refl
+each_complete line bundle (t ∷ ts) h =
+    let piece = h.0 in
+    let behind = h.1 in
+    let k = begins_piece piece t h.3 in
+    let alone : (front others : List ℕ) → 64 ∷ k.rest ≢ front ++ 10 ∷ 64 ∷ others = subst (λ xs. (front others : List ℕ) → xs ≢ front ++ 10 ∷ 64 ∷ others) k.is h.3.alone in
+    let pieces = piece_complete k.rest behind alone (begins_at behind ts h.5) (subst (λ xs. EndsLine xs behind) k.is h.4) in
+    let whole : pieces_of bundle ≡ piece ∷ pieces_of behind = ap pieces_of (h.2 ∙ ap (λ (xs : List ℕ). xs ++ behind) k.is) ∙ pieces ∙ ap (λ (xs : List ℕ). xs ∷ pieces_of behind) (sym k.is) in
+    rw (whole, text_complete line piece t h.3, each_complete (line + line_ends piece) behind ts h.5) refl
+
+pub texts_complete : (bundle : List ℕ) (texts : List Text) → AreTexts bundle texts → texts_at bundle ≡ Ok texts
+unfolding texts_at
+texts_complete bundle texts h = each_complete 1 bundle texts h

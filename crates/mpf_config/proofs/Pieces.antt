@@ -1,0 +1,186 @@
+-- The pieces of a bundle, one after the other.
+use Rattle.std.proofs.Common.{◌≡◌, ◌≢◌, ℕ, ◌+◌, ◌<◌, ◌==◌, Bool, true, false, ◌&&◌, List, [], ◌∷◌, ◌++◌, length, take, drop, refl, sym, ap, ◌∙◌, ◌⊎◌, inl, inr, arith}
+use Rattle.std.proofs.lemmas.List.{take-append-drop}
+use Rattle.std.proofs.lemmas.Bool.{eqb-true, and_parts, false_from_ne_true}
+use Rattle.mpf_config.specs.RowsOf.{EndsLine}
+use Rattle.mpf_config.specs.BundleText.{pieces_from, pieces_of, piece_len, line_ends, numbered}
+
+abbrev Cut : Bool → List ℕ → Type 0
+Cut begins text = pieces_from begins text ≡ (take (piece_len begins text) text, pieces_of (drop (piece_len begins text) text))
+
+cut_here : (begins : Bool) (b : ℕ) (bs : List ℕ) → (begins && (b == 64)) ≡ true → Cut begins (b ∷ bs)
+unfolding pieces_of
+cut_here begins b bs e =
+    let at : b == 64 ≡ true = (and_parts begins (b == 64) e).1 in
+    rw (e, at) refl
+
+cut_step : (begins : Bool) (b : ℕ) (bs : List ℕ) (here : Bool) → (begins && (b == 64)) ≡ here → Cut (b == 10) bs → Cut begins (b ∷ bs)
+cut_step begins b bs true e h = cut_here begins b bs e
+cut_step begins b bs false e h = rw (e, h) refl
+
+-- the bytes before the next line that begins with `@`, and the pieces from there on
+pub cut : (begins : Bool) (text : List ℕ) → Cut begins text
+unfolding pieces_of
+cut begins [] = refl
+cut begins (b ∷ bs) = cut_step begins b bs (begins && (b == 64)) refl (cut (b == 10) bs)
+
+first_by : (b : ℕ) (bs : List ℕ) (at : Bool) → b == 64 ≡ at → pieces_of (b ∷ bs) ≡ (b ∷ (pieces_from (b == 10) bs).0) ∷ (pieces_from (b == 10) bs).1
+unfolding pieces_of
+first_by b bs true e = rw e refl
+first_by b bs false e = rw e refl
+
+pub first_piece : (b : ℕ) (bs : List ℕ) → pieces_of (b ∷ bs) ≡ take (piece_len false (b ∷ bs)) (b ∷ bs) ∷ pieces_of (drop (piece_len false (b ∷ bs)) (b ∷ bs))
+first_piece b bs = first_by b bs (b == 64) refl ∙ rw (cut (b == 10) bs) refl
+
+-- ---- what the code goes by
+
+pub none_left : (rest : List ℕ) → length rest == 0 ≡ true → pieces_of rest ≡ []
+unfolding pieces_of
+none_left [] e = refl
+none_left (b ∷ bs) e = let no_bytes : length (b ∷ bs) ≡ 0 = eqb-true (length (b ∷ bs)) 0 e in absurd (omega arith)
+
+pub next_piece : (rest piece behind : List ℕ) (n : ℕ) → length rest == 0 ≡ false → n ≡ piece_len false rest → piece ≡ take n rest → behind ≡ drop n rest → pieces_of rest ≡ piece ∷ pieces_of behind
+next_piece [] piece behind n some len p d = absurd cc
+next_piece (b ∷ bs) piece behind n some len p d = rw (p, d, len) (first_piece b bs)
+
+pub next_numbered : (line : ℕ) (rest piece behind : List ℕ) (n : ℕ) → length rest == 0 ≡ false → n ≡ piece_len false rest → piece ≡ take n rest → behind ≡ drop n rest
+    → numbered line (pieces_of rest) ≡ (line, piece) ∷ numbered (line + line_ends piece) (pieces_of behind)
+next_numbered line rest piece behind n some len p d = ap (numbered line) (next_piece rest piece behind n some len p d)
+
+pub has_bytes : (rest : List ℕ) (n : ℕ) → length rest == 0 ≡ false → n ≡ piece_len false rest → 0 < n
+has_bytes [] n some len = absurd cc
+has_bytes (b ∷ bs) n some len = omega (arith, len)
+
+-- ---- lines that begin with `@`
+
+-- no line begins with `@`, where the first byte begins a line or not
+abbrev HasNone : Bool → List ℕ → Type 0
+HasNone begins [] = Unit {0}
+HasNone begins (b ∷ bs) = ((begins && (b == 64)) ≡ false) × HasNone (b == 10) bs
+
+-- whether a line begins behind a text
+abbrev begins_behind : Bool → List ℕ → Bool
+begins_behind begins [] = begins
+begins_behind begins (b ∷ bs) = begins_behind (b == 10) bs
+
+-- where a text goes on, a line begins with `@`
+abbrev GoesOn : Bool → List ℕ → Type 0
+GoesOn begins [] = Unit {0}
+GoesOn begins (b ∷ bs) = (begins && (b == 64)) ≡ true
+
+abbrev IsCut : Bool → List ℕ → Type 0
+IsCut begins text = HasNone begins (take (piece_len begins text) text) × GoesOn (begins_behind begins (take (piece_len begins text) text)) (drop (piece_len begins text) text)
+
+is_cut_step : (begins : Bool) (b : ℕ) (bs : List ℕ) (here : Bool) → (begins && (b == 64)) ≡ here → IsCut (b == 10) bs → IsCut begins (b ∷ bs)
+is_cut_step begins b bs true e h = rw e (tt, e)
+is_cut_step begins b bs false e h = rw e ((e, h.0), h.1)
+
+is_cut : (begins : Bool) (text : List ℕ) → IsCut begins text
+is_cut begins [] = (tt, tt)
+is_cut begins (b ∷ bs) = is_cut_step begins b bs (begins && (b == 64)) refl (is_cut (b == 10) bs)
+
+clash : {b : Bool} → b ≡ true → b ≡ false → ⊥
+clash t f = cc
+
+none_later : (begins : Bool) (text : List ℕ) → HasNone begins text → (front rest : List ℕ) → text ≢ front ++ 10 ∷ 64 ∷ rest
+none_later begins [] h [] rest e = cc
+none_later begins [] h (c ∷ front) rest e = cc
+none_later begins (b ∷ bs) h [] rest e =
+    let lf : b ≡ 10 = cc in
+    let behind : bs ≡ 64 ∷ rest = cc in
+    let none : HasNone (b == 10) (64 ∷ rest) = rw behind at h.1 in
+    clash (rw lf refl) none.0
+none_later begins (b ∷ bs) h (c ∷ front) rest e = none_later (b == 10) bs h.1 front rest (let behind : bs ≡ front ++ 10 ∷ 64 ∷ rest = cc in behind)
+
+none_from : (begins : Bool) (text : List ℕ) → (begins ≡ true → (rest : List ℕ) → text ≢ 64 ∷ rest) → ((front rest : List ℕ) → text ≢ front ++ 10 ∷ 64 ∷ rest) → HasNone begins text
+none_from begins [] first later = tt
+none_from begins (b ∷ bs) first later =
+    let no_hit : (begins && (b == 64)) ≡ false = false_from_ne_true (begins && (b == 64)) (λ hit.
+    let both = and_parts begins (b == 64) hit in
+    first both.0 bs (ap (λ (c : ℕ). c ∷ bs) (eqb-true b 64 both.1))) in (
+      no_hit,
+      none_from (b == 10) bs
+          (λ at rest same. later [] rest (ap (λ (c : ℕ). c ∷ bs) (eqb-true b 10 at) ∙ ap (λ (xs : List ℕ). 10 ∷ xs) same))
+          (λ front rest same. later (b ∷ front) rest (ap (λ (xs : List ℕ). b ∷ xs) same)),
+    )
+
+ends_lf : (begins : Bool) (text : List ℕ) → begins_behind begins text ≡ true → ((text ≡ []) × (begins ≡ true)) ⊎ ((front : List ℕ) × (text ≡ front ++ 10 ∷ []))
+ends_lf begins [] e = inl (refl, e)
+ends_lf begins (b ∷ bs) e =
+    elim (ends_lf (b == 10) bs e) [
+      | inl k ↦ inr ([], ap (λ (xs : List ℕ). b ∷ xs) k.0 ∙ ap (λ (c : ℕ). c ∷ []) (eqb-true b 10 k.1))
+      | inr k ↦ inr (b ∷ k.0, ap (λ (xs : List ℕ). b ∷ xs) k.1)
+    ]
+
+begins_after_lf : (begins : Bool) (front : List ℕ) → begins_behind begins (front ++ 10 ∷ []) ≡ true
+begins_after_lf begins [] = refl
+begins_after_lf begins (b ∷ front) = begins_after_lf (b == 10) front
+
+ends_line : (piece behind : List ℕ) → GoesOn (begins_behind false piece) behind → EndsLine piece behind
+ends_line piece [] h = tt
+ends_line piece (b ∷ behind) h =
+    elim (ends_lf false piece (and_parts (begins_behind false piece) (b == 64) h).0) [
+      | inl k ↦ absurd (let no : false ≡ true = k.1 in cc)
+      | inr k ↦ k
+    ]
+
+goes_on : (piece : List ℕ) (b : ℕ) (behind : List ℕ) → b ≡ 64 → EndsLine piece (b ∷ behind) → GoesOn (begins_behind false piece) (b ∷ behind)
+goes_on piece b behind is h =
+    let begins : begins_behind false piece ≡ true = ap (begins_behind false) h.1 ∙ begins_after_lf false h.0 in
+    rw (begins, is) refl
+
+-- ---- one piece
+
+pub record IsFirst (bundle piece : List ℕ) (pieces : List (List ℕ)) : Type 0 where
+  pub behind : List ℕ
+  pub parts : bundle ≡ piece ++ behind
+  pub alone : (front rest : List ℕ) → piece ≢ front ++ 10 ∷ 64 ∷ rest
+  pub ends : EndsLine piece behind
+  pub others : pieces_of behind ≡ pieces
+
+pub piece_sound : (bundle piece : List ℕ) (pieces : List (List ℕ)) → pieces_of bundle ≡ piece ∷ pieces → IsFirst bundle piece pieces
+unfolding pieces_of
+piece_sound [] piece pieces e = absurd cc
+piece_sound (b ∷ bs) piece pieces e =
+    let text = b ∷ bs in
+    let n = piece_len false text in
+    let same : take n text ∷ pieces_of (drop n text) ≡ piece ∷ pieces = sym (first_piece b bs) ∙ e in
+    let first : take n text ≡ piece = cc in
+    let rest : pieces_of (drop n text) ≡ pieces = cc in
+    let k = is_cut false text in
+    rw (← first, ← rest) (record {
+      behind = drop n text;
+      parts = sym (take-append-drop n text);
+      alone = none_later false (take n text) k.0;
+      ends = ends_line (take n text) (drop n text) k.1;
+      others = refl;
+    })
+
+pub none_is_empty : (bundle : List ℕ) → pieces_of bundle ≡ [] → bundle ≡ []
+none_is_empty [] e = refl
+none_is_empty (b ∷ bs) e = absurd (let no : take (piece_len false (b ∷ bs)) (b ∷ bs) ∷ pieces_of (drop (piece_len false (b ∷ bs)) (b ∷ bs)) ≡ [] = sym (first_piece b bs) ∙ e in cc)
+
+cut_piece : (begins : Bool) (piece behind : List ℕ) → HasNone begins piece → GoesOn (begins_behind begins piece) behind → pieces_from begins (piece ++ behind) ≡ (piece, pieces_of behind)
+unfolding pieces_of
+cut_piece begins [] [] h g = refl
+cut_piece begins [] (b ∷ behind) h g =
+    let at : b == 64 ≡ true = (and_parts begins (b == 64) g).1 in
+    rw (g, at) refl
+cut_piece begins (b ∷ piece) behind h g = rw (h.0, cut_piece (b == 10) piece behind h.1 g) refl
+
+in_front : (rest behind : List ℕ) → HasNone false (64 ∷ rest) → GoesOn (begins_behind false (64 ∷ rest)) behind → pieces_of (64 ∷ rest ++ behind) ≡ (64 ∷ rest) ∷ pieces_of behind
+in_front rest behind h g = first_by 64 (rest ++ behind) true refl ∙ rw (cut_piece false rest behind h.1 g) refl
+
+-- where another piece stands behind, it begins with `@`
+abbrev pub BeginsAt : List ℕ → Type 0
+BeginsAt [] = Unit {0}
+BeginsAt (b ∷ bs) = b ≡ 64
+
+going_on : (piece behind : List ℕ) → BeginsAt behind → EndsLine piece behind → GoesOn (begins_behind false piece) behind
+going_on piece [] at h = tt
+going_on piece (b ∷ behind) at h = goes_on piece b behind at h
+
+pub piece_complete : (rest behind : List ℕ) → ((front others : List ℕ) → 64 ∷ rest ≢ front ++ 10 ∷ 64 ∷ others) → BeginsAt behind → EndsLine (64 ∷ rest) behind
+    → pieces_of (64 ∷ rest ++ behind) ≡ (64 ∷ rest) ∷ pieces_of behind
+piece_complete rest behind alone at ends =
+    in_front rest behind (none_from false (64 ∷ rest) (λ no others same. let never : false ≡ true = no in cc) alone) (going_on (64 ∷ rest) behind at ends)

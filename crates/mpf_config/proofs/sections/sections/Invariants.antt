@@ -1,0 +1,11 @@
+use Rattle.std.proofs.Common.{◌≡◌, drop}
+use Rattle.mpf_config.specs.Unread.{read_of}
+use Rattle.mpf_config.specs.Reading.{each_read, section_at}
+use Rattle.mpf_config.specs.Inside.{pairs_view, sections_view}
+use Rattle.mpf_config.proofs.EachRead.{with_front}
+use Rattle.mpf_config.proofs.sections.sections.Given as goal
+
+abbrev pub invariant-loop-entry : goal.invariant-loop-entry
+invariant-loop-entry l =
+    with_front (sections_view l.sections) (each_read (section_at l.text) (read_of (pairs_view (drop l.entry-index l.entries))))
+    ≡ each_read (section_at l.text) (read_of (pairs_view l.entries))

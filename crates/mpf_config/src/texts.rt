@@ -1,0 +1,135 @@
+//! The texts of a bundle.
+
+ghost use Rattle.std.specs.Prelude.{◌≡◌, ◌≤◌, ◌^◌, ◌||◌, ℕ, List, [], not, false, length, IfOk};
+ghost use Rattle.std.specs.Str.{bytes_eq};
+ghost use Rattle.yaml_subset.specs.Keys.{is_among};
+ghost use Rattle.yaml_subset.specs.View.{option_slice};
+ghost use Rattle.mpf_config.specs.BundleText.{name_in, piece_len, line_ends};
+ghost use Rattle.mpf_config.specs.Reading.{text_at, texts_at, machine_at, new_at};
+ghost use Rattle.mpf_config.specs.View.{GivesRows};
+ghost use Rattle.mpf_config.specs.Inside.{bytes_view, text_view, texts_view, keys_view};
+
+use crate::fault::{ConfigFault, FaultKind};
+use crate::lines::{behind_blanks, is_blank, split_line, trimmed};
+use crate::spot::{NONE, line_of};
+use std::alloc::{AllocFailed, Global};
+use std::collections::BTreeSet;
+
+/// The name of the machine text.
+pub const MACHINE_NAME: &[u8] = b"config/config.yaml";
+
+/// A text, and the name in the line `@ NAME` in front of it.
+#[derive(Clone, Copy)]
+pub struct Text<'a> {
+    pub name: &'a [u8],
+    pub text: &'a [u8],
+}
+
+/// The name in a line `@ NAME`; or nothing where the line is none.
+fn name_in(line: &[u8]) -> Option<&[u8]>
+    ensures { option_slice (λ name. name) result ≡ name_in line.now }
+{
+    match line {
+        [b'@', b, rest @ ..] if is_blank(*b) => Some(trimmed(behind_blanks(rest))),
+        _ => None,
+    }
+}
+
+/// How many bytes stand in front of the next line that begins with `@`, apart from the first
+/// line.
+fn piece_len(bundle: &[u8]) -> usize
+    ensures within { result ≤ length bundle.now }
+    ensures value { result ≡ piece_len false bundle.now }
+{
+    let mut len = 0;
+    let mut begins = false;
+    let mut rest = bundle;
+    while let [b, after @ ..] = rest {
+        if begins && *b == b'@' {
+            break;
+        }
+        begins = *b == b'\n';
+        rest = after;
+        len += 1;
+    }
+    len
+}
+
+/// How many lines end in a piece of a bundle.
+fn line_ends(piece: &[u8]) -> usize
+    ensures value { result ≡ line_ends piece.now }
+    ensures few { result ≤ length piece.now }
+{
+    piece.iter().filter(|b| **b == b'\n').count()
+}
+
+/// The text of a piece of the bundle, which begins at this line of it; or Bundle at the line.
+#[tactic(auto, unfolding(crate::specs::Reading::text_at))]
+fn text_of<'a>(alloc: Global, line: u32, piece: &'a [u8]) -> Result<Text<'a>, ConfigFault>
+    ensures { GivesRows text_view result (text_at (line, piece.now)) }
+{
+    let (first, text) = split_line(piece);
+    let Some(name) = name_in(first) else {
+        let fault = line_of(NONE, line).fault(alloc, FaultKind::Bundle)?;
+        return Err(ConfigFault::Bundle(fault));
+    };
+    Ok(Text { name, text })
+}
+
+/// The texts of a bundle, in its order; or Bundle at the first line that is to be `@ NAME` and
+/// is not: the first one, or one that begins with `@`. An empty bundle has no texts.
+pub fn texts(alloc: Global, bundle: &[u8]) -> Result<Vec<Text<'_>>, ConfigFault>
+    requires { length bundle.now ≤ 2 ^ 23 }
+    ensures { GivesRows (λ texts. texts_view texts.items) result (texts_at bundle.now) }
+{
+    let mut texts = Vec::new(alloc);
+    let mut line = 1;
+    let mut rest = bundle;
+    while !rest.is_empty() {
+        let (piece, behind) = rest.split_at(piece_len(rest));
+        let text = text_of(alloc, line, piece)?;
+        texts.push(text)?;
+        line += line_ends(piece) as u32;
+        rest = behind;
+    }
+    Ok(texts)
+}
+
+/// The machine text, wherever it stands among the texts; or Bundle.
+pub fn machine_text<'a>(alloc: Global, texts: &[Text<'a>]) -> Result<&'a [u8], ConfigFault>
+    ensures { GivesRows bytes_view result (machine_at (texts_view texts.now)) }
+{
+    for text in texts {
+        if text.name == MACHINE_NAME {
+            return Ok(text.text);
+        }
+    }
+    let fault = line_of(NONE, 1).fault(alloc, FaultKind::Bundle)?;
+    Err(ConfigFault::Bundle(fault))
+}
+
+/// Takes a name, and says whether it is new. Where memory runs out it may be taken or not.
+fn take_name<'a>(
+    names: &mut BTreeSet<&'a [u8]>,
+    name: &'a [u8],
+) -> Result<bool, AllocFailed<&'a [u8]>>
+    ensures fresh { IfOk result (λ fresh. fresh ≡ not (is_among (keys_view names.old) name.now)) }
+    ensures known { IfOk result (λ fresh. (q : List ℕ) → is_among (keys_view names.new) q ≡ (bytes_eq name.now q || is_among (keys_view names.old) q)) }
+{
+    names.insert(name)
+}
+
+/// Sees that no two texts have one name; or Duplicate at the later one.
+pub fn compare_names(alloc: Global, texts: &[Text<'_>]) -> Result<(), ConfigFault>
+    ensures { GivesRows (λ u. u) result (new_at [] (texts_view texts.now)) }
+{
+    let mut names = BTreeSet::new(alloc);
+    for text in texts {
+        let fresh = take_name(&mut names, text.name)?;
+        if !fresh {
+            let fault = line_of(text.name, 1).fault(alloc, FaultKind::Duplicate)?;
+            return Err(ConfigFault::Bundle(fault));
+        }
+    }
+    Ok(())
+}
