@@ -7,18 +7,18 @@ use Rattle.std.specs.Map.{lookup}
 use Rattle.std.proofs.lemmas.List.{map-append, drop_more, length_push, length-map}
 use Rattle.indexmap.specs.IndexMap.{insert_entry}
 use Rattle.mpf_config.specs.Rows as config
-use Rattle.mpf_plan.specs.declared.tables.SwitchPosts.{SwitchPosts}
+use Rattle.mpf_plan.specs.declared.tables.SwitchEntry.{SwitchEntry}
 use Rattle.mpf_plan.specs.declared.fault.Table.TheVariants.{Switches}
 use Rattle.mpf_plan.specs.declared.fault.PlanFault.{PlanFault}
 use Rattle.mpf_plan.specs.PlanView.{Switch}
 use Rattle.mpf_plan.specs.Inside.{switch_view}
 use Rattle.mpf_plan.specs.Uses.{active_posts, inactive_posts}
-use Rattle.mpf_plan.specs.PlanOf.{event_of, switch_of}
+use Rattle.mpf_plan.specs.PlanOf.{event_of, kind_of, switch_of}
 use Rattle.mpf_plan.specs.Noting.{with_item, with_switches, GivesTable, AddsSwitches}
 use Rattle.mpf_plan.proofs.Noted.{IsOnWay, with_item-grows, way_err}
 
 -- a name has a switch where the map finds it
-pub any_lookup : (name : List ℕ) (es : List (Vec ℕ Global × SwitchPosts)) → list_any (λ (t : Switch). bytes_eq name t.name) (map switch_view es) ≡ is_some (lookup (λ (k : Vec ℕ Global). bytes_eq name k.items) es)
+pub any_lookup : (name : List ℕ) (es : List (Vec ℕ Global × SwitchEntry)) → list_any (λ (t : Switch). bytes_eq name t.name) (map switch_view es) ≡ is_some (lookup (λ (k : Vec ℕ Global). bytes_eq name k.items) es)
 any_lookup name [] = refl
 any_lookup name (e ∷ es) = by (bytes_eq name e.0.items) (any_lookup name es)
   where
@@ -28,7 +28,7 @@ any_lookup name (e ∷ es) = by (bytes_eq name e.0.items) (any_lookup name es)
     by false rest = rest
 
 -- a new name goes last
-insert_last : (k : Vec ℕ Global) (v : SwitchPosts) (es : List (Vec ℕ Global × SwitchPosts)) → list_any (λ (t : Switch). bytes_eq k.items t.name) (map switch_view es) ≡ false
+insert_last : (k : Vec ℕ Global) (v : SwitchEntry) (es : List (Vec ℕ Global × SwitchEntry)) → list_any (λ (t : Switch). bytes_eq k.items t.name) (map switch_view es) ≡ false
     → insert_entry (λ (a b : Vec ℕ Global). bytes_eq a.items b.items) es k v ≡ es ++ (k, v) ∷ []
 insert_last k v [] absent = refl
 insert_last k v (e ∷ es) absent = by (bytes_eq k.items e.0.items) (insert_last k v es) absent
@@ -39,7 +39,7 @@ insert_last k v (e ∷ es) absent = by (bytes_eq k.items e.0.items) (insert_last
     by true rest a = absurd (true≢false a)
     by false rest a = ap (λ l. e ∷ l) (rest a)
 
-module _ (names : List (List ℕ)) (es : List (Vec ℕ Global × SwitchPosts)) (s : config.Switch) where
+module _ (names : List (List ℕ)) (es : List (Vec ℕ Global × SwitchEntry)) (s : config.Switch) where
   abbrev Known : Bool → Type 0
   Known b = list_any (λ (t : Switch). bytes_eq s.name.text t.name) (map switch_view es) ≡ b
 
@@ -54,13 +54,13 @@ module _ (names : List (List ℕ)) (es : List (Vec ℕ Global × SwitchPosts)) (
   length-switch_new known = ap length (switch_new known) ∙ length_push (map switch_view es) (switch_of names s) ∙ ap (λ n. n + 1) (length-map es switch_view)
 
   -- what an insert of a new switch leaves
-  pub switch_inserted : (k : Vec ℕ Global) (v : SwitchPosts) (new : List (Vec ℕ Global × SwitchPosts)) → Known false → k.items ≡ s.name.text
-      → v.active.items ≡ map (event_of names) (active_posts s) → v.inactive.items ≡ map (event_of names) (inactive_posts s)
+  pub switch_inserted : (k : Vec ℕ Global) (v : SwitchEntry) (new : List (Vec ℕ Global × SwitchEntry)) → Known false → k.items ≡ s.name.text
+      → v.kind ≡ kind_of s → v.active.items ≡ map (event_of names) (active_posts s) → v.inactive.items ≡ map (event_of names) (inactive_posts s)
       → new ≡ insert_entry (λ (a b : Vec ℕ Global). bytes_eq a.items b.items) es k v → map switch_view new ≡ with_switches names (map switch_view es) (s ∷ [])
-  switch_inserted k v new known name active inactive e =
+  switch_inserted k v new known name kind active inactive e =
       ap (map switch_view) (e ∙ insert_last k v es (ap (λ n. list_any (λ (t : Switch). bytes_eq n t.name) (map switch_view es)) name ∙ known))
       ∙ map-append switch_view es ((k, v) ∷ [])
-      ∙ (λ i. map switch_view es ++ record { name = name i; active = active i; inactive = inactive i } ∷ [])
+      ∙ (λ i. map switch_view es ++ record { name = name i; kind = kind i; active = active i; inactive = inactive i } ∷ [])
       ∙ sym (switch_new known)
 
 -- the switches added on the way through the entries

@@ -98,12 +98,12 @@ with_item-grows {X} {Y} name key make done x = by (list_any (λ y. bytes_eq (nam
 pub rows_left : {R V X : Type 0} (uses : V → List X) (view : R → V) (rows : List R) (i : ℕ) (row : R) → i < length rows → row ≡ get_or rows i row → flat_map uses (map view (drop i rows)) ≡ uses (view row) ++ flat_map uses (map view (drop (i + 1) rows))
 rows_left uses view rows i row within is = ap (λ d. flat_map uses (map view d)) (drop_more rows i row within) ∙ ap (λ r. uses (view r) ++ flat_map uses (map view (drop (i + 1) rows))) (sym is)
 
--- the same of names, of which each is used once
-pub names_left : (names : List Name) (i : ℕ) (n : Name) (text : List ℕ) → i < length names → n ≡ get_or names i n → text ≡ n.text.items
-    → map (λ w. w.text) (map name_view (drop i names)) ≡ (text ∷ []) ++ map (λ w. w.text) (map name_view (drop (i + 1) names))
-names_left names i n text within is written =
-    ap (λ d. map (λ w. w.text) (map name_view d)) (drop_more names i n within)
-    ∙ ap (λ t. t ∷ map (λ w. w.text) (map name_view (drop (i + 1) names))) (sym (written ∙ ap (λ (m : Name). m.text.items) is))
+-- the same of names, each of which makes one use
+pub names_left : (make : List ℕ → List ℕ) (names : List Name) (i : ℕ) (n : Name) (text : List ℕ) → i < length names → n ≡ get_or names i n → text ≡ n.text.items
+    → map (λ w. make w.text) (map name_view (drop i names)) ≡ (make text ∷ []) ++ map (λ w. make w.text) (map name_view (drop (i + 1) names))
+names_left make names i n text within is written =
+    ap (λ d. map (λ w. make w.text) (map name_view d)) (drop_more names i n within)
+    ∙ ap (λ t. make t ∷ map (λ w. make w.text) (map name_view (drop (i + 1) names))) (sym (written ∙ ap (λ (m : Name). m.text.items) is))
 
 -- Names
 abbrev pub IsNoting : List (List ℕ) → List (List ℕ) → List (List ℕ) → List (List ℕ) → Type 0
@@ -117,3 +117,17 @@ pub noting_err : {T : Type 0} (start all here part rest : List (List ℕ)) (seen
     → IsNoting start all here (part ++ rest) → NotesUses {X = Unit {0}} here part (Err d) seen → GivesTable Events 4096 view (with_uses start all) r
 noting_err start all here part rest seen view d r is way gives =
     way_err (with_item (λ n. n) (λ n. n) (λ n. n)) name_grows 4096 start all here {S = Unit {0}} Events (λ _. seen) view part rest d r is way gives
+
+-- and one that gave up at the first of two lists of names
+pub noting_first : {T : Type 0} (old part rest : List (List ℕ)) (seen : List (List ℕ)) (view : T → List (List ℕ)) (d : PlanFault) (r : Result T PlanFault) → r ≡ Err d
+    → length old ≤ 4096 → NotesUses {X = Unit {0}} old part (Err d) seen → GivesTable Events 4096 view (with_uses old (part ++ rest)) r
+noting_first old part rest seen view d r is within gives = noting_err old (part ++ rest) old part rest seen view d r is (record { leads = refl; within = within }) gives
+
+-- what an answer says of two lists of names, where the first has been noted
+pub noting_then : {T : Type 0} (old part rest mid : List (List ℕ)) (view : T → List (List ℕ)) (r : Result T PlanFault) → mid ≡ with_uses old part
+    → GivesTable Events 4096 view (with_uses mid rest) r → GivesTable Events 4096 view (with_uses old (part ++ rest)) r
+noting_then old part rest mid view r e gives = way_then (with_item (λ n. n) (λ n. n) (λ n. n)) name_grows 4096 old (part ++ rest) old Events view part rest r mid e gives
+
+-- names that have been noted are within the limit
+pub noted_within : (old part mid : List (List ℕ)) → (mid ≡ with_uses old part) × (length (with_uses old part) ≤ 4096) → length mid ≤ 4096
+noted_within old part mid (e, within) = subst (λ d. length d ≤ 4096) (sym e) within

@@ -5,7 +5,7 @@ use Rattle.std.specs.List.{flat_map}
 use Rattle.std.proofs.lemmas.List.{length-map}
 use Rattle.mpf_config.specs.Rows.{Rows}
 use Rattle.mpf_plan.specs.declared.bindings.Bound.{Bound}
-use Rattle.mpf_plan.specs.declared.tables.SwitchPosts.{SwitchPosts}
+use Rattle.mpf_plan.specs.declared.tables.SwitchEntry.{SwitchEntry}
 use Rattle.mpf_plan.specs.declared.fault.Table.{Table}
 use Rattle.mpf_plan.specs.declared.fault.Table.TheVariants.{Events, Bindings, Switches}
 use Rattle.mpf_plan.specs.declared.fault.PlanFault.{PlanFault}
@@ -22,7 +22,7 @@ use Rattle.mpf_plan.proofs.Judged.{by_table, plan_at-exceeded}
 
 module _ (rows : Rows) where
   -- the tables that were made
-  pub tables-plan_of : (keys : List (Vec ℕ Global)) (es : List (Vec ℕ Global × SwitchPosts)) (bound : Bound) → names_of keys ≡ first_uses (event_uses rows)
+  pub tables-plan_of : (keys : List (Vec ℕ Global)) (es : List (Vec ℕ Global × SwitchEntry)) (bound : Bound) → names_of keys ≡ first_uses (event_uses rows)
       → map switch_view es ≡ map (switch_of (names_of keys)) (first_by (λ s. s.name.text) (flat_map switch_entries rows.machine))
       → Binds (names_of keys) [] [] (flat_map player_entries rows.machine) bound
       → tables_view keys es bound.lists.items bound.bindings.items ≡ plan_of rows

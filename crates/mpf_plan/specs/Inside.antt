@@ -3,16 +3,16 @@ use Rattle.std.specs.Prelude.{ℕ, List, map, Vec}
 use Rattle.std.specs.Global.{Global}
 use Rattle.mpf_plan.specs.declared.entries.Action.{Action}
 use Rattle.mpf_plan.specs.declared.entries.Binding.{Binding}
-use Rattle.mpf_plan.specs.declared.tables.SwitchPosts.{SwitchPosts}
+use Rattle.mpf_plan.specs.declared.tables.SwitchEntry.{SwitchEntry}
 use Rattle.mpf_plan.specs.declared.tables.Plan.TheInside.{Inside}
 use Rattle.mpf_plan.specs.PlanView.{Switch, PlanView}
 
--- a switch's name, with its posts
-abbrev pub switch_view : Vec ℕ Global × SwitchPosts → Switch
-switch_view e = record { name = e.0.items; active = e.1.active.items; inactive = e.1.inactive.items }
+-- a switch's name, how it is read, and its posts
+abbrev pub switch_view : Vec ℕ Global × SwitchEntry → Switch
+switch_view e = record { name = e.0.items; kind = e.1.kind; active = e.1.active.items; inactive = e.1.inactive.items }
 
 -- the tables as they lie in a plan's fields
-abbrev pub tables_view : List (Vec ℕ Global) → List (Vec ℕ Global × SwitchPosts) → List (Vec Action Global) → List Binding → PlanView
+abbrev pub tables_view : List (Vec ℕ Global) → List (Vec ℕ Global × SwitchEntry) → List (Vec Action Global) → List Binding → PlanView
 tables_view events switches lists bindings = record {
   events = map (λ v. v.items) events;
   switches = map switch_view switches;

@@ -1,10 +1,13 @@
 -- The plan of the rows.
-use Rattle.std.specs.Prelude.{◌≡◌, ℕ, ◌+◌, List, [], ◌∷◌, Option, None, Some, Result, Ok, Err, map}
+use Rattle.std.specs.Prelude.{◌≡◌, ℕ, ◌+◌, Bool, true, false, List, [], ◌∷◌, Option, None, Some, Result, Ok, Err, map}
 use Rattle.std.specs.List.{flat_map, position_or_len}
 use Rattle.std.specs.Str.{bytes_eq}
+use Rattle.mpf_config.specs.declared.config.Debounce.{Debounce}
+use Rattle.mpf_config.specs.declared.config.Debounce.TheVariants.{Auto, Quick, Normal}
 use Rattle.mpf_config.specs.Rows as config
 use Rattle.mpf_config.specs.Rows.{EventPlayer, Rows}
 use Rattle.mpf_plan.specs.declared.entries.EventId.{EventId}
+use Rattle.mpf_plan.specs.declared.entries.SwitchKind.{SwitchKind}
 use Rattle.mpf_plan.specs.declared.entries.Owner.TheVariants.{Machine}
 use Rattle.mpf_plan.specs.declared.entries.Action.{Action}
 use Rattle.mpf_plan.specs.declared.entries.Action.TheVariants.{Post}
@@ -21,9 +24,19 @@ use Rattle.mpf_plan.specs.Limits.{first_above, IsFirstAbove}
 abbrev pub event_of : List (List ℕ) → List ℕ → EventId
 event_of names name = record { 0 = position_or_len (bytes_eq name) names }
 
+-- whether a raw level is accepted at once, and not once it has stood for 5 ms
+abbrev pub is_quick : Debounce → Bool
+is_quick Auto = false
+is_quick Quick = true
+is_quick Normal = false
+
+-- how a switch is read
+abbrev pub kind_of : config.Switch → SwitchKind
+kind_of s = record { contact = s.contact; quick = is_quick s.debounce }
+
 -- a switch, with its posts by number
 abbrev pub switch_of : List (List ℕ) → config.Switch → Switch
-switch_of names s = record { name = s.name.text; active = map (event_of names) (active_posts s); inactive = map (event_of names) (inactive_posts s) }
+switch_of names s = record { name = s.name.text; kind = kind_of s; active = map (event_of names) (active_posts s); inactive = map (event_of names) (inactive_posts s) }
 
 -- the effect list of an entry: it posts the entry's events in order
 abbrev pub list_of : List (List ℕ) → EventPlayer → List Action

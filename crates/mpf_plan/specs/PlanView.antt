@@ -1,17 +1,24 @@
 -- A plan, apart from where it lies in memory.
-use Rattle.std.specs.Prelude.{ℕ, List, [], Bool, Option, if◌then◌else◌, slice_index_or, position, option_map}
+use Rattle.std.specs.Prelude.{ℕ, List, [], Bool, false, Option, if◌then◌else◌, slice_index_or, position, option_map}
 use Rattle.std.specs.Str.{bytes_eq}
+use Rattle.mpf_config.specs.declared.config.Contact.TheVariants.{NormallyOpen}
 use Rattle.mpf_plan.specs.declared.entries.EventId.{EventId}
 use Rattle.mpf_plan.specs.declared.entries.SwitchId.{SwitchId}
+use Rattle.mpf_plan.specs.declared.entries.SwitchKind.{SwitchKind}
 use Rattle.mpf_plan.specs.declared.entries.ListId.{ListId}
 use Rattle.mpf_plan.specs.declared.entries.Action.{Action}
 use Rattle.mpf_plan.specs.declared.entries.Binding.{Binding}
 
--- a switch: its name, and what it posts when it becomes active and inactive
+-- a switch: its name, how it is read, and what it posts when it becomes active and inactive
 pub record Switch : Type 0 where
   pub name : List ℕ
+  pub kind : SwitchKind
   pub active : List EventId
   pub inactive : List EventId
+
+-- in place of a switch where there is none
+abbrev pub no_switch : Switch
+no_switch = record { name = []; kind = record { contact = NormallyOpen; quick = false }; active = []; inactive = [] }
 
 -- names stand at their numbers, effect lists at theirs, and bindings in plan order
 pub record PlanView : Type 0 where
@@ -30,7 +37,7 @@ event_named plan name = option_map (λ n. record { 0 = n }) (position (bytes_eq 
 
 -- a switch by its number
 abbrev pub switch_at : PlanView → SwitchId → Switch
-switch_at plan s = slice_index_or plan.switches s.0 (record { name = []; active = []; inactive = [] })
+switch_at plan s = slice_index_or plan.switches s.0 no_switch
 
 -- the switch of a name, if there is one
 abbrev pub switch_named : PlanView → List ℕ → Option SwitchId

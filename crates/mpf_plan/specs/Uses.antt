@@ -2,7 +2,7 @@
 use Rattle.std.specs.Prelude.{ℕ, not, List, [], ◌∷◌, ◌++◌, map, filter, codes}
 use Rattle.std.specs.List.{flat_map}
 use Rattle.std.specs.Str.{bytes_eq}
-use Rattle.mpf_config.specs.Rows.{Switch, EventPlayer, SectionRows, switches, event_player, Rows}
+use Rattle.mpf_config.specs.Rows.{Written, Switch, EventPlayer, SectionRows, switches, event_player, Rows}
 
 -- each item whose name no item before it has: the first item, and of the rest those of other names, each where it comes first
 abbrev pub first_by : {X : Type 0} → (X → List ℕ) → List X → List X
@@ -13,15 +13,20 @@ first_by name (x ∷ xs) = x ∷ filter (λ y. not (bytes_eq (name x) (name y)))
 abbrev pub first_uses : List (List ℕ) → List (List ℕ)
 first_uses uses = first_by (λ name. name) uses
 
--- what a switch posts when it becomes active
+-- the event of a tag
+abbrev pub tag_event : Written → List ℕ
+tag_event t = codes "sw_" ++ t.text
+
+-- What a switch posts when it becomes active: the event of its own name, those of its tags, and those that its entry
+-- names, tags and names as they are written.
 abbrev pub active_posts : Switch → List (List ℕ)
-active_posts s = (s.name.text ++ codes "_active") ∷ []
+active_posts s = (s.name.text ++ codes "_active") ∷ map tag_event s.tags ++ map (λ w. w.text) s.activated
 
--- what a switch posts when it becomes inactive
+-- what a switch posts when it becomes inactive; its tags have no event then
 abbrev pub inactive_posts : Switch → List (List ℕ)
-inactive_posts s = (s.name.text ++ codes "_inactive") ∷ []
+inactive_posts s = (s.name.text ++ codes "_inactive") ∷ map (λ w. w.text) s.deactivated
 
--- a switch uses what it posts
+-- a switch uses what it posts, whatever the order of its settings: first when it becomes active
 abbrev pub switch_uses : Switch → List (List ℕ)
 switch_uses s = active_posts s ++ inactive_posts s
 

@@ -18,7 +18,12 @@ use std::alloc::Global;
 ///
 /// Events are numbered in the order of their first uses: sections and entries as they are
 /// written; a switch uses what it posts, first when it becomes active, then when it becomes
-/// inactive; an entry of `event_player` uses the event that it handles, then those that it posts.
+/// inactive, whatever the order of its settings; an entry of `event_player` uses the event that
+/// it handles, then those that it posts.
+///
+/// When a switch becomes active, it posts `NAME_active`, then `sw_TAG` for each of its tags, then
+/// its `events_when_activated`; when it becomes inactive, `NAME_inactive`, then its
+/// `events_when_deactivated`: tags and events as they are written, each as often as it is.
 ///
 /// # Errors
 ///

@@ -1,5 +1,7 @@
 //! What stands in a plan's tables.
 
+use mpf_config::config::Contact;
+
 /// An event, by its number in order of first use.
 #[derive(Clone, Copy, Debug, Default, PartialEq, Eq)]
 pub struct EventId(pub u16);
@@ -7,6 +9,15 @@ pub struct EventId(pub u16);
 /// A switch, by its number in order of first use.
 #[derive(Clone, Copy, Debug, Default, PartialEq, Eq)]
 pub struct SwitchId(pub u16);
+
+/// How a switch's raw levels are read.
+#[derive(Clone, Copy, Debug, PartialEq, Eq)]
+pub struct SwitchKind {
+    /// Which raw level is active.
+    pub contact: Contact,
+    /// Whether a raw level is accepted at once, and not once it has stood for 5 ms.
+    pub quick: bool,
+}
 
 /// An effect list, by its number.
 #[derive(Clone, Copy, Debug, Default, PartialEq, Eq)]

@@ -4,7 +4,7 @@ ghost use Rattle.std.specs.Prelude.{◌≡◌, ◌≤◌, ◌++◌, [], ◌∷�
 ghost use Rattle.std.specs.List.{flat_map};
 ghost use Rattle.mpf_config.specs.View.{switch_view as switch_row_view, player_view, name_view, section_view};
 ghost use Rattle.mpf_plan.specs.declared.fault.Table.TheVariants.{Events};
-ghost use Rattle.mpf_plan.specs.Uses.{first_uses, switch_uses, player_uses, section_uses};
+ghost use Rattle.mpf_plan.specs.Uses.{first_uses, tag_event, active_posts, inactive_posts, switch_uses, player_uses, section_uses};
 ghost use Rattle.mpf_plan.specs.PlanOf.{event_of};
 ghost use Rattle.mpf_plan.specs.Noting.{names_of, NotesUses, GivesTable};
 
@@ -16,6 +16,15 @@ use std::alloc::{AllocError, Global};
 
 /// At most so many events.
 const MAX_EVENTS: usize = 4_096;
+
+/// Behind a switch's name: the event that it has become active.
+pub(crate) const ACTIVE_END: &[u8] = b"_active";
+
+/// Behind a switch's name: the event that it has become inactive.
+pub(crate) const INACTIVE_END: &[u8] = b"_inactive";
+
+/// Before a tag: the event that a switch with the tag has become active.
+pub(crate) const TAG_FRONT: &[u8] = b"sw_";
 
 /// The names of all events that the sections use, in the order of their first uses.
 pub(crate) fn number_events(
@@ -67,10 +76,43 @@ fn note_switch(
     requires { length (names_of events.old.keys) ≤ 4096 }
     ensures { NotesUses (names_of events.old.keys) (switch_uses (switch_row_view row.now)) result (names_of events.new.keys) }
 {
-    let active = posted_name(alloc, &row.name.text, b"_active")?;
-    note_use(alloc, events, &active)?;
-    let inactive = posted_name(alloc, &row.name.text, b"_inactive")?;
-    note_use(alloc, events, &inactive)
+    note_active(alloc, events, row)?;
+    note_inactive(alloc, events, row)
+}
+
+fn note_active(
+    alloc: Global,
+    events: &mut IndexSet<Vec<u8>>,
+    row: &SwitchRow,
+) -> Result<(), PlanFault>
+    requires { length (names_of events.old.keys) ≤ 4096 }
+    ensures { NotesUses (names_of events.old.keys) (active_posts (switch_row_view row.now)) result (names_of events.new.keys) }
+{
+    note_joined(alloc, events, &row.name.text, ACTIVE_END)?;
+    note_tags(alloc, events, &row.tags)?;
+    note_names(alloc, events, &row.activated)
+}
+
+fn note_inactive(
+    alloc: Global,
+    events: &mut IndexSet<Vec<u8>>,
+    row: &SwitchRow,
+) -> Result<(), PlanFault>
+    requires { length (names_of events.old.keys) ≤ 4096 }
+    ensures { NotesUses (names_of events.old.keys) (inactive_posts (switch_row_view row.now)) result (names_of events.new.keys) }
+{
+    note_joined(alloc, events, &row.name.text, INACTIVE_END)?;
+    note_names(alloc, events, &row.deactivated)
+}
+
+fn note_tags(alloc: Global, events: &mut IndexSet<Vec<u8>>, tags: &[Name]) -> Result<(), PlanFault>
+    requires { length (names_of events.old.keys) ≤ 4096 }
+    ensures { NotesUses (names_of events.old.keys) (map tag_event (map name_view tags.now)) result (names_of events.new.keys) }
+{
+    for tag in tags {
+        note_joined(alloc, events, TAG_FRONT, &tag.text)?;
+    }
+    Ok(())
 }
 
 fn note_players(
@@ -128,11 +170,25 @@ fn note_use(alloc: Global, events: &mut IndexSet<Vec<u8>>, name: &[u8]) -> Resul
     Ok(())
 }
 
-/// The name of an event that a switch posts.
-pub(crate) fn posted_name(alloc: Global, switch: &[u8], end: &[u8]) -> Result<Vec<u8>, AllocError>
-    ensures { IfOk result (λ v. v.items ≡ switch.now ++ end.now) }
+/// The name that the two parts make.
+fn note_joined(
+    alloc: Global,
+    events: &mut IndexSet<Vec<u8>>,
+    front: &[u8],
+    end: &[u8],
+) -> Result<(), PlanFault>
+    requires { length (names_of events.old.keys) ≤ 4096 }
+    ensures { NotesUses (names_of events.old.keys) ((front.now ++ end.now) ∷ []) result (names_of events.new.keys) }
 {
-    let mut name = Vec::from_slice(alloc, switch)?;
+    let name = joined(alloc, front, end)?;
+    note_use(alloc, events, &name)
+}
+
+/// The name that the two parts make.
+pub(crate) fn joined(alloc: Global, front: &[u8], end: &[u8]) -> Result<Vec<u8>, AllocError>
+    ensures { IfOk result (λ v. v.items ≡ front.now ++ end.now) }
+{
+    let mut name = Vec::from_slice(alloc, front)?;
     name.extend_from_slice(end)?;
     Ok(name)
 }

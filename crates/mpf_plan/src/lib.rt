@@ -10,7 +10,9 @@ mod switches;
 pub mod tables;
 
 pub use build::plan;
-pub use entries::{Action, Binding, BindingId, EventId, ListId, Owner, SwitchId, Target};
+pub use entries::{
+    Action, Binding, BindingId, EventId, ListId, Owner, SwitchId, SwitchKind, Target,
+};
 pub use fault::{PlanFault, Table};
 pub use tables::Plan;
 

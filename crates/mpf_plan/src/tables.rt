@@ -1,12 +1,13 @@
 //! The plan, and its tables read by number and by text.
 
-use crate::entries::{Action, Binding, BindingId, EventId, ListId, SwitchId};
+use crate::entries::{Action, Binding, BindingId, EventId, ListId, SwitchId, SwitchKind};
 use indexmap::{IndexMap, IndexSet};
 use std::marker::Model;
 
-/// A switch's posts when it becomes active, and when it becomes inactive.
+/// How a switch is read, and what it posts when it becomes active, and when it becomes inactive.
 #[derive(Debug, Drop)]
-pub struct SwitchPosts {
+pub struct SwitchEntry {
+    pub kind: SwitchKind,
     pub active: Vec<EventId>,
     pub inactive: Vec<EventId>,
 }
@@ -16,7 +17,7 @@ pub struct SwitchPosts {
 #[derive(Drop)]
 pub struct Plan {
     events: IndexSet<Vec<u8>>,
-    switches: IndexMap<Vec<u8>, SwitchPosts>,
+    switches: IndexMap<Vec<u8>, SwitchEntry>,
     lists: Vec<Vec<Action>>,
     bindings: Vec<Binding>,
 }
@@ -42,7 +43,7 @@ impl Plan {
 
     pub(crate) fn assemble(
         events: IndexSet<Vec<u8>>,
-        switches: IndexMap<Vec<u8>, SwitchPosts>,
+        switches: IndexMap<Vec<u8>, SwitchEntry>,
         lists: Vec<Vec<Action>>,
         bindings: Vec<Binding>,
     ) -> Plan
@@ -115,6 +116,15 @@ impl Plan {
     {
         let place = self.switches.get_index_of(name)?;
         Some(SwitchId(place as u16))
+    }
+
+    /// How a switch of the plan is read.
+    pub fn switch_kind(&self, switch: SwitchId) -> SwitchKind
+        requires { switch.0 < length self.now.switches }
+        ensures kind { result ≡ (switch_at self.now switch).kind }
+        ensures valid { IsValid self.now }
+    {
+        self.switches[switch.0 as usize].kind
     }
 
     /// What a switch of the plan posts, in order, when it becomes active, or inactive.

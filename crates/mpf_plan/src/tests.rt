@@ -1,7 +1,9 @@
 //! A plan by hand, and the limits of its tables.
 
 use super::*;
-use mpf_config::config::{Config, EventPlayerRow, MachineText, Name, Section, SwitchRow};
+use mpf_config::config::{
+    Config, Contact, Debounce, EventPlayerRow, MachineText, Name, Section, SwitchRow,
+};
 use std::alloc::{AllocError, Global};
 use std::test::Fail;
 
@@ -23,23 +25,36 @@ fn player(alloc: Global, event: &[u8], posts: &[&[u8]]) -> Result<EventPlayerRow
     Ok(row)
 }
 
+/// A switch with nothing but its name.
+fn plain(alloc: Global, name: Name) -> SwitchRow {
+    SwitchRow {
+        name,
+        contact: Contact::NormallyOpen,
+        debounce: Debounce::Auto,
+        tags: Vec::new(alloc),
+        activated: Vec::new(alloc),
+        deactivated: Vec::new(alloc),
+    }
+}
+
+fn config_of(alloc: Global, sections: Vec<Section>) -> Config {
+    Config {
+        machine: MachineText { sections },
+        notes: Vec::new(alloc),
+    }
+}
+
 fn by_hand(alloc: Global) -> Result<Config, AllocError> {
     let mut players = Vec::new(alloc);
     players.push(player(alloc, b"s_left_active", &[b"a", b"b", b"a"])?)?;
     players.push(player(alloc, b"b", &[b"c"])?)?;
     let mut switches = Vec::new(alloc);
-    switches.push(SwitchRow {
-        name: name(alloc, b"s_left")?,
-    })?;
-    switches.push(SwitchRow {
-        name: name(alloc, b"s_right")?,
-    })?;
+    switches.push(plain(alloc, name(alloc, b"s_left")?))?;
+    switches.push(plain(alloc, name(alloc, b"s_right")?))?;
     let mut sections = Vec::new(alloc);
     sections.push(Section::EventPlayer(players))?;
     sections.push(Section::Switches(switches))?;
-    Ok(Config {
-        machine: MachineText { sections },
-    })
+    Ok(config_of(alloc, sections))
 }
 
 #[test]
@@ -120,14 +135,75 @@ fn sized(alloc: Global, posts: u32, entries: u32, switches: u32) -> Result<Confi
     }
     let mut rows = Vec::new(alloc);
     for name in names(alloc, b's', switches)? {
-        rows.push(SwitchRow { name })?;
+        rows.push(plain(alloc, name))?;
     }
     let mut sections = Vec::new(alloc);
     sections.push(Section::Switches(rows))?;
     sections.push(Section::EventPlayer(players))?;
-    Ok(Config {
-        machine: MachineText { sections },
-    })
+    Ok(config_of(alloc, sections))
+}
+
+/// A switch of the tags, which is read in its own way and names two events for each level.
+fn tagged(alloc: Global, tags: Vec<Name>) -> Result<Config, AllocError> {
+    let mut row = SwitchRow {
+        contact: Contact::NormallyClosed,
+        debounce: Debounce::Quick,
+        tags,
+        ..plain(alloc, name(alloc, b"s_left")?)
+    };
+    row.activated.push(name(alloc, b"hit")?)?;
+    row.activated.push(name(alloc, b"sw_lane")?)?;
+    row.deactivated.push(name(alloc, b"gone")?)?;
+    row.deactivated.push(name(alloc, b"hit")?)?;
+    let mut rows = Vec::new(alloc);
+    rows.push(row)?;
+    let mut sections = Vec::new(alloc);
+    sections.push(Section::Switches(rows))?;
+    Ok(config_of(alloc, sections))
+}
+
+#[test]
+fn posts_of_a_switch_in_order(rt: HostRuntime) -> Result<(), Fail> {
+    let mut tags = Vec::new(rt.alloc());
+    tags.push(name(rt.alloc(), b"lane")?)?;
+    tags.push(name(rt.alloc(), b"start")?)?;
+    let config = tagged(rt.alloc(), tags)?;
+    let plan = plan(rt.alloc(), &config)?;
+    let names: [&[u8]; 6] = [
+        b"s_left_active",
+        b"sw_lane",
+        b"sw_start",
+        b"hit",
+        b"s_left_inactive",
+        b"gone",
+    ];
+    assert_eq!(rt; plan.event_count(), 6);
+    for (number, name) in names.iter().enumerate() {
+        assert_eq!(rt; plan.find_event(name), Some(EventId(number as u16)));
+    }
+    assert_eq!(rt; plan.switch_count(), 1);
+    let active = [EventId(0), EventId(1), EventId(2), EventId(3), EventId(1)];
+    let inactive = [EventId(4), EventId(5), EventId(3)];
+    assert!(rt; plan.posts(SwitchId(0), true) == active.as_slice());
+    assert!(rt; plan.posts(SwitchId(0), false) == inactive.as_slice());
+    let kind = SwitchKind {
+        contact: Contact::NormallyClosed,
+        quick: true,
+    };
+    assert_eq!(rt; plan.switch_kind(SwitchId(0)), kind);
+    Ok(())
+}
+
+#[test]
+fn events_of_tags_count(rt: HostRuntime) -> Result<(), Fail> {
+    for (tags, want) in [
+        (4_091, None),
+        (4_092, Some(PlanFault::Limit(Table::Events))),
+    ] {
+        let config = tagged(rt.alloc(), names(rt.alloc(), b't', tags)?)?;
+        assert_eq!(rt; fault(rt.alloc(), &config), want, "{tags}");
+    }
+    Ok(())
 }
 
 fn fault(alloc: Global, config: &Config) -> Option<PlanFault> {

@@ -1,18 +1,22 @@
-use Rattle.std.proofs.Common.{[], ◌∷◌, ◌++◌, subst, ap, ◌∙◌}
-use Rattle.std.specs.Prelude.{codes}
-use Rattle.mpf_plan.specs.declared.fault.Table.TheVariants.{Events}
-use Rattle.mpf_plan.specs.Noting.{names_of, with_item, with_uses, NotesUses}
-use Rattle.mpf_plan.proofs.Noted.{name_grows, way_then}
+use Rattle.std.proofs.Common.{ap, ◌∙◌}
+use Rattle.std.specs.Prelude.{Err}
+use Rattle.std.proofs.lemmas.Result.{err_from_is_err_and}
+use Rattle.mpf_config.specs.View.{switch_view}
+use Rattle.mpf_plan.specs.Uses.{active_posts, inactive_posts}
+use Rattle.mpf_plan.specs.Noting.{names_of}
+use Rattle.mpf_plan.proofs.Noted.{noting_first, noting_then}
 use Rattle.mpf_plan.proofs.events.note_switch.Goals as goal
+
+pub returns-in_err-note_active : goal.returns-in_err-note_active
+returns-in_err-note_active c =
+    let p = err_from_is_err_and c.from_residual.result c.from_residual.ensures.1 in
+    let row = switch_view c.args.row.now in
+    let seen = names_of c.note_active.new.events.keys in
+    noting_first (names_of c.args.events.now.keys) (active_posts row) (inactive_posts row) seen (λ _. seen) c.in_err-note_active.field-0.0 c.from_residual.result (p.1 ∙ ap Err p.2) c.requires c.in_err-note_active.ensures
 
 pub returns : goal.returns
 returns c =
-    let old = names_of c.args.events.now.keys in
-    let between = names_of c.note_use.new.events.keys in
-    let text = c.args.row.now.name.text.items in
-    let active = text ++ codes "_active" in
-    let inactive = text ++ codes "_inactive" in
-    let first = c.deref-2.ensures.value ∙ c.in_ok-active.ensures ∙ ap (λ t. t ++ codes "_active") c.deref.ensures.value in
-    let second = c.deref-4.ensures.value ∙ c.in_ok-inactive.ensures ∙ ap (λ t. t ++ codes "_inactive") c.deref-3.ensures.value in
-    let noted : NotesUses between (inactive ∷ []) c.note_use-2.result (names_of c.note_use-2.new.events.keys) = subst (λ n. NotesUses between (n ∷ []) c.note_use-2.result (names_of c.note_use-2.new.events.keys)) second c.note_use-2.ensures in
-    way_then (with_item (λ n. n) (λ n. n) (λ n. n)) name_grows 4096 old (active ∷ inactive ∷ []) old Events (λ _. names_of c.note_use-2.new.events.keys) (active ∷ []) (inactive ∷ []) c.note_use-2.result between (c.in_ok-note_use.ensures.0 ∙ ap (λ n. with_uses old (n ∷ [])) first) noted
+    let row = switch_view c.args.row.now in
+    let between = names_of c.note_active.new.events.keys in
+    let seen = names_of c.note_inactive.new.events.keys in
+    noting_then (names_of c.args.events.now.keys) (active_posts row) (inactive_posts row) between (λ _. seen) c.note_inactive.result c.in_ok-note_active.ensures.0 c.note_inactive.ensures

@@ -31,4 +31,4 @@ returns c =
     let longer = length-switch_new (names_of c.args.events.now.keys) es s known in
     let count = length-map es switch_view in
     let name = c.in_ok-from_slice.ensures.items ∙ c.as_slice-name.ensures.value in
-    (switch_inserted (names_of c.args.events.now.keys) es s c.in_ok-from_slice.field-0 c.in_ok-posts.posts c.insert.new.self.entries known name c.in_ok-posts.ensures.active c.in_ok-posts.ensures.inactive c.in_ok-insert.ensures.entries, omega (arith, longer, count))
+    (switch_inserted (names_of c.args.events.now.keys) es s c.in_ok-from_slice.field-0 c.in_ok-entry.entry c.insert.new.self.entries known name c.in_ok-entry.ensures.kind c.in_ok-entry.ensures.active c.in_ok-entry.ensures.inactive c.in_ok-insert.ensures.entries, omega (arith, longer, count))
