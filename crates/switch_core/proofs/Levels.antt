@@ -1,0 +1,54 @@
+-- The accepted level after one more raw change.
+use Rattle.std.proofs.Common.{◌≡◌, ℕ, ◌+◌, ◌≤◌, Bool, true, false, cond, ◌&&◌, Option, Some, None, List, [], ◌∷◌, ◌++◌, nat_le, refl, ap, sym, ◌∙◌, append-nil, arith}
+use Rattle.std.specs.List.{filter, list_all, last_or}
+use Rattle.std.proofs.lemmas.Bool.{false≢true, le-leb, leb-true}
+use Rattle.std.proofs.lemmas.List.Folds.{list_all-append}
+use Rattle.mpf_config.specs.declared.config.Contact.{Contact}
+use Rattle.mpf_plan.specs.declared.entries.SwitchKind.{SwitchKind}
+use Rattle.switch_core.specs.SwitchStep.{is_active}
+use Rattle.switch_core.specs.AcceptedLevel.{RawChange, delay_of, standing, is_over, active_after, accepted_level}
+
+and-true : (b : Bool) → (b && true) ≡ b
+and-true true = refl
+and-true false = refl
+
+filter-cond : (f : RawChange → Bool) (b : Bool) (xs ys : List RawChange) → filter f (cond b xs ys) ≡ cond b (filter f xs) (filter f ys)
+filter-cond f true xs ys = refl
+filter-cond f false xs ys = refl
+
+-- An older raw change stays among those that stand (b) just where it is over at the later one (n), and then it is over afterwards, too (o).
+kept : (p : RawChange) (fs gs end : List RawChange) (b n o : Bool) → fs ≡ gs ++ end → (n ≡ true → o ≡ true) → cond (b && n) (cond o (p ∷ fs) fs) fs ≡ cond b (cond n (p ∷ gs) gs) gs ++ end
+kept p fs gs end false n o is over = is
+kept p fs gs end true false o is over = is
+kept p fs gs end true true true is over = ap (λ xs. p ∷ xs) is
+kept p fs gs end true true false is over = absurd (false≢true (over refl))
+
+-- Of those that stood, the ones that are over at the later change stand on, and it stands itself.
+pub standing-push : (delay moment : ℕ) (past : List RawChange) (c : RawChange) → c.at ≤ moment → filter (is_over delay moment) (standing delay (past ++ c ∷ [])) ≡ filter (is_over delay c.at) (standing delay past) ++ filter (is_over delay moment) (c ∷ [])
+standing-push delay moment [] c before = refl
+standing-push delay moment (p ∷ later) c before =
+    let near : RawChange → Bool = λ l. nat_le (p.at + delay) l.at in
+    let f = is_over delay moment in
+    let g = is_over delay c.at in
+    let old = standing delay later in
+    let new = standing delay (later ++ c ∷ []) in
+    let rest : filter f new ≡ filter g old ++ filter f (c ∷ []) = standing-push delay moment later c before in
+    let stays : list_all near (later ++ c ∷ []) ≡ (list_all near later && g p) = list_all-append near later (c ∷ []) ∙ ap (λ b. list_all near later && b) (and-true (near c)) in
+    let over : g p ≡ true → f p ≡ true = λ is. le-leb (p.at + delay) moment (omega (arith, leb-true (p.at + delay) c.at is)) in
+    filter-cond f (list_all near (later ++ c ∷ [])) (p ∷ new) new ∙ ap (λ b. cond b (cond (f p) (p ∷ filter f new) (filter f new)) (filter f new)) stays
+    ∙ kept p (filter f new) (filter g old) (filter f (c ∷ [])) (list_all near later) (g p) (f p) rest over
+    ∙ ap (λ xs. xs ++ filter f (c ∷ [])) (sym (filter-cond g (list_all near later) (p ∷ old) old))
+
+last-push : (o : Option RawChange) (xs : List RawChange) (x : RawChange) → last_or o (xs ++ x ∷ []) ≡ Some x
+last-push o [] x = refl
+last-push o (y ∷ ys) x = last-push (Some y) ys x
+
+active-push : (contact : Contact) (xs : List RawChange) (c : RawChange) (b : Bool) → active_after contact (last_or None (xs ++ cond b (c ∷ []) [])) ≡ cond b (is_active contact c.level) (active_after contact (last_or None xs))
+active-push contact xs c true = ap (active_after contact) (last-push None xs c)
+active-push contact xs c false = ap (λ (ys : List RawChange). active_after contact (last_or None ys)) (append-nil xs)
+
+-- The later change is accepted once its delay is over; until then the level is the one at its moment.
+pub accepted-push : (kind : SwitchKind) (moment : ℕ) (past : List RawChange) (c : RawChange) → c.at ≤ moment → accepted_level kind moment (past ++ c ∷ []) ≡ cond (is_over (delay_of kind) moment c) (is_active kind.contact c.level) (accepted_level kind c.at past)
+accepted-push kind moment past c before =
+    let changes = filter (is_over (delay_of kind) c.at) (standing (delay_of kind) past) in
+    ap (λ (cs : List RawChange). active_after kind.contact (last_or None cs)) (standing-push (delay_of kind) moment past c before) ∙ active-push kind.contact changes c (is_over (delay_of kind) moment c)

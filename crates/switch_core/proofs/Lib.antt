@@ -1,0 +1,4 @@
+pub mod Levels
+pub mod NextDue
+pub mod Following
+pub mod Lists

@@ -1,0 +1,115 @@
+-- The fields of `Switches`, and the switches that they are.
+use Rattle.std.proofs.Common.{◌≡◌, ℕ, ◌+◌, ◌<◌, ◌≤◌, Bool, true, false, if◌then◌else◌, Option, Some, None, IfSome, List, length, map, drop, slice_index_or, slice_set, refl, ap, ap₂, sym, ◌∙◌, inl, inr, arith}
+use Rattle.std.specs.Bool.{then_some}
+use Rattle.std.proofs.lemmas.Bool.{cases_lt}
+use Rattle.std.proofs.lemmas.Option.{none-some}
+use Rattle.std.proofs.lemmas.List.{length-map, length-set, get_or_past, get_or_read, get_or-map, get_or-set_same, map-set}
+use Rattle.mpf_plan.specs.declared.entries.SwitchId.{SwitchId}
+use Rattle.mpf_plan.specs.declared.entries.SwitchKind.{SwitchKind}
+use Rattle.switch_core.specs.declared.change.Change.{Change}
+use Rattle.switch_core.specs.declared.state.State.{State}
+use Rattle.switch_core.specs.SwitchStep.{SwitchState, idle, changed, is_taken, fired}
+use Rattle.switch_core.specs.StateView.{state_view}
+use Rattle.switch_core.specs.Inside.{lists_view}
+use Rattle.switch_core.specs.Switches.{SwitchesView, IsComplete, no_kind, kind_at, state_at, set_state, due_of, told, after_change, told_by_change, IsNextDue, due_as, sooner, next_due_from, next_due, accept, accept_due, after_fire}
+use Rattle.switch_core.proofs.NextDue.{next_due-more, next_due-all}
+
+-- ---- what is due is one of the switches
+
+pub due-within : (s : SwitchesView) (switch : SwitchId) (at : ℕ) → due_of s switch ≡ Some at → switch.0 < length s.states
+due-within s switch at is =
+    elim (cases_lt switch.0 (length s.states)) [
+      | inl within ↦ within
+      | inr past ↦ absurd (none-some at (sym (ap (λ (x : SwitchState). x.due) (get_or_past s.states switch.0 (idle no_kind) past)) ∙ is))
+    ]
+
+pub answer-within : (s : SwitchesView) (o : Option (ℕ × SwitchId)) → IsComplete s → IfSome o (λ d. IsNextDue s d.0 d.1) → IfSome o (λ d. d.1.0 < length s.kinds)
+answer-within s None complete is = tt
+answer-within s (Some d) complete is = let within = due-within s d.1 d.0 is.due in let same = complete.states in omega arith
+
+-- a loop over the states that looks for what is due next, one step on and at the end
+module _ (kinds : List SwitchKind) (states items : List State) (s : SwitchesView) (next : Option (ℕ × SwitchId)) (i : ℕ) (view_is : lists_view kinds states ≡ s) (items_are : items ≡ states) (found : sooner next (next_due_from i (drop i s.states)) ≡ next_due s) where
+  states_are : s.states ≡ map state_view items
+  states_are = sym (ap (λ (t : SwitchesView). t.states) view_is) ∙ ap (map state_view) (sym items_are)
+
+  pub found-more : (due after : Option (ℕ × SwitchId)) (d : State) → i < length items → due ≡ due_as i (state_view (slice_index_or items i d)) → after ≡ sooner next due → sooner after (next_due_from (i + 1) (drop (i + 1) s.states)) ≡ next_due s
+  found-more due after d within due_is after_is =
+      let count = length-map items state_view in
+      let long = ap (λ (xs : List SwitchState). length xs) states_are in
+      let read : slice_index_or s.states i (idle no_kind) ≡ state_view (slice_index_or items i d) = ap (λ (xs : List SwitchState). slice_index_or xs i (idle no_kind)) states_are ∙ get_or-map state_view items i d (idle no_kind) within in
+      let rest = next_due_from (i + 1) (drop (i + 1) s.states) in
+      ap (λ o. sooner o rest) (after_is ∙ ap (sooner next) (due_is ∙ ap (due_as i) (sym read))) ∙ sym (next_due-more next s.states i (idle no_kind) (omega arith)) ∙ found
+
+  pub found-all : length items ≤ i → next ≡ next_due s
+  found-all past =
+      let count = length-map items state_view in
+      let long = ap (λ (xs : List SwitchState). length xs) states_are in
+      sym (next_due-all next s.states i (omega arith)) ∙ found
+
+-- ---- one state is set
+
+pub complete-set : (kinds : List SwitchKind) (states : List State) (i : ℕ) (new : State) → IsComplete (lists_view kinds states) → IsComplete (lists_view kinds (slice_set states i new))
+complete-set kinds states i new complete =
+    let same = complete.states in
+    record {
+      states = length-map (slice_set states i new) state_view ∙ (length-set states i new ∙ (sym (length-map states state_view) ∙ same));
+      limit = complete.limit;
+    }
+
+then_some-is : (b c : Bool) (x y : Change) → b ≡ c → x ≡ y → then_some b x ≡ then_some c y
+then_some-is b c x y test is = ap₂ then_some test is
+
+then_some-cond : (b : Bool) (x : Change) → then_some b x ≡ (if b then Some x else None)
+then_some-cond true x = refl
+then_some-cond false x = refl
+
+module _ (kinds : List SwitchKind) (states : List State) (switch : SwitchId) (kind : SwitchKind) (old new : State)
+    (in_kinds : switch.0 < length kinds) (in_states : switch.0 < length states) (kind_is : kind ≡ slice_index_or kinds switch.0 kind) (old_is : old ≡ slice_index_or states switch.0 old) where
+  read-kind : kind_at (lists_view kinds states) switch ≡ kind
+  read-kind = sym (get_or_read kinds switch.0 kind in_kinds kind_is no_kind)
+
+  read-state : state_at (lists_view kinds states) switch ≡ state_view old
+  read-state = get_or-map state_view states switch.0 old (idle no_kind) in_states ∙ ap state_view (sym old_is)
+
+  module _ (make : SwitchKind → SwitchState → SwitchState) (made : state_view new ≡ make kind (state_view old)) where
+    makes : make (kind_at (lists_view kinds states) switch) (state_at (lists_view kinds states) switch) ≡ state_view new
+    makes = ap₂ make read-kind read-state ∙ sym made
+
+    set-made : lists_view kinds (slice_set states switch.0 new) ≡ set_state switch (make (kind_at (lists_view kinds states) switch) (state_at (lists_view kinds states) switch)) (lists_view kinds states)
+    set-made =
+        let views : map state_view (slice_set states switch.0 new) ≡ slice_set (map state_view states) switch.0 (state_view new) = map-set state_view states switch.0 new in
+        ap (λ (xs : List SwitchState). lists_of kinds xs) (views ∙ ap (slice_set (map state_view states) switch.0) (sym makes))
+      where
+        lists_of : List SwitchKind → List SwitchState → SwitchesView
+        lists_of ks xs = record { kinds = ks; states = xs }
+
+    told-made : told (set_state switch (make (kind_at (lists_view kinds states) switch) (state_at (lists_view kinds states) switch)) (lists_view kinds states)) switch ≡ record { switch = switch; active = new.active }
+    told-made =
+        let x = make (kind_at (lists_view kinds states) switch) (state_at (lists_view kinds states) switch) in
+        let count = length-map states state_view in
+        let set : slice_index_or (slice_set (map state_view states) switch.0 x) switch.0 (idle no_kind) ≡ x = get_or-set_same (map state_view states) switch.0 x (idle no_kind) (omega arith) in
+        ap (λ (y : SwitchState). told_as y.active) (set ∙ makes)
+      where
+        told_as : Bool → Change
+        told_as b = record { switch = switch; active = b }
+
+  -- a change
+  pub change-set : (level : Bool) (now : ℕ) → state_view new ≡ changed kind now level (state_view old) → lists_view kinds (slice_set states switch.0 new) ≡ after_change switch level now (lists_view kinds states)
+  change-set level now made = set-made (λ k x. changed k now level x) made
+
+  pub change-told : (level : Bool) (now : ℕ) (taken : Bool) → state_view new ≡ changed kind now level (state_view old) → taken ≡ is_taken kind level (state_view old)
+      → then_some taken (record { switch = switch; active = new.active }) ≡ told_by_change switch level now (lists_view kinds states)
+  change-told level now taken made test =
+      let s = lists_view kinds states in
+      let told_is = told-made (λ k x. changed k now level x) made in
+      let test_is : taken ≡ is_taken (kind_at s switch) level (state_at s switch) = test ∙ sym (ap₂ (λ k x. is_taken k level x) read-kind read-state) in
+      then_some-is taken (is_taken (kind_at s switch) level (state_at s switch)) (record { switch = switch; active = new.active }) (told (after_change switch level now s) switch) test_is (sym told_is)
+      ∙ then_some-cond (is_taken (kind_at s switch) level (state_at s switch)) (told (after_change switch level now s) switch)
+
+  -- what is due next is accepted
+  module _ (at : ℕ) (next : next_due (lists_view kinds states) ≡ Some (at, switch)) (made : state_view new ≡ fired kind (state_view old)) where
+    fires : after_fire (lists_view kinds states) ≡ accept switch (lists_view kinds states)
+    fires = ap (λ d. accept_due d (lists_view kinds states)) next
+
+    pub fire-set : lists_view kinds (slice_set states switch.0 new) ≡ after_fire (lists_view kinds states)
+    fire-set = set-made (λ k x. fired k x) made ∙ sym fires

@@ -1,0 +1,165 @@
+-- What is due next is what has the least moment, and of equal moments the least number.
+use Rattle.std.proofs.Common.{◌≡◌, ℕ, zero, suc, ◌+◌, ◌<◌, ◌≤◌, ◌⊎◌, cond, Option, Some, None, option_map, MatchOption, IfSome, IfNone, List, [], ◌∷◌, length, drop, nat_le, slice_index_or, refl, ap, ap₂, sym, subst, ◌∙◌, inl, inr, arith}
+use Rattle.std.proofs.lemmas.Bool.{cases_Bool, cases_lt, cond_both, leb-true, leb-false}
+use Rattle.std.proofs.lemmas.Option.{none-some, same_Some}
+use Rattle.std.proofs.lemmas.List.{drop_more, drop_all}
+use Rattle.mpf_plan.specs.declared.entries.SwitchId.{SwitchId}
+use Rattle.switch_core.specs.SwitchStep.{SwitchState, idle}
+use Rattle.switch_core.specs.Switches.{SwitchesView, no_kind, due_of, IsNextDue, IsNothingDue, sooner, due_as, next_due_from, next_due}
+
+-- ---- the sooner of three
+
+pub sooner-none : (a : Option (ℕ × SwitchId)) → sooner a None ≡ a
+sooner-none None = refl
+sooner-none (Some a) = refl
+
+chosen-assoc : (a b c : ℕ × SwitchId) → sooner (Some a) (cond (nat_le b.0 c.0) (Some b) (Some c)) ≡ sooner (cond (nat_le a.0 b.0) (Some a) (Some b)) (Some c)
+chosen-assoc a b c =
+    elim (cases_Bool (nat_le a.0 b.0)) [
+      | inl ab ↦
+          elim (cases_Bool (nat_le b.0 c.0)) [
+            | inl bc ↦
+                elim (cases_Bool (nat_le a.0 c.0)) [
+                  | inl ac ↦ simp (ab, bc, ac) refl
+                  | inr ca ↦ let x = leb-true a.0 b.0 ab in let y = leb-true b.0 c.0 bc in let z = leb-false a.0 c.0 ca in absurd (omega arith)
+                ]
+            | inr cb ↦ simp (ab, cb) refl
+          ]
+      | inr ba ↦
+          elim (cases_Bool (nat_le b.0 c.0)) [
+            | inl bc ↦ simp (ba, bc) refl
+            | inr cb ↦
+                elim (cases_Bool (nat_le a.0 c.0)) [
+                  | inl ac ↦ let x = leb-false a.0 b.0 ba in let y = leb-false b.0 c.0 cb in let z = leb-true a.0 c.0 ac in absurd (omega arith)
+                  | inr ca ↦ simp (ba, cb, ca) refl
+                ]
+          ]
+    ]
+
+pub sooner-assoc : (a b c : Option (ℕ × SwitchId)) → sooner a (sooner b c) ≡ sooner (sooner a b) c
+sooner-assoc None b c = refl
+sooner-assoc (Some a) None c = refl
+sooner-assoc (Some a) (Some b) None = sym (sooner-none (cond (nat_le a.0 b.0) (Some a) (Some b)))
+sooner-assoc (Some a) (Some b) (Some c) = chosen-assoc a b c
+
+-- a loop over the states, one step on and at the end
+pub next_due-more : (next : Option (ℕ × SwitchId)) (states : List SwitchState) (i : ℕ) (d : SwitchState) → i < length states → sooner next (next_due_from i (drop i states)) ≡ sooner (sooner next (due_as i (slice_index_or states i d))) (next_due_from (i + 1) (drop (i + 1) states))
+next_due-more next states i d within =
+    let x = slice_index_or states i d in
+    ap (λ xs. sooner next (next_due_from i xs)) (drop_more states i d within) ∙ sooner-assoc next (due_as i x) (next_due_from (i + 1) (drop (i + 1) states))
+
+pub next_due-all : (next : Option (ℕ × SwitchId)) (states : List SwitchState) (i : ℕ) → length states ≤ i → sooner next (next_due_from i (drop i states)) ≡ next
+next_due-all next states i past = ap (λ xs. sooner next (next_due_from i xs)) (drop_all i states past) ∙ sooner-none next
+
+-- ---- it is the least
+
+abbrev due_in : List SwitchState → ℕ → Option ℕ
+due_in states i = (slice_index_or states i (idle no_kind)).due
+
+-- of states that are numbered from k on, the one that is due next
+record IsFirst (k : ℕ) (states : List SwitchState) (at n : ℕ) : Type 0 where
+  place : ℕ
+  is_at : n ≡ k + place
+  due : due_in states place ≡ Some at
+  least : (j moment : ℕ) → due_in states j ≡ Some moment → (at < moment) ⊎ ((at ≡ moment) × (n ≤ k + j))
+
+abbrev FirstIn : ℕ → List SwitchState → Option (ℕ × SwitchId) → Type 0
+FirstIn k states o = MatchOption o ((j : ℕ) → due_in states j ≡ None) (λ d. IsFirst k states d.0 d.1.0)
+
+absurd_due : {A : Type 0} (o : Option ℕ) (at : ℕ) → o ≡ None → o ≡ Some at → A
+absurd_due o at none some = absurd (none-some at (sym none ∙ some))
+
+none-cons : (x : SwitchState) (xs : List SwitchState) → x.due ≡ None → ((j : ℕ) → due_in xs j ≡ None) → (j : ℕ) → due_in (x ∷ xs) j ≡ None
+none-cons x xs here rest zero = here
+none-cons x xs here rest (suc j) = rest j
+
+module _ (k : ℕ) (x : SwitchState) (xs : List SwitchState) where
+  -- the first of the rest is the first of all, where the state before them is not due or due later
+  least-rest : (at n : ℕ) → ((moment : ℕ) → x.due ≡ Some moment → at < moment) → IsFirst (k + 1) xs at n → (j moment : ℕ) → due_in (x ∷ xs) j ≡ Some moment → (at < moment) ⊎ ((at ≡ moment) × (n ≤ k + j))
+  least-rest at n later f zero moment is = inl (later moment is)
+  least-rest at n later f (suc j) moment is =
+      elim (f.least j moment is) [
+        | inl less ↦ inl less
+        | inr same ↦ let above = same.1 in inr (same.0, omega arith)
+      ]
+
+  first-rest : (at n : ℕ) → ((moment : ℕ) → x.due ≡ Some moment → at < moment) → IsFirst (k + 1) xs at n → IsFirst k (x ∷ xs) at n
+  first-rest at n later f = let is = f.is_at in record { place = suc f.place; is_at = omega arith; due = f.due; least = least-rest at n later f }
+
+  -- the state before the rest is the first, where none of them is due earlier
+  least-here : (at : ℕ) → x.due ≡ Some at → ((j moment : ℕ) → due_in xs j ≡ Some moment → at ≤ moment) → (j moment : ℕ) → due_in (x ∷ xs) j ≡ Some moment → (at < moment) ⊎ ((at ≡ moment) × (k ≤ k + j))
+  least-here at here later zero moment is = let same = same_Some at moment (sym here ∙ is) in inr (same, omega arith)
+  least-here at here later (suc j) moment is =
+      let above = later j moment is in
+      elim (cases_lt at moment) [
+        | inl less ↦ inl less
+        | inr reached ↦ inr (omega arith, omega arith)
+      ]
+
+  first-here : (at : ℕ) → x.due ≡ Some at → ((j moment : ℕ) → due_in xs j ≡ Some moment → at ≤ moment) → IsFirst k (x ∷ xs) at k
+  first-here at here later = record { place = 0; is_at = omega arith; due = here; least = least-here at here later }
+
+  first-cons : (o : Option ℕ) (r : Option (ℕ × SwitchId)) → x.due ≡ o → FirstIn (k + 1) xs r → FirstIn k (x ∷ xs) (sooner (option_map (λ at. (at, record { 0 = k })) o) r)
+  first-cons None None here rest = none-cons x xs here rest
+  first-cons None (Some d) here rest = first-rest d.0 d.1.0 (λ moment is. absurd_due x.due moment here is) rest
+  first-cons (Some at) None here rest = first-here at here (λ j moment is. absurd_due (due_in xs j) moment (rest j) is)
+  first-cons (Some at) (Some d) here rest =
+      cond_both (nat_le at d.0) (Some (at, record { 0 = k })) (Some d) (λ o. FirstIn k (x ∷ xs) o)
+      (λ le. let before = leb-true at d.0 le in first-here at here (λ j moment is. elim (rest.least j moment is) [ inl less ↦ omega arith | inr same ↦ let e = same.0 in omega arith ]))
+      (λ gt. let after = leb-false at d.0 gt in first-rest d.0 d.1.0 (λ moment is. let same = same_Some at moment (sym here ∙ is) in omega arith) rest)
+
+first : (k : ℕ) (states : List SwitchState) → FirstIn k states (next_due_from k states)
+first k [] = λ j. refl
+first k (x ∷ xs) = first-cons k x xs x.due (next_due_from (k + 1) xs) refl (first (k + 1) xs)
+
+abbrev IsDueIn : SwitchesView → Option (ℕ × SwitchId) → Type 0
+IsDueIn s o = MatchOption o (IsNothingDue s) (λ d. IsNextDue s d.0 d.1)
+
+is_due : (s : SwitchesView) (o : Option (ℕ × SwitchId)) → FirstIn 0 s.states o → IsDueIn s o
+is_due s None none = λ switch. none switch.0
+is_due s (Some d) f =
+    let at : d.1.0 ≡ f.place = let is = f.is_at in omega arith in
+    record {
+      due = ap (due_in s.states) at ∙ f.due;
+      least = λ other moment is. elim (f.least other.0 moment is) [ inl less ↦ inl less | inr same ↦ let above = same.1 in inr (same.0, omega arith) ];
+    }
+
+pub next_due-is_due : (s : SwitchesView) → MatchOption (next_due s) (IsNothingDue s) (λ d. IsNextDue s d.0 d.1)
+next_due-is_due s = is_due s (next_due s) (first 0 s.states)
+
+-- as the clauses of `due` say it
+some_of : (s : SwitchesView) (o : Option (ℕ × SwitchId)) → IsDueIn s o → IfSome o (λ d. IsNextDue s d.0 d.1)
+some_of s None is = tt
+some_of s (Some d) is = is
+
+none_of : (s : SwitchesView) (o : Option (ℕ × SwitchId)) → IsDueIn s o → IfNone o (IsNothingDue s)
+none_of s None is = is
+none_of s (Some d) is = tt
+
+pub answer-least : (s : SwitchesView) (o : Option (ℕ × SwitchId)) → o ≡ next_due s → IfSome o (λ d. IsNextDue s d.0 d.1)
+answer-least s o is = some_of s o (subst (IsDueIn s) (sym is) (next_due-is_due s))
+
+pub answer-none : (s : SwitchesView) (o : Option (ℕ × SwitchId)) → o ≡ next_due s → IfNone o (IsNothingDue s)
+answer-none s o is = none_of s o (subst (IsDueIn s) (sym is) (next_due-is_due s))
+
+-- ---- there is one at most
+
+next_due-unique : (s : SwitchesView) (at other : ℕ) (n m : SwitchId) → IsNextDue s at n → IsNextDue s other m → (at ≡ other) × (n.0 ≡ m.0)
+next_due-unique s at other n m a b =
+    elim (a.least m other b.due) [
+      | inl before ↦ elim (b.least n at a.due) [ inl after ↦ absurd (omega arith) | inr same ↦ let is = same.0 in absurd (omega arith) ]
+      | inr same ↦
+          elim (b.least n at a.due) [
+            | inl after ↦ let is = same.0 in absurd (omega arith)
+            | inr again ↦ let lower = same.1 in let upper = again.1 in (same.0, omega arith)
+          ]
+    ]
+
+is_next : (s : SwitchesView) (at : ℕ) (n : SwitchId) (o : Option (ℕ × SwitchId)) → IsDueIn s o → IsNextDue s at n → o ≡ Some (at, n)
+is_next s at n None none a = absurd_due (due_of s n) at (none n) a.due
+is_next s at n (Some d) b a =
+    let same = next_due-unique s d.0 at d.1 n b a in
+    ap₂ (λ (moment number : ℕ). Some (moment, record { 0 = number })) same.0 same.1
+
+pub next_due-is : (s : SwitchesView) (at : ℕ) (n : SwitchId) → IsNextDue s at n → next_due s ≡ Some (at, n)
+next_due-is s at n a = is_next s at n (next_due s) (next_due-is_due s) a

@@ -1,0 +1,11 @@
+//! What is told of a switch.
+
+use mpf_plan::entries::SwitchId;
+
+/// A switch's new level was accepted.
+#[derive(Clone, Copy, Debug, PartialEq, Eq)]
+pub struct Change {
+    pub switch: SwitchId,
+    /// Whether the switch is active now.
+    pub active: bool,
+}

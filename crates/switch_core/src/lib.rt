@@ -1,0 +1,13 @@
+//! Switches: which raw levels are accepted, and when.
+#![tactic(auto)]
+
+pub mod change;
+pub mod law;
+mod state;
+pub mod switches;
+
+pub use change::Change;
+pub use switches::Switches;
+
+#[cfg(test)]
+mod tests;

@@ -1,0 +1,146 @@
+//! The accepted level of every switch.
+
+ghost use Rattle.std.specs.Prelude.{◌≡◌};
+ghost use Rattle.switch_core.specs.StateView.{state_view};
+ghost use Rattle.switch_core.specs.Switches.{due_as, sooner};
+
+use crate::change::Change;
+use crate::state::State;
+use mpf_plan::Plan;
+use mpf_plan::entries::{SwitchId, SwitchKind};
+use std::alloc::{AllocError, Global};
+use std::marker::Model;
+
+/// The raw and the accepted level of every switch of a plan. Moments are milliseconds, below 2^40.
+///
+/// A new raw level of a quick switch is accepted at once. That of another one is due 5 ms later,
+/// and then to be accepted by `fire`; before that a change back to the accepted level forgets it.
+#[derive(Drop)]
+pub struct Switches {
+    kinds: Vec<SwitchKind>,
+    states: Vec<State>,
+}
+
+impl Model for Switches {
+    ghost use Rattle.switch_core.specs.Switches.{SwitchesView, IsComplete};
+
+    ghost Value = { SwitchesView };
+
+    ghost use Rattle.switch_core.specs.Inside.{switches_view};
+
+    ghost view = { switches_view };
+
+    ghost invariant = { λ s. IsComplete (switches_view s) };
+}
+
+impl Switches {
+    ghost use Rattle.std.specs.Prelude.{◌≡◌, ◌<◌, ◌^◌, length, Some, IsSome, IfOk, IfSome, IfNone};
+    ghost use Rattle.switch_core.specs.Switches.{IsComplete, active_at, all_idle, after_change, told_by_change, IsNextDue, IsNothingDue, next_due, after_fire, told_by_fire};
+
+    /// All switches of the plan, inactive: at raw level 0, and at 1 where the contact is normally
+    /// closed. Only this call takes memory.
+    ///
+    /// # Errors
+    ///
+    /// `AllocError` where memory runs out.
+    pub fn new(alloc: Global, plan: &Plan) -> Result<Switches, AllocError>
+        ensures idle { IfOk result (λ s. s ≡ all_idle plan.now) }
+        ensures count { IfOk result (λ s. length s.kinds ≡ length plan.now.switches) }
+        ensures complete { IfOk result (λ s. IsComplete s) }
+    {
+        let count = plan.switch_count();
+        let mut kinds = Vec::with_capacity(alloc, count)?;
+        let mut states = Vec::with_capacity(alloc, count)?;
+        for number in 0..count {
+            let kind = plan.switch_kind(SwitchId(number as u16));
+            kinds.push_reserved(kind);
+            states.push_reserved(State::idle(kind));
+        }
+        Ok(Switches { kinds, states })
+    }
+
+    /// The raw level of a switch of the plan changes at the moment `now`, below 2^40 ms. Tells the
+    /// new accepted level where it is accepted at once. A change to the raw level that is there
+    /// already does nothing.
+    ///
+    /// It is to be called only once everything that is due at or before `now` has been accepted.
+    pub fn change(&mut self, switch: SwitchId, level: bool, now: u64) -> Option<Change>
+        requires switch { switch.0 < length self.old.kinds }
+        requires now { now < 2 ^ 40 }
+        ensures state { self.new ≡ after_change switch level now self.old }
+        ensures told { result ≡ told_by_change switch level now self.old }
+        ensures complete { IsComplete self.new }
+    {
+        let number = switch.0 as usize;
+        let kind = self.kinds[number];
+        let old = self.states[number];
+        let new = old.changed(kind, level, now);
+        self.states[number] = new;
+        let active = new.active;
+        old.takes(kind, level).then_some(Change { switch, active })
+    }
+
+    /// The moment and the switch whose raw level is to be accepted next: the least moment, and of
+    /// equal ones the least number. None where nothing is due.
+    pub fn due(&self) -> Option<(u64, SwitchId)>
+        ensures next { result ≡ next_due self.now }
+        ensures least { IfSome result (λ d. IsNextDue self.now d.0 d.1) }
+        ensures within { IfSome result (λ d. d.1.0 < length self.now.kinds) }
+        ensures none { IfNone result (IsNothingDue self.now) }
+        ensures complete { IsComplete self.now }
+    {
+        let mut next = None;
+        for (number, state) in self.states.iter().enumerate() {
+            let due = due_as(number as u16, *state);
+            next = sooner(next, due);
+        }
+        next
+    }
+
+    /// Accepts the raw level that is due next, which something must be: `due` tells. Tells the
+    /// new accepted level.
+    pub fn fire(&mut self) -> Change
+        requires { IsSome (next_due self.old) }
+        ensures state { self.new ≡ after_fire self.old }
+        ensures told { told_by_fire self.old ≡ Some result }
+        ensures kinds { self.new.kinds ≡ self.old.kinds }
+        ensures complete { IsComplete self.new }
+    {
+        let Some((_, switch)) = self.due() else {
+            unreachable!()
+        };
+        let number = switch.0 as usize;
+        let accepted = self.states[number].fired(self.kinds[number]);
+        self.states[number] = accepted;
+        let active = accepted.active;
+        Change { switch, active }
+    }
+
+    /// Whether a switch of the plan is active by the level that was accepted last.
+    pub fn active(&self, switch: SwitchId) -> bool
+        requires { switch.0 < length self.now.kinds }
+        ensures active { result ≡ active_at self.now switch }
+        ensures complete { IsComplete self.now }
+    {
+        self.states[switch.0 as usize].active
+    }
+}
+
+/// A state's due moment, with the number of its switch.
+fn due_as(number: u16, state: State) -> Option<(u64, SwitchId)>
+    ensures { result ≡ due_as number (state_view state) }
+{
+    let at = state.due?;
+    Some((at, SwitchId(number)))
+}
+
+/// Of two that may be due, the one of the lesser moment, and of equal moments the first.
+fn sooner(a: Option<(u64, SwitchId)>, b: Option<(u64, SwitchId)>) -> Option<(u64, SwitchId)>
+    ensures { result ≡ sooner a b }
+{
+    match (a, b) {
+        (None, _) => b,
+        (_, None) => a,
+        (Some(first), Some(second)) => if first.0 <= second.0 { a } else { b },
+    }
+}
