@@ -10,10 +10,12 @@ use Rattle.mpf_plan.specs.declared.entries.Action.TheVariants.{Post}
 use Rattle.mpf_plan.specs.declared.entries.Target.{Target}
 use Rattle.mpf_plan.specs.declared.entries.Target.TheVariants.{Run}
 use Rattle.mpf_plan.specs.declared.entries.Binding.{Binding}
+use Rattle.mpf_plan.specs.declared.entries.SwitchKind.{SwitchKind}
+use Rattle.switch_core.specs.SwitchStep.{SwitchState, same_level, is_active, accepted, awaited, changed, is_taken, fired}
 use Rattle.config_checker.specs.declared.line.Line.{Line}
 use Rattle.config_checker.specs.declared.line.Happening.TheVariants as tells
 use Rattle.config_checker.specs.Cost.{actions_of, posts_of}
-use Rattle.config_checker.specs.Machine.{Machine, SwitchState, write, post, set_switch, all_do, do_action, do_target, do_binding, initial, idle_switch, switch_at, no_switch, same_level, changed_switch, accepted_switch}
+use Rattle.config_checker.specs.Machine.{Machine, write, post, set_switch, all_do, do_action, do_target, do_binding, initial, planned, kind_at, idle_switch, switch_at, level_of, tell_switch, set_changed}
 use Rattle.config_checker.specs.EventStep.{EventStep, EventSteps, taken}
 use Rattle.config_checker.specs.PlanOrder.{plan_steps}
 use Rattle.config_checker.specs.Run.{Stimulus, Change, Alarm, Wait, due_of, IsQuietUntil, IsNextAlarm, IsAllowed, arrived, begin, IsRun}
@@ -62,12 +64,18 @@ module _ (plan : PlanView) where
   pub moment-begin : (stimulus : Stimulus) (s : Machine) → (begin plan stimulus s).moment ≡ moment_of stimulus
   moment-begin stimulus s = moment-does (does-begin plan stimulus s)
 
-  -- an alarm alters its own switch alone
-  pub switches-alarm : (at n : ℕ) (s : Machine) → (begin plan (Alarm at n) s).switches ≡ slice_set s.switches n (accepted_switch (switch_at s n))
-  switches-alarm at n s =
-      let level = (switch_at s n).raw in
-      let known = set_switch n (accepted_switch (switch_at s n)) (arrived at s) in
-      switches-all_do (post owners.Machine) (λ e t. refl) (posts_of level (slice_index_or plan.switches n no_switch)) (write owners.Machine (tells.Switch (record { 0 = n }) level) known)
+  -- that an acceptance is told alters no switch
+  switches-tell : (n : ℕ) (active : Bool) (s : Machine) → (tell_switch plan n active s).switches ≡ s.switches
+  switches-tell n active s = switches-all_do (post owners.Machine) (λ e t. refl) (posts_of active (planned plan n)) (write owners.Machine (tells.Switch (record { 0 = n }) active) s)
+
+  -- an alarm and a change alter their own switch alone
+  pub switches-alarm : (at n : ℕ) (s : Machine) → (begin plan (Alarm at n) s).switches ≡ slice_set s.switches n (fired (kind_at plan n) (switch_at s n))
+  switches-alarm at n s = switches-tell n (level_of plan n (switch_at s n).raw) (set_switch n (fired (kind_at plan n) (switch_at s n)) (arrived at s))
+
+  pub switches-change : (at n : ℕ) (level : Bool) (s : Machine) → (begin plan (Change at n level) s).switches ≡ slice_set s.switches n (changed (kind_at plan n) at level (switch_at s n))
+  switches-change at n level s =
+      let next = set_changed plan at n level (arrived at s) in
+      cond_both (is_taken (kind_at plan n) level (switch_at s n)) (tell_switch plan n (level_of plan n level) next) next (λ (m : Machine). m.switches ≡ next.switches) (λ _. switches-tell n (level_of plan n level) next) (λ _. refl)
 
 -- ---- the due moments
 
@@ -151,11 +159,11 @@ module _ (plan : PlanView) (k : ℕ) where
   pub moment-after : (stimulus : Stimulus) (s : Machine) → (plan_steps plan k (begin plan stimulus s)).moment ≡ moment_of stimulus
   moment-after stimulus s = moment-plan_steps plan k (begin plan stimulus s) ∙ moment-begin plan stimulus s
 
-  pub switches-after_alarm : (at n : ℕ) (s : Machine) → (plan_steps plan k (begin plan (Alarm at n) s)).switches ≡ slice_set s.switches n (accepted_switch (switch_at s n))
+  pub switches-after_alarm : (at n : ℕ) (s : Machine) → (plan_steps plan k (begin plan (Alarm at n) s)).switches ≡ slice_set s.switches n (fired (kind_at plan n) (switch_at s n))
   switches-after_alarm at n s = switches-plan_steps plan k (begin plan (Alarm at n) s) ∙ switches-alarm plan at n s
 
-  pub switches-after_change : (at n : ℕ) (level : Bool) (s : Machine) → (plan_steps plan k (begin plan (Change at n level) s)).switches ≡ slice_set s.switches n (changed_switch at level (switch_at s n))
-  switches-after_change at n level s = switches-plan_steps plan k (begin plan (Change at n level) s)
+  pub switches-after_change : (at n : ℕ) (level : Bool) (s : Machine) → (plan_steps plan k (begin plan (Change at n level) s)).switches ≡ slice_set s.switches n (changed (kind_at plan n) at level (switch_at s n))
+  switches-after_change at n level s = switches-plan_steps plan k (begin plan (Change at n level) s) ∙ switches-change plan at n level s
 
   pub switches-after_wait : (at : ℕ) (s : Machine) → (plan_steps plan k (begin plan (Wait at) s)).switches ≡ s.switches
   switches-after_wait at s = switches-plan_steps plan k (begin plan (Wait at) s)
@@ -163,19 +171,19 @@ module _ (plan : PlanView) (k : ℕ) where
   -- after an alarm nothing is due that was not before
   pub due-after_alarm : (at n : ℕ) (s : Machine) (m due : ℕ) → due_of (plan_steps plan k (begin plan (Alarm at n) s)) m ≡ Some due → due_of s m ≡ Some due
   due-after_alarm at n s m due is =
-      let set : due_at (slice_set s.switches n (accepted_switch (switch_at s n))) m ≡ Some due = ap (λ (xs : List SwitchState). due_at xs m) (sym (switches-after_alarm at n s)) ∙ is in
-      elim (due_at-set s.switches n m due (accepted_switch (switch_at s n)) set) [
+      let set : due_at (slice_set s.switches n (fired (kind_at plan n) (switch_at s n))) m ≡ Some due = ap (λ (xs : List SwitchState). due_at xs m) (sym (switches-after_alarm at n s)) ∙ is in
+      elim (due_at-set s.switches n m due (fired (kind_at plan n) (switch_at s n)) set) [
         | inl old ↦ old
         | inr new ↦ none-some None due refl new.1
       ]
 
   -- its own switch has no due moment any more, and one switch fewer is due
   pub alarm-done : (at n : ℕ) (s : Machine) → due_of (plan_steps plan k (begin plan (Alarm at n) s)) n ≡ None
-  alarm-done at n s = ap (λ (xs : List SwitchState). due_at xs n) (switches-after_alarm at n s) ∙ due_at-none s.switches n (accepted_switch (switch_at s n)) refl
+  alarm-done at n s = ap (λ (xs : List SwitchState). due_at xs n) (switches-after_alarm at n s) ∙ due_at-none s.switches n (fired (kind_at plan n) (switch_at s n)) refl
 
   pub due_count-after_alarm : (at n : ℕ) (s : Machine) → due_of s n ≡ Some at → due_count (plan_steps plan k (begin plan (Alarm at n) s)).switches + 1 ≡ due_count s.switches
   due_count-after_alarm at n s is =
-      ap (λ (xs : List SwitchState). due_count xs + 1) (switches-after_alarm at n s) ∙ due_count-fewer s.switches n at (accepted_switch (switch_at s n)) refl is
+      ap (λ (xs : List SwitchState). due_count xs + 1) (switches-after_alarm at n s) ∙ due_count-fewer s.switches n at (fired (kind_at plan n) (switch_at s n)) refl is
 
 -- ---- no alarm is late
 
@@ -183,11 +191,13 @@ module _ (plan : PlanView) (k : ℕ) where
 abbrev pub IsAhead : Machine → Type 0
 IsAhead s = (n due : ℕ) → due_of s n ≡ Some due → s.moment ≤ due
 
-changed_due : (at due : ℕ) (level : Bool) (switch : SwitchState) → ((old : ℕ) → switch.due ≡ Some old → at ≤ old) → (changed_switch at level switch).due ≡ Some due → at ≤ due
-changed_due at due level switch ahead =
-    cond_both (same_level level switch.raw) switch (record { raw = level; accepted = switch.accepted; due = if same_level level switch.accepted then None else Some (at + 5) }) (λ x. x.due ≡ Some due → at ≤ due)
+changed_due : (kind : SwitchKind) (at due : ℕ) (level : Bool) (switch : SwitchState) → ((old : ℕ) → switch.due ≡ Some old → at ≤ old) → (changed kind at level switch).due ≡ Some due → at ≤ due
+changed_due kind at due level switch ahead =
+    cond_both (same_level level switch.raw) switch (if kind.quick then accepted kind level else awaited kind at level switch) (λ x. x.due ≡ Some due → at ≤ due)
     (λ _ is. ahead due is)
-    (λ _. cond_both (same_level level switch.accepted) None (Some (at + 5)) (λ o. o ≡ Some due → at ≤ due) (λ _ is. none-some None due refl is) (λ _ is. later is))
+    (λ _. cond_both kind.quick (accepted kind level) (awaited kind at level switch) (λ x. x.due ≡ Some due → at ≤ due)
+    (λ _ is. none-some None due refl is)
+    (λ _. cond_both (same_level (is_active kind.contact level) switch.active) None (Some (at + 5)) (λ o. o ≡ Some due → at ≤ due) (λ _ is. none-some None due refl is) (λ _ is. later is)))
   where
     later : Some (at + 5) ≡ Some due → at ≤ due
     later is = let e : at + 5 ≡ due = cc in omega arith
@@ -196,9 +206,11 @@ module _ (plan : PlanView) where
   pub ahead-begin : (stimulus : Stimulus) (s : Machine) → IsAllowed plan s stimulus → IsAhead (begin plan stimulus s)
   ahead-begin (Change at n level) s allowed m due is =
       let quiet = allowed.0.quiet in
-      elim (due_at-set s.switches n m due (changed_switch at level (switch_at s n)) is) [
-        | inl old ↦ let after = quiet m due old in omega arith
-        | inr new ↦ changed_due at due level (switch_at s n) (λ old was. let after = quiet n old was in omega arith) new.1
+      let here = moment-begin plan (Change at n level) s in
+      let set : due_at (slice_set s.switches n (changed (kind_at plan n) at level (switch_at s n))) m ≡ Some due = ap (λ (xs : List SwitchState). due_at xs m) (sym (switches-change plan at n level s)) ∙ is in
+      elim (due_at-set s.switches n m due (changed (kind_at plan n) at level (switch_at s n)) set) [
+        | inl old ↦ let after = quiet m due old in omega (arith, here)
+        | inr new ↦ let after = changed_due (kind_at plan n) at due level (switch_at s n) (λ old was. let after = quiet n old was in omega arith) new.1 in omega (arith, here)
       ]
   ahead-begin (Alarm at n) s allowed m due is =
       let here = moment-begin plan (Alarm at n) s in

@@ -1,16 +1,17 @@
 -- Where weights fit, no event step raises the potential. So every run of an accepted plan is good.
-use Rattle.std.proofs.Common.{◌≡◌, ℕ, zero, suc, ◌+◌, ◌≤◌, ◌<◌, Bool, true, false, Some, None, List, [], ◌∷◌, length, slice_index, slice_index_or, ap, sym, ◌∙◌, subst, inl, inr, arith, length-append}
+use Rattle.std.proofs.Common.{◌≡◌, ℕ, zero, suc, ◌+◌, ◌≤◌, ◌<◌, Bool, true, false, Some, None, List, [], ◌∷◌, length, slice_index, ap, sym, ◌∙◌, subst, inl, inr, arith, length-append}
 use Rattle.std.specs.List.{AllByRecursion}
-use Rattle.std.proofs.lemmas.Bool.{cases_lt}
-use Rattle.std.proofs.lemmas.List.{length-replicate, get_or_past}
+use Rattle.std.proofs.lemmas.Bool.{cases_lt, cond_both}
+use Rattle.std.proofs.lemmas.List.{length-map, get_or_past}
 use Rattle.std.proofs.lemmas.List.Elements.{All-get_or}
-use Rattle.mpf_plan.specs.PlanView.{PlanView, Switch}
+use Rattle.mpf_plan.specs.PlanView.{PlanView, Switch, no_switch}
 use Rattle.mpf_plan.specs.Valid.{IsValid, IsSwitchWithin}
+use Rattle.switch_core.specs.SwitchStep.{SwitchState, idle, is_taken}
 use Rattle.config_checker.specs.declared.line.Line.{Line}
 use Rattle.config_checker.specs.declared.line.Happening.TheVariants as tells
-use Rattle.config_checker.specs.Cost.{Cost, price, cost_of_acceptance, cost_of_switch}
+use Rattle.config_checker.specs.Cost.{Cost, Lines, price, cost_of_acceptance, cost_of_switch}
 use Rattle.config_checker.specs.Weights.{IsFitting, bound_of}
-use Rattle.config_checker.specs.Machine.{Machine, Posted, SwitchState, initial, idle_switch, switch_at, no_switch}
+use Rattle.config_checker.specs.Machine.{Machine, Posted, initial, planned, kind_at, idle_switch, switch_at, level_of}
 use Rattle.config_checker.specs.EventStep.{EventStep, EventSteps, after_event, handlers}
 use Rattle.config_checker.specs.PlanOrder.{by_priority}
 use Rattle.config_checker.specs.Run.{Stimulus, Change, Alarm, Wait, IsAllowed, due_of, begin, IsRun}
@@ -22,6 +23,7 @@ use Rattle.config_checker.proofs.Within.{IsBelow, IsBelow-acceptance, no_switch-
 use Rattle.config_checker.proofs.Does.{Does, potential, potential-does, WaitsBelow, WaitsBelow-does, switch_count-does, grows-does}
 use Rattle.config_checker.proofs.Parts.{does-event, does-begin}
 use Rattle.config_checker.proofs.Order.{order_cost, plan_order-step}
+use Rattle.config_checker.proofs.Levels.{levels-run}
 use Rattle.config_checker.proofs.Keeps.{step-keeps, steps-keep, run-keeps}
 
 -- Each waiting event is one of the plan's, and each switch of the plan has a state.
@@ -44,11 +46,11 @@ due-within s n at is =
 
 module _ (plan : PlanView) (valid : IsValid plan) where
   -- the acceptance of any switch posts events of the plan
-  pub acceptance_below : (active : Bool) (n : ℕ) → IsBelow (length plan.events) (cost_of_acceptance active (slice_index_or plan.switches n no_switch))
+  pub acceptance_below : (active : Bool) (n : ℕ) → IsBelow (length plan.events) (cost_of_acceptance active (planned plan n))
   acceptance_below active n =
       elim (cases_lt n (length plan.switches)) [
         | inl l ↦
-            IsBelow-acceptance (length plan.events) active (slice_index_or plan.switches n no_switch)
+            IsBelow-acceptance (length plan.events) active (planned plan n)
             (All-get_or (IsSwitchWithin (length plan.events)) plan.switches n no_switch l valid.switches)
         | inr l ↦
             subst (λ (s : Switch). IsBelow (length plan.events) (cost_of_acceptance active s)) (sym (get_or_past plan.switches n no_switch l))
@@ -56,8 +58,9 @@ module _ (plan : PlanView) (valid : IsValid plan) where
       ]
 
   pub stimulus_below : (s : Machine) (stimulus : Stimulus) → IsBelow (length plan.events) (cost_of_stimulus plan s stimulus)
-  stimulus_below s (Change at n level) = tt
-  stimulus_below s (Alarm at n) = acceptance_below (switch_at s n).raw n
+  stimulus_below s (Change at n level) =
+      cond_both (is_taken (kind_at plan n) level (switch_at s n)) (cost_of_acceptance (level_of plan n level) (planned plan n)) (Lines 0) (IsBelow (length plan.events)) (λ _. acceptance_below (level_of plan n level) n) (λ _. tt)
+  stimulus_below s (Alarm at n) = acceptance_below (level_of plan n (switch_at s n).raw) n
   stimulus_below s (Wait at) = tt
 
   of_plan-moves : (c : Cost) (s t : Machine) → Does c s t → IsBelow (length plan.events) c → IsOfPlan plan s → IsOfPlan plan t
@@ -82,7 +85,7 @@ module _ (plan : PlanView) (valid : IsValid plan) where
   of_plan-steps = steps-keep plan valid (IsOfPlan plan) of_plan-moves of_plan-drops
 
   pub of_plan-initial : IsOfPlan plan (initial plan)
-  of_plan-initial = record { waiting = tt; switches = length-replicate (length plan.switches) idle_switch }
+  of_plan-initial = record { waiting = tt; switches = length-map plan.switches (λ s. idle s.kind) }
 
   -- the state of every run is one of the plan
   pub of_plan-run : (stimuli : List (Stimulus × ℕ)) (trace : List Line) (s : Machine) → IsRun plan stimuli (initial plan) trace s → IsOfPlan plan s
@@ -90,21 +93,23 @@ module _ (plan : PlanView) (valid : IsValid plan) where
       run-keeps plan valid (IsOfPlan plan) of_plan-moves of_plan-drops (λ stimulus s allowed empty h. of_plan-begin stimulus s h) stimuli (initial plan) trace s run of_plan-initial
 
   -- the acceptance of a switch of the plan costs at most what the dearest stimulus does
-  pub acceptance_cost : (w : ℕ → ℕ) (active : Bool) (n : ℕ) → n < length plan.switches → price w (cost_of_acceptance active (slice_index_or plan.switches n no_switch)) ≤ bound_of plan w
+  pub acceptance_cost : (w : ℕ → ℕ) (active : Bool) (n : ℕ) → n < length plan.switches → price w (cost_of_acceptance active (planned plan n)) ≤ bound_of plan w
   acceptance_cost w active n l =
       let dearer = price-dearest w cost_of_switch plan.switches n no_switch l in
-      either w active (slice_index_or plan.switches n no_switch) (bound_of plan w) dearer
+      either w active (planned plan n) (bound_of plan w) dearer
     where
       either : (w : ℕ → ℕ) (active : Bool) (s : Switch) (most : ℕ) → price w (cost_of_switch s) ≤ most → price w (cost_of_acceptance active s) ≤ most
       either w true s most h = omega arith
       either w false s most h = omega arith
 
   pub stimulus_cost : (w : ℕ → ℕ) (s : Machine) (stimulus : Stimulus) → IsOfPlan plan s → IsAllowed plan s stimulus → price w (cost_of_stimulus plan s stimulus) ≤ bound_of plan w
-  stimulus_cost w s (Change at n level) h allowed = omega arith
+  stimulus_cost w s (Change at n level) h allowed =
+      cond_both (is_taken (kind_at plan n) level (switch_at s n)) (cost_of_acceptance (level_of plan n level) (planned plan n)) (Lines 0) (λ c. price w c ≤ bound_of plan w)
+      (λ _. acceptance_cost w (level_of plan n level) n allowed.1) (λ _. omega arith)
   stimulus_cost w s (Alarm at n) h allowed =
       let there = due-within s n at allowed.0.due in
       let count = h.switches in
-      acceptance_cost w (switch_at s n).raw n (omega arith)
+      acceptance_cost w (level_of plan n (switch_at s n).raw) n (omega arith)
   stimulus_cost w s (Wait at) h allowed = omega arith
 
 module _ (plan : PlanView) where
@@ -191,6 +196,7 @@ fitting-is_good c valid fits bound =
           let cost = stimulus_cost plan valid w s stimulus here allowed in
           let lines = steps-lines plan n (begin plan stimulus s) t steps in
           omega (arith, most, cost, lines, bound);
+      levels = levels-run plan;
     }
 
 -- Every run of an accepted plan is good.

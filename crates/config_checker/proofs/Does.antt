@@ -4,9 +4,10 @@ use Rattle.std.specs.List.{AllByRecursion}
 use Rattle.std.proofs.lemmas.List.{length-set}
 use Rattle.mpf_plan.specs.declared.entries.EventId.{EventId}
 use Rattle.mpf_plan.specs.declared.entries.Owner.{Owner}
+use Rattle.switch_core.specs.SwitchStep.{SwitchState}
 use Rattle.config_checker.specs.declared.line.Happening.{Happening}
 use Rattle.config_checker.specs.Cost.{Cost, Lines, Both, Greater, price, each_of, dearest_of, cost_of_post}
-use Rattle.config_checker.specs.Machine.{Machine, SwitchState, Posted, write, post, set_switch, all_do}
+use Rattle.config_checker.specs.Machine.{Machine, Posted, write, post, set_switch, all_do}
 use Rattle.config_checker.specs.GoodRun.{weigh}
 use Rattle.config_checker.proofs.Within.{IsBelow}
 

@@ -10,6 +10,7 @@ pub mod Writing
 pub mod PlanSteps
 pub mod LeastWeights
 pub mod Alarms
+pub mod Levels
 pub mod Reached
 pub mod Marks
 pub mod Fed

@@ -3,7 +3,7 @@ use Rattle.std.proofs.Common.{◌≡◌, ℕ, ◌<◌, Bool, true, false, ◌==�
 use Rattle.std.specs.List.{All, AllByRecursion}
 use Rattle.std.proofs.lemmas.Bool.{cond_both, or_cases, eqb-true, false≢true}
 use Rattle.std.proofs.lemmas.List.Elements.{recursion_from_All, All-get_or, All-weaker, All-nil}
-use Rattle.mpf_plan.specs.PlanView.{PlanView, Switch}
+use Rattle.mpf_plan.specs.PlanView.{PlanView, Switch, no_switch}
 use Rattle.mpf_plan.specs.Valid.{IsValid, IsEventWithin, IsActionWithin, IsTargetWithin, IsBindingWithin, IsSwitchWithin}
 use Rattle.mpf_plan.specs.declared.entries.EventId.{EventId}
 use Rattle.mpf_plan.specs.declared.entries.ListId.{ListId}
@@ -13,7 +13,6 @@ use Rattle.mpf_plan.specs.declared.entries.Target.{Target}
 use Rattle.mpf_plan.specs.declared.entries.Target.TheVariants.{Run}
 use Rattle.mpf_plan.specs.declared.entries.Binding.{Binding}
 use Rattle.config_checker.specs.Cost.{Cost, Lines, Weight, Both, Greater, mentions, each_of, dearest_of, cost_of_post, cost_of_action, actions_of, cost_of_list, cost_of_target, cost_at, cost_of_event, cost_of_acceptance, cost_of_switch, cost_of_stimuli}
-use Rattle.config_checker.specs.Machine.{no_switch}
 
 -- each event whose weight stands in the cost is below n
 abbrev pub IsBelow : ℕ → Cost → Type 0

@@ -1,17 +1,22 @@
 -- What is promised of every run.
-use Rattle.std.specs.Prelude.{◌≡◌, ℕ, ◌+◌, ◌≤◌, List, [], ◌∷◌, length, slice_index, slice_index_or}
+use Rattle.std.specs.Prelude.{◌≡◌, ℕ, ◌+◌, ◌<◌, ◌≤◌, if◌then◌else◌, List, [], ◌∷◌, length, slice_index}
 use Rattle.mpf_plan.specs.PlanView.{PlanView}
+use Rattle.switch_core.specs.SwitchStep.{raw_at_rest, is_taken}
+use Rattle.switch_core.specs.AcceptedLevel.{accepted_level}
 use Rattle.config_checker.specs.declared.line.Line.{Line}
 use Rattle.config_checker.specs.Cost.{Cost, Lines, price, cost_of_acceptance}
-use Rattle.config_checker.specs.Machine.{Machine, Posted, initial, switch_at, no_switch}
+use Rattle.config_checker.specs.Machine.{Machine, Posted, initial, planned, kind_at, switch_at, level_of}
 use Rattle.config_checker.specs.EventStep.{EventStep, EventSteps}
-use Rattle.config_checker.specs.Run.{Stimulus, Change, Alarm, Wait, IsAllowed, begin, IsRun}
+use Rattle.config_checker.specs.Run.{Stimulus, Change, Alarm, Wait, IsQuietUntil, IsAllowed, begin, IsRun}
+use Rattle.config_checker.specs.RawChanges.{raw_changes}
 use Rattle.config_checker.specs.CheckedView.{CheckedView}
 
--- what a stimulus costs: an alarm the acceptance of its switch, a change and a wait nothing
+-- What a stimulus costs: an alarm the acceptance of its switch's raw level, a change that of the new raw level where it is
+-- accepted at once. Another change and a wait cost nothing.
 abbrev pub cost_of_stimulus : PlanView → Machine → Stimulus → Cost
-cost_of_stimulus plan s (Change at n level) = Lines 0
-cost_of_stimulus plan s (Alarm at n) = cost_of_acceptance (switch_at s n).raw (slice_index_or plan.switches n no_switch)
+cost_of_stimulus plan s (Change at n level) =
+    if is_taken (kind_at plan n) level (switch_at s n) then cost_of_acceptance (level_of plan n level) (planned plan n) else Lines 0
+cost_of_stimulus plan s (Alarm at n) = cost_of_acceptance (level_of plan n (switch_at s n).raw) (planned plan n)
 cost_of_stimulus plan s (Wait at) = Lines 0
 
 -- the weights of the events that wait
@@ -39,3 +44,8 @@ pub record IsGood (c : CheckedView) : Type 0 where
       (stimuli : List (Stimulus × ℕ)) (trace : List Line) (s : Machine) → IsRun c.plan stimuli (initial c.plan) trace s → s.waiting ≡ [] →
       (stimulus : Stimulus) → IsAllowed c.plan s stimulus → (n : ℕ) (t : Machine) → EventSteps c.plan n (begin c.plan stimulus s) t →
       n ≤ c.bound
+  -- At a moment at or before which nothing is due, a switch is active by the accepted level of its raw changes.
+  pub levels :
+      (stimuli : List (Stimulus × ℕ)) (trace : List Line) (s : Machine) → IsRun c.plan stimuli (initial c.plan) trace s →
+      (at : ℕ) → s.moment ≤ at → IsQuietUntil s at → (n : ℕ) → n < length c.plan.switches →
+      (switch_at s n).active ≡ accepted_level (kind_at c.plan n) at (raw_changes n (raw_at_rest (kind_at c.plan n).contact) stimuli)

@@ -4,6 +4,7 @@ pub mod Feeding
 pub mod Machine
 pub mod EventStep
 pub mod Run
+pub mod RawChanges
 pub mod PlanOrder
 pub mod CheckedView
 pub mod GoodRun

@@ -1,6 +1,7 @@
 -- The machine's state, and what each thing does to it.
-use Rattle.std.specs.Prelude.{ℕ, ◌+◌, Bool, true, false, not, if◌then◌else◌, Option, Some, None, List, [], ◌∷◌, ◌++◌, length, replicate, slice_index_or, slice_set}
-use Rattle.mpf_plan.specs.PlanView.{PlanView, Switch}
+use Rattle.std.specs.Prelude.{ℕ, Bool, if◌then◌else◌, List, [], ◌∷◌, ◌++◌, map, slice_index_or, slice_set}
+use Rattle.mpf_plan.specs.PlanView.{PlanView, Switch, no_switch}
+use Rattle.mpf_plan.specs.declared.entries.SwitchKind.{SwitchKind}
 use Rattle.mpf_plan.specs.declared.entries.EventId.{EventId}
 use Rattle.mpf_plan.specs.declared.entries.ListId.{ListId}
 use Rattle.mpf_plan.specs.declared.entries.Owner.{Owner}
@@ -10,16 +11,11 @@ use Rattle.mpf_plan.specs.declared.entries.Action.TheVariants.{Post}
 use Rattle.mpf_plan.specs.declared.entries.Target.{Target}
 use Rattle.mpf_plan.specs.declared.entries.Target.TheVariants.{Run}
 use Rattle.mpf_plan.specs.declared.entries.Binding.{Binding}
+use Rattle.switch_core.specs.SwitchStep.{SwitchState, is_active, idle, changed, is_taken, fired}
 use Rattle.config_checker.specs.declared.line.Line.{Line}
 use Rattle.config_checker.specs.declared.line.Happening.{Happening}
 use Rattle.config_checker.specs.declared.line.Happening.TheVariants as tells
 use Rattle.config_checker.specs.Cost.{actions_of, posts_of}
-
--- a switch: its raw level, the accepted one, and the moment at which the raw level is to be accepted
-pub record SwitchState : Type 0 where
-  pub raw : Bool
-  pub accepted : Bool
-  pub due : Option ℕ
 
 -- an event that waits, and who posted it
 pub record Posted : Type 0 where
@@ -36,12 +32,9 @@ pub record Machine : Type 0 where
   -- the lines since the latest stimulus began
   pub lines : List Line
 
-abbrev pub idle_switch : SwitchState
-idle_switch = record { raw = false; accepted = false; due = None }
-
 -- At the beginning it is moment 0, all switches are inactive, and nothing waits.
 abbrev pub initial : PlanView → Machine
-initial plan = record { moment = 0; switches = replicate (length plan.switches) idle_switch; waiting = []; lines = [] }
+initial plan = record { moment = 0; switches = map (λ s. idle s.kind) plan.switches; waiting = []; lines = [] }
 
 -- ---- one change each
 
@@ -75,33 +68,40 @@ do_binding plan b s = do_target plan b.owner b.target s
 
 -- ---- switches
 
+-- a switch of the plan
+abbrev pub planned : PlanView → ℕ → Switch
+planned plan n = slice_index_or plan.switches n no_switch
+
+abbrev pub kind_at : PlanView → ℕ → SwitchKind
+kind_at plan n = (planned plan n).kind
+
+-- in place of the state of a switch where there is none
+abbrev pub idle_switch : SwitchState
+idle_switch = idle no_switch.kind
+
 abbrev pub switch_at : Machine → ℕ → SwitchState
 switch_at s n = slice_index_or s.switches n idle_switch
 
-abbrev pub no_switch : Switch
-no_switch = record { name = []; active = []; inactive = [] }
+-- whether a raw level of the switch is active
+abbrev pub level_of : PlanView → ℕ → Bool → Bool
+level_of plan n raw = is_active (kind_at plan n).contact raw
 
--- whether two levels are the same
-abbrev pub same_level : Bool → Bool → Bool
-same_level true level = level
-same_level false level = not level
+-- A switch was accepted as active or inactive: the line comes, and then the posts.
+abbrev pub tell_switch : PlanView → ℕ → Bool → Machine → Machine
+tell_switch plan n active s =
+    all_do (post owners.Machine) (posts_of active (planned plan n)) (write owners.Machine (tells.Switch (record { 0 = n }) active) s)
 
--- The raw level that is there already changes nothing. A new one that differs from the accepted level is to be accepted 5 ms
--- later; of one that does not nothing is due.
-abbrev pub changed_switch : ℕ → Bool → SwitchState → SwitchState
-changed_switch at level switch =
-    if same_level level switch.raw then switch
-    else record { raw = level; accepted = switch.accepted; due = if same_level level switch.accepted then None else Some (at + 5) }
+-- the switch as a change to the raw level leaves it
+abbrev pub set_changed : PlanView → ℕ → ℕ → Bool → Machine → Machine
+set_changed plan at n raw s = set_switch n (changed (kind_at plan n) at raw (switch_at s n)) s
 
-abbrev pub change_switch : ℕ → ℕ → Bool → Machine → Machine
-change_switch at n level s = set_switch n (changed_switch at level (switch_at s n)) s
+-- The raw level of a switch changes. Where it is accepted at once, that is told.
+abbrev pub change_switch : PlanView → ℕ → ℕ → Bool → Machine → Machine
+change_switch plan at n raw s =
+    if is_taken (kind_at plan n) raw (switch_at s n)
+    then tell_switch plan n (level_of plan n raw) (set_changed plan at n raw s)
+    else set_changed plan at n raw s
 
-abbrev pub accepted_switch : SwitchState → SwitchState
-accepted_switch switch = record { raw = switch.raw; accepted = switch.raw; due = None }
-
--- The raw level is accepted: the line comes, and then the posts.
-abbrev pub accept_switch : PlanView → ℕ → Machine → Machine
-accept_switch plan n s =
-    let level = (switch_at s n).raw in
-    all_do (post owners.Machine) (posts_of level (slice_index_or plan.switches n no_switch))
-    (write owners.Machine (tells.Switch (record { 0 = n }) level) (set_switch n (accepted_switch (switch_at s n)) s))
+-- The raw level that was due is accepted.
+abbrev pub fire_switch : PlanView → ℕ → Machine → Machine
+fire_switch plan n s = tell_switch plan n (level_of plan n (switch_at s n).raw) (set_switch n (fired (kind_at plan n) (switch_at s n)) s)

@@ -2,7 +2,7 @@
 use Rattle.std.specs.Prelude.{◌≡◌, ℕ, ◌<◌, ◌≤◌, ◌^◌, ◌⊎◌, Bool, Option, Some, List, [], ◌∷◌, ◌++◌, length}
 use Rattle.mpf_plan.specs.PlanView.{PlanView}
 use Rattle.config_checker.specs.declared.line.Line.{Line}
-use Rattle.config_checker.specs.Machine.{Machine, switch_at, change_switch, accept_switch}
+use Rattle.config_checker.specs.Machine.{Machine, switch_at, change_switch, fire_switch}
 use Rattle.config_checker.specs.EventStep.{EventSteps}
 
 -- A switch changes its raw level, the alarm of a switch is due, or nothing happens up to a moment.
@@ -42,8 +42,8 @@ arrived at s = record s { moment = at; lines = [] }
 
 -- what a stimulus does before any event step
 abbrev pub begin : PlanView → Stimulus → Machine → Machine
-begin plan (Change at n level) s = change_switch at n level (arrived at s)
-begin plan (Alarm at n) s = accept_switch plan n (arrived at s)
+begin plan (Change at n level) s = change_switch plan at n level (arrived at s)
+begin plan (Alarm at n) s = fire_switch plan n (arrived at s)
 begin plan (Wait at) s = arrived at s
 
 -- Stimuli, each with the number of event steps after it: all but the last until no event waits, the last for any number of

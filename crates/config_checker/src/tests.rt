@@ -1,7 +1,9 @@
 //! Small configurations by hand, from their rows to the texts.
 
 use super::*;
-use mpf_config::config::{Config, EventPlayerRow, MachineText, Name, Section, SwitchRow};
+use mpf_config::config::{
+    Config, Contact, Debounce, EventPlayerRow, MachineText, Name, Section, SwitchRow,
+};
 use std::alloc::{AllocError, Global};
 use std::io::{self, ErrorKind, Write};
 use std::test::Fail;
@@ -30,6 +32,18 @@ fn player(
     })
 }
 
+/// A switch whose settings are the defaults.
+fn switch_row(alloc: Global, text: &[u8]) -> Result<SwitchRow, AllocError> {
+    Ok(SwitchRow {
+        name: name(alloc, text)?,
+        contact: Contact::NormallyOpen,
+        debounce: Debounce::Auto,
+        tags: Vec::new(alloc),
+        activated: Vec::new(alloc),
+        deactivated: Vec::new(alloc),
+    })
+}
+
 fn config(
     alloc: Global,
     switches: &[&[u8]],
@@ -37,15 +51,22 @@ fn config(
 ) -> Result<Config, AllocError> {
     let mut rows = Vec::new(alloc);
     for switch in switches {
-        rows.push(SwitchRow {
-            name: name(alloc, switch)?,
-        })?;
+        rows.push(switch_row(alloc, switch)?)?;
     }
+    config_of(alloc, rows, players)
+}
+
+fn config_of(
+    alloc: Global,
+    rows: Vec<SwitchRow>,
+    players: Vec<EventPlayerRow>,
+) -> Result<Config, AllocError> {
     let mut sections = Vec::new(alloc);
     sections.push(Section::Switches(rows))?;
     sections.push(Section::EventPlayer(players))?;
     Ok(Config {
         machine: MachineText { sections },
+        notes: Vec::new(alloc),
     })
 }
 
@@ -86,6 +107,30 @@ fn one_switch_check(rt: HostRuntime) -> Result<(), Fail> {
     let text = answer(rt.alloc(), &config)?;
     let want: &[u8] =
         b"pinball-certificate 1\nbound 4\nevent s_left_active 3\nevent s_left_inactive 1\nevent a 1\nevent b 1\n";
+    assert_eq!(rt; text.as_slice(), want);
+    Ok(())
+}
+
+/// A quick switch, normally closed, with a tag, and three events for when it becomes inactive.
+fn tagged(alloc: Global) -> Result<SwitchRow, AllocError> {
+    let mut row = switch_row(alloc, b"s_left")?;
+    row.contact = Contact::NormallyClosed;
+    row.debounce = Debounce::Quick;
+    row.tags.push(name(alloc, b"start")?)?;
+    row.deactivated.push(name(alloc, b"x")?)?;
+    row.deactivated.push(name(alloc, b"y")?)?;
+    row.deactivated.push(name(alloc, b"y")?)?;
+    Ok(row)
+}
+
+#[test]
+fn quick_switch_check(rt: HostRuntime) -> Result<(), Fail> {
+    let mut rows = Vec::new(rt.alloc());
+    rows.push(tagged(rt.alloc())?)?;
+    let config = config_of(rt.alloc(), rows, Vec::new(rt.alloc()))?;
+    let text = answer(rt.alloc(), &config)?;
+    let want: &[u8] =
+        b"pinball-certificate 1\nbound 5\nevent s_left_active 1\nevent sw_start 1\nevent s_left_inactive 1\nevent x 1\nevent y 1\n";
     assert_eq!(rt; text.as_slice(), want);
     Ok(())
 }

@@ -1,7 +1,7 @@
 use Rattle.std.proofs.Common.{◌≡◌, ◌<◌, max, length, slice_index, slice_index_or, arith}
 use Rattle.config_checker.specs.Capped.{capped}
 use Rattle.config_checker.specs.Cost.{price, cost_of_switch}
-use Rattle.config_checker.specs.Machine.{no_switch}
+use Rattle.mpf_plan.specs.PlanView.{no_switch}
 use Rattle.config_checker.proofs.Prices.{price-dearest_more}
 use Rattle.config_checker.proofs.weights.find_bound.Goals as goal
 
