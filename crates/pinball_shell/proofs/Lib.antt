@@ -6,6 +6,7 @@ pub mod LineWords
 pub mod Digits
 pub mod SwitchViews
 pub mod Alarms
+pub mod Beginning
 pub mod PlanSteps
 pub mod Playing
 pub mod LogRuns

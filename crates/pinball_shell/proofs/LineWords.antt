@@ -1,6 +1,6 @@
 -- The first word of a line, and the words after it.
-use Rattle.std.proofs.Common.{◌≡◌, ℕ, ◌+◌, ◌<◌, ◌≤◌, ◌==◌, Bool, true, false, not, cond, nat_lt, Option, Some, None, List, [], ◌∷◌, length, take, drop, get_or, position, filter, refl, ap, sym, ◌∙◌, subst, arith, inl, inr, add-zero, one-add, get_or-drop, length-take, length-drop}
-use Rattle.std.specs.List.{position_or_len, prefix_len, slice_split}
+use Rattle.std.proofs.Common.{◌≡◌, ℕ, ◌+◌, ◌<◌, Bool, true, false, not, cond, nat_lt, Some, None, List, [], ◌∷◌, length, take, drop, get_or, position, filter, refl, ap, sym, ◌∙◌, subst, arith, inl, inr, add-zero, one-add, get_or-drop, length-take, length-drop}
+use Rattle.std.specs.List.{position_or_len, slice_split}
 use Rattle.std.proofs.lemmas.List.Splits.{slice_split_first, slice_split_none, slice_split-cons_yes}
 use Rattle.std.proofs.lemmas.List.Sums.{passes_at_first, prefix_len-le-length}
 use Rattle.std.proofs.lemmas.List.{drop_more, take_all, drop_all}

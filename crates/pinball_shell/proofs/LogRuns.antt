@@ -1,23 +1,25 @@
 -- The trace of a log is that of a run.
-use Rattle.std.proofs.Common.{◌≡◌, ℕ, zero, suc, ◌+◌, ◌<◌, ◌≤◌, ◌^◌, nat_lt, nat_le, Bool, cond, Option, Some, None, option_map, Result, Ok, Err, List, [], ◌∷◌, ◌++◌, length, map, position, refl, ap, sym, ◌∙◌, subst, inl, inr, arith, append_assoc, append-nil}
+use Rattle.std.proofs.Common.{◌≡◌, ℕ, zero, suc, ◌+◌, ◌<◌, ◌≤◌, ◌^◌, nat_lt, nat_le, Bool, cond, Option, Some, None, option_map, Result, Ok, Err, List, [], ◌∷◌, ◌++◌, length, map, position, refl, ap, sym, ◌∙◌, subst, arith, append_assoc, append-nil}
 use Rattle.std.specs.Option.{option_map_or}
 use Rattle.std.specs.Str.{bytes_eq}
 use Rattle.std.specs.Str.Lines.{lines}
 use Rattle.std.proofs.lemmas.Bool.{cond_both, ltb-false, leb-false}
-use Rattle.mpf_plan.specs.PlanView.{PlanView, Switch, switch_named}
+use Rattle.std.proofs.lemmas.List.{length-map}
+use Rattle.mpf_plan.specs.PlanView.{PlanView, switch_named}
 use Rattle.mpf_plan.specs.declared.entries.SwitchId.{SwitchId}
 use Rattle.config_checker.specs.declared.line.Line.{Line}
 use Rattle.config_checker.specs.Machine.{Machine, initial}
-use Rattle.config_checker.specs.Run.{Stimulus, Change, Alarm, Wait, IsTimely, IsQuietUntil, IsAllowed}
+use Rattle.config_checker.specs.Run.{Stimulus, Change, Alarm, Wait, IsQuietUntil, IsAllowed}
 use Rattle.config_checker.specs.CheckedView.{CheckedView}
 use Rattle.config_checker.specs.Accepted.{IsAccepted}
 use Rattle.config_checker.proofs.Alarms.{due_count, due_count-length, due_count-none, due_count-after_alarm, moment-after}
-use Rattle.config_checker.proofs.Reached.{IsReached, reached-initial, reached-next}
+use Rattle.config_checker.proofs.Reached.{IsReached, reached-initial, reached-of_plan, reached-next}
 use Rattle.pinball_shell.specs.declared.refusal.Refusal.{Refusal}
 use Rattle.pinball_shell.specs.declared.refusal.Refusal.TheVariants.{Backwards, TooLate}
 use Rattle.pinball_shell.specs.LogText.{Said, Nothing, Waits, Changes, Unreadable, said}
 use Rattle.pinball_shell.specs.RunOfLog.{timely, known, judged, due_by, next_alarm, settled, state_after, lines_of, alarms_by, moment_of, with_alarms, Told, Traced, Refused, told_of, after_line, told_by, told_in, traced}
 use Rattle.pinball_shell.specs.Played.{IsTraceOfRun}
+use Rattle.pinball_shell.specs.PlayerView.{Playing, kinds_of, IsPlayable}
 use Rattle.pinball_shell.proofs.FirstPlace.{place_some}
 use Rattle.pinball_shell.proofs.Alarms.{due_by-some, due_by-none}
 use Rattle.pinball_shell.proofs.Playing.{state_after-append, lines_of-append}
@@ -67,6 +69,12 @@ module _ (plan : PlanView) (now : ℕ) where
       subst (IsInTime plan now) is (forward, early)
   given-in_time (Changes at name level) stimulus h = given-known at (switch_named plan name) level stimulus (named_within plan name) h
 
+-- so it asks for a switch that is played
+pub in_time-playable : (plan : PlanView) (now : ℕ) (p : Playing) (stimulus : Stimulus) → p.kinds ≡ kinds_of plan → IsInTime plan now stimulus → IsPlayable p stimulus
+in_time-playable plan now p (Change at n level) kinds (forward, early, within) = let count = ap length kinds ∙ length-map plan.switches (λ s. s.kind) in omega (arith, within, count)
+in_time-playable plan now p (Alarm at n) kinds none = absurd none
+in_time-playable plan now p (Wait at) kinds time = tt
+
 -- in time, and nothing is due any more: it may come
 pub may_come : (plan : PlanView) (now : ℕ) (s : Machine) (stimulus : Stimulus) → IsInTime plan now stimulus → s.moment ≤ moment_of stimulus → IsQuietUntil s (moment_of stimulus) → IsAllowed plan s stimulus
 may_come plan now s (Change at n level) (forward, early, within) ahead quiet = (record { forward = ahead; early = early; quiet = quiet }, within)
@@ -113,9 +121,9 @@ module _ (c : CheckedView) (accepted : IsAccepted c) where
   -- the alarms due by the moment, of which there are no more than k
   run-alarms : (until : ℕ) → until < 2 ^ 40 → (k : ℕ) (trace : List Line) (s : Machine) → IsReached c trace s → due_count s.switches ≤ k → s.moment ≤ until → IsRunUntil until trace s (alarms_by c.plan c.bound until k s)
   run-alarms until early zero trace s reached few before = run-none until trace s reached before (due_count-none s (omega arith) until)
-  run-alarms until early (suc k) trace s reached few before = go (due_by until (next_alarm 0 s.switches)) refl (λ at n. run-alarms until early k (trace ++ (settled c.plan c.bound (Alarm at n) s).lines) (settled c.plan c.bound (Alarm at n) s))
+  run-alarms until early (suc k) trace s reached few before = go (due_by until (next_alarm s.switches)) refl (λ at n. run-alarms until early k (trace ++ (settled c.plan c.bound (Alarm at n) s).lines) (settled c.plan c.bound (Alarm at n) s))
     where
-      go : (o : Option (ℕ × ℕ)) → due_by until (next_alarm 0 s.switches) ≡ o
+      go : (o : Option (ℕ × ℕ)) → due_by until (next_alarm s.switches) ≡ o
           → ((at n : ℕ) → IsReached c (trace ++ (settled c.plan c.bound (Alarm at n) s).lines) (settled c.plan c.bound (Alarm at n) s) → due_count (settled c.plan c.bound (Alarm at n) s).switches ≤ k → (settled c.plan c.bound (Alarm at n) s).moment ≤ until → IsRunUntil until (trace ++ (settled c.plan c.bound (Alarm at n) s).lines) (settled c.plan c.bound (Alarm at n) s) (alarms_by c.plan c.bound until k (settled c.plan c.bound (Alarm at n) s)))
           → IsRunUntil until trace s (option_map_or (λ a. Alarm a.0 a.1 ∷ alarms_by c.plan c.bound until k (settled c.plan c.bound (Alarm a.0 a.1) s)) o [])
       go None is ih = run-none until trace s reached before (due_by-none s until is)
@@ -130,8 +138,10 @@ module _ (c : CheckedView) (accepted : IsAccepted c) where
   run-given : (now : ℕ) (trace : List Line) (s : Machine) (stimulus : Stimulus) → IsReached c trace s → s.moment ≡ now → IsInTime c.plan now stimulus → IsReached c (trace ++ lines_of c.plan c.bound (with_alarms c.plan c.bound stimulus s) s) (state_after c.plan c.bound (with_alarms c.plan c.bound stimulus s) s)
   run-given now trace s stimulus reached is time =
       let (forward, early) = in_time-early c.plan now stimulus time in
-      let alarms = alarms_by c.plan c.bound (moment_of stimulus) (length s.switches) s in
-      let h = run-alarms (moment_of stimulus) early (length s.switches) trace s reached (due_count-length s.switches) (omega (arith, is, forward)) in
+      let alarms = alarms_by c.plan c.bound (moment_of stimulus) (length c.plan.switches) s in
+      let few = due_count-length s.switches in
+      let all = (reached-of_plan c accepted trace s reached).switches in
+      let h = run-alarms (moment_of stimulus) early (length c.plan.switches) trace s reached (omega (arith, few, all)) (omega (arith, is, forward)) in
       let there = state_after c.plan c.bound alarms s in
       let next = settled c.plan c.bound stimulus there in
       let last = reached-next c accepted (trace ++ lines_of c.plan c.bound alarms s) there h.reached stimulus (may_come c.plan now there stimulus time h.moment h.quiet) in

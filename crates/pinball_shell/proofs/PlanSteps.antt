@@ -1,5 +1,5 @@
 -- Event steps in plan order, as they are run.
-use Rattle.std.proofs.Common.{◌≡◌, ℕ, zero, suc, ◌+◌, ◌-◌, ◌<◌, ◌≤◌, Bool, true, false, ◌&&◌, ◌==◌, cond, List, [], ◌∷◌, filter, refl, ap, sym, ◌∙◌, subst, arith}
+use Rattle.std.proofs.Common.{◌≡◌, ℕ, suc, ◌+◌, ◌-◌, ◌<◌, ◌≤◌, Bool, true, false, ◌&&◌, ◌==◌, cond, List, [], ◌∷◌, filter, refl, ap, sym, ◌∙◌, subst, arith}
 use Rattle.std.specs.List.{All}
 use Rattle.mpf_plan.specs.PlanView.{PlanView}
 use Rattle.mpf_plan.specs.declared.entries.EventId.{EventId}
@@ -11,24 +11,25 @@ use Rattle.config_checker.specs.EventStep.{takes_part, handlers, taken}
 use Rattle.config_checker.specs.PlanOrder.{by_priority, plan_step, plan_step_from, plan_steps}
 use Rattle.config_checker.proofs.Sort.{zeros-stay}
 use Rattle.config_checker.proofs.PlanSteps.{plan_step-idle, plan_steps-idle}
-use Rattle.pinball_shell.specs.PlayerView.{bound_to}
+use Rattle.pinball_shell.specs.PlayerView.{Playing, on_machine, bound_to}
 
 module _ (plan : PlanView) where
   counts_down : (i n : ℕ) → i < n → n - i ≡ suc (n - (i + 1))
   counts_down i n h = omega arith
 
   -- of n steps, i of which are done, one more is done
-  pub steps-more : (n i : ℕ) (s t all : Machine) → i < n → plan_steps plan (n - i) s ≡ all → t ≡ plan_step plan s → plan_steps plan (n - (i + 1)) t ≡ all
-  steps-more n i s t all within h is =
-      ap (plan_steps plan (n - (i + 1))) is ∙ subst (λ (k : ℕ). plan_steps plan k s ≡ all) (counts_down i n within) h
+  pub steps-more : (n i : ℕ) (p q all : Playing) → i < n → on_machine (plan_steps plan (n - i)) p ≡ all → q ≡ on_machine (plan_step plan) p → on_machine (plan_steps plan (n - (i + 1))) q ≡ all
+  steps-more n i p q all within h is =
+      ap (on_machine (plan_steps plan (n - (i + 1)))) is ∙ subst (λ (k : ℕ). on_machine (plan_steps plan k) p ≡ all) (counts_down i n within) h
 
   -- nothing waited, so all are done
-  pub steps-stop : (n i : ℕ) (s t all : Machine) → plan_steps plan (n - i) s ≡ all → s.waiting ≡ [] → t ≡ plan_step plan s → t ≡ all
-  steps-stop n i s t all h none is = is ∙ plan_step-idle plan s none ∙ sym (plan_steps-idle plan (n - i) s none) ∙ h
+  pub steps-stop : (n i : ℕ) (p q all : Playing) → on_machine (plan_steps plan (n - i)) p ≡ all → p.machine.waiting ≡ [] → q ≡ on_machine (plan_step plan) p → q ≡ all
+  steps-stop n i p q all h none is =
+      is ∙ ap (λ (m : Machine). record { kinds = p.kinds; machine = m }) (plan_step-idle plan p.machine none ∙ sym (plan_steps-idle plan (n - i) p.machine none)) ∙ h
 
   -- all are done
-  pub steps-end : (n i : ℕ) (s all : Machine) → n ≤ i → plan_steps plan (n - i) s ≡ all → s ≡ all
-  steps-end n i s all past h = let none : n - i ≡ 0 = omega arith in subst (λ (k : ℕ). plan_steps plan k s ≡ all) none h
+  pub steps-end : (n i : ℕ) (p all : Playing) → n ≤ i → on_machine (plan_steps plan (n - i)) p ≡ all → p ≡ all
+  steps-end n i p all past h = let none : n - i ≡ 0 = omega arith in subst (λ (k : ℕ). on_machine (plan_steps plan k) p ≡ all) none h
 
 -- two tests that agree keep the same
 filter-same : {X : Type 0} (p q : X → Bool) (xs : List X) → ((x : X) → p x ≡ q x) → filter p xs ≡ filter q xs
@@ -50,7 +51,9 @@ pub order-is : (plan : PlanView) → All (λ b. b.priority ≡ 0) plan.bindings 
 order-is plan zeros s e = ap by_priority (handlers-are plan s e) ∙ zeros-stay (λ b. b.event.0 == e.0) plan.bindings zeros
 
 -- so a step in plan order runs them
-pub step-is : (plan : PlanView) → All (λ b. b.priority ≡ 0) plan.bindings → (s t : Machine) (first : Posted) (rest : List Posted) → s.waiting ≡ first ∷ rest → t ≡ all_do (do_binding plan) (bound_to plan first.event) (taken first rest s) → t ≡ plan_step plan s
-step-is plan zeros s t first rest waits is =
-    is ∙ sym (ap (λ (bs : List Binding). all_do (do_binding plan) bs (taken first rest s)) (order-is plan zeros s first.event))
-    ∙ sym (ap (λ (ws : List Posted). plan_step_from plan ws s) waits)
+pub step-is : (plan : PlanView) → All (λ b. b.priority ≡ 0) plan.bindings → (p q : Playing) (first : Posted) (rest : List Posted) → p.machine.waiting ≡ first ∷ rest
+    → q ≡ on_machine (λ m. all_do (do_binding plan) (bound_to plan first.event) (taken first rest m)) p → q ≡ on_machine (plan_step plan) p
+step-is plan zeros p q first rest waits is =
+    is ∙ ap (λ (m : Machine). record { kinds = p.kinds; machine = m })
+    (sym (ap (λ (bs : List Binding). all_do (do_binding plan) bs (taken first rest p.machine)) (order-is plan zeros p.machine first.event))
+    ∙ sym (ap (λ (ws : List Posted). plan_step_from plan ws p.machine) waits))

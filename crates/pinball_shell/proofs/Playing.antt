@@ -1,5 +1,5 @@
 -- Stimuli and lines of a log that are played one after another.
-use Rattle.std.proofs.Common.{◌≡◌, ℕ, zero, suc, ◌+◌, ◌-◌, ◌<◌, ◌≤◌, Bool, true, false, ◌||◌, cond, Option, Some, None, option_map, Result, Ok, Err, List, [], ◌∷◌, ◌++◌, length, map, refl, ap, sym, ◌∙◌, subst, arith, append_assoc, append-nil}
+use Rattle.std.proofs.Common.{◌≡◌, ℕ, zero, suc, ◌+◌, ◌-◌, ◌<◌, ◌≤◌, Bool, true, false, ◌||◌, cond, Option, Some, None, Result, Ok, Err, List, [], ◌∷◌, ◌++◌, length, map, refl, ap, sym, ◌∙◌, subst, arith, append_assoc, append-nil}
 use Rattle.std.specs.List.{flat_map, list_any}
 use Rattle.std.specs.Option.{option_map_or}
 use Rattle.std.specs.Io.KnownBytes.{Appends}
@@ -66,7 +66,7 @@ module _ (plan : PlanView) (bound : ℕ) where
 
   -- the next alarm is played
   pub alarms-more : (until n i at switch : ℕ) (old s t : Machine) (a b c : Option (List ℕ)) (all : List Stimulus) → i < n → AreAlarmsGoing until (n - i) old s a b all
-      → due_by until (next_alarm 0 s.switches) ≡ Some (at, switch) → IsPlayed plan bound (Alarm at switch ∷ []) s t b c → AreAlarmsGoing until (n - (i + 1)) old t a c all
+      → due_by until (next_alarm s.switches) ≡ Some (at, switch) → IsPlayed plan bound (Alarm at switch ∷ []) s t b c → AreAlarmsGoing until (n - (i + 1)) old t a c all
   alarms-more until n i at switch old s t a b c all within h due played =
       let alarm = Alarm at switch in
       let count : n - i ≡ suc (n - (i + 1)) = omega arith in
@@ -80,7 +80,7 @@ module _ (plan : PlanView) (bound : ℕ) where
         whole = append_assoc h.done (alarm ∷ []) (alarms_by plan bound until (n - (i + 1)) t) ∙ sym (ap (λ (xs : List Stimulus). h.done ++ xs) next) ∙ h.whole;
       }
 
-  alarms-none : (until k : ℕ) (s : Machine) → due_by until (next_alarm 0 s.switches) ≡ None → alarms_by plan bound until k s ≡ []
+  alarms-none : (until k : ℕ) (s : Machine) → due_by until (next_alarm s.switches) ≡ None → alarms_by plan bound until k s ≡ []
   alarms-none until zero s none = refl
   alarms-none until (suc k) s none =
       ap (λ (o : Option (ℕ × ℕ)). option_map_or (λ x. Alarm x.0 x.1 ∷ alarms_by plan bound until k (settled plan bound (Alarm x.0 x.1) s)) o []) none
@@ -91,7 +91,7 @@ module _ (plan : PlanView) (bound : ℕ) where
       subst (λ (xs : List Stimulus). IsPlayed plan bound xs old s a b) same h.played
 
   -- no alarm is due any more
-  pub alarms-stop : (until k : ℕ) (old s : Machine) (a b : Option (List ℕ)) (all : List Stimulus) → AreAlarmsGoing until k old s a b all → due_by until (next_alarm 0 s.switches) ≡ None → IsPlayed plan bound all old s a b
+  pub alarms-stop : (until k : ℕ) (old s : Machine) (a b : Option (List ℕ)) (all : List Stimulus) → AreAlarmsGoing until k old s a b all → due_by until (next_alarm s.switches) ≡ None → IsPlayed plan bound all old s a b
   alarms-stop until k old s a b all h none = alarms-whole until k old s a b all h (alarms-none until k s none)
 
   -- as many alarms as there are switches were played
@@ -125,10 +125,10 @@ module _ (plan : PlanView) (bound : ℕ) where
         line-is (Err refusal) s a b verdicts.Refused is refl (subst (Appends a b) (sym (append-nil (refused_text number refusal))) text) refl
 
     pub line-played : (stimulus : Stimulus) (until : ℕ) (t u : Machine) (a b c : Option (List ℕ)) → judged plan s.moment (said line) ≡ Ok (Some stimulus) → until ≡ moment_of stimulus
-        → IsPlayed plan bound (alarms_by plan bound until (length s.switches) s) s t a b → IsPlayed plan bound (stimulus ∷ []) t u b c → IsLinePlayed plan bound number line s u a c verdicts.Yes
+        → IsPlayed plan bound (alarms_by plan bound until (length plan.switches) s) s t a b → IsPlayed plan bound (stimulus ∷ []) t u b c → IsLinePlayed plan bound number line s u a c verdicts.Yes
     line-played stimulus until t u a b c is same alarms one =
-        let there = subst (λ (at : ℕ). IsPlayed plan bound (alarms_by plan bound at (length s.switches) s) s t a b) same alarms in
-        let both = played-then (alarms_by plan bound (moment_of stimulus) (length s.switches) s) (stimulus ∷ []) s t u a b c there one in
+        let there = subst (λ (at : ℕ). IsPlayed plan bound (alarms_by plan bound at (length plan.switches) s) s t a b) same alarms in
+        let both = played-then (alarms_by plan bound (moment_of stimulus) (length plan.switches) s) (stimulus ∷ []) s t u a b c there one in
         let told = lines_of plan bound (with_alarms plan bound stimulus s) s in
         line-is (Ok (Some stimulus)) u a c verdicts.Yes is both.state (subst (Appends a c) (sym (traced-text told)) both.text)
         (sym (ap (λ (b : Bool). cond b verdicts.Refused verdicts.Yes) (none_refused told)))

@@ -1,10 +1,17 @@
 -- What is printed for a bundle: a function of its bytes.
 use Rattle.std.specs.Prelude.{ℕ, List, [], ◌∷◌, ◌++◌, Ok, Err, codes}
+use Rattle.std.specs.List.{flat_map}
+use Rattle.mpf_config.specs.Rows.{Note}
 use Rattle.mpf_config.specs.FaultLine.{fault_line}
+use Rattle.mpf_config.specs.NoteLine.{note_line}
 use Rattle.config_checker.specs.CheckedView.{CheckedView}
 use Rattle.config_checker.specs.CertificateText.{certificate_text}
 use Rattle.config_checker.specs.ReportText.{report_text}
-use Rattle.pinball_shell.specs.Judged.{RefusalView, unread, unfit, Judgement, judged_at}
+use Rattle.pinball_shell.specs.Judged.{RefusalView, unread, unfit, Answer, Judgement, judged_at}
+
+-- a line for each note, in order
+abbrev pub notes_text : List Note → List ℕ
+notes_text notes = flat_map note_line notes
 
 -- `yes`, and the certificate
 unfoldable pub acceptance_text : CheckedView → List ℕ
@@ -19,19 +26,23 @@ refusal_lines (unfit faults) = report_text faults
 unfoldable pub refusal_text : RefusalView → List ℕ
 refusal_text r = refusal_lines r ++ codes "no" ++ 10 ∷ []
 
-abbrev pub judgement_text : Judgement → List ℕ
-judgement_text (Ok c) = acceptance_text c
-judgement_text (Err r) = refusal_text r
+abbrev pub answer_text : Answer → List ℕ
+answer_text (Ok c) = acceptance_text c
+answer_text (Err r) = refusal_text r
+
+-- the notes stand before the answer
+unfoldable pub judgement_text : Judgement → List ℕ
+judgement_text j = notes_text j.notes ++ answer_text j.answer
 
 -- all that is printed where a bundle is checked
 abbrev pub check_output : List ℕ → List ℕ
 check_output bundle = judgement_text (judged_at bundle)
 
--- nothing for a yes
-abbrev pub refusal_text_of : Judgement → List ℕ
-refusal_text_of (Ok c) = []
-refusal_text_of (Err r) = refusal_text r
+-- nothing for a yes, and a refusal as it is printed
+abbrev pub where_refused : Answer → List ℕ → List ℕ
+where_refused (Ok c) text = []
+where_refused (Err r) text = text
 
--- all that is printed where a bundle is loaded, to be played
+-- all that is printed where a bundle is loaded, to be played: for a refusal, what is printed where it is checked
 abbrev pub load_output : List ℕ → List ℕ
-load_output bundle = refusal_text_of (judged_at bundle)
+load_output bundle = where_refused (judged_at bundle).answer (check_output bundle)

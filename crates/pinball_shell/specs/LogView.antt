@@ -1,5 +1,4 @@
 -- What contracts see of a line of a log.
-use Rattle.std.specs.Prelude.{ℕ}
 use Rattle.pinball_shell.specs.LogText.{Said, Nothing, Waits, Changes, Unreadable}
 use Rattle.pinball_shell.specs.declared.log_line.Said.{Said as SaidLine}
 use Rattle.pinball_shell.specs.declared.log_line.Said.TheVariants as lines

@@ -5,7 +5,9 @@ use Rattle.std.specs.Str.Lines.{lines}
 use Rattle.mpf_plan.specs.PlanView.{PlanView, switch_named}
 use Rattle.mpf_plan.specs.declared.entries.SwitchId.{SwitchId}
 use Rattle.config_checker.specs.declared.line.Line.{Line}
-use Rattle.config_checker.specs.Machine.{Machine, SwitchState, initial}
+use Rattle.switch_core.specs.SwitchStep.{SwitchState}
+use Rattle.switch_core.specs.Switches.{next_due_from}
+use Rattle.config_checker.specs.Machine.{Machine, initial}
 use Rattle.config_checker.specs.Run.{Stimulus, Change, Alarm, Wait, begin}
 use Rattle.config_checker.specs.PlanOrder.{plan_steps}
 use Rattle.pinball_shell.specs.declared.refusal.Refusal.{Refusal}
@@ -31,16 +33,9 @@ judged plan now (Changes at name level) = known now at (switch_named plan name) 
 
 -- ---- alarms
 
--- the alarm that comes first: a moment, and the number of a switch
-abbrev pub first_of : Option (ℕ × ℕ) → Option (ℕ × ℕ) → Option (ℕ × ℕ)
-first_of None b = b
-first_of (Some a) None = Some a
-first_of (Some a) (Some b) = if nat_le a.0 b.0 then Some a else Some b
-
--- The next alarm of these switches, which are numbered from n on: that of the least moment, and of those the lowest-numbered.
-abbrev pub next_alarm : ℕ → List SwitchState → Option (ℕ × ℕ)
-next_alarm n [] = None
-next_alarm n (s ∷ ss) = first_of (option_map (λ at. (at, n)) s.due) (next_alarm (n + 1) ss)
+-- The next alarm of these switches: a moment, and the number of a switch. It is that of the least moment, and of those the lowest-numbered.
+abbrev pub next_alarm : List SwitchState → Option (ℕ × ℕ)
+next_alarm switches = option_map (λ d. (d.0, d.1.0)) (next_due_from 0 switches)
 
 -- it, where it is due by the moment
 abbrev pub due_by : ℕ → Option (ℕ × ℕ) → Option (ℕ × ℕ)
@@ -68,7 +63,7 @@ abbrev pub alarms_by : PlanView → ℕ → ℕ → ℕ → Machine → List Sti
 alarms_by plan bound until zero s = []
 alarms_by plan bound until (suc k) s =
     option_map_or (λ a. let alarm = Alarm a.0 a.1 in alarm ∷ alarms_by plan bound until k (settled plan bound alarm s))
-    (due_by until (next_alarm 0 s.switches)) []
+    (due_by until (next_alarm s.switches)) []
 
 abbrev pub moment_of : Stimulus → ℕ
 moment_of (Change at n level) = at
@@ -77,7 +72,7 @@ moment_of (Wait at) = at
 
 -- a stimulus of the log, after the alarms due by its moment: a switch has no more than one
 abbrev pub with_alarms : PlanView → ℕ → Stimulus → Machine → List Stimulus
-with_alarms plan bound stimulus s = alarms_by plan bound (moment_of stimulus) (length s.switches) s ++ stimulus ∷ []
+with_alarms plan bound stimulus s = alarms_by plan bound (moment_of stimulus) (length plan.switches) s ++ stimulus ∷ []
 
 -- ---- the log
 

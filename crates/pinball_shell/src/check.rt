@@ -1,25 +1,28 @@
 //! A bundle is read, judged and answered.
 
-ghost use Rattle.std.specs.Prelude.{◌≡◌, ◌≢◌, ◌<◌, ◌≤◌, IfOk, OnOk, IfErr, IfSome, IsSome, IsErrOf, length};
+ghost use Rattle.std.specs.Prelude.{◌≡◌, ◌≢◌, ◌<◌, ◌≤◌, IfOk, OnOk, IfErr, IfSome, IsSome, IsErrOf, length, map};
 ghost use Rattle.std.specs.Io.KnownBytes.{Appends, Keeps};
-ghost use Rattle.pinball_shell.specs.Judged.{judged_at, verdict_of, accepted_of, refusal_view, GivesJudged};
-ghost use Rattle.pinball_shell.specs.CheckOutput.{refusal_lines, refusal_text, acceptance_text, check_output, load_output};
+ghost use Rattle.mpf_config.specs.View.{rows_view, note_view};
+ghost use Rattle.config_checker.specs.Checking.{checked_at};
+ghost use Rattle.pinball_shell.specs.Judged.{judged_at, answer_of, verdict_of, accepted_of, refusal_view, answer_view, judgement_view};
+ghost use Rattle.pinball_shell.specs.CheckOutput.{notes_text, refusal_lines, refusal_text, acceptance_text, answer_text, judgement_text, check_output, load_output};
 
-use crate::bundle_refusal::BundleRefusal;
 use crate::fault::{ShellFault, Verdict};
+use crate::judgement::{BundleRefusal, Judged};
 use crate::text::read_all;
 use config_checker::{Checked, Report, check, write_certificate, write_report};
 use mpf_config::fault::write_fault;
-use mpf_config::{ConfigFault, read_bundle};
+use mpf_config::{Config, ConfigFault, Note, read_bundle, write_note};
 use std::alloc::Global;
 use std::io::{self, Read, Write};
 
 /// How many bytes a bundle has at most: 8 MiB.
 pub const BUNDLE_LIMIT: usize = 8_388_608;
 
-/// Reads a bundle and writes what `check` prints for it: `yes` and its certificate, or why it is
-/// refused and `no`. Nothing is written before the answer stands, so after `NoMemory`, `Read` and
-/// `TooLong` nothing has been; how much was after `Write` is not said.
+/// Reads a bundle and writes what `check` prints for it: a line for each note on its rows, and then
+/// `yes` and its certificate, or why it is refused and `no`. A bundle that has no rows, being
+/// refused by an `error` line, has no notes either. Nothing is written before the answer stands, so
+/// after `NoMemory`, `Read` and `TooLong` nothing has been; how much was after `Write` is not said.
 pub fn check_text<R: Read, W: Write>(
     alloc: Global,
     reader: &mut R,
@@ -32,17 +35,14 @@ pub fn check_text<R: Read, W: Write>(
     ensures within { OnOk result (IfSome (R.remaining reader.old) (λ bundle. length bundle ≤ BUNDLE_LIMIT)) }
     ensures too_long { IsErrOf result ShellFault.TooLong → IfSome (R.remaining reader.old) (λ bundle. BUNDLE_LIMIT < length bundle) }
 {
-    match load_text(alloc, reader, writer)? {
-        Some(checked) => {
-            write_acceptance(&checked, writer).map_err(|_| ShellFault::Write)?;
-            Ok(Verdict::Yes)
-        }
-        None => Ok(Verdict::Refused),
-    }
+    let judged = read_judged(alloc, reader)?;
+    write_judged(&judged, writer).map_err(|_| ShellFault::Write)?;
+    Ok(judged.verdict())
 }
 
-/// Reads a bundle and checks it. Where it is refused, writes what `check` prints for it, and
-/// answers nothing; else writes nothing. Its errors are those of `check_text`.
+/// Reads a bundle and checks it. Where it is refused, writes what `check` prints for it, its notes
+/// too, and answers nothing; where it is accepted, writes nothing, not even its notes. Its errors
+/// are those of `check_text`.
 pub fn load_text<R: Read, W: Write>(
     alloc: Global,
     reader: &mut R,
@@ -56,30 +56,81 @@ pub fn load_text<R: Read, W: Write>(
     ensures within { OnOk result (IfSome (R.remaining reader.old) (λ bundle. length bundle ≤ BUNDLE_LIMIT)) }
     ensures too_long { IsErrOf result ShellFault.TooLong → IfSome (R.remaining reader.old) (λ bundle. BUNDLE_LIMIT < length bundle) }
 {
-    let bundle = read_all(alloc, reader, BUNDLE_LIMIT)?;
-    match judge(alloc, &bundle)? {
-        Ok(checked) => Ok(Some(checked)),
-        Err(refusal) => {
-            write_refusal(&refusal, writer).map_err(|_| ShellFault::Write)?;
-            Ok(None)
-        }
+    let found = read_judged(alloc, reader)?;
+    if found.answer.is_err() {
+        write_judged(&found, writer).map_err(|_| ShellFault::Write)?;
     }
+    Ok(found.answer.ok())
 }
 
-/// Whether a bundle is accepted, or why not. Fails only by memory.
-fn judge(alloc: Global, bundle: &[u8]) -> Result<Result<Checked, BundleRefusal>, ShellFault>
-    ensures exact { IfOk result (λ answer. GivesJudged answer (judged_at bundle.now)) }
+/// Reads a bundle and judges it. Fails by memory and by the reader, and where it is too long.
+fn read_judged<R: Read>(alloc: Global, reader: &mut R) -> Result<Judged, ShellFault>
+    ensures exact { IfOk result (λ found. IfSome (R.remaining reader.old) (λ bundle. judged_at bundle ≡ judgement_view found)) }
+    ensures within { OnOk result (IfSome (R.remaining reader.old) (λ bundle. length bundle ≤ BUNDLE_LIMIT)) }
+    ensures too_long { IsErrOf result ShellFault.TooLong → IfSome (R.remaining reader.old) (λ bundle. BUNDLE_LIMIT < length bundle) }
+    ensures reads_only { IfErr result (λ e. e ≢ ShellFault.Write) }
+{
+    let bundle = read_all(alloc, reader, BUNDLE_LIMIT)?;
+    judge(alloc, &bundle)
+}
+
+/// What is found of a bundle. Fails only by memory.
+fn judge(alloc: Global, bundle: &[u8]) -> Result<Judged, ShellFault>
+    ensures exact { IfOk result (λ found. judged_at bundle.now ≡ judgement_view found) }
     ensures only { IfErr result (λ e. e ≡ ShellFault.NoMemory) }
 {
     let config = match read_bundle(alloc, bundle) {
         Ok(config) => config,
         Err(ConfigFault::NoMemory) => return Err(ShellFault::NoMemory),
-        Err(ConfigFault::Bundle(fault)) => return Ok(Err(BundleRefusal::Unread(fault))),
+        Err(ConfigFault::Bundle(fault)) => {
+            return Ok(Judged {
+                notes: Vec::new(alloc),
+                answer: Err(BundleRefusal::Unread(fault)),
+            });
+        }
     };
-    match check(alloc, &config) {
+    let answer = judge_rows(alloc, &config)?;
+    Ok(Judged {
+        notes: config.notes,
+        answer,
+    })
+}
+
+/// Whether rows are accepted, or why not. Fails only by memory.
+fn judge_rows(alloc: Global, config: &Config) -> Result<Result<Checked, BundleRefusal>, ShellFault>
+    ensures exact { IfOk result (λ answer. answer_of (checked_at (rows_view config.now)) ≡ answer_view answer) }
+    ensures only { IfErr result (λ e. e ≡ ShellFault.NoMemory) }
+{
+    match check(alloc, config) {
         Ok(checked) => Ok(Ok(checked)),
         Err(Report::NoMemory) => Err(ShellFault::NoMemory),
         Err(Report::Faults(faults)) => Ok(Err(BundleRefusal::Unfit(faults))),
+    }
+}
+
+/// Writes what `check` prints for a bundle that was judged: the notes before the answer.
+fn write_judged<W: Write>(judged: &Judged, writer: &mut W) -> io::Result<()>
+    ensures { OnOk result (Appends (W.contents writer.old) (W.contents writer.new) (judgement_text (judgement_view judged.now))) }
+{
+    write_notes(&judged.notes, writer)?;
+    write_answer(&judged.answer, writer)
+}
+
+fn write_notes<W: Write>(notes: &[Note], writer: &mut W) -> io::Result<()>
+    ensures { OnOk result (Appends (W.contents writer.old) (W.contents writer.new) (notes_text (map note_view notes.now))) }
+{
+    for note in notes {
+        write_note(note, writer)?;
+    }
+    Ok(())
+}
+
+fn write_answer<W: Write>(answer: &Result<Checked, BundleRefusal>, writer: &mut W) -> io::Result<()>
+    ensures { OnOk result (Appends (W.contents writer.old) (W.contents writer.new) (answer_text (answer_view answer.now))) }
+{
+    match answer {
+        Ok(checked) => write_acceptance(checked, writer),
+        Err(refusal) => write_refusal(refusal, writer),
     }
 }
 

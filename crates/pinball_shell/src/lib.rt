@@ -1,10 +1,10 @@
 //! The program's work as functions from the bytes of a reader to the bytes of a writer.
 #![tactic(auto)]
 
-mod bundle_refusal;
 pub mod check;
 pub mod command_line;
 pub mod fault;
+mod judgement;
 mod log_line;
 pub mod play;
 mod player;

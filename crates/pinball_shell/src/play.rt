@@ -5,7 +5,7 @@ ghost use Rattle.std.specs.Io.KnownBytes.{Appends, Keeps};
 ghost use Rattle.pinball_shell.specs.LogText.{said};
 ghost use Rattle.pinball_shell.specs.LogView.{said_view};
 ghost use Rattle.pinball_shell.specs.RunOfLog.{judged, timely, known, moment_of, alarms_by, told_in, traced};
-ghost use Rattle.pinball_shell.specs.PlayerView.{stimulus_view};
+ghost use Rattle.pinball_shell.specs.PlayerView.{IsPlayable, IsPlaying, stimulus_view};
 ghost use Rattle.pinball_shell.specs.TraceText.{trace_text, verdict_of};
 ghost use Rattle.pinball_shell.specs.Played.{worse_of, IsPlayed, IsLinePlayed, AreLinesPlayed, IsTraceOfRun, GivesJudged};
 
@@ -77,8 +77,9 @@ fn play_lines<W: Write>(
     log: &[u8],
     writer: &mut W,
 ) -> Result<Verdict, ShellFault>
-    requires { length log.now ≤ LOG_LIMIT }
-    ensures played { IfOk result (λ v. AreLinesPlayed plan.now bound log.now player.old (W.contents writer.old) (W.contents writer.new) v) }
+    requires log { length log.now ≤ LOG_LIMIT }
+    requires playing { IsPlaying plan.now player.old }
+    ensures played { IfOk result (λ v. AreLinesPlayed plan.now bound log.now player.old.machine (W.contents writer.old) (W.contents writer.new) v) }
     ensures failed { IfErr result (λ e. (e ≡ ShellFault.NoMemory) ⊎ (e ≡ ShellFault.Write)) }
 {
     let mut verdict = Verdict::Yes;
@@ -115,7 +116,9 @@ fn play_line<W: Write>(
     line: &[u8],
     writer: &mut W,
 ) -> Result<Verdict, ShellFault>
-    ensures played { IfOk result (λ v. IsLinePlayed plan.now bound number line.now player.old player.new (W.contents writer.old) (W.contents writer.new) v) }
+    requires playing { IsPlaying plan.now player.old }
+    ensures played { IfOk result (λ v. IsLinePlayed plan.now bound number line.now player.old.machine player.new.machine (W.contents writer.old) (W.contents writer.new) v) }
+    ensures playing { OnOk result (IsPlaying plan.now player.new) }
     ensures failed { IfErr result (λ e. (e ≡ ShellFault.NoMemory) ⊎ (e ≡ ShellFault.Write)) }
 {
     match judge(plan, player.moment(), read_line(line)) {
@@ -169,11 +172,13 @@ fn play_alarms<W: Write>(
     until: u64,
     writer: &mut W,
 ) -> Result<(), ShellFault>
-    requires { until < 2 ^ 40 }
-    ensures played { OnOk result (IsPlayed plan.now bound (alarms_by plan.now bound until (length player.old.switches) player.old) player.old player.new (W.contents writer.old) (W.contents writer.new)) }
+    requires until { until < 2 ^ 40 }
+    requires playing { IsPlaying plan.now player.old }
+    ensures played { OnOk result (IsPlayed plan.now bound (alarms_by plan.now bound until (length plan.now.switches) player.old.machine) player.old.machine player.new.machine (W.contents writer.old) (W.contents writer.new)) }
+    ensures playing { OnOk result (IsPlaying plan.now player.new) }
     ensures failed { IfErr result (λ e. (e ≡ ShellFault.NoMemory) ⊎ (e ≡ ShellFault.Write)) }
 {
-    for _ in 0..player.switch_count() {
+    for _ in 0..plan.switch_count() {
         match player.alarm_by(until) {
             None => return Ok(()),
             Some(alarm) => {
@@ -198,8 +203,11 @@ fn play<W: Write>(
     stimulus: Stimulus,
     writer: &mut W,
 ) -> Result<(), ShellFault>
-    requires { moment_of (stimulus_view stimulus) < 2 ^ 40 }
-    ensures played { OnOk result (IsPlayed plan.now bound (stimulus_view stimulus ∷ []) player.old player.new (W.contents writer.old) (W.contents writer.new)) }
+    requires moment { moment_of (stimulus_view stimulus) < 2 ^ 40 }
+    requires playing { IsPlaying plan.now player.old }
+    requires playable { IsPlayable player.old (stimulus_view stimulus) }
+    ensures played { OnOk result (IsPlayed plan.now bound (stimulus_view stimulus ∷ []) player.old.machine player.new.machine (W.contents writer.old) (W.contents writer.new)) }
+    ensures playing { OnOk result (IsPlaying plan.now player.new) }
     ensures failed { IfErr result (λ e. (e ≡ ShellFault.NoMemory) ⊎ (e ≡ ShellFault.Write)) }
 {
     run(plan, bound, player, stimulus)?;

@@ -1,49 +1,51 @@
 //! The state of a machine that is played, and what each thing does to it.
 
-ghost use Rattle.std.specs.Prelude.{◌≡◌, ◌^◌, ◌<◌, ◌≤◌, IfOk, IfSome, OnOk, length, map, replicate, slice_set, slice_index_or, option_map};
-ghost use Rattle.config_checker.specs.Machine.{initial, write, post, change_switch, changed_switch, accepted_switch, set_switch, switch_at, idle_switch};
+ghost use Rattle.std.specs.Prelude.{◌≡◌, ◌^◌, ◌<◌, ◌≤◌, Some, IfOk, IfSome, IsSome, OnOk, length, option_map};
+ghost use Rattle.switch_core.specs.Switches.{after_change, told_by_change, next_due, after_fire, told_by_fire};
+ghost use Rattle.config_checker.specs.Machine.{initial, write, post};
 ghost use Rattle.config_checker.specs.Run.{arrived};
-ghost use Rattle.pinball_shell.specs.RunOfLog.{due_by, first_of, next_alarm};
-ghost use Rattle.pinball_shell.specs.PlayerView.{switch_view, IsTaken, alarm_view};
+ghost use Rattle.pinball_shell.specs.RunOfLog.{due_by, next_alarm};
+ghost use Rattle.pinball_shell.specs.PlayerView.{IsPlaying, IsTaken, alarm_view, on_machine, switches_of, with_switches};
 
-use crate::stimulus::{Posted, SwitchState};
+use crate::stimulus::Posted;
 use config_checker::{Happening, Line};
 use mpf_plan::{EventId, Owner, Plan, SwitchId};
 use std::alloc::{AllocError, Global};
 use std::collections::VecDeque;
 use std::marker::Model;
+use switch_core::{Change, Switches};
 
 /// The state of a machine: the moment of the latest stimulus, its switches, the events that
 /// wait, and the lines of the latest stimulus.
 #[derive(Drop)]
 pub struct Player {
     moment: u64,
-    switches: Vec<SwitchState>,
+    switches: Switches,
     waiting: VecDeque<Posted>,
     lines: Vec<Line>,
 }
 
 impl Model for Player {
-    ghost use Rattle.std.specs.Prelude.{◌≤◌, length, map};
-    ghost use Rattle.config_checker.specs.Machine.{Machine};
+    ghost use Rattle.std.specs.Prelude.{map};
+    ghost use Rattle.pinball_shell.specs.PlayerView.{Playing, posted_view};
 
-    ghost Value = { Machine };
+    ghost Value = { Playing };
 
-    ghost use Rattle.pinball_shell.specs.PlayerView.{switch_view, posted_view};
-
-    ghost view = { λ p. record { moment = p.moment; switches = map switch_view p.switches.items; waiting = map posted_view p.waiting.items; lines = p.lines.items } };
-
-    ghost invariant = { λ p. length p.switches.items ≤ 256 };
+    ghost view = { λ p. record {
+      kinds = p.switches.kinds;
+      machine = record { moment = p.moment; switches = p.switches.states; waiting = map posted_view p.waiting.items; lines = p.lines.items };
+    } };
 }
 
 impl Player {
     /// A machine at moment 0, with all switches inactive.
     pub fn new(alloc: Global, plan: &Plan) -> Result<Player, AllocError>
-        ensures { IfOk result (λ p. p ≡ initial plan.now) }
+        ensures machine { IfOk result (λ p. p.machine ≡ initial plan.now) }
+        ensures playing { IfOk result (λ p. IsPlaying plan.now p) }
     {
         Ok(Player {
             moment: 0,
-            switches: idle_switches(alloc, plan.switch_count())?,
+            switches: Switches::new(alloc, plan)?,
             waiting: VecDeque::new(alloc),
             lines: Vec::new(alloc),
         })
@@ -51,28 +53,21 @@ impl Player {
 
     /// The moment of the latest stimulus.
     pub fn moment(&self) -> u64
-        ensures { result ≡ self.now.moment }
+        ensures { result ≡ self.now.machine.moment }
     {
         self.moment
     }
 
     /// The lines of the latest stimulus.
     pub fn lines(&self) -> &[Line]
-        ensures { result.now ≡ self.now.lines }
+        ensures { result.now ≡ self.now.machine.lines }
     {
         self.lines.as_slice()
     }
 
-    /// How many switches there are.
-    pub fn switch_count(&self) -> usize
-        ensures { result ≡ length self.now.switches }
-    {
-        self.switches.len()
-    }
-
     /// A stimulus comes: it is a new moment, with no line yet.
     pub fn arrive(&mut self, at: u64)
-        ensures { self.new ≡ arrived at self.old }
+        ensures { self.new ≡ on_machine (arrived at) self.old }
     {
         self.moment = at;
         self.lines.clear();
@@ -80,7 +75,7 @@ impl Player {
 
     /// A line comes.
     pub fn write(&mut self, owner: Owner, happening: Happening) -> Result<(), AllocError>
-        ensures { OnOk result (self.new ≡ write owner happening self.old) }
+        ensures { OnOk result (self.new ≡ on_machine (write owner happening) self.old) }
     {
         let moment = self.moment;
         self.lines.push(Line {
@@ -93,7 +88,7 @@ impl Player {
 
     /// An event is posted.
     pub fn post(&mut self, owner: Owner, event: EventId) -> Result<(), AllocError>
-        ensures { OnOk result (self.new ≡ post owner event self.old) }
+        ensures { OnOk result (self.new ≡ on_machine (post owner event) self.old) }
     {
         self.waiting.push_back(Posted { event, owner })?;
         Ok(())
@@ -106,101 +101,36 @@ impl Player {
         self.waiting.pop_front()
     }
 
-    /// A switch has a new raw level. Nothing happens where it has that level already, or where
-    /// there is no such switch.
-    pub fn change(&mut self, at: u64, switch: SwitchId, level: bool)
-        requires { at < 2 ^ 40 }
-        ensures { self.new ≡ change_switch at switch.0 level self.old }
+    /// A switch that there is has a new raw level. Tells where it is accepted at once.
+    pub fn change(&mut self, at: u64, switch: SwitchId, level: bool) -> Option<Change>
+        requires at { at < 2 ^ 40 }
+        requires switch { switch.0 < length self.old.kinds }
+        ensures changed { self.new ≡ with_switches (after_change switch level at (switches_of self.old)) self.old }
+        ensures told { result ≡ told_by_change switch level at (switches_of self.old) }
     {
-        change_at(&mut self.switches, switch.0 as usize, at, level);
+        self.switches.change(switch, level, at)
     }
 
-    /// The raw level of a switch is accepted: that level.
-    pub fn accept(&mut self, switch: SwitchId) -> bool
-        ensures level { result ≡ (switch_at self.old switch.0).raw }
-        ensures accepted { self.new ≡ set_switch switch.0 (accepted_switch (switch_at self.old switch.0)) self.old }
+    /// The raw level is accepted that is due next, which one must be.
+    pub fn fire(&mut self) -> Change
+        requires { IsSome (next_due (switches_of self.old)) }
+        ensures fired { self.new ≡ with_switches (after_fire (switches_of self.old)) self.old }
+        ensures told { told_by_fire (switches_of self.old) ≡ Some result }
     {
-        accept_at(&mut self.switches, switch.0 as usize)
+        self.switches.fire()
     }
 
     /// The next alarm, where it is due by the moment.
     pub fn alarm_by(&self, until: u64) -> Option<(u64, SwitchId)>
-        ensures next { option_map alarm_view result ≡ due_by until (next_alarm 0 self.now.switches) }
+        ensures next { option_map alarm_view result ≡ due_by until (next_alarm self.now.machine.switches) }
         ensures due { IfSome result (λ a. a.0 ≤ until) }
+        ensures playable { IfSome result (λ a. next_alarm self.now.machine.switches ≡ Some (a.0, a.1.0)) }
     {
-        let (at, place) = first_due(&self.switches)?;
+        let (at, switch) = self.switches.due()?;
         if at <= until {
-            Some((at, SwitchId(place as u16)))
+            Some((at, switch))
         } else {
             None
         }
-    }
-}
-
-/// So many switches, all of them idle.
-fn idle_switches(alloc: Global, count: usize) -> Result<Vec<SwitchState>, AllocError>
-    ensures { IfOk result (λ v. map switch_view v.items ≡ replicate count idle_switch) }
-{
-    let mut switches = Vec::with_capacity(alloc, count)?;
-    for _ in 0..count {
-        switches.push(SwitchState::IDLE)?;
-    }
-    Ok(switches)
-}
-
-fn change_at(switches: &mut [SwitchState], place: usize, at: u64, level: bool)
-    requires { at < 2 ^ 40 }
-    ensures { map switch_view switches.new ≡ slice_set (map switch_view switches.old) place (changed_switch at level (slice_index_or (map switch_view switches.old) place idle_switch)) }
-{
-    if place < switches.len() {
-        switches[place] = switches[place].changed(at, level);
-    }
-}
-
-fn accept_at(switches: &mut [SwitchState], place: usize) -> bool
-    ensures level { result ≡ (slice_index_or (map switch_view switches.old) place idle_switch).raw }
-    ensures accepted { map switch_view switches.new ≡ slice_set (map switch_view switches.old) place (accepted_switch (slice_index_or (map switch_view switches.old) place idle_switch)) }
-{
-    if place < switches.len() {
-        let accepted = switches[place].accepted();
-        switches[place] = accepted;
-        accepted.raw
-    } else {
-        false
-    }
-}
-
-/// The moment and the number of the switch whose raw level is to be accepted first.
-fn first_due(switches: &[SwitchState]) -> Option<(u64, usize)>
-    ensures first { result ≡ next_alarm 0 (map switch_view switches.now) }
-    ensures within { IfSome result (λ a. a.1 < length switches.now) }
-{
-    let mut first = None;
-    let mut place = switches.len();
-    // From the last to the first: of equal moments the lower number comes first.
-    while place > 0 {
-        place -= 1;
-        first = earlier(alarm_of(&switches[place], place), first);
-    }
-    first
-}
-
-fn alarm_of(switch: &SwitchState, place: usize) -> Option<(u64, usize)>
-    ensures { result ≡ option_map (λ at. (at, place)) (switch_view switch.now).due }
-{
-    match switch.due {
-        None => None,
-        Some(at) => Some((at, place)),
-    }
-}
-
-/// The one of the lesser moment, or else the first.
-fn earlier(a: Option<(u64, usize)>, b: Option<(u64, usize)>) -> Option<(u64, usize)>
-    ensures { result ≡ first_of a b }
-{
-    match (a, b) {
-        (None, b) => b,
-        (a, None) => a,
-        (Some(x), Some(y)) => if x.0 <= y.0 { Some(x) } else { Some(y) },
     }
 }

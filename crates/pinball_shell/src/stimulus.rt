@@ -1,9 +1,5 @@
 //! What comes to a machine that is played, and what it keeps of it.
 
-ghost use Rattle.std.specs.Prelude.{◌≡◌, ◌^◌, ◌<◌};
-ghost use Rattle.config_checker.specs.Machine.{idle_switch, changed_switch, accepted_switch};
-ghost use Rattle.pinball_shell.specs.RunOfLog.{moment_of};
-
 use mpf_plan::{EventId, Owner, SwitchId};
 
 /// What comes to the machine, at a moment in milliseconds.
@@ -39,57 +35,4 @@ impl Stimulus {
 pub struct Posted {
     pub event: EventId,
     pub owner: Owner,
-}
-
-/// A switch: its raw level, the accepted one, and the moment at which the raw one is accepted.
-#[derive(Clone, Copy)]
-pub struct SwitchState {
-    pub raw: bool,
-    pub accepted: bool,
-    pub due: Option<u64>,
-}
-
-impl SwitchState {
-    ghost use Rattle.std.specs.Prelude.{◌≡◌, ◌^◌, ◌<◌};
-    ghost use Rattle.config_checker.specs.Machine.{changed_switch, accepted_switch};
-    ghost use Rattle.pinball_shell.specs.PlayerView.{switch_view};
-
-    /// Inactive, and nothing is due.
-    pub const IDLE: SwitchState = SwitchState {
-        raw: false,
-        accepted: false,
-        due: None,
-    };
-
-    /// The switch with a new raw level: one that is not the accepted one is to be accepted 5 ms
-    /// later.
-    pub fn changed(self, at: u64, level: bool) -> SwitchState
-        requires { at < 2 ^ 40 }
-        ensures { switch_view result ≡ changed_switch at level (switch_view self) }
-    {
-        if level == self.raw {
-            self
-        } else {
-            SwitchState {
-                raw: level,
-                accepted: self.accepted,
-                due: if level == self.accepted {
-                    None
-                } else {
-                    Some(at + 5)
-                },
-            }
-        }
-    }
-
-    /// The switch with its raw level accepted.
-    pub fn accepted(self) -> SwitchState
-        ensures { switch_view result ≡ accepted_switch (switch_view self) }
-    {
-        SwitchState {
-            raw: self.raw,
-            accepted: self.raw,
-            due: None,
-        }
-    }
 }

@@ -1,4 +1,4 @@
-use Rattle.std.proofs.Common.{List, ℕ, ◌+◌, ◌∷◌, drop, ap, ◌∙◌, sym, ◌≡◌}
+use Rattle.std.proofs.Common.{List, ℕ, ◌+◌, ◌∷◌, drop, ap, ◌∙◌, sym}
 use Rattle.std.specs.Str.Lines.{lines}
 use Rattle.pinball_shell.proofs.TextLines.{lines-some, lines-none, rest_from}
 use Rattle.pinball_shell.proofs.log_line.first_line.Goals as goal

@@ -1,4 +1,4 @@
-use Rattle.std.proofs.Common.{ℕ, List, drop, ◌≡◌, ◌∙◌, sym, subst, ap, arith}
+use Rattle.std.proofs.Common.{ℕ, List, ◌∙◌, sym, subst}
 use Rattle.std.proofs.lemmas.List.{drop_all}
 use Rattle.pinball_shell.proofs.Digits.{IsReadTo, times_ten_passes, one_more_passes, read-all}
 use Rattle.pinball_shell.proofs.log_line.read_number.Goals as goal

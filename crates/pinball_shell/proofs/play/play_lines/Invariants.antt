@@ -1,11 +1,13 @@
 use Rattle.std.proofs.Common.{length}
+use Rattle.pinball_shell.specs.PlayerView.{IsPlaying}
 use Rattle.pinball_shell.proofs.Playing.{AreLinesGoing}
 use Rattle.pinball_shell.proofs.play.play_lines.Given as goal
 
 -- the lines that are left complete those that were played
 abbrev pub invariant-loop-rest : goal.invariant-loop-rest
 invariant-loop-rest g l =
-    AreLinesGoing l.plan l.bound l.log l.fn.player (g.W.Write.contents l.fn.writer) l.number l.rest l.player (g.W.Write.contents l.writer) l.verdict
+    AreLinesGoing l.plan l.bound l.log l.fn.player.machine (g.W.Write.contents l.fn.writer) l.number l.rest l.player.machine (g.W.Write.contents l.writer) l.verdict
+    × IsPlaying l.plan l.player
 
 abbrev pub decreases-loop-rest : goal.decreases-loop-rest
 decreases-loop-rest g l = length l.rest
