@@ -78,3 +78,64 @@ fn posted_event_is_handled(rt: HostRuntime) -> Result<(), Fail> {
         b"fault 8 Cycle go\nno\n",
     )
 }
+
+#[test]
+fn open_quote(rt: HostRuntime) -> Result<(), Fail> {
+    assert_checks(
+        &rt,
+        b"@ config/config.yaml\n#config_version=6\ncoils: \"a\n",
+        Verdict::Refused,
+        b"error 3 Yaml config/config.yaml 2 Quote\nno\n",
+    )
+}
+
+#[test]
+fn skipped_section_note(rt: HostRuntime) -> Result<(), Fail> {
+    assert_checks(
+        &rt,
+        b"@ config/config.yaml\n#config_version=6\nlights:\n  l1:\n    number: 1\n",
+        Verdict::Yes,
+        b"note config/config.yaml 2 skipped lights\nyes\npinball-certificate 1\nbound 0\n",
+    )
+}
+
+// The notes stand before a refusal too, those of the machine text first.
+#[test]
+fn notes_before_a_fault(rt: HostRuntime) -> Result<(), Fail> {
+    assert_checks(
+        &rt,
+        b"@ modes/m/config/m.yaml\nwhatever\n@ config/config.yaml\n#config_version=6\nshows:\nevent_player: {a: b, b: c}\nlights: [1, 2]\n@ x\n",
+        Verdict::Refused,
+        b"note config/config.yaml 2 skipped shows\nnote config/config.yaml 4 skipped lights\nnote modes/m/config/m.yaml 0 unlisted modes/m/config/m.yaml\nnote x 0 unlisted x\nfault 8 Cycle b\nno\n",
+    )
+}
+
+#[test]
+fn two_texts_of_one_name(rt: HostRuntime) -> Result<(), Fail> {
+    assert_checks(
+        &rt,
+        b"@ a\n@ config/config.yaml\n#config_version=6\n@ a\n",
+        Verdict::Refused,
+        b"error 8 Duplicate a 1 -\nno\n",
+    )
+}
+
+#[test]
+fn lists_in_both_forms(rt: HostRuntime) -> Result<(), Fail> {
+    assert_checks(
+        &rt,
+        b"@ config/config.yaml\n#config_version=6\nevent_player:\n  a: [b, c, ]\n  d:\n  - b\n  - 'c'\n  e: b,c\n",
+        Verdict::Yes,
+        b"yes\npinball-certificate 1\nbound 0\nevent a 3\nevent b 1\nevent c 1\nevent d 3\nevent e 3\n",
+    )
+}
+
+#[test]
+fn bad_item_of_a_switch(rt: HostRuntime) -> Result<(), Fail> {
+    assert_checks(
+        &rt,
+        b"@ config/config.yaml\n#config_version=6\nswitches:\n  s_left:\n    tags:\n      - lane\n      - a/b\n",
+        Verdict::Refused,
+        b"error 6 BadValue config/config.yaml 4 tags\nno\n",
+    )
+}

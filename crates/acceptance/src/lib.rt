@@ -7,6 +7,8 @@ mod check_rows;
 #[cfg(test)]
 mod faulty;
 #[cfg(test)]
+mod hostile;
+#[cfg(test)]
 mod limits;
 #[cfg(test)]
 mod play_rows;
@@ -14,3 +16,5 @@ mod play_rows;
 mod row;
 #[cfg(test)]
 mod words;
+#[cfg(test)]
+mod yaml_texts;
