@@ -114,7 +114,10 @@ fn handled(text: &[u8]) -> Result<Event<'_>, BadValue>
 /// A handled event: a name, and right behind it, or not, a condition in braces, as in
 /// `ball_started{current_player.ball >= 2}`: a variable of the current player, one of `==`, `!=`,
 /// `<`, `<=`, `>` and `>=`, and an integer. The variable is a name, of as many bytes as can belong
-/// to one. Blanks may stand directly inside the braces and around the operator.
+/// to one. Blanks may stand directly inside the braces and around the operator. Any other text is
+/// `BadValue`: one with a name that is empty or has more than 64 bytes, with an integer beyond the
+/// range of [`integer`](crate::integer), with a blank in front of the `{`, or with anything behind
+/// the `}`.
 pub fn event(text: &[u8]) -> Result<Event<'_>, BadValue>
     // What is answered is the value of the text.
     ensures found { IfOk result (λ event. IsEvent text.now (event_view event)) }

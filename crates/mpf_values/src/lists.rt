@@ -47,8 +47,8 @@ fn items_of(alloc: Global, tree: &Tree) -> Result<Vec<Item<'_>>, ListFault>
 /// written; of a text the pieces between commas and blanks outside braces, all with the line of
 /// the text. Empty items are dropped, so the empty text is an empty list.
 ///
-/// `BadValue` is answered for a mapping, and for a YAML list that holds a list or a mapping;
-/// `NoMemory` where memory runs out before that is found.
+/// Any other node is `BadValue`: a mapping, and a YAML list that holds a list or a mapping.
+/// `NoMemory` is answered where memory runs out before that is found.
 pub fn list(alloc: Global, tree: &Tree) -> Result<Vec<Item<'_>>, ListFault>
     // What is answered are the items of the list.
     ensures found { IfOk result (λ items. IsList (node_view tree.now) (items_view items.items)) }

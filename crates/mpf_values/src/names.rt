@@ -18,7 +18,8 @@ fn is_name(text: &[u8]) -> bool
     !text.is_empty() && text.len() <= MAX_NAME_LEN && has_name_bytes_only(text)
 }
 
-/// A name: 1 to 64 ASCII letters, digits, `_`, `-` and `.`. Its value is the text itself.
+/// A name: 1 to 64 ASCII letters, digits, `_`, `-` and `.`. Its value is the text itself. Any other
+/// text is `BadValue`: the empty one, one of 65 bytes or more, and one with any other byte in it.
 #[tactic(auto, unfolding(crate::specs::Reading::name_at))]
 pub fn name(text: &[u8]) -> Result<&[u8], BadValue>
     // What is answered is the text, and a name.

@@ -38,7 +38,9 @@ fn thousandths(text: &[u8]) -> Result<u16, BadValue>
 }
 
 /// A power in thousandths of full power, 0 to 1000: a number from 0 to 1 with up to three decimals,
-/// or one from 0 to 100 with up to one decimal and `%` right behind it, as in `0.25` and `25%`.
+/// or one from 0 to 100 with up to one decimal and `%` right behind it, as in `0.25` and `25%`;
+/// there is a digit on each side of the point. Any other text is `BadValue`: one above full power,
+/// one of more decimals, `.5`, and one with a blank in it.
 pub fn power(text: &[u8]) -> Result<u16, BadValue>
     // What is answered is the value of the text.
     ensures found { IfOk result (λ power. IsPower text.now power) }
