@@ -7,3 +7,5 @@ pub mod BoundSteps
 pub mod Judged
 pub mod ValidPlan
 pub mod Planned
+pub mod BoundTo
+pub mod Placed

@@ -1,11 +1,13 @@
 -- What a plan's fields hold.
-use Rattle.std.specs.Prelude.{ℕ, List, map, Vec}
+use Rattle.std.specs.Prelude.{ℕ, ◌≡◌, List, length, map, Vec}
+use Rattle.std.specs.List.{range_with_len}
 use Rattle.std.specs.Global.{Global}
 use Rattle.mpf_plan.specs.declared.entries.Action.{Action}
 use Rattle.mpf_plan.specs.declared.entries.Binding.{Binding}
+use Rattle.mpf_plan.specs.declared.entries.BindingId.{BindingId}
 use Rattle.mpf_plan.specs.declared.tables.SwitchEntry.{SwitchEntry}
 use Rattle.mpf_plan.specs.declared.tables.Plan.TheInside.{Inside}
-use Rattle.mpf_plan.specs.PlanView.{Switch, PlanView}
+use Rattle.mpf_plan.specs.PlanView.{Switch, PlanView, places_of}
 
 -- a switch's name, how it is read, and its posts
 abbrev pub switch_view : Vec ℕ Global × SwitchEntry → Switch
@@ -22,3 +24,7 @@ tables_view events switches lists bindings = record {
 
 abbrev pub plan_view : Inside → PlanView
 plan_view p = tables_view p.events.keys p.switches.entries p.lists.items p.bindings.items
+
+-- for each event of a plan the places of what is bound to it
+abbrev pub HasPlaces : PlanView → List (Vec BindingId Global) → Type 0
+HasPlaces plan places = map (λ v. v.items) places ≡ map (λ e. places_of plan (record { 0 = e })) (range_with_len 0 (length plan.events))

@@ -1,12 +1,16 @@
 -- A plan, apart from where it lies in memory.
-use Rattle.std.specs.Prelude.{ℕ, List, [], Bool, false, Option, if◌then◌else◌, slice_index_or, position, option_map}
+use Rattle.std.specs.Prelude.{ℕ, ◌==◌, List, [], Bool, false, Option, if◌then◌else◌, length, map, filter, slice_index_or, position, option_map}
+use Rattle.std.specs.List.{range_with_len}
 use Rattle.std.specs.Str.{bytes_eq}
 use Rattle.mpf_config.specs.declared.config.Contact.TheVariants.{NormallyOpen}
 use Rattle.mpf_plan.specs.declared.entries.EventId.{EventId}
 use Rattle.mpf_plan.specs.declared.entries.SwitchId.{SwitchId}
 use Rattle.mpf_plan.specs.declared.entries.SwitchKind.{SwitchKind}
 use Rattle.mpf_plan.specs.declared.entries.ListId.{ListId}
+use Rattle.mpf_plan.specs.declared.entries.BindingId.{BindingId}
+use Rattle.mpf_plan.specs.declared.entries.Owner.TheVariants.{Machine}
 use Rattle.mpf_plan.specs.declared.entries.Action.{Action}
+use Rattle.mpf_plan.specs.declared.entries.Target.TheVariants.{Run}
 use Rattle.mpf_plan.specs.declared.entries.Binding.{Binding}
 
 -- a switch: its name, how it is read, and what it posts when it becomes active and inactive
@@ -50,3 +54,19 @@ posts_of plan s active = if active then (switch_at plan s).active else (switch_a
 -- the actions of an effect list
 abbrev pub list_at : PlanView → ListId → List Action
 list_at plan l = slice_index_or plan.lists l.0 []
+
+-- in place of a binding where there is none
+abbrev pub no_binding : Binding
+no_binding = record { event = record { 0 = 0 }; owner = Machine; priority = 0; target = Run (record { 0 = 0 }) }
+
+-- a binding by its place
+abbrev pub binding_at : PlanView → ℕ → Binding
+binding_at plan n = slice_index_or plan.bindings n no_binding
+
+-- what is bound to the event, in plan order
+abbrev pub bound_to : PlanView → EventId → List Binding
+bound_to plan e = filter (λ b. b.event.0 == e.0) plan.bindings
+
+-- the places of what is bound to the event, in plan order
+abbrev pub places_of : PlanView → EventId → List BindingId
+places_of plan e = map (λ n. record { 0 = n }) (filter (λ n. (binding_at plan n).event.0 == e.0) (range_with_len 0 (length plan.bindings)))

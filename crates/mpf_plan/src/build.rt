@@ -9,6 +9,7 @@ ghost use Rattle.mpf_plan.specs.PlanOf.{plan_at, plan_of, GivesPlan, IsExceeded}
 use crate::bindings::{bind, check_bindings};
 use crate::events::number_events;
 use crate::fault::PlanFault;
+use crate::placing::places_by_event;
 use crate::switches::number_switches;
 use crate::tables::Plan;
 use mpf_config::config::Config;
@@ -40,5 +41,6 @@ pub fn plan(alloc: Global, config: &Config) -> Result<Plan, PlanFault>
     check_bindings(sections)?;
     let switches = number_switches(alloc, &events, sections)?;
     let bound = bind(alloc, &events, sections)?;
-    Ok(Plan::assemble(events, switches, bound.lists, bound.bindings))
+    let places = places_by_event(alloc, events.len(), &bound.bindings)?;
+    Ok(Plan::assemble(events, switches, bound.lists, bound.bindings, places))
 }

@@ -6,6 +6,7 @@ pub mod build;
 pub mod entries;
 mod events;
 pub mod fault;
+mod placing;
 mod switches;
 pub mod tables;
 

@@ -20,6 +20,8 @@ pub struct Plan {
     switches: IndexMap<Vec<u8>, SwitchEntry>,
     lists: Vec<Vec<Action>>,
     bindings: Vec<Binding>,
+    /// For each event the places of what is bound to it.
+    places: Vec<Vec<BindingId>>,
 }
 
 impl Model for Plan {
@@ -27,18 +29,18 @@ impl Model for Plan {
 
     ghost Value = { PlanView };
 
-    ghost use Rattle.mpf_plan.specs.Inside.{plan_view};
+    ghost use Rattle.mpf_plan.specs.Inside.{plan_view, HasPlaces};
     ghost use Rattle.mpf_plan.specs.Valid.{IsValid};
 
     ghost view = { plan_view };
 
-    ghost invariant = { λ p. IsValid (plan_view p) };
+    ghost invariant = { λ p. IsValid (plan_view p) × HasPlaces (plan_view p) p.places.items };
 }
 
 impl Plan {
     ghost use Rattle.std.specs.Prelude.{◌≡◌, ◌<◌, length, slice_get, Contains, IfSome, IfNone};
-    ghost use Rattle.mpf_plan.specs.PlanView.{name_of_event, event_named, switch_at, switch_named, posts_of, list_at};
-    ghost use Rattle.mpf_plan.specs.Inside.{tables_view};
+    ghost use Rattle.mpf_plan.specs.PlanView.{name_of_event, event_named, switch_at, switch_named, posts_of, list_at, places_of};
+    ghost use Rattle.mpf_plan.specs.Inside.{tables_view, HasPlaces};
     ghost use Rattle.mpf_plan.specs.Valid.{IsValid};
 
     pub(crate) fn assemble(
@@ -46,8 +48,10 @@ impl Plan {
         switches: IndexMap<Vec<u8>, SwitchEntry>,
         lists: Vec<Vec<Action>>,
         bindings: Vec<Binding>,
+        places: Vec<Vec<BindingId>>,
     ) -> Plan
-        requires { IsValid (tables_view events.keys switches.entries lists.items bindings.items) }
+        requires valid { IsValid (tables_view events.keys switches.entries lists.items bindings.items) }
+        requires places { HasPlaces (tables_view events.keys switches.entries lists.items bindings.items) places.items }
         ensures { result ≡ tables_view events.keys switches.entries lists.items bindings.items }
     {
         Plan {
@@ -55,6 +59,7 @@ impl Plan {
             switches,
             lists,
             bindings,
+            places,
         }
     }
 
@@ -173,6 +178,15 @@ impl Plan {
         ensures valid { IsValid self.now }
     {
         self.bindings[binding.0 as usize]
+    }
+
+    /// What is bound to an event of the plan, by its places in plan order.
+    pub fn bindings_of(&self, event: EventId) -> &[BindingId]
+        requires { event.0 < length self.now.events }
+        ensures places { result.now ≡ places_of self.now event }
+        ensures valid { IsValid self.now }
+    {
+        self.places[event.0 as usize].as_slice()
     }
 
     /// What is bound to events, in plan order.

@@ -103,6 +103,25 @@ fn numbers_by_first_use(rt: HostRuntime) -> Result<(), Fail> {
     Ok(())
 }
 
+#[test]
+fn bindings_of_each_event_in_order(rt: HostRuntime) -> Result<(), Fail> {
+    let mut players = Vec::new(rt.alloc());
+    players.push(player(rt.alloc(), b"a", &[b"c"])?)?;
+    players.push(player(rt.alloc(), b"b", &[])?)?;
+    players.push(player(rt.alloc(), b"a", &[b"b"])?)?;
+    let mut sections = Vec::new(rt.alloc());
+    sections.push(Section::EventPlayer(players))?;
+    let config = config_of(rt.alloc(), sections);
+    let plan = plan(rt.alloc(), &config)?;
+    assert_eq!(rt; plan.event_count(), 3);
+    let first = [BindingId(0), BindingId(2)];
+    let last = [BindingId(1)];
+    assert!(rt; plan.bindings_of(EventId(0)) == first.as_slice());
+    assert!(rt; plan.bindings_of(EventId(1)).is_empty());
+    assert!(rt; plan.bindings_of(EventId(2)) == last.as_slice());
+    Ok(())
+}
+
 /// A name of the letter and the number.
 fn numbered(alloc: Global, letter: u8, number: u32) -> Result<Name, AllocError> {
     let text = [

@@ -1,11 +1,15 @@
-use Rattle.std.proofs.Common.{◌≡◌, ◌≤◌, map, sym, subst, ap, ◌∙◌}
+use Rattle.std.proofs.Common.{◌≡◌, ◌<◌, ◌≤◌, length, map, sym, subst, ap, ◌∙◌}
 use Rattle.std.specs.Prelude.{Ok, Err}
+use Rattle.std.specs.List.{All}
+use Rattle.std.proofs.lemmas.List.{length-map}
+use Rattle.std.proofs.lemmas.List.Elements.{All-weaker}
 use Rattle.std.proofs.lemmas.Result.{err_from_is_err_and}
 use Rattle.mpf_config.specs.Rows.{Rows}
 use Rattle.mpf_config.specs.View.{note_view, rows_view, section_view}
 use Rattle.mpf_plan.specs.declared.fault.Table.{Table}
 use Rattle.mpf_plan.specs.declared.fault.PlanFault.TheVariants as faults
-use Rattle.mpf_plan.specs.Valid.{IsValid}
+use Rattle.mpf_plan.specs.Valid.{IsBindingWithin, IsValid}
+use Rattle.mpf_plan.specs.Inside.{tables_view}
 use Rattle.mpf_plan.specs.Limits.{entry_count, limit_of}
 use Rattle.mpf_plan.specs.PlanOf.{plan_of, plan_at, GivesPlan, IsExceeded}
 use Rattle.mpf_plan.specs.Noting.{names_of}
@@ -68,8 +72,35 @@ returns-in_err-switches-clause-limit c =
     let why = switches_above rows (names_of c.in_ok-events.events.keys) c.in_ok-events.ensures.1 c.in_ok-check_bindings.ensures c.in_err-switches.field-0.0 c.in_err-switches.ensures in
     subst (λ rs. (t : Table) → c.from_residual-in_err-switches.result ≡ Err (faults.Limit t) → IsExceeded rs t) same (fault_limit rows c.from_residual-in_err-switches.result c.in_err-switches.field-0.0 (p.1 ∙ ap Err p.2) why)
 
-pub assemble-requires : goal.assemble-requires
-assemble-requires c =
+pub places_by_event-requires-clause-events : goal.places_by_event-requires-clause-events
+places_by_event-requires-clause-events c =
+    let told = map note_view c.args.config.now.notes.items in
+    let rows : Rows = record { machine = map section_view c.as_slice-sections.result.now; notes = told } in
+    let within = all_within rows (names_of c.in_ok-events.events.keys) c.in_ok-events.ensures.1 c.in_ok-check_bindings.ensures c.in_ok-switches.ensures.1 in
+    let made = tables-plan_of rows c.in_ok-events.events.keys c.in_ok-switches.switches.entries c.in_ok-bound.bound c.in_ok-events.ensures.0 c.in_ok-switches.ensures.0 c.in_ok-bound.ensures in
+    let tables = tables_view c.in_ok-events.events.keys c.in_ok-switches.switches.entries c.in_ok-bound.bound.lists.items c.in_ok-bound.bound.bindings.items in
+    let valid : IsValid tables = subst IsValid (sym made) (IsValid-plan_of rows within) in
+    let count : length tables.events ≡ c.len.result = length-map c.in_ok-events.events.keys (λ v. v.items) ∙ sym c.len.ensures.len in
+    let each = All-weaker (IsBindingWithin tables) (λ b. b.event.0 < length tables.events) (λ b h. h.0) tables.bindings valid.bindings in
+    subst (λ bs. All (λ b. b.event.0 < c.len.result) bs) (sym c.deref.ensures.value) (subst (λ n. All (λ b. b.event.0 < n) tables.bindings) count each)
+
+pub places_by_event-requires-clause-bindings : goal.places_by_event-requires-clause-bindings
+places_by_event-requires-clause-bindings c =
+    let told = map note_view c.args.config.now.notes.items in
+    let rows : Rows = record { machine = map section_view c.as_slice-sections.result.now; notes = told } in
+    let within = all_within rows (names_of c.in_ok-events.events.keys) c.in_ok-events.ensures.1 c.in_ok-check_bindings.ensures c.in_ok-switches.ensures.1 in
+    let made = tables-plan_of rows c.in_ok-events.events.keys c.in_ok-switches.switches.entries c.in_ok-bound.bound c.in_ok-events.ensures.0 c.in_ok-switches.ensures.0 c.in_ok-bound.ensures in
+    let tables = tables_view c.in_ok-events.events.keys c.in_ok-switches.switches.entries c.in_ok-bound.bound.lists.items c.in_ok-bound.bound.bindings.items in
+    let valid : IsValid tables = subst IsValid (sym made) (IsValid-plan_of rows within) in
+    subst (λ bs. length bs ≤ 16384) (sym c.deref.ensures.value) valid.binding_limit
+
+pub assemble-requires-clause-places : goal.assemble-requires-clause-places
+assemble-requires-clause-places c =
+    let tables = tables_view c.in_ok-events.events.keys c.in_ok-switches.switches.entries c.in_ok-bound.bound.lists.items c.in_ok-bound.bound.bindings.items in
+    c.in_ok-places.ensures tables (length-map c.in_ok-events.events.keys (λ v. v.items) ∙ sym c.len.ensures.len) (sym c.deref.ensures.value)
+
+pub assemble-requires-clause-valid : goal.assemble-requires-clause-valid
+assemble-requires-clause-valid c =
     let told = map note_view c.args.config.now.notes.items in
     let rows : Rows = record { machine = map section_view c.as_slice-sections.result.now; notes = told } in
     let same : rows ≡ rows_view c.args.config.now = ap (λ s. record { machine = map section_view s; notes = told }) c.as_slice-sections.ensures.value in
