@@ -1,0 +1,5 @@
+pub mod Sort
+mod FirstOut
+mod Counted
+mod Chosen
+mod OfPlan

@@ -1,0 +1,42 @@
+-- Lists of calls, and the law that they keep.
+use Rattle.std.specs.Prelude.{◌≡◌, ℕ, ◌≤◌, List, [], ◌∷◌, ◌++◌, length, Option, Some, None, Result, Ok, Err}
+use Rattle.event_queue.specs.declared.queue.Posted.{Posted}
+use Rattle.event_queue.specs.declared.queue.Full.{Full}
+use Rattle.event_queue.specs.Queue.{QueueView, empty, IsPushed, IsTaken}
+
+-- a call of `push` or of `take`, with what it answered
+pub data Call : Type 0 where
+  Push : (event : Posted) (answer : Result Unit Full) → Call
+  Take : (answer : Option Posted) → Call
+
+-- the call leads from the old queue to the new one
+abbrev pub IsCall : Call → QueueView → QueueView → Type 0
+IsCall (Push event answer) old new = IsPushed event answer old new
+IsCall (Take answer) old new = IsTaken answer old new
+
+-- calls do, one after the other
+abbrev pub AreCalls : List Call → QueueView → QueueView → Type 0
+AreCalls [] old new = new ≡ old
+AreCalls (call ∷ calls) old new = (mid : QueueView) × IsCall call old mid × AreCalls calls mid new
+
+-- what `push` accepted, in order
+abbrev pub accepted : List Call → List Posted
+accepted [] = []
+accepted (Push event (Ok done) ∷ calls) = event ∷ accepted calls
+accepted (Push event (Err full) ∷ calls) = accepted calls
+accepted (Take answer ∷ calls) = accepted calls
+
+-- what `take` gave, in order
+abbrev pub given : List Call → List Posted
+given [] = []
+given (Push event answer ∷ calls) = given calls
+given (Take None ∷ calls) = given calls
+given (Take (Some first) ∷ calls) = first ∷ given calls
+
+-- After every list of calls on a new queue: what was given, and behind it what waits, is what was accepted.
+abbrev pub IsFirstInFirstOut : Type 0
+IsFirstInFirstOut = (size : ℕ) (calls : List Call) (queue : QueueView) → AreCalls calls (empty size) queue → given calls ++ queue.waiting ≡ accepted calls
+
+-- It keeps its size, and no more events wait than that.
+abbrev pub IsWithinSize : Type 0
+IsWithinSize = (size : ℕ) (calls : List Call) (queue : QueueView) → AreCalls calls (empty size) queue → (queue.size ≡ size) × (length queue.waiting ≤ size)

@@ -1,0 +1,4 @@
+pub mod Queue
+pub mod Calls
+pub mod Handlers
+pub mod PlanOrder

@@ -1,0 +1,69 @@
+//! The events that wait.
+
+use circular_buffer::HeapCircularBuffer;
+use mpf_plan::{EventId, Owner};
+use std::alloc::{AllocError, Global};
+use std::marker::Model;
+
+/// An event that waits, and who posted it.
+#[derive(Clone, Copy, Debug, PartialEq, Eq)]
+pub struct Posted {
+    pub event: EventId,
+    pub owner: Owner,
+}
+
+/// As many events wait as may.
+#[derive(Clone, Copy, Debug, PartialEq, Eq)]
+pub struct Full;
+
+/// The events that wait, first posted first. Its room is made once, so that neither adding nor
+/// taking an event needs memory.
+#[derive(Drop)]
+pub struct Queue {
+    waiting: HeapCircularBuffer<Posted>,
+}
+
+impl Model for Queue {
+    ghost use Rattle.event_queue.specs.Queue.{QueueView};
+
+    ghost Value = { QueueView };
+
+    ghost view = { λ q. record { size = q.waiting.capacity; waiting = q.waiting.items } };
+
+    ghost use Rattle.std.specs.Prelude.{◌≤◌, length};
+
+    ghost invariant = { λ q. length q.waiting.items ≤ q.waiting.capacity };
+}
+
+impl Queue {
+    ghost use Rattle.std.specs.Prelude.{◌≡◌, IfOk};
+    ghost use Rattle.event_queue.specs.Queue.{empty, IsPushed, IsTaken};
+
+    /// An empty queue in which at most `size` events may wait.
+    pub fn new(alloc: Global, size: usize) -> Result<Queue, AllocError>
+        ensures { IfOk result (λ q. q ≡ empty size) }
+    {
+        Ok(Queue {
+            waiting: HeapCircularBuffer::with_capacity(alloc, size)?,
+        })
+    }
+
+    /// Adds an event behind all others. `Full` exactly where as many wait as may: nothing changes
+    /// then.
+    pub fn push(&mut self, event: Posted) -> Result<(), Full>
+        ensures { IsPushed event result self.old self.new }
+    {
+        if self.waiting.is_full() {
+            return Err(Full);
+        }
+        self.waiting.push_back(event);
+        Ok(())
+    }
+
+    /// Takes the event that waits first, or none where none waits.
+    pub fn take(&mut self) -> Option<Posted>
+        ensures { IsTaken result self.old self.new }
+    {
+        self.waiting.pop_front()
+    }
+}
