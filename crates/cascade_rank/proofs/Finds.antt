@@ -1,0 +1,90 @@
+-- What finding answers, case by case.
+use Rattle.std.proofs.Common.{◌≡◌, ℕ, ◌<◌, true, false, not, nat_lt, List, [], length, slice_index, Option, Some, None, position, Ok, Err, sym, ◌∙◌, ap, subst, arith}
+use Rattle.std.proofs.lemmas.Bool.{not-false, cond-true, cond-false, both_ways}
+use Rattle.mpf_plan.specs.PlanView.{PlanView}
+use Rattle.mpf_plan.specs.Valid.{IsValid}
+use Rattle.mpf_plan.specs.declared.entries.EventId.{EventId}
+use Rattle.cascade_rank.specs.Weights.{IsLeastFitting, IsWithinLimit}
+use Rattle.cascade_rank.specs.LeadsTo.{grounded, is_open}
+use Rattle.cascade_rank.specs.Ranks.{rank, ranks}
+use Rattle.cascade_rank.specs.Cycle.{IsFirst, first_open}
+use Rattle.cascade_rank.specs.Finding.{bound_too_large, is_within_limit, found_past, found_at}
+use Rattle.cascade_rank.specs.Found.{IsTooDear}
+use Rattle.cascade_rank.specs.Order.{IsOrdering, IsWholeOrder, AreRanks}
+use Rattle.cascade_rank.specs.Lowest.{IsLeft}
+use Rattle.cascade_rank.proofs.LeastFitting.{need-agrees}
+use Rattle.cascade_rank.proofs.FirstEvent.{first_event-Some, first_event-None}
+use Rattle.cascade_rank.proofs.Verifying.{is_within_limit-true, is_within_limit-false}
+use Rattle.cascade_rank.proofs.Ranking.{rank-least, rank-fits}
+use Rattle.cascade_rank.proofs.Grounding.{grounded_is, open-leads, length_ranks, rank_at, limit_same, limit_ranks}
+use Rattle.cascade_rank.proofs.Firsts.{is_left, first_place}
+
+module _ (plan : PlanView) (valid : IsValid plan) (left : List ℕ) (order : List EventId) (o : IsOrdering plan (length order) [] left order) where
+  pub left_is_open : IsLeft plan left
+  left_is_open = record {
+    count = o.length_is;
+    grounded_is = grounded_is plan valid left order o;
+    leads_on = open-leads plan valid left order o;
+  }
+
+  pub first_open_is : first_open plan ≡ position (λ n. nat_lt 0 n) left
+  first_open_is =
+      first_place (is_open plan) (λ n. nat_lt 0 n) left 0 (length plan.events) o.length_is
+      (λ e l. ap not (grounded_is plan valid left order o e l) ∙ sym (is_left (slice_index left e)))
+
+  module _ (found : Option ℕ) (is : found ≡ position (λ n. nat_lt 0 n) left) where
+    pub found_past_is : found_at plan ≡ found_past plan found
+    unfolding found_at
+    found_past_is = ap (found_past plan) (first_open_is ∙ sym is)
+
+    pub first_is_open : (e : ℕ) → found ≡ Some e → (e < length plan.events) × IsFirst (is_open plan) e
+    first_is_open e some = first_event-Some plan (is_open plan) e (first_open_is ∙ sym is ∙ some)
+
+    module _ (none : found ≡ None) where
+      pub all_grounded : (e : ℕ) → e < length plan.events → grounded plan e ≡ true
+      all_grounded e l = not-false (grounded plan e) (first_event-None plan (is_open plan) (first_open_is ∙ sym is ∙ none) e l)
+
+      pub whole_order : IsWholeOrder plan order
+      whole_order = record {
+        below = o.below;
+        grounds = o.grounds;
+        short = omega (arith, o.room);
+        whole = λ e l. o.listed e l ∙ sym (grounded_is plan valid left order o e l) ∙ all_grounded e l;
+      }
+
+-- ---- where every event is grounded
+
+module _ (plan : PlanView) (valid : IsValid plan) (all : (e : ℕ) → e < length plan.events → grounded plan e ≡ true) where
+  pub ranks_least : IsLeastFitting plan (ranks plan)
+  ranks_least = record {
+    count = length_ranks plan;
+    fits = λ e l.
+        let agree = need-agrees plan valid (slice_index (ranks plan)) (rank plan) (rank_at plan) e in
+        let fits = rank-fits plan valid all e l in
+        omega (arith, agree, fits, rank_at plan e l);
+    least = λ v fit e l.
+        let low = rank-least plan valid v fit (length plan.events) e l in
+        omega (arith, low, rank_at plan e l);
+  }
+
+  module _ (weights : List ℕ) (are : AreRanks plan weights) where
+    pub found_within : IsWithinLimit plan weights → found_past plan None ≡ Ok weights
+    found_within within =
+        let test = is_within_limit-true plan weights within in
+        cond-true (is_within_limit plan (ranks plan)) (Ok (ranks plan)) (Err bound_too_large) (sym (limit_same plan weights are) ∙ test) ∙ ap Ok (sym (limit_ranks plan weights are test))
+
+    pub least_within : IsWithinLimit plan weights → IsLeastFitting plan weights
+    least_within within = subst (IsLeastFitting plan) (sym (limit_ranks plan weights are (is_within_limit-true plan weights within))) ranks_least
+
+    above_test : ¬ (IsWithinLimit plan weights) → is_within_limit plan (ranks plan) ≡ false
+    above_test above = sym (limit_same plan weights are) ∙ is_within_limit-false plan weights above
+
+    pub found_above : ¬ (IsWithinLimit plan weights) → found_past plan None ≡ Err bound_too_large
+    found_above above = cond-false (is_within_limit plan (ranks plan)) (Ok (ranks plan)) (Err bound_too_large) (above_test above)
+
+    pub too_dear : ¬ (IsWithinLimit plan weights) → IsTooDear plan
+    too_dear above = record {
+      weights = ranks plan;
+      least = ranks_least;
+      above = λ within. both_ways (is_within_limit plan (ranks plan)) (above_test above) (is_within_limit-true plan (ranks plan) within);
+    }

@@ -1,0 +1,158 @@
+-- The first event that passes a test.
+use Rattle.std.proofs.Common.{◌≡◌, ℕ, zero, suc, ◌+◌, ◌<◌, ◌≤◌, min, Bool, true, false, not, cond, ◌&&◌, ◌||◌, ◌==◌, nat_lt, List, [], ◌∷◌, length, take, slice_index, get_or, Some, None, position, refl, sym, ◌∙◌, ap, subst, inl, inr, arith}
+use Rattle.std.specs.List.{range_with_len, position_or_len}
+use Rattle.std.proofs.lemmas.Bool.{cases_lt, cases_eq, cases_Bool, lt-ltb, le-ltb, ne_eqb, and_from, and_left, and_right, or_cases, eqb-true, eq-eqb, false≢true}
+use Rattle.std.proofs.lemmas.List.FromFn.{length-range_with_len, get_or-range_with_len}
+use Rattle.std.proofs.lemmas.List.Sums.{position_or_len_is, fails_before_first, passes_at_first, prefix_len-le-length}
+use Rattle.mpf_plan.specs.PlanView.{PlanView, places_of}
+use Rattle.mpf_plan.specs.Valid.{IsValid}
+use Rattle.mpf_plan.specs.declared.entries.EventId.{EventId}
+use Rattle.mpf_plan.specs.declared.entries.BindingId.{BindingId}
+use Rattle.cascade_rank.specs.Cost.{Cost, Lines, Weight, Both, Greater, mentions, each_of, cost_of_event}
+use Rattle.cascade_rank.specs.LeadsTo.{is_open}
+use Rattle.cascade_rank.specs.Cycle.{IsFirst, next_open}
+use Rattle.cascade_rank.specs.Lowest.{lowest, IsLeft}
+use Rattle.cascade_rank.proofs.Within.{IsBelow, IsBelow-event}
+use Rattle.cascade_rank.proofs.Places.{cost_at_place}
+use Rattle.cascade_rank.proofs.Leading.{event-places}
+
+-- ---- the lowest event of a cost
+
+pub lowest-at_most : (n : ℕ) (p : ℕ → Bool) (c : Cost) → IsBelow n c → lowest n p c ≤ n
+lowest-at_most n p (Lines k) h = omega arith
+lowest-at_most n p (Weight e) h = by (p e)
+  where
+    by : (b : Bool) → cond b e n ≤ n
+    by true = omega (arith, h)
+    by false = omega arith
+lowest-at_most n p (Both a b) h = omega (arith, lowest-at_most n p a h.0)
+lowest-at_most n p (Greater a b) h = omega (arith, lowest-at_most n p a h.0)
+
+of_left : (x y q : Bool) → (x && q) ≡ true → ((x || y) && q) ≡ true
+of_left true y q h = h
+of_left false y q h = absurd (false≢true h)
+
+of_right : (x y q : Bool) → (y && q) ≡ true → ((x || y) && q) ≡ true
+of_right true true q h = h
+of_right true false q h = absurd (false≢true h)
+of_right false y q h = h
+
+-- it is one of them
+pub lowest-holds : (n : ℕ) (p : ℕ → Bool) (c : Cost) (k : ℕ) → k ≡ lowest n p c → k < n → (mentions k c && p k) ≡ true
+lowest-holds n p (Lines m) k is l = absurd (omega (arith, is, l))
+lowest-holds n p (Weight e) k is l = by (p e) refl is
+  where
+    by : (b : Bool) → p e ≡ b → k ≡ cond b e n → (k == e && p k) ≡ true
+    by true passes here = and_from (k == e) (p k) (eq-eqb k e here) (ap p here ∙ passes)
+    by false fails here = absurd (omega (arith, here, l))
+lowest-holds n p (Both a b) k is l = elim (cases_lt (lowest n p a) (lowest n p b)) [
+  | inl less ↦ of_left (mentions k a) (mentions k b) (p k) (lowest-holds n p a k (omega (arith, is, less)) l)
+  | inr more ↦ of_right (mentions k a) (mentions k b) (p k) (lowest-holds n p b k (omega (arith, is, more)) l)
+]
+lowest-holds n p (Greater a b) k is l = elim (cases_lt (lowest n p a) (lowest n p b)) [
+  | inl less ↦ of_left (mentions k a) (mentions k b) (p k) (lowest-holds n p a k (omega (arith, is, less)) l)
+  | inr more ↦ of_right (mentions k a) (mentions k b) (p k) (lowest-holds n p b k (omega (arith, is, more)) l)
+]
+
+-- none of them is lower
+pub lowest-first : (n : ℕ) (p : ℕ → Bool) (c : Cost) (k : ℕ) → k < lowest n p c → mentions k c ≡ true → p k ≡ false
+lowest-first n p (Lines m) k l h = absurd (false≢true h)
+lowest-first n p (Weight e) k l h = ap p (eqb-true k e h) ∙ by (p e) l
+  where
+    by : (b : Bool) → k < cond b e n → b ≡ false
+    by true less = absurd (omega (arith, less, eqb-true k e h))
+    by false less = refl
+lowest-first n p (Both a b) k l h = elim (or_cases (mentions k a) (mentions k b) h) [
+  | inl m ↦ lowest-first n p a k (omega (arith, l)) m
+  | inr m ↦ lowest-first n p b k (omega (arith, l)) m
+]
+lowest-first n p (Greater a b) k l h = elim (or_cases (mentions k a) (mentions k b) h) [
+  | inl m ↦ lowest-first n p a k (omega (arith, l)) m
+  | inr m ↦ lowest-first n p b k (omega (arith, l)) m
+]
+
+-- of one more of a list
+pub lowest-each_more : {X : Type 0} (n : ℕ) (p : ℕ → Bool) (f : X → Cost) (xs : List X) (i : ℕ) (d : X) → i < length xs → lowest n p (each_of f (take (i + 1) xs)) ≡ min (lowest n p (each_of f (take i xs))) (lowest n p (f (get_or xs i d)))
+lowest-each_more n p f [] i d h = absurd (omega (arith, h))
+lowest-each_more n p f (x ∷ xs) zero d h = omega arith
+lowest-each_more n p f (x ∷ xs) (suc i) d h =
+    let e : suc i + 1 ≡ suc (i + 1) = omega arith in
+    let r = lowest-each_more n p f xs i d (omega (arith, h)) in
+    rw e (omega (arith, r))
+
+-- ---- the first of the numbers
+
+number_at : (n k : ℕ) → k < n → get_or (range_with_len 0 n) k 0 ≡ k
+number_at n k l = omega (arith, get_or-range_with_len 0 n k 0 l)
+
+-- the first place of a list that passes is the first number that does
+pub first_place : {X : Type 0} (p : ℕ → Bool) (q : X → Bool) (xs : List X) (d : X) (n : ℕ) → length xs ≡ n → ((i : ℕ) → i < n → p i ≡ q (get_or xs i d)) → position p (range_with_len 0 n) ≡ position q xs
+first_place p q xs d n count same =
+    let numbers = length-range_with_len 0 n in
+    let within = prefix_len-le-length (λ x. not (q x)) xs in
+    let place : position_or_len p (range_with_len 0 n) ≡ position_or_len q xs =
+    position_or_len_is p (range_with_len 0 n) (position_or_len q xs) 0 (omega (arith, numbers, count, within))
+    (λ k l.
+    let below : k < n = omega (arith, l, within, count) in
+    ap p (number_at n k below) ∙ same k below ∙ fails_before_first q xs k d l)
+    (λ l.
+    let below : position_or_len q xs < n = omega (arith, l, numbers) in
+    ap p (number_at n (position_or_len q xs) below) ∙ same (position_or_len q xs) below ∙ passes_at_first q xs d (omega (arith, below, count)))
+    in
+    λ i. cond (nat_lt (place i) ((numbers ∙ sym count) i)) (Some (place i)) None
+
+-- the lowest event of a cost is the first number that is mentioned and passes
+pub lowest-first_number : (n : ℕ) (p q : ℕ → Bool) (c : Cost) → IsBelow n c → ((e : ℕ) → e < n → p e ≡ q e) → position_or_len (λ e. mentions e c && q e) (range_with_len 0 n) ≡ lowest n p c
+lowest-first_number n p q c below same =
+    let numbers = length-range_with_len 0 n in
+    let most = lowest-at_most n p c below in
+    position_or_len_is (λ e. mentions e c && q e) (range_with_len 0 n) (lowest n p c) 0 (omega (arith, numbers, most))
+    (λ k l.
+    let small : k < n = omega (arith, l, most) in
+    ap (λ e. mentions e c && q e) (number_at n k small) ∙ none k l small)
+    (λ l.
+    let small : lowest n p c < n = omega (arith, l, numbers) in
+    ap (λ e. mentions e c && q e) (number_at n (lowest n p c) small) ∙ ap (λ (b : Bool). mentions (lowest n p c) c && b) (sym (same (lowest n p c) small)) ∙ lowest-holds n p c (lowest n p c) refl small)
+  where
+    none : (k : ℕ) → k < lowest n p c → k < n → (mentions k c && q k) ≡ false
+    none k l small = elim (cases_Bool (mentions k c)) [
+      | inl m ↦ and_right (mentions k c) (q k) (sym (same k small) ∙ lowest-first n p c k l m)
+      | inr m ↦ and_left (mentions k c) (q k) m
+    ]
+
+-- what the first number that passes is
+pub first_is : (n : ℕ) (p : ℕ → Bool) (e : ℕ) → position_or_len p (range_with_len 0 n) ≡ e → e < n → IsFirst p e
+first_is n p e is l =
+    let numbers = length-range_with_len 0 n in
+    record {
+      holds = sym (ap p (number_at n e l)) ∙ ap (λ (k : ℕ). p (get_or (range_with_len 0 n) k 0)) (sym is) ∙ passes_at_first p (range_with_len 0 n) 0 (omega (arith, numbers, is, l));
+      least = λ d less. sym (ap p (number_at n d (omega (arith, less, l)))) ∙ fails_before_first p (range_with_len 0 n) d 0 (omega (arith, less, is));
+    }
+
+-- there is one where a number passes
+pub first_below : (n : ℕ) (p : ℕ → Bool) (k : ℕ) → k < n → p k ≡ true → position_or_len p (range_with_len 0 n) < n
+first_below n p k l h = elim (cases_lt (position_or_len p (range_with_len 0 n)) n) [
+  | inl less ↦ less
+  | inr more ↦ absurd (false≢true (sym (fails_before_first p (range_with_len 0 n) k 0 (omega (arith, more, l))) ∙ ap p (number_at n k l) ∙ h))
+]
+
+-- ---- where an event goes on to
+
+pub is_left : (n : ℕ) → nat_lt 0 n ≡ not (n == 0)
+is_left n = elim (cases_eq n 0) [
+  | inl same ↦ le-ltb 0 n (omega (arith, same)) ∙ sym (ap not (eq-eqb n 0 same))
+  | inr other ↦ lt-ltb 0 n (omega (arith, other)) ∙ sym (ap not (ne_eqb n 0 other))
+]
+
+-- the lowest of those that stand at the places of what is bound to it
+pub next_is : (plan : PlanView) → IsValid plan → (left : List ℕ) → IsLeft plan left → (e : EventId) (places : List BindingId) (i found : ℕ) → places ≡ places_of plan e → length places ≤ i →
+    found ≡ lowest (length left) (λ f. nat_lt 0 (slice_index left f)) (each_of (cost_at_place plan) (take i places)) → found ≡ next_open plan e.0
+next_is plan valid left l e places i found are whole is =
+    let n = length plan.events in
+    let cost = event-places plan places i e are whole in
+    let below = subst (IsBelow (length plan.events)) cost (IsBelow-event plan valid e.0) in
+    let first = lowest-first_number (length plan.events) (λ f. nat_lt 0 (slice_index left f)) (is_open plan) (cost_of_event plan e.0) (IsBelow-event plan valid e.0) (λ f k. is_left (slice_index left f) ∙ ap not (sym (l.grounded_is f k))) in
+    let whole_cost = ap (lowest (length plan.events) (λ f. nat_lt 0 (slice_index left f))) cost in
+    let most = lowest-at_most (length plan.events) (λ f. nat_lt 0 (slice_index left f)) (each_of (cost_at_place plan) (take i places)) below.1 in
+    let count = ap (λ (m : ℕ). lowest m (λ f. nat_lt 0 (slice_index left f)) (each_of (cost_at_place plan) (take i places))) l.count in
+    omega (arith, first, whole_cost, most, count, is)

@@ -1,0 +1,193 @@
+-- Events are noted as leading to what they post: one post, a list of them, an event, all events.
+use Rattle.std.proofs.Common.{◌≡◌, ◌≢◌, ℕ, zero, suc, ◌+◌, ◌<◌, ◌≤◌, Bool, true, false, cond, ◌==◌, nat_lt, List, [], ◌∷◌, ◌++◌, length, map, take, drop, take_at, set, replicate, get_or, Some, refl, sym, ◌∙◌, ap, subst, inl, inr, arith, length-set, take_all, get_or-set_same, get_or-set_other}
+use Rattle.std.specs.List.{slice_get}
+use Rattle.std.proofs.lemmas.Option.{get_or_from_slice_get}
+use Rattle.std.proofs.lemmas.Bool.{cases_lt, cases_eq, eq-eqb, ne_eqb, lt-ltb, le-ltb}
+use Rattle.std.proofs.lemmas.List.{get_or-replicate, length-replicate, get_or_append_left, get_or_push, length_push, get_or_read}
+use Rattle.std.proofs.lemmas.List.Sums.{sum_by_push}
+use Rattle.mpf_plan.specs.PlanView.{PlanView, no_binding, binding_at, places_of}
+use Rattle.mpf_plan.specs.declared.entries.EventId.{EventId}
+use Rattle.mpf_plan.specs.declared.entries.BindingId.{BindingId}
+use Rattle.mpf_plan.specs.declared.entries.Binding.{Binding}
+use Rattle.cascade_rank.specs.Cost.{Cost, Lines, Weight, Both, each_of, cost_of_binding, cost_of_event}
+use Rattle.cascade_rank.specs.Order.{unmet, occurrences, times, no_event, event_at, IsOrdering, IsMeeting}
+use Rattle.cascade_rank.specs.Leaders.{leaders_to, AddsLeader, HasLeaders}
+use Rattle.mpf_plan.proofs.BoundTo.{places_of-bound}
+use Rattle.cascade_rank.proofs.Ordering.{counted}
+use Rattle.cascade_rank.proofs.Places.{cost_at_place}
+
+-- ---- one more of a list
+
+module _ (F : Cost → ℕ) (none : F (Lines 0) ≡ 0) (both : (a b : Cost) → F (Both a b) ≡ F a + F b) where
+  each-more : {X : Type 0} (f : X → Cost) (xs : List X) (i : ℕ) (d : X) → i < length xs → F (each_of f (take (i + 1) xs)) ≡ F (each_of f (take i xs)) + F (f (get_or xs i d))
+  each-more f [] i d h = absurd (omega (arith, h))
+  each-more f (x ∷ xs) zero d h = omega (arith, both (f x) (Lines 0), none)
+  each-more f (x ∷ xs) (suc i) d h =
+      let e : suc i + 1 ≡ suc (i + 1) = omega arith in
+      let r = each-more f xs i d (omega (arith, h)) in
+      rw e (omega (arith, r, both (f x) (each_of f (take (i + 1) xs)), both (f x) (each_of f (take i xs))))
+
+pub occurrences-each_more : {X : Type 0} (e : ℕ) (f : X → Cost) (xs : List X) (i : ℕ) (d : X) → i < length xs → occurrences e (each_of f (take (i + 1) xs)) ≡ occurrences e (each_of f (take i xs)) + occurrences e (f (get_or xs i d))
+occurrences-each_more e f xs i d h = each-more (occurrences e) refl (λ a b. refl) f xs i d h
+
+pub unmet-each_more : {X : Type 0} (p : ℕ → Bool) (f : X → Cost) (xs : List X) (i : ℕ) (d : X) → i < length xs → unmet p (each_of f (take (i + 1) xs)) ≡ unmet p (each_of f (take i xs)) + unmet p (f (get_or xs i d))
+unmet-each_more p f xs i d h = each-more (unmet p) refl (λ a b. refl) f xs i d h
+
+-- ---- what one event leads to
+
+split_sum : (b : Bool) (x y z : ℕ) → z ≡ x + y → cond b z 0 ≡ cond b x 0 + cond b y 0
+split_sum true x y z h = h
+split_sum false x y z h = refl
+
+pub adds-none : (leader : ℕ) (c : Cost) (old : List (List EventId)) → ((f : ℕ) → occurrences f c ≡ 0) → AddsLeader leader c old old
+adds-none leader c old none = record {
+  count = refl;
+  more = λ f e l. let nothing = by (leader == e) (occurrences f c) (none f) in omega (arith, nothing);
+}
+  where
+    by : (b : Bool) (n : ℕ) → n ≡ 0 → cond b n 0 ≡ 0
+    by true n h = h
+    by false n h = refl
+
+pub adds-both : (leader : ℕ) (a b c : Cost) (old mid new : List (List EventId)) → ((f : ℕ) → occurrences f c ≡ occurrences f a + occurrences f b) → AddsLeader leader a old mid → AddsLeader leader b mid new → AddsLeader leader c old new
+adds-both leader a b c old mid new sums first then = record {
+  count = then.count ∙ first.count;
+  more = λ f e l.
+      let one = first.more f e l in
+      let two = then.more f e (omega (arith, l, first.count)) in
+      let whole = split_sum (leader == e) (occurrences f a) (occurrences f b) (occurrences f c) (sums f) in
+      omega (arith, one, two, whole);
+}
+
+pub adds-more : {X : Type 0} (leader : ℕ) (cost : X → Cost) (xs : List X) (i : ℕ) (d : X) (old mid new : List (List EventId)) → i < length xs →
+    AddsLeader leader (each_of cost (take i xs)) old mid → AddsLeader leader (cost (get_or xs i d)) mid new → AddsLeader leader (each_of cost (take (i + 1) xs)) old new
+adds-more leader cost xs i d old mid new l first then =
+    adds-both leader (each_of cost (take i xs)) (cost (get_or xs i d)) (each_of cost (take (i + 1) xs)) old mid new (λ f. occurrences-each_more f cost xs i d l) first then
+
+pub adds-one : (leader f : EventId) (old : List (List EventId)) → f.0 < length old → AddsLeader leader.0 (Weight f.0) old (set old f.0 (leaders_to old f.0 ++ leader ∷ []))
+adds-one leader f old l = record {
+  count = length-set old f.0 (leaders_to old f.0 ++ leader ∷ []);
+  more = λ g e k. elim (cases_eq g f.0) [
+    | inl same ↦
+        let here = ap (λ (ds : List EventId). times ds e) (ap (λ (h : ℕ). leaders_to (set old f.0 (leaders_to old f.0 ++ leader ∷ [])) h) same ∙ get_or-set_same old f.0 (leaders_to old f.0 ++ leader ∷ []) [] l) in
+        let push = sum_by_push (λ d. cond (d.0 == e) 1 0) (leaders_to old f.0) leader in
+        let was = ap (λ (h : ℕ). times (leaders_to old h) e) same in
+        let one = by (leader.0 == e) (g == f.0) (eq-eqb g f.0 same) in
+        omega (arith, here, push, was, one)
+    | inr other ↦
+        let here = ap (λ (ds : List EventId). times ds e) (get_or-set_other old f.0 g (leaders_to old f.0 ++ leader ∷ []) [] other) in
+        let nothing = by_not (leader.0 == e) (g == f.0) (ne_eqb g f.0 other) in
+        omega (arith, here, nothing)
+  ];
+}
+  where
+    by : (b c : Bool) → c ≡ true → cond b (counted c) 0 ≡ counted b
+    by b c h = ap (λ (x : Bool). cond b (counted x) 0) h
+
+    by_not : (b c : Bool) → c ≡ false → cond b (counted c) 0 ≡ 0
+    by_not true c h = ap counted h
+    by_not false c h = refl
+
+-- ---- an event
+
+each_of-map : {X Y : Type 0} (f : Y → Cost) (g : X → Y) (xs : List X) → each_of (λ x. f (g x)) xs ≡ each_of f (map g xs)
+each_of-map f g [] = refl
+each_of-map f g (x ∷ xs) = ap (Both (f (g x))) (each_of-map f g xs)
+
+module _ (plan : PlanView) (places : List BindingId) (i : ℕ) where
+  -- what stands at the next place costs what the binding there costs
+  pub place-cost : (b : Binding) → slice_get plan.bindings (get_or places i (record { 0 = 0 })).0 ≡ Some b → cost_at_place plan (get_or places i (record { 0 = 0 })) ≡ cost_of_binding plan b
+  place-cost b at = ap (cost_of_binding plan) (get_or_from_slice_get plan.bindings (get_or places i (record { 0 = 0 })).0 b no_binding at)
+
+  -- an event costs what stands at the places of what is bound to it costs
+  pub event-places : (e : EventId) → places ≡ places_of plan e → length places ≤ i → cost_of_event plan e.0 ≡ Both (Lines 1) (each_of (cost_at_place plan) (take i places))
+  event-places e are whole =
+      let taken : take i places ≡ places_of plan e = take_all i places whole ∙ are in
+      let bound = each_of-map (cost_of_binding plan) (λ (p : BindingId). binding_at plan p.0) (places_of plan e) ∙ ap (each_of (cost_of_binding plan)) (places_of-bound plan e) in
+      sym (ap (Both (Lines 1)) (ap (each_of (cost_at_place plan)) taken ∙ bound))
+
+  -- the event leads to what one place more posts
+  pub adds-place : (leader : ℕ) (b : Binding) (old mid new : List (List EventId)) → i < length places → slice_get plan.bindings (get_or places i (record { 0 = 0 })).0 ≡ Some b →
+      AddsLeader leader (each_of (cost_at_place plan) (take i places)) old mid → AddsLeader leader (cost_of_binding plan b) mid new → AddsLeader leader (each_of (cost_at_place plan) (take (i + 1) places)) old new
+  adds-place leader b old mid new l at first then =
+      adds-more leader (cost_at_place plan) places i (record { 0 = 0 }) old mid new l first (subst (λ (c : Cost). AddsLeader leader c mid new) (sym (place-cost b at)) then)
+
+  pub unmet-place : (p : ℕ → Bool) (b : Binding) → i < length places → slice_get plan.bindings (get_or places i (record { 0 = 0 })).0 ≡ Some b →
+      unmet p (each_of (cost_at_place plan) (take (i + 1) places)) ≡ unmet p (each_of (cost_at_place plan) (take i places)) + unmet p (cost_of_binding plan b)
+  unmet-place p b l at = unmet-each_more p (cost_at_place plan) places i (record { 0 = 0 }) l ∙ ap (λ (c : Cost). unmet p (each_of (cost_at_place plan) (take i places)) + unmet p c) (place-cost b at)
+
+  pub adds-event : (e : EventId) (old new : List (List EventId)) → places ≡ places_of plan e → length places ≤ i →
+      AddsLeader e.0 (each_of (cost_at_place plan) (take i places)) old new → AddsLeader e.0 (cost_of_event plan e.0) old new
+  adds-event e old new are whole adds = subst (λ (c : Cost). AddsLeader e.0 c old new) (sym (event-places e are whole))
+      (adds-both e.0 (Lines 1) (each_of (cost_at_place plan) (take i places)) (Both (Lines 1) (each_of (cost_at_place plan) (take i places))) old old new (λ f. refl) (adds-none e.0 (Lines 1) old (λ f. refl)) adds)
+
+  pub unmet-event : (p : ℕ → Bool) (e : EventId) → places ≡ places_of plan e → length places ≤ i → unmet p (each_of (cost_at_place plan) (take i places)) ≡ unmet p (cost_of_event plan e.0)
+  unmet-event p e are whole = zero-plus (unmet p (each_of (cost_at_place plan) (take i places))) ∙ sym (ap (unmet p) (event-places e are whole))
+    where
+      zero-plus : (n : ℕ) → n ≡ 0 + n
+      zero-plus n = omega arith
+
+-- ---- all events
+
+pub leaders_start : (plan : PlanView) (leaders : List (List EventId)) → leaders ≡ replicate (length plan.events) [] → HasLeaders plan 0 leaders []
+leaders_start plan leaders is = record {
+  count = ap length is ∙ length-replicate (length plan.events) [];
+  left_count = refl;
+  leads = λ f e l.
+      ap (λ (ds : List EventId). times ds e) (ap (λ (ls : List (List EventId)). leaders_to ls f) is ∙ get_or-replicate (length plan.events) f [] [] l)
+      ∙ sym (ap (λ (b : Bool). cond b (occurrences f (cost_of_event plan e)) 0) (le-ltb e 0 (omega arith)));
+  left_is = λ e l. absurd (omega (arith, l));
+}
+
+pub leaders_more : (plan : PlanView) (n posts : ℕ) (leaders new : List (List EventId)) (left : List ℕ) → HasLeaders plan n leaders left → AddsLeader n (cost_of_event plan n) leaders new →
+    posts ≡ unmet (λ _. false) (cost_of_event plan n) → HasLeaders plan (n + 1) new (left ++ posts ∷ [])
+leaders_more plan n posts leaders new left has adds is = record {
+  count = adds.count ∙ has.count;
+  left_count = omega (arith, has.left_count, length_push left posts);
+  leads = λ f e l.
+      let old = has.leads f e l in
+      let now = adds.more f e (omega (arith, l, has.count)) in
+      elim (cases_eq n e) [
+        | inl same ↦
+            let before = ap (λ (b : Bool). cond b (occurrences f (cost_of_event plan e)) 0) (le-ltb e n (omega (arith, same))) in
+            let here = ap (λ (b : Bool). cond b (occurrences f (cost_of_event plan n)) 0) (eq-eqb n e same) in
+            let after = ap (λ (b : Bool). cond b (occurrences f (cost_of_event plan e)) 0) (lt-ltb e (n + 1) (omega (arith, same))) in
+            let cost = ap (λ (k : ℕ). occurrences f (cost_of_event plan k)) same in
+            omega (arith, old, now, before, here, after, cost)
+        | inr other ↦
+            let here = ap (λ (b : Bool). cond b (occurrences f (cost_of_event plan n)) 0) (ne_eqb n e other) in
+            let kept = ap (λ (b : Bool). cond b (occurrences f (cost_of_event plan e)) 0) (alike e other) in
+            omega (arith, old, now, here, kept)
+      ];
+  left_is = λ e l. elim (cases_lt e n) [
+    | inl k ↦ get_or_append_left left (posts ∷ []) 0 e (omega (arith, k, has.left_count)) ∙ has.left_is e k
+    | inr g ↦
+        let here : n ≡ e = omega (arith, l, g) in
+        get_or_push left posts 0 e (has.left_count ∙ here) ∙ is ∙ ap (λ (k : ℕ). unmet (λ _. false) (cost_of_event plan k)) here
+  ];
+}
+  where
+    alike : (e : ℕ) → n ≢ e → nat_lt e n ≡ nat_lt e (n + 1)
+    alike e other = elim (cases_lt e n) [
+      | inl l ↦ lt-ltb e n l ∙ sym (lt-ltb e (n + 1) (omega (arith, l)))
+      | inr g ↦ le-ltb e n g ∙ sym (le-ltb e (n + 1) (omega (arith, g, other)))
+    ]
+
+-- ---- those that lead to the next event of the order
+
+pub meeting_starts : (plan : PlanView) (taken : ℕ) (led : List EventId) (left counts : List ℕ) (order : List EventId) (leaders : List (List EventId)) (f : EventId) → HasLeaders plan (length plan.events) leaders counts →
+    IsOrdering plan taken [] left order → taken < length order → f ≡ get_or order taken f → led ≡ leaders_to leaders f.0 → IsMeeting plan taken led [] left order
+meeting_starts plan taken led left counts order leaders f has o turn f_is led_is =
+    let event : event_at order taken ≡ f.0 = ap (λ (d : EventId). d.0) (sym (get_or_read order taken f turn f_is no_event)) in
+    let below : f.0 < length plan.events = subst (λ (n : ℕ). n < length plan.events) event (o.below taken turn) in
+    record {
+      turn = turn;
+      led_is = λ e.
+          ap (λ (ds : List EventId). times ds e) led_is ∙ has.leads f.0 e below
+          ∙ ap (λ (n : ℕ). cond (nat_lt e (length plan.events)) (occurrences n (cost_of_event plan e)) 0) (sym event);
+      ordering = o;
+    }
+
+-- a slice that is written back into the whole list
+pub written_back : {X : Type 0} (n : ℕ) (new old : List X) → n ≡ length old → length new ≡ length old → take n (new ++ drop (length new) old) ≡ new
+written_back n new old is kept = take_at new (drop (length new) old) n (kept ∙ sym is)

@@ -1,0 +1,14 @@
+pub mod Prices
+pub mod Within
+pub mod Places
+pub mod LeastFitting
+pub mod FirstEvent
+pub mod Verifying
+pub mod Mentioned
+pub mod Ranking
+pub mod Ordering
+pub mod Grounding
+pub mod Leading
+pub mod Firsts
+pub mod Walking
+pub mod Finds

@@ -1,0 +1,299 @@
+-- The order grows: one event that the next one is led to by, then all of them, then the next one.
+use Rattle.std.proofs.Common.{◌≡◌, ◌≢◌, ℕ, zero, suc, ◌+◌, ◌-◌, ◌<◌, ◌≤◌, Bool, true, false, cond, ◌||◌, eqb, ◌==◌, nat_lt, List, [], ◌∷◌, ◌++◌, length, take, set, get_or, slice_index, count_by, refl, sym, ◌∙◌, ap, subst, inl, inr, arith, length-set, take_all, take_at, get_or-set_same, get_or-set_other}
+use Rattle.std.proofs.lemmas.Bool.{cases_lt, cases_eq, eq-eqb, ne_eqb, lt-ltb, le-ltb, or_right, or_from, false≢true}
+use Rattle.std.proofs.lemmas.List.{take-append-le, get_or_append_left, get_or_push, length_push}
+use Rattle.std.proofs.lemmas.List.Sums.{count_by_more_yes, count_by_more_no, sum_by-take-le, sum_by-set}
+use Rattle.std.proofs.lemmas.List.Folds.{list_any-append, list_any_more}
+use Rattle.mpf_plan.specs.PlanView.{PlanView}
+use Rattle.mpf_plan.specs.declared.entries.EventId.{EventId}
+use Rattle.cascade_rank.specs.Cost.{Cost, all_mentioned, cost_of_event}
+use Rattle.cascade_rank.specs.Order.{unmet, occurrences, is_in, times, no_event, event_at, EachAfter, IsOrdering, IsMeeting}
+use Rattle.cascade_rank.proofs.Mentioned.{unmet-none, unmet_met, occurrences-unmet, all_mentioned-weaker}
+
+-- ---- one event more
+
+pub each_push : (P : List EventId → ℕ → Type 0) (xs : List EventId) (x : EventId) → EachAfter P xs → P xs x.0 → EachAfter P (xs ++ x ∷ [])
+each_push P xs x h last i l = elim (cases_lt i (length xs)) [
+  | inl k ↦
+      let before = take-append-le i xs (x ∷ []) (omega (arith, k)) in
+      let here = ap (λ (d : EventId). d.0) (get_or_append_left xs (x ∷ []) no_event i k) in
+      subst (λ (ds : List EventId). P ds (event_at (xs ++ x ∷ []) i)) (sym before) (subst (P (take i xs)) (sym here) (h i k))
+  | inr g ↦
+      let end : length xs ≡ i = omega (arith, l, g, length_push xs x) in
+      let before = take_at xs (x ∷ []) i end in
+      let here = ap (λ (d : EventId). d.0) (get_or_push xs x no_event i end) in
+      subst (λ (ds : List EventId). P ds (event_at (xs ++ x ∷ []) i)) (sym before) (subst (P xs) (sym here) last)
+]
+
+or_false : (b : Bool) → (b || false) ≡ b
+or_false true = refl
+or_false false = refl
+
+pub is_in-push : (xs : List EventId) (x : EventId) (e : ℕ) → is_in (xs ++ x ∷ []) e ≡ (is_in xs e || x.0 == e)
+is_in-push xs x e = list_any-append (λ d. d.0 == e) xs (x ∷ []) ∙ ap (λ (b : Bool). is_in xs e || b) (or_false (x.0 == e))
+
+pub is_in-more : (xs : List EventId) (i e : ℕ) → i < length xs → is_in (take (i + 1) xs) e ≡ (is_in (take i xs) e || event_at xs i == e)
+is_in-more xs i e l = list_any_more (λ d. d.0 == e) xs i no_event l
+
+-- what a test adds to a count
+abbrev pub counted : Bool → ℕ
+counted b = cond b 1 0
+
+pub counted_one : (b : Bool) → b ≡ true → counted b ≡ 1
+counted_one b h = ap counted h
+
+pub counted_none : (b : Bool) → b ≡ false → counted b ≡ 0
+counted_none b h = ap counted h
+
+-- ---- the start: those of which nothing is left from the first
+
+-- the events below `count` are gone through
+pub record IsStart (plan : PlanView) (left : List ℕ) (count : ℕ) (order : List EventId) : Type 0 where
+  pub within : count ≤ length plan.events
+  pub below : EachAfter (λ before e. e < length plan.events) order
+  pub apart : EachAfter (λ before e. is_in before e ≡ false) order
+  pub grounds : EachAfter (λ before e. all_mentioned (is_in before) (cost_of_event plan e) ≡ true) order
+  pub listed : (e : ℕ) → e < count → is_in order e ≡ (slice_index left e == 0)
+  pub above : (e : ℕ) → count ≤ e → is_in order e ≡ false
+  pub room : count_by (λ n. nat_lt 0 n) (take count left) + length order ≡ count
+
+module _ (plan : PlanView) (left : List ℕ) (length_is : length left ≡ length plan.events)
+    (left_is : (e : ℕ) → e < length plan.events → slice_index left e ≡ unmet (λ _. false) (cost_of_event plan e)) where
+  pub start_none : IsStart plan left 0 []
+  start_none = record {
+    within = omega arith;
+    below = λ i l. absurd (omega (arith, l));
+    apart = λ i l. absurd (omega (arith, l));
+    grounds = λ i l. absurd (omega (arith, l));
+    listed = λ e l. absurd (omega (arith, l));
+    above = λ e l. refl;
+    room = refl;
+  }
+
+  module _ (order : List EventId) (x : EventId) (s : IsStart plan left x.0 order) (here : x.0 < length plan.events) where
+    inside : x.0 < length left
+    inside = omega (arith, here, length_is)
+
+    pub start_push : slice_index left x.0 ≡ 0 → IsStart plan left (x.0 + 1) (order ++ x ∷ [])
+    start_push none = record {
+      within = omega (arith, here);
+      below = each_push (λ before e. e < length plan.events) order x s.below here;
+      apart = each_push (λ before e. is_in before e ≡ false) order x s.apart (s.above x.0 (omega arith));
+      grounds = each_push (λ before e. all_mentioned (is_in before) (cost_of_event plan e) ≡ true) order x s.grounds (all_mentioned-weaker (λ _. false) (is_in order) (cost_of_event plan x.0) (λ e m z. absurd (false≢true z)) (unmet-none (λ _. false) (cost_of_event plan x.0) ∙ eq-eqb (unmet (λ _. false) (cost_of_event plan x.0)) 0 (sym (left_is x.0 here) ∙ none)));
+      listed = λ e l. elim (cases_eq e x.0) [
+        | inl same ↦ is_in-push order x e ∙ or_right (is_in order e) (x.0 == e) (eq-eqb x.0 e (sym same)) ∙ sym (eq-eqb (slice_index left e) 0 (ap (slice_index left) same ∙ none))
+        | inr other ↦ is_in-push order x e ∙ ap (λ (b : Bool). is_in order e || b) (ne_eqb x.0 e (λ same. other (sym same))) ∙ or_false (is_in order e) ∙ s.listed e (omega (arith, l, other))
+      ];
+      above = λ e l. is_in-push order x e ∙ or_from (is_in order e) (x.0 == e) (s.above e (omega (arith, l))) (ne_eqb x.0 e (λ same. omega (arith, l, same)));
+      room = omega (arith, s.room, length_push order x, count_by_more_no (λ n. nat_lt 0 n) left x.0 0 inside (le-ltb 0 (slice_index left x.0) (omega (arith, none))));
+    }
+
+    pub start_skip : 0 < slice_index left x.0 → IsStart plan left (x.0 + 1) order
+    start_skip some = record {
+      within = omega (arith, here);
+      below = s.below;
+      apart = s.apart;
+      grounds = s.grounds;
+      listed = λ e l. elim (cases_eq e x.0) [
+        | inl same ↦ ap (is_in order) same ∙ s.above x.0 (omega arith) ∙ sym (ne_eqb (slice_index left e) 0 (λ z. omega (arith, some, sym (ap (slice_index left) same) ∙ z)))
+        | inr other ↦ s.listed e (omega (arith, l, other))
+      ];
+      above = λ e l. s.above e (omega (arith, l));
+      room = omega (arith, s.room, count_by_more_yes (λ n. nat_lt 0 n) left x.0 0 inside (lt-ltb 0 (slice_index left x.0) some));
+    }
+
+  pub start_all : (order : List EventId) → IsStart plan left (length plan.events) order → IsOrdering plan 0 [] left order
+  start_all order s =
+      let whole = take_all (length plan.events) left (omega (arith, length_is)) in
+      let counted = ap (count_by (λ n. nat_lt 0 n)) whole in
+      record {
+        length_is = length_is;
+        within = omega arith;
+        below = s.below;
+        apart = s.apart;
+        grounds = s.grounds;
+        left_is = λ e l. omega (arith, left_is e l);
+        listed = s.listed;
+        room = omega (arith, s.room, counted);
+      }
+
+-- ---- the next event of the order is gone through
+
+module _ (plan : PlanView) (taken : ℕ) (order : List EventId) (led : List EventId) (turn : taken < length order)
+    (led_is : (e : ℕ) → e < length plan.events → times led e ≡ occurrences (event_at order taken) (cost_of_event plan e)) where
+  met : ℕ → Bool
+  met = is_in (take taken order)
+
+  then_met : ℕ → Bool
+  then_met = is_in (take (taken + 1) order)
+
+  module _ (left : List ℕ) (apart : EachAfter (λ before e. is_in before e ≡ false) order) where
+    fresh : is_in (take taken order) (event_at order taken) ≡ false
+    fresh = apart taken turn
+
+    pub unmet_then : (c : Cost) → unmet (is_in (take taken order)) c ≡ unmet (is_in (take (taken + 1) order)) c + occurrences (event_at order taken) c
+    unmet_then c = unmet_met (is_in (take taken order)) (is_in (take (taken + 1) order)) (event_at order taken) fresh (λ e. is_in-more order taken e turn) c
+
+  -- one of those that lead to it
+  module _ (left : List ℕ) (i : ℕ) (x : EventId) (there : i < length led) (x_is : get_or led i no_event ≡ x) (below : x.0 < length plan.events)
+      (o : IsOrdering plan taken (take i led) left order) where
+    inside_left : x.0 < length left
+    inside_left = omega (arith, below, o.length_is)
+
+    one_more : times (take (i + 1) led) x.0 ≡ times (take i led) x.0 + 1
+    one_more = count_by_more_yes (λ d. d.0 == x.0) led i no_event there (eq-eqb (get_or led i no_event).0 x.0 (ap (λ (d : EventId). d.0) x_is))
+
+    no_more : (e : ℕ) → e ≢ x.0 → times (take (i + 1) led) e ≡ times (take i led) e
+    no_more e other = count_by_more_no (λ d. d.0 == e) led i no_event there (ne_eqb (get_or led i no_event).0 e (λ same. other (sym same ∙ ap (λ (d : EventId). d.0) x_is)))
+
+    no_more_than : times (take (i + 1) led) x.0 ≤ occurrences (event_at order taken) (cost_of_event plan x.0)
+    no_more_than = omega (arith, sum_by-take-le (λ d. cond (d.0 == x.0) 1 0) led (i + 1), led_is x.0 below)
+
+    -- something is left of it, since it leads to an event that is not gone through
+    pub some_left : 0 < slice_index left x.0
+    some_left =
+        let still = occurrences-unmet (is_in (take taken order)) (event_at order taken) (cost_of_event plan x.0) (o.apart taken turn) in
+        omega (arith, still, o.left_is x.0 below, one_more, no_more_than)
+
+    less : List ℕ
+    less = set left x.0 (slice_index left x.0 - 1)
+
+    less_here : slice_index (set left x.0 (slice_index left x.0 - 1)) x.0 ≡ slice_index left x.0 - 1
+    less_here = get_or-set_same left x.0 (slice_index left x.0 - 1) 0 inside_left
+
+    less_there : (e : ℕ) → e ≢ x.0 → slice_index (set left x.0 (slice_index left x.0 - 1)) e ≡ slice_index left e
+    less_there e other = get_or-set_other left x.0 e (slice_index left x.0 - 1) 0 other
+
+    less_is : (e : ℕ) → e < length plan.events → slice_index (set left x.0 (slice_index left x.0 - 1)) e + times (take (i + 1) led) e ≡ unmet (is_in (take taken order)) (cost_of_event plan e)
+    less_is e l = elim (cases_eq e x.0) [
+      | inl same ↦ subst (λ (y : ℕ). slice_index (set left x.0 (slice_index left x.0 - 1)) y + times (take (i + 1) led) y ≡ unmet (is_in (take taken order)) (cost_of_event plan y)) (sym same) (omega (arith, less_here, one_more, some_left, o.left_is x.0 below))
+      | inr other ↦ omega (arith, less_there e other, no_more e other, o.left_is e l)
+    ]
+
+    count_less : count_by (λ n. nat_lt 0 n) (set left x.0 (slice_index left x.0 - 1)) + 1 ≡ count_by (λ n. nat_lt 0 n) left + cond (nat_lt 0 (slice_index left x.0 - 1)) 1 0
+    count_less =
+        let total = sum_by-set (λ n. cond (nat_lt 0 n) 1 0) left x.0 (slice_index left x.0 - 1) 0 inside_left in
+        let was = counted_one (nat_lt 0 (slice_index left x.0)) (lt-ltb 0 (slice_index left x.0) some_left) in
+        omega (arith, total, was)
+
+    not_listed : is_in order x.0 ≡ false
+    not_listed = o.listed x.0 below ∙ ne_eqb (slice_index left x.0) 0 (λ z. omega (arith, z, some_left))
+
+    -- more of it is left
+    pub keeps : slice_index left x.0 - 1 ≢ 0 → IsOrdering plan taken (take (i + 1) led) (set left x.0 (slice_index left x.0 - 1)) order
+    keeps more = record {
+      length_is = length-set left x.0 (slice_index left x.0 - 1) ∙ o.length_is;
+      within = o.within;
+      below = o.below;
+      apart = o.apart;
+      grounds = o.grounds;
+      left_is = less_is;
+      listed = λ e l. elim (cases_eq e x.0) [
+        | inl same ↦ ap (is_in order) same ∙ not_listed ∙ sym (ne_eqb (slice_index (set left x.0 (slice_index left x.0 - 1)) e) 0 (λ z. more (sym less_here ∙ sym (ap (slice_index (set left x.0 (slice_index left x.0 - 1))) same) ∙ z)))
+        | inr other ↦ o.listed e l ∙ ap (λ (n : ℕ). eqb n 0) (sym (less_there e other))
+      ];
+      room =
+          let still = counted_one (nat_lt 0 (slice_index left x.0 - 1)) (lt-ltb 0 (slice_index left x.0 - 1) (omega (arith, more))) in
+          omega (arith, o.room, count_less, still);
+    }
+
+    -- each event that it leads to is in the order
+    all_met : slice_index left x.0 - 1 ≡ 0 → all_mentioned (is_in order) (cost_of_event plan x.0) ≡ true
+    all_met none =
+        let is = less_is x.0 below in
+        let rest = unmet_then left o.apart (cost_of_event plan x.0) in
+        let nothing : unmet (is_in (take (taken + 1) order)) (cost_of_event plan x.0) ≡ 0 = omega (arith, is, rest, less_here, none, no_more_than) in
+        let before = unmet-none (is_in (take (taken + 1) order)) (cost_of_event plan x.0) ∙ eq-eqb (unmet (is_in (take (taken + 1) order)) (cost_of_event plan x.0)) 0 nothing in
+        all_mentioned-weaker (is_in (take (taken + 1) order)) (is_in order) (cost_of_event plan x.0) (λ e m. is_in-take order (taken + 1) e) before
+      where
+        is_in-take : (ds : List EventId) (k e : ℕ) → is_in (take k ds) e ≡ true → is_in ds e ≡ true
+        is_in-take ds zero e h = absurd (false≢true h)
+        is_in-take [] (suc k) e h = h
+        is_in-take (d ∷ ds) (suc k) e h = by (d.0 == e) h (is_in-take ds k e)
+          where
+            by : (b : Bool) → (b || is_in (take k ds) e) ≡ true → (is_in (take k ds) e ≡ true → is_in ds e ≡ true) → (b || is_in ds e) ≡ true
+            by true h' ih = refl
+            by false h' ih = ih h'
+
+    -- nothing is left of it, and it goes last
+    pub lists : slice_index left x.0 - 1 ≡ 0 → IsOrdering plan taken (take (i + 1) led) (set left x.0 (slice_index left x.0 - 1)) (order ++ x ∷ [])
+    lists none =
+        let front = take-append-le taken order (x ∷ []) o.within in
+        record {
+          length_is = length-set left x.0 (slice_index left x.0 - 1) ∙ o.length_is;
+          within = omega (arith, o.within, length_push order x);
+          below = each_push (λ before e. e < length plan.events) order x o.below below;
+          apart = each_push (λ before e. is_in before e ≡ false) order x o.apart not_listed;
+          grounds = each_push (λ before e. all_mentioned (is_in before) (cost_of_event plan e) ≡ true) order x o.grounds (all_met none);
+          left_is = λ e l. less_is e l ∙ ap (λ (ds : List EventId). unmet (is_in ds) (cost_of_event plan e)) (sym front);
+          listed = λ e l. elim (cases_eq e x.0) [
+            | inl same ↦ is_in-push order x e ∙ or_right (is_in order e) (x.0 == e) (eq-eqb x.0 e (sym same)) ∙ sym (eq-eqb (slice_index (set left x.0 (slice_index left x.0 - 1)) e) 0 (ap (slice_index (set left x.0 (slice_index left x.0 - 1))) same ∙ less_here ∙ none))
+            | inr other ↦ is_in-push order x e ∙ ap (λ (b : Bool). is_in order e || b) (ne_eqb x.0 e (λ same. other (sym same))) ∙ or_false (is_in order e) ∙ o.listed e l ∙ ap (λ (n : ℕ). eqb n 0) (sym (less_there e other))
+          ];
+          room =
+              let gone = counted_none (nat_lt 0 (slice_index left x.0 - 1)) (le-ltb 0 (slice_index left x.0 - 1) (omega (arith, none))) in
+              omega (arith, o.room, count_less, gone, length_push order x);
+        }
+
+  -- all of them are gone through
+  pub next_turn : (left : List ℕ) → IsOrdering plan taken led left order → IsOrdering plan (taken + 1) [] left order
+  next_turn left o = record {
+    length_is = o.length_is;
+    within = omega (arith, turn);
+    below = o.below;
+    apart = o.apart;
+    grounds = o.grounds;
+    left_is = λ e l. omega (arith, o.left_is e l, unmet_then left o.apart (cost_of_event plan e), led_is e l);
+    listed = o.listed;
+    room = o.room;
+  }
+
+-- ---- the same, of those that lead to the next event from the first
+
+module _ (plan : PlanView) (taken : ℕ) (led : List EventId) where
+  occurs : List EventId → ℕ → ℕ
+  occurs order e = occurrences (event_at order taken) (cost_of_event plan e)
+
+  led_of : (order : List EventId) → ((e : ℕ) → times led e ≡ cond (nat_lt e (length plan.events)) (occurrences (event_at order taken) (cost_of_event plan e)) 0) → (e : ℕ) → e < length plan.events → times led e ≡ occurrences (event_at order taken) (cost_of_event plan e)
+  led_of order is e l = is e ∙ ap (λ (b : Bool). cond b (occurrences (event_at order taken) (cost_of_event plan e)) 0) (lt-ltb e (length plan.events) l)
+
+  -- each of them is an event of the plan
+  pub led_below : (done : List EventId) (left : List ℕ) (order : List EventId) → IsMeeting plan taken led done left order → (i : ℕ) → i < length led → (get_or led i no_event).0 < length plan.events
+  led_below done left order m i there = elim (cases_lt (get_or led i no_event).0 (length plan.events)) [
+    | inl l ↦ l
+    | inr g ↦
+        let e : ℕ = (get_or led i no_event).0 in
+        let one = count_by_more_yes (λ d. d.0 == (get_or led i no_event).0) led i no_event there (eq-eqb (get_or led i no_event).0 (get_or led i no_event).0 refl) in
+        let all = sum_by-take-le (λ d. cond (d.0 == (get_or led i no_event).0) 1 0) led (i + 1) in
+        let none = m.led_is (get_or led i no_event).0 ∙ ap (λ (b : Bool). cond b (occurrences (event_at order taken) (cost_of_event plan (get_or led i no_event).0)) 0) (le-ltb (get_or led i no_event).0 (length plan.events) g) in
+        absurd (omega (arith, one, all, none))
+  ]
+
+  module _ (left : List ℕ) (order : List EventId) (i : ℕ) (x : EventId) (there : i < length led) (x_is : get_or led i no_event ≡ x) (m : IsMeeting plan taken led (take i led) left order) where
+    here : x.0 < length plan.events
+    here = subst (λ (d : EventId). d.0 < length plan.events) x_is (led_below (take i led) left order m i there)
+
+    pub meets_some : 0 < slice_index left x.0
+    meets_some = some_left plan taken order led m.turn (led_of order m.led_is) left i x there x_is here m.ordering
+
+    pub meets_inside : x.0 < length left
+    meets_inside = omega (arith, here, m.ordering.length_is)
+
+    pub meets_keeps : slice_index left x.0 - 1 ≢ 0 → IsMeeting plan taken led (take (i + 1) led) (set left x.0 (slice_index left x.0 - 1)) order
+    meets_keeps more = record {
+      turn = m.turn;
+      led_is = m.led_is;
+      ordering = keeps plan taken order led m.turn (led_of order m.led_is) left i x there x_is here m.ordering more;
+    }
+
+    pub meets_lists : slice_index left x.0 - 1 ≡ 0 → IsMeeting plan taken led (take (i + 1) led) (set left x.0 (slice_index left x.0 - 1)) (order ++ x ∷ [])
+    meets_lists none =
+        let same : event_at order taken ≡ event_at (order ++ x ∷ []) taken = sym (ap (λ (d : EventId). d.0) (get_or_append_left order (x ∷ []) no_event taken m.turn)) in
+        record {
+          turn = omega (arith, m.turn, length_push order x);
+          led_is = λ e. m.led_is e ∙ ap (λ (f : ℕ). cond (nat_lt e (length plan.events)) (occurrences f (cost_of_event plan e)) 0) same;
+          ordering = lists plan taken order led m.turn (led_of order m.led_is) left i x there x_is here m.ordering none;
+        }
+
+  pub meets_all : (left : List ℕ) (order : List EventId) → IsMeeting plan taken led led left order → IsOrdering plan (taken + 1) [] left order
+  meets_all left order m = next_turn plan taken order led m.turn (led_of order m.led_is) left m.ordering

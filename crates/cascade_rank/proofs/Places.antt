@@ -1,0 +1,60 @@
+-- What is bound to an event costs what stands at its places costs.
+use Rattle.std.proofs.Common.{◌≡◌, ℕ, ◌+◌, ◌<◌, ◌≤◌, ◌==◌, List, [], ◌∷◌, length, map, take, get_or, Some, refl, sym, ap, ◌∙◌, subst, arith}
+use Rattle.std.specs.List.{All, slice_get}
+use Rattle.std.proofs.lemmas.Option.{get_or_from_slice_get, slice_get_within}
+use Rattle.std.proofs.lemmas.List.{length-map, take_all}
+use Rattle.std.proofs.lemmas.List.Elements.{All-get_or}
+use Rattle.std.proofs.lemmas.List.Sums.{length-filter, count_by-le-length}
+use Rattle.mpf_plan.specs.PlanView.{PlanView, no_binding, binding_at, places_of}
+use Rattle.mpf_plan.specs.Valid.{IsValid, IsBindingWithin}
+use Rattle.mpf_plan.specs.declared.entries.EventId.{EventId}
+use Rattle.mpf_plan.specs.declared.entries.BindingId.{BindingId}
+use Rattle.mpf_plan.specs.declared.entries.Binding.{Binding}
+use Rattle.mpf_plan.proofs.BoundTo.{places_of-bound, places_of-within}
+use Rattle.cascade_rank.specs.Cost.{Cost, Both, price, each_of, cost_of_binding, cost_of_event}
+use Rattle.cascade_rank.proofs.Prices.{price-each_more}
+
+each_of-map : {X Y : Type 0} (f : Y → Cost) (g : X → Y) (xs : List X) → each_of (λ x. f (g x)) xs ≡ each_of f (map g xs)
+each_of-map f g [] = refl
+each_of-map f g (x ∷ xs) = ap (Both (f (g x))) (each_of-map f g xs)
+
+-- a binding of a valid plan is within it
+pub binding-within : (plan : PlanView) → IsValid plan → (n : ℕ) (b : Binding) → slice_get plan.bindings n ≡ Some b → IsBindingWithin plan b
+binding-within plan valid n b at =
+    subst (IsBindingWithin plan) (get_or_from_slice_get plan.bindings n b b at) (All-get_or (IsBindingWithin plan) plan.bindings n b (slice_get_within plan.bindings n b at) valid.bindings)
+
+module _ (plan : PlanView) where
+  -- what the binding at a place costs
+  abbrev pub cost_at_place : BindingId → Cost
+  cost_at_place p = cost_of_binding plan (binding_at plan p.0)
+
+  -- a line and what stands at the first places costs, and at one place more
+  pub price-places_more : (w : ℕ → ℕ) (places : List BindingId) (i : ℕ) (b : Binding) (total cost : ℕ) → i < length places
+      → slice_get plan.bindings (get_or places i (record { 0 = 0 })).0 ≡ Some b → cost ≡ price w (cost_of_binding plan b)
+      → total ≡ 1 + price w (each_of cost_at_place (take i places)) → total + cost ≡ 1 + price w (each_of cost_at_place (take (i + 1) places))
+  price-places_more w places i b total cost h at is so_far =
+      let place : BindingId = get_or places i (record { 0 = 0 }) in
+      let here = ap (λ (x : Binding). price w (cost_of_binding plan x)) (get_or_from_slice_get plan.bindings place.0 b no_binding at) in
+      omega (arith, price-each_more w cost_at_place places i (record { 0 = 0 }) h, here, is, so_far)
+
+  module _ (e : EventId) (places : List BindingId) (are : places ≡ places_of plan e) where
+    -- each place is that of a binding
+    pub place-within : (i : ℕ) → i < length places → (get_or places i (record { 0 = 0 })).0 < length plan.bindings
+    place-within i h =
+        All-get_or (λ p. p.0 < length plan.bindings) places i (record { 0 = 0 }) h (subst (λ (ps : List BindingId). All (λ p. p.0 < length plan.bindings) ps) (sym are) (places_of-within plan e))
+
+    -- there are no more places than bindings
+    pub places-few : length places ≤ length plan.bindings
+    places-few =
+        let same = length-map (places_of plan e) (λ (p : BindingId). binding_at plan p.0) in
+        let whole = ap length (places_of-bound plan e) in
+        let passed = length-filter (λ b. b.event.0 == e.0) plan.bindings in
+        let few = count_by-le-length (λ b. b.event.0 == e.0) plan.bindings in
+        omega (arith, ap length are, same, whole, passed, few)
+
+    -- once all places are gone through
+    pub price-places_all : (w : ℕ → ℕ) (i total : ℕ) → length places ≤ i → total ≡ 1 + price w (each_of cost_at_place (take i places)) → total ≡ price w (cost_of_event plan e.0)
+    price-places_all w i total whole so_far =
+        let taken : take i places ≡ places_of plan e = take_all i places whole ∙ are in
+        let bound = each_of-map (cost_of_binding plan) (λ (p : BindingId). binding_at plan p.0) (places_of plan e) ∙ ap (each_of (cost_of_binding plan)) (places_of-bound plan e) in
+        so_far ∙ ap (λ (c : Cost). 1 + price w c) (ap (each_of cost_at_place) taken ∙ bound)

@@ -1,0 +1,72 @@
+-- Ranks and groundedness, round by round.
+use Rattle.std.proofs.Common.{◌≡◌, ℕ, zero, suc, ◌+◌, ◌-◌, ◌≤◌, ◌<◌, true, List, length, slice_index, subst, arith}
+use Rattle.std.proofs.lemmas.Bool.{false≢true}
+use Rattle.mpf_plan.specs.PlanView.{PlanView, bound_to}
+use Rattle.mpf_plan.specs.Valid.{IsValid}
+use Rattle.cascade_rank.specs.Cost.{mentions, each_of, cost_of_binding, cost_of_event}
+use Rattle.cascade_rank.specs.Weights.{IsFitting}
+use Rattle.cascade_rank.specs.LeadsTo.{leads, grounded_in, grounded, IsCycle, HasNoFit}
+use Rattle.cascade_rank.specs.Ranks.{rank_in, rank}
+use Rattle.cascade_rank.proofs.Prices.{price_at_most, price_agrees, price-mentioned}
+use Rattle.cascade_rank.proofs.Within.{IsBelow-mentioned, IsBelow-event}
+use Rattle.cascade_rank.proofs.Mentioned.{all_mentioned_at, all_mentioned-weaker}
+
+module _ (plan : PlanView) where
+  -- what is grounded stays grounded
+  pub grounded-more : (k e : ℕ) → grounded_in plan k e ≡ true → grounded_in plan (suc k) e ≡ true
+  grounded-more zero e h = absurd (false≢true h)
+  grounded-more (suc k) e h = all_mentioned-weaker (grounded_in plan k) (grounded_in plan (suc k)) (cost_of_event plan e) (λ f m. grounded-more k f) h
+
+  pub grounded-later : (k j e : ℕ) → grounded_in plan k e ≡ true → grounded_in plan (k + j) e ≡ true
+  grounded-later k zero e h = let same : k + 0 ≡ k = omega arith in rw same h
+  grounded-later k (suc j) e h = let same : k + suc j ≡ suc (k + j) = omega arith in rw same (grounded-more (k + j) e (grounded-later k j e h))
+
+  -- a grounded event keeps its rank
+  pub rank-stable : (k e : ℕ) → grounded_in plan k e ≡ true → rank_in plan (suc k) e ≡ rank_in plan k e
+  rank-stable zero e h = absurd (false≢true h)
+  rank-stable (suc k) e h =
+      price_agrees (rank_in plan (suc k)) (rank_in plan k) (cost_of_event plan e) (λ f m. rank-stable k f (all_mentioned_at (grounded_in plan k) (cost_of_event plan e) f h m))
+
+module _ (plan : PlanView) (valid : IsValid plan) where
+  pub mentioned_below : (e f : ℕ) → mentions f (cost_of_event plan e) ≡ true → f < length plan.events
+  mentioned_below e f m = IsBelow-mentioned (length plan.events) (cost_of_event plan e) f (IsBelow-event plan valid e) m
+
+  -- no fitting weights are below the ranks of any round
+  pub rank-least : (v : ℕ → ℕ) → IsFitting plan v → (k e : ℕ) → e < length plan.events → rank_in plan k e ≤ v e
+  rank-least v fit zero e h = omega arith
+  rank-least v fit (suc k) e h =
+      let less = price_at_most (rank_in plan k) v (cost_of_event plan e) (λ f m. rank-least v fit k f (mentioned_below e f m)) in
+      let fits = fit e h in
+      omega (arith, less, fits)
+
+  -- where all are grounded, the ranks fit
+  pub rank-fits : ((e : ℕ) → e < length plan.events → grounded plan e ≡ true) → IsFitting plan (rank plan)
+  rank-fits all e h =
+      let same = rank-stable plan (length plan.events) e (all e h) in
+      omega (arith, same)
+
+  -- what an event leads to weighs less
+  lead_falls : (v : ℕ → ℕ) → IsFitting plan v → (e f : ℕ) → e < length plan.events → leads plan e f ≡ true → v f < v e
+  lead_falls v fit e f l m =
+      let fits = fit e l in
+      let cost = price-mentioned v (each_of (cost_of_binding plan) (bound_to plan (record { 0 = e }))) f m in
+      omega (arith, fits, cost)
+
+  cycle_falls : (v : ℕ → ℕ) → IsFitting plan v → (events : List ℕ) → IsCycle plan events → slice_index events 0 < length plan.events → (i : ℕ) → i < length events →
+      (v (slice_index events i) + i ≤ v (slice_index events 0)) × (slice_index events i < length plan.events)
+  cycle_falls v fit events c first zero l = (omega arith, first)
+  cycle_falls v fit events c first (suc i) l =
+      let before = cycle_falls v fit events c first i (omega arith) in
+      let one : i + 1 ≡ suc i = omega arith in
+      let next : leads plan (slice_index events i) (slice_index events (suc i)) ≡ true = subst (λ (n : ℕ). leads plan (slice_index events i) (slice_index events n) ≡ true) one (c.next i (omega arith)) in
+      let falls = lead_falls v fit (slice_index events i) (slice_index events (suc i)) before.1 next in
+      (omega (arith, before.0, falls), mentioned_below (slice_index events i) (slice_index events (suc i)) next)
+
+  -- no weights fit a plan with a cycle
+  pub cycle-no_fit : (events : List ℕ) → IsCycle plan events → HasNoFit plan
+  cycle-no_fit events c v fit =
+      let some = c.some in
+      let first = mentioned_below (slice_index events (length events - 1)) (slice_index events 0) c.back in
+      let last = cycle_falls v fit events c first (length events - 1) (omega arith) in
+      let falls = lead_falls v fit (slice_index events (length events - 1)) (slice_index events 0) last.1 c.back in
+      omega (arith, last.0, falls)

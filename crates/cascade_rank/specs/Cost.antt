@@ -1,0 +1,85 @@
+-- What a thing costs: the lines that it prints and the weights of the events that it posts, added up or compared.
+use Rattle.std.specs.Prelude.{ℕ, ◌+◌, max, Bool, true, false, ◌&&◌, ◌||◌, ◌==◌, if◌then◌else◌, List, [], ◌∷◌}
+use Rattle.mpf_plan.specs.PlanView.{PlanView, Switch, list_at, bound_to}
+use Rattle.mpf_plan.specs.declared.entries.EventId.{EventId}
+use Rattle.mpf_plan.specs.declared.entries.ListId.{ListId}
+use Rattle.mpf_plan.specs.declared.entries.Action.{Action}
+use Rattle.mpf_plan.specs.declared.entries.Action.TheVariants.{Post}
+use Rattle.mpf_plan.specs.declared.entries.Target.{Target}
+use Rattle.mpf_plan.specs.declared.entries.Target.TheVariants.{Run}
+use Rattle.mpf_plan.specs.declared.entries.Binding.{Binding}
+
+pub data Cost : Type 0 where
+  Lines : (n : ℕ) → Cost
+  Weight : (e : ℕ) → Cost
+  Both : (a b : Cost) → Cost
+  Greater : (a b : Cost) → Cost
+
+-- the price of a cost where the event e weighs w e: a line is 1
+abbrev pub price : (ℕ → ℕ) → Cost → ℕ
+price w (Lines n) = n
+price w (Weight e) = w e
+price w (Both a b) = price w a + price w b
+price w (Greater a b) = max (price w a) (price w b)
+
+-- whether the weight of e stands in the cost
+abbrev pub mentions : ℕ → Cost → Bool
+mentions e (Lines n) = false
+mentions e (Weight f) = e == f
+mentions e (Both a b) = mentions e a || mentions e b
+mentions e (Greater a b) = mentions e a || mentions e b
+
+-- whether p holds of each event whose weight stands in the cost
+abbrev pub all_mentioned : (ℕ → Bool) → Cost → Bool
+all_mentioned p (Lines n) = true
+all_mentioned p (Weight e) = p e
+all_mentioned p (Both a b) = all_mentioned p a && all_mentioned p b
+all_mentioned p (Greater a b) = all_mentioned p a && all_mentioned p b
+
+-- these, one after another
+abbrev pub each_of : {X : Type 0} → (X → Cost) → List X → Cost
+each_of cost [] = Lines 0
+each_of cost (x ∷ xs) = Both (cost x) (each_of cost xs)
+
+-- the dearest of these
+abbrev pub dearest_of : {X : Type 0} → (X → Cost) → List X → Cost
+dearest_of cost [] = Lines 0
+dearest_of cost (x ∷ xs) = Greater (cost x) (dearest_of cost xs)
+
+-- a post costs the weight of its event
+abbrev pub cost_of_post : EventId → Cost
+cost_of_post e = Weight e.0
+
+abbrev pub cost_of_action : Action → Cost
+cost_of_action (Post e) = cost_of_post e
+
+-- the actions of an effect list
+abbrev pub cost_of_list : PlanView → ListId → Cost
+cost_of_list plan l = each_of cost_of_action (list_at plan l)
+
+abbrev pub cost_of_target : PlanView → Target → Cost
+cost_of_target plan (Run l) = cost_of_list plan l
+
+-- what a binding costs: no owner and no priority is looked at
+abbrev pub cost_of_binding : PlanView → Binding → Cost
+cost_of_binding plan b = cost_of_target plan b.target
+
+-- an event costs its line and all that is bound to it
+abbrev pub cost_of_event : PlanView → ℕ → Cost
+cost_of_event plan e = Both (Lines 1) (each_of (cost_of_binding plan) (bound_to plan (record { 0 = e })))
+
+-- what a switch posts when it becomes active, or inactive
+abbrev pub posts_of : Bool → Switch → List EventId
+posts_of active s = if active then s.active else s.inactive
+
+-- to accept a switch as active or inactive costs its line and its posts
+abbrev pub cost_of_acceptance : Bool → Switch → Cost
+cost_of_acceptance active s = Both (Lines 1) (each_of cost_of_post (posts_of active s))
+
+-- the dearer of the two
+abbrev pub cost_of_switch : Switch → Cost
+cost_of_switch s = Greater (cost_of_acceptance true s) (cost_of_acceptance false s)
+
+-- the dearest stimulus
+abbrev pub cost_of_stimuli : PlanView → Cost
+cost_of_stimuli plan = dearest_of cost_of_switch plan.switches

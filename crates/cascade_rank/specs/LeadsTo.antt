@@ -1,0 +1,34 @@
+-- Which events an event leads to, and events that lead to each other without end.
+use Rattle.std.specs.Prelude.{◌≡◌, ℕ, zero, suc, ◌+◌, ◌-◌, ◌<◌, Bool, true, false, not, List, length, slice_index}
+use Rattle.std.specs.List.{All}
+use Rattle.mpf_plan.specs.PlanView.{PlanView}
+use Rattle.cascade_rank.specs.Cost.{mentions, all_mentioned, cost_of_event}
+use Rattle.cascade_rank.specs.Weights.{IsFitting}
+
+-- e leads to f where the weight of f stands in what e costs
+abbrev pub leads : PlanView → ℕ → ℕ → Bool
+leads plan e f = mentions f (cost_of_event plan e)
+
+-- In round 0 no event is grounded, in each later one those that lead only to events grounded in the round before.
+abbrev pub grounded_in : PlanView → ℕ → ℕ → Bool
+grounded_in plan zero e = false
+grounded_in plan (suc k) e = all_mentioned (grounded_in plan k) (cost_of_event plan e)
+
+-- after as many rounds as there are events
+abbrev pub grounded : PlanView → ℕ → Bool
+grounded plan e = grounded_in plan (length plan.events) e
+
+-- an event from which one can go on without end
+abbrev pub is_open : PlanView → ℕ → Bool
+is_open plan e = not (grounded plan e)
+
+-- events each of which leads to the next, and the last to the first
+pub record IsCycle (plan : PlanView) (events : List ℕ) : Type 0 where
+  pub some : 0 < length events
+  pub within : All (λ e. e < length plan.events) events
+  pub next : (i : ℕ) → i + 1 < length events → leads plan (slice_index events i) (slice_index events (i + 1)) ≡ true
+  pub back : leads plan (slice_index events (length events - 1)) (slice_index events 0) ≡ true
+
+-- no weights fit
+abbrev pub HasNoFit : PlanView → Type 0
+HasNoFit plan = (w : ℕ → ℕ) → ¬ (IsFitting plan w)

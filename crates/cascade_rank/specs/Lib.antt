@@ -1,0 +1,12 @@
+pub mod Cost
+pub mod Weights
+pub mod LeadsTo
+pub mod Ranks
+pub mod Cycle
+pub mod Finding
+pub mod View
+pub mod Found
+pub mod Verified
+pub mod Order
+pub mod Lowest
+pub mod Leaders

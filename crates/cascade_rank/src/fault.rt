@@ -1,0 +1,40 @@
+//! Why there are no weights, or why these do not serve.
+
+ghost use Rattle.std.specs.Prelude.{◌≡◌};
+ghost use Rattle.cascade_rank.specs.declared.fault.RankFault.TheVariants.{NoMemory};
+
+use mpf_plan::EventId;
+use std::alloc::{AllocError, AllocFailed};
+
+/// Why there are no weights, or why these do not serve.
+#[derive(Debug, Drop)]
+pub enum RankFault {
+    /// Memory ran out.
+    NoMemory,
+    /// Each of these events leads to the next, and the last to the first. They are those to which
+    /// the walk comes that begins at the lowest-numbered event from which one can go on without
+    /// end, and goes on each time to the lowest-numbered such event.
+    Cycle(Vec<EventId>),
+    /// A weight, or what a stimulus leads to at most, is above 10,000.
+    BoundTooLarge,
+    /// The lowest-numbered event that weighs less than it needs, and what it needs.
+    Short(EventId, u128),
+    /// There are not as many weights as events.
+    WrongEvents,
+}
+
+impl From<AllocError> for RankFault {
+    ghost from_gives = { λ _ e. e ≡ NoMemory };
+
+    fn from(_e: AllocError) -> RankFault {
+        RankFault::NoMemory
+    }
+}
+
+impl<T: Drop> From<AllocFailed<T>> for RankFault {
+    ghost from_gives = { λ _ e. e ≡ NoMemory };
+
+    fn from(_e: AllocFailed<T>) -> RankFault {
+        RankFault::NoMemory
+    }
+}

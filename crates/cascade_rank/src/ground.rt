@@ -1,0 +1,66 @@
+//! The order in which events can be weighed: each behind those to which it leads.
+
+ghost use Rattle.std.specs.Prelude.{◌≡◌, ℕ, ◌<◌, false, [], length, slice_index, IfOk};
+ghost use Rattle.mpf_plan.specs.Valid.{IsValid};
+ghost use Rattle.cascade_rank.specs.Cost.{cost_of_event};
+ghost use Rattle.cascade_rank.specs.Order.{unmet, IsOrdering, CanMeet, Meets};
+
+use crate::leaders::count_posts;
+use mpf_plan::{EventId, Plan};
+use std::alloc::{AllocError, Global};
+
+/// The events from which one cannot go on without end, and what is left of each event.
+#[derive(Drop)]
+pub(crate) struct Grounding {
+    /// Each event behind those to which it leads.
+    pub(crate) order: Vec<EventId>,
+    /// How many posts of each event are of events that are not in the order.
+    pub(crate) left: Vec<u128>,
+}
+
+/// The order is at once the queue: an event goes last when all to which it leads are gone through.
+pub(crate) fn ground(alloc: Global, plan: &Plan) -> Result<Grounding, AllocError>
+    ensures order { IfOk result (λ grounding. IsOrdering plan.now (length grounding.order.items) [] grounding.left.items grounding.order.items) }
+    ensures valid { IfOk result (λ _. IsValid plan.now) }
+{
+    let (leaders, mut left) = count_posts(alloc, plan)?;
+    let mut order = first_grounded(alloc, plan, &left)?;
+    let mut taken = 0;
+    while taken < order.len() {
+        let event = order[taken];
+        meet(leaders.of(event), &mut left, &mut order)?;
+        taken += 1;
+    }
+    Ok(Grounding { order, left })
+}
+
+/// The events that lead to none, in the order of their numbers.
+fn first_grounded(alloc: Global, plan: &Plan, left: &[u128]) -> Result<Vec<EventId>, AllocError>
+    requires count { length left.now ≡ length plan.now.events }
+    requires left { (e : ℕ) → e < length plan.now.events → slice_index left.now e ≡ unmet (λ _. false) (cost_of_event plan.now e) }
+    ensures order { IfOk result (λ order. IsOrdering plan.now 0 [] left.now order.items) }
+    ensures valid { IfOk result (λ _. IsValid plan.now) }
+{
+    let mut order = Vec::new(alloc);
+    for number in 0..plan.event_count() {
+        if left[number] == 0 {
+            order.push(EventId(number as u16))?;
+        }
+    }
+    Ok(order)
+}
+
+/// One post less is left of each of these events, and where none is left the event goes last.
+fn meet(led: &[EventId], left: &mut [u128], order: &mut Vec<EventId>) -> Result<(), AllocError>
+    requires { CanMeet led.now left.old order.old.items }
+    ensures { IfOk result (λ _. Meets led.now led.now left.old order.old.items left.new order.new.items) }
+{
+    for event in led {
+        let place = event.0 as usize;
+        left[place] -= 1;
+        if left[place] == 0 {
+            order.push(*event)?;
+        }
+    }
+    Ok(())
+}

@@ -1,0 +1,136 @@
+//! Which events lead to each event.
+
+ghost use Rattle.std.specs.Prelude.{◌≡◌, ◌^◌, ◌<◌, ◌≤◌, false, length, IfOk};
+ghost use Rattle.std.specs.List.{All};
+ghost use Rattle.mpf_plan.specs.Valid.{IsActionWithin, IsTargetWithin};
+ghost use Rattle.cascade_rank.specs.Cost.{each_of, cost_of_action, cost_of_target, cost_of_event};
+ghost use Rattle.cascade_rank.specs.Order.{unmet};
+ghost use Rattle.cascade_rank.specs.Leaders.{AddsLeader, HasLeaders};
+
+use mpf_plan::{Action, EventId, Plan, Target};
+use std::alloc::{AllocError, Global};
+use std::marker::Model;
+
+/// Which events lead to each event, each as often as it does.
+#[derive(Drop)]
+pub(crate) struct Leaders {
+    lists: Vec<Vec<EventId>>,
+}
+
+impl Model for Leaders {
+    ghost use Rattle.std.specs.Prelude.{List, map};
+    ghost use Rattle.mpf_plan.specs.declared.entries.EventId.{EventId};
+
+    ghost Value = { List (List EventId) };
+
+    ghost view = { λ l. map (λ v. v.items) l.lists.items };
+}
+
+impl Leaders {
+    ghost use Rattle.std.specs.Prelude.{[], ◌∷◌, ◌++◌, replicate, slice_set, OnOk};
+    ghost use Rattle.cascade_rank.specs.Leaders.{leaders_to};
+
+    /// No event leads to any of so many.
+    fn new(alloc: Global, events: usize) -> Result<Leaders, AllocError>
+        ensures { IfOk result (λ leaders. leaders ≡ replicate events []) }
+    {
+        let mut lists = Vec::with_capacity(alloc, events)?;
+        for _ in 0..events {
+            lists.push(Vec::new(alloc))?;
+        }
+        Ok(Leaders { lists })
+    }
+
+    /// One more time `leader` leads to the event.
+    fn add(&mut self, event: EventId, leader: EventId) -> Result<(), AllocError>
+        requires { event.0 < length self.old }
+        ensures { OnOk result (self.new ≡ slice_set self.old event.0 (leaders_to self.old event.0 ++ leader ∷ [])) }
+    {
+        self.lists[event.0 as usize].push(leader)?;
+        Ok(())
+    }
+
+    /// The events that lead to the event.
+    pub(crate) fn of(&self, event: EventId) -> &[EventId]
+        requires { event.0 < length self.now }
+        ensures { result.now ≡ leaders_to self.now event.0 }
+    {
+        self.lists[event.0 as usize].as_slice()
+    }
+}
+
+/// Which events lead to each event, and how many posts each event leads to.
+pub(crate) fn count_posts(alloc: Global, plan: &Plan) -> Result<(Leaders, Vec<u128>), AllocError>
+    ensures { IfOk result (λ counted. HasLeaders plan.now (length plan.now.events) counted.0 counted.1.items) }
+{
+    let mut leaders = Leaders::new(alloc, plan.event_count())?;
+    let mut left = Vec::with_capacity(alloc, plan.event_count())?;
+    for number in 0..plan.event_count() {
+        let posts = add_event(&mut leaders, plan, EventId(number as u16))?;
+        left.push(posts)?;
+    }
+    Ok((leaders, left))
+}
+
+/// The event leads to what is posted by what is bound to it. How many posts these are.
+fn add_event(leaders: &mut Leaders, plan: &Plan, event: EventId) -> Result<u128, AllocError>
+    requires event { event.0 < length plan.now.events }
+    requires leaders { length leaders.old ≡ length plan.now.events }
+    ensures leaders { IfOk result (λ _. AddsLeader event.0 (cost_of_event plan.now event.0) leaders.old leaders.new) }
+    ensures posts { IfOk result (λ posts. posts ≡ unmet (λ _. false) (cost_of_event plan.now event.0)) }
+{
+    let mut posts = 0u128;
+    for place in plan.bindings_of(event) {
+        let target = plan.binding(*place).target;
+        let more = add_target(leaders, plan, event, target)?;
+        posts += more;
+    }
+    Ok(posts)
+}
+
+fn add_target(
+    leaders: &mut Leaders,
+    plan: &Plan,
+    event: EventId,
+    target: Target,
+) -> Result<u128, AllocError>
+    requires target { IsTargetWithin (length plan.now.lists) target }
+    requires leaders { length leaders.old ≡ length plan.now.events }
+    ensures leaders { IfOk result (λ _. AddsLeader event.0 (cost_of_target plan.now target) leaders.old leaders.new) }
+    ensures posts { IfOk result (λ posts. posts ≡ unmet (λ _. false) (cost_of_target plan.now target)) }
+    ensures small { IfOk result (λ posts. posts < 2 ^ 64) }
+{
+    match target {
+        Target::Run(list) => add_actions(leaders, event, plan.list(list)),
+    }
+}
+
+fn add_actions(
+    leaders: &mut Leaders,
+    event: EventId,
+    actions: &[Action],
+) -> Result<u128, AllocError>
+    requires { All (IsActionWithin (length leaders.old)) actions.now }
+    ensures leaders { IfOk result (λ _. AddsLeader event.0 (each_of cost_of_action actions.now) leaders.old leaders.new) }
+    ensures posts { IfOk result (λ posts. posts ≡ unmet (λ _. false) (each_of cost_of_action actions.now)) }
+    ensures small { IfOk result (λ posts. posts < 2 ^ 64) }
+{
+    let mut posts = 0u128;
+    for action in actions {
+        let more = add_action(leaders, event, *action)?;
+        posts += more;
+    }
+    Ok(posts)
+}
+
+fn add_action(leaders: &mut Leaders, event: EventId, action: Action) -> Result<u128, AllocError>
+    requires { IsActionWithin (length leaders.old) action }
+    ensures leaders { IfOk result (λ _. AddsLeader event.0 (cost_of_action action) leaders.old leaders.new) }
+    ensures posts { IfOk result (λ posts. posts ≡ unmet (λ _. false) (cost_of_action action)) }
+    ensures small { IfOk result (λ posts. posts ≤ 1) }
+{
+    match action {
+        Action::Post(posted) => leaders.add(posted, event)?,
+    }
+    Ok(1)
+}

@@ -1,0 +1,59 @@
+//! The least weights of a plan.
+
+ghost use Rattle.std.specs.Prelude.{IfOk, IfErr};
+ghost use Rattle.cascade_rank.specs.Weights.{IsLeastFitting, IsWithinLimit};
+ghost use Rattle.cascade_rank.specs.Finding.{found_at};
+ghost use Rattle.cascade_rank.specs.View.{GivesFound, IfRank};
+ghost use Rattle.cascade_rank.specs.Found.{IsUnfound};
+ghost use Rattle.cascade_rank.specs.Order.{IsWholeOrder, AreRanks};
+
+use crate::fault::RankFault;
+use crate::ground::ground;
+use crate::price::need;
+use crate::verdict::limited_bound;
+use crate::walk::{first_left, walk};
+use crate::weights::Weights;
+use mpf_plan::{EventId, Plan};
+use std::alloc::{AllocError, Global};
+
+/// What weighs more is not told apart from this: one more than the greatest weight.
+const TOO_MUCH: u32 = 10_001;
+
+/// The least weights that fit the plan.
+///
+/// # Errors
+///
+/// `Cycle` where events lead to each other without end, so that no weights fit; else
+/// `BoundTooLarge` where one of the least weights, or what a stimulus leads to at most, is above
+/// 10,000. `NoMemory` where memory runs out. Nothing else.
+pub fn find(alloc: Global, plan: &Plan) -> Result<Weights, RankFault>
+    ensures exact { GivesFound result (found_at plan.now) }
+    ensures least { IfOk result (λ weights. IsLeastFitting plan.now weights) }
+    ensures within { IfOk result (λ weights. IsWithinLimit plan.now weights) }
+    ensures refused { IfErr result (λ fault. IfRank fault (IsUnfound plan.now)) }
+{
+    let grounding = ground(alloc, plan)?;
+    if let Some(place) = first_left(&grounding.left) {
+        let start = EventId(place as u16);
+        return Err(RankFault::Cycle(walk(alloc, plan, &grounding.left, start)?));
+    }
+    let weights = weigh(alloc, plan, &grounding.order)?;
+    match limited_bound(plan, &weights) {
+        None => Err(RankFault::BoundTooLarge),
+        Some(_) => Ok(Weights::of(weights)),
+    }
+}
+
+/// What each event needs, or 10,001 where that is more: in the order, so that what an event leads
+/// to is weighed before it.
+fn weigh(alloc: Global, plan: &Plan, order: &[EventId]) -> Result<Vec<u32>, AllocError>
+    requires { IsWholeOrder plan.now order.now }
+    ensures { IfOk result (λ weights. AreRanks plan.now weights.items) }
+{
+    let mut weights = vec![in alloc; 0u32; plan.event_count()]?;
+    for event in order {
+        let needed = need(plan, &weights, *event);
+        weights[event.0 as usize] = needed.min(u128::from(TOO_MUCH)) as u32;
+    }
+    Ok(weights)
+}

@@ -1,0 +1,78 @@
+//! Whether weights bound what each event leads to.
+
+ghost use Rattle.std.specs.Prelude.{◌≡◌, nat_le, length, slice_index, IfOk, IfErr, IfSome, IfNone};
+ghost use Rattle.std.specs.List.{list_all};
+ghost use Rattle.cascade_rank.specs.Weights.{IsFitting, bound_of, IsWithinLimit, greatest};
+ghost use Rattle.cascade_rank.specs.Finding.{verified_at};
+ghost use Rattle.cascade_rank.specs.View.{GivesBound, IfRank};
+ghost use Rattle.cascade_rank.specs.Verified.{IsVerified, IsUnverified, IsFirstShort};
+
+use crate::fault::RankFault;
+use crate::price::{bound_of, need};
+use crate::weights::Weights;
+use mpf_plan::{EventId, Plan};
+
+/// The greatest weight and the greatest bound that are accepted.
+const GREATEST: u32 = 10_000;
+
+/// How many lines a stimulus leads to at most: 0 to 10,000.
+#[derive(Clone, Copy, Debug, PartialEq, Eq)]
+pub struct Bound(pub u32);
+
+/// The bound of these weights, where there is one for each event, each event weighs at least what
+/// it needs, and neither a weight nor the bound is above 10,000. It takes no memory.
+///
+/// # Errors
+///
+/// `WrongEvents` where there are not as many weights as events; else `Short` of the
+/// lowest-numbered event that weighs too little; else `BoundTooLarge`.
+pub fn verify(plan: &Plan, weights: &Weights) -> Result<Bound, RankFault>
+    ensures exact { GivesBound result (verified_at plan.now weights.now) }
+    ensures verified { IfOk result (λ bound. IsVerified plan.now weights.now bound.0) }
+    ensures refused { IfErr result (λ fault. IfRank fault (IsUnverified plan.now weights.now)) }
+{
+    let weights = weights.as_slice();
+    if weights.len() != plan.event_count() {
+        return Err(RankFault::WrongEvents);
+    }
+    match first_short(plan, weights) {
+        Some((event, needed)) => Err(RankFault::Short(event, needed)),
+        None => limited_bound(plan, weights).ok_or(RankFault::BoundTooLarge),
+    }
+}
+
+/// The lowest-numbered event that weighs less than it needs, and what it needs, if there is one.
+fn first_short(plan: &Plan, weights: &[u32]) -> Option<(EventId, u128)>
+    requires { length weights.now ≡ length plan.now.events }
+    ensures short { IfSome result (λ found. IsFirstShort plan.now weights.now found.0.0 found.1) }
+    ensures fits { IfNone result (IsFitting plan.now (slice_index weights.now)) }
+{
+    for number in 0..plan.event_count() {
+        let event = EventId(number as u16);
+        let needed = need(plan, weights, event);
+        if u128::from(weights[number]) < needed {
+            return Some((event, needed));
+        }
+    }
+    None
+}
+
+/// The bound of weights, or none where it or a weight is above the limit.
+pub(crate) fn limited_bound(plan: &Plan, weights: &[u32]) -> Option<Bound>
+    requires { length weights.now ≡ length plan.now.events }
+    ensures within { IfSome result (λ bound. IsWithinLimit plan.now weights.now × (bound.0 ≡ bound_of plan.now (slice_index weights.now))) }
+    ensures above { IfNone result (¬ (IsWithinLimit plan.now weights.now)) }
+{
+    let bound = bound_of(plan, weights);
+    if bound > u128::from(GREATEST) || !are_limited(weights) {
+        return None;
+    }
+    Some(Bound(bound as u32))
+}
+
+/// Whether no weight is above the limit.
+fn are_limited(weights: &[u32]) -> bool
+    ensures { result ≡ list_all (λ w. nat_le w greatest) weights.now }
+{
+    weights.iter().all(|weight| *weight <= GREATEST)
+}

@@ -1,0 +1,109 @@
+//! The walk along events that are not grounded.
+
+ghost use Rattle.std.specs.Prelude.{◌≡◌, ℕ, ◌<◌, ◌==◌, true, not, nat_lt, length, map, position, option_map, slice_index, IfOk};
+ghost use Rattle.std.specs.List.{All};
+ghost use Rattle.mpf_plan.specs.Valid.{IsActionWithin, IsTargetWithin};
+ghost use Rattle.cascade_rank.specs.Cost.{each_of, cost_of_action, cost_of_target};
+ghost use Rattle.cascade_rank.specs.LeadsTo.{is_open, IsCycle};
+ghost use Rattle.cascade_rank.specs.Cycle.{IsFirst, IsToldCycle, next_open, from_first, cycle_of};
+ghost use Rattle.cascade_rank.specs.Lowest.{lowest, IsLeft};
+
+use mpf_plan::{Action, EventId, Plan, Target};
+use std::alloc::{AllocError, Global};
+
+/// The place of the first event of which something is left, if there is one.
+pub(crate) fn first_left(left: &[u128]) -> Option<usize>
+    ensures { result ≡ position (λ n. nat_lt 0 n) left.now }
+{
+    left.iter().position(|posts| *posts > 0)
+}
+
+/// The cycle to which the walk comes that begins at the lowest-numbered event of which something
+/// is left.
+pub(crate) fn walk(
+    alloc: Global,
+    plan: &Plan,
+    left: &[u128],
+    start: EventId,
+) -> Result<Vec<EventId>, AllocError>
+    requires left { IsLeft plan.now left.now }
+    requires within { start.0 < length plan.now.events }
+    requires first { IsFirst (is_open plan.now) start.0 }
+    ensures cycle { IfOk result (λ cycle. map (λ e. e.0) cycle.items ≡ cycle_of plan.now start.0) }
+    ensures told { IfOk result (λ cycle. IsToldCycle plan.now (map (λ e. e.0) cycle.items)) }
+    ensures is_one { IfOk result (λ cycle. IsCycle plan.now (map (λ e. e.0) cycle.items)) }
+{
+    let mut passed = vec![in alloc; false; plan.event_count()]?;
+    let mut path = Vec::new(alloc);
+    let mut at = start;
+    while !passed[at.0 as usize] {
+        passed[at.0 as usize] = true;
+        path.push(at)?;
+        at = next(plan, left, at);
+    }
+    part_from(alloc, &path, at)
+}
+
+/// The path from the first coming of the event on.
+fn part_from(alloc: Global, path: &[EventId], event: EventId) -> Result<Vec<EventId>, AllocError>
+    ensures { IfOk result (λ part. map (λ e. e.0) part.items ≡ from_first event.0 (map (λ e. e.0) path.now)) }
+{
+    let place = place_of(path, event).unwrap_or(path.len());
+    Vec::from_slice(alloc, &path[place..])
+}
+
+fn place_of(path: &[EventId], event: EventId) -> Option<usize>
+    ensures { result ≡ position (λ e. e.0 == event.0) path.now }
+{
+    path.iter().position(|passed| passed.0 == event.0)
+}
+
+/// Where the walk goes on to: of the events to which the event leads, and of which something is
+/// left, the lowest-numbered.
+fn next(plan: &Plan, left: &[u128], event: EventId) -> EventId
+    requires left { IsLeft plan.now left.now }
+    requires within { event.0 < length plan.now.events }
+    ensures { result.0 ≡ next_open plan.now event.0 }
+{
+    let mut lowest = plan.event_count() as u16;
+    for place in plan.bindings_of(event) {
+        let target = plan.binding(*place).target;
+        lowest = lowest.min(lowest_of_target(plan, left, target));
+    }
+    EventId(lowest)
+}
+
+/// The lowest of those that the target posts, or the number of events where there is none.
+fn lowest_of_target(plan: &Plan, left: &[u128], target: Target) -> u16
+    requires target { IsTargetWithin (length plan.now.lists) target }
+    requires left { length left.now ≡ length plan.now.events }
+    requires small { length left.now < 65536 }
+    ensures { result ≡ lowest (length left.now) (λ e. nat_lt 0 (slice_index left.now e)) (cost_of_target plan.now target) }
+{
+    match target {
+        Target::Run(list) => lowest_of_actions(left, plan.list(list)),
+    }
+}
+
+fn lowest_of_actions(left: &[u128], actions: &[Action]) -> u16
+    requires actions { All (IsActionWithin (length left.now)) actions.now }
+    requires small { length left.now < 65536 }
+    ensures { result ≡ lowest (length left.now) (λ e. nat_lt 0 (slice_index left.now e)) (each_of cost_of_action actions.now) }
+{
+    let mut lowest = left.len() as u16;
+    for action in actions {
+        lowest = lowest.min(lowest_of_action(left, *action));
+    }
+    lowest
+}
+
+fn lowest_of_action(left: &[u128], action: Action) -> u16
+    requires action { IsActionWithin (length left.now) action }
+    requires small { length left.now < 65536 }
+    ensures { result ≡ lowest (length left.now) (λ e. nat_lt 0 (slice_index left.now e)) (cost_of_action action) }
+{
+    match action {
+        Action::Post(event) if left[event.0 as usize] > 0 => event.0,
+        Action::Post(_) => left.len() as u16,
+    }
+}
