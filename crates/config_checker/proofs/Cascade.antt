@@ -9,17 +9,19 @@ use Rattle.mpf_plan.specs.Valid.{IsValid, IsSwitchWithin}
 use Rattle.switch_core.specs.SwitchStep.{SwitchState, idle, is_taken}
 use Rattle.config_checker.specs.declared.line.Line.{Line}
 use Rattle.config_checker.specs.declared.line.Happening.TheVariants as tells
-use Rattle.config_checker.specs.Cost.{Cost, Lines, price, cost_of_acceptance, cost_of_switch}
-use Rattle.config_checker.specs.Weights.{IsFitting, bound_of}
-use Rattle.config_checker.specs.Machine.{Machine, Posted, initial, planned, kind_at, idle_switch, switch_at, level_of}
-use Rattle.config_checker.specs.EventStep.{EventStep, EventSteps, after_event, handlers}
-use Rattle.config_checker.specs.PlanOrder.{by_priority}
+use Rattle.cascade_rank.specs.Cost.{Cost, Lines, price, cost_of_acceptance, cost_of_switch}
+use Rattle.cascade_rank.specs.Weights.{IsFitting, bound_of}
+use Rattle.cascade_rank.proofs.Prices.{price-dearest}
+use Rattle.cascade_rank.proofs.Within.{IsBelow, IsBelow-acceptance, no_switch-within}
+use Rattle.event_queue.specs.declared.queue.Posted.{Posted}
+use Rattle.event_queue.specs.Handlers.{handlers}
+use Rattle.event_queue.specs.PlanOrder.{by_priority}
+use Rattle.config_checker.specs.Machine.{Machine, initial, planned, kind_at, idle_switch, switch_at, level_of}
+use Rattle.config_checker.specs.EventStep.{takes_part, EventStep, EventSteps, after_event}
 use Rattle.config_checker.specs.Run.{Stimulus, Change, Alarm, Wait, IsAllowed, due_of, begin, IsRun}
 use Rattle.config_checker.specs.GoodRun.{cost_of_stimulus, weigh, IsGood}
 use Rattle.config_checker.specs.CheckedView.{CheckedView}
 use Rattle.config_checker.specs.Accepted.{IsAccepted}
-use Rattle.config_checker.proofs.Prices.{price-dearest}
-use Rattle.config_checker.proofs.Within.{IsBelow, IsBelow-acceptance, no_switch-within}
 use Rattle.config_checker.proofs.Does.{Does, potential, potential-does, WaitsBelow, WaitsBelow-does, switch_count-does, grows-does}
 use Rattle.config_checker.proofs.Parts.{does-event, does-begin}
 use Rattle.config_checker.proofs.Order.{order_cost, plan_order-step}
@@ -189,7 +191,7 @@ fitting-is_good c valid fits bound =
           let heavy = waiting-weigh plan valid w fits s.waiting here.waiting in
           omega (arith, most, heavy, bound);
       goes_on = λ stimuli trace s run first rest is.
-          (after_event plan first rest (by_priority (handlers plan s first.event)) s, plan_order-step plan s first rest is);
+          (after_event plan first rest (by_priority (handlers plan.bindings (takes_part s) first.event)) s, plan_order-step plan s first rest is);
       ends = λ stimuli trace s run empty stimulus allowed n t steps.
           let here = of_plan-run plan valid stimuli trace s run in
           let most = cascade-potential plan valid w fits stimulus s here empty n t steps in
@@ -201,4 +203,4 @@ fitting-is_good c valid fits bound =
 
 -- Every run of an accepted plan is good.
 pub every_run_is_good : (c : CheckedView) → IsAccepted c → IsGood c
-every_run_is_good c accepted = fitting-is_good c accepted.valid accepted.weights.fits accepted.bound
+every_run_is_good c accepted = fitting-is_good c accepted.valid accepted.verified.fits accepted.verified.bound_is

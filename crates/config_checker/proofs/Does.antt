@@ -6,10 +6,11 @@ use Rattle.mpf_plan.specs.declared.entries.EventId.{EventId}
 use Rattle.mpf_plan.specs.declared.entries.Owner.{Owner}
 use Rattle.switch_core.specs.SwitchStep.{SwitchState}
 use Rattle.config_checker.specs.declared.line.Happening.{Happening}
-use Rattle.config_checker.specs.Cost.{Cost, Lines, Both, Greater, price, each_of, dearest_of, cost_of_post}
-use Rattle.config_checker.specs.Machine.{Machine, Posted, write, post, set_switch, all_do}
+use Rattle.cascade_rank.specs.Cost.{Cost, Lines, Both, Greater, price, each_of, dearest_of, cost_of_post}
+use Rattle.event_queue.specs.declared.queue.Posted.{Posted}
+use Rattle.config_checker.specs.Machine.{Machine, write, post, set_switch, all_do}
 use Rattle.config_checker.specs.GoodRun.{weigh}
-use Rattle.config_checker.proofs.Within.{IsBelow}
+use Rattle.cascade_rank.proofs.Within.{IsBelow}
 
 -- From one state to another by changes that cost at most this. A new kind of change is a new constructor here, and a line in
 -- each lemma below.

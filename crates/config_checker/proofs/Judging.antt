@@ -1,116 +1,206 @@
--- What a plan is judged to be, case by case.
-use Rattle.std.proofs.Common.{◌≡◌, ℕ, ◌<◌, ◌≤◌, ◌⊎◌, true, false, ◌&&◌, nat_le, List, [], ◌∷◌, slice_index, slice_index_or, Some, None, Result, Ok, Err, IfOk, IfErr, refl, sym, ap, ◌∙◌, subst, inl, inr, arith}
-use Rattle.std.specs.List.{All, list_all}
-use Rattle.std.proofs.lemmas.Bool.{cond-true, cond-false, le-leb, lt-leb, leb-true, and_from, and_left, and_right, false_from_ne_true}
-use Rattle.std.proofs.lemmas.List.Elements.{All-weaker}
-use Rattle.std.proofs.lemmas.List.Sums.{AllPass-from_list_all, list_all-from_AllPass}
+-- What rows are judged to be, case by case.
+use Rattle.std.proofs.Common.{◌≡◌, ◌≢◌, ℕ, true, false, List, [], ◌∷◌, length, slice_index, Option, Some, None, option_map, Result, Ok, Err, refl, sym, ap, ◌∙◌, subst, true≢false}
+use Rattle.std.specs.List.{zip}
+use Rattle.std.proofs.lemmas.Bool.{cond-true, cond-false, eq-eqb, ne_eqb}
+use Rattle.std.proofs.lemmas.Slice.Zip.{firsts-zip, seconds-zip}
 use Rattle.mpf_config.specs.Rows.{Rows}
-use Rattle.mpf_plan.specs.declared.fault.Table.{Table}
 use Rattle.mpf_plan.specs.PlanView.{PlanView}
 use Rattle.mpf_plan.specs.PlanOf.{plan_at, plan_of}
-use Rattle.mpf_plan.proofs.Judged.{plan_at-Ok, plan_at-Err}
-use Rattle.mpf_plan.specs.Valid.{IsValid}
+use Rattle.mpf_plan.proofs.Judged.{plan_at-Ok, plan_at-exceeded}
+use Rattle.cascade_rank.specs.Weights.{bound_of}
+use Rattle.cascade_rank.specs.Finding.{RankView, found_at, verified_at}
+use Rattle.cascade_rank.specs.Finding as ranks
+use Rattle.cascade_rank.specs.View.{IfTold}
+use Rattle.cascade_rank.specs.Found.{IsUnfound}
+use Rattle.cascade_rank.specs.Verified.{IsVerified, IsUnverified}
 use Rattle.config_checker.specs.declared.report.Report.{Report}
 use Rattle.config_checker.specs.declared.report.Report.TheVariants.{NoMemory, Faults}
 use Rattle.config_checker.specs.CheckedView.{CheckedView}
-use Rattle.config_checker.specs.Weights.{bound_of, greatest}
-use Rattle.config_checker.specs.Accepted.{IsAccepted}
-use Rattle.config_checker.specs.GoodRun.{IsGood}
-use Rattle.config_checker.specs.Checking.{FaultView, limit, cycle, bound, first_fed, weights_of, weighed, judged_at, judged, alone, checked, checked_at}
+use Rattle.config_checker.specs.CertificateText.{Certificate, text_of, certificate_text}
+use Rattle.config_checker.specs.CertificateOf.{IsTextOf, certificate_at}
+use Rattle.config_checker.specs.Checking.{FaultView, limit, cycle, bound, certificate, bad_line, other_events, other_bound, name_of, fault_of, weighed, judged, same_names, names_in, weights_in, bounded, certified, judged_with, alone, checked, checked_at, checked_with_at}
 use Rattle.config_checker.specs.View.{GivesChecked, TellsFault}
-use Rattle.config_checker.specs.Refused.{IsFaultOf, IsFaultOfPlan, TellsOne}
-use Rattle.config_checker.proofs.Fed.{first_fed-is, first_fed-none}
-use Rattle.config_checker.proofs.Weighing.{weights_of-least}
-use Rattle.config_checker.proofs.Cascade.{every_run_is_good}
+use Rattle.config_checker.specs.Refused.{IsLimitFault, IsFaultOf, IsNoCertificate, IsCertificateOf, HasOtherEvents, HasOtherBound, HasTooMuch, IsShort, IsFaultWith, TellsOne}
+use Rattle.config_checker.proofs.Certificates.{read-is_text, text-is_read}
+use Rattle.config_checker.proofs.Names.{same_names-is, same_names-self, zip-parts, parts-length}
 
--- ---- weights within the limit, and above it
+-- ---- what a report tells
 
-small_from : (ws : List ℕ) → list_all (λ w. nat_le w greatest) ws ≡ true → All (λ w. w ≤ greatest) ws
-small_from ws h = All-weaker (λ w. nat_le w greatest ≡ true) (λ w. w ≤ greatest) (λ w t. leb-true w greatest t) ws (AllPass-from_list_all (λ w. nat_le w greatest) ws h)
+pub tells-there : (there : FaultView → Type 0) (report : Report) (fault : FaultView) → TellsFault report fault → there fault → TellsOne there report
+tells-there there NoMemory fault h is = tt
+tells-there there (Faults faults) fault h is = (fault, h, is)
 
-small_test : (ws : List ℕ) → All (λ w. w ≤ greatest) ws → list_all (λ w. nat_le w greatest) ws ≡ true
-small_test ws h = list_all-from_AllPass (λ w. nat_le w greatest) ws (All-weaker (λ w. w ≤ greatest) (λ w. nat_le w greatest ≡ true) (λ w l. le-leb w greatest l) ws h)
+pub tells-weaker : (P Q : FaultView → Type 0) (report : Report) → TellsOne P report → ((fault : FaultView) → P fault → Q fault) → TellsOne Q report
+tells-weaker P Q NoMemory h weaker = tt
+tells-weaker P Q (Faults faults) (fault, told, there) weaker = (fault, told, weaker fault there)
 
-module _ (plan : PlanView) (ws : List ℕ) where
-  weighed-small : All (λ w. w ≤ greatest) ws → bound_of plan (slice_index ws) ≤ greatest → weighed plan ws ≡ Ok (record { plan = plan; weights = ws; bound = bound_of plan (slice_index ws) })
-  weighed-small small low = cond-true _ _ _ (and_from _ _ (small_test ws small) (le-leb (bound_of plan (slice_index ws)) greatest low))
+-- the answer is what is told
+pub tells-gives : (report : Report) (fault : FaultView) (answer : Result CheckedView (List FaultView)) → TellsFault report fault → answer ≡ Err (fault ∷ []) → GivesChecked (Err report) answer
+tells-gives NoMemory fault answer h is = tt
+tells-gives (Faults faults) fault answer h is = is ∙ ap Err (sym h)
 
-  dear_test : (¬ (All (λ w. w ≤ greatest) ws)) ⊎ (greatest < bound_of plan (slice_index ws)) → (list_all (λ w. nat_le w greatest) ws && nat_le (bound_of plan (slice_index ws)) greatest) ≡ false
-  dear_test (inl above) = and_left _ _ (false_from_ne_true _ (λ t. above (small_from ws t)))
-  dear_test (inr above) = and_right _ _ (lt-leb (bound_of plan (slice_index ws)) greatest above)
+pub one-gives : (P : FaultView → Type 0) (report : Report) (answer : Result CheckedView (List FaultView)) → TellsOne P report → ((fault : FaultView) → P fault → answer ≡ Err (fault ∷ [])) → GivesChecked (Err report) answer
+one-gives P NoMemory answer h gives = tt
+one-gives P (Faults faults) answer (fault, told, there) gives = gives fault there ∙ ap Err (sym told)
 
-  weighed-dear : (¬ (All (λ w. w ≤ greatest) ws)) ⊎ (greatest < bound_of plan (slice_index ws)) → weighed plan ws ≡ Err bound
-  weighed-dear dear = cond-false _ _ _ (dear_test dear)
+some_same : (x y : FaultView) → Some x ≡ Some y → x ≡ y
+some_same x y e = cc
 
--- ---- a plan
+none-some : {A : Type 0} (x : FaultView) → None ≡ Some x → A
+none-some x e = absurd (apart e)
+  where
+    apart : None ≡ Some x → ⊥
+    apart e = cc
 
-module _ (plan : PlanView) where
-  pub judged-fed : (e : ℕ) → first_fed plan ≡ Some e → judged plan ≡ Err (cycle (slice_index_or plan.events e [] ∷ []))
+-- ---- a table above its limit
+
+module _ (rows : Rows) where
+  limit-checked : (judge : PlanView → Result CheckedView FaultView) (fault : FaultView) → IsLimitFault rows fault → checked judge (plan_at rows) ≡ Err (fault ∷ [])
+  limit-checked judge (limit t) h = ap (checked judge) (plan_at-exceeded rows t h)
+  limit-checked judge (cycle names) h = absurd h
+  limit-checked judge bound h = absurd h
+  limit-checked judge (certificate fault) h = absurd h
+
+  pub limit-found : (fault : FaultView) → IsLimitFault rows fault → checked_at rows ≡ Err (fault ∷ [])
+  unfolding checked_at
+  limit-found fault h = limit-checked judged fault h
+
+  pub limit-given : (text : List ℕ) (fault : FaultView) → IsLimitFault rows fault → checked_with_at rows text ≡ Err (fault ∷ [])
+  unfolding checked_with_at
+  limit-given text fault h = limit-checked (judged_with text) fault h
+
+  pub limit-fault : (fault : FaultView) → IsLimitFault rows fault → IsFaultOf rows fault
+  limit-fault (limit t) h = h
+  limit-fault (cycle names) h = absurd h
+  limit-fault bound h = absurd h
+  limit-fault (certificate fault) h = absurd h
+
+  pub limit-fault_with : (text : List ℕ) (fault : FaultView) → IsLimitFault rows fault → IsFaultWith rows text fault
+  limit-fault_with text (limit t) h = h
+  limit-fault_with text (cycle names) h = absurd h
+  limit-fault_with text bound h = absurd h
+  limit-fault_with text (certificate fault) h = absurd h
+
+-- the text is this certificate, which has these names and these weights
+pub record IsReadAs (text : List ℕ) (c : Certificate) (names : List (List ℕ)) (ws : List ℕ) : Type 0 where
+  pub read : certificate_at text ≡ Ok c
+  pub names_are : names_in c ≡ names
+  pub weights_are : weights_in c ≡ ws
+
+pub read-as : (text : List ℕ) (stated : ℕ) (names : List (List ℕ)) (weights ws : List ℕ) → length weights ≡ length names → certificate_at text ≡ Ok (record { bound = stated; events = zip names weights }) → ws ≡ weights
+    → IsReadAs text (record { bound = stated; events = zip names weights }) names ws
+read-as text stated names weights ws count read same = record { read = read; names_are = firsts-zip names weights count; weights_are = seconds-zip names weights count ∙ sym same }
+
+module _ (rows : Rows) (plan : PlanView) (made : plan_at rows ≡ Ok plan) where
+  of_rows : plan ≡ plan_of rows
+  of_rows = (plan_at-Ok rows plan made).0
+
+  -- ---- the least weights
+
+  found-checked : (answer : Result CheckedView FaultView) → judged plan ≡ answer → checked_at rows ≡ alone answer
+  unfolding checked_at
+  found-checked answer is = ap (checked judged) made ∙ ap alone is
+
+  pub found-accepted : (ws : List ℕ) (b : ℕ) → found_at plan ≡ Ok ws → b ≡ bound_of plan (slice_index ws) → checked_at rows ≡ Ok (record { plan = plan; weights = ws; bound = b })
   unfolding judged
-  judged-fed e h = ap (judged_at plan) h
+  found-accepted ws b found is =
+      found-checked (Ok (record { plan = plan; weights = ws; bound = b })) (ap (weighed plan) found ∙ ap (λ (n : ℕ). Ok (record { plan = plan; weights = ws; bound = n })) (sym is))
 
-  pub judged-dear : first_fed plan ≡ None → (¬ (All (λ w. w ≤ greatest) (weights_of plan))) ⊎ (greatest < bound_of plan (slice_index (weights_of plan))) → judged plan ≡ Err bound
+  pub unfound-checked : (view : Option RankView) (fault : FaultView) → option_map (fault_of plan) view ≡ Some fault → IfTold view (λ told. found_at plan ≡ Err told) → checked_at rows ≡ Err (fault ∷ [])
   unfolding judged
-  judged-dear none dear = ap (judged_at plan) none ∙ weighed-dear plan (weights_of plan) dear
+  unfound-checked None fault named h = none-some fault named
+  unfound-checked (Some told) fault named h = found-checked (Err fault) (ap (weighed plan) h ∙ ap Err (some_same (fault_of plan told) fault named))
 
-  pub judged-small : first_fed plan ≡ None → (ws : List ℕ) (b : ℕ) → ws ≡ weights_of plan → All (λ w. w ≤ greatest) ws → b ≡ bound_of plan (slice_index ws) → b ≤ greatest
-      → judged plan ≡ Ok (record { plan = plan; weights = ws; bound = b })
-  unfolding judged
-  judged-small none ws b is small is_bound low =
-      let low_here : bound_of plan (slice_index ws) ≤ greatest = omega (arith, is_bound, low) in
-      let here : weighed plan ws ≡ Ok (record { plan = plan; weights = ws; bound = b }) = rw is_bound (weighed-small plan ws small low_here) in
-      ap (judged_at plan) none ∙ subst (λ (xs : List ℕ). weighed plan xs ≡ Ok (record { plan = plan; weights = ws; bound = b })) is here
+  pub unfound-fault : (view : Option RankView) (fault : FaultView) → option_map (fault_of plan) view ≡ Some fault → IfTold view (IsUnfound plan) → IsFaultOf rows fault
+  unfound-fault None fault named h = none-some fault named
+  unfound-fault (Some told) fault named h =
+      subst (IsFaultOf rows) (some_same (fault_of plan told) fault named) (subst (λ (p : PlanView). IsUnfound p told → IsFaultOf rows (fault_of p told)) (sym of_rows) (by told) h)
+    where
+      by : (told : RankView) → IsUnfound (plan_of rows) told → IsFaultOf rows (fault_of (plan_of rows) told)
+      by (ranks.cycle events) h = record { events = events; reason = h; names_are = refl }
+      by ranks.bound_too_large h = h
+      by (ranks.short event needed) h = absurd h
+      by ranks.wrong_events h = absurd h
 
-  pub fault-fed : (e : ℕ) → first_fed plan ≡ Some e → IsFaultOfPlan plan (cycle (slice_index_or plan.events e [] ∷ []))
-  fault-fed e h = record { event = e; first = first_fed-is plan e h; name = refl }
+  -- ---- a certificate
 
-  pub fault-dear : IsValid plan → first_fed plan ≡ None → (¬ (All (λ w. w ≤ greatest) (weights_of plan))) ⊎ (greatest < bound_of plan (slice_index (weights_of plan))) → IsFaultOfPlan plan bound
-  fault-dear valid none dear =
-      let unfed = first_fed-none plan none in
-      record { unfed = unfed; weights = weights_of plan; least = weights_of-least plan valid unfed; above = dear }
+  module _ (text : List ℕ) where
+    given-checked : (answer : Result CheckedView FaultView) → judged_with text plan ≡ answer → checked_with_at rows text ≡ alone answer
+    unfolding checked_with_at
+    given-checked answer is = ap (checked (judged_with text)) made ∙ ap alone is
 
-  pub accepted-small : IsValid plan → first_fed plan ≡ None → (ws : List ℕ) (b : ℕ) → ws ≡ weights_of plan → All (λ w. w ≤ greatest) ws → b ≡ bound_of plan (slice_index ws) → b ≤ greatest
-      → IsAccepted (record { plan = plan; weights = ws; bound = b })
-  accepted-small valid none ws b is small is_bound low =
-      let unfed = first_fed-none plan none in
-      record { valid = valid; unfed = unfed; weights = rw is (weights_of-least plan valid unfed); bound = is_bound; weight_limit = small; bound_limit = low }
+    pub misread-checked : (n : ℕ) → certificate_at text ≡ Err n → checked_with_at rows text ≡ Err (certificate (bad_line n) ∷ [])
+    unfolding judged_with
+    misread-checked n misread = given-checked (Err (certificate (bad_line n))) (ap (certified plan) misread)
 
-  -- the report of one fault, where that is what the plan is judged to be
-  pub told : (report : Report) (fault : FaultView) → TellsFault report fault → judged plan ≡ Err fault → GivesChecked (Err report) (alone (judged plan))
-  told NoMemory fault h is = tt
-  told (Faults faults) fault h is = ap alone is ∙ ap Err (sym h)
+    pub misread-fault : (n : ℕ) → certificate_at text ≡ Err n → IsNoCertificate text
+    misread-fault n misread c is = apart (sym misread ∙ text-is_read c text is)
+      where
+        apart : ◌≡◌ {A = Result Certificate ℕ} (Err n) (Ok c) → ⊥
+        apart e = cc
 
-pub one-told : (there : FaultView → Type 0) (report : Report) (fault : FaultView) → TellsFault report fault → there fault → TellsOne there report
-one-told there NoMemory fault h is = tt
-one-told there (Faults faults) fault h is = (fault, h, is)
+    module _ (c : Certificate) (names : List (List ℕ)) (ws : List ℕ) (reading : IsReadAs text c names ws) where
+      text_is : IsTextOf c text
+      text_is = read-is_text text c reading.read
 
--- ---- rows
+      pub other_events-checked : same_names plan.events names ≡ false → checked_with_at rows text ≡ Err (certificate other_events ∷ [])
+      unfolding judged_with
+      other_events-checked other =
+          given-checked (Err (certificate other_events)) (ap (certified plan) reading.read ∙ cond-false _ _ _ (ap (same_names plan.events) reading.names_are ∙ other))
 
-pub checked_at-is : (rows : Rows) (made : Result PlanView Table) → plan_at rows ≡ made → checked_at rows ≡ checked made
-unfolding checked_at
-checked_at-is rows made h = ap checked h
+      pub other_events-fault : same_names plan.events names ≡ false → HasOtherEvents (plan_of rows) text
+      other_events-fault other =
+          subst (λ (p : PlanView). HasOtherEvents p text) of_rows
+          (record {
+            certificate = c;
+            text_is = text_is;
+            other = λ same. true≢false (sym (same_names-self plan.events) ∙ (ap (same_names plan.events) (sym same ∙ reading.names_are) ∙ other));
+          })
 
-pub told_at : (rows : Rows) (t : Table) (report : Report) → plan_at rows ≡ Err t → TellsFault report (limit t) → GivesChecked (Err report) (checked_at rows)
-told_at rows t NoMemory h is = tt
-told_at rows t (Faults faults) h is = checked_at-is rows (Err t) h ∙ ap Err (sym is)
+      module _ (named : same_names plan.events names ≡ true) where
+        of_plan : IsCertificateOf plan text c
+        of_plan = record { text_is = text_is; events = reading.names_are ∙ sym (same_names-is plan.events names named) }
 
-fault-rows : (rows : Rows) (fault : FaultView) → IsFaultOfPlan (plan_of rows) fault → IsFaultOf rows fault
-fault-rows rows (limit t) h = absurd h
-fault-rows rows (cycle names) h = h
-fault-rows rows bound h = h
+        judged-bounded : (verified : Result ℕ RankView) → verified_at plan ws ≡ verified → judged_with text plan ≡ bounded plan c verified
+        unfolding judged_with
+        judged-bounded verified is =
+            ap (certified plan) reading.read ∙ cond-true _ _ _ (ap (same_names plan.events) reading.names_are ∙ named) ∙ ap (bounded plan c) (ap (verified_at plan) reading.weights_are ∙ is)
 
-one-rows : (rows : Rows) (report : Report) → TellsOne (IsFaultOfPlan (plan_of rows)) report → TellsOne (IsFaultOf rows) report
-one-rows rows NoMemory h = tt
-one-rows rows (Faults faults) (fault, told, there) = (fault, told, fault-rows rows fault there)
+        pub unverified-checked : (told : RankView) (view : Option RankView) (fault : FaultView) → view ≡ Some told → option_map (fault_of plan) view ≡ Some fault → verified_at plan ws ≡ Err told → checked_with_at rows text ≡ Err (fault ∷ [])
+        unverified-checked told view fault seen is verified =
+            let same : fault_of plan told ≡ fault = some_same (fault_of plan told) fault (ap (option_map (fault_of plan)) (sym seen) ∙ is) in
+            given-checked (Err fault) (judged-bounded (Err told) verified ∙ ap Err same)
 
--- what is wrong with the plan of rows is wrong with the rows
-pub refused-rows : {T : Type 0} (rows : Rows) (plan : PlanView) (r : Result T Report) → plan_at rows ≡ Ok plan → IfErr r (λ report. TellsOne (IsFaultOfPlan plan) report) → IfErr r (λ report. TellsOne (IsFaultOf rows) report)
-refused-rows rows plan (Ok x) h told = tt
-refused-rows rows plan (Err report) h told = one-rows rows report (subst (λ (p : PlanView). TellsOne (IsFaultOfPlan p) report) ((plan_at-Ok rows plan h).0) told)
+        pub unverified-fault : (view : Option RankView) (fault : FaultView) → option_map (fault_of plan) view ≡ Some fault → IfTold view (IsUnverified plan ws) → IsFaultWith rows text fault
+        unverified-fault None fault is h = none-some fault is
+        unverified-fault (Some told) fault is h =
+            subst (IsFaultWith rows text) (some_same (fault_of plan told) fault is) (by told (subst (λ (v : List ℕ). IsUnverified plan v told) (sym reading.weights_are) h))
+          where
+            by : (told : RankView) → IsUnverified plan (weights_in c) told → IsFaultWith rows text (fault_of plan told)
+            by (ranks.cycle events) h = absurd h
+            by ranks.bound_too_large h = subst (λ (p : PlanView). HasTooMuch p text) of_rows (record { certificate = c; of_plan = of_plan; above = h })
+            by (ranks.short event needed) h =
+                subst (λ (p : PlanView). IsShort p text (name_of plan event) needed) of_rows (record { certificate = c; of_plan = of_plan; event = event; first = h.1; name_is = refl })
+            by ranks.wrong_events h = absurd (h (parts-length c.events ∙ ap length of_plan.events))
 
-pub refused-limit : (rows : Rows) (t : Table) (report : Report) → plan_at rows ≡ Err t → TellsFault report (limit t) → TellsOne (IsFaultOf rows) report
-refused-limit rows t report h told = one-told (IsFaultOf rows) report (limit t) told (plan_at-Err rows t h)
+        pub verified-checked : (b : ℕ) → verified_at plan ws ≡ Ok b → b ≡ c.bound → checked_with_at rows text ≡ Ok (record { plan = plan; weights = ws; bound = b })
+        verified-checked b verified is =
+            given-checked (Ok (record { plan = plan; weights = ws; bound = b }))
+            (judged-bounded (Ok b) verified ∙ cond-true _ _ _ (eq-eqb b c.bound is) ∙ ap (λ (v : List ℕ). Ok (record { plan = plan; weights = v; bound = b })) reading.weights_are)
 
-pub good_if : {E : Type 0} (r : Result CheckedView E) → IfOk r (λ c. IsAccepted c) → IfOk r (λ c. IsGood c)
-good_if (Ok c) h = every_run_is_good c h
-good_if (Err e) h = tt
+        pub other_bound-checked : (b : ℕ) → verified_at plan ws ≡ Ok b → b ≢ c.bound → checked_with_at rows text ≡ Err (certificate (other_bound b) ∷ [])
+        other_bound-checked b verified other = given-checked (Err (certificate (other_bound b))) (judged-bounded (Ok b) verified ∙ cond-false _ _ _ (ne_eqb b c.bound other))
+
+        pub other_bound-fault : (b : ℕ) → IsVerified plan ws b → b ≢ c.bound → HasOtherBound (plan_of rows) text b
+        other_bound-fault b verified other =
+            subst (λ (p : PlanView). HasOtherBound p text b) of_rows
+            (record { certificate = c; of_plan = of_plan; verified = subst (λ (v : List ℕ). IsVerified plan v b) (sym reading.weights_are) verified; other = λ same. other (sym same) })
+
+        -- what is accepted has this text
+        pub verified-text : (b : ℕ) → b ≡ c.bound → certificate_text (record { plan = plan; weights = ws; bound = b }) ≡ text
+        verified-text b is =
+            let same : zip plan.events ws ≡ c.events =
+            ap (λ (ns : List (List ℕ)). zip ns ws) (sym of_plan.events) ∙ ap (zip (names_in c)) (sym reading.weights_are) ∙ zip-parts c.events in
+            ap (λ (n : ℕ). text_of (record { bound = n; events = zip plan.events ws })) is
+            ∙ ap (λ (events : List (List ℕ × ℕ)). text_of (record { bound = c.bound; events = events })) same
+            ∙ sym text_is.1

@@ -4,11 +4,12 @@ use Rattle.mpf_plan.specs.PlanView.{PlanView}
 use Rattle.mpf_plan.specs.Valid.{IsValid}
 use Rattle.config_checker.specs.declared.line.Line.{Line}
 use Rattle.config_checker.specs.declared.line.Happening.TheVariants as tells
-use Rattle.config_checker.specs.Cost.{Cost}
-use Rattle.config_checker.specs.Machine.{Machine, Posted}
+use Rattle.cascade_rank.specs.Cost.{Cost}
+use Rattle.cascade_rank.proofs.Within.{IsBelow}
+use Rattle.event_queue.specs.declared.queue.Posted.{Posted}
+use Rattle.config_checker.specs.Machine.{Machine}
 use Rattle.config_checker.specs.EventStep.{EventStep, EventSteps}
 use Rattle.config_checker.specs.Run.{Stimulus, IsAllowed, begin, IsRun}
-use Rattle.config_checker.proofs.Within.{IsBelow}
 use Rattle.config_checker.proofs.Does.{Does, wrote}
 use Rattle.config_checker.proofs.Parts.{does-event}
 use Rattle.config_checker.proofs.Order.{order_below}

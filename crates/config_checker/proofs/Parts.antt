@@ -1,6 +1,6 @@
 -- Each part of the machine does its cost.
 use Rattle.std.proofs.Common.{ℕ, Bool, true, false, if◌then◌else◌, List}
-use Rattle.mpf_plan.specs.PlanView.{PlanView}
+use Rattle.mpf_plan.specs.PlanView.{PlanView, list_at}
 use Rattle.mpf_plan.specs.declared.entries.ListId.{ListId}
 use Rattle.mpf_plan.specs.declared.entries.Owner.{Owner}
 use Rattle.mpf_plan.specs.declared.entries.Owner.TheVariants as owners
@@ -11,8 +11,9 @@ use Rattle.mpf_plan.specs.declared.entries.Target.TheVariants.{Run}
 use Rattle.mpf_plan.specs.declared.entries.Binding.{Binding}
 use Rattle.switch_core.specs.SwitchStep.{changed, is_taken, fired}
 use Rattle.config_checker.specs.declared.line.Happening.TheVariants as tells
-use Rattle.config_checker.specs.Cost.{Cost, Lines, each_of, cost_of_post, cost_of_action, actions_of, cost_of_list, cost_of_target, posts_of, cost_of_acceptance}
-use Rattle.config_checker.specs.Machine.{Machine, Posted, write, post, do_action, do_list, do_target, do_binding, planned, kind_at, switch_at, level_of, tell_switch, set_changed, change_switch, fire_switch}
+use Rattle.cascade_rank.specs.Cost.{Cost, Lines, each_of, cost_of_post, cost_of_action, cost_of_list, cost_of_target, cost_of_binding, posts_of, cost_of_acceptance}
+use Rattle.event_queue.specs.declared.queue.Posted.{Posted}
+use Rattle.config_checker.specs.Machine.{Machine, write, post, do_action, do_list, do_target, do_binding, planned, kind_at, switch_at, level_of, tell_switch, set_changed, change_switch, fire_switch}
 use Rattle.config_checker.specs.EventStep.{after_event, taken}
 use Rattle.config_checker.specs.Run.{Stimulus, Change, Alarm, Wait, arrived, begin}
 use Rattle.config_checker.specs.GoodRun.{cost_of_stimulus}
@@ -29,21 +30,17 @@ moment_of (Wait at) = at
 
 module _ (plan : PlanView) where
   pub does-list : (owner : Owner) (l : ListId) (s : Machine) → Does (cost_of_list plan l) s (do_list plan owner l s)
-  does-list owner l s = all_do-does (do_action owner) cost_of_action (does-action owner) (actions_of plan l) s
+  does-list owner l s = all_do-does (do_action owner) cost_of_action (does-action owner) (list_at plan l) s
 
   pub does-target : (owner : Owner) (t : Target) (s : Machine) → Does (cost_of_target plan t) s (do_target plan owner t s)
   does-target owner (Run l) s = does-list owner l s
 
-  -- what a binding does when its turn comes
-  abbrev pub cost_of_binding : Binding → Cost
-  cost_of_binding b = cost_of_target plan b.target
-
-  pub does-binding : (b : Binding) (s : Machine) → Does (cost_of_binding b) s (do_binding plan b s)
+  pub does-binding : (b : Binding) (s : Machine) → Does (cost_of_binding plan b) s (do_binding plan b s)
   does-binding b s = does-target b.owner b.target s
 
   -- what an event step does once its event was taken
-  pub does-event : (first : Posted) (rest : List Posted) (order : List Binding) (s : Machine) → Does (each_of cost_of_binding order) (taken first rest s) (after_event plan first rest order s)
-  does-event first rest order s = all_do-does (do_binding plan) cost_of_binding does-binding order (taken first rest s)
+  pub does-event : (first : Posted) (rest : List Posted) (order : List Binding) (s : Machine) → Does (each_of (cost_of_binding plan) order) (taken first rest s) (after_event plan first rest order s)
+  does-event first rest order s = all_do-does (do_binding plan) (cost_of_binding plan) does-binding order (taken first rest s)
 
   -- the acceptance of a switch is told
   pub does-tell : (active : Bool) (n : ℕ) (s : Machine) → Does (cost_of_acceptance active (planned plan n)) s (tell_switch plan n active s)

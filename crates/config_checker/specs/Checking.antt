@@ -1,46 +1,81 @@
 -- What the checker answers.
-use Rattle.std.specs.Prelude.{ℕ, ◌&&◌, nat_le, if◌then◌else◌, Option, Some, None, List, [], ◌∷◌, length, map, slice_index, slice_index_or, Result, Ok, Err}
-use Rattle.std.specs.List.{list_all, position, range_with_len}
+use Rattle.std.specs.Prelude.{ℕ, ◌==◌, ◌&&◌, Bool, true, false, if◌then◌else◌, List, [], ◌∷◌, map, slice_index, slice_index_or, Result, Ok, Err}
+use Rattle.std.specs.Str.{bytes_eq}
 use Rattle.mpf_config.specs.Rows.{Rows}
 use Rattle.mpf_plan.specs.declared.fault.Table.{Table}
 use Rattle.mpf_plan.specs.PlanView.{PlanView}
 use Rattle.mpf_plan.specs.PlanOf.{plan_at}
-use Rattle.config_checker.specs.Weights.{need, bound_of, greatest}
-use Rattle.config_checker.specs.Feeding.{is_fed}
+use Rattle.cascade_rank.specs.Weights.{bound_of}
+use Rattle.cascade_rank.specs.Finding.{RankView, found_at, verified_at}
+use Rattle.cascade_rank.specs.Finding as ranks
 use Rattle.config_checker.specs.CheckedView.{CheckedView}
+use Rattle.config_checker.specs.CertificateText.{Certificate}
+use Rattle.config_checker.specs.CertificateOf.{certificate_at}
+
+-- what is wrong with a certificate
+pub data CertificateFaultView : Type 0 where
+  -- the first bad line
+  bad_line : (number : ℕ) → CertificateFaultView
+  -- its events are not those of the plan
+  other_events : CertificateFaultView
+  -- the event weighs less than it needs
+  short : (name : List ℕ) (needed : ℕ) → CertificateFaultView
+  -- its bound is not that of its weights, which is this
+  other_bound : (bound : ℕ) → CertificateFaultView
 
 -- a fault, apart from where it lies in memory
 pub data FaultView : Type 0 where
   limit : Table → FaultView
   cycle : List (List ℕ) → FaultView
   bound : FaultView
+  certificate : CertificateFaultView → FaultView
 
--- what f gives for each event of the plan, in the order of their numbers
-abbrev pub by_event : {X : Type 0} → PlanView → (ℕ → X) → List X
-by_event plan f = map f (range_with_len 0 (length plan.events))
+abbrev pub name_of : PlanView → ℕ → List ℕ
+name_of plan e = slice_index_or plan.events e []
 
--- the lowest-numbered event that is both posted and handled, if there is one
-abbrev pub first_fed : PlanView → Option ℕ
-first_fed plan = position (is_fed plan) (range_with_len 0 (length plan.events))
+-- what is wrong, by the names of the events
+abbrev pub fault_of : PlanView → RankView → FaultView
+fault_of plan (ranks.cycle events) = cycle (map (name_of plan) events)
+fault_of plan ranks.bound_too_large = bound
+fault_of plan (ranks.short event needed) = certificate (short (name_of plan event) needed)
+fault_of plan ranks.wrong_events = certificate other_events
 
--- what each event costs where every event weighs 1
-abbrev pub weights_of : PlanView → List ℕ
-weights_of plan = by_event plan (need plan (λ _. 1))
+-- ---- with the least weights
 
--- accepted with these weights, where none and not the bound is above the limit
-abbrev pub weighed : PlanView → List ℕ → Result CheckedView FaultView
-weighed plan weights =
-    if list_all (λ w. nat_le w greatest) weights && nat_le (bound_of plan (slice_index weights)) greatest
-    then Ok (record { plan = plan; weights = weights; bound = bound_of plan (slice_index weights) })
-    else Err bound
-
--- an event that is both posted and handled is told before a weight above the limit
-abbrev pub judged_at : PlanView → Option ℕ → Result CheckedView FaultView
-judged_at plan (Some e) = Err (cycle (slice_index_or plan.events e [] ∷ []))
-judged_at plan None = weighed plan (weights_of plan)
+abbrev pub weighed : PlanView → Result (List ℕ) RankView → Result CheckedView FaultView
+weighed plan (Ok weights) = Ok (record { plan = plan; weights = weights; bound = bound_of plan (slice_index weights) })
+weighed plan (Err fault) = Err (fault_of plan fault)
 
 unfoldable pub judged : PlanView → Result CheckedView FaultView
-judged plan = judged_at plan (first_fed plan)
+judged plan = weighed plan (found_at plan)
+
+-- ---- with the weights of a certificate
+
+abbrev pub same_names : List (List ℕ) → List (List ℕ) → Bool
+same_names [] [] = true
+same_names (x ∷ xs) (y ∷ ys) = bytes_eq x y && same_names xs ys
+same_names [] (y ∷ ys) = false
+same_names (x ∷ xs) [] = false
+
+abbrev pub names_in : Certificate → List (List ℕ)
+names_in c = map (λ e. e.0) c.events
+
+abbrev pub weights_in : Certificate → List ℕ
+weights_in c = map (λ e. e.1) c.events
+
+-- the weights are judged before the bound that is stated
+abbrev pub bounded : PlanView → Certificate → Result ℕ RankView → Result CheckedView FaultView
+bounded plan c (Ok b) = if b == c.bound then Ok (record { plan = plan; weights = weights_in c; bound = b }) else Err (certificate (other_bound b))
+bounded plan c (Err fault) = Err (fault_of plan fault)
+
+abbrev pub certified : PlanView → Result Certificate ℕ → Result CheckedView FaultView
+certified plan (Ok c) = if same_names plan.events (names_in c) then bounded plan c (verified_at plan (weights_in c)) else Err (certificate other_events)
+certified plan (Err number) = Err (certificate (bad_line number))
+
+unfoldable pub judged_with : List ℕ → PlanView → Result CheckedView FaultView
+judged_with text plan = certified plan (certificate_at text)
+
+-- ---- rows
 
 -- a fault is told alone
 abbrev pub alone : {X Y : Type 0} → Result X Y → Result X (List Y)
@@ -48,9 +83,13 @@ alone (Ok x) = Ok x
 alone (Err y) = Err (y ∷ [])
 
 -- a table above its limit is told before all others
-abbrev pub checked : Result PlanView Table → Result CheckedView (List FaultView)
-checked (Ok plan) = alone (judged plan)
-checked (Err t) = Err (limit t ∷ [])
+abbrev pub checked : (PlanView → Result CheckedView FaultView) → Result PlanView Table → Result CheckedView (List FaultView)
+checked judge (Ok plan) = alone (judge plan)
+checked judge (Err t) = Err (limit t ∷ [])
 
 unfoldable pub checked_at : Rows → Result CheckedView (List FaultView)
-checked_at rows = checked (plan_at rows)
+checked_at rows = checked judged (plan_at rows)
+
+-- the certificate's weights are taken as they are
+unfoldable pub checked_with_at : Rows → List ℕ → Result CheckedView (List FaultView)
+checked_with_at rows text = checked (judged_with text) (plan_at rows)

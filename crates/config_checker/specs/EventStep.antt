@@ -1,32 +1,17 @@
 -- One event is taken from the queue and handled.
-use Rattle.std.specs.Prelude.{◌≡◌, ℕ, zero, suc, ◌≤◌, Bool, true, ◌&&◌, ◌==◌, List, [], ◌∷◌}
-use Rattle.std.specs.List.{filter, AllByRecursion}
-use Rattle.std.specs.List.Sorted.{IsPermutation}
+use Rattle.std.specs.Prelude.{◌≡◌, ℕ, zero, suc, Bool, true, List, ◌∷◌}
 use Rattle.mpf_plan.specs.PlanView.{PlanView}
-use Rattle.mpf_plan.specs.declared.entries.EventId.{EventId}
 use Rattle.mpf_plan.specs.declared.entries.Owner.{Owner}
 use Rattle.mpf_plan.specs.declared.entries.Owner.TheVariants as owners
 use Rattle.mpf_plan.specs.declared.entries.Binding.{Binding}
 use Rattle.config_checker.specs.declared.line.Happening.TheVariants as tells
-use Rattle.config_checker.specs.Machine.{Machine, Posted, write, all_do, do_binding}
+use Rattle.event_queue.specs.declared.queue.Posted.{Posted}
+use Rattle.event_queue.specs.Handlers.{IsHandlerOrder}
+use Rattle.config_checker.specs.Machine.{Machine, write, all_do, do_binding}
 
 -- whether the owner's bindings run: the machine's always do
 abbrev pub takes_part : Machine → Owner → Bool
 takes_part s owners.Machine = true
-
--- the bindings on the event whose owner takes part
-abbrev pub handlers : PlanView → Machine → EventId → List Binding
-handlers plan s e = filter (λ b. (b.event.0 == e.0) && takes_part s b.owner) plan.bindings
-
--- no binding has a greater priority than one before it
-abbrev pub IsDescending : List Binding → Type 0
-IsDescending [] = Unit {0}
-IsDescending (b ∷ bs) = AllByRecursion (λ c. c.priority ≤ b.priority) bs × IsDescending bs
-
--- any order of the event's handlers that is descending in priority
-pub record IsHandlerOrder (plan : PlanView) (s : Machine) (e : EventId) (order : List Binding) : Type 0 where
-  pub permutation : IsPermutation (handlers plan s e) order
-  pub descending : IsDescending order
 
 -- the first waiting event is taken, and its line comes
 abbrev pub taken : Posted → List Posted → Machine → Machine
@@ -42,7 +27,7 @@ pub record EventStep (plan : PlanView) (old new : Machine) : Type 0 where
   pub rest : List Posted
   pub waiting : old.waiting ≡ first ∷ rest
   pub order : List Binding
-  pub in_order : IsHandlerOrder plan old first.event order
+  pub in_order : IsHandlerOrder plan.bindings (takes_part old) first.event order
   pub new_is : new ≡ after_event plan first rest order old
 
 -- so many event steps

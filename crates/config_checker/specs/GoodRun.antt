@@ -4,8 +4,9 @@ use Rattle.mpf_plan.specs.PlanView.{PlanView}
 use Rattle.switch_core.specs.SwitchStep.{raw_at_rest, is_taken}
 use Rattle.switch_core.specs.AcceptedLevel.{accepted_level}
 use Rattle.config_checker.specs.declared.line.Line.{Line}
-use Rattle.config_checker.specs.Cost.{Cost, Lines, price, cost_of_acceptance}
-use Rattle.config_checker.specs.Machine.{Machine, Posted, initial, planned, kind_at, switch_at, level_of}
+use Rattle.cascade_rank.specs.Cost.{Cost, Lines, price, cost_of_acceptance}
+use Rattle.event_queue.specs.declared.queue.Posted.{Posted}
+use Rattle.config_checker.specs.Machine.{Machine, initial, planned, kind_at, switch_at, level_of}
 use Rattle.config_checker.specs.EventStep.{EventStep, EventSteps}
 use Rattle.config_checker.specs.Run.{Stimulus, Change, Alarm, Wait, IsQuietUntil, IsAllowed, begin, IsRun}
 use Rattle.config_checker.specs.RawChanges.{raw_changes}

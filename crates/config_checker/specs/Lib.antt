@@ -1,6 +1,3 @@
-pub mod Cost
-pub mod Weights
-pub mod Feeding
 pub mod Machine
 pub mod EventStep
 pub mod Run
@@ -9,9 +6,11 @@ pub mod PlanOrder
 pub mod CheckedView
 pub mod GoodRun
 pub mod Accepted
+pub mod CertificateText
+pub mod CertificateOf
+pub mod CertificateRead
 pub mod Checking
 pub mod View
 pub mod Refused
-pub mod Capped
-pub mod CertificateText
+pub mod ReadAgain
 pub mod ReportText

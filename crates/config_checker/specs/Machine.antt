@@ -1,6 +1,6 @@
 -- The machine's state, and what each thing does to it.
 use Rattle.std.specs.Prelude.{ℕ, Bool, if◌then◌else◌, List, [], ◌∷◌, ◌++◌, map, slice_index_or, slice_set}
-use Rattle.mpf_plan.specs.PlanView.{PlanView, Switch, no_switch}
+use Rattle.mpf_plan.specs.PlanView.{PlanView, Switch, no_switch, list_at}
 use Rattle.mpf_plan.specs.declared.entries.SwitchKind.{SwitchKind}
 use Rattle.mpf_plan.specs.declared.entries.EventId.{EventId}
 use Rattle.mpf_plan.specs.declared.entries.ListId.{ListId}
@@ -15,12 +15,8 @@ use Rattle.switch_core.specs.SwitchStep.{SwitchState, is_active, idle, changed, 
 use Rattle.config_checker.specs.declared.line.Line.{Line}
 use Rattle.config_checker.specs.declared.line.Happening.{Happening}
 use Rattle.config_checker.specs.declared.line.Happening.TheVariants as tells
-use Rattle.config_checker.specs.Cost.{actions_of, posts_of}
-
--- an event that waits, and who posted it
-pub record Posted : Type 0 where
-  pub event : EventId
-  pub owner : Owner
+use Rattle.event_queue.specs.declared.queue.Posted.{Posted}
+use Rattle.cascade_rank.specs.Cost.{posts_of}
 
 pub record Machine : Type 0 where
   -- the moment of the latest stimulus, in milliseconds
@@ -58,7 +54,7 @@ abbrev pub do_action : Owner → Action → Machine → Machine
 do_action owner (Post e) s = post owner e s
 
 abbrev pub do_list : PlanView → Owner → ListId → Machine → Machine
-do_list plan owner l s = all_do (do_action owner) (actions_of plan l) s
+do_list plan owner l s = all_do (do_action owner) (list_at plan l) s
 
 abbrev pub do_target : PlanView → Owner → Target → Machine → Machine
 do_target plan owner (Run l) s = do_list plan owner l s

@@ -1,24 +1,17 @@
--- The order that the controller takes: higher priorities first, equal ones in plan order.
-use Rattle.std.specs.Prelude.{ℕ, zero, suc, nat_lt, if◌then◌else◌, List, [], ◌∷◌}
+-- The event steps that the controller takes: handlers of higher priority first, equal ones in plan order.
+use Rattle.std.specs.Prelude.{ℕ, zero, suc, List, [], ◌∷◌}
 use Rattle.mpf_plan.specs.PlanView.{PlanView}
-use Rattle.mpf_plan.specs.declared.entries.Binding.{Binding}
-use Rattle.config_checker.specs.Machine.{Machine, Posted}
-use Rattle.config_checker.specs.EventStep.{handlers, after_event}
-
--- a binding put before the first one of no greater priority
-abbrev pub insert_binding : Binding → List Binding → List Binding
-insert_binding b [] = b ∷ []
-insert_binding b (c ∷ cs) = if nat_lt b.priority c.priority then c ∷ insert_binding b cs else b ∷ c ∷ cs
-
--- bindings by priority, highest first, equal ones as they stand
-abbrev pub by_priority : List Binding → List Binding
-by_priority [] = []
-by_priority (b ∷ bs) = insert_binding b (by_priority bs)
+use Rattle.event_queue.specs.declared.queue.Posted.{Posted}
+use Rattle.event_queue.specs.Handlers.{handlers}
+use Rattle.event_queue.specs.PlanOrder.{by_priority}
+use Rattle.config_checker.specs.Machine.{Machine}
+use Rattle.config_checker.specs.EventStep.{takes_part, after_event}
+use Rattle.config_checker.specs.Run.{Stimulus, begin}
 
 -- the event step with this order; nothing where no event waits
 abbrev pub plan_step_from : PlanView → List Posted → Machine → Machine
 plan_step_from plan [] s = s
-plan_step_from plan (first ∷ rest) s = after_event plan first rest (by_priority (handlers plan s first.event)) s
+plan_step_from plan (first ∷ rest) s = after_event plan first rest (by_priority (handlers plan.bindings (takes_part s) first.event)) s
 
 abbrev pub plan_step : PlanView → Machine → Machine
 plan_step plan s = plan_step_from plan s.waiting s
@@ -27,3 +20,7 @@ plan_step plan s = plan_step_from plan s.waiting s
 abbrev pub plan_steps : PlanView → ℕ → Machine → Machine
 plan_steps plan zero s = s
 plan_steps plan (suc n) s = plan_steps plan n (plan_step plan s)
+
+-- the state after a stimulus and its event steps, of which there are at most as many as the bound
+abbrev pub settled : PlanView → ℕ → Stimulus → Machine → Machine
+settled plan bound stimulus s = plan_steps plan bound (begin plan stimulus s)

@@ -1,40 +1,89 @@
--- Why a configuration is refused.
-use Rattle.std.specs.Prelude.{◌≡◌, ℕ, ◌<◌, ◌≤◌, ◌⊎◌, List, [], ◌∷◌, map, slice_index, slice_index_or}
-use Rattle.std.specs.List.{All}
+-- Why a configuration or a certificate is refused.
+use Rattle.std.specs.Prelude.{◌≡◌, ◌≢◌, ℕ, List, [], ◌∷◌, map}
 use Rattle.mpf_config.specs.Rows.{Rows}
 use Rattle.mpf_plan.specs.PlanView.{PlanView}
 use Rattle.mpf_plan.specs.PlanOf.{plan_of, IsExceeded}
+use Rattle.cascade_rank.specs.Finding as ranks
+use Rattle.cascade_rank.specs.Found.{IsUnfound}
+use Rattle.cascade_rank.specs.Verified.{IsVerified, IsFirstShort, IsUnverified}
 use Rattle.config_checker.specs.declared.report.Report.{Report}
 use Rattle.config_checker.specs.declared.report.Report.TheVariants as reports
-use Rattle.config_checker.specs.Weights.{IsLeastFitting, bound_of, greatest}
-use Rattle.config_checker.specs.Feeding.{IsUnfed, IsFirstFed}
-use Rattle.config_checker.specs.Checking.{FaultView, limit, cycle, bound}
+use Rattle.config_checker.specs.CertificateText.{Certificate}
+use Rattle.config_checker.specs.CertificateOf.{IsTextOf}
+use Rattle.config_checker.specs.Checking.{CertificateFaultView, bad_line, other_events, short, other_bound, FaultView, limit, cycle, bound, certificate, name_of, names_in, weights_in}
 use Rattle.config_checker.specs.View.{fault_view}
 
--- the one name is that of the lowest-numbered event that is both posted and handled
+-- the names are those of events that lead to each other: of the cycle that is told
 pub record IsCycleOf (plan : PlanView) (names : List (List ℕ)) : Type 0 where
-  pub event : ℕ
-  pub first : IsFirstFed plan event
-  pub name : names ≡ slice_index_or plan.events event [] ∷ []
+  pub events : List ℕ
+  pub reason : IsUnfound plan (ranks.cycle events)
+  pub names_are : names ≡ map (name_of plan) events
 
--- no event is both posted and handled, and one of the least weights or the bound is above the limit
-pub record IsTooDear (plan : PlanView) : Type 0 where
-  pub unfed : IsUnfed plan
-  pub weights : List ℕ
-  pub least : IsLeastFitting plan weights
-  pub above : (¬ (All (λ w. w ≤ greatest) weights)) ⊎ (greatest < bound_of plan (slice_index weights))
+-- the table is the first that is above its limit
+abbrev pub IsLimitFault : Rows → FaultView → Type 0
+IsLimitFault rows (limit t) = IsExceeded rows t
+IsLimitFault rows (cycle names) = ⊥
+IsLimitFault rows bound = ⊥
+IsLimitFault rows (certificate fault) = ⊥
 
--- The fault says what is wrong with the plan.
-abbrev pub IsFaultOfPlan : PlanView → FaultView → Type 0
-IsFaultOfPlan plan (limit t) = ⊥
-IsFaultOfPlan plan (cycle names) = IsCycleOf plan names
-IsFaultOfPlan plan bound = IsTooDear plan
+-- ---- with the least weights
 
--- The fault says what is wrong with the rows: a table of their plan is above its limit, or what is wrong with that plan.
+-- The fault says what is wrong with the rows: a table of their plan is above its limit, its events lead to each other, or
+-- its least weights or their bound are above the limit.
 abbrev pub IsFaultOf : Rows → FaultView → Type 0
 IsFaultOf rows (limit t) = IsExceeded rows t
 IsFaultOf rows (cycle names) = IsCycleOf (plan_of rows) names
-IsFaultOf rows bound = IsTooDear (plan_of rows)
+IsFaultOf rows bound = IsUnfound (plan_of rows) ranks.bound_too_large
+IsFaultOf rows (certificate fault) = ⊥
+
+-- ---- with a certificate
+
+-- the text is a certificate of the plan's events
+pub record IsCertificateOf (plan : PlanView) (text : List ℕ) (c : Certificate) : Type 0 where
+  pub text_is : IsTextOf c text
+  pub events : names_in c ≡ plan.events
+
+-- the text is no certificate
+abbrev pub IsNoCertificate : List ℕ → Type 0
+IsNoCertificate text = (c : Certificate) → ¬ (IsTextOf c text)
+
+pub record HasOtherEvents (plan : PlanView) (text : List ℕ) : Type 0 where
+  pub certificate : Certificate
+  pub text_is : IsTextOf certificate text
+  pub other : names_in certificate ≢ plan.events
+
+pub record IsShort (plan : PlanView) (text name : List ℕ) (needed : ℕ) : Type 0 where
+  pub certificate : Certificate
+  pub of_plan : IsCertificateOf plan text certificate
+  pub event : ℕ
+  pub first : IsFirstShort plan (weights_in certificate) event needed
+  pub name_is : name ≡ name_of plan event
+
+-- the weights serve, and have another bound
+pub record HasOtherBound (plan : PlanView) (text : List ℕ) (right : ℕ) : Type 0 where
+  pub certificate : Certificate
+  pub of_plan : IsCertificateOf plan text certificate
+  pub verified : IsVerified plan (weights_in certificate) right
+  pub other : certificate.bound ≢ right
+
+-- the weights fit, and one of them or their bound is above the limit
+pub record HasTooMuch (plan : PlanView) (text : List ℕ) : Type 0 where
+  pub certificate : Certificate
+  pub of_plan : IsCertificateOf plan text certificate
+  pub above : IsUnverified plan (weights_in certificate) ranks.bound_too_large
+
+abbrev pub IsCertificateFault : PlanView → List ℕ → CertificateFaultView → Type 0
+IsCertificateFault plan text (bad_line number) = IsNoCertificate text
+IsCertificateFault plan text other_events = HasOtherEvents plan text
+IsCertificateFault plan text (short name needed) = IsShort plan text name needed
+IsCertificateFault plan text (other_bound right) = HasOtherBound plan text right
+
+-- the fault says what is wrong with the rows or with the certificate
+abbrev pub IsFaultWith : Rows → List ℕ → FaultView → Type 0
+IsFaultWith rows text (limit t) = IsExceeded rows t
+IsFaultWith rows text (cycle names) = ⊥
+IsFaultWith rows text bound = HasTooMuch (plan_of rows) text
+IsFaultWith rows text (certificate fault) = IsCertificateFault (plan_of rows) text fault
 
 -- A report tells one fault, and one that is there, unless memory ran out.
 abbrev pub TellsOne : (FaultView → Type 0) → Report → Type 0

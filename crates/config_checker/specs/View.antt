@@ -1,16 +1,29 @@
 -- What contracts see of an answer.
-use Rattle.std.specs.Prelude.{◌≡◌, List, [], ◌∷◌, map, Result, Ok, Err}
+use Rattle.std.specs.Prelude.{◌≡◌, ◌<◌, List, [], ◌∷◌, length, map, Result, Ok, Err}
+use Rattle.std.specs.List.{All}
+use Rattle.mpf_plan.specs.PlanView.{PlanView}
+use Rattle.cascade_rank.specs.Finding.{RankView}
+use Rattle.cascade_rank.specs.Finding as ranks
+use Rattle.config_checker.specs.declared.report.CertificateFault.{CertificateFault}
+use Rattle.config_checker.specs.declared.report.CertificateFault.TheVariants as certificates
 use Rattle.config_checker.specs.declared.report.Fault.{Fault}
 use Rattle.config_checker.specs.declared.report.Fault.TheVariants as faults
 use Rattle.config_checker.specs.declared.report.Report.{Report}
 use Rattle.config_checker.specs.declared.report.Report.TheVariants as reports
 use Rattle.config_checker.specs.CheckedView.{CheckedView}
-use Rattle.config_checker.specs.Checking.{FaultView, limit, cycle, bound}
+use Rattle.config_checker.specs.Checking.{CertificateFaultView, bad_line, other_events, short, other_bound, FaultView, limit, cycle, bound, certificate}
+
+abbrev pub certificate_fault_view : CertificateFault → CertificateFaultView
+certificate_fault_view (certificates.Line number) = bad_line number
+certificate_fault_view certificates.Events = other_events
+certificate_fault_view (certificates.Short event needed) = short event.items needed
+certificate_fault_view (certificates.Bound stated) = other_bound stated
 
 abbrev pub fault_view : Fault → FaultView
 fault_view (faults.Limit t) = limit t
 fault_view (faults.Cycle names) = cycle (map (λ v. v.items) names.items)
 fault_view faults.Bound = bound
+fault_view (faults.Certificate c) = certificate (certificate_fault_view c)
 
 -- An answer is what checking gives, unless memory ran out.
 abbrev pub GivesChecked : Result CheckedView Report → Result CheckedView (List FaultView) → Type 0
@@ -22,3 +35,10 @@ GivesChecked (Err (reports.Faults faults)) checked = checked ≡ Err (map fault_
 abbrev pub TellsFault : Report → FaultView → Type 0
 TellsFault reports.NoMemory fault = Unit {0}
 TellsFault (reports.Faults faults) fault = map fault_view faults.items ≡ fault ∷ []
+
+-- the events that are told of are the plan's
+abbrev pub HasEvents : PlanView → RankView → Type 0
+HasEvents plan (ranks.cycle events) = All (λ e. e < length plan.events) events
+HasEvents plan ranks.bound_too_large = Unit {0}
+HasEvents plan (ranks.short event needed) = event < length plan.events
+HasEvents plan ranks.wrong_events = Unit {0}

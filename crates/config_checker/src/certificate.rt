@@ -2,7 +2,7 @@
 
 ghost use Rattle.std.specs.Prelude.{OnOk};
 ghost use Rattle.std.specs.Io.KnownBytes.{Appends};
-ghost use Rattle.config_checker.specs.CertificateText.{certificate_text, event_line, event_lines};
+ghost use Rattle.config_checker.specs.CertificateText.{certificate_of, certificate_text, event_line, event_lines};
 
 use crate::checked::Checked;
 use mpf_plan::entries::EventId;
@@ -20,11 +20,16 @@ pub fn write_certificate<W: Write>(checked: &Checked, writer: &mut W) -> io::Res
 
 /// Writes the lines of the events.
 fn write_events<W: Write>(checked: &Checked, writer: &mut W) -> io::Result<()>
-    ensures { OnOk result (Appends (W.contents writer.old) (W.contents writer.new) (event_lines checked.now.plan.events checked.now.weights)) }
+    ensures { OnOk result (Appends (W.contents writer.old) (W.contents writer.new) (event_lines (certificate_of checked.now).events)) }
 {
     let plan = checked.plan();
-    for (number, weight) in checked.weights().iter().enumerate() {
-        write_event(plan.event_name(EventId(number as u16)), *weight, writer)?;
+    let weights = checked.weights();
+    for number in 0..plan.event_count() {
+        let event = EventId(number as u16);
+        let Some(weight) = weights.get(event) else {
+            unreachable!()
+        };
+        write_event(plan.event_name(event), weight, writer)?;
     }
     Ok(())
 }

@@ -1,5 +1,6 @@
 //! A configuration that was accepted.
 
+use cascade_rank::Weights;
 use mpf_plan::Plan;
 use std::marker::Model;
 
@@ -7,7 +8,7 @@ use std::marker::Model;
 #[derive(Drop)]
 pub struct Checked {
     plan: Plan,
-    weights: Vec<u32>,
+    weights: Weights,
     bound: u32,
 }
 
@@ -18,9 +19,9 @@ impl Model for Checked {
 
     ghost use Rattle.config_checker.specs.Accepted.{IsAccepted};
 
-    ghost view = { λ c. record { plan = c.plan; weights = c.weights.items; bound = c.bound } };
+    ghost view = { λ c. record { plan = c.plan; weights = c.weights; bound = c.bound } };
 
-    ghost invariant = { λ c. IsAccepted (record { plan = c.plan; weights = c.weights.items; bound = c.bound }) };
+    ghost invariant = { λ c. IsAccepted (record { plan = c.plan; weights = c.weights; bound = c.bound }) };
 }
 
 impl Checked {
@@ -29,9 +30,9 @@ impl Checked {
     ghost use Rattle.config_checker.specs.Accepted.{IsAccepted};
     ghost use Rattle.config_checker.specs.GoodRun.{IsGood};
 
-    pub(crate) fn new(plan: Plan, weights: Vec<u32>, bound: u32) -> Checked
-        requires { IsAccepted (record { plan = plan; weights = weights.items; bound = bound }) }
-        ensures { result ≡ record { plan = plan; weights = weights.items; bound = bound } }
+    pub(crate) fn new(plan: Plan, weights: Weights, bound: u32) -> Checked
+        requires { IsAccepted (record { plan = plan; weights = weights; bound = bound }) }
+        ensures { result ≡ record { plan = plan; weights = weights; bound = bound } }
     {
         Checked {
             plan,
@@ -49,8 +50,8 @@ impl Checked {
         &self.plan
     }
 
-    /// The weight of each event, in the order of their numbers.
-    pub fn weights(&self) -> &[u32]
+    /// The weight of each event: how many lines it leads to at most.
+    pub fn weights(&self) -> &Weights
         ensures weights { result.now ≡ self.now.weights }
         ensures accepted { IsAccepted self.now }
         ensures good { IsGood self.now }
@@ -58,7 +59,7 @@ impl Checked {
         &self.weights
     }
 
-    /// The bound: how many lines a stimulus leads to at most.
+    /// The bound: how many lines a stimulus leads to at most, 0 to 10,000.
     pub fn bound(&self) -> u32
         ensures bound { result ≡ self.now.bound }
         ensures accepted { IsAccepted self.now }

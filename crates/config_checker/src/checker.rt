@@ -1,75 +1,115 @@
 //! The checker.
 
-ghost use Rattle.std.specs.Prelude.{◌≡◌, ℕ, [], ◌∷◌, Err, Ok, IfOk, IfErr};
+ghost use Rattle.std.specs.Prelude.{◌≡◌, Ok, IfOk, IfErr, map};
 ghost use Rattle.mpf_config.specs.View.{rows_view};
 ghost use Rattle.mpf_plan.specs.PlanOf.{plan_at};
+ghost use Rattle.cascade_rank.specs.Weights.{IsLeastFitting};
 ghost use Rattle.config_checker.specs.Accepted.{IsAccepted};
 ghost use Rattle.config_checker.specs.GoodRun.{IsGood};
-ghost use Rattle.config_checker.specs.View.{GivesChecked, TellsFault, fault_view};
-ghost use Rattle.config_checker.specs.Checking.{cycle, checked, checked_at};
-ghost use Rattle.config_checker.specs.Refused.{IsFaultOf, IsFaultOfPlan, TellsOne};
+ghost use Rattle.config_checker.specs.CertificateText.{certificate_text};
+ghost use Rattle.config_checker.specs.View.{GivesChecked};
+ghost use Rattle.config_checker.specs.Checking.{same_names, checked_at, checked_with_at};
+ghost use Rattle.config_checker.specs.Refused.{IsLimitFault, IsFaultOf, IsFaultWith, TellsOne};
 
+use crate::certificate_reader::{CertificateLines, ReadFault, read_certificate};
 use crate::checked::Checked;
-use crate::feeding::find_fed;
-use crate::report::{Fault, Report};
-use crate::weights::{GREATEST, find_bound, weigh};
+use crate::report::{CertificateFault, Fault, Report};
+use crate::telling::{named_fault, tell};
+use cascade_rank::{Weights, find, verify};
 use mpf_config::config::Config;
-use mpf_plan::Plan;
-use mpf_plan::fault::PlanFault;
-use std::alloc::{AllocError, Global};
+use mpf_plan::{EventId, Plan, PlanFault};
+use std::alloc::Global;
 
-/// Checks a configuration: its plan with the least weights that fit and the bound of a stimulus,
-/// or the report of why there is none. A report of `NoMemory` says that memory ran out.
+/// Checks a configuration: its plan, with the least weights that fit and the bound of a stimulus.
+///
+/// # Errors
+///
+/// The report tells one fault: `Limit` of the first table that is above its limit; else `Cycle`
+/// where events lead to each other without end, so that no weights fit; else `Bound` where one
+/// of the least weights or their bound is above 10,000. `NoMemory` says that memory ran out.
 pub fn check(alloc: Global, config: &Config) -> Result<Checked, Report>
     ensures exact { GivesChecked result (checked_at (rows_view config.now)) }
     ensures plan { IfOk result (λ c. plan_at (rows_view config.now) ≡ Ok c.plan) }
     ensures accepted { IfOk result (λ c. IsAccepted c) }
+    ensures least { IfOk result (λ c. IsLeastFitting c.plan c.weights) }
     ensures good { IfOk result (λ c. IsGood c) }
     ensures refused { IfErr result (λ report. TellsOne (IsFaultOf (rows_view config.now)) report) }
 {
-    match mpf_plan::plan(alloc, config) {
-        Ok(plan) => judge(alloc, plan),
-        Err(PlanFault::NoMemory) => Err(Report::NoMemory),
-        Err(PlanFault::Limit(table)) => Err(report_of(alloc, Fault::Limit(table))),
-    }
-}
-
-/// Judges a plan.
-fn judge(alloc: Global, plan: Plan) -> Result<Checked, Report>
-    ensures exact { GivesChecked result (checked (Ok plan)) }
-    ensures plan { IfOk result (λ c. c.plan ≡ plan) }
-    ensures accepted { IfOk result (λ c. IsAccepted c) }
-    ensures refused { IfErr result (λ report. TellsOne (IsFaultOfPlan plan) report) }
-{
-    if let Some(event) = find_fed(alloc, &plan)? {
-        return Err(report_of(alloc, cycle_of(alloc, plan.event_name(event))?));
-    }
-    let Some(weights) = weigh(alloc, &plan)? else {
-        return Err(report_of(alloc, Fault::Bound));
+    let plan = plan_of(alloc, config)?;
+    let weights = match find(alloc, &plan) {
+        Ok(weights) => weights,
+        Err(fault) => return Err(tell(alloc, named_fault(alloc, &plan, fault)?)),
     };
-    let bound = find_bound(&plan, &weights);
-    if bound > u64::from(GREATEST) {
-        return Err(report_of(alloc, Fault::Bound));
-    }
-    Ok(Checked::new(plan, weights, bound as u32))
+    let Ok(bound) = verify(&plan, &weights) else {
+        unreachable!()
+    };
+    Ok(Checked::new(plan, weights, bound.0))
 }
 
-/// The fault of an event that is posted and handled.
-fn cycle_of(alloc: Global, name: &[u8]) -> Result<Fault, AllocError>
-    ensures { IfOk result (λ fault. fault_view fault ≡ cycle (name.now ∷ [])) }
+/// Checks a configuration with a certificate: its plan, with the certificate's weights, whichever
+/// they are, and the bound that they have.
+///
+/// # Errors
+///
+/// The report tells one fault, the first one in this order: `Limit` of the first table that is
+/// above its limit; of the certificate `Line` where the text is none, `Events` where its events
+/// are not the plan's, and `Short` where an event weighs less than it needs; `Bound` where a
+/// weight or the bound is above 10,000; and of the certificate `Bound` where it states another
+/// bound than that of its weights. `NoMemory` says that memory ran out.
+pub fn check_with(alloc: Global, config: &Config, certificate: &[u8]) -> Result<Checked, Report>
+    ensures exact { GivesChecked result (checked_with_at (rows_view config.now) certificate.now) }
+    ensures plan { IfOk result (λ c. plan_at (rows_view config.now) ≡ Ok c.plan) }
+    ensures accepted { IfOk result (λ c. IsAccepted c) }
+    ensures text { IfOk result (λ c. certificate_text c ≡ certificate.now) }
+    ensures good { IfOk result (λ c. IsGood c) }
+    ensures refused { IfErr result (λ report. TellsOne (IsFaultWith (rows_view config.now) certificate.now) report) }
 {
-    let mut names = Vec::with_capacity(alloc, 1)?;
-    names.push_reserved(name.to_vec(alloc)?);
-    Ok(Fault::Cycle(names))
+    let plan = plan_of(alloc, config)?;
+    let CertificateLines {
+        bound: stated,
+        names,
+        weights,
+    } = match read_certificate(alloc, certificate) {
+        Ok(lines) => lines,
+        Err(ReadFault::NoMemory) => return Err(Report::NoMemory),
+        Err(ReadFault::Line(number)) => {
+            return Err(tell(alloc, Fault::Certificate(CertificateFault::Line(number))));
+        }
+    };
+    if !are_events(&plan, &names) {
+        return Err(tell(alloc, Fault::Certificate(CertificateFault::Events)));
+    }
+    let weights = Weights::of(weights);
+    match verify(&plan, &weights) {
+        Ok(bound) if bound.0 == stated => Ok(Checked::new(plan, weights, bound.0)),
+        Ok(bound) => Err(tell(alloc, Fault::Certificate(CertificateFault::Bound(bound.0)))),
+        Err(fault) => Err(tell(alloc, named_fault(alloc, &plan, fault)?)),
+    }
 }
 
-/// The report of one fault.
-fn report_of(alloc: Global, fault: Fault) -> Report
-    ensures { TellsFault result (fault_view fault) }
+/// The plan of a configuration, or the report of the table that is above its limit.
+fn plan_of(alloc: Global, config: &Config) -> Result<Plan, Report>
+    ensures plan { IfOk result (λ plan. plan_at (rows_view config.now) ≡ Ok plan) }
+    ensures limit { IfErr result (λ report. TellsOne (IsLimitFault (rows_view config.now)) report) }
 {
-    let mut faults = Vec::new(alloc);
-    match faults.push(fault) {
-        Ok(()) => Report::Faults(faults),
-        Err(_) => Report::NoMemory,
+    match mpf_plan::plan(alloc, config) {
+        Ok(plan) => Ok(plan),
+        Err(PlanFault::NoMemory) => Err(Report::NoMemory),
+        Err(PlanFault::Limit(table)) => Err(tell(alloc, Fault::Limit(table))),
     }
+}
+
+/// Whether these are the names of the plan's events, in the order of their numbers.
+fn are_events(plan: &Plan, names: &[&[u8]]) -> bool
+    ensures { result ≡ same_names plan.now.events (map (λ n. n.now) names.now) }
+{
+    if names.len() != plan.event_count() {
+        return false;
+    }
+    for (number, name) in names.iter().enumerate() {
+        if plan.event_name(EventId(number as u16)) != *name {
+            return false;
+        }
+    }
+    true
 }

@@ -2,20 +2,23 @@
 #![tactic(auto)]
 
 pub mod certificate;
+mod certificate_reader;
 pub mod checked;
 pub mod checker;
-mod feeding;
+pub mod law;
 pub mod line;
 pub mod report;
 pub mod report_text;
-mod weights;
+mod telling;
 
 pub use certificate::write_certificate;
 pub use checked::Checked;
-pub use checker::check;
+pub use checker::{check, check_with};
 pub use line::{Happening, Line};
-pub use report::{Fault, Report};
+pub use report::{CertificateFault, Fault, Report};
 pub use report_text::write_report;
 
+#[cfg(test)]
+mod certificate_tests;
 #[cfg(test)]
 mod tests;

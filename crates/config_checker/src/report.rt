@@ -6,6 +6,21 @@ ghost use Rattle.config_checker.specs.declared.report.Report.TheVariants.{NoMemo
 use mpf_plan::fault::Table;
 use std::alloc::{AllocError, AllocFailed};
 
+/// What is wrong with a certificate.
+#[derive(Debug, Drop)]
+pub enum CertificateFault {
+    /// The line of this number, the first of which is 1, is not what it has to be: the first
+    /// one that is not.
+    Line(usize),
+    /// Its events are not those of the plan, in the order of their numbers.
+    Events,
+    /// The event, by its name, weighs less than it needs: the first one that does, and what it
+    /// needs.
+    Short(Vec<u8>, u128),
+    /// It states another bound than that of its weights, which is this.
+    Bound(u32),
+}
+
 /// A fault of a configuration.
 #[derive(Debug, Drop)]
 pub enum Fault {
@@ -15,6 +30,8 @@ pub enum Fault {
     Cycle(Vec<Vec<u8>>),
     /// A weight or the bound of a stimulus is above 10,000.
     Bound,
+    /// The certificate does not serve.
+    Certificate(CertificateFault),
 }
 
 /// Why a configuration is refused.

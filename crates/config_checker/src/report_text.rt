@@ -2,11 +2,11 @@
 
 ghost use Rattle.std.specs.Prelude.{◌≡◌, OnOk, map};
 ghost use Rattle.std.specs.Io.KnownBytes.{Appends};
-ghost use Rattle.config_checker.specs.View.{fault_view};
+ghost use Rattle.config_checker.specs.View.{certificate_fault_view, fault_view};
 ghost use Rattle.config_checker.specs.Checking.{cycle};
-ghost use Rattle.config_checker.specs.ReportText.{table_name, fault_line, report_text};
+ghost use Rattle.config_checker.specs.ReportText.{table_name, certificate_fault_text, fault_line, report_text};
 
-use crate::report::Fault;
+use crate::report::{CertificateFault, Fault};
 use mpf_plan::fault::Table;
 use std::io::{self, Write};
 
@@ -28,6 +28,11 @@ fn write_fault<W: Write>(fault: &Fault, writer: &mut W) -> io::Result<()>
         Fault::Limit(table) => writeln!(writer, "fault 7 Limit {}", name_of(*table)),
         Fault::Cycle(events) => write_cycle(events, writer),
         Fault::Bound => writeln!(writer, "fault 9 Bound"),
+        Fault::Certificate(fault) => {
+            writer.write_all(b"fault 10 Certificate ")?;
+            write_certificate_fault(fault, writer)?;
+            writer.write_all(b"\n")
+        }
     }
 }
 
@@ -50,4 +55,19 @@ fn write_cycle<W: Write>(events: &[Vec<u8>], writer: &mut W) -> io::Result<()>
         writer.write_all(event)?;
     }
     writer.write_all(b"\n")
+}
+
+fn write_certificate_fault<W: Write>(fault: &CertificateFault, writer: &mut W) -> io::Result<()>
+    ensures { OnOk result (Appends (W.contents writer.old) (W.contents writer.new) (certificate_fault_text (certificate_fault_view fault.now))) }
+{
+    match fault {
+        CertificateFault::Line(number) => write!(writer, "Line {number}"),
+        CertificateFault::Events => writer.write_all(b"Events"),
+        CertificateFault::Short(event, needed) => {
+            writer.write_all(b"Short ")?;
+            writer.write_all(event)?;
+            write!(writer, " {needed}")
+        }
+        CertificateFault::Bound(bound) => write!(writer, "Bound {bound}"),
+    }
 }

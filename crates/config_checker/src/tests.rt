@@ -4,6 +4,7 @@ use super::*;
 use mpf_config::config::{
     Config, Contact, Debounce, EventPlayerRow, MachineText, Name, Section, SwitchRow,
 };
+use mpf_plan::EventId;
 use std::alloc::{AllocError, Global};
 use std::io::{self, ErrorKind, Write};
 use std::test::Fail;
@@ -87,9 +88,9 @@ fn one_entry(alloc: Global, count: u32) -> Result<Config, AllocError> {
 }
 
 /// The certificate, or the report.
-fn answer(alloc: Global, config: &Config) -> Result<Vec<u8>, Fail> {
+fn text_of(alloc: Global, answer: Result<Checked, Report>) -> Result<Vec<u8>, Fail> {
     let mut text: Vec<u8> = Vec::new(alloc);
-    match check(alloc, config) {
+    match answer {
         Ok(checked) => write_certificate(&checked, &mut text)?,
         Err(Report::Faults(faults)) => write_report(&faults, &mut text)?,
         Err(Report::NoMemory) => return Err(Fail::from(AllocError)),
@@ -97,17 +98,28 @@ fn answer(alloc: Global, config: &Config) -> Result<Vec<u8>, Fail> {
     Ok(text)
 }
 
+fn answer(alloc: Global, config: &Config) -> Result<Vec<u8>, Fail> {
+    text_of(alloc, check(alloc, config))
+}
+
+fn answer_with(alloc: Global, config: &Config, certificate: &[u8]) -> Result<Vec<u8>, Fail> {
+    text_of(alloc, check_with(alloc, config, certificate))
+}
+
+const ONE_SWITCH: &[u8] =
+    b"pinball-certificate 1\nbound 4\nevent s_left_active 3\nevent s_left_inactive 1\nevent a 1\nevent b 1\n";
+
 #[test]
 fn one_switch_check(rt: HostRuntime) -> Result<(), Fail> {
     let config = one_switch(rt.alloc())?;
     let checked = check(rt.alloc(), &config)?;
     assert_eq!(rt; checked.bound(), 4);
-    assert!(rt; checked.weights() == [3, 1, 1, 1].as_slice());
+    assert_eq!(rt; checked.weights().get(EventId(0)), Some(3));
+    assert_eq!(rt; checked.weights().get(EventId(3)), Some(1));
+    assert_eq!(rt; checked.weights().get(EventId(4)), None);
     assert_eq!(rt; checked.plan().event_count(), 4);
     let text = answer(rt.alloc(), &config)?;
-    let want: &[u8] =
-        b"pinball-certificate 1\nbound 4\nevent s_left_active 3\nevent s_left_inactive 1\nevent a 1\nevent b 1\n";
-    assert_eq!(rt; text.as_slice(), want);
+    assert_eq!(rt; text.as_slice(), ONE_SWITCH);
     Ok(())
 }
 
@@ -136,14 +148,104 @@ fn quick_switch_check(rt: HostRuntime) -> Result<(), Fail> {
 }
 
 #[test]
-fn fed_event_is_told(rt: HostRuntime) -> Result<(), Fail> {
+fn events_feed_events(rt: HostRuntime) -> Result<(), Fail> {
     let mut players = Vec::new(rt.alloc());
-    players.push(player(rt.alloc(), b"s_left_active", b"b", 1)?)?;
-    players.push(player(rt.alloc(), b"a", b"c", 1)?)?;
-    players.push(player(rt.alloc(), b"b", b"a", 1)?)?;
+    players.push(player(rt.alloc(), b"s_left_active", b"a", 1)?)?;
+    players.push(player(rt.alloc(), b"a", b"b", 2)?)?;
     let config = config(rt.alloc(), &[b"s_left"], players)?;
     let text = answer(rt.alloc(), &config)?;
-    assert_eq!(rt; text.as_slice(), b"fault 8 Cycle b\n".as_slice());
+    let want: &[u8] =
+        b"pinball-certificate 1\nbound 5\nevent s_left_active 4\nevent s_left_inactive 1\nevent a 3\nevent b 1\n";
+    assert_eq!(rt; text.as_slice(), want);
+    Ok(())
+}
+
+#[test]
+fn cycle_is_told(rt: HostRuntime) -> Result<(), Fail> {
+    let mut players = Vec::new(rt.alloc());
+    players.push(player(rt.alloc(), b"e0", b"e1", 1)?)?;
+    players.push(player(rt.alloc(), b"e1", b"e2", 1)?)?;
+    players.push(player(rt.alloc(), b"e2", b"e1", 1)?)?;
+    let config = config(rt.alloc(), &[], players)?;
+    let text = answer(rt.alloc(), &config)?;
+    assert_eq!(rt; text.as_slice(), b"fault 8 Cycle e1 e2\n".as_slice());
+    Ok(())
+}
+
+/// A certificate of `one_switch`.
+fn certificate(alloc: Global, bound: u32, weights: &[u32; 4]) -> Result<Vec<u8>, Fail> {
+    let mut text: Vec<u8> = Vec::new(alloc);
+    writeln!(&mut text, "pinball-certificate 1")?;
+    writeln!(&mut text, "bound {bound}")?;
+    for (name, weight) in ["s_left_active", "s_left_inactive", "a", "b"]
+        .iter()
+        .zip(weights.iter())
+    {
+        writeln!(&mut text, "event {name} {weight}")?;
+    }
+    Ok(text)
+}
+
+#[test]
+fn certificate_is_accepted(rt: HostRuntime) -> Result<(), Fail> {
+    let config = one_switch(rt.alloc())?;
+    let text = answer_with(rt.alloc(), &config, ONE_SWITCH)?;
+    assert_eq!(rt; text.as_slice(), ONE_SWITCH);
+    let greater = certificate(rt.alloc(), 8, &[7, 2, 3, 3])?;
+    let checked = check_with(rt.alloc(), &config, &greater)?;
+    assert_eq!(rt; checked.bound(), 8);
+    assert_eq!(rt; checked.weights().get(EventId(2)), Some(3));
+    let text = text_of(rt.alloc(), Ok(checked))?;
+    assert_eq!(rt; text.as_slice(), greater.as_slice());
+    Ok(())
+}
+
+#[test]
+fn certificate_is_refused(rt: HostRuntime) -> Result<(), Fail> {
+    let config = one_switch(rt.alloc())?;
+    for (bound, weights, want) in [
+        (
+            4,
+            [2, 1, 1, 1],
+            "fault 10 Certificate Short s_left_active 3\n",
+        ),
+        (
+            9,
+            [9, 0, 1, 0],
+            "fault 10 Certificate Short s_left_inactive 1\n",
+        ),
+        (5, [3, 1, 1, 1], "fault 10 Certificate Bound 4\n"),
+        (10_001, [10_000, 1, 1, 1], "fault 9 Bound\n"),
+        (1, [10_000, 10_001, 1, 1], "fault 9 Bound\n"),
+    ] {
+        let text = certificate(rt.alloc(), bound, &weights)?;
+        let answer = answer_with(rt.alloc(), &config, &text)?;
+        assert_eq!(rt; answer.as_slice(), want.as_bytes());
+    }
+    Ok(())
+}
+
+#[test]
+fn text_is_refused(rt: HostRuntime) -> Result<(), Fail> {
+    let config = one_switch(rt.alloc())?;
+    for (text, want) in [
+        ("", "fault 10 Certificate Line 1\n"),
+        (
+            "pinball-certificate 1\nbound 4\nevent a\n",
+            "fault 10 Certificate Line 3\n",
+        ),
+        (
+            "pinball-certificate 1\nbound 4\n",
+            "fault 10 Certificate Events\n",
+        ),
+        (
+            "pinball-certificate 1\nbound 4\nevent s_left_inactive 1\nevent s_left_active 3\nevent a 1\nevent b 1\n",
+            "fault 10 Certificate Events\n",
+        ),
+    ] {
+        let answer = answer_with(rt.alloc(), &config, text.as_bytes())?;
+        assert_eq!(rt; answer.as_slice(), want.as_bytes());
+    }
     Ok(())
 }
 
@@ -151,7 +253,7 @@ fn fed_event_is_told(rt: HostRuntime) -> Result<(), Fail> {
 fn weight_at_the_limit(rt: HostRuntime) -> Result<(), Fail> {
     let checked = check(rt.alloc(), &one_entry(rt.alloc(), 9_999)?)?;
     assert_eq!(rt; checked.bound(), 0);
-    assert!(rt; checked.weights() == [10_000, 1].as_slice());
+    assert_eq!(rt; checked.weights().get(EventId(0)), Some(10_000));
     let text = answer(rt.alloc(), &one_entry(rt.alloc(), 10_000)?)?;
     assert_eq!(rt; text.as_slice(), b"fault 9 Bound\n".as_slice());
     Ok(())
@@ -198,5 +300,7 @@ fn writer_fails(rt: HostRuntime) -> Result<(), Fail> {
         );
     }
     assert!(rt; write_report(&[Fault::Bound], &mut Full { room: 5 }).is_err());
+    let fault = Fault::Certificate(CertificateFault::Line(7));
+    assert!(rt; write_report(&[fault], &mut Full { room: 25 }).is_err());
     Ok(())
 }

@@ -1,20 +1,45 @@
+use Rattle.std.proofs.Common.{Err, Ok, Result, sym, ap, ◌∙◌, subst}
+use Rattle.std.proofs.lemmas.Result.{err_from_is_err_and}
 use Rattle.mpf_config.specs.View.{rows_view}
-use Rattle.config_checker.proofs.Judging.{checked_at-is, told_at, refused-rows, refused-limit, good_if}
+use Rattle.mpf_plan.proofs.ValidPlan.{IsValid-plan_at}
+use Rattle.cascade_rank.specs.View.{rank_view}
+use Rattle.config_checker.specs.declared.report.Report.{Report}
+use Rattle.config_checker.specs.CheckedView.{CheckedView}
+use Rattle.config_checker.specs.GoodRun.{IsGood}
+use Rattle.config_checker.specs.View.{GivesChecked, fault_view}
+use Rattle.config_checker.specs.Checking.{checked_at}
+use Rattle.config_checker.specs.Refused.{IsLimitFault, IsFaultOf}
+use Rattle.config_checker.proofs.Cascade.{every_run_is_good}
+use Rattle.config_checker.proofs.Judging.{one-gives, tells-gives, tells-there, limit-found, unfound-checked, unfound-fault, found-accepted}
 use Rattle.config_checker.proofs.checker.check.Goals as goal
 
-pub returns-in-Ok-clause-exact : goal.returns-in-Ok-clause-exact
-returns-in-Ok-clause-exact c = rw (checked_at-is (rows_view c.args.config.now) _ c.in-Ok.ensures.exact) c.judge.ensures.exact
+pub returns-in_err-plan-clause-exact : goal.returns-in_err-plan-clause-exact
+returns-in_err-plan-clause-exact c =
+    let rows = rows_view c.args.config.now in
+    let p = err_from_is_err_and c.from_residual.result c.from_residual.ensures.1 in
+    subst (λ (r : Result CheckedView Report). GivesChecked r (checked_at rows)) (sym (p.1 ∙ ap Err p.2)) (one-gives (IsLimitFault rows) c.in_err-plan.field-0.0 (checked_at rows) c.in_err-plan.ensures.limit (limit-found rows))
 
-pub returns-in-Ok-clause-good : goal.returns-in-Ok-clause-good
-returns-in-Ok-clause-good c = good_if c.judge.result c.judge.ensures.accepted
+-- ---- no weights were found
 
-pub returns-in-Ok-clause-refused : goal.returns-in-Ok-clause-refused
-returns-in-Ok-clause-refused c = refused-rows (rows_view c.args.config.now) _ c.judge.result c.in-Ok.ensures.exact c.judge.ensures.refused
+pub returns-in-Err-clause-exact : goal.returns-in-Err-clause-exact
+returns-in-Err-clause-exact c =
+    let rows = rows_view c.args.config.now in
+    tells-gives c.tell.result (fault_view c.in_ok-named_fault-in-Err.field-0) (checked_at rows) c.tell.ensures
+    (unfound-checked rows c.in_ok-plan.plan c.in_ok-plan.ensures.plan (rank_view c.in-Err.fault) (fault_view c.in_ok-named_fault-in-Err.field-0) c.in_ok-named_fault-in-Err.ensures c.in-Err.ensures.exact)
 
-pub returns-in-Err-Limit-clause-exact : goal.returns-in-Err-Limit-clause-exact
-returns-in-Err-Limit-clause-exact c =
-    told_at (rows_view c.args.config.now) c.in-Err-Limit.table c.report_of.result (rw c.in-Err-Limit.field-0-is at c.in-Err-Limit.ensures.exact) c.report_of.ensures
+pub returns-in-Err-clause-refused : goal.returns-in-Err-clause-refused
+returns-in-Err-clause-refused c =
+    let rows = rows_view c.args.config.now in
+    tells-there (IsFaultOf rows) c.tell.result (fault_view c.in_ok-named_fault-in-Err.field-0) c.tell.ensures
+    (unfound-fault rows c.in_ok-plan.plan c.in_ok-plan.ensures.plan (rank_view c.in-Err.fault) (fault_view c.in_ok-named_fault-in-Err.field-0) c.in_ok-named_fault-in-Err.ensures c.in-Err.ensures.refused)
 
-pub returns-in-Err-Limit-clause-refused : goal.returns-in-Err-Limit-clause-refused
-returns-in-Err-Limit-clause-refused c =
-    refused-limit (rows_view c.args.config.now) c.in-Err-Limit.table c.report_of.result (rw c.in-Err-Limit.field-0-is at c.in-Err-Limit.ensures.exact) c.report_of.ensures
+-- ---- accepted
+
+pub returns-clause-exact : goal.returns-clause-exact
+returns-clause-exact c =
+    found-accepted (rows_view c.args.config.now) c.in_ok-plan.plan c.in_ok-plan.ensures.plan c.in-Ok.weights c.in-Ok-verify.bound.0 c.in-Ok.ensures.exact c.in-Ok-verify.ensures.verified.bound_is ∙ ap Ok (sym c.new.ensures)
+
+pub returns-clause-good : goal.returns-clause-good
+returns-clause-good c =
+    let valid = IsValid-plan_at (rows_view c.args.config.now) c.in_ok-plan.plan c.in_ok-plan.ensures.plan in
+    subst IsGood (sym c.new.ensures) (every_run_is_good _ (record { valid = valid; verified = c.in-Ok-verify.ensures.verified }))

@@ -1,0 +1,124 @@
+-- What was accepted is accepted again with the text of its certificate.
+use Rattle.std.proofs.Common.{◌≡◌, ℕ, ◌<◌, ◌≤◌, ◌^◌, Bool, true, false, ◌==◌, if◌then◌else◌, List, length, slice_index, Option, Some, None, Result, Ok, Err, refl, sym, ap, subst, arith}
+use Rattle.std.specs.List.{All, zip}
+use Rattle.std.proofs.lemmas.Bool.{not-false, eqb-true}
+use Rattle.std.proofs.lemmas.List.Elements.{All-weaker}
+use Rattle.std.proofs.lemmas.Slice.Zip.{firsts-zip, seconds-zip}
+use Rattle.mpf_config.specs.Rows.{Rows}
+use Rattle.mpf_plan.specs.declared.fault.Table.{Table}
+use Rattle.mpf_plan.specs.PlanView.{PlanView}
+use Rattle.mpf_plan.specs.PlanOf.{plan_at}
+use Rattle.mpf_plan.specs.Valid.{IsValid}
+use Rattle.mpf_plan.proofs.ValidPlan.{IsValid-plan_at}
+use Rattle.cascade_rank.specs.Weights.{IsLeastFitting, bound_of, greatest}
+use Rattle.cascade_rank.specs.LeadsTo.{grounded, is_open}
+use Rattle.cascade_rank.specs.Ranks.{ranks}
+use Rattle.cascade_rank.specs.Cycle.{first_open}
+use Rattle.cascade_rank.specs.Finding.{RankView, bound_too_large, is_within_limit, found_past, found_at, verified_at}
+use Rattle.cascade_rank.specs.Verified.{IsVerified}
+use Rattle.cascade_rank.proofs.FirstEvent.{first_event-None}
+use Rattle.cascade_rank.proofs.Verifying.{IsWithinLimit-from_test, verified_at-bound}
+use Rattle.cascade_rank.proofs.Finds.{ranks_least}
+use Rattle.config_checker.specs.CheckedView.{CheckedView}
+use Rattle.config_checker.specs.CertificateText.{Certificate, certificate_of, certificate_text}
+use Rattle.config_checker.specs.CertificateOf.{IsWord, IsWritable, certificate_at}
+use Rattle.config_checker.specs.Checking.{FaultView, same_names, names_in, weights_in, weighed, judged, bounded, certified, judged_with, alone, checked, checked_at, checked_with_at}
+use Rattle.config_checker.specs.ReadAgain.{IsReadAgain}
+use Rattle.config_checker.proofs.Certificates.{text-is_read}
+use Rattle.config_checker.proofs.Names.{same_names-self, all_seen}
+use Rattle.config_checker.proofs.Judging.{IsReadAs, read-as, verified-checked, verified-text}
+
+ok_same : {X E : Type 0} (x y : X) → ◌≡◌ {A = Result X E} (Ok x) (Ok y) → x ≡ y
+ok_same x y e = cc
+
+err_not_ok : {X E : Type 0} (e : E) (x : X) → ◌≡◌ {A = Result X E} (Err e) (Ok x) → ⊥
+err_not_ok e x is = cc
+
+-- a test that was passed
+chosen : {X E : Type 0} (b : Bool) (r : Result X E) (e : E) (x : X) → (if b then r else Err e) ≡ Ok x → (b ≡ true) × (r ≡ Ok x)
+chosen true r e x is = (refl, is)
+chosen false r e x is = absurd (err_not_ok e x is)
+
+-- ---- weights that were found
+
+module _ (plan : PlanView) (valid : IsValid plan) (ws : List ℕ) where
+  past_found : (first : Option ℕ) → first_open plan ≡ first → found_past plan first ≡ Ok ws → IsLeastFitting plan ws × (is_within_limit plan ws ≡ true)
+  past_found (Some e) is found = absurd (err_not_ok _ ws found)
+  past_found None is found =
+      let all : (e : ℕ) → e < length plan.events → grounded plan e ≡ true = λ e l. not-false (grounded plan e) (first_event-None plan (is_open plan) is e l) in
+      let limited = chosen (is_within_limit plan (ranks plan)) (Ok (ranks plan)) bound_too_large ws found in
+      subst (λ (v : List ℕ). IsLeastFitting plan v × (is_within_limit plan v ≡ true)) (ok_same (ranks plan) ws limited.1) (ranks_least plan valid all, limited.0)
+
+  found-verified : found_at plan ≡ Ok ws → IsVerified plan ws (bound_of plan (slice_index ws))
+  unfolding found_at
+  found-verified found =
+      let both = past_found (first_open plan) refl found in
+      record { count = both.0.count; fits = both.0.fits; limit = IsWithinLimit-from_test plan ws both.1; bound_is = refl }
+
+-- a verified certificate whose names are words can be written
+verified-writable : (c : CheckedView) → IsVerified c.plan c.weights c.bound → All IsWord c.plan.events → IsWritable (certificate_of c)
+verified-writable c verified words =
+    let below = verified.limit.bound_within in
+    record {
+      bound = omega (arith, below, verified.bound_is);
+      names = all_seen (λ (e : List ℕ × ℕ). e.0) IsWord (zip c.plan.events c.weights) (subst (All IsWord) (sym (firsts-zip c.plan.events c.weights verified.count)) words);
+      weights =
+          all_seen (λ (e : List ℕ × ℕ). e.1) (λ w. w < 2 ^ 32) (zip c.plan.events c.weights)
+          (subst (All (λ w. w < 2 ^ 32)) (sym (seconds-zip c.plan.events c.weights verified.count)) (All-weaker (λ w. w ≤ greatest) (λ w. w < 2 ^ 32) (λ w low. omega (arith, low)) c.weights verified.limit.weights_within));
+    }
+
+module _ (rows : Rows) where
+  -- what is verified is accepted with the text of its certificate
+  verified-again : (c : CheckedView) → plan_at rows ≡ Ok c.plan → IsVerified c.plan c.weights c.bound → All IsWord c.plan.events → IsReadAgain rows c
+  verified-again c made verified words =
+      let text = certificate_text c in
+      let reading = read-as text c.bound c.plan.events c.weights c.weights verified.count (text-is_read (certificate_of c) text (verified-writable c verified words, refl)) refl in
+      verified-checked rows c.plan made text (certificate_of c) c.plan.events c.weights reading (same_names-self c.plan.events) c.bound (verified_at-bound c.plan c.weights c.bound verified) refl
+
+  alone_same : (r : Result CheckedView FaultView) (c : CheckedView) → alone r ≡ Ok c → r ≡ Ok c
+  alone_same (Ok x) c is = ap Ok (ok_same x c is)
+  alone_same (Err e) c is = absurd (err_not_ok _ c is)
+
+  judged_plan : (judge : PlanView → Result CheckedView FaultView) (planned : Result PlanView Table) (c : CheckedView) → checked judge planned ≡ Ok c → (plan : PlanView) × (planned ≡ Ok plan) × (judge plan ≡ Ok c)
+  judged_plan judge (Ok plan) c is = (plan, refl, alone_same (judge plan) c is)
+  judged_plan judge (Err t) c is = absurd (err_not_ok _ c is)
+
+  weighed-again : (plan : PlanView) (found : Result (List ℕ) RankView) (c : CheckedView) → plan_at rows ≡ Ok plan → found_at plan ≡ found → weighed plan found ≡ Ok c → All IsWord c.plan.events → IsReadAgain rows c
+  weighed-again plan (Ok ws) c made found is =
+      let accepted : CheckedView = record { plan = plan; weights = ws; bound = bound_of plan (slice_index ws) } in
+      subst (λ (v : CheckedView). All IsWord v.plan.events → IsReadAgain rows v) (ok_same accepted c is) (verified-again accepted made (found-verified plan (IsValid-plan_at rows plan made) ws found))
+  weighed-again plan (Err fault) c made found is = absurd (err_not_ok _ c is)
+
+  pub found-again : (c : CheckedView) → checked_at rows ≡ Ok c → All IsWord c.plan.events → IsReadAgain rows c
+  unfolding checked_at judged
+  found-again c is =
+      let from = judged_plan judged (plan_at rows) c is in
+      weighed-again from.0 (found_at from.0) c from.1 refl from.2
+
+  -- ---- weights of a certificate
+
+  module _ (text : List ℕ) (c : CheckedView) (plan : PlanView) (made : plan_at rows ≡ Ok plan) where
+    bounded-text : (given : Certificate) → certificate_at text ≡ Ok given → same_names plan.events (names_in given) ≡ true → (verified : Result ℕ RankView) → bounded plan given verified ≡ Ok c → certificate_text c ≡ text
+    bounded-text given read named (Ok b) is =
+        let accepted : CheckedView = record { plan = plan; weights = weights_in given; bound = b } in
+        let right = chosen (b == given.bound) (Ok accepted) _ c is in
+        let reading : IsReadAs text given (names_in given) (weights_in given) = record { read = read; names_are = refl; weights_are = refl } in
+        subst (λ (v : CheckedView). certificate_text v ≡ text) (ok_same accepted c right.1)
+        (verified-text rows plan made text given (names_in given) (weights_in given) reading named b (eqb-true b given.bound right.0))
+    bounded-text given read named (Err fault) is = absurd (err_not_ok _ c is)
+
+    certified-text : (given : Result Certificate ℕ) → certificate_at text ≡ given → certified plan given ≡ Ok c → certificate_text c ≡ text
+    certified-text (Ok given) read is =
+        let named = chosen (same_names plan.events (names_in given)) (bounded plan given (verified_at plan (weights_in given))) _ c is in
+        bounded-text given read named.0 (verified_at plan (weights_in given)) named.1
+    certified-text (Err number) read is = absurd (err_not_ok _ c is)
+
+  -- what was accepted with a text has that text
+  pub given-text : (text : List ℕ) (c : CheckedView) → checked_with_at rows text ≡ Ok c → certificate_text c ≡ text
+  unfolding checked_with_at judged_with
+  given-text text c is =
+      let from = judged_plan (judged_with text) (plan_at rows) c is in
+      certified-text text c from.0 from.1 (certificate_at text) refl from.2
+
+  pub given-again : (text : List ℕ) (c : CheckedView) → checked_with_at rows text ≡ Ok c → IsReadAgain rows c
+  given-again text c is = subst (λ (t : List ℕ). checked_with_at rows t ≡ Ok c) (sym (given-text text c is)) is

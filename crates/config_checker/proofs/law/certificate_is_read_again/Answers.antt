@@ -1,0 +1,8 @@
+use Rattle.config_checker.proofs.ReadBack.{found-again, given-again}
+use Rattle.config_checker.proofs.law.certificate_is_read_again.Goals as goal
+
+pub returns-clause-found : goal.returns-clause-found
+returns-clause-found c = found-again
+
+pub returns-clause-given : goal.returns-clause-given
+returns-clause-given c = given-again

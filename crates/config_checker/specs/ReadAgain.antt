@@ -1,0 +1,20 @@
+-- A certificate that is written is read again.
+use Rattle.std.specs.Prelude.{◌≡◌, ℕ, List, Ok}
+use Rattle.std.specs.List.{All}
+use Rattle.mpf_config.specs.Rows.{Rows}
+use Rattle.config_checker.specs.CheckedView.{CheckedView}
+use Rattle.config_checker.specs.CertificateText.{certificate_text}
+use Rattle.config_checker.specs.CertificateOf.{IsWord}
+use Rattle.config_checker.specs.Checking.{checked_at, checked_with_at}
+
+-- With the text of its certificate what was accepted is accepted again, with the same weights and the same bound.
+abbrev pub IsReadAgain : Rows → CheckedView → Type 0
+IsReadAgain rows c = checked_with_at rows (certificate_text c) ≡ Ok c
+
+-- where the weights were found, and every event's name is a word
+abbrev pub FoundIsReadAgain : Type 0
+FoundIsReadAgain = (rows : Rows) (c : CheckedView) → checked_at rows ≡ Ok c → All IsWord c.plan.events → IsReadAgain rows c
+
+-- and where they were those of a certificate
+abbrev pub GivenIsReadAgain : Type 0
+GivenIsReadAgain = (rows : Rows) (text : List ℕ) (c : CheckedView) → checked_with_at rows text ≡ Ok c → IsReadAgain rows c
