@@ -1,0 +1,18 @@
+use Rattle.std.proofs.Common.{◌+◌, drop, get_or}
+use Rattle.std.proofs.lemmas.List.{drop_more}
+use Rattle.mpf_plan.specs.declared.entries.EventId.{EventId}
+use Rattle.config_checker.specs.Machine.{all_do, post}
+use Rattle.pin_rig.specs.Core.{after}
+use Rattle.pin_rig.proofs.Room.{post-room}
+use Rattle.pin_rig.proofs.parts.post_each.Goals as goal
+
+none : EventId
+none = record { 0 = 0 }
+
+pub post-requires : goal.post-requires
+unfolding none
+post-requires c =
+    let events = c.args.events.now in
+    let i = c.loop-event.event-index in
+    post-room c.args.owner c.loop-event.core (after (all_do (post c.args.owner) events) c.args.core.now) (get_or events i none) (drop (i + 1) events) (drop i events)
+    (drop_more events i none c.loop-event-test.true) c.loop-event.invariant c.requires

@@ -1,0 +1,15 @@
+//! The controller: the machine of a configuration that was accepted, one input at a time.
+#![tactic(auto)]
+
+mod core_state;
+pub mod input;
+pub mod law;
+mod parts;
+pub mod rig;
+mod stimulus;
+
+pub use input::{Input, RigFault, StepFault};
+pub use rig::Rig;
+
+#[cfg(test)]
+mod tests;

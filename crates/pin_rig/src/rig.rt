@@ -1,0 +1,159 @@
+//! The rig.
+
+ghost use Rattle.std.specs.Prelude.{◌≡◌};
+
+use crate::core_state::Core;
+use crate::input::{Input, RigFault, StepFault};
+use crate::parts::{begin, settle};
+use crate::stimulus::Stimulus;
+use config_checker::{Checked, Line};
+use std::alloc::Global;
+use std::marker::Model;
+
+/// The first moment that is too late, in milliseconds.
+const TOO_LATE: u64 = 1 << 40;
+
+/// The machine of a configuration that was accepted, between two stimuli: no event waits, and
+/// its state is one to which a run of the plan leads. Moments are milliseconds, below 2^40.
+#[derive(Drop)]
+pub struct Rig<'c> {
+    checked: &'c Checked,
+    core: Core,
+}
+
+impl<'c> Model for Rig<'c> {
+    ghost use Rattle.pin_rig.specs.Rig.{RigView};
+    ghost use Rattle.pin_rig.specs.Inside.{IsHeld};
+
+    ghost Value = { RigView };
+
+    ghost view = { λ r. record { checked = r.checked.now; machine = r.core.machine } };
+
+    ghost invariant = { λ r. IsHeld r.checked.now r.core };
+}
+
+impl<'c> Rig<'c> {
+    ghost use Rattle.std.specs.Prelude.{◌≡◌, Err, IfOk, IsOk, MatchResult, option_map};
+    ghost use Rattle.std.specs.Borrow.{sem};
+    ghost use Rattle.config_checker.specs.Machine.{initial};
+    ghost use Rattle.pin_rig.specs.Alarm.{next_alarm};
+    ghost use Rattle.pin_rig.specs.Rig.{timely, alarm_at, stimulus_at, IsStep, IsReached};
+    ghost use Rattle.pin_rig.specs.Inside.{stimulus_view, GivesStimulus};
+    ghost use Rattle.pin_rig.specs.Lending.{LendsStep};
+
+    /// The machine of what was accepted at its beginning: moment 0, all switches inactive, and
+    /// nothing waits. Only this call takes memory: room for as many waiting events and lines as
+    /// the bound says.
+    ///
+    /// # Errors
+    ///
+    /// `NoMemory` where memory runs out.
+    pub fn new(alloc: Global, checked: &'c Checked) -> Result<Rig<'c>, RigFault>
+        ensures checked { IfOk result (λ rig. rig.checked ≡ checked.now) }
+        ensures machine { IfOk result (λ rig. rig.machine ≡ initial checked.now.plan) }
+        ensures reached { IfOk result (λ rig. IsReached rig) }
+    {
+        let room = checked.bound() as usize;
+        let core = Core::new(alloc, checked.plan(), room)?;
+        Ok(Rig { checked, core })
+    }
+
+    /// One input: what it does, and its event steps in plan order, until no event waits. Gives
+    /// the lines, first come first.
+    ///
+    /// # Errors
+    ///
+    /// The first of these that applies; nothing has changed then.
+    ///
+    /// - `NoSuchSwitch`: the input is a change of a switch that the plan does not have.
+    /// - `NoAlarm`: the input is an alarm, and none is due.
+    /// - `Backwards`: the moment of a change or a wait is before that of the latest stimulus.
+    /// - `TooLate`: the moment of the input is 2^40 ms or later.
+    /// - `AlarmPending`: an alarm is due at or before the moment of a change or a wait.
+    pub fn step(&mut self, input: Input) -> Result<&[Line], StepFault>
+        ensures* after { sem 𝓛 (LendsStep self.entry input result) }
+        ensures judged { MatchResult result (λ _. IsOk (stimulus_at self.old input)) (λ fault. stimulus_at self.old input ≡ Err fault) }
+    {
+        self.act(input)?;
+        Ok(self.trace())
+    }
+
+    /// The moment of the latest stimulus, in milliseconds.
+    pub fn now(&self) -> u64
+        ensures now { result ≡ self.now.machine.moment }
+        ensures reached { IsReached self.now }
+    {
+        self.core.moment()
+    }
+
+    /// The moment of the alarm that is due next, in milliseconds, if one is.
+    pub fn next_due(&self) -> Option<u64>
+        ensures due { result ≡ option_map (λ a. a.0) (next_alarm self.now.machine.switches) }
+        ensures reached { IsReached self.now }
+    {
+        let (at, _) = self.core.due()?;
+        Some(at)
+    }
+
+    /// The lines of the latest stimulus, first come first.
+    pub fn trace(&self) -> &[Line]
+        ensures lines { result.now ≡ self.now.machine.lines }
+        ensures reached { IsReached self.now }
+    {
+        self.core.lines()
+    }
+
+    /// One input, if it is not refused.
+    fn act(&mut self, input: Input) -> Result<(), StepFault>
+        ensures { MatchResult result (λ _. IsStep input self.old self.new) (λ fault. (stimulus_at self.old input ≡ Err fault) × (self.new ≡ self.old)) }
+    {
+        let stimulus = self.judge(input)?;
+        let plan = self.checked.plan();
+        begin(plan, &mut self.core, stimulus);
+        settle(plan, &mut self.core);
+        Ok(())
+    }
+
+    /// The stimulus that an input is, or why it is refused.
+    fn judge(&self, input: Input) -> Result<Stimulus, StepFault>
+        ensures { GivesStimulus result (stimulus_at self.now input) }
+    {
+        match input {
+            Input::Change { at, switch, level } => {
+                if switch.0 as usize >= self.checked.plan().switch_count() {
+                    return Err(StepFault::NoSuchSwitch);
+                }
+                self.judge_moment(at, Stimulus::Change(at, switch, level))
+            }
+            Input::Alarm => self.judge_alarm(),
+            Input::Wait { at } => self.judge_moment(at, Stimulus::Wait(at)),
+        }
+    }
+
+    /// A stimulus at this moment, or why it is refused.
+    fn judge_moment(&self, at: u64, stimulus: Stimulus) -> Result<Stimulus, StepFault>
+        ensures { GivesStimulus result (timely self.now.machine at (stimulus_view stimulus)) }
+    {
+        if at < self.now() {
+            return Err(StepFault::Backwards);
+        }
+        if at >= TOO_LATE {
+            return Err(StepFault::TooLate);
+        }
+        if self.core.is_due_by(at) {
+            return Err(StepFault::AlarmPending);
+        }
+        Ok(stimulus)
+    }
+
+    /// The alarm that comes next, or why none does.
+    fn judge_alarm(&self) -> Result<Stimulus, StepFault>
+        ensures { GivesStimulus result (alarm_at (next_alarm self.now.machine.switches)) }
+    {
+        let (at, switch) = self.core.due().ok_or(StepFault::NoAlarm)?;
+        if at >= TOO_LATE {
+            return Err(StepFault::TooLate);
+        }
+        Ok(Stimulus::Alarm(at, switch))
+    }
+}
