@@ -3,6 +3,7 @@
 
 use pinball_shell::{
     Ask, AskFault, ShellFault, Verdict, check_text, command, load_text, play_text, status,
+    verify_text,
 };
 use std::io::{self, BufWriter, ErrorKind, Write};
 use std::process::ExitCode;
@@ -56,12 +57,25 @@ fn answer<R: Files + Input + Print + AllocGlobal>(
     };
     let verdict = match ask {
         Ask::Check => check_text(rt.alloc(), &mut rt.reader(), &mut writer)?,
+        Ask::Verify { certificate } => verify(rt, certificate.as_str(), &mut writer)?,
         Ask::Play { log } => play(rt, log.as_str(), &mut writer)?,
     };
     match writer.flush() {
         Ok(()) => Ok(verdict),
         Err(_) => Err(ShellFault::Write),
     }
+}
+
+/// Verifies the certificate of a file on the bundle.
+fn verify<R: Files + Input + AllocGlobal, W: Write>(
+    rt: &R,
+    path: &str,
+    writer: &mut W,
+) -> Result<Verdict, ShellFault> {
+    let Ok(mut certificate) = fs::open(rt, path) else {
+        return Err(ShellFault::Read);
+    };
+    verify_text(rt.alloc(), &mut rt.reader(), &mut certificate, writer)
 }
 
 /// Loads the bundle, and plays the log only where it is accepted.

@@ -4,9 +4,7 @@ pub mod FirstPlace
 pub mod TextLines
 pub mod LineWords
 pub mod Digits
-pub mod SwitchViews
 pub mod Alarms
-pub mod Beginning
-pub mod PlanSteps
 pub mod Playing
 pub mod LogRuns
+pub mod Taking

@@ -4,7 +4,6 @@ use Rattle.std.specs.Option.{option_map_or}
 use Rattle.std.specs.Str.{bytes_eq}
 use Rattle.std.specs.Str.Lines.{lines}
 use Rattle.std.proofs.lemmas.Bool.{cond_both, ltb-false, leb-false}
-use Rattle.std.proofs.lemmas.List.{length-map}
 use Rattle.mpf_plan.specs.PlanView.{PlanView, switch_named}
 use Rattle.mpf_plan.specs.declared.entries.SwitchId.{SwitchId}
 use Rattle.config_checker.specs.declared.line.Line.{Line}
@@ -17,9 +16,10 @@ use Rattle.config_checker.proofs.Reached.{IsReached, reached-initial, reached-of
 use Rattle.pinball_shell.specs.declared.refusal.Refusal.{Refusal}
 use Rattle.pinball_shell.specs.declared.refusal.Refusal.TheVariants.{Backwards, TooLate}
 use Rattle.pinball_shell.specs.LogText.{Said, Nothing, Waits, Changes, Unreadable, said}
-use Rattle.pinball_shell.specs.RunOfLog.{timely, known, judged, due_by, next_alarm, settled, state_after, lines_of, alarms_by, moment_of, with_alarms, Told, Traced, Refused, told_of, after_line, told_by, told_in, traced}
+use Rattle.config_checker.specs.PlanOrder.{settled}
+use Rattle.pin_rig.specs.Alarm.{next_alarm}
+use Rattle.pinball_shell.specs.RunOfLog.{timely, known, judged, due_by, state_after, lines_of, alarms_by, moment_of, with_alarms, Told, Traced, Refused, told_of, after_line, told_by, told_in, traced}
 use Rattle.pinball_shell.specs.Played.{IsTraceOfRun}
-use Rattle.pinball_shell.specs.PlayerView.{Playing, kinds_of, IsPlayable}
 use Rattle.pinball_shell.proofs.FirstPlace.{place_some}
 use Rattle.pinball_shell.proofs.Alarms.{due_by-some, due_by-none}
 use Rattle.pinball_shell.proofs.Playing.{state_after-append, lines_of-append}
@@ -69,19 +69,13 @@ module _ (plan : PlanView) (now : ℕ) where
       subst (IsInTime plan now) is (forward, early)
   given-in_time (Changes at name level) stimulus h = given-known at (switch_named plan name) level stimulus (named_within plan name) h
 
--- so it asks for a switch that is played
-pub in_time-playable : (plan : PlanView) (now : ℕ) (p : Playing) (stimulus : Stimulus) → p.kinds ≡ kinds_of plan → IsInTime plan now stimulus → IsPlayable p stimulus
-in_time-playable plan now p (Change at n level) kinds (forward, early, within) = let count = ap length kinds ∙ length-map plan.switches (λ s. s.kind) in omega (arith, within, count)
-in_time-playable plan now p (Alarm at n) kinds none = absurd none
-in_time-playable plan now p (Wait at) kinds time = tt
-
 -- in time, and nothing is due any more: it may come
 pub may_come : (plan : PlanView) (now : ℕ) (s : Machine) (stimulus : Stimulus) → IsInTime plan now stimulus → s.moment ≤ moment_of stimulus → IsQuietUntil s (moment_of stimulus) → IsAllowed plan s stimulus
 may_come plan now s (Change at n level) (forward, early, within) ahead quiet = (record { forward = ahead; early = early; quiet = quiet }, within)
 may_come plan now s (Alarm at n) none ahead quiet = absurd none
 may_come plan now s (Wait at) (forward, early) ahead quiet = record { forward = ahead; early = early; quiet = quiet }
 
-in_time-early : (plan : PlanView) (now : ℕ) (stimulus : Stimulus) → IsInTime plan now stimulus → (now ≤ moment_of stimulus) × (moment_of stimulus < 2 ^ 40)
+pub in_time-early : (plan : PlanView) (now : ℕ) (stimulus : Stimulus) → IsInTime plan now stimulus → (now ≤ moment_of stimulus) × (moment_of stimulus < 2 ^ 40)
 in_time-early plan now (Change at n level) (forward, early, within) = (forward, early)
 in_time-early plan now (Alarm at n) none = absurd none
 in_time-early plan now (Wait at) (forward, early) = (forward, early)

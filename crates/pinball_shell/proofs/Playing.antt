@@ -10,16 +10,19 @@ use Rattle.mpf_plan.specs.PlanView.{PlanView}
 use Rattle.config_checker.specs.declared.line.Line.{Line}
 use Rattle.config_checker.specs.Machine.{Machine}
 use Rattle.config_checker.specs.Run.{Stimulus, Alarm}
+use Rattle.config_checker.specs.PlanOrder.{settled}
+use Rattle.config_checker.proofs.Alarms.{due_count, due_count-length, due_count-after_alarm, moment-after}
 use Rattle.config_checker.proofs.Writing.{written-nil, written-then}
 use Rattle.pinball_shell.specs.declared.fault.Verdict.{Verdict}
 use Rattle.pinball_shell.specs.declared.fault.Verdict.TheVariants as verdicts
 use Rattle.pinball_shell.specs.declared.refusal.Refusal.{Refusal}
-use Rattle.pinball_shell.specs.LogText.{Said, said}
-use Rattle.pinball_shell.specs.RunOfLog.{judged, due_by, next_alarm, settled, state_after, lines_of, alarms_by, moment_of, with_alarms, Told, Traced, Refused, told_of, after_line, told_by}
+use Rattle.pinball_shell.specs.LogText.{said}
+use Rattle.pin_rig.specs.Alarm.{next_alarm, is_due_by}
+use Rattle.pin_rig.proofs.Alarms.{alarm-is_next}
+use Rattle.pinball_shell.specs.RunOfLog.{judged, due_by, state_after, lines_of, alarms_by, moment_of, with_alarms, Told, Traced, Refused, told_of, after_line, told_by}
 use Rattle.pinball_shell.specs.TraceText.{line_text, told_text, refused_text, is_refused, verdict_of}
-use Rattle.pinball_shell.specs.Played.{worse_of, GivesJudged, IsPlayed, text_of, IsLinePlayed, AreLinesPlayed}
-use Rattle.pinball_shell.specs.declared.stimulus.Stimulus.{Stimulus as PlayedStimulus}
-use Rattle.pinball_shell.specs.PlayerView.{stimulus_view}
+use Rattle.pinball_shell.specs.Played.{worse_of, IsPlayed, text_of, IsLinePlayed, AreLinesPlayed}
+use Rattle.pinball_shell.proofs.Alarms.{ComesBy, not_due-none}
 
 module _ (plan : PlanView) (bound : ℕ) where
   pub state_after-append : (xs ys : List Stimulus) (s : Machine) → state_after plan bound (xs ++ ys) s ≡ state_after plan bound ys (state_after plan bound xs s)
@@ -54,51 +57,62 @@ module _ (plan : PlanView) (bound : ℕ) where
       }
 
   -- some alarms are played, and those that are left complete them
-  pub record AreAlarmsGoing (until left : ℕ) (old now : Machine) (before after : Option (List ℕ)) (all : List Stimulus) : Type 0 where
+  pub record AreAlarmsGoing (until : ℕ) (old now : Machine) (before after : Option (List ℕ)) (all : List Stimulus) : Type 0 where
     pub done : List Stimulus
     pub played : IsPlayed plan bound done old now before after
+    pub left : ℕ
+    pub few : due_count now.switches ≤ left
     pub whole : done ++ alarms_by plan bound until left now ≡ all
+    pub moment : now.moment ≤ until
 
-  pub alarms-start : (until n : ℕ) (s : Machine) (a : Option (List ℕ)) → AreAlarmsGoing until (n - 0) s s a a (alarms_by plan bound until n s)
-  alarms-start until n s a =
-      let all : n - 0 ≡ n = omega arith in
-      record { done = []; played = played-none s a; whole = ap (λ (k : ℕ). alarms_by plan bound until k s) all }
+  pub alarms-start : (until n : ℕ) (s : Machine) (a : Option (List ℕ)) → length s.switches ≡ n → s.moment ≤ until → AreAlarmsGoing until s s a a (alarms_by plan bound until n s)
+  alarms-start until n s a states forward = record {
+    done = [];
+    played = played-none s a;
+    left = n;
+    few = omega (arith, states, due_count-length s.switches);
+    whole = refl;
+    moment = forward;
+  }
 
   -- the next alarm is played
-  pub alarms-more : (until n i at switch : ℕ) (old s t : Machine) (a b c : Option (List ℕ)) (all : List Stimulus) → i < n → AreAlarmsGoing until (n - i) old s a b all
-      → due_by until (next_alarm s.switches) ≡ Some (at, switch) → IsPlayed plan bound (Alarm at switch ∷ []) s t b c → AreAlarmsGoing until (n - (i + 1)) old t a c all
-  alarms-more until n i at switch old s t a b c all within h due played =
-      let alarm = Alarm at switch in
-      let count : n - i ≡ suc (n - (i + 1)) = omega arith in
-      let next : alarms_by plan bound until (n - i) s ≡ alarm ∷ alarms_by plan bound until (n - (i + 1)) t =
-      ap (λ (k : ℕ). alarms_by plan bound until k s) count
-      ∙ ap (λ (o : Option (ℕ × ℕ)). option_map_or (λ x. Alarm x.0 x.1 ∷ alarms_by plan bound until (n - (i + 1)) (settled plan bound (Alarm x.0 x.1) s)) o []) due
-      ∙ ap (λ (m : Machine). alarm ∷ alarms_by plan bound until (n - (i + 1)) m) (sym played.state) in
-      record {
-        done = h.done ++ alarm ∷ [];
-        played = played-then h.done (alarm ∷ []) old s t a b c h.played played;
-        whole = append_assoc h.done (alarm ∷ []) (alarms_by plan bound until (n - (i + 1)) t) ∙ sym (ap (λ (xs : List Stimulus). h.done ++ xs) next) ∙ h.whole;
-      }
+  module _ (until : ℕ) (s t : Machine) (b c : Option (List ℕ)) (next : ComesBy s until) (played : IsPlayed plan bound (Alarm next.at next.n ∷ []) s t b c) where
+    pub alarms-fewer : due_count t.switches + 1 ≡ due_count s.switches
+    alarms-fewer =
+        let due = alarm-is_next s next.at next.n next.next in
+        subst (λ (m : Machine). due_count m.switches + 1 ≡ due_count s.switches) (sym played.state) (due_count-after_alarm plan bound next.at next.n s due.due)
+
+    pub alarms-more : (old : Machine) (a : Option (List ℕ)) (all : List Stimulus) → AreAlarmsGoing until old s a b all → AreAlarmsGoing until old t a c all
+    alarms-more old a all h =
+        let alarm = Alarm next.at next.n in
+        let few = h.few in
+        let by = next.by in
+        let at : t.moment ≡ next.at = ap (λ (m : Machine). m.moment) played.state ∙ moment-after plan bound alarm s in
+        let count : h.left ≡ suc (h.left - 1) = omega (arith, few, alarms-fewer) in
+        let going : alarms_by plan bound until h.left s ≡ alarm ∷ alarms_by plan bound until (h.left - 1) t =
+        ap (λ (k : ℕ). alarms_by plan bound until k s) count
+        ∙ ap (λ (o : Option (ℕ × ℕ)). option_map_or (λ x. Alarm x.0 x.1 ∷ alarms_by plan bound until (h.left - 1) (settled plan bound (Alarm x.0 x.1) s)) o []) next.due
+        ∙ ap (λ (m : Machine). alarm ∷ alarms_by plan bound until (h.left - 1) m) (sym played.state) in
+        record {
+          done = h.done ++ alarm ∷ [];
+          played = played-then h.done (alarm ∷ []) old s t a b c h.played played;
+          left = h.left - 1;
+          few = omega (arith, few, alarms-fewer);
+          whole = append_assoc h.done (alarm ∷ []) (alarms_by plan bound until (h.left - 1) t) ∙ sym (ap (λ (xs : List Stimulus). h.done ++ xs) going) ∙ h.whole;
+          moment = omega (arith, at, by);
+        }
 
   alarms-none : (until k : ℕ) (s : Machine) → due_by until (next_alarm s.switches) ≡ None → alarms_by plan bound until k s ≡ []
   alarms-none until zero s none = refl
   alarms-none until (suc k) s none =
       ap (λ (o : Option (ℕ × ℕ)). option_map_or (λ x. Alarm x.0 x.1 ∷ alarms_by plan bound until k (settled plan bound (Alarm x.0 x.1) s)) o []) none
 
-  alarms-whole : (until k : ℕ) (old s : Machine) (a b : Option (List ℕ)) (all : List Stimulus) → AreAlarmsGoing until k old s a b all → alarms_by plan bound until k s ≡ [] → IsPlayed plan bound all old s a b
-  alarms-whole until k old s a b all h none =
-      let same : h.done ≡ all = sym (append-nil h.done) ∙ sym (ap (λ (xs : List Stimulus). h.done ++ xs) none) ∙ h.whole in
-      subst (λ (xs : List Stimulus). IsPlayed plan bound xs old s a b) same h.played
-
   -- no alarm is due any more
-  pub alarms-stop : (until k : ℕ) (old s : Machine) (a b : Option (List ℕ)) (all : List Stimulus) → AreAlarmsGoing until k old s a b all → due_by until (next_alarm s.switches) ≡ None → IsPlayed plan bound all old s a b
-  alarms-stop until k old s a b all h none = alarms-whole until k old s a b all h (alarms-none until k s none)
-
-  -- as many alarms as there are switches were played
-  pub alarms-end : (until n i : ℕ) (old s : Machine) (a b : Option (List ℕ)) (all : List Stimulus) → n ≤ i → AreAlarmsGoing until (n - i) old s a b all → IsPlayed plan bound all old s a b
-  alarms-end until n i old s a b all past h =
-      let none : n - i ≡ 0 = omega arith in
-      alarms-whole until (n - i) old s a b all h (ap (λ (k : ℕ). alarms_by plan bound until k s) none)
+  pub alarms-stop : (until : ℕ) (old s : Machine) (a b : Option (List ℕ)) (all : List Stimulus) → AreAlarmsGoing until old s a b all → is_due_by until s.switches ≡ false → IsPlayed plan bound all old s a b
+  alarms-stop until old s a b all h none =
+      let over = alarms-none until h.left s (not_due-none s until none) in
+      let same : h.done ≡ all = sym (append-nil h.done) ∙ sym (ap (λ (xs : List Stimulus). h.done ++ xs) over) ∙ h.whole in
+      subst (λ (xs : List Stimulus). IsPlayed plan bound xs old s a b) same h.played
 
   -- ---- a line
 
@@ -132,12 +146,6 @@ module _ (plan : PlanView) (bound : ℕ) where
         let told = lines_of plan bound (with_alarms plan bound stimulus s) s in
         line-is (Ok (Some stimulus)) u a c verdicts.Yes is both.state (subst (Appends a c) (sym (traced-text told)) both.text)
         (sym (ap (λ (b : Bool). cond b verdicts.Refused verdicts.Yes) (none_refused told)))
-
-  -- what a line was judged to give
-  pub judged-some : (r : Result (Option PlayedStimulus) Refusal) (x : PlayedStimulus) (s : Machine) (line : List ℕ) (now : ℕ) (read : Said) → now ≡ s.moment → read ≡ said line → r ≡ Ok (Some x) → GivesJudged r (judged plan now read) → judged plan s.moment (said line) ≡ Ok (Some (stimulus_view x))
-  judged-some r x s line now read moment says is given =
-      ap (λ (m : ℕ). judged plan m (said line)) (sym moment) ∙ ap (judged plan now) (sym says)
-      ∙ subst (λ (y : Result (Option PlayedStimulus) Refusal). GivesJudged y (judged plan now read)) is given
 
   -- ---- the lines of a log
 

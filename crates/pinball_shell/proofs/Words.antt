@@ -2,7 +2,7 @@
 use Rattle.std.proofs.Common.{◌≡◌, ℕ, true, false, List, [], ◌∷◌, Option, Some, None, IsSome, Result, Ok, Err, IfOk, IfErr, refl, sym, ap, ap₂, ◌∙◌, subst, option_map, codes}
 use Rattle.clap.specs.Words.{Row, Text, is_simple}
 use Rattle.clap.proofs.OnLiterals.{clap_on_literals}
-use Rattle.pinball_shell.specs.CommandLine.{pinball_app, AskView, check, play, ask_view, asked_at, is_taken, begins_with_hyphen, Asks}
+use Rattle.pinball_shell.specs.CommandLine.{pinball_app, AskView, check, verify, play, ask_view, asked_at, is_taken, begins_with_hyphen, Asks}
 use Rattle.pinball_shell.specs.declared.command_line.Ask.{Ask}
 use Rattle.pinball_shell.specs.declared.command_line.AskFault.{AskFault}
 use Rattle.pinball_shell.specs.declared.command_line.AskFault.TheVariants.{NoMemory}
@@ -18,6 +18,16 @@ check_is_asked = refl
 pub check_is_taken : is_taken (codes "check" ∷ []) ≡ true
 unfolding is_taken pinball_app clap_on_literals
 check_is_taken = refl
+
+pub verify_is_asked : (path : List ℕ) → begins_with_hyphen path ≡ false → asked_at (codes "verify" ∷ path ∷ []) ≡ Some (verify path)
+unfolding asked_at pinball_app clap_on_literals
+verify_is_asked [] plain = refl
+verify_is_asked (x ∷ xs) plain = simp plain
+
+pub verify_is_taken : (path : List ℕ) → begins_with_hyphen path ≡ false → is_taken (codes "verify" ∷ path ∷ []) ≡ true
+unfolding is_taken pinball_app clap_on_literals
+verify_is_taken [] plain = refl
+verify_is_taken (x ∷ xs) plain = simp plain
 
 pub play_is_asked : (log : List ℕ) → begins_with_hyphen log ≡ false → asked_at (codes "play" ∷ log ∷ []) ≡ Some (play log)
 unfolding asked_at pinball_app clap_on_literals

@@ -5,9 +5,9 @@ use Rattle.mpf_config.specs.Rows.{Note}
 use Rattle.mpf_config.specs.FaultLine.{fault_line}
 use Rattle.mpf_config.specs.NoteLine.{note_line}
 use Rattle.config_checker.specs.CheckedView.{CheckedView}
-use Rattle.config_checker.specs.CertificateText.{certificate_text}
+use Rattle.config_checker.specs.CertificateText.{bound_line, certificate_text}
 use Rattle.config_checker.specs.ReportText.{report_text}
-use Rattle.pinball_shell.specs.Judged.{RefusalView, unread, unfit, Answer, Judgement, judged_at}
+use Rattle.pinball_shell.specs.Judged.{RefusalView, unread, unfit, Answer, Judgement, judged_at, judged_with}
 
 -- a line for each note, in order
 abbrev pub notes_text : List Note → List ℕ
@@ -16,6 +16,10 @@ notes_text notes = flat_map note_line notes
 -- `yes`, and the certificate
 unfoldable pub acceptance_text : CheckedView → List ℕ
 acceptance_text c = codes "yes" ++ 10 ∷ [] ++ certificate_text c
+
+-- `yes`, and the bound of the certificate's weights
+unfoldable pub verification_text : CheckedView → List ℕ
+verification_text c = codes "yes" ++ 10 ∷ [] ++ bound_line c.bound
 
 -- the fault that was met first, or all faults of the rows
 abbrev pub refusal_lines : RefusalView → List ℕ
@@ -26,17 +30,21 @@ refusal_lines (unfit faults) = report_text faults
 unfoldable pub refusal_text : RefusalView → List ℕ
 refusal_text r = refusal_lines r ++ codes "no" ++ 10 ∷ []
 
-abbrev pub answer_text : Answer → List ℕ
-answer_text (Ok c) = acceptance_text c
-answer_text (Err r) = refusal_text r
+abbrev pub answer_text : (CheckedView → List ℕ) → Answer → List ℕ
+answer_text accepted (Ok c) = accepted c
+answer_text accepted (Err r) = refusal_text r
 
--- the notes stand before the answer
-unfoldable pub judgement_text : Judgement → List ℕ
-judgement_text j = notes_text j.notes ++ answer_text j.answer
+-- The notes stand before the answer. `accepted` says what is printed of what was accepted.
+unfoldable pub judgement_text : (CheckedView → List ℕ) → Judgement → List ℕ
+judgement_text accepted j = notes_text j.notes ++ answer_text accepted j.answer
 
 -- all that is printed where a bundle is checked
 abbrev pub check_output : List ℕ → List ℕ
-check_output bundle = judgement_text (judged_at bundle)
+check_output bundle = judgement_text acceptance_text (judged_at bundle)
+
+-- all that is printed where a certificate is verified on a bundle
+abbrev pub verify_output : List ℕ → List ℕ → List ℕ
+verify_output certificate bundle = judgement_text verification_text (judged_with certificate bundle)
 
 -- nothing for a yes, and a refusal as it is printed
 abbrev pub where_refused : Answer → List ℕ → List ℕ

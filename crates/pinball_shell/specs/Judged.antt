@@ -4,7 +4,7 @@ use Rattle.mpf_config.specs.Rows.{Note, Rows, RowsFault}
 use Rattle.mpf_config.specs.Reading.{rows_at}
 use Rattle.mpf_config.specs.View as rows_views
 use Rattle.config_checker.specs.CheckedView.{CheckedView}
-use Rattle.config_checker.specs.Checking.{FaultView, checked_at}
+use Rattle.config_checker.specs.Checking.{FaultView, checked_at, checked_with_at}
 use Rattle.config_checker.specs.View as checked_views
 use Rattle.pinball_shell.specs.declared.judgement.BundleRefusal.{BundleRefusal}
 use Rattle.pinball_shell.specs.declared.judgement.BundleRefusal.TheVariants as refusals
@@ -30,14 +30,23 @@ abbrev pub answer_of : Result CheckedView (List FaultView) → Answer
 answer_of (Ok c) = Ok c
 answer_of (Err faults) = Err (unfit faults)
 
+-- what the checker answers of rows, with the weights of a certificate where there is one
+abbrev pub checked_by : Option (List ℕ) → Rows → Result CheckedView (List FaultView)
+checked_by None rows = checked_at rows
+checked_by (Some certificate) rows = checked_with_at rows certificate
+
 -- rows have their notes, whether they are accepted or not; where there are no rows, there are no notes
-abbrev pub judged : Result Rows RowsFault → Judgement
-judged (Ok rows) = record { notes = rows.notes; answer = answer_of (checked_at rows) }
-judged (Err f) = record { notes = []; answer = Err (unread f) }
+abbrev pub judged : Option (List ℕ) → Result Rows RowsFault → Judgement
+judged certificate (Ok rows) = record { notes = rows.notes; answer = answer_of (checked_by certificate rows) }
+judged certificate (Err f) = record { notes = []; answer = Err (unread f) }
 
 -- the bundle's rows are read and then checked
 abbrev pub judged_at : List ℕ → Judgement
-judged_at bundle = judged (rows_at bundle)
+judged_at bundle = judged None (rows_at bundle)
+
+-- the bundle's rows are read and then checked with the weights of a certificate
+abbrev pub judged_with : List ℕ → List ℕ → Judgement
+judged_with certificate bundle = judged (Some certificate) (rows_at bundle)
 
 abbrev pub verdict_on : Answer → Verdict
 verdict_on (Ok c) = Yes

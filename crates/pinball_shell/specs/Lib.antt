@@ -6,5 +6,4 @@ pub mod LogText
 pub mod LogView
 pub mod RunOfLog
 pub mod TraceText
-pub mod PlayerView
 pub mod Played

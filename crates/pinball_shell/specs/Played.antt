@@ -1,31 +1,59 @@
 -- What playing does to the state, and to what is written.
-use Rattle.std.specs.Prelude.{◌≡◌, ℕ, Option, Some, None, Result, Ok, Err, List, []}
+use Rattle.std.specs.Prelude.{◌≡◌, ℕ, ◌≤◌, false, Option, Some, None, Result, Ok, Err, List, [], ◌∷◌, length}
 use Rattle.std.specs.List.{flat_map}
 use Rattle.std.specs.Io.KnownBytes.{Appends}
 use Rattle.std.specs.Str.Lines.{lines}
 use Rattle.mpf_plan.specs.PlanView.{PlanView}
 use Rattle.config_checker.specs.declared.line.Line.{Line}
+use Rattle.config_checker.specs.Accepted.{IsAccepted}
 use Rattle.config_checker.specs.Machine.{Machine, initial}
-use Rattle.config_checker.specs.Run.{Stimulus, IsRun}
+use Rattle.config_checker.specs.Run.{Stimulus, Change, Alarm, Wait, IsRun}
+use Rattle.pin_rig.specs.declared.input.Input.{Input}
+use Rattle.pin_rig.specs.declared.input.Input.TheVariants as inputs
+use Rattle.pin_rig.specs.Alarm.{is_due_by}
+use Rattle.pin_rig.specs.Rig.{RigView, stimulus_at}
 use Rattle.pinball_shell.specs.declared.fault.Verdict.{Verdict}
 use Rattle.pinball_shell.specs.declared.fault.Verdict.TheVariants as verdicts
 use Rattle.pinball_shell.specs.declared.refusal.Refusal.{Refusal}
-use Rattle.pinball_shell.specs.declared.stimulus.Stimulus.{Stimulus as PlayedStimulus}
 use Rattle.pinball_shell.specs.LogText.{said}
-use Rattle.pinball_shell.specs.RunOfLog.{judged, state_after, lines_of, Told, told_of, after_line, told_by}
-use Rattle.pinball_shell.specs.PlayerView.{stimulus_view}
+use Rattle.pinball_shell.specs.RunOfLog.{judged, moment_of, state_after, lines_of, alarms_by, Told, told_of, after_line, told_by}
 use Rattle.pinball_shell.specs.TraceText.{line_text, told_text, verdict_of}
 
--- what stands for a judgement
-abbrev pub GivesJudged : Result (Option PlayedStimulus) Refusal → Result (Option Stimulus) Refusal → Type 0
+-- what a rig is given for a stimulus: which alarm comes, it says itself
+abbrev pub input_of : Stimulus → Input
+input_of (Change at n level) = inputs.Change at (record { 0 = n }) level
+input_of (Alarm at n) = inputs.Alarm
+input_of (Wait at) = inputs.Wait at
+
+-- what stands for a judgement: the moment of a stimulus, and the input
+abbrev pub GivesJudged : Result (Option (ℕ × Input)) Refusal → Result (Option Stimulus) Refusal → Type 0
 GivesJudged (Ok None) given = given ≡ Ok None
-GivesJudged (Ok (Some stimulus)) given = given ≡ Ok (Some (stimulus_view stimulus))
+GivesJudged (Ok (Some timed)) given = (stimulus : Stimulus) × (given ≡ Ok (Some stimulus)) × (timed ≡ (moment_of stimulus, input_of stimulus))
 GivesJudged (Err refusal) given = given ≡ Err refusal
 
 -- these stimuli were played, and their lines written
 pub record IsPlayed (plan : PlanView) (bound : ℕ) (stimuli : List Stimulus) (old new : Machine) (before after : Option (List ℕ)) : Type 0 where
   pub state : new ≡ state_after plan bound stimuli old
   pub text : Appends before after (flat_map (line_text plan) (lines_of plan bound stimuli old))
+
+-- the rig is one of the plan, which was accepted
+pub record IsRigOf (plan : PlanView) (rig : RigView) : Type 0 where
+  pub plan_is : rig.checked.plan ≡ plan
+  pub accepted : IsAccepted rig.checked
+
+-- the stimulus that the input is was played on a rig of the plan
+pub record IsInputPlayed (plan : PlanView) (input : Input) (old new : RigView) (before after : Option (List ℕ)) : Type 0 where
+  pub stimulus : Stimulus
+  pub stimulus_is : stimulus_at old input ≡ Ok stimulus
+  pub checked_is : new.checked ≡ old.checked
+  pub played : IsPlayed plan old.checked.bound (stimulus ∷ []) old.machine new.machine before after
+
+-- the alarms that come by the moment were played, and no more is due by it
+pub record AreAlarmsPlayed (plan : PlanView) (until : ℕ) (old new : RigView) (before after : Option (List ℕ)) : Type 0 where
+  pub checked_is : new.checked ≡ old.checked
+  pub played : IsPlayed plan old.checked.bound (alarms_by plan old.checked.bound until (length plan.switches) old.machine) old.machine new.machine before after
+  pub quiet : is_due_by until new.machine.switches ≡ false
+  pub moment : new.machine.moment ≤ until
 
 -- what was told is written
 abbrev pub text_of : PlanView → List Told → List ℕ

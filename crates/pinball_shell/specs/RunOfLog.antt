@@ -1,15 +1,14 @@
 -- The run of a log: which stimuli its lines give, and what is told of them.
-use Rattle.std.specs.Prelude.{ℕ, zero, suc, ◌+◌, ◌^◌, nat_lt, nat_le, Bool, if◌then◌else◌, Option, Some, None, option_map, Result, Ok, Err, List, [], ◌∷◌, ◌++◌, length, map}
+use Rattle.std.specs.Prelude.{ℕ, zero, suc, ◌+◌, ◌^◌, nat_lt, nat_le, Bool, if◌then◌else◌, Option, Some, None, Result, Ok, Err, List, [], ◌∷◌, ◌++◌, length, map}
 use Rattle.std.specs.Option.{option_map_or}
 use Rattle.std.specs.Str.Lines.{lines}
 use Rattle.mpf_plan.specs.PlanView.{PlanView, switch_named}
 use Rattle.mpf_plan.specs.declared.entries.SwitchId.{SwitchId}
 use Rattle.config_checker.specs.declared.line.Line.{Line}
-use Rattle.switch_core.specs.SwitchStep.{SwitchState}
-use Rattle.switch_core.specs.Switches.{next_due_from}
 use Rattle.config_checker.specs.Machine.{Machine, initial}
-use Rattle.config_checker.specs.Run.{Stimulus, Change, Alarm, Wait, begin}
-use Rattle.config_checker.specs.PlanOrder.{plan_steps}
+use Rattle.config_checker.specs.Run.{Stimulus, Change, Alarm, Wait}
+use Rattle.config_checker.specs.PlanOrder.{settled}
+use Rattle.pin_rig.specs.Alarm.{next_alarm}
 use Rattle.pinball_shell.specs.declared.refusal.Refusal.{Refusal}
 use Rattle.pinball_shell.specs.declared.refusal.Refusal.TheVariants.{Backwards, TooLate, NoSuchSwitch, BadLine}
 use Rattle.pinball_shell.specs.LogText.{Said, Nothing, Waits, Changes, Unreadable, said}
@@ -17,8 +16,8 @@ use Rattle.pinball_shell.specs.LogText.{Said, Nothing, Waits, Changes, Unreadabl
 -- ---- what becomes of a line
 
 -- A moment before that of the latest stimulus goes backwards. One of 2^40 or more is too late.
-abbrev pub timely : ℕ → ℕ → Stimulus → Result (Option Stimulus) Refusal
-timely now at stimulus = if nat_lt at now then Err Backwards else if nat_le (2 ^ 40) at then Err TooLate else Ok (Some stimulus)
+abbrev pub timely : {X : Type 0} → ℕ → ℕ → X → Result (Option X) Refusal
+timely now at what = if nat_lt at now then Err Backwards else if nat_le (2 ^ 40) at then Err TooLate else Ok (Some what)
 
 abbrev pub known : ℕ → ℕ → Option SwitchId → Bool → Result (Option Stimulus) Refusal
 known now at None level = Err NoSuchSwitch
@@ -33,20 +32,12 @@ judged plan now (Changes at name level) = known now at (switch_named plan name) 
 
 -- ---- alarms
 
--- The next alarm of these switches: a moment, and the number of a switch. It is that of the least moment, and of those the lowest-numbered.
-abbrev pub next_alarm : List SwitchState → Option (ℕ × ℕ)
-next_alarm switches = option_map (λ d. (d.0, d.1.0)) (next_due_from 0 switches)
-
--- it, where it is due by the moment
+-- the next alarm, where it is due by the moment
 abbrev pub due_by : ℕ → Option (ℕ × ℕ) → Option (ℕ × ℕ)
 due_by until None = None
 due_by until (Some a) = if nat_le a.0 until then Some a else None
 
 -- ---- stimuli and their lines
-
--- the state after a stimulus and its event steps in plan order, of which there are at most as many as the bound
-abbrev pub settled : PlanView → ℕ → Stimulus → Machine → Machine
-settled plan bound stimulus s = plan_steps plan bound (begin plan stimulus s)
 
 -- the state after these stimuli
 abbrev pub state_after : PlanView → ℕ → List Stimulus → Machine → Machine

@@ -1,16 +1,16 @@
 //! A bundle is read, judged and answered.
 
-ghost use Rattle.std.specs.Prelude.{◌≡◌, ◌≢◌, ◌<◌, ◌≤◌, IfOk, OnOk, IfErr, IfSome, IsSome, IsErrOf, length, map};
+ghost use Rattle.std.specs.Prelude.{◌≡◌, ◌≢◌, ◌<◌, ◌≤◌, IfOk, OnOk, IfErr, IfSome, IsSome, IsErrOf, length, map, option_map, ◌⊎◌};
 ghost use Rattle.std.specs.Io.KnownBytes.{Appends, Keeps};
 ghost use Rattle.mpf_config.specs.View.{rows_view, note_view};
-ghost use Rattle.config_checker.specs.Checking.{checked_at};
-ghost use Rattle.pinball_shell.specs.Judged.{judged_at, answer_of, verdict_of, accepted_of, refusal_view, answer_view, judgement_view};
-ghost use Rattle.pinball_shell.specs.CheckOutput.{notes_text, refusal_lines, refusal_text, acceptance_text, answer_text, judgement_text, check_output, load_output};
+ghost use Rattle.mpf_config.specs.Reading.{rows_at};
+ghost use Rattle.pinball_shell.specs.Judged.{judged, judged_at, judged_with, checked_by, answer_of, verdict_of, accepted_of, refusal_view, answer_view, judgement_view};
+ghost use Rattle.pinball_shell.specs.CheckOutput.{notes_text, refusal_lines, refusal_text, acceptance_text, verification_text, judgement_text, check_output, verify_output, load_output};
 
 use crate::fault::{ShellFault, Verdict};
 use crate::judgement::{BundleRefusal, Judged};
 use crate::text::read_all;
-use config_checker::{Checked, Report, check, write_certificate, write_report};
+use config_checker::{Checked, Report, check, check_with, write_certificate, write_report};
 use mpf_config::fault::write_fault;
 use mpf_config::{Config, ConfigFault, Note, read_bundle, write_note};
 use std::alloc::Global;
@@ -18,6 +18,9 @@ use std::io::{self, Read, Write};
 
 /// How many bytes a bundle has at most: 8 MiB.
 pub const BUNDLE_LIMIT: usize = 8_388_608;
+
+/// How many bytes a certificate has at most: 1 MiB.
+pub const CERTIFICATE_LIMIT: usize = 1_048_576;
 
 /// Reads a bundle and writes what `check` prints for it: a line for each note on its rows, and then
 /// `yes` and its certificate, or why it is refused and `no`. A bundle that has no rows, being
@@ -36,8 +39,36 @@ pub fn check_text<R: Read, W: Write>(
     ensures too_long { IsErrOf result ShellFault.TooLong → IfSome (R.remaining reader.old) (λ bundle. BUNDLE_LIMIT < length bundle) }
 {
     let judged = read_judged(alloc, reader)?;
-    write_judged(&judged, writer).map_err(|_| ShellFault::Write)?;
-    Ok(judged.verdict())
+    match write_judged(&judged, writer) {
+        Ok(()) => Ok(judged.verdict()),
+        Err(_) => Err(ShellFault::Write),
+    }
+}
+
+/// Reads a bundle and a certificate, and writes what `verify` prints for them: a line for each note
+/// on the bundle's rows, and then `yes` and the bound of the certificate's weights, or why they are
+/// refused and `no`. Both are read whole before either is judged, the bundle first. Nothing is
+/// written before the answer stands, so after `NoMemory`, `Read` and `TooLong` nothing has been;
+/// how much was after `Write` is not said.
+pub fn verify_text<R: Read, Q: Read, W: Write>(
+    alloc: Global,
+    bundle: &mut R,
+    certificate: &mut Q,
+    writer: &mut W,
+) -> Result<Verdict, ShellFault>
+    ensures verdict { IfOk result (λ v. IfSome (R.remaining bundle.old) (λ text. IfSome (Q.remaining certificate.old) (λ stated. v ≡ verdict_of (judged_with stated text)))) }
+    ensures written { OnOk result (IfSome (R.remaining bundle.old) (λ text. IfSome (Q.remaining certificate.old)
+        (λ stated. Appends (W.contents writer.old) (W.contents writer.new) (verify_output stated text)))) }
+    ensures silent { IfErr result (λ e. e ≢ ShellFault.Write → Keeps (W.contents writer.old) (W.contents writer.new)) }
+    ensures within { OnOk result (IfSome (R.remaining bundle.old) (λ text. length text ≤ BUNDLE_LIMIT) × IfSome (Q.remaining certificate.old) (λ stated. length stated ≤ CERTIFICATE_LIMIT)) }
+    ensures too_long { IsErrOf result ShellFault.TooLong →
+        IfSome (R.remaining bundle.old) (λ text. BUNDLE_LIMIT < length text) ⊎ IfSome (Q.remaining certificate.old) (λ stated. CERTIFICATE_LIMIT < length stated) }
+{
+    let judged = read_verified(alloc, bundle, certificate)?;
+    match write_verified(&judged, writer) {
+        Ok(()) => Ok(judged.verdict()),
+        Err(_) => Err(ShellFault::Write),
+    }
 }
 
 /// Reads a bundle and checks it. Where it is refused, writes what `check` prints for it, its notes
@@ -57,8 +88,8 @@ pub fn load_text<R: Read, W: Write>(
     ensures too_long { IsErrOf result ShellFault.TooLong → IfSome (R.remaining reader.old) (λ bundle. BUNDLE_LIMIT < length bundle) }
 {
     let found = read_judged(alloc, reader)?;
-    if found.answer.is_err() {
-        write_judged(&found, writer).map_err(|_| ShellFault::Write)?;
+    if found.answer.is_err() && write_judged(&found, writer).is_err() {
+        return Err(ShellFault::Write);
     }
     Ok(found.answer.ok())
 }
@@ -71,12 +102,31 @@ fn read_judged<R: Read>(alloc: Global, reader: &mut R) -> Result<Judged, ShellFa
     ensures reads_only { IfErr result (λ e. e ≢ ShellFault.Write) }
 {
     let bundle = read_all(alloc, reader, BUNDLE_LIMIT)?;
-    judge(alloc, &bundle)
+    judge(alloc, &bundle, None)
 }
 
-/// What is found of a bundle. Fails only by memory.
-fn judge(alloc: Global, bundle: &[u8]) -> Result<Judged, ShellFault>
-    ensures exact { IfOk result (λ found. judged_at bundle.now ≡ judgement_view found) }
+/// Reads a bundle, then a certificate, and judges them. Fails by memory and by the readers, and
+/// where one is too long.
+fn read_verified<R: Read, Q: Read>(
+    alloc: Global,
+    bundle: &mut R,
+    certificate: &mut Q,
+) -> Result<Judged, ShellFault>
+    ensures exact { IfOk result (λ found. IfSome (R.remaining bundle.old) (λ text. IfSome (Q.remaining certificate.old) (λ stated. judged_with stated text ≡ judgement_view found))) }
+    ensures within { OnOk result (IfSome (R.remaining bundle.old) (λ text. length text ≤ BUNDLE_LIMIT) × IfSome (Q.remaining certificate.old) (λ stated. length stated ≤ CERTIFICATE_LIMIT)) }
+    ensures too_long { IsErrOf result ShellFault.TooLong →
+        IfSome (R.remaining bundle.old) (λ text. BUNDLE_LIMIT < length text) ⊎ IfSome (Q.remaining certificate.old) (λ stated. CERTIFICATE_LIMIT < length stated) }
+    ensures reads_only { IfErr result (λ e. e ≢ ShellFault.Write) }
+{
+    let text = read_all(alloc, bundle, BUNDLE_LIMIT)?;
+    let stated = read_all(alloc, certificate, CERTIFICATE_LIMIT)?;
+    judge(alloc, &text, Some(stated.as_slice()))
+}
+
+/// What is found of a bundle, with the weights of a certificate where there is one. Fails only by
+/// memory.
+fn judge(alloc: Global, bundle: &[u8], certificate: Option<&[u8]>) -> Result<Judged, ShellFault>
+    ensures exact { IfOk result (λ found. judged (option_map (λ c. c.now) certificate.entry) (rows_at bundle.now) ≡ judgement_view found) }
     ensures only { IfErr result (λ e. e ≡ ShellFault.NoMemory) }
 {
     let config = match read_bundle(alloc, bundle) {
@@ -89,7 +139,7 @@ fn judge(alloc: Global, bundle: &[u8]) -> Result<Judged, ShellFault>
             });
         }
     };
-    let answer = judge_rows(alloc, &config)?;
+    let answer = judge_rows(alloc, &config, certificate)?;
     Ok(Judged {
         notes: config.notes,
         answer,
@@ -97,11 +147,19 @@ fn judge(alloc: Global, bundle: &[u8]) -> Result<Judged, ShellFault>
 }
 
 /// Whether rows are accepted, or why not. Fails only by memory.
-fn judge_rows(alloc: Global, config: &Config) -> Result<Result<Checked, BundleRefusal>, ShellFault>
-    ensures exact { IfOk result (λ answer. answer_of (checked_at (rows_view config.now)) ≡ answer_view answer) }
+fn judge_rows(
+    alloc: Global,
+    config: &Config,
+    certificate: Option<&[u8]>,
+) -> Result<Result<Checked, BundleRefusal>, ShellFault>
+    ensures exact { IfOk result (λ answer. answer_of (checked_by (option_map (λ c. c.now) certificate.entry) (rows_view config.now)) ≡ answer_view answer) }
     ensures only { IfErr result (λ e. e ≡ ShellFault.NoMemory) }
 {
-    match check(alloc, config) {
+    let answer = match certificate {
+        None => check(alloc, config),
+        Some(certificate) => check_with(alloc, config, certificate),
+    };
+    match answer {
         Ok(checked) => Ok(Ok(checked)),
         Err(Report::NoMemory) => Err(ShellFault::NoMemory),
         Err(Report::Faults(faults)) => Ok(Err(BundleRefusal::Unfit(faults))),
@@ -110,10 +168,25 @@ fn judge_rows(alloc: Global, config: &Config) -> Result<Result<Checked, BundleRe
 
 /// Writes what `check` prints for a bundle that was judged: the notes before the answer.
 fn write_judged<W: Write>(judged: &Judged, writer: &mut W) -> io::Result<()>
-    ensures { OnOk result (Appends (W.contents writer.old) (W.contents writer.new) (judgement_text (judgement_view judged.now))) }
+    ensures { OnOk result (Appends (W.contents writer.old) (W.contents writer.new) (judgement_text acceptance_text (judgement_view judged.now))) }
 {
     write_notes(&judged.notes, writer)?;
-    write_answer(&judged.answer, writer)
+    match &judged.answer {
+        Ok(checked) => write_acceptance(checked, writer),
+        Err(refusal) => write_refusal(refusal, writer),
+    }
+}
+
+/// Writes what `verify` prints for a bundle and a certificate that were judged: the notes before the
+/// answer.
+fn write_verified<W: Write>(judged: &Judged, writer: &mut W) -> io::Result<()>
+    ensures { OnOk result (Appends (W.contents writer.old) (W.contents writer.new) (judgement_text verification_text (judgement_view judged.now))) }
+{
+    write_notes(&judged.notes, writer)?;
+    match &judged.answer {
+        Ok(checked) => write_verification(checked, writer),
+        Err(refusal) => write_refusal(refusal, writer),
+    }
 }
 
 fn write_notes<W: Write>(notes: &[Note], writer: &mut W) -> io::Result<()>
@@ -123,15 +196,6 @@ fn write_notes<W: Write>(notes: &[Note], writer: &mut W) -> io::Result<()>
         write_note(note, writer)?;
     }
     Ok(())
-}
-
-fn write_answer<W: Write>(answer: &Result<Checked, BundleRefusal>, writer: &mut W) -> io::Result<()>
-    ensures { OnOk result (Appends (W.contents writer.old) (W.contents writer.new) (answer_text (answer_view answer.now))) }
-{
-    match answer {
-        Ok(checked) => write_acceptance(checked, writer),
-        Err(refusal) => write_refusal(refusal, writer),
-    }
 }
 
 fn write_refusal<W: Write>(refusal: &BundleRefusal, writer: &mut W) -> io::Result<()>
@@ -155,4 +219,11 @@ fn write_acceptance<W: Write>(checked: &Checked, writer: &mut W) -> io::Result<(
 {
     writer.write_all(b"yes\n")?;
     write_certificate(checked, writer)
+}
+
+fn write_verification<W: Write>(checked: &Checked, writer: &mut W) -> io::Result<()>
+    ensures { OnOk result (Appends (W.contents writer.old) (W.contents writer.new) (verification_text checked.now)) }
+{
+    writer.write_all(b"yes\n")?;
+    writeln!(writer, "bound {}", checked.bound())
 }

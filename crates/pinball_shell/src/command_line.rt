@@ -2,18 +2,23 @@
 
 ghost use Rattle.std.specs.Prelude.{◌≡◌, ℕ, List, [], ◌∷◌, Some, true, false, IfOk, IfErr, IsSome, map, option_map, codes, string_bytes};
 ghost use Rattle.clap.specs.Words.{app_of, kind_of, rule_of, subcommand_rows_of};
-ghost use Rattle.pinball_shell.specs.CommandLine.{log_rule, pinball_app, check, play, ask_view, asked_by, asked_of, asked_at, is_taken, begins_with_hyphen, Asks};
+ghost use Rattle.pinball_shell.specs.CommandLine.{path_rule, pinball_app, check, verify, play, ask_view, asked_by, asked_of, asked_at, is_taken, begins_with_hyphen, Asks};
 ghost use Rattle.pinball_shell.specs.declared.command_line.AskFault.TheVariants.{NoMemory};
 
 use clap::error::ErrorKind;
 use clap::{Arg, ArgAction, ArgMatches, Command, Error};
-use std::alloc::{AllocError, AllocFailed, Global};
+use std::alloc::{AllocError, Global};
 
 /// What is asked for.
 #[derive(Debug, Drop)]
 pub enum Ask {
     /// To check the bundle.
     Check,
+    /// To verify the certificate of this path on the bundle.
+    Verify {
+        /// The path of the certificate.
+        certificate: String,
+    },
     /// To play the log of this path on the bundle.
     Play {
         /// The path of the log.
@@ -38,19 +43,12 @@ impl From<AllocError> for AskFault {
     }
 }
 
-impl<T: Drop> From<AllocFailed<T>> for AskFault {
-    ghost from_gives = { λ _ e. e ≡ NoMemory };
-
-    fn from(_e: AllocFailed<T>) -> AskFault {
-        AskFault::NoMemory
-    }
-}
-
-/// What the words after the program's name ask for: `check`, or `play LOG`. `Usage` for all other
-/// words, and for those that ask for help.
+/// What the words after the program's name ask for: `check`, `verify CERT`, or `play LOG`. `Usage`
+/// for all other words, and for those that ask for help.
 pub fn command(alloc: Global, words: Vec<String>) -> Result<Ask, AskFault>
     ensures asked { IfOk result (λ ask. asked_at (map string_bytes words.items) ≡ Some (ask_view ask)) }
     ensures checks { map string_bytes words.items ≡ codes "check" ∷ [] → Asks check result }
+    ensures verifies { (path : List ℕ) → begins_with_hyphen path ≡ false → map string_bytes words.items ≡ codes "verify" ∷ path ∷ [] → Asks (verify path) result }
     ensures plays { (log : List ℕ) → begins_with_hyphen log ≡ false → map string_bytes words.items ≡ codes "play" ∷ log ∷ [] → Asks (play log) result }
 {
     read_words(alloc, &words)
@@ -72,23 +70,29 @@ fn pinball<'a>(alloc: Global) -> Result<Command<'a>, AllocError>
     ensures { IfOk result (λ command. app_of command ≡ pinball_app) }
 {
     let check = Command::new(alloc, "check").about("Checks the bundle on standard input");
+    let verify = Command::new(alloc, "verify")
+        .about("Verifies a certificate of the bundle on standard input")
+        .arg(path_argument(alloc, "CERT", "The file with the certificate"))?;
     let play = Command::new(alloc, "play")
         .about("Plays a log on the bundle on standard input")
-        .arg(log_argument(alloc))?;
+        .arg(path_argument(alloc, "LOG", "The file with the log of the switches"))?;
     let program = Command::new(alloc, "pinball")
         .about("Checks and plays configurations of pinball machines")
         .no_binary_name(true)
         .subcommand_required(true);
-    program.subcommand(check)?.subcommand(play)
+    program
+        .subcommand(check)?
+        .subcommand(verify)?
+        .subcommand(play)
 }
 
-fn log_argument<'a>(alloc: Global) -> Arg<'a>
-    ensures rule { rule_of result ≡ log_rule }
+fn path_argument<'a>(alloc: Global, value_name: &'a str, help: &'a str) -> Arg<'a>
+    ensures rule { rule_of result ≡ path_rule }
     ensures local { result.global ≡ false }
 {
-    Arg::new(alloc, "log")
-        .help("The file with the log of the switches")
-        .value_name("LOG")
+    Arg::new(alloc, "path")
+        .help(help)
+        .value_name(value_name)
         .required(true)
         .action(ArgAction::Set)
 }
@@ -98,22 +102,25 @@ fn ask_of(alloc: Global, matches: &ArgMatches<'_>) -> Result<Ask, AskFault>
     ensures only { IfErr result (λ fault. IsSome (asked_of (subcommand_rows_of matches.now)) → fault ≡ AskFault.NoMemory) }
 {
     match matches.subcommand() {
-        Some((name, found)) => ask_by(alloc, name, found.get_str("log")),
+        Some((name, found)) => ask_by(alloc, name, found.get_str("path")),
         None => Err(not_understood(alloc)),
     }
 }
 
-/// What a subcommand's name and the value of its `log` ask for.
-fn ask_by(alloc: Global, name: &str, log: Option<&str>) -> Result<Ask, AskFault>
-    ensures asked { IfOk result (λ ask. asked_by name.now (option_map (λ s. s.now) log.entry) ≡ Some (ask_view ask)) }
-    ensures only { IfErr result (λ fault. IsSome (asked_by name.now (option_map (λ s. s.now) log.entry)) → fault ≡ AskFault.NoMemory) }
+/// What a subcommand's name, and the value of its path, ask for.
+fn ask_by(alloc: Global, name: &str, path: Option<&str>) -> Result<Ask, AskFault>
+    ensures asked { IfOk result (λ ask. asked_by name.now (option_map (λ s. s.now) path.entry) ≡ Some (ask_view ask)) }
+    ensures only { IfErr result (λ fault. IsSome (asked_by name.now (option_map (λ s. s.now) path.entry)) → fault ≡ AskFault.NoMemory) }
 {
     if name == "check" {
         return Ok(Ask::Check);
     }
-    match log {
-        Some(log) if name == "play" => Ok(Ask::Play {
-            log: String::from_str(alloc, log)?,
+    match path {
+        Some(path) if name == "verify" => Ok(Ask::Verify {
+            certificate: String::from_str(alloc, path)?,
+        }),
+        Some(path) if name == "play" => Ok(Ask::Play {
+            log: String::from_str(alloc, path)?,
         }),
         _ => Err(not_understood(alloc)),
     }

@@ -4,7 +4,8 @@ ghost use Rattle.std.specs.Prelude.{◌≡◌};
 ghost use Rattle.pinball_shell.specs.Status.{status_of};
 ghost use Rattle.pinball_shell.specs.declared.fault.ShellFault.TheVariants.{NoMemory};
 
-use std::alloc::{AllocError, AllocFailed};
+use pin_rig::RigFault;
+use std::alloc::AllocError;
 use thiserror::Error;
 
 /// Why there is no verdict.
@@ -41,11 +42,13 @@ impl From<AllocError> for ShellFault {
     }
 }
 
-impl<T: Drop> From<AllocFailed<T>> for ShellFault {
+impl From<RigFault> for ShellFault {
     ghost from_gives = { λ _ e. e ≡ NoMemory };
 
-    fn from(_e: AllocFailed<T>) -> ShellFault {
-        ShellFault::NoMemory
+    fn from(fault: RigFault) -> ShellFault {
+        match fault {
+            RigFault::NoMemory => ShellFault::NoMemory,
+        }
     }
 }
 

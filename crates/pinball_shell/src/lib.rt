@@ -7,14 +7,11 @@ pub mod fault;
 mod judgement;
 mod log_line;
 pub mod play;
-mod player;
 mod refusal;
-mod steps;
-mod stimulus;
 pub mod text;
 mod trace;
 
-pub use check::{check_text, load_text};
+pub use check::{check_text, load_text, verify_text};
 pub use command_line::{Ask, AskFault, command};
 pub use fault::{ShellFault, Verdict, status};
 pub use play::play_text;

@@ -3,7 +3,7 @@
 ghost use Rattle.std.specs.Prelude.{◌≡◌, ◌<◌, ◌==◌, not, [], ◌∷◌, MatchOption, length, position};
 ghost use Rattle.std.specs.List.{position_or_len};
 ghost use Rattle.std.specs.Str.Lines.{lines, strip_carriage_return};
-ghost use Rattle.pinball_shell.specs.LogText.{is_blank as blank, words, has_outer_blank as outer_blank, number_in, moment_in, level_in, wait as wait_at, change as change_at, said_in, is_skipped as skipped, said};
+ghost use Rattle.pinball_shell.specs.LogText.{is_blank as blank, words, number_in, moment_in, level_in, wait as wait_at, change as change_at, said_in, said};
 ghost use Rattle.pinball_shell.specs.LogView.{said_view};
 
 /// What a line of a log asks for.
@@ -53,32 +53,19 @@ fn without_return(line: &[u8]) -> &[u8]
 pub fn read_line(line: &[u8]) -> Said<'_>
     ensures { said_view result ≡ said line.now }
 {
-    if is_skipped(line) {
+    if line.is_empty() || line[0] == b'#' {
         Said::Nothing
-    } else if has_outer_blank(line) {
+    } else if is_blank(line[0]) || is_blank(line[line.len() - 1]) {
         Said::Unreadable
     } else {
         read_words(line)
     }
 }
 
-fn is_skipped(line: &[u8]) -> bool
-    ensures { result ≡ skipped line.now }
-{
-    line.is_empty() || line[0] == b'#'
-}
-
 fn is_blank(b: u8) -> bool
     ensures { result ≡ blank b }
 {
     b == b' ' || b == b'\t'
-}
-
-fn has_outer_blank(line: &[u8]) -> bool
-    requires { 0 < length line.now }
-    ensures { result ≡ outer_blank line.now }
-{
-    is_blank(line[0]) || is_blank(line[line.len() - 1])
 }
 
 /// What the words of a line say: `MOMENT`, or `MOMENT SWITCH LEVEL`.

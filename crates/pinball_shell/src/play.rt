@@ -1,26 +1,24 @@
 //! A log is read and played.
 
-ghost use Rattle.std.specs.Prelude.{◌≡◌, ◌^◌, ◌<◌, ◌≤◌, ◌⊎◌, [], ◌∷◌, IfOk, IfErr, OnOk, IfSome, IsErrOf, length};
+ghost use Rattle.std.specs.Prelude.{◌≡◌, ◌≢◌, ◌^◌, ◌<◌, ◌≤◌, ◌⊎◌, IfOk, IfErr, IsOk, OnOk, IfSome, IsErrOf, length};
 ghost use Rattle.std.specs.Io.KnownBytes.{Appends, Keeps};
-ghost use Rattle.pinball_shell.specs.LogText.{said};
+ghost use Rattle.pin_rig.specs.Alarm.{is_due_by};
+ghost use Rattle.pin_rig.specs.Rig.{stimulus_at};
 ghost use Rattle.pinball_shell.specs.LogView.{said_view};
-ghost use Rattle.pinball_shell.specs.RunOfLog.{judged, timely, known, moment_of, alarms_by, told_in, traced};
-ghost use Rattle.pinball_shell.specs.PlayerView.{IsPlayable, IsPlaying, stimulus_view};
+ghost use Rattle.pinball_shell.specs.RunOfLog.{judged, timely, told_in, traced};
 ghost use Rattle.pinball_shell.specs.TraceText.{trace_text, verdict_of};
-ghost use Rattle.pinball_shell.specs.Played.{worse_of, IsPlayed, IsLinePlayed, AreLinesPlayed, IsTraceOfRun, GivesJudged};
+ghost use Rattle.pinball_shell.specs.Played.{worse_of, IsInputPlayed, AreAlarmsPlayed, IsLinePlayed, AreLinesPlayed, IsTraceOfRun, GivesJudged, IsRigOf};
 
 use crate::fault::{ShellFault, Verdict};
 use crate::log_line::{Said, first_line, read_line};
-use crate::player::Player;
 use crate::refusal::Refusal;
-use crate::steps::run;
-use crate::stimulus::Stimulus;
 use crate::text::read_all;
 use crate::trace::{write_lines, write_refused};
 use config_checker::Checked;
-use mpf_plan::{Plan, SwitchId};
+use mpf_plan::Plan;
+use pin_rig::{Input, Rig};
 use std::alloc::Global;
-use std::io::{Read, Write};
+use std::io::{self, Read, Write};
 
 /// How many bytes a log has at most: 16 MiB.
 pub const LOG_LIMIT: usize = 16_777_216;
@@ -30,8 +28,9 @@ const TOO_LATE: u64 = 1 << 40;
 
 /// Reads a log and plays it: writes the lines of the trace as they come, and which lines of the
 /// log are refused. `Yes` where none is. The lines of the trace are those of a run of the plan, at
-/// whose end no event waits. The log is read whole before anything is written, so after `Read` and
-/// `TooLong` nothing has been; how much was after `Write` and `NoMemory` is not said.
+/// whose end no event waits. The log is read whole, and all memory taken, before anything is
+/// written, so after `NoMemory`, `Read` and `TooLong` nothing has been; how much was after `Write`
+/// is not said.
 pub fn play_text<R: Read, W: Write>(
     alloc: Global,
     checked: &Checked,
@@ -44,14 +43,14 @@ pub fn play_text<R: Read, W: Write>(
         (λ log. v ≡ verdict_of (told_in checked.now.plan checked.now.bound log))) }
     ensures run { OnOk result (IfSome (R.remaining reader.old)
         (λ log. IsTraceOfRun checked.now.plan (traced (told_in checked.now.plan checked.now.bound log)))) }
-    ensures silent { (IsErrOf result ShellFault.Read ⊎ IsErrOf result ShellFault.TooLong) → Keeps (W.contents writer.old) (W.contents writer.new) }
+    ensures silent { IfErr result (λ e. e ≢ ShellFault.Write → Keeps (W.contents writer.old) (W.contents writer.new)) }
     ensures too_long { IsErrOf result ShellFault.TooLong → IfSome (R.remaining reader.old) (λ log. LOG_LIMIT < length log) }
 {
     let log = read_all(alloc, reader, LOG_LIMIT)?;
     play_log(alloc, checked, &log, writer)
 }
 
-/// Plays a log that was read. Fails only by memory and by the writer.
+/// Plays a log that was read. Fails only by memory, before anything is written, and by the writer.
 fn play_log<W: Write>(
     alloc: Global,
     checked: &Checked,
@@ -62,35 +61,34 @@ fn play_log<W: Write>(
     ensures written { OnOk result (Appends (W.contents writer.old) (W.contents writer.new) (trace_text checked.now.plan checked.now.bound log.now)) }
     ensures verdict { IfOk result (λ v. v ≡ verdict_of (told_in checked.now.plan checked.now.bound log.now)) }
     ensures run { IsTraceOfRun checked.now.plan (traced (told_in checked.now.plan checked.now.bound log.now)) }
+    ensures silent { IfErr result (λ e. e ≢ ShellFault.Write → Keeps (W.contents writer.old) (W.contents writer.new)) }
     ensures failed { IfErr result (λ e. (e ≡ ShellFault.NoMemory) ⊎ (e ≡ ShellFault.Write)) }
 {
     let plan = checked.plan();
-    let mut player = Player::new(alloc, plan)?;
-    play_lines(plan, checked.bound(), &mut player, log, writer)
+    let mut rig = Rig::new(alloc, checked)?;
+    match play_lines(plan, &mut rig, log, writer) {
+        Ok(verdict) => Ok(verdict),
+        Err(_) => Err(ShellFault::Write),
+    }
 }
 
-/// Plays the lines of a log.
+/// Plays the lines of a log on the rig of a plan.
 fn play_lines<W: Write>(
     plan: &Plan,
-    bound: u32,
-    player: &mut Player,
+    rig: &mut Rig<'_>,
     log: &[u8],
     writer: &mut W,
-) -> Result<Verdict, ShellFault>
+) -> io::Result<Verdict>
     requires log { length log.now ≤ LOG_LIMIT }
-    requires playing { IsPlaying plan.now player.old }
-    ensures played { IfOk result (λ v. AreLinesPlayed plan.now bound log.now player.old.machine (W.contents writer.old) (W.contents writer.new) v) }
-    ensures failed { IfErr result (λ e. (e ≡ ShellFault.NoMemory) ⊎ (e ≡ ShellFault.Write)) }
+    requires rig { IsRigOf plan.now rig.old }
+    ensures { IfOk result (λ v. AreLinesPlayed plan.now rig.old.checked.bound log.now rig.old.machine (W.contents writer.old) (W.contents writer.new) v) }
 {
     let mut verdict = Verdict::Yes;
     let mut number = 1;
     let mut rest = log;
     while !rest.is_empty() {
         let (line, after) = first_line(rest);
-        verdict = worse(
-            verdict,
-            play_line(plan, bound, player, number, line, writer)?,
-        );
+        verdict = worse(verdict, play_line(plan, rig, number, line, writer)?);
         number += 1;
         rest = after;
     }
@@ -110,107 +108,100 @@ fn worse(before: Verdict, line: Verdict) -> Verdict
 /// Plays a line that has this number, unless it is refused.
 fn play_line<W: Write>(
     plan: &Plan,
-    bound: u32,
-    player: &mut Player,
+    rig: &mut Rig<'_>,
     number: usize,
     line: &[u8],
     writer: &mut W,
-) -> Result<Verdict, ShellFault>
-    requires playing { IsPlaying plan.now player.old }
-    ensures played { IfOk result (λ v. IsLinePlayed plan.now bound number line.now player.old.machine player.new.machine (W.contents writer.old) (W.contents writer.new) v) }
-    ensures playing { OnOk result (IsPlaying plan.now player.new) }
-    ensures failed { IfErr result (λ e. (e ≡ ShellFault.NoMemory) ⊎ (e ≡ ShellFault.Write)) }
+) -> io::Result<Verdict>
+    requires { IsRigOf plan.now rig.old }
+    ensures played { IfOk result (λ v. IsLinePlayed plan.now rig.old.checked.bound number line.now rig.old.machine rig.new.machine (W.contents writer.old) (W.contents writer.new) v) }
+    ensures checked { OnOk result (rig.new.checked ≡ rig.old.checked) }
 {
-    match judge(plan, player.moment(), read_line(line)) {
+    match judge(plan, rig.now(), read_line(line)) {
         Ok(None) => Ok(Verdict::Yes),
-        Ok(Some(stimulus)) => {
-            play_alarms(plan, bound, player, stimulus.moment(), writer)?;
-            play(plan, bound, player, stimulus, writer)?;
+        Ok(Some((at, input))) => {
+            play_alarms(plan, rig, at, writer)?;
+            play_input(plan, rig, input, writer)?;
             Ok(Verdict::Yes)
         }
         Err(refusal) => {
-            write_refused(number, refusal, writer).map_err(|_| ShellFault::Write)?;
+            write_refused(number, refusal, writer)?;
             Ok(Verdict::Refused)
         }
     }
 }
 
-/// What a line gives where the latest stimulus came at `now`: nothing, a stimulus, or why it is
-/// refused.
-fn judge(plan: &Plan, now: u64, line: Said<'_>) -> Result<Option<Stimulus>, Refusal>
+/// What a line gives where the latest stimulus came at `now`: nothing, an input and its moment, or
+/// why it is refused.
+fn judge(plan: &Plan, now: u64, line: Said<'_>) -> Result<Option<(u64, Input)>, Refusal>
     ensures { GivesJudged result (judged plan.now now (said_view line.entry)) }
 {
     match line {
         Said::Nothing => Ok(None),
         Said::Unreadable => Err(Refusal::BadLine),
-        Said::Waits(at) => timely_one(now, Stimulus::Wait(at)),
+        Said::Waits(at) => timely_one(now, at, Input::Wait { at }),
         Said::Changes(at, name, level) => match plan.find_switch(name) {
             None => Err(Refusal::NoSuchSwitch),
-            Some(switch) => timely_one(now, Stimulus::Change(at, switch, level)),
+            Some(switch) => timely_one(now, at, Input::Change { at, switch, level }),
         },
     }
 }
 
-/// A stimulus, where its moment does not go back and is not too late.
-fn timely_one(now: u64, stimulus: Stimulus) -> Result<Option<Stimulus>, Refusal>
-    ensures { GivesJudged result (timely now (moment_of (stimulus_view stimulus)) (stimulus_view stimulus)) }
+/// An input and its moment, where that does not go back and is not too late.
+fn timely_one(now: u64, at: u64, input: Input) -> Result<Option<(u64, Input)>, Refusal>
+    ensures { result ≡ timely now at (at, input) }
 {
-    if stimulus.moment() < now {
+    if at < now {
         Err(Refusal::Backwards)
-    } else if stimulus.moment() >= TOO_LATE {
+    } else if at >= TOO_LATE {
         Err(Refusal::TooLate)
     } else {
-        Ok(Some(stimulus))
+        Ok(Some((at, input)))
     }
 }
 
-/// Plays the alarms that are due by a moment.
+/// Plays the alarms that come by a moment.
 fn play_alarms<W: Write>(
     plan: &Plan,
-    bound: u32,
-    player: &mut Player,
+    rig: &mut Rig<'_>,
     until: u64,
     writer: &mut W,
-) -> Result<(), ShellFault>
+) -> io::Result<()>
     requires until { until < 2 ^ 40 }
-    requires playing { IsPlaying plan.now player.old }
-    ensures played { OnOk result (IsPlayed plan.now bound (alarms_by plan.now bound until (length plan.now.switches) player.old.machine) player.old.machine player.new.machine (W.contents writer.old) (W.contents writer.new)) }
-    ensures playing { OnOk result (IsPlaying plan.now player.new) }
-    ensures failed { IfErr result (λ e. (e ≡ ShellFault.NoMemory) ⊎ (e ≡ ShellFault.Write)) }
+    requires forward { rig.old.machine.moment ≤ until }
+    requires states { length rig.old.machine.switches ≡ length plan.now.switches }
+    requires plan { rig.old.checked.plan ≡ plan.now }
+    ensures { OnOk result (AreAlarmsPlayed plan.now until rig.old rig.new (W.contents writer.old) (W.contents writer.new)) }
 {
-    for _ in 0..plan.switch_count() {
-        match player.alarm_by(until) {
-            None => return Ok(()),
-            Some(alarm) => {
-                play(
-                    plan,
-                    bound,
-                    player,
-                    Stimulus::Alarm(alarm.0, alarm.1),
-                    writer,
-                )?;
-            }
-        }
+    while has_alarm_by(rig, until) {
+        play_input(plan, rig, Input::Alarm, writer)?;
     }
     Ok(())
 }
 
-/// Plays a stimulus, and writes its lines.
-fn play<W: Write>(
-    plan: &Plan,
-    bound: u32,
-    player: &mut Player,
-    stimulus: Stimulus,
-    writer: &mut W,
-) -> Result<(), ShellFault>
-    requires moment { moment_of (stimulus_view stimulus) < 2 ^ 40 }
-    requires playing { IsPlaying plan.now player.old }
-    requires playable { IsPlayable player.old (stimulus_view stimulus) }
-    ensures played { OnOk result (IsPlayed plan.now bound (stimulus_view stimulus ∷ []) player.old.machine player.new.machine (W.contents writer.old) (W.contents writer.new)) }
-    ensures playing { OnOk result (IsPlaying plan.now player.new) }
-    ensures failed { IfErr result (λ e. (e ≡ ShellFault.NoMemory) ⊎ (e ≡ ShellFault.Write)) }
+/// Whether an alarm is due at or before a moment.
+fn has_alarm_by(rig: &Rig<'_>, until: u64) -> bool
+    ensures { result ≡ is_due_by until rig.now.machine.switches }
 {
-    run(plan, bound, player, stimulus)?;
-    write_lines(plan, player.lines(), writer).map_err(|_| ShellFault::Write)?;
-    Ok(())
+    match rig.next_due() {
+        None => false,
+        Some(at) => at <= until,
+    }
+}
+
+/// Plays an input that the rig takes, and writes its lines.
+fn play_input<W: Write>(
+    plan: &Plan,
+    rig: &mut Rig<'_>,
+    input: Input,
+    writer: &mut W,
+) -> io::Result<()>
+    requires taken { IsOk (stimulus_at rig.old input) }
+    requires plan { rig.old.checked.plan ≡ plan.now }
+    ensures { OnOk result (IsInputPlayed plan.now input rig.old rig.new (W.contents writer.old) (W.contents writer.new)) }
+{
+    let Ok(lines) = rig.step(input) else {
+        unreachable!()
+    };
+    write_lines(plan, lines, writer)
 }

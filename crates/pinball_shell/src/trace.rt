@@ -4,7 +4,7 @@ ghost use Rattle.std.specs.Prelude.{◌≡◌, OnOk, slice_index_or};
 ghost use Rattle.std.specs.List.{flat_map};
 ghost use Rattle.std.specs.Io.KnownBytes.{Appends};
 ghost use Rattle.mpf_plan.specs.PlanView.{name_of_event, switch_at};
-ghost use Rattle.pinball_shell.specs.TraceText.{owner_text, level_text, switch_text, event_text, happening_text, line_text, refusal_text, refused_text};
+ghost use Rattle.pinball_shell.specs.TraceText.{owner_text, level_text, switch_text, event_text, line_text, refusal_text, refused_text};
 
 use crate::refusal::Refusal;
 use config_checker::{Happening, Line};
@@ -44,13 +44,7 @@ fn write_line<W: Write>(plan: &Plan, line: Line, writer: &mut W) -> io::Result<(
     ensures { OnOk result (Appends (W.contents writer.old) (W.contents writer.new) (line_text plan.now line)) }
 {
     write!(writer, "{} {} ", line.moment, owner_name(line.owner))?;
-    write_happening(plan, line.happening, writer)
-}
-
-fn write_happening<W: Write>(plan: &Plan, happening: Happening, writer: &mut W) -> io::Result<()>
-    ensures { OnOk result (Appends (W.contents writer.old) (W.contents writer.new) (happening_text plan.now happening)) }
-{
-    match happening {
+    match line.happening {
         Happening::Switch(switch, active) => {
             write_switch(switch_name(plan, switch), active, writer)
         }

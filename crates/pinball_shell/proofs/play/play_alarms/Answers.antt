@@ -1,33 +1,52 @@
-use Rattle.std.proofs.Common.{◌-◌, length, option_map, sym, ap, ◌∙◌, arith}
-use Rattle.pinball_shell.specs.PlayerView.{alarm_view}
+use Rattle.std.proofs.Common.{length, refl, sym, ◌∙◌, arith}
 use Rattle.pinball_shell.specs.RunOfLog.{alarms_by}
-use Rattle.pinball_shell.proofs.Playing.{alarms-start, alarms-more, alarms-stop, alarms-end}
+use Rattle.pinball_shell.proofs.Alarms.{due-comes, alarm-taken}
+use Rattle.pinball_shell.proofs.Taking.{ok_where, alarm-played}
+use Rattle.pinball_shell.proofs.Playing.{alarms-start, alarms-fewer, alarms-more, alarms-stop}
 use Rattle.pinball_shell.proofs.play.play_alarms.Goals as goal
 
-pub loop-init : goal.loop-init
-loop-init g c = (alarms-start c.args.plan.now c.args.bound c.args.until (length c.args.plan.now.switches) c.args.player.now.machine (g.W.Write.contents c.args.writer.now), c.requires.playing)
+pub loop-rig-init : goal.loop-rig-init
+loop-rig-init g c = (
+  alarms-start c.args.plan.now c.args.rig.now.checked.bound c.args.until (length c.args.plan.now.switches) c.args.rig.now.machine (g.W.Write.contents c.args.writer.now)
+      c.requires.states c.requires.forward,
+  refl,
+)
 
-pub loop-preserved : goal.loop-preserved
-loop-preserved g c =
-    let count = length c.args.plan.now.switches in
-    let alarm = c.in-Some.alarm in (
-      alarms-more c.args.plan.now c.args.bound c.args.until count c.loop.counter alarm.0 alarm.1.0 c.args.player.now.machine c.loop.player.machine c.play.new.player.machine
-          (g.W.Write.contents c.args.writer.now) (g.W.Write.contents c.loop.writer) (g.W.Write.contents c.play.new.writer)
-          (alarms_by c.args.plan.now c.args.bound c.args.until count c.args.player.now.machine)
-          (omega (arith, c.loop-test.true, c.switch_count-end.ensures)) c.loop.invariant.0 (sym c.alarm_by.ensures.next ∙ ap (option_map alarm_view) c.in-Some.is) c.in_ok-play-in-Some.ensures.played,
-      c.in_ok-play-in-Some.ensures.playing,
+pub play_input-requires-clause-taken : goal.play_input-requires-clause-taken
+play_input-requires-clause-taken g c =
+    let next = due-comes c.loop-rig.rig.machine c.args.until (sym c.has_alarm_by.ensures ∙ c.loop-rig-test.true) in
+    ok_where _ _ (alarm-taken c.loop-rig.rig c.args.until c.requires.until next)
+
+pub loop-rig-smaller : goal.loop-rig-smaller
+loop-rig-smaller g c =
+    let next = due-comes c.loop-rig.rig.machine c.args.until (sym c.has_alarm_by.ensures ∙ c.loop-rig-test.true) in
+    let played = alarm-played c.args.plan.now c.args.until c.args.rig.now c.loop-rig.rig c.play_input.new.rig (g.W.Write.contents c.loop-rig.writer) (g.W.Write.contents c.play_input.new.writer)
+    c.loop-rig.invariant.1 c.requires.until next c.in_ok-play_input.ensures in
+    let fewer = alarms-fewer c.args.plan.now c.args.rig.now.checked.bound c.args.until c.loop-rig.rig.machine c.play_input.new.rig.machine
+    (g.W.Write.contents c.loop-rig.writer) (g.W.Write.contents c.play_input.new.writer) next played in
+    omega (arith, fewer)
+
+pub loop-rig-preserved : goal.loop-rig-preserved
+loop-rig-preserved g c =
+    let next = due-comes c.loop-rig.rig.machine c.args.until (sym c.has_alarm_by.ensures ∙ c.loop-rig-test.true) in
+    let played = alarm-played c.args.plan.now c.args.until c.args.rig.now c.loop-rig.rig c.play_input.new.rig (g.W.Write.contents c.loop-rig.writer) (g.W.Write.contents c.play_input.new.writer)
+    c.loop-rig.invariant.1 c.requires.until next c.in_ok-play_input.ensures in (
+      alarms-more c.args.plan.now c.args.rig.now.checked.bound c.args.until c.loop-rig.rig.machine c.play_input.new.rig.machine
+          (g.W.Write.contents c.loop-rig.writer) (g.W.Write.contents c.play_input.new.writer) next played
+          c.args.rig.now.machine (g.W.Write.contents c.args.writer.now)
+          (alarms_by c.args.plan.now c.args.rig.now.checked.bound c.args.until (length c.args.plan.now.switches) c.args.rig.now.machine)
+          c.loop-rig.invariant.0,
+      c.in_ok-play_input.ensures.checked_is ∙ c.loop-rig.invariant.1,
     )
 
-pub returns-in-None-clause-played : goal.returns-in-None-clause-played
-returns-in-None-clause-played g c =
-    let count = length c.args.plan.now.switches in
-    alarms-stop c.args.plan.now c.args.bound c.args.until (count - c.loop.counter) c.args.player.now.machine c.loop.player.machine
-    (g.W.Write.contents c.args.writer.now) (g.W.Write.contents c.loop.writer) (alarms_by c.args.plan.now c.args.bound c.args.until count c.args.player.now.machine)
-    c.loop.invariant.0 (sym c.alarm_by.ensures.next ∙ ap (option_map alarm_view) c.in-None.is)
-
-pub returns-clause-played : goal.returns-clause-played
-returns-clause-played g c =
-    let count = length c.args.plan.now.switches in
-    alarms-end c.args.plan.now c.args.bound c.args.until count c.loop.counter c.args.player.now.machine c.loop.player.machine
-    (g.W.Write.contents c.args.writer.now) (g.W.Write.contents c.loop.writer) (alarms_by c.args.plan.now c.args.bound c.args.until count c.args.player.now.machine)
-    (omega (arith, c.loop-test.false, c.switch_count-end.ensures)) c.loop.invariant.0
+pub returns : goal.returns
+returns g c =
+    let quiet = sym c.has_alarm_by.ensures ∙ c.loop-rig-test.false in
+    let going = c.loop-rig.invariant.0 in
+    record {
+      checked_is = c.loop-rig.invariant.1;
+      played = alarms-stop c.args.plan.now c.args.rig.now.checked.bound c.args.until c.args.rig.now.machine c.loop-rig.rig.machine (g.W.Write.contents c.args.writer.now) (g.W.Write.contents c.loop-rig.writer)
+          (alarms_by c.args.plan.now c.args.rig.now.checked.bound c.args.until (length c.args.plan.now.switches) c.args.rig.now.machine) going quiet;
+      quiet = quiet;
+      moment = going.moment;
+    }

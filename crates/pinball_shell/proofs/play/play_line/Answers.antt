@@ -1,24 +1,33 @@
 use Rattle.std.proofs.Common.{Ok, ap, ◌∙◌}
-use Rattle.pinball_shell.specs.PlayerView.{stimulus_view}
-use Rattle.pinball_shell.specs.LogText.{said}
-use Rattle.pinball_shell.proofs.Playing.{judged-some, line-played}
-use Rattle.pinball_shell.proofs.LogRuns.{given-in_time, in_time-playable}
+use Rattle.pinball_shell.proofs.Taking.{reached-states, ok_where, judged-given, given-early, given-forward, given-taken, given-played}
 use Rattle.pinball_shell.proofs.play.play_line.Goals as goal
 
-pub play-requires-clause-playable : goal.play-requires-clause-playable
-play-requires-clause-playable g c =
-    let plan = c.args.plan.now in
-    let s = c.args.player.now.machine in
-    let line = c.args.line.now in
-    let given = judged-some plan c.args.bound c.judge.result c.in-Ok-Some.stimulus s line c.moment.result _ c.moment.ensures c.read_line.ensures (c.in-Ok-Some.is ∙ ap Ok c.in-Ok-Some.field-0-is) c.judge.ensures in
-    in_time-playable plan s.moment c.play_alarms.new.player (stimulus_view c.in-Ok-Some.stimulus) c.in_ok-play_alarms-in-Ok-Some.ensures.playing.kinds
-    (given-in_time plan s.moment (said line) (stimulus_view c.in-Ok-Some.stimulus) given)
+pub play_alarms-requires-clause-until : goal.play_alarms-requires-clause-until
+play_alarms-requires-clause-until g c =
+    let given = judged-given c.args.plan.now c.judge.result c.in-Ok-Some.at c.in-Ok-Some.input c.args.rig.now.machine c.args.line.now c.now.result _ c.now.ensures.now c.read_line.ensures
+    (c.in-Ok-Some.is ∙ ap Ok c.in-Ok-Some.field-0-is) c.judge.ensures in
+    given-early c.args.plan.now c.args.rig.now c.requires c.args.line.now c.in-Ok-Some.at c.in-Ok-Some.input given
 
-pub returns-in_ok-play-in-Ok-Some-clause-played : goal.returns-in_ok-play-in-Ok-Some-clause-played
-returns-in_ok-play-in-Ok-Some-clause-played g c =
-    let plan = c.args.plan.now in
-    let s = c.args.player.now.machine in
-    let given = judged-some plan c.args.bound c.judge.result c.in-Ok-Some.stimulus s c.args.line.now c.moment.result _ c.moment.ensures c.read_line.ensures (c.in-Ok-Some.is ∙ ap Ok c.in-Ok-Some.field-0-is) c.judge.ensures in
-    line-played plan c.args.bound c.args.number c.args.line.now s (stimulus_view c.in-Ok-Some.stimulus) c.moment-in-Ok-Some.result c.play_alarms.new.player.machine c.play.new.player.machine
-    (g.W.Write.contents c.args.writer.now) (g.W.Write.contents c.play_alarms.new.writer) (g.W.Write.contents c.play.new.writer)
-    given c.moment-in-Ok-Some.ensures c.in_ok-play_alarms-in-Ok-Some.ensures.played c.in_ok-play-in-Ok-Some.ensures.played
+pub play_alarms-requires-clause-forward : goal.play_alarms-requires-clause-forward
+play_alarms-requires-clause-forward g c =
+    let given = judged-given c.args.plan.now c.judge.result c.in-Ok-Some.at c.in-Ok-Some.input c.args.rig.now.machine c.args.line.now c.now.result _ c.now.ensures.now c.read_line.ensures
+    (c.in-Ok-Some.is ∙ ap Ok c.in-Ok-Some.field-0-is) c.judge.ensures in
+    given-forward c.args.plan.now c.args.rig.now c.requires c.args.line.now c.in-Ok-Some.at c.in-Ok-Some.input given
+
+pub play_alarms-requires-clause-states : goal.play_alarms-requires-clause-states
+play_alarms-requires-clause-states g c = reached-states c.args.plan.now c.args.rig.now c.requires c.now.ensures.reached
+
+pub play_input-requires-clause-taken : goal.play_input-requires-clause-taken
+play_input-requires-clause-taken g c =
+    let given = judged-given c.args.plan.now c.judge.result c.in-Ok-Some.at c.in-Ok-Some.input c.args.rig.now.machine c.args.line.now c.now.result _ c.now.ensures.now c.read_line.ensures
+    (c.in-Ok-Some.is ∙ ap Ok c.in-Ok-Some.field-0-is) c.judge.ensures in
+    ok_where _ _
+    (given-taken c.args.plan.now c.args.rig.now c.requires c.args.line.now c.in-Ok-Some.at c.in-Ok-Some.input given c.play_alarms.new.rig _ _ c.in_ok-play_alarms-in-Ok-Some.ensures)
+
+pub returns-in_ok-play_input-in-Ok-Some-clause-played : goal.returns-in_ok-play_input-in-Ok-Some-clause-played
+returns-in_ok-play_input-in-Ok-Some-clause-played g c =
+    let given = judged-given c.args.plan.now c.judge.result c.in-Ok-Some.at c.in-Ok-Some.input c.args.rig.now.machine c.args.line.now c.now.result _ c.now.ensures.now c.read_line.ensures
+    (c.in-Ok-Some.is ∙ ap Ok c.in-Ok-Some.field-0-is) c.judge.ensures in
+    given-played c.args.plan.now c.args.rig.now c.requires c.args.line.now c.in-Ok-Some.at c.in-Ok-Some.input given c.play_alarms.new.rig
+    (g.W.Write.contents c.args.writer.now) (g.W.Write.contents c.play_alarms.new.writer) c.in_ok-play_alarms-in-Ok-Some.ensures
+    c.args.number c.play_input.new.rig (g.W.Write.contents c.play_input.new.writer) c.in_ok-play_input-in-Ok-Some.ensures

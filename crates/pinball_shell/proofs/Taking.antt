@@ -1,0 +1,130 @@
+-- What a line gives is taken by the rig, once no alarm is due by its moment.
+use Rattle.std.proofs.Common.{◌≡◌, ℕ, ◌<◌, ◌≤◌, ◌^◌, nat_le, Bool, false, cond, Option, Some, Result, Ok, Err, IsOk, List, [], ◌∷◌, length, refl, ap, sym, ◌∙◌, subst, arith}
+use Rattle.std.proofs.lemmas.Bool.{lt-ltb, le-ltb, lt-leb}
+use Rattle.mpf_plan.specs.PlanView.{PlanView}
+use Rattle.config_checker.specs.CheckedView.{CheckedView}
+use Rattle.config_checker.specs.Accepted.{IsAccepted}
+use Rattle.config_checker.specs.Machine.{Machine}
+use Rattle.config_checker.specs.Run.{Stimulus, Change, Alarm, Wait}
+use Rattle.config_checker.proofs.Reached.{reached-of_plan}
+use Rattle.pin_rig.specs.declared.input.Input.{Input}
+use Rattle.pin_rig.specs.declared.input.Input.TheVariants as inputs
+use Rattle.pin_rig.specs.declared.input.StepFault.{StepFault}
+use Rattle.pin_rig.specs.declared.input.StepFault.TheVariants as faults
+use Rattle.pin_rig.specs.Alarm.{is_due_by}
+use Rattle.pin_rig.specs.Rig.{RigView, stimulus_at, IsReached}
+use Rattle.pin_rig.specs.Rig as rigs
+use Rattle.pinball_shell.specs.declared.fault.Verdict.{Verdict}
+use Rattle.pinball_shell.specs.declared.fault.Verdict.TheVariants as verdicts
+use Rattle.pinball_shell.specs.declared.refusal.Refusal.{Refusal}
+use Rattle.pinball_shell.specs.LogText.{Said, said}
+use Rattle.pinball_shell.specs.RunOfLog.{judged, moment_of}
+use Rattle.pinball_shell.specs.Played.{input_of, GivesJudged, IsPlayed, IsRigOf, IsInputPlayed, AreAlarmsPlayed, IsLinePlayed}
+use Rattle.pinball_shell.proofs.Alarms.{ComesBy, alarm-taken}
+use Rattle.pinball_shell.proofs.LogRuns.{IsInTime, given-in_time, in_time-early}
+use Rattle.pinball_shell.proofs.Playing.{line-played}
+
+-- ---- what the rig takes
+
+-- each switch of the plan has its state
+pub reached-states : (plan : PlanView) (rig : RigView) → IsRigOf plan rig → IsReached rig → length rig.machine.switches ≡ length plan.switches
+reached-states plan rig h reached =
+    let states = (reached-of_plan rig.checked h.accepted reached.trace rig.machine (record { stimuli = reached.stimuli; run = reached.run; idle = reached.settles })).switches in
+    states ∙ ap (λ (p : PlanView). length p.switches) h.plan_is
+
+module _ (rig : RigView) where
+  timely-taken : (at : ℕ) (stimulus : Stimulus) → rig.machine.moment ≤ at → at < 2 ^ 40 → is_due_by at rig.machine.switches ≡ false → rigs.timely rig.machine at stimulus ≡ Ok stimulus
+  timely-taken at stimulus forward early quiet =
+      let given : Result Stimulus StepFault = Ok stimulus in
+      let due : Result Stimulus StepFault = Err faults.AlarmPending in
+      let late : Result Stimulus StepFault = Err faults.TooLate in
+      let back : Result Stimulus StepFault = Err faults.Backwards in
+      ap (λ (b : Bool). cond b back (cond (nat_le (2 ^ 40) at) late (cond (is_due_by at rig.machine.switches) due given))) (le-ltb at rig.machine.moment forward)
+      ∙ ap (λ (b : Bool). cond b late (cond (is_due_by at rig.machine.switches) due given)) (lt-leb (2 ^ 40) at early)
+      ∙ ap (λ (b : Bool). cond b due given) quiet
+
+  -- what comes in time is taken
+  pub in_time-taken : (now : ℕ) (stimulus : Stimulus) → IsInTime rig.checked.plan now stimulus → rig.machine.moment ≤ moment_of stimulus → is_due_by (moment_of stimulus) rig.machine.switches ≡ false → stimulus_at rig (input_of stimulus) ≡ Ok stimulus
+  in_time-taken now (Change at n level) (forward, early, within) ahead quiet =
+      let there : Result Stimulus StepFault = rigs.timely rig.machine at (Change at n level) in
+      ap (λ (b : Bool). cond b there (Err faults.NoSuchSwitch)) (lt-ltb n (length rig.checked.plan.switches) within)
+      ∙ timely-taken at (Change at n level) ahead early quiet
+  in_time-taken now (Alarm at n) none ahead quiet = absurd none
+  in_time-taken now (Wait at) (forward, early) ahead quiet = timely-taken at (Wait at) ahead early quiet
+
+-- ---- on a rig of the plan
+
+pub ok_where : {T E : Type 0} (r : Result T E) (x : T) → r ≡ Ok x → IsOk r
+ok_where (Ok y) x h = refl
+ok_where (Err e) x h = cc
+
+is_ok : (a b : Stimulus) (r : Result Stimulus StepFault) → r ≡ Ok a → r ≡ Ok b → a ≡ b
+is_ok a b r h k = let same : ◌≡◌ {A = Result Stimulus StepFault} (Ok a) (Ok b) = sym h ∙ k in cc
+
+pub rig_of-same : (plan : PlanView) (old now : RigView) → now.checked ≡ old.checked → IsRigOf plan old → IsRigOf plan now
+rig_of-same plan old now is h = record {
+  plan_is = ap (λ (c : CheckedView). c.plan) is ∙ h.plan_is;
+  accepted = subst IsAccepted (sym is) h.accepted;
+}
+
+pub line-same : (plan : PlanView) (old now : RigView) → now.checked ≡ old.checked → (number : ℕ) (line : List ℕ) (t : Machine) (a b : Option (List ℕ)) (v : Verdict)
+    → IsLinePlayed plan now.checked.bound number line now.machine t a b v → IsLinePlayed plan old.checked.bound number line now.machine t a b v
+line-same plan old now is number line t a b v = subst (λ (c : CheckedView). IsLinePlayed plan c.bound number line now.machine t a b v) is
+
+-- an input whose stimulus is known plays that
+pub known-played : (plan : PlanView) (bound : ℕ) (input : Input) (old new : RigView) (a b : Option (List ℕ)) (stimulus : Stimulus) → old.checked.bound ≡ bound → stimulus_at old input ≡ Ok stimulus
+    → IsInputPlayed plan input old new a b → IsPlayed plan bound (stimulus ∷ []) old.machine new.machine a b
+known-played plan bound input old new a b stimulus same is h =
+    let the : h.stimulus ≡ stimulus = is_ok h.stimulus stimulus (stimulus_at old input) h.stimulus_is is in
+    subst (λ (k : ℕ). IsPlayed plan k (stimulus ∷ []) old.machine new.machine a b) same
+    (subst (λ (x : Stimulus). IsPlayed plan old.checked.bound (x ∷ []) old.machine new.machine a b) the h.played)
+
+pub alarm-played : (plan : PlanView) (until : ℕ) (first now new : RigView) (a b : Option (List ℕ)) → now.checked ≡ first.checked → until < 2 ^ 40 → (next : ComesBy now.machine until)
+    → IsInputPlayed plan inputs.Alarm now new a b → IsPlayed plan first.checked.bound (Alarm next.at next.n ∷ []) now.machine new.machine a b
+alarm-played plan until first now new a b same early next =
+    known-played plan first.checked.bound inputs.Alarm now new a b (Alarm next.at next.n) (ap (λ (c : CheckedView). c.bound) same) (alarm-taken now until early next)
+
+-- ---- a line that gives a stimulus
+
+-- what a line was judged to give
+pub record IsGiven (plan : PlanView) (s : Machine) (line : List ℕ) (at : ℕ) (input : Input) : Type 0 where
+  pub stimulus : Stimulus
+  pub given_is : judged plan s.moment (said line) ≡ Ok (Some stimulus)
+  pub input_is : input ≡ input_of stimulus
+  pub at_is : at ≡ moment_of stimulus
+
+pub judged-given : (plan : PlanView) (r : Result (Option (ℕ × Input)) Refusal) (at : ℕ) (input : Input) (s : Machine) (line : List ℕ) (now : ℕ) (read : Said) → now ≡ s.moment → read ≡ said line → r ≡ Ok (Some (at, input))
+    → GivesJudged r (judged plan now read) → IsGiven plan s line at input
+judged-given plan r at input s line now read moment says is given =
+    let (stimulus, given_is, timed) = subst (λ (y : Result (Option (ℕ × Input)) Refusal). GivesJudged y (judged plan now read)) is given in
+    record {
+      stimulus = stimulus;
+      given_is = ap (λ (m : ℕ). judged plan m (said line)) (sym moment) ∙ ap (judged plan now) (sym says) ∙ given_is;
+      input_is = ap (λ (x : ℕ × Input). x.1) timed;
+      at_is = ap (λ (x : ℕ × Input). x.0) timed;
+    }
+
+module _ (plan : PlanView) (rig : RigView) (rig_of : IsRigOf plan rig) (line : List ℕ) (at : ℕ) (input : Input) (given : IsGiven plan rig.machine line at input) where
+  given-in : IsInTime plan rig.machine.moment given.stimulus
+  given-in = given-in_time plan rig.machine.moment (said line) given.stimulus given.given_is
+
+  -- its moment is that of an alarm that is not too late
+  pub given-early : at < 2 ^ 40
+  given-early = let (forward, early) = in_time-early plan rig.machine.moment given.stimulus given-in in let is = given.at_is in omega (arith, early, is)
+
+  pub given-forward : rig.machine.moment ≤ at
+  given-forward = let (forward, early) = in_time-early plan rig.machine.moment given.stimulus given-in in let is = given.at_is in omega (arith, forward, is)
+
+  module _ (mid : RigView) (a b : Option (List ℕ)) (alarms : AreAlarmsPlayed plan at rig mid a b) where
+    -- once its alarms have come, the rig takes it
+    pub given-taken : stimulus_at mid input ≡ Ok given.stimulus
+    given-taken =
+        let plan_is : mid.checked.plan ≡ plan = ap (λ (c : CheckedView). c.plan) alarms.checked_is ∙ rig_of.plan_is in
+        ap (stimulus_at mid) given.input_is
+        ∙ in_time-taken mid rig.machine.moment given.stimulus (subst (λ (p : PlanView). IsInTime p rig.machine.moment given.stimulus) (sym plan_is) given-in)
+        (subst (λ (m : ℕ). mid.machine.moment ≤ m) given.at_is alarms.moment) (subst (λ (m : ℕ). is_due_by m mid.machine.switches ≡ false) given.at_is alarms.quiet)
+
+    pub given-played : (number : ℕ) (new : RigView) (c : Option (List ℕ)) → IsInputPlayed plan input mid new b c → IsLinePlayed plan rig.checked.bound number line rig.machine new.machine a c verdicts.Yes
+    given-played number new c h =
+        line-played plan rig.checked.bound number line rig.machine given.stimulus at mid.machine new.machine a b c given.given_is given.at_is alarms.played
+        (known-played plan rig.checked.bound input mid new b c given.stimulus (ap (λ (k : CheckedView). k.bound) alarms.checked_is) given-taken h)
