@@ -70,16 +70,6 @@ fn unknown_section(rt: HostRuntime) -> Result<(), Fail> {
 }
 
 #[test]
-fn posted_event_is_handled(rt: HostRuntime) -> Result<(), Fail> {
-    assert_checks(
-        &rt,
-        b"@ config/config.yaml\n#config_version=6\nevent_player:\n  start: go\n  go: stop\n",
-        Verdict::Refused,
-        b"fault 8 Cycle go\nno\n",
-    )
-}
-
-#[test]
 fn open_quote(rt: HostRuntime) -> Result<(), Fail> {
     assert_checks(
         &rt,
@@ -104,9 +94,9 @@ fn skipped_section_note(rt: HostRuntime) -> Result<(), Fail> {
 fn notes_before_a_fault(rt: HostRuntime) -> Result<(), Fail> {
     assert_checks(
         &rt,
-        b"@ modes/m/config/m.yaml\nwhatever\n@ config/config.yaml\n#config_version=6\nshows:\nevent_player: {a: b, b: c}\nlights: [1, 2]\n@ x\n",
+        b"@ modes/m/config/m.yaml\nwhatever\n@ config/config.yaml\n#config_version=6\nshows:\nevent_player: {a: b, b: a}\nlights: [1, 2]\n@ x\n",
         Verdict::Refused,
-        b"note config/config.yaml 2 skipped shows\nnote config/config.yaml 4 skipped lights\nnote modes/m/config/m.yaml 0 unlisted modes/m/config/m.yaml\nnote x 0 unlisted x\nfault 8 Cycle b\nno\n",
+        b"note config/config.yaml 2 skipped shows\nnote config/config.yaml 4 skipped lights\nnote modes/m/config/m.yaml 0 unlisted modes/m/config/m.yaml\nnote x 0 unlisted x\nfault 8 Cycle a b\nno\n",
     )
 }
 

@@ -3,7 +3,7 @@
 ghost use Rattle.std.specs.Prelude.{◌≤◌, length};
 
 use crate::row::ONE_SWITCH;
-use pinball_shell::{ShellFault, check_text, load_text, play_text, read_all};
+use pinball_shell::{ShellFault, check_text, load_text, play_text, read_all, verify_text};
 use std::io::{self, ErrorKind, Read, Write};
 use std::test::Fail;
 
@@ -103,6 +103,63 @@ fn writer_fails_at_its_second_write(rt: HostRuntime) -> Result<(), Fail> {
     let mut reader = ONE_SWITCH;
     let answer = check_text(rt.alloc(), &mut reader, &mut FailingWriter { writes: 2 });
     assert_eq!(rt; answer, Err(ShellFault::Write));
+    Ok(())
+}
+
+/// The bundle is read first: nothing has been read of the certificate where that fails.
+#[test]
+fn bundle_fails_before_its_certificate_is_read(rt: HostRuntime) -> Result<(), Fail> {
+    let mut certificate = EndlessReader { reads: 0 };
+    let mut writer: Vec<u8> = Vec::new(rt.alloc());
+    let answer = verify_text(
+        rt.alloc(),
+        &mut FailingReader { reads: 2 },
+        &mut certificate,
+        &mut writer,
+    );
+    assert_eq!(rt; answer, Err(ShellFault::Read));
+    let mut bundle = EndlessReader { reads: 0 };
+    let answer = verify_text(rt.alloc(), &mut bundle, &mut certificate, &mut writer);
+    assert_eq!(rt; answer, Err(ShellFault::TooLong));
+    assert_eq!(rt; bundle.reads, 8_388_609);
+    assert_eq!(rt; certificate.reads, 0);
+    assert!(rt; writer.is_empty());
+    Ok(())
+}
+
+#[test]
+fn certificate_reader_fails_or_never_ends(rt: HostRuntime) -> Result<(), Fail> {
+    let mut bundle = ONE_SWITCH;
+    let mut writer: Vec<u8> = Vec::new(rt.alloc());
+    let answer = verify_text(
+        rt.alloc(),
+        &mut bundle,
+        &mut FailingReader { reads: 2 },
+        &mut writer,
+    );
+    assert_eq!(rt; answer, Err(ShellFault::Read));
+    let mut bundle = ONE_SWITCH;
+    let mut certificate = EndlessReader { reads: 0 };
+    let answer = verify_text(rt.alloc(), &mut bundle, &mut certificate, &mut writer);
+    assert_eq!(rt; answer, Err(ShellFault::TooLong));
+    assert_eq!(rt; certificate.reads, 1_048_577);
+    assert!(rt; writer.is_empty());
+    Ok(())
+}
+
+#[test]
+fn verifying_to_a_writer_that_fails(rt: HostRuntime) -> Result<(), Fail> {
+    for writes in [1, 2] {
+        let mut bundle = ONE_SWITCH;
+        let mut certificate: &[u8] = b"";
+        let answer = verify_text(
+            rt.alloc(),
+            &mut bundle,
+            &mut certificate,
+            &mut FailingWriter { writes },
+        );
+        assert_eq!(rt; answer, Err(ShellFault::Write), "write {writes}");
+    }
     Ok(())
 }
 

@@ -3,6 +3,10 @@
 #![tactic(auto)]
 
 #[cfg(test)]
+mod cascade_rows;
+#[cfg(test)]
+mod certificate_rows;
+#[cfg(test)]
 mod check_rows;
 #[cfg(test)]
 mod faulty;

@@ -1,7 +1,7 @@
 //! Bundles at and above a limit.
 
-use crate::row::assert_checks;
-use pinball_shell::{ShellFault, Verdict, check_text};
+use crate::row::{ONE_SWITCH, assert_checks, assert_verifies};
+use pinball_shell::{ShellFault, Verdict, check_text, verify_text};
 use std::alloc::{AllocError, Global};
 use std::test::Fail;
 
@@ -51,5 +51,31 @@ fn bundle_of_8_mebibytes(rt: HostRuntime) -> Result<(), Fail> {
         bundle.as_slice(),
         Verdict::Refused,
         b"error 1 Bundle - 1 -\nno\n",
+    )
+}
+
+#[test]
+fn certificate_of_a_mebibyte_and_a_byte(rt: HostRuntime) -> Result<(), Fail> {
+    let certificate = vec![in rt.alloc(); b'#'; 1_048_577]?;
+    let mut bundle = ONE_SWITCH;
+    let mut reader = certificate.as_slice();
+    let mut writer: Vec<u8> = Vec::new(rt.alloc());
+    assert_eq!(rt;
+        verify_text(rt.alloc(), &mut bundle, &mut reader, &mut writer),
+        Err(ShellFault::TooLong)
+    );
+    assert!(rt; writer.is_empty());
+    Ok(())
+}
+
+#[test]
+fn certificate_of_a_mebibyte(rt: HostRuntime) -> Result<(), Fail> {
+    let certificate = vec![in rt.alloc(); b'#'; 1_048_576]?;
+    assert_verifies(
+        &rt,
+        ONE_SWITCH,
+        certificate.as_slice(),
+        Verdict::Refused,
+        b"fault 10 Certificate Line 1\nno\n",
     )
 }

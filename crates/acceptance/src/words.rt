@@ -25,7 +25,19 @@ fn play_is_asked(rt: HostRuntime) -> Result<(), Fail> {
         let ask = command(rt.alloc(), words_of(rt.alloc(), &["play", path])?)?;
         match &ask {
             Ask::Play { log } => assert_eq!(rt; log.as_str(), path),
-            Ask::Check => panic!(rt; "not a play of {path}"),
+            Ask::Check | Ask::Verify { .. } => panic!(rt; "not a play of {path}"),
+        }
+    }
+    Ok(())
+}
+
+#[test]
+fn verify_is_asked(rt: HostRuntime) -> Result<(), Fail> {
+    for path in ["lanes.certificate", "-", "check", ""] {
+        let ask = command(rt.alloc(), words_of(rt.alloc(), &["verify", path])?)?;
+        match &ask {
+            Ask::Verify { certificate } => assert_eq!(rt; certificate.as_str(), path),
+            Ask::Check | Ask::Play { .. } => panic!(rt; "not a verify of {path}"),
         }
     }
     Ok(())
@@ -45,7 +57,7 @@ fn other_words_are_usage(rt: HostRuntime) -> Result<(), Fail> {
         &["play", "a", "b"],
         &["play", "-a"],
         &["verify"],
-        &["verify", "a"],
+        &["verify", "a", "b"],
         &["help"],
         &["help", "play"],
         &["--help"],
@@ -65,10 +77,10 @@ fn other_words_are_usage(rt: HostRuntime) -> Result<(), Fail> {
 
 #[test]
 fn usage_names_what_is_wrong(rt: HostRuntime) -> Result<(), Fail> {
-    match command(rt.alloc(), words_of(rt.alloc(), &["verify"])?) {
+    match command(rt.alloc(), words_of(rt.alloc(), &["prove"])?) {
         Err(AskFault::Usage(text)) => {
             assert!(rt;
-                text.as_str().contains("unrecognized subcommand 'verify'"),
+                text.as_str().contains("unrecognized subcommand 'prove'"),
                 "{text}"
             );
             assert!(rt;
@@ -76,7 +88,7 @@ fn usage_names_what_is_wrong(rt: HostRuntime) -> Result<(), Fail> {
                 "{text}"
             );
         }
-        _ => panic!(rt; "verify is understood"),
+        _ => panic!(rt; "prove is understood"),
     }
     Ok(())
 }
