@@ -1,61 +1,49 @@
-"""measure.py PROGRAM RUNS: seconds and peak memory of `check`, beside stock YAML readers on the same texts."""
+"""measure.py PROGRAM PLAIN RUNS: seconds and peak memory of `check` and `play`, beside others on the same texts."""
 import os
 import pathlib
 import platform
-import statistics
+import subprocess
 import sys
 import tempfile
-import time
 
+import cascades
 import texts
+from measuring import measured, show
 
 LOAD = "import sys, yaml; yaml.load(open(sys.argv[1], 'rb'), yaml.CSafeLoader)"
 START = "import sys, yaml"
 
 
-def start(command, path):
-    """Starts a command with a file as its input, and throws its output away."""
-    child = os.fork()
-    if child == 0:
-        os.dup2(os.open(path, os.O_RDONLY), 0)
-        null = os.open(os.devnull, os.O_WRONLY)
-        os.dup2(null, 1)
-        os.dup2(null, 2)
-        os.execv(command[0], command)
-    return child
+def checks_cascades(program, folder, runs):
+    print("\nhow the time of check grows with the events that feed each other (16,384 posts of 4,096 events, and parts of it)")
+    before = None
+    for part in (8, 4, 2, 1):
+        text = "".join(cascades.largest(part))
+        path = folder / "largest.bundle"
+        path.write_bytes(texts.bundle(text))
+        t, m, status = measured([program, "check"], path, runs)
+        show(f"{4096 // part} events ({status})", t, m, len(text), before)
+        before = t
 
 
-def timed(command, path):
-    """Seconds, and the exit status."""
-    begin = time.perf_counter()
-    _, status = os.waitpid(start(command, path), 0)
-    return time.perf_counter() - begin, os.waitstatus_to_exitcode(status)
-
-
-def peak(command, path):
-    """Peak resident memory in bytes: looked at again and again, since the usage that `wait4` tells has this process's own peak in it."""
-    child, most = start(command, path), 0
-    while os.waitpid(child, os.WNOHANG)[0] == 0:
-        with open(f"/proc/{child}/status") as status:
-            lines = dict(line.split(":", 1) for line in status)
-        if lines["Name"].strip() == pathlib.Path(command[0]).name[:15]:
-            most = max(most, int(lines.get("VmHWM", "0 kB").split()[0]) * 1024)
-    return most
-
-
-def measured(command, path, runs):
-    results = [timed(command, path) for _ in range(runs)]
-    memory = max(peak(command, path) for _ in range(3))
-    return statistics.median(r[0] for r in results), memory, results[0][1]
-
-
-def show(what, seconds, memory, size, base=None):
-    ratio = f"{seconds / base:8.2f}" if base else " " * 8
-    print(f"{what:34} {seconds * 1000:9.1f} ms {ratio} {memory / 2**20:8.1f} MiB {memory / size:7.1f} B a byte")
+def plays_cascades(program, folder, runs):
+    bundle, log = folder / "cascades.bundle", folder / "cascades.log"
+    bundle.write_bytes(texts.bundle("".join(cascades.machine())))
+    log.write_text(cascades.log())
+    plain = sys.argv[2]
+    ours = subprocess.run([program, "play", log], stdin=open(bundle), capture_output=True, check=True).stdout
+    theirs = subprocess.run([plain, log], stdin=open(bundle), capture_output=True, check=True).stdout
+    same = "the same" if ours == theirs else "NOT THE SAME"
+    print(f"\nplay of a log of {log.stat().st_size} bytes: {len(ours)} bytes of output in {ours.count(10)} lines, {same} from both")
+    del ours, theirs
+    base = measured([plain, str(log)], bundle, runs)
+    show("plain Rust", base[0], base[1], log.stat().st_size, base[0])
+    t, m, _ = measured([program, "play", str(log)], bundle, runs)
+    show("pinball play", t, m, log.stat().st_size, base[0])
 
 
 def main():
-    program, runs = sys.argv[1], int(sys.argv[2])
+    program, runs = sys.argv[1], int(sys.argv[3])
     folder = pathlib.Path(tempfile.mkdtemp(prefix="pinball_bench"))
     cpu = next((line.split(":")[1].strip() for line in open("/proc/cpuinfo") if line.startswith("model name")), "?")
     print(f"{platform.system()} {platform.machine()}, {cpu}, {os.cpu_count()} processors, median of {runs} runs\n")
@@ -90,6 +78,9 @@ def main():
         path.write_bytes(texts.bundle(text))
         t, m, _ = measured([program, "check"], path, runs)
         show(f"{len(text)} bytes", t, m, len(text), seconds)
+
+    checks_cascades(program, folder, runs)
+    plays_cascades(program, folder, max(runs // 3, 1))
 
 
 main()
