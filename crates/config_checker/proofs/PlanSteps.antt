@@ -140,7 +140,7 @@ module _ (c : CheckedView) (good : IsGood c) (stimuli : List (Stimulus × ℕ)) 
         | inr above ↦ plan_steps-enough c.plan c.bound n begun above settled-idle
       ]
 
-  -- on the way the lines and the waiting events are together at most the bound in number
+  -- on the way there are never more lines and waiting events than the bound
   pub settling-within : (n : ℕ) → length (plan_steps c.plan n begun).lines + length (plan_steps c.plan n begun).waiting ≤ c.bound
   settling-within n =
       let there = plan_steps c.plan n begun in

@@ -40,6 +40,6 @@ module _ (c : CheckedView) (accepted : IsAccepted c) where
             idle = settled-idle c good reached.stimuli trace s reached.run reached.idle stimulus allowed;
           }
 
-      -- on the way there the lines and the waiting events are together at most the bound in number
+      -- on the way there are never more lines and waiting events than the bound
       pub reached-within : (n : ℕ) → length (plan_steps c.plan n (begin c.plan stimulus s)).lines + length (plan_steps c.plan n (begin c.plan stimulus s)).waiting ≤ c.bound
       reached-within n = settling-within c (every_run_is_good c accepted) reached.stimuli trace s reached.run reached.idle stimulus allowed n

@@ -32,11 +32,11 @@ pub record IsGood (c : CheckedView) : Type 0 where
       (stimuli : List (Stimulus × ℕ)) (trace : List Line) (s : Machine) → IsRun c.plan stimuli (initial c.plan) trace s → s.waiting ≡ [] →
       (stimulus : Stimulus) → IsAllowed c.plan s stimulus → (n : ℕ) (t : Machine) → EventSteps c.plan n (begin c.plan stimulus s) t →
       length t.lines + weigh (slice_index c.weights) t.waiting ≤ price (slice_index c.weights) (cost_of_stimulus c.plan s stimulus)
-  -- The lines since the latest stimulus and the waiting events are together at most the bound in number.
+  -- Counted together, lines since the latest stimulus and events that wait are never more than the bound.
   pub within :
       (stimuli : List (Stimulus × ℕ)) (trace : List Line) (s : Machine) → IsRun c.plan stimuli (initial c.plan) trace s →
       length s.lines + length s.waiting ≤ c.bound
-  -- Where an event waits there is an event step.
+  -- A machine in which an event waits is never stuck.
   pub goes_on :
       (stimuli : List (Stimulus × ℕ)) (trace : List Line) (s : Machine) → IsRun c.plan stimuli (initial c.plan) trace s →
       (first : Posted) (rest : List Posted) → s.waiting ≡ first ∷ rest → (t : Machine) × EventStep c.plan s t

@@ -38,7 +38,7 @@ IsFaultOf rows (certificate fault) = ⊥
 
 -- ---- with a certificate
 
--- the text is a certificate of the plan's events
+-- the text is a certificate, and its events are those of the plan
 pub record IsCertificateOf (plan : PlanView) (text : List ℕ) (c : Certificate) : Type 0 where
   pub text_is : IsTextOf c text
   pub events : names_in c ≡ plan.events

@@ -46,8 +46,8 @@ begin plan (Change at n level) s = change_switch plan at n level (arrived at s)
 begin plan (Alarm at n) s = fire_switch plan n (arrived at s)
 begin plan (Wait at) s = arrived at s
 
--- Stimuli, each with the number of event steps after it: all but the last until no event waits, the last for any number of
--- them. The trace is all lines, stimulus by stimulus.
+-- Each stimulus comes with a number: how many event steps follow it. The next one comes only once nothing waits, so that a run
+-- may stop in mid-cascade only at its end. The trace has the lines of one stimulus behind those of the other.
 abbrev pub IsRun : PlanView → List (Stimulus × ℕ) → Machine → List Line → Machine → Type 0
 IsRun plan [] old trace new = (trace ≡ []) × (new ≡ old)
 IsRun plan ((stimulus, n) ∷ more) old trace new =

@@ -9,7 +9,7 @@ use Rattle.mpf_config.specs.declared.config.Debounce.{Debounce}
 use Rattle.mpf_config.specs.declared.config.Debounce.TheVariants.{Auto, Quick, Normal}
 use Rattle.mpf_config.specs.Rows.{Written, Switch}
 
--- the pairs of a mapping, where the empty text counts as an empty one
+-- the pairs of a mapping; the empty text is taken for a mapping without pairs
 abbrev pub entries_from : Option (List Pair) → Option (List ℕ) → Option (List Pair)
 entries_from (Some pairs) text = Some pairs
 entries_from None (Some []) = Some []

@@ -23,7 +23,7 @@ pub fn spot_of<'a>(text: &'a [u8], key: &'a Key) -> Spot<'a>
     }
 }
 
-/// The pairs of a mapping, where the empty text counts as an empty one.
+/// The pairs of a mapping; the empty text is taken for a mapping without pairs.
 #[tactic(auto, unfolding(crate::specs::Entries::entries_of))]
 fn pairs_of(tree: &Tree) -> Option<&[(Key, Tree)]>
     ensures { option_slice (map pair_view) result ≡ entries_of (node_view tree.now) }

@@ -9,7 +9,7 @@ abbrev pub with_capital : List ℕ → List ℕ
 with_capital [] = []
 with_capital (letter ∷ letters) = capital letter ∷ letters
 
--- a word in small letters, with a capital first letter, or all in capitals
+-- a word in one of three spellings: `yes`, `Yes` or `YES`
 abbrev pub Spells : List ℕ → List ℕ → Type 0
 Spells word text = (text ≡ word) ⊎ ((text ≡ with_capital word) ⊎ (text ≡ map capital word))
 

@@ -21,9 +21,9 @@ fn truth(text: &[u8]) -> Result<bool, BadValue>
     }
 }
 
-/// A boolean: `yes`, `true` or `on`, and `no`, `false` or `off`, each in small letters, with a
-/// capital first letter, or all in capitals. Any other text is `BadValue`: `yEs`, `1`, the empty
-/// one, and one with a blank in it.
+/// A boolean: `yes`, `true` or `on`, and `no`, `false` or `off`. Each word has three spellings, as
+/// `yes`, `Yes` and `YES`. Any other text is `BadValue`: `yEs`, `1`, the empty one, and one with a
+/// blank in it.
 pub fn boolean(text: &[u8]) -> Result<bool, BadValue>
     // What is answered is the value of the text.
     ensures found { IfOk result (λ b. IsBoolean text.now b) }

@@ -34,7 +34,7 @@ pub fn signed(text: &[u8]) -> Result<i64, BadValue>
     }
 }
 
-/// An integer within plus or minus 1,000,000,000: an optional `-` and one or more digits, zeros in
+/// An integer from -1,000,000,000 to 1,000,000,000: an optional `-` and one or more digits, zeros in
 /// front among them. Any other text is `BadValue`: `1000000001`, `+1`, `1.0`, the empty one,
 /// and one with a blank in it.
 pub fn integer(text: &[u8]) -> Result<i64, BadValue>

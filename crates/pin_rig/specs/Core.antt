@@ -58,7 +58,7 @@ pub record HasRoom (room : ℕ) (s : Machine) : Type 0 where
 abbrev pub StaysWithin : PlanView → ℕ → Machine → Type 0
 StaysWithin plan room s = (n : ℕ) → HasRoom room (plan_steps plan n s)
 
--- event steps in plan order, until no event waits
+-- so many event steps in plan order that nothing waits any more
 pub record HasSettled (plan : PlanView) (old new : CoreView) : Type 0 where
   pub count : ℕ
   pub new_is : new ≡ after (plan_steps plan count) old

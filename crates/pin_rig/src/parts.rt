@@ -66,7 +66,7 @@ fn post_each(core: &mut Core, owner: Owner, events: &[EventId])
     }
 }
 
-/// Event steps in plan order, until no event waits.
+/// Takes event steps, in plan order, as long as an event waits.
 pub(crate) fn settle(plan: &Plan, core: &mut Core)
     requires handlers { core.old.handlers ≡ record { bindings = plan.now.bindings } }
     requires room { StaysWithin plan.now core.old.room core.old.machine }

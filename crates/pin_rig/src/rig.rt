@@ -58,8 +58,8 @@ impl<'c> Rig<'c> {
         Ok(Rig { checked, core })
     }
 
-    /// One input: what it does, and its event steps in plan order, until no event waits. Gives
-    /// the lines, first come first.
+    /// One input: what it does itself, and then the whole cascade that it begins, handlers of one
+    /// event in plan order. Gives the lines, first come first.
     ///
     /// # Errors
     ///

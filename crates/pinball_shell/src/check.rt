@@ -47,8 +47,8 @@ pub fn check_text<R: Read, W: Write>(
 
 /// Reads a bundle and a certificate, and writes what `verify` prints for them: a line for each note
 /// on the bundle's rows, and then `yes` and the bound of the certificate's weights, or why they are
-/// refused and `no`. Both are read whole before either is judged, the bundle first. Nothing is
-/// written before the answer stands, so after `NoMemory`, `Read` and `TooLong` nothing has been;
+/// refused and `no`. First the whole bundle is read, then the whole certificate, and only then is
+/// anything judged. Nothing is written before the answer stands, so after `NoMemory`, `Read` and `TooLong` nothing has been;
 /// how much was after `Write` is not said.
 pub fn verify_text<R: Read, Q: Read, W: Write>(
     alloc: Global,

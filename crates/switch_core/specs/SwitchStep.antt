@@ -38,7 +38,7 @@ abbrev pub awaited : SwitchKind → ℕ → Bool → SwitchState → SwitchState
 awaited kind now level s =
     record { raw = level; active = s.active; due = if same_level (is_active kind.contact level) s.active then None else Some (now + 5) }
 
--- A change to the raw level that is there already does nothing; a quick switch takes another one at once.
+-- Only another raw level than before changes anything: a quick switch accepts it at once, a normal one awaits it.
 abbrev pub changed : SwitchKind → ℕ → Bool → SwitchState → SwitchState
 changed kind now level s =
     if same_level level s.raw then s else (if kind.quick then accepted kind level else awaited kind now level s)

@@ -2,9 +2,9 @@
 
 ghost use Rattle.switch_core.specs.Calls.{LevelsAreAccepted, NothingIsLate};
 
-/// The law of `Switches`, for every list of calls that begins with `new` and whose moments do not
-/// go back: each `fire` comes at its due moment, and no `change` while something is due at or
-/// before its own.
+/// The law of `Switches`. It speaks of lists of calls behind `new` in the order of their moments,
+/// where each `fire` comes at the moment that was due, and before each `change` all has been fired
+/// that is due by then.
 ///
 /// At the moment of the last call or a later one, wherever nothing is due at or before it,
 /// `active` tells of each switch the level that is accepted by its raw changes alone. And no due

@@ -60,8 +60,8 @@ impl Switches {
     }
 
     /// The raw level of a switch of the plan changes at the moment `now`, below 2^40 ms. Tells the
-    /// new accepted level where it is accepted at once. A change to the raw level that is there
-    /// already does nothing.
+    /// new accepted level where it is accepted at once. Where the switch has this raw level already,
+    /// nothing happens.
     ///
     /// It is to be called only once everything that is due at or before `now` has been accepted.
     pub fn change(&mut self, switch: SwitchId, level: bool, now: u64) -> Option<Change>

@@ -15,7 +15,8 @@ pub enum FaultKind {
     /// A tab stands among the blanks that indent a line with content.
     #[error("Tab")]
     Tab,
-    /// The line is deeper than its block allows, or at an indentation that no open block has.
+    /// The line belongs to no block: it is deeper than the items or entries around it, or no block
+    /// that is still open has its indentation.
     #[error("Indent")]
     Indent,
     /// The key stands in its mapping already.

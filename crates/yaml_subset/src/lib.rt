@@ -1,7 +1,7 @@
 //! A subset of YAML 1.2.2, read into a tree whose nodes know their lines.
 //!
-//! A text is UTF-8, and its lines end with LF or CR LF. Blank lines and lines whose first character
-//! after blanks is `#` have no content. The others are blocks:
+//! A text is UTF-8, and its lines end with LF or CR LF. A line has content unless it is blank or
+//! nothing but a comment stands on it. The others are blocks:
 //!
 //! - a sequence: lines `- VALUE`, `-` or `- KEY: ..` at one indentation,
 //! - a mapping: lines `KEY: VALUE` or `KEY:` at one indentation, with keys that differ,

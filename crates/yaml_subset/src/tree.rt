@@ -10,8 +10,8 @@ pub struct Key {
     pub text: Vec<u8>,
 }
 
-/// A node of a text, with the line where it begins, counted from 1. An empty value has the line
-/// of its key.
+/// A node of a text, with the line where it begins, counted from 1. Where no value
+/// is written, that is the line of the key or `-` in front of it.
 #[derive(Debug, Drop)]
 pub enum Tree {
     /// A text; the empty text where no value stands.
