@@ -5,21 +5,27 @@ ghost use Rattle.cascade_rank.specs.declared.fault.RankFault.TheVariants.{NoMemo
 
 use mpf_plan::EventId;
 use std::alloc::{AllocError, AllocFailed};
+use thiserror::Error;
 
 /// Why there are no weights, or why these do not serve.
-#[derive(Debug, Drop)]
+#[derive(Debug, Drop, Error)]
 pub enum RankFault {
     /// Memory ran out.
+    #[error("NoMemory")]
     NoMemory,
     /// Each of these events leads to the next, and the last to the first. They are those to which
     /// the walk comes that begins at the lowest-numbered event from which one can go on without
     /// end, and goes on each time to the lowest-numbered such event.
+    #[error("Cycle")]
     Cycle(Vec<EventId>),
     /// A weight, or what a stimulus leads to at most, is above 10,000.
+    #[error("BoundTooLarge")]
     BoundTooLarge,
     /// The lowest-numbered event that weighs less than it needs, and what it needs.
+    #[error("Short {1}")]
     Short(EventId, u128),
     /// There are not as many weights as events.
+    #[error("WrongEvents")]
     WrongEvents,
 }
 

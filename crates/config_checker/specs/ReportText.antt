@@ -2,14 +2,8 @@
 use Rattle.std.specs.Prelude.{ℕ, List, [], ◌∷◌, ◌++◌, codes}
 use Rattle.std.specs.List.{flat_map}
 use Rattle.std.specs.Fmt.{decimal}
-use Rattle.mpf_plan.specs.declared.fault.Table.{Table}
-use Rattle.mpf_plan.specs.declared.fault.Table.TheVariants.{Events, Bindings, Switches}
+use Rattle.mpf_plan.specs.Limits.{table_name}
 use Rattle.config_checker.specs.Checking.{CertificateFaultView, bad_line, other_events, short, other_bound, FaultView, limit, cycle, bound, certificate}
-
-abbrev pub table_name : Table → List ℕ
-table_name Events = codes "events"
-table_name Bindings = codes "bindings"
-table_name Switches = codes "switches"
 
 -- a name, and the blank in front of it
 abbrev pub spaced : List ℕ → List ℕ

@@ -4,10 +4,9 @@ ghost use Rattle.std.specs.Prelude.{◌≡◌, OnOk, map};
 ghost use Rattle.std.specs.Io.KnownBytes.{Appends};
 ghost use Rattle.config_checker.specs.View.{certificate_fault_view, fault_view};
 ghost use Rattle.config_checker.specs.Checking.{cycle};
-ghost use Rattle.config_checker.specs.ReportText.{table_name, certificate_fault_text, fault_line, report_text};
+ghost use Rattle.config_checker.specs.ReportText.{certificate_fault_text, fault_line, report_text};
 
 use crate::report::{CertificateFault, Fault};
-use mpf_plan::fault::Table;
 use std::io::{self, Write};
 
 /// Writes a line for each fault, in order. An error is the writer's; the text is then cut short
@@ -25,7 +24,7 @@ fn write_fault<W: Write>(fault: &Fault, writer: &mut W) -> io::Result<()>
     ensures { OnOk result (Appends (W.contents writer.old) (W.contents writer.new) (fault_line (fault_view fault.now))) }
 {
     match fault {
-        Fault::Limit(table) => writeln!(writer, "fault 7 Limit {}", name_of(*table)),
+        Fault::Limit(table) => writeln!(writer, "fault 7 Limit {}", table.name()),
         Fault::Cycle(events) => write_cycle(events, writer),
         Fault::Bound => writeln!(writer, "fault 9 Bound"),
         Fault::Certificate(fault) => {
@@ -33,16 +32,6 @@ fn write_fault<W: Write>(fault: &Fault, writer: &mut W) -> io::Result<()>
             write_certificate_fault(fault, writer)?;
             writer.write_all(b"\n")
         }
-    }
-}
-
-fn name_of(table: Table) -> &'static str
-    ensures { result.now ≡ table_name table }
-{
-    match table {
-        Table::Events => "events",
-        Table::Bindings => "bindings",
-        Table::Switches => "switches",
     }
 }
 

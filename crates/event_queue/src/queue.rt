@@ -4,6 +4,7 @@ use circular_buffer::HeapCircularBuffer;
 use mpf_plan::{EventId, Owner};
 use std::alloc::{AllocError, Global};
 use std::marker::Model;
+use thiserror::Error;
 
 /// An event that waits, and who posted it.
 #[derive(Clone, Copy, Debug, PartialEq, Eq)]
@@ -13,7 +14,8 @@ pub struct Posted {
 }
 
 /// As many events wait as may.
-#[derive(Clone, Copy, Debug, PartialEq, Eq)]
+#[derive(Clone, Copy, Debug, PartialEq, Eq, Error)]
+#[error("Full")]
 pub struct Full;
 
 /// The events that wait, first posted first. Its room is made once, so that neither adding nor

@@ -8,26 +8,35 @@ ghost use Rattle.mpf_config.specs.declared.fault.ConfigFault.TheVariants.{NoMemo
 
 use std::alloc::{AllocError, AllocFailed};
 use std::io::{self, Write};
+use thiserror::Error;
 use yaml_subset::fault::FaultKind as YamlKind;
 
 /// What is wrong.
-#[derive(Clone, Copy, Debug, PartialEq, Eq)]
+#[derive(Clone, Copy, Debug, PartialEq, Eq, Error)]
 pub enum FaultKind {
     /// The bundle has no line `@ NAME` first, a bad `@` line, or no machine text.
+    #[error("Bundle")]
     Bundle,
     /// The text does not begin with `#config_version=6`.
+    #[error("Version")]
     Version,
     /// The text is not read as YAML.
+    #[error("Yaml {0}")]
     Yaml(YamlKind),
     /// No section has this name.
+    #[error("UnknownSection")]
     UnknownSection,
     /// The section has no such setting.
+    #[error("UnknownSetting")]
     UnknownSetting,
     /// The value is not one that the setting takes.
+    #[error("BadValue")]
     BadValue,
     /// The name is taken already.
+    #[error("Duplicate")]
     Duplicate,
     /// The bundle or a list is above its limit.
+    #[error("Limit")]
     Limit,
 }
 
@@ -67,7 +76,8 @@ impl FaultKind {
 
 /// A fault: its text's name (or `-`), the line in that text, counted from 1, and the key that
 /// it is about (or `-`). A fault of the YAML reader has the name of its kind as its key.
-#[derive(Debug, Drop)]
+#[derive(Debug, Drop, Error)]
+#[error("{kind} at line {line}")]
 pub struct Fault {
     pub kind: FaultKind,
     pub text: Vec<u8>,
@@ -76,11 +86,13 @@ pub struct Fault {
 }
 
 /// Why a bundle was not read.
-#[derive(Debug, Drop)]
+#[derive(Debug, Drop, Error)]
 pub enum ConfigFault {
     /// Memory ran out.
+    #[error("NoMemory")]
     NoMemory,
     /// The bundle has a fault: the first one.
+    #[error(transparent)]
     Bundle(Fault),
 }
 

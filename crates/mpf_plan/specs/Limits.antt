@@ -1,5 +1,5 @@
 -- How many entries each table of a plan may have.
-use Rattle.std.specs.Prelude.{ℕ, ◌<◌, ◌≤◌, List, [], ◌∷◌, Option, length, nat_lt, find}
+use Rattle.std.specs.Prelude.{ℕ, ◌<◌, ◌≤◌, List, [], ◌∷◌, Option, length, nat_lt, find, codes}
 use Rattle.mpf_plan.specs.declared.fault.Table.{Table}
 use Rattle.mpf_plan.specs.declared.fault.Table.TheVariants.{Events, Bindings, Switches}
 use Rattle.mpf_plan.specs.PlanView.{PlanView}
@@ -13,6 +13,12 @@ abbrev pub limit_of : Table → ℕ
 limit_of Events = 4096
 limit_of Bindings = 16384
 limit_of Switches = 256
+
+-- the name that a table is told by
+abbrev pub table_name : Table → List ℕ
+table_name Events = codes "events"
+table_name Bindings = codes "bindings"
+table_name Switches = codes "switches"
 
 -- the tables in the order in which they are judged
 abbrev pub tables_in_order : List Table

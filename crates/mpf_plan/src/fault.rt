@@ -1,31 +1,44 @@
 //! Why rows have no plan.
 
 ghost use Rattle.std.specs.Prelude.{◌≡◌};
+ghost use Rattle.mpf_plan.specs.Limits.{table_name};
 ghost use Rattle.mpf_plan.specs.declared.fault.PlanFault.TheVariants.{NoMemory};
 
 use std::alloc::{AllocError, AllocFailed};
 use thiserror::Error;
 
 /// A table of the plan that has a limit, in the order in which they are judged.
-#[derive(Clone, Copy, Debug, PartialEq, Eq, Error)]
+#[derive(Clone, Copy, Debug, PartialEq, Eq)]
 pub enum Table {
     /// At most 4,096 events.
-    #[error("events")]
     Events,
     /// At most 16,384 bindings.
-    #[error("bindings")]
     Bindings,
     /// At most 256 switches.
-    #[error("switches")]
     Switches,
 }
 
+impl Table {
+    /// The name that the table is told by.
+    pub fn name(&self) -> &'static str
+        ensures { result.now ≡ table_name self.now }
+    {
+        match self {
+            Table::Events => "events",
+            Table::Bindings => "bindings",
+            Table::Switches => "switches",
+        }
+    }
+}
+
 /// Why rows have no plan.
-#[derive(Clone, Copy, Debug, PartialEq, Eq)]
+#[derive(Clone, Copy, Debug, PartialEq, Eq, Error)]
 pub enum PlanFault {
     /// Memory ran out.
+    #[error("NoMemory")]
     NoMemory,
     /// The table is above its limit: the first one that is.
+    #[error("Limit {}", .0.name())]
     Limit(Table),
 }
 

@@ -27,11 +27,13 @@ pub enum Ask {
 }
 
 /// Why the words ask for nothing that is done.
-#[derive(Debug, Drop)]
+#[derive(Debug, Drop, thiserror::Error)]
 pub enum AskFault {
     /// Memory ran out.
+    #[error("NoMemory")]
     NoMemory,
     /// The words are not understood, or ask for help: the text that is shown then.
+    #[error("{0}")]
     Usage(String),
 }
 

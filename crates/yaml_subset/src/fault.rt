@@ -44,18 +44,21 @@ pub enum FaultKind {
 }
 
 /// A fault and the line where it stands, counted from 1.
-#[derive(Clone, Copy, Debug, PartialEq, Eq)]
+#[derive(Clone, Copy, Debug, PartialEq, Eq, Error)]
+#[error("{kind} at line {line}")]
 pub struct Fault {
     pub kind: FaultKind,
     pub line: u32,
 }
 
 /// Why a text was not read.
-#[derive(Clone, Copy, Debug, PartialEq, Eq)]
+#[derive(Clone, Copy, Debug, PartialEq, Eq, Error)]
 pub enum YamlFault {
     /// Memory ran out.
+    #[error("NoMemory")]
     NoMemory,
     /// The text has a fault: the first one.
+    #[error(transparent)]
     Text(Fault),
 }
 
