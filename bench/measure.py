@@ -1,86 +1,138 @@
-"""measure.py PROGRAM PLAIN RUNS: seconds and peak memory of `check` and `play`, beside others on the same texts."""
+"""measure.py PROGRAM PLAIN RUNS: what `check` and `play` cost, beside others on the same texts. bench/run starts it.
+
+PROGRAM is pinball and PLAIN what plain.rs is built to, each as a path. Each line tells wall time in ms (the median of RUNS
+runs, of a third as many of `play`), a ratio of times, peak memory in MiB, and bytes of memory for each byte of text. An
+exit status stands in brackets. Wants Debian's /usr/bin/python3 with python3-yaml, and fy-tool on the PATH."""
+import dataclasses
 import os
 import pathlib
 import platform
+import shutil
 import subprocess
 import sys
 import tempfile
 
 import cascades
 import texts
-from measuring import measured, show
+from measuring import MIB, Cost, measured, show
 
+PYTHON = "/usr/bin/python3"
 LOAD = "import sys, yaml; yaml.load(open(sys.argv[1], 'rb'), yaml.CSafeLoader)"
 START = "import sys, yaml"
+PARTS = (8, 4, 2, 1)
 
 
-def checks_cascades(program, folder, runs):
-    print("\nhow the time of check grows with the events that feed each other (16,384 posts of 4,096 events, and parts of it)")
-    before = None
-    for part in (8, 4, 2, 1):
-        text = "".join(cascades.largest(part))
-        path = folder / "largest.bundle"
+@dataclasses.dataclass(frozen=True)
+class Bench:
+    program: str
+    plain: str
+    folder: pathlib.Path
+    runs: int
+
+    def check(self, text: str) -> Cost:
+        path = self.folder / "checked.bundle"
         path.write_bytes(texts.bundle(text))
-        t, m, status = measured([program, "check"], path, runs)
-        show(f"{4096 // part} events ({status})", t, m, len(text), before)
-        before = t
+        return measured([self.program, "check"], path, self.runs)
 
 
-def plays_cascades(program, folder, runs):
-    bundle, log = folder / "cascades.bundle", folder / "cascades.log"
-    bundle.write_bytes(texts.bundle("".join(cascades.machine())))
-    log.write_text(cascades.log())
-    plain = sys.argv[2]
-    ours = subprocess.run([program, "play", log], stdin=open(bundle), capture_output=True, check=True).stdout
-    theirs = subprocess.run([plain, log], stdin=open(bundle), capture_output=True, check=True).stdout
-    same = "the same" if ours == theirs else "NOT THE SAME"
-    print(f"\nplay of a log of {log.stat().st_size} bytes: {len(ours)} bytes of output in {ours.count(10)} lines, {same} from both")
-    del ours, theirs
-    base = measured([plain, str(log)], bundle, runs)
-    show("plain Rust", base[0], base[1], log.stat().st_size, base[0])
-    t, m, _ = measured([program, "play", str(log)], bundle, runs)
-    show("pinball play", t, m, log.stat().st_size, base[0])
-
-
-def main():
-    program, runs = sys.argv[1], int(sys.argv[3])
-    folder = pathlib.Path(tempfile.mkdtemp(prefix="pinball_bench"))
-    cpu = next((line.split(":")[1].strip() for line in open("/proc/cpuinfo") if line.startswith("model name")), "?")
-    print(f"{platform.system()} {platform.machine()}, {cpu}, {os.cpu_count()} processors, median of {runs} runs\n")
-
+def checks_ordinary(bench: Bench) -> float:
+    """Gives the seconds of `check`, to which later lines are a ratio."""
+    fy_tool = shutil.which("fy-tool") or sys.exit("fy-tool is not on the PATH: Debian's libfyaml-utils has it")
     text = texts.ordinary()
-    size = len(text)
-    plain, bundle = folder / "ordinary.yaml", folder / "ordinary.bundle"
-    plain.write_text(text)
-    bundle.write_bytes(texts.bundle(text))
-    seconds, memory, status = measured([program, "check"], bundle, runs)
-    print(f"an ordinary configuration of {size} bytes (status {status})")
-    show("pinball check", seconds, memory, size, seconds)
-    python = "/usr/bin/python3"
+    path = bench.folder / "ordinary.yaml"
+    path.write_text(text)
+    ours = bench.check(text)
+    print(f"an ordinary configuration of {len(text)} bytes (status {ours.status})")
+    show("pinball check", ours, len(text), ours.seconds)
     for what, command in {
-        "python3-yaml, CSafeLoader": [python, "-c", LOAD, str(plain)],
-        "python3 that imports yaml alone": [python, "-c", START, str(plain)],
-        "fy-tool, no output": ["/usr/bin/fy-tool", "--null-output", "--dump", str(plain)],
+        "python3-yaml, CSafeLoader": [PYTHON, "-c", LOAD, str(path)],
+        "python3 that imports yaml alone": [PYTHON, "-c", START, str(path)],
+        "fy-tool, no output": [fy_tool, "--null-output", "--dump", str(path)],
     }.items():
-        show(what, *measured(command, plain, runs)[:2], size, seconds)
+        cost = measured(command, path, bench.runs)
+        if cost.status != 0:
+            sys.exit(f"{what}: status {cost.status}, so that its time tells nothing")
+        show(what, cost, len(text), ours.seconds)
+    return ours.seconds
 
+
+def checks_hostile(bench: Bench, base: float) -> None:
     print("\ntexts of one thing, as a ratio to the ordinary text (a time below 1 is shorter)")
     for what, text in texts.hostile().items():
-        path = folder / "hostile.bundle"
-        path.write_bytes(texts.bundle(text))
-        t, m, status = measured([program, "check"], path, runs)
-        show(f"{what} ({status})", t, m, len(text), seconds)
+        cost = bench.check(text)
+        show(f"{what} ({cost.status})", cost, len(text), base)
 
+
+def checks_growth(bench: Bench, base: float) -> None:
     print("\nhow the time grows with an ordinary text")
-    for part in (8, 4, 2, 1):
-        text = texts.ordinary(texts.MIB // part) if part < 4 else texts.VERSION + "".join(texts.lights(texts.random.Random(1), 10**4))[: texts.MIB // part].rsplit("  l_", 1)[0]
-        path = folder / "part.bundle"
-        path.write_bytes(texts.bundle(text))
-        t, m, _ = measured([program, "check"], path, runs)
-        show(f"{len(text)} bytes", t, m, len(text), seconds)
+    for part in PARTS:
+        text = texts.ordinary(part)
+        show(f"{len(text)} bytes", bench.check(text), len(text), base)
 
-    checks_cascades(program, folder, runs)
-    plays_cascades(program, folder, max(runs // 3, 1))
+
+def checks_cascades(bench: Bench) -> None:
+    print(
+        "\nhow the time of check grows with the events that feed each other "
+        f"({cascades.POSTS:,} posts of {cascades.EVENTS:,} events, and parts of it)"
+    )
+    before = None
+    for part in PARTS:
+        text = "".join(cascades.largest(part))
+        cost = bench.check(text)
+        show(f"{cascades.EVENTS // part} events ({cost.status})", cost, len(text), before)
+        before = cost.seconds
+
+
+def same_output(first: list[str], second: list[str], bundle: pathlib.Path) -> tuple[bool, int, int]:
+    """Whether two commands give the same output, and the bytes and lines of that of the first. They run at once, so that
+    some 800 MB need not be kept."""
+    same, size, lines = True, 0, 0
+    with bundle.open("rb") as one, bundle.open("rb") as other:
+        left = subprocess.Popen(first, stdin=one, stdout=subprocess.PIPE)
+        right = subprocess.Popen(second, stdin=other, stdout=subprocess.PIPE)
+    with left, right:
+        while True:
+            ours, theirs = left.stdout.read(MIB), right.stdout.read(MIB)
+            same &= ours == theirs
+            size += len(ours)
+            lines += ours.count(b"\n")
+            if not ours and not theirs:
+                break
+    for process in (left, right):
+        if process.returncode != 0:
+            sys.exit(f"{process.args}: status {process.returncode}")
+    return same, size, lines
+
+
+def plays_cascades(bench: Bench, runs: int) -> None:
+    bundle, log = bench.folder / "cascades.bundle", bench.folder / "cascades.log"
+    bundle.write_bytes(texts.bundle("".join(cascades.machine())))
+    log.write_text(cascades.log())
+    ours, theirs = [bench.program, "play", str(log)], [bench.plain, str(log)]
+    same, size, lines = same_output(ours, theirs, bundle)
+    bytes_read = log.stat().st_size
+    both = "the same" if same else "NOT THE SAME"
+    print(f"\nplay of a log of {bytes_read} bytes: {size} bytes of output in {lines} lines, {both} from both")
+    if not same:
+        sys.exit("the outputs of play differ, so that their times tell nothing")
+    base = measured(theirs, bundle, runs)
+    show("plain Rust", base, bytes_read, base.seconds)
+    show("pinball play", measured(ours, bundle, runs), bytes_read, base.seconds)
+
+
+def main() -> None:
+    if len(sys.argv) != 4:
+        sys.exit(__doc__)
+    runs = int(sys.argv[3])
+    cpu = next((line.split(":")[1].strip() for line in open("/proc/cpuinfo") if line.startswith("model name")), "?")
+    print(f"{platform.system()} {platform.machine()}, {cpu}, {os.cpu_count()} processors, median of {runs} runs\n")
+    with tempfile.TemporaryDirectory(prefix="pinball_bench") as folder:
+        bench = Bench(sys.argv[1], sys.argv[2], pathlib.Path(folder), runs)
+        seconds = checks_ordinary(bench)
+        checks_hostile(bench, seconds)
+        checks_growth(bench, seconds)
+        checks_cascades(bench)
+        plays_cascades(bench, max(runs // 3, 1))
 
 
 main()

@@ -1,46 +1,77 @@
-"""Seconds and peak memory of commands."""
+"""Wall time in seconds, peak resident memory in bytes, and exit status of whole processes. Wants the /proc of Linux."""
+import dataclasses
 import os
 import pathlib
+import re
 import statistics
+import sys
 import time
 
+KIB = 1 << 10
+MIB = 1 << 20
+PEAK_RUNS = 3
+OUR_NAME = "measuring"
+# Has no match once the process has ended.
+PEAK = re.compile(r"Name:\t(?P<name>.*)\n(?s:.*)VmHWM:\s*(?P<peak>\d+) kB")
+CANNOT_START = 127
 
-def start(command, path):
-    """Starts a command with a file as its input, and throws its output away."""
+
+@dataclasses.dataclass(frozen=True)
+class Cost:
+    seconds: float
+    memory: int
+    status: int
+
+
+def start(command: list[str], path: pathlib.Path) -> int:
+    """Starts a command with a file as its input, throws its output away, and gives the number of its process."""
     child = os.fork()
     if child == 0:
-        os.dup2(os.open(path, os.O_RDONLY), 0)
-        null = os.open(os.devnull, os.O_WRONLY)
-        os.dup2(null, 1)
-        os.dup2(null, 2)
-        os.execv(command[0], command)
+        try:
+            os.dup2(os.open(path, os.O_RDONLY), 0)
+            null = os.open(os.devnull, os.O_WRONLY)
+            os.dup2(null, 1)
+            os.dup2(null, 2)
+            os.execv(command[0], command)
+        finally:
+            os._exit(CANNOT_START)
     return child
 
 
-def timed(command, path):
-    """Seconds, and the exit status."""
+def timed(command: list[str], path: pathlib.Path) -> tuple[float, int]:
+    """Seconds, from before this process copies itself until the command has ended, and the exit status."""
     begin = time.perf_counter()
     _, status = os.waitpid(start(command, path), 0)
     return time.perf_counter() - begin, os.waitstatus_to_exitcode(status)
 
 
-def peak(command, path):
-    """Peak resident memory in bytes: looked at again and again, since the usage that `wait4` tells has this process's own peak in it."""
+def peak(command: list[str], path: pathlib.Path) -> int:
+    """Peak resident memory: looked at again and again, since the usage that `wait4` tells has this process's own peak in
+    it. What a process takes in its last moments may be missed."""
+    # Until it has become the command it is a copy of this process, with its peak, and is told by this name.
+    pathlib.Path("/proc/self/comm").write_text(OUR_NAME)
     child, most = start(command, path), 0
+    status = pathlib.Path(f"/proc/{child}/status")
     while os.waitpid(child, os.WNOHANG)[0] == 0:
-        with open(f"/proc/{child}/status") as status:
-            lines = dict(line.split(":", 1) for line in status)
-        if lines["Name"].strip() == pathlib.Path(command[0]).name[:15]:
-            most = max(most, int(lines.get("VmHWM", "0 kB").split()[0]) * 1024)
+        found = PEAK.match(status.read_text())
+        if found and found["name"] != OUR_NAME:
+            most = max(most, int(found["peak"]) * KIB)
     return most
 
 
-def measured(command, path, runs):
+def measured(command: list[str], path: pathlib.Path, runs: int) -> Cost:
+    """The median time of so many runs, and the greatest peak of some more."""
     results = [timed(command, path) for _ in range(runs)]
-    memory = max(peak(command, path) for _ in range(3))
-    return statistics.median(r[0] for r in results), memory, results[0][1]
+    statuses = {status for _, status in results}
+    if len(statuses) > 1 or CANNOT_START in statuses:
+        sys.exit(f"{command[0]} could not be started, or ends in different ways: {sorted(statuses)}")
+    memory = max(peak(command, path) for _ in range(PEAK_RUNS))
+    if memory == 0:
+        sys.exit(f"{command[0]} ended before its memory was looked at: the machine has other work")
+    return Cost(statistics.median(seconds for seconds, _ in results), memory, statuses.pop())
 
 
-def show(what, seconds, memory, size, base=None):
-    ratio = f"{seconds / base:8.2f}" if base else " " * 8
-    print(f"{what:34} {seconds * 1000:9.1f} ms {ratio} {memory / 2**20:8.1f} MiB {memory / size:7.1f} B a byte")
+def show(what: str, cost: Cost, size: int, base: float | None = None) -> None:
+    """A line of the table: time in ms, its ratio to that of `base` seconds, memory in MiB and for each of `size` bytes."""
+    ratio = f"{cost.seconds / base:8.2f}" if base else " " * 8
+    print(f"{what:34} {cost.seconds * 1000:9.1f} ms {ratio} {cost.memory / MIB:8.1f} MiB {cost.memory / size:7.1f} B a byte")

@@ -1,8 +1,14 @@
 //! plain LOG < BUNDLE: plays a log like `pinball play`, in plain Rust and without proofs: the other side of the
-//! measurement. It reads only the plain form in which `cascades.py` writes a bundle, and checks nothing.
+//! measurement. Of bundles it reads only the form that `cascades.py` writes, and checks nothing there; the lines of a log
+//! are refused as `pinball play` refuses them. Moments are in milliseconds. Built by rustc alone.
 use std::collections::{HashMap, VecDeque};
 use std::fmt::Write as _;
 use std::io::{self, BufWriter, Read, Write};
+
+/// How long a switch that is not quick must keep its raw level before that is accepted.
+const DEBOUNCE: u64 = 5;
+/// Every moment is below it.
+const MOMENTS: u64 = 1 << 40;
 
 struct Switch {
     name: String,
@@ -11,6 +17,7 @@ struct Switch {
     inactive_posts: Vec<u16>,
     raw: bool,
     active: bool,
+    /// When the raw level is to be accepted.
     due: Option<u64>,
 }
 
@@ -20,6 +27,7 @@ enum Line {
     Event(u64, u16),
 }
 
+/// The names of events, each with its number, in the order in which they were met.
 #[derive(Default)]
 struct Names {
     names: Vec<String>,
@@ -38,61 +46,70 @@ impl Names {
     }
 }
 
+#[derive(Default)]
 struct Machine {
     switches: Vec<Switch>,
     switch_numbers: HashMap<String, u16>,
     events: Names,
+    /// For each event its handlers, each of which is what it posts.
     handlers: Vec<Vec<Vec<u16>>>,
     now: u64,
     waiting: VecDeque<u16>,
+    /// What happened and is not written yet.
     lines: Vec<Line>,
 }
 
+/// Reading a bundle.
 impl Machine {
     fn read(bundle: &str) -> Machine {
-        let mut events = Names::default();
-        let mut switches: Vec<Switch> = Vec::new();
-        let mut handlers: Vec<Vec<Vec<u16>>> = Vec::new();
+        let mut machine = Machine::default();
         let mut section = "";
-        for line in bundle.lines() {
-            if line.starts_with('#') || line.starts_with('@') {
-                continue;
-            }
+        for line in bundle.lines().filter(|line| !line.starts_with(['#', '@'])) {
             let Some((key, value)) = line.trim().split_once(':') else { continue };
-            let value = value.trim();
-            match (line.len() - line.trim_start().len(), section) {
-                (0, _) => section = if key == "switches" { "switches" } else { "event_player" },
-                (2, "switches") => {
-                    let active = events.number(&format!("{key}_active"));
-                    let inactive = events.number(&format!("{key}_inactive"));
-                    switches.push(Switch {
-                        name: key.to_string(),
-                        quick: false,
-                        active_posts: vec![active],
-                        inactive_posts: vec![inactive],
-                        raw: false,
-                        active: false,
-                        due: None,
-                    });
-                }
-                (_, "switches") => {
-                    if let (Some(switch), "debounce") = (switches.last_mut(), key) {
-                        switch.quick = value == "quick";
-                    }
-                }
-                _ => {
-                    let event = events.number(key) as usize;
-                    let posts = value.split(", ").map(|name| events.number(name)).collect();
-                    handlers.resize_with(handlers.len().max(event + 1), Vec::new);
-                    handlers[event].push(posts);
-                }
+            let indent = line.len() - line.trim_start().len();
+            match (indent, section) {
+                (0, _) => section = key,
+                (2, "switches") => machine.add_switch(key),
+                (_, "switches") => machine.set(key, value.trim()),
+                _ => machine.add_handler(key, value.trim()),
             }
         }
-        handlers.resize_with(events.names.len(), Vec::new);
-        let switch_numbers = switches.iter().enumerate().map(|(n, s)| (s.name.clone(), n as u16)).collect();
-        Machine { switches, switch_numbers, events, handlers, now: 0, waiting: VecDeque::new(), lines: Vec::new() }
+        machine.handlers.resize_with(machine.events.names.len(), Vec::new);
+        machine
     }
 
+    fn add_switch(&mut self, name: &str) {
+        self.switch_numbers.insert(name.to_string(), self.switches.len() as u16);
+        let active = self.events.number(&format!("{name}_active"));
+        let inactive = self.events.number(&format!("{name}_inactive"));
+        self.switches.push(Switch {
+            name: name.to_string(),
+            quick: false,
+            active_posts: vec![active],
+            inactive_posts: vec![inactive],
+            raw: false,
+            active: false,
+            due: None,
+        });
+    }
+
+    /// A setting of the switch that was added last.
+    fn set(&mut self, setting: &str, value: &str) {
+        if let (Some(switch), "debounce") = (self.switches.last_mut(), setting) {
+            switch.quick = value == "quick";
+        }
+    }
+
+    fn add_handler(&mut self, event: &str, posts: &str) {
+        let event = self.events.number(event) as usize;
+        let posts = posts.split(", ").map(|name| self.events.number(name)).collect();
+        self.handlers.resize_with(self.handlers.len().max(event + 1), Vec::new);
+        self.handlers[event].push(posts);
+    }
+}
+
+/// Steps.
+impl Machine {
     fn accept(&mut self, number: u16, active: bool) {
         let switch = &mut self.switches[number as usize];
         switch.active = active;
@@ -110,7 +127,7 @@ impl Machine {
         if switch.quick {
             self.accept(number, raw);
         } else {
-            switch.due = if raw != switch.active { Some(self.now + 5) } else { None };
+            switch.due = if raw != switch.active { Some(self.now + DEBOUNCE) } else { None };
         }
     }
 
@@ -118,6 +135,7 @@ impl Machine {
         (0u16..).zip(&self.switches).filter_map(|(n, s)| Some((s.due?, n))).min()
     }
 
+    /// Runs the handlers of events until none waits.
     fn settle(&mut self) {
         while let Some(event) = self.waiting.pop_front() {
             self.lines.push(Line::Event(self.now, event));
@@ -126,7 +144,39 @@ impl Machine {
             }
         }
     }
+}
 
+/// The moment of a line of a log, and the name of a switch with its raw level unless the line is a wait.
+fn moment_and_change(line: &str) -> Option<(u64, Option<(&str, bool)>)> {
+    let words: Vec<&str> = line.split_ascii_whitespace().collect();
+    let at = words.first()?.parse().ok()?;
+    match words[..] {
+        [_] => Some((at, None)),
+        [_, name, level @ ("0" | "1")] => Some((at, Some((name, level == "1")))),
+        _ => None,
+    }
+}
+
+/// Playing a log.
+impl Machine {
+    /// What a line asks for: a moment, and the number of a switch with its raw level unless the line is a wait. Else the
+    /// first reason against it.
+    fn stimulus(&self, line: &str) -> Result<(u64, Option<(u16, bool)>), &'static str> {
+        let (at, change) = moment_and_change(line).ok_or("8 BadLine")?;
+        let change = match change {
+            Some((name, raw)) => Some((*self.switch_numbers.get(name).ok_or("3 NoSuchSwitch")?, raw)),
+            None => None,
+        };
+        if at < self.now {
+            return Err("1 Backwards");
+        }
+        if at >= MOMENTS {
+            return Err("2 TooLate");
+        }
+        Ok((at, change))
+    }
+
+    /// Writes the lines since it wrote last, each through `text`, whose memory is used again.
     fn write(&mut self, text: &mut String, out: &mut impl Write) -> io::Result<()> {
         for line in self.lines.drain(..) {
             text.clear();
@@ -144,46 +194,33 @@ impl Machine {
         Ok(())
     }
 
+    /// Accepts all that is due by a moment.
+    fn catch_up(&mut self, at: u64, text: &mut String, out: &mut impl Write) -> io::Result<()> {
+        while let Some((due, switch)) = self.next_due().filter(|&(due, _)| due <= at) {
+            self.now = due;
+            let raw = self.switches[switch as usize].raw;
+            self.accept(switch, raw);
+            self.settle();
+            self.write(text, out)?;
+        }
+        self.now = at;
+        Ok(())
+    }
+
     fn play(&mut self, log: &str, out: &mut impl Write) -> io::Result<()> {
         let mut text = String::new();
-        for (number, line) in (1..).zip(log.lines()) {
-            if line.is_empty() || line.starts_with('#') {
-                continue;
-            }
-            let words: Vec<&str> = line.split_ascii_whitespace().collect();
-            let at = words.first().and_then(|word| word.parse::<u64>().ok());
-            let change = match words[..] {
-                [_] => Some(None),
-                [_, name, level @ ("0" | "1")] => Some(Some((name, level == "1"))),
-                _ => None,
+        let lines = (1..).zip(log.lines());
+        for (number, line) in lines.filter(|(_, line)| !line.is_empty() && !line.starts_with('#')) {
+            let (at, change) = match self.stimulus(line) {
+                Ok(stimulus) => stimulus,
+                Err(reason) => {
+                    writeln!(out, "refused {number} {reason}")?;
+                    continue;
+                }
             };
-            let (Some(at), Some(change)) = (at, change) else {
-                writeln!(out, "refused {number} 8 BadLine")?;
-                continue;
-            };
-            let change = change.map(|(name, level)| (self.switch_numbers.get(name).copied(), level));
-            if let Some((None, _)) = change {
-                writeln!(out, "refused {number} 3 NoSuchSwitch")?;
-                continue;
-            }
-            if at < self.now {
-                writeln!(out, "refused {number} 1 Backwards")?;
-                continue;
-            }
-            if at >= 1 << 40 {
-                writeln!(out, "refused {number} 2 TooLate")?;
-                continue;
-            }
-            while let Some((due, switch)) = self.next_due().filter(|&(due, _)| due <= at) {
-                self.now = due;
-                let raw = self.switches[switch as usize].raw;
-                self.accept(switch, raw);
-                self.settle();
-                self.write(&mut text, out)?;
-            }
-            self.now = at;
-            if let Some((Some(switch), level)) = change {
-                self.change(switch, level);
+            self.catch_up(at, &mut text, out)?;
+            if let Some((switch, raw)) = change {
+                self.change(switch, raw);
                 self.settle();
                 self.write(&mut text, out)?;
             }

@@ -1,19 +1,22 @@
-"""Texts to measure: an ordinary configuration, and texts that somebody made to cost time."""
+"""Texts to measure: an ordinary configuration, and texts that somebody made to cost time. Sizes are in bytes: all is ASCII."""
 import random
+from collections.abc import Iterator
+
+from measuring import MIB
 
 VERSION = "#config_version=6\n"
-MIB = 1 << 20
+# What stands in an ordinary configuration of 1 MiB beside the lights, which fill it.
+SWITCHES = 250
+PLAYERS = 2400
+EFFECTS = 600  # the events that the event players post
+DEPTH = 1440  # lines, each a space deeper than the one before, that are nearly 1 MiB
 
 
-def names(prefix, count):
-    return [f"{prefix}_{n}" for n in range(count)]
-
-
-def switches(draw):
+def switches(draw: random.Random, count: int) -> Iterator[str]:
     yield "switches:\n"
-    for n, name in enumerate(names("s_target", 250)):
+    for n in range(count):
         yield f"  # board {n // 16}, pin {n % 16}\n"
-        yield f"  {name}:\n    number: {n // 16}-{n % 16}\n"
+        yield f"  s_target_{n}:\n    number: {n // 16}-{n % 16}\n"
         if n % 3 == 0:
             yield f"    label: 'Target {n}, the player''s left'\n"
         if n % 4 == 1:
@@ -28,10 +31,10 @@ def switches(draw):
             yield f"    events_when_deactivated:\n      - left_{n}\n      - any_left\n"
 
 
-def event_player(draw):
+def event_player(draw: random.Random, count: int, effects: int) -> Iterator[str]:
     yield "event_player:\n"
-    posts = names("show_effect", 600)
-    for n in range(2400):
+    posts = [f"show_effect_{n}" for n in range(effects)]
+    for n in range(count):
         chosen = draw.sample(posts, draw.randrange(2, 7))
         if n % 3 == 0:
             yield f"  happens_{n}: {', '.join(chosen)}\n"
@@ -41,43 +44,49 @@ def event_player(draw):
             yield f"  happens_{n}:\n" + "".join(f"    - {post}\n" for post in chosen)
 
 
-def lights(draw, count):
-    yield "lights:\n"
-    for n in range(count):
-        yield f"  l_insert_{n}:\n    number: {n}\n    subtype: led\n"
-        yield f"    position: {{x: {draw.randrange(1000)}, y: {draw.randrange(1000)}, z: 0}}\n"
-        yield f'    label: "Insert {n}"   # seen from the player\n'
-        yield f"    tags: [insert, group_{n % 40}]\n"
+def light(draw: random.Random, n: int) -> str:
+    return (
+        f"  l_insert_{n}:\n    number: {n}\n    subtype: led\n"
+        f"    position: {{x: {draw.randrange(1000)}, y: {draw.randrange(1000)}, z: 0}}\n"
+        f'    label: "Insert {n}"   # seen from the player\n'
+        f"    tags: [insert, group_{n % 40}]\n"
+    )
 
 
-def ordinary(size=MIB):
-    """A configuration as a builder writes it, of at most so many bytes."""
+def lights(draw: random.Random, size: int) -> Iterator[str]:
+    """As many lights as fit into so many bytes."""
+    part, n = "lights:\n", 0
+    while len(part) <= size:
+        yield part
+        size -= len(part)
+        part = light(draw, n)
+        n += 1
+
+
+def ordinary(part: int = 1) -> str:
+    """A configuration as a builder writes it, of at most 1 MiB: or one `part`-th of it, with the same mix of sections."""
     draw = random.Random(6)
-    front = VERSION + "# a machine of 250 switches\n" + "".join(switches(draw)) + "".join(event_player(draw))
-    count = 1
-    parts = []
-    for part in lights(draw, 10**6):
-        if len(front) + sum(map(len, parts[-1:])) + count + len(part) > size:
-            break
-        parts.append(part)
-        count += len(part)
-    return front + "".join(parts)
+    count = SWITCHES // part
+    front = VERSION + f"# a machine of {count} switches\n" + "".join(switches(draw, count))
+    front += "".join(event_player(draw, PLAYERS // part, EFFECTS // part))
+    return front + "".join(lights(draw, MIB // part - len(front)))
 
 
-def filled(front, unit, size=MIB):
+def filled(front: str, unit: str, size: int = MIB) -> str:
     return (front + unit * (size // len(unit) + 1))[:size]
 
 
-def keys(size=MIB):
+def keys() -> str:
+    """As many keys as fit into 1 MiB, no two of which are equal."""
     parts, length, n = [VERSION + "lights:\n"], 0, 0
-    while length < size:
+    while length < MIB:
         parts.append(f"  a{n}:\n")
         length += len(parts[-1])
         n += 1
-    return "".join(parts)[:size].rsplit("\n", 1)[0] + "\n"
+    return "".join(parts)[:MIB].rsplit("\n", 1)[0] + "\n"
 
 
-def hostile():
+def hostile() -> dict[str, str]:
     """Texts of 1 MiB, each made of one thing."""
     return {
         "opening brackets": filled(VERSION + "lights: ", "["),
@@ -89,9 +98,10 @@ def hostile():
         "single quotes": filled(VERSION + "lights: ", "'"),
         "one flow list": filled(VERSION + "lights: [", "a,", MIB - 1) + "]",
         "colons": filled(VERSION + "lights: ", ":"),
-        "deeper lines": VERSION + "".join(" " * n + "a:\n" for n in range(1440)),
+        "deeper lines": VERSION + "".join(" " * n + "a:\n" for n in range(DEPTH)),
     }
 
 
-def bundle(text):
+def bundle(text: str) -> bytes:
+    """A bundle of one text."""
     return ("@ config/config.yaml\n" + text).encode()
