@@ -10,10 +10,8 @@ import time
 KIB = 1 << 10
 MIB = 1 << 20
 PEAK_RUNS = 3
-OUR_NAME = "measuring"
 # Has no match once the process has ended.
-PEAK = re.compile(r"Name:\t(?P<name>.*)\n(?s:.*)VmHWM:\s*(?P<peak>\d+) kB")
-CANNOT_START = 127
+PEAK = re.compile(r"VmHWM:\s*(?P<peak>\d+) kB")
 
 
 @dataclasses.dataclass(frozen=True)
@@ -24,22 +22,21 @@ class Cost:
 
 
 def start(command: list[str], path: pathlib.Path) -> int:
-    """Starts a command with a file as its input, throws its output away, and gives the number of its process."""
-    child = os.fork()
-    if child == 0:
-        try:
-            os.dup2(os.open(path, os.O_RDONLY), 0)
-            null = os.open(os.devnull, os.O_WRONLY)
-            os.dup2(null, 1)
-            os.dup2(null, 2)
-            os.execv(command[0], command)
-        finally:
-            os._exit(CANNOT_START)
-    return child
+    """Starts a command with a file as its input, throws its output away, and gives the number of its process. The process
+    is spawned and not forked: a copy of this one, whose memory is larger than theirs, would weigh in every time."""
+    streams = [
+        (os.POSIX_SPAWN_OPEN, 0, path, os.O_RDONLY, 0),
+        (os.POSIX_SPAWN_OPEN, 1, os.devnull, os.O_WRONLY, 0),
+        (os.POSIX_SPAWN_DUP2, 1, 2),
+    ]
+    try:
+        return os.posix_spawn(command[0], command, os.environ, file_actions=streams)
+    except OSError as fault:
+        sys.exit(f"{command[0]} could not be started: {fault.strerror}")
 
 
 def timed(command: list[str], path: pathlib.Path) -> tuple[float, int]:
-    """Seconds, from before this process copies itself until the command has ended, and the exit status."""
+    """Seconds, from before the command is started until it has ended, and the exit status."""
     begin = time.perf_counter()
     _, status = os.waitpid(start(command, path), 0)
     return time.perf_counter() - begin, os.waitstatus_to_exitcode(status)
@@ -48,13 +45,11 @@ def timed(command: list[str], path: pathlib.Path) -> tuple[float, int]:
 def peak(command: list[str], path: pathlib.Path) -> int:
     """Peak resident memory: looked at again and again, since the usage that `wait4` tells has this process's own peak in
     it. What a process takes in its last moments may be missed."""
-    # Until it has become the command it is a copy of this process, with its peak, and is told by this name.
-    pathlib.Path("/proc/self/comm").write_text(OUR_NAME)
     child, most = start(command, path), 0
     status = pathlib.Path(f"/proc/{child}/status")
     while os.waitpid(child, os.WNOHANG)[0] == 0:
-        found = PEAK.match(status.read_text())
-        if found and found["name"] != OUR_NAME:
+        found = PEAK.search(status.read_text())
+        if found:
             most = max(most, int(found["peak"]) * KIB)
     return most
 
@@ -63,8 +58,8 @@ def measured(command: list[str], path: pathlib.Path, runs: int) -> Cost:
     """The median time of so many runs, and the greatest peak of some more."""
     results = [timed(command, path) for _ in range(runs)]
     statuses = {status for _, status in results}
-    if len(statuses) > 1 or CANNOT_START in statuses:
-        sys.exit(f"{command[0]} could not be started, or ends in different ways: {sorted(statuses)}")
+    if len(statuses) > 1:
+        sys.exit(f"{command[0]} ends in different ways: {sorted(statuses)}")
     memory = max(peak(command, path) for _ in range(PEAK_RUNS))
     if memory == 0:
         sys.exit(f"{command[0]} ended before its memory was looked at: the machine has other work")
