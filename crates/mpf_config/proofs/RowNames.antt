@@ -1,8 +1,9 @@
 -- Every name in the rows of a bundle is one.
-use Rattle.std.proofs.Common.{◌≡◌, ℕ, List, [], ◌∷◌, Ok, sym, subst}
+use Rattle.std.proofs.Common.{◌≡◌, ◌≢◌, ℕ, true, false, List, [], ◌∷◌, Ok, refl, sym, ap, ◌∙◌, subst, true≢false}
 use Rattle.std.specs.List.{All, AllZip}
-use Rattle.std.proofs.lemmas.List.Elements.{All-nil, All-cons, All-map, All-from_recursion}
+use Rattle.std.proofs.lemmas.List.Elements.{All-nil, All-cons, All-map, All-weaker, All-from_recursion}
 use Rattle.yaml_subset.specs.Node.{Node, Pair}
+use Rattle.mpf_values.specs.Bytes.{is_name_byte}
 use Rattle.mpf_values.specs.Names.{IsName}
 use Rattle.mpf_values.specs.Lists.{Item}
 use Rattle.mpf_config.specs.Rows.{Written, Switch, EventPlayer, SectionRows, switches, event_player, Rows}
@@ -57,3 +58,14 @@ pub rows_are_named : (bundle : List ℕ) (rows : Rows) → rows_at bundle ≡ Ok
 rows_are_named bundle rows is =
     let h = rows_sound bundle rows is in
     All-from_zip (IsSection 1024) IsNamed (section_named 1024) (read_of h.sections) rows.machine h.each
+
+-- ---- what a name is not
+
+other_byte : (other b : ℕ) → is_name_byte other ≡ false → is_name_byte b ≡ true → b ≢ other
+other_byte other b none is same = true≢false (sym is ∙ ap is_name_byte same ∙ none)
+
+-- No byte of a name is a blank or ends a line.
+pub name_bytes : (name : List ℕ) → IsName name → All (λ b. (b ≢ 32) × (b ≢ 9) × (b ≢ 10)) name
+name_bytes name h =
+    All-weaker (λ b. is_name_byte b ≡ true) (λ b. (b ≢ 32) × (b ≢ 9) × (b ≢ 10)) (λ b is. (other_byte 32 b refl is, other_byte 9 b refl is, other_byte 10 b refl is)) name
+    (All-from_recursion (λ b. is_name_byte b ≡ true) name h.bytes)

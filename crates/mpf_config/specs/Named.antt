@@ -1,8 +1,8 @@
--- What it is that every name in the rows of a section is one: 1 to 64 letters, digits, `_`, `-` and `.`.
+-- What it means that every name in the rows of a section is one: 1 to 64 letters, digits, `_`, `-` and `.`.
 use Rattle.std.specs.Prelude.{List}
 use Rattle.std.specs.List.{All}
 use Rattle.mpf_config.specs.Rows.{Written, Switch, EventPlayer, SectionRows, switches, event_player}
-use Rattle.mpf_values.specs.Names.{IsName}
+pub use Rattle.mpf_values.specs.Names.{IsName}
 
 -- each name in a list is one
 abbrev pub AllNames : List Written → Type 0
