@@ -2,7 +2,8 @@
 use Rattle.std.proofs.Common.{◌≡◌, ◌≢◌, ℕ, ◌<◌, true, ◌||◌, eqb, List, ◌++◌, length, map, Ok, refl, ap, arith, length-append, codes}
 use Rattle.std.specs.List.{All}
 use Rattle.std.proofs.lemmas.Bool.{ne_eqb, or_from, not_from_false}
-use Rattle.std.proofs.lemmas.List.Elements.{All-from_recursion, All-cons, All-append, All-map, All-weaker}
+use Rattle.std.proofs.lemmas.List.Elements.{All-cons, All-append, All-map, All-weaker}
+use Rattle.std.proofs.lemmas.List.Sums.{AllPass-from_list_all}
 use Rattle.mpf_config.specs.Rows.{Written, Switch, EventPlayer, SectionRows, switches, event_player, Rows}
 use Rattle.mpf_config.specs.Named.{IsName, AllNames, IsNamedSwitch, IsNamedPlayer, IsNamed}
 use Rattle.mpf_config.specs.Reading.{rows_at}
@@ -38,13 +39,13 @@ name-word name h = some-word name h.some (name-in_word name h)
 -- ---- what is made of names
 
 active-word : (name : List ℕ) → IsName name → IsWord (name ++ codes "_active")
-active-word name h = joined-word name (codes "_active") h.some (name-in_word name h) (All-from_recursion (λ b. is_in_word b ≡ true) (codes "_active") (refl, (refl, (refl, (refl, (refl, (refl, (refl, tt))))))))
+active-word name h = joined-word name (codes "_active") h.some (name-in_word name h) (AllPass-from_list_all is_in_word (codes "_active") refl)
 
 inactive-word : (name : List ℕ) → IsName name → IsWord (name ++ codes "_inactive")
-inactive-word name h = joined-word name (codes "_inactive") h.some (name-in_word name h) (All-from_recursion (λ b. is_in_word b ≡ true) (codes "_inactive") (refl, (refl, (refl, (refl, (refl, (refl, (refl, (refl, (refl, tt))))))))))
+inactive-word name h = joined-word name (codes "_inactive") h.some (name-in_word name h) (AllPass-from_list_all is_in_word (codes "_inactive") refl)
 
 tag-word : (t : Written) → IsName t.text → IsWord (tag_event t)
-tag-word t h = joined-word (codes "sw_") t.text (omega arith) (All-from_recursion (λ b. is_in_word b ≡ true) (codes "sw_") (refl, (refl, (refl, tt)))) (name-in_word t.text h)
+tag-word t h = joined-word (codes "sw_") t.text (omega arith) (AllPass-from_list_all is_in_word (codes "sw_") refl) (name-in_word t.text h)
 
 names-words : (names : List Written) → AllNames names → All IsWord (map (λ w. w.text) names)
 names-words names h = All-map IsWord (λ (w : Written). w.text) names (All-weaker (λ (w : Written). IsName w.text) (λ w. IsWord w.text) (λ w. name-word w.text) names h)

@@ -19,8 +19,8 @@ pub fn certificate_is_read_again()
 {}
 
 /// The law of what is accepted, for every plan, weights and bound. Where the plan is valid, each of
-/// its events has a weight, the weights fit, the bound is theirs, and none of them is above
-/// 10,000, every run of the plan is good, as `check` promises it.
+/// its events has a weight, the weights fit, the bound is theirs, and neither a weight nor the
+/// bound is above 10,000, every run of the plan is good, as `check` promises it.
 ///
 /// It does not matter who found the weights. Whatever weights `cascade_rank::verify` takes for a
 /// plan, from whatever source, bound every run of it: after each event step the lines since the
