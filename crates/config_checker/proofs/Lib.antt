@@ -13,4 +13,5 @@ pub mod Certificates
 pub mod CertificateLines
 pub mod Names
 pub mod Judging
+pub mod EventWords
 pub mod ReadBack

@@ -1,14 +1,16 @@
 -- What was accepted is accepted again with the text of its certificate.
-use Rattle.std.proofs.Common.{◌≡◌, ℕ, ◌<◌, ◌≤◌, ◌^◌, Bool, true, false, ◌==◌, if◌then◌else◌, List, length, slice_index, Option, Some, None, Result, Ok, Err, refl, sym, ap, subst, arith}
+use Rattle.std.proofs.Common.{◌≡◌, ℕ, ◌<◌, ◌≤◌, ◌^◌, Bool, true, false, ◌==◌, if◌then◌else◌, List, length, slice_index, Option, Some, None, Result, Ok, Err, refl, sym, ap, subst, arith, ◌∙◌}
 use Rattle.std.specs.List.{All, zip}
 use Rattle.std.proofs.lemmas.Bool.{not-false, eqb-true}
 use Rattle.std.proofs.lemmas.List.Elements.{All-weaker}
 use Rattle.std.proofs.lemmas.Slice.Zip.{firsts-zip, seconds-zip}
 use Rattle.mpf_config.specs.Rows.{Rows}
+use Rattle.mpf_config.specs.Reading.{rows_at}
 use Rattle.mpf_plan.specs.declared.fault.Table.{Table}
 use Rattle.mpf_plan.specs.PlanView.{PlanView}
-use Rattle.mpf_plan.specs.PlanOf.{plan_at}
+use Rattle.mpf_plan.specs.PlanOf.{plan_at, plan_of}
 use Rattle.mpf_plan.specs.Valid.{IsValid}
+use Rattle.mpf_plan.proofs.Judged.{plan_at-Ok}
 use Rattle.mpf_plan.proofs.ValidPlan.{IsValid-plan_at}
 use Rattle.cascade_rank.specs.Weights.{IsLeastFitting, bound_of, greatest}
 use Rattle.cascade_rank.specs.LeadsTo.{grounded, is_open}
@@ -26,6 +28,7 @@ use Rattle.config_checker.specs.Checking.{FaultView, same_names, names_in, weigh
 use Rattle.config_checker.specs.ReadAgain.{IsReadAgain}
 use Rattle.config_checker.proofs.Certificates.{text-is_read}
 use Rattle.config_checker.proofs.Names.{same_names-self, all_seen}
+use Rattle.config_checker.proofs.EventWords.{events_are_words}
 use Rattle.config_checker.proofs.Judging.{IsReadAs, read-as, verified-checked, verified-text}
 
 ok_same : {X E : Type 0} (x y : X) → ◌≡◌ {A = Result X E} (Ok x) (Ok y) → x ≡ y
@@ -94,6 +97,21 @@ module _ (rows : Rows) where
   found-again c is =
       let from = judged_plan judged (plan_at rows) c is in
       weighed-again from.0 (found_at from.0) c from.1 refl from.2
+
+  -- what was accepted has the plan of the rows
+  weighed_plan : (plan : PlanView) (found : Result (List ℕ) RankView) (c : CheckedView) → weighed plan found ≡ Ok c → c.plan ≡ plan
+  weighed_plan plan (Ok ws) c is = ap (λ (v : CheckedView). v.plan) (sym (ok_same (record { plan = plan; weights = ws; bound = bound_of plan (slice_index ws) }) c is))
+  weighed_plan plan (Err fault) c is = absurd (err_not_ok _ c is)
+
+  found-plan : (c : CheckedView) → checked_at rows ≡ Ok c → c.plan ≡ plan_of rows
+  unfolding checked_at judged
+  found-plan c is =
+      let from = judged_plan judged (plan_at rows) c is in
+      weighed_plan from.0 (found_at from.0) c from.2 ∙ (plan_at-Ok rows from.0 from.1).0
+
+  -- where the rows are those of a bundle, the names of its events are words
+  pub read-again : (bundle : List ℕ) (c : CheckedView) → rows_at bundle ≡ Ok rows → checked_at rows ≡ Ok c → IsReadAgain rows c
+  read-again bundle c read is = found-again c is (subst (λ (p : PlanView). All IsWord p.events) (sym (found-plan c is)) (events_are_words bundle rows read))
 
   -- ---- weights of a certificate
 

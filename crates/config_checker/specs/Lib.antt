@@ -6,6 +6,7 @@ pub mod PlanOrder
 pub mod CheckedView
 pub mod GoodRun
 pub mod Accepted
+pub mod AcceptedRuns
 pub mod CertificateText
 pub mod CertificateOf
 pub mod CertificateRead

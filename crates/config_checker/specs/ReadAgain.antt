@@ -2,6 +2,7 @@
 use Rattle.std.specs.Prelude.{◌≡◌, ℕ, List, Ok}
 use Rattle.std.specs.List.{All}
 use Rattle.mpf_config.specs.Rows.{Rows}
+use Rattle.mpf_config.specs.Reading.{rows_at}
 use Rattle.config_checker.specs.CheckedView.{CheckedView}
 use Rattle.config_checker.specs.CertificateText.{certificate_text}
 use Rattle.config_checker.specs.CertificateOf.{IsWord}
@@ -18,3 +19,7 @@ FoundIsReadAgain = (rows : Rows) (c : CheckedView) → checked_at rows ≡ Ok c 
 -- and where they were those of a certificate
 abbrev pub GivenIsReadAgain : Type 0
 GivenIsReadAgain = (rows : Rows) (text : List ℕ) (c : CheckedView) → checked_with_at rows text ≡ Ok c → IsReadAgain rows c
+
+-- The same without a premise, where the rows are those of a bundle: the names of their plan's events are words.
+abbrev pub ReadIsReadAgain : Type 0
+ReadIsReadAgain = (bundle : List ℕ) (rows : Rows) (c : CheckedView) → rows_at bundle ≡ Ok rows → checked_at rows ≡ Ok c → IsReadAgain rows c

@@ -14,3 +14,4 @@ pub mod BundleTexts
 pub mod TextNames
 pub mod Meaning
 pub mod Theorem
+pub mod RowNames

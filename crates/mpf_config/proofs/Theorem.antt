@@ -103,7 +103,7 @@ was_read bundle rows e =
       rows_are = ok_is (made g.0 f.0 b.0) rows h.2;
     }
 
-rows_sound : (bundle : List ℕ) (rows : Rows) → rows_at bundle ≡ Ok rows → IsRowsOf 32 8 1024 bundle rows
+pub rows_sound : (bundle : List ℕ) (rows : Rows) → rows_at bundle ≡ Ok rows → IsRowsOf 32 8 1024 bundle rows
 rows_sound bundle rows e =
     let w = was_read bundle rows e in
     subst (IsRowsOf 32 8 1024 bundle) w.rows_are (record {

@@ -3,6 +3,7 @@ pub mod Entries
 pub mod BundleText
 pub mod Unread
 pub mod RowsOf
+pub mod Named
 pub mod Reading
 pub mod View
 pub mod Inside

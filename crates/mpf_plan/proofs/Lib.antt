@@ -6,6 +6,7 @@ pub mod Added
 pub mod BoundSteps
 pub mod Judged
 pub mod ValidPlan
+pub mod EventNames
 pub mod Planned
 pub mod BoundTo
 pub mod Placed

@@ -43,7 +43,7 @@ All-from_map : {X Y : Type 0} (P : Y → Type 0) (f : X → Y) (xs : List X) →
 All-from_map P f [] all = All-none (λ x. P (f x))
 All-from_map P f (x ∷ xs) all = All-cons (λ z. P (f z)) x xs (All-head P (f x) (map f xs) all) (All-from_map P f xs (All-tail P (f x) (map f xs) all))
 
-All-first_by : {X : Type 0} (P : X → Type 0) (name : X → List ℕ) (xs : List X) → All P xs → All P (first_by name xs)
+pub All-first_by : {X : Type 0} (P : X → Type 0) (name : X → List ℕ) (xs : List X) → All P xs → All P (first_by name xs)
 All-first_by P name [] all = All-none P
 All-first_by P name (x ∷ xs) all =
     All-cons P x (filter (λ y. not (bytes_eq (name x) (name y))) (first_by name xs)) (All-head P x xs all)

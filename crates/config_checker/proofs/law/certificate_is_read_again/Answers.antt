@@ -1,4 +1,4 @@
-use Rattle.config_checker.proofs.ReadBack.{found-again, given-again}
+use Rattle.config_checker.proofs.ReadBack.{found-again, given-again, read-again}
 use Rattle.config_checker.proofs.law.certificate_is_read_again.Goals as goal
 
 pub returns-clause-found : goal.returns-clause-found
@@ -6,3 +6,6 @@ returns-clause-found c = found-again
 
 pub returns-clause-given : goal.returns-clause-given
 returns-clause-given c = given-again
+
+pub returns-clause-read : goal.returns-clause-read
+returns-clause-read c = λ bundle rows. read-again rows bundle
