@@ -5,5 +5,6 @@ pub mod CommandLine
 pub mod LogText
 pub mod LogView
 pub mod RunOfLog
+pub mod RunGiven
 pub mod TraceText
 pub mod Played

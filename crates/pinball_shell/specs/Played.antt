@@ -4,10 +4,9 @@ use Rattle.std.specs.List.{flat_map}
 use Rattle.std.specs.Io.KnownBytes.{Appends}
 use Rattle.std.specs.Str.Lines.{lines}
 use Rattle.mpf_plan.specs.PlanView.{PlanView}
-use Rattle.config_checker.specs.declared.line.Line.{Line}
 use Rattle.config_checker.specs.Accepted.{IsAccepted}
-use Rattle.config_checker.specs.Machine.{Machine, initial}
-use Rattle.config_checker.specs.Run.{Stimulus, Change, Alarm, Wait, IsRun}
+use Rattle.config_checker.specs.Machine.{Machine}
+use Rattle.config_checker.specs.Run.{Stimulus, Change, Alarm, Wait}
 use Rattle.pin_rig.specs.declared.input.Input.{Input}
 use Rattle.pin_rig.specs.declared.input.Input.TheVariants as inputs
 use Rattle.pin_rig.specs.Alarm.{is_due_by}
@@ -74,7 +73,3 @@ pub record IsLinePlayed (plan : PlanView) (bound number : ℕ) (line : List ℕ)
 pub record AreLinesPlayed (plan : PlanView) (bound : ℕ) (log : List ℕ) (old : Machine) (before after : Option (List ℕ)) (verdict : Verdict) : Type 0 where
   pub text : Appends before after (text_of plan (told_by plan bound 1 (lines log) old))
   pub verdict_is : verdict ≡ verdict_of (told_by plan bound 1 (lines log) old)
-
--- the lines are the trace of a run of the plan, at whose end no event waits
-abbrev pub IsTraceOfRun : PlanView → List Line → Type 0
-IsTraceOfRun plan trace = (stimuli : List (Stimulus × ℕ)) × (s : Machine) × IsRun plan stimuli (initial plan) trace s × (s.waiting ≡ [])

@@ -49,7 +49,7 @@ abbrev pub lines_of : PlanView → ℕ → List Stimulus → Machine → List Li
 lines_of plan bound [] s = []
 lines_of plan bound (stimulus ∷ more) s = let next = settled plan bound stimulus s in next.lines ++ lines_of plan bound more next
 
--- the alarms that come by the moment, no more than so many
+-- The alarms that come by the moment, no more than so many. That one for each switch is enough, `run` of `play_text` shows.
 abbrev pub alarms_by : PlanView → ℕ → ℕ → ℕ → Machine → List Stimulus
 alarms_by plan bound until zero s = []
 alarms_by plan bound until (suc k) s =

@@ -6,8 +6,9 @@ ghost use Rattle.pin_rig.specs.Alarm.{is_due_by};
 ghost use Rattle.pin_rig.specs.Rig.{stimulus_at};
 ghost use Rattle.pinball_shell.specs.LogView.{said_view};
 ghost use Rattle.pinball_shell.specs.RunOfLog.{judged, timely, told_in, traced};
+ghost use Rattle.pinball_shell.specs.RunGiven.{IsRunOfLog};
 ghost use Rattle.pinball_shell.specs.TraceText.{trace_text, verdict_of};
-ghost use Rattle.pinball_shell.specs.Played.{worse_of, IsInputPlayed, AreAlarmsPlayed, IsLinePlayed, AreLinesPlayed, IsTraceOfRun, GivesJudged, IsRigOf};
+ghost use Rattle.pinball_shell.specs.Played.{worse_of, IsInputPlayed, AreAlarmsPlayed, IsLinePlayed, AreLinesPlayed, GivesJudged, IsRigOf};
 
 use crate::fault::{ShellFault, Verdict};
 use crate::log_line::{Said, first_line, read_line};
@@ -27,10 +28,11 @@ pub const LOG_LIMIT: usize = 16_777_216;
 const TOO_LATE: u64 = 1 << 40;
 
 /// Reads a log and plays it: writes the lines of the trace as they come, and which lines of the
-/// log are refused. `Yes` where none is. The lines of the trace are those of a run of the plan, at
-/// whose end no event waits. The log is read whole, and all memory taken, before anything is
-/// written, so after `NoMemory`, `Read` and `TooLong` nothing has been; how much was after `Write`
-/// is not said.
+/// log are refused. `Yes` where none is. The lines of the trace are those of the run of the plan
+/// that the log gives: its changes and waits in their order, before each the alarms due by its
+/// moment, and none behind the last; at the end no event waits. The log is read whole, and all
+/// memory taken, before anything is written, so after `NoMemory`, `Read` and `TooLong` nothing has
+/// been; how much was after `Write` is not said. After an `Ok` the log had at most 16 MiB.
 pub fn play_text<R: Read, W: Write>(
     alloc: Global,
     checked: &Checked,
@@ -42,8 +44,9 @@ pub fn play_text<R: Read, W: Write>(
     ensures verdict { IfOk result (λ v. IfSome (R.remaining reader.old)
         (λ log. v ≡ verdict_of (told_in checked.now.plan checked.now.bound log))) }
     ensures run { OnOk result (IfSome (R.remaining reader.old)
-        (λ log. IsTraceOfRun checked.now.plan (traced (told_in checked.now.plan checked.now.bound log)))) }
+        (λ log. IsRunOfLog checked.now.plan log (traced (told_in checked.now.plan checked.now.bound log)))) }
     ensures silent { IfErr result (λ e. e ≢ ShellFault.Write → Keeps (W.contents writer.old) (W.contents writer.new)) }
+    ensures within { OnOk result (IfSome (R.remaining reader.old) (λ log. length log ≤ LOG_LIMIT)) }
     ensures too_long { IsErrOf result ShellFault.TooLong → IfSome (R.remaining reader.old) (λ log. LOG_LIMIT < length log) }
 {
     let log = read_all(alloc, reader, LOG_LIMIT)?;
@@ -60,7 +63,7 @@ fn play_log<W: Write>(
     requires { length log.now ≤ LOG_LIMIT }
     ensures written { OnOk result (Appends (W.contents writer.old) (W.contents writer.new) (trace_text checked.now.plan checked.now.bound log.now)) }
     ensures verdict { IfOk result (λ v. v ≡ verdict_of (told_in checked.now.plan checked.now.bound log.now)) }
-    ensures run { IsTraceOfRun checked.now.plan (traced (told_in checked.now.plan checked.now.bound log.now)) }
+    ensures run { IsRunOfLog checked.now.plan log.now (traced (told_in checked.now.plan checked.now.bound log.now)) }
     ensures silent { IfErr result (λ e. e ≢ ShellFault.Write → Keeps (W.contents writer.old) (W.contents writer.new)) }
     ensures failed { IfErr result (λ e. (e ≡ ShellFault.NoMemory) ⊎ (e ≡ ShellFault.Write)) }
 {
