@@ -88,3 +88,7 @@ module _ (plan : PlanView) (valid : IsValid plan) (all : (e : ℕ) → e < lengt
       least = ranks_least;
       above = λ within. both_ways (is_within_limit plan (ranks plan)) (above_test above) (is_within_limit-true plan (ranks plan) within);
     }
+
+-- the same, where none is open
+pub not_open-least : (plan : PlanView) → IsValid plan → ((e : ℕ) → e < length plan.events → is_open plan e ≡ false) → IsLeastFitting plan (ranks plan)
+not_open-least plan valid none = ranks_least plan valid (λ e l. not-false (grounded plan e) (none e l))

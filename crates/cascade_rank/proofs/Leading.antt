@@ -175,15 +175,15 @@ leaders_more plan n posts leaders new left has adds is = record {
 
 -- ---- those that lead to the next event of the order
 
-pub meeting_starts : (plan : PlanView) (taken : ℕ) (led : List EventId) (left counts : List ℕ) (order : List EventId) (leaders : List (List EventId)) (f : EventId) → HasLeaders plan (length plan.events) leaders counts →
-    IsOrdering plan taken [] left order → taken < length order → f ≡ get_or order taken f → led ≡ leaders_to leaders f.0 → IsMeeting plan taken led [] left order
-meeting_starts plan taken led left counts order leaders f has o turn f_is led_is =
+pub meeting_starts : (plan : PlanView) (taken : ℕ) (leaders : List EventId) (left counts : List ℕ) (order : List EventId) (lists : List (List EventId)) (f : EventId) → HasLeaders plan (length plan.events) lists counts →
+    IsOrdering plan taken [] left order → taken < length order → f ≡ get_or order taken f → leaders ≡ leaders_to lists f.0 → IsMeeting plan taken leaders [] left order
+meeting_starts plan taken leaders left counts order lists f has o turn f_is leaders_are =
     let event : event_at order taken ≡ f.0 = ap (λ (d : EventId). d.0) (sym (get_or_read order taken f turn f_is no_event)) in
     let below : f.0 < length plan.events = subst (λ (n : ℕ). n < length plan.events) event (o.below taken turn) in
     record {
       turn = turn;
-      led_is = λ e.
-          ap (λ (ds : List EventId). times ds e) led_is ∙ has.leads f.0 e below
+      leaders_are = λ e.
+          ap (λ (ds : List EventId). times ds e) leaders_are ∙ has.leads f.0 e below
           ∙ ap (λ (n : ℕ). cond (nat_lt e (length plan.events)) (occurrences n (cost_of_event plan e)) 0) (sym event);
       ordering = o;
     }

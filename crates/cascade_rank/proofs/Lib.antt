@@ -6,6 +6,7 @@ pub mod FirstEvent
 pub mod Verifying
 pub mod Mentioned
 pub mod Ranking
+pub mod Cycles
 pub mod Ordering
 pub mod Grounding
 pub mod Leading

@@ -1,4 +1,4 @@
--- The order grows: one event that the next one is led to by, then all of them, then the next one.
+-- The order grows: one of those that lead to its next event is gone through, then all of them, then the one after.
 use Rattle.std.proofs.Common.{◌≡◌, ◌≢◌, ℕ, zero, suc, ◌+◌, ◌-◌, ◌<◌, ◌≤◌, Bool, true, false, cond, ◌||◌, eqb, ◌==◌, nat_lt, List, [], ◌∷◌, ◌++◌, length, take, set, get_or, slice_index, count_by, refl, sym, ◌∙◌, ap, subst, inl, inr, arith, length-set, take_all, take_at, get_or-set_same, get_or-set_other}
 use Rattle.std.proofs.lemmas.Bool.{cases_lt, cases_eq, eq-eqb, ne_eqb, lt-ltb, le-ltb, or_right, or_from, false≢true}
 use Rattle.std.proofs.lemmas.List.{take-append-le, get_or_append_left, get_or_push, length_push}
@@ -119,8 +119,8 @@ module _ (plan : PlanView) (left : List ℕ) (length_is : length left ≡ length
 
 -- ---- the next event of the order is gone through
 
-module _ (plan : PlanView) (taken : ℕ) (order : List EventId) (led : List EventId) (turn : taken < length order)
-    (led_is : (e : ℕ) → e < length plan.events → times led e ≡ occurrences (event_at order taken) (cost_of_event plan e)) where
+module _ (plan : PlanView) (taken : ℕ) (order : List EventId) (leaders : List EventId) (turn : taken < length order)
+    (leaders_are : (e : ℕ) → e < length plan.events → times leaders e ≡ occurrences (event_at order taken) (cost_of_event plan e)) where
   met : ℕ → Bool
   met = is_in (take taken order)
 
@@ -135,19 +135,19 @@ module _ (plan : PlanView) (taken : ℕ) (order : List EventId) (led : List Even
     unmet_then c = unmet_met (is_in (take taken order)) (is_in (take (taken + 1) order)) (event_at order taken) fresh (λ e. is_in-more order taken e turn) c
 
   -- one of those that lead to it
-  module _ (left : List ℕ) (i : ℕ) (x : EventId) (there : i < length led) (x_is : get_or led i no_event ≡ x) (below : x.0 < length plan.events)
-      (o : IsOrdering plan taken (take i led) left order) where
+  module _ (left : List ℕ) (i : ℕ) (x : EventId) (there : i < length leaders) (x_is : get_or leaders i no_event ≡ x) (below : x.0 < length plan.events)
+      (o : IsOrdering plan taken (take i leaders) left order) where
     inside_left : x.0 < length left
     inside_left = omega (arith, below, o.length_is)
 
-    one_more : times (take (i + 1) led) x.0 ≡ times (take i led) x.0 + 1
-    one_more = count_by_more_yes (λ d. d.0 == x.0) led i no_event there (eq-eqb (get_or led i no_event).0 x.0 (ap (λ (d : EventId). d.0) x_is))
+    one_more : times (take (i + 1) leaders) x.0 ≡ times (take i leaders) x.0 + 1
+    one_more = count_by_more_yes (λ d. d.0 == x.0) leaders i no_event there (eq-eqb (get_or leaders i no_event).0 x.0 (ap (λ (d : EventId). d.0) x_is))
 
-    no_more : (e : ℕ) → e ≢ x.0 → times (take (i + 1) led) e ≡ times (take i led) e
-    no_more e other = count_by_more_no (λ d. d.0 == e) led i no_event there (ne_eqb (get_or led i no_event).0 e (λ same. other (sym same ∙ ap (λ (d : EventId). d.0) x_is)))
+    no_more : (e : ℕ) → e ≢ x.0 → times (take (i + 1) leaders) e ≡ times (take i leaders) e
+    no_more e other = count_by_more_no (λ d. d.0 == e) leaders i no_event there (ne_eqb (get_or leaders i no_event).0 e (λ same. other (sym same ∙ ap (λ (d : EventId). d.0) x_is)))
 
-    no_more_than : times (take (i + 1) led) x.0 ≤ occurrences (event_at order taken) (cost_of_event plan x.0)
-    no_more_than = omega (arith, sum_by-take-le (λ d. cond (d.0 == x.0) 1 0) led (i + 1), led_is x.0 below)
+    no_more_than : times (take (i + 1) leaders) x.0 ≤ occurrences (event_at order taken) (cost_of_event plan x.0)
+    no_more_than = omega (arith, sum_by-take-le (λ d. cond (d.0 == x.0) 1 0) leaders (i + 1), leaders_are x.0 below)
 
     -- something is left of it, since it leads to an event that is not gone through
     pub some_left : 0 < slice_index left x.0
@@ -164,9 +164,9 @@ module _ (plan : PlanView) (taken : ℕ) (order : List EventId) (led : List Even
     less_there : (e : ℕ) → e ≢ x.0 → slice_index (set left x.0 (slice_index left x.0 - 1)) e ≡ slice_index left e
     less_there e other = get_or-set_other left x.0 e (slice_index left x.0 - 1) 0 other
 
-    less_is : (e : ℕ) → e < length plan.events → slice_index (set left x.0 (slice_index left x.0 - 1)) e + times (take (i + 1) led) e ≡ unmet (is_in (take taken order)) (cost_of_event plan e)
+    less_is : (e : ℕ) → e < length plan.events → slice_index (set left x.0 (slice_index left x.0 - 1)) e + times (take (i + 1) leaders) e ≡ unmet (is_in (take taken order)) (cost_of_event plan e)
     less_is e l = elim (cases_eq e x.0) [
-      | inl same ↦ subst (λ (y : ℕ). slice_index (set left x.0 (slice_index left x.0 - 1)) y + times (take (i + 1) led) y ≡ unmet (is_in (take taken order)) (cost_of_event plan y)) (sym same) (omega (arith, less_here, one_more, some_left, o.left_is x.0 below))
+      | inl same ↦ subst (λ (y : ℕ). slice_index (set left x.0 (slice_index left x.0 - 1)) y + times (take (i + 1) leaders) y ≡ unmet (is_in (take taken order)) (cost_of_event plan y)) (sym same) (omega (arith, less_here, one_more, some_left, o.left_is x.0 below))
       | inr other ↦ omega (arith, less_there e other, no_more e other, o.left_is e l)
     ]
 
@@ -180,7 +180,7 @@ module _ (plan : PlanView) (taken : ℕ) (order : List EventId) (led : List Even
     not_listed = o.listed x.0 below ∙ ne_eqb (slice_index left x.0) 0 (λ z. omega (arith, z, some_left))
 
     -- more of it is left
-    pub keeps : slice_index left x.0 - 1 ≢ 0 → IsOrdering plan taken (take (i + 1) led) (set left x.0 (slice_index left x.0 - 1)) order
+    pub keeps : slice_index left x.0 - 1 ≢ 0 → IsOrdering plan taken (take (i + 1) leaders) (set left x.0 (slice_index left x.0 - 1)) order
     keeps more = record {
       length_is = length-set left x.0 (slice_index left x.0 - 1) ∙ o.length_is;
       within = o.within;
@@ -216,7 +216,7 @@ module _ (plan : PlanView) (taken : ℕ) (order : List EventId) (led : List Even
             by false h' ih = ih h'
 
     -- nothing is left of it, and it goes last
-    pub lists : slice_index left x.0 - 1 ≡ 0 → IsOrdering plan taken (take (i + 1) led) (set left x.0 (slice_index left x.0 - 1)) (order ++ x ∷ [])
+    pub lists : slice_index left x.0 - 1 ≡ 0 → IsOrdering plan taken (take (i + 1) leaders) (set left x.0 (slice_index left x.0 - 1)) (order ++ x ∷ [])
     lists none =
         let front = take-append-le taken order (x ∷ []) o.within in
         record {
@@ -236,64 +236,64 @@ module _ (plan : PlanView) (taken : ℕ) (order : List EventId) (led : List Even
         }
 
   -- all of them are gone through
-  pub next_turn : (left : List ℕ) → IsOrdering plan taken led left order → IsOrdering plan (taken + 1) [] left order
+  pub next_turn : (left : List ℕ) → IsOrdering plan taken leaders left order → IsOrdering plan (taken + 1) [] left order
   next_turn left o = record {
     length_is = o.length_is;
     within = omega (arith, turn);
     below = o.below;
     apart = o.apart;
     grounds = o.grounds;
-    left_is = λ e l. omega (arith, o.left_is e l, unmet_then left o.apart (cost_of_event plan e), led_is e l);
+    left_is = λ e l. omega (arith, o.left_is e l, unmet_then left o.apart (cost_of_event plan e), leaders_are e l);
     listed = o.listed;
     room = o.room;
   }
 
 -- ---- the same, of those that lead to the next event from the first
 
-module _ (plan : PlanView) (taken : ℕ) (led : List EventId) where
+module _ (plan : PlanView) (taken : ℕ) (leaders : List EventId) where
   occurs : List EventId → ℕ → ℕ
   occurs order e = occurrences (event_at order taken) (cost_of_event plan e)
 
-  led_of : (order : List EventId) → ((e : ℕ) → times led e ≡ cond (nat_lt e (length plan.events)) (occurrences (event_at order taken) (cost_of_event plan e)) 0) → (e : ℕ) → e < length plan.events → times led e ≡ occurrences (event_at order taken) (cost_of_event plan e)
-  led_of order is e l = is e ∙ ap (λ (b : Bool). cond b (occurrences (event_at order taken) (cost_of_event plan e)) 0) (lt-ltb e (length plan.events) l)
+  leaders_of : (order : List EventId) → ((e : ℕ) → times leaders e ≡ cond (nat_lt e (length plan.events)) (occurrences (event_at order taken) (cost_of_event plan e)) 0) → (e : ℕ) → e < length plan.events → times leaders e ≡ occurrences (event_at order taken) (cost_of_event plan e)
+  leaders_of order is e l = is e ∙ ap (λ (b : Bool). cond b (occurrences (event_at order taken) (cost_of_event plan e)) 0) (lt-ltb e (length plan.events) l)
 
   -- each of them is an event of the plan
-  pub led_below : (done : List EventId) (left : List ℕ) (order : List EventId) → IsMeeting plan taken led done left order → (i : ℕ) → i < length led → (get_or led i no_event).0 < length plan.events
-  led_below done left order m i there = elim (cases_lt (get_or led i no_event).0 (length plan.events)) [
+  pub leaders_below : (done : List EventId) (left : List ℕ) (order : List EventId) → IsMeeting plan taken leaders done left order → (i : ℕ) → i < length leaders → (get_or leaders i no_event).0 < length plan.events
+  leaders_below done left order m i there = elim (cases_lt (get_or leaders i no_event).0 (length plan.events)) [
     | inl l ↦ l
     | inr g ↦
-        let e : ℕ = (get_or led i no_event).0 in
-        let one = count_by_more_yes (λ d. d.0 == (get_or led i no_event).0) led i no_event there (eq-eqb (get_or led i no_event).0 (get_or led i no_event).0 refl) in
-        let all = sum_by-take-le (λ d. cond (d.0 == (get_or led i no_event).0) 1 0) led (i + 1) in
-        let none = m.led_is (get_or led i no_event).0 ∙ ap (λ (b : Bool). cond b (occurrences (event_at order taken) (cost_of_event plan (get_or led i no_event).0)) 0) (le-ltb (get_or led i no_event).0 (length plan.events) g) in
+        let e : ℕ = (get_or leaders i no_event).0 in
+        let one = count_by_more_yes (λ d. d.0 == (get_or leaders i no_event).0) leaders i no_event there (eq-eqb (get_or leaders i no_event).0 (get_or leaders i no_event).0 refl) in
+        let all = sum_by-take-le (λ d. cond (d.0 == (get_or leaders i no_event).0) 1 0) leaders (i + 1) in
+        let none = m.leaders_are (get_or leaders i no_event).0 ∙ ap (λ (b : Bool). cond b (occurrences (event_at order taken) (cost_of_event plan (get_or leaders i no_event).0)) 0) (le-ltb (get_or leaders i no_event).0 (length plan.events) g) in
         absurd (omega (arith, one, all, none))
   ]
 
-  module _ (left : List ℕ) (order : List EventId) (i : ℕ) (x : EventId) (there : i < length led) (x_is : get_or led i no_event ≡ x) (m : IsMeeting plan taken led (take i led) left order) where
+  module _ (left : List ℕ) (order : List EventId) (i : ℕ) (x : EventId) (there : i < length leaders) (x_is : get_or leaders i no_event ≡ x) (m : IsMeeting plan taken leaders (take i leaders) left order) where
     here : x.0 < length plan.events
-    here = subst (λ (d : EventId). d.0 < length plan.events) x_is (led_below (take i led) left order m i there)
+    here = subst (λ (d : EventId). d.0 < length plan.events) x_is (leaders_below (take i leaders) left order m i there)
 
     pub meets_some : 0 < slice_index left x.0
-    meets_some = some_left plan taken order led m.turn (led_of order m.led_is) left i x there x_is here m.ordering
+    meets_some = some_left plan taken order leaders m.turn (leaders_of order m.leaders_are) left i x there x_is here m.ordering
 
     pub meets_inside : x.0 < length left
     meets_inside = omega (arith, here, m.ordering.length_is)
 
-    pub meets_keeps : slice_index left x.0 - 1 ≢ 0 → IsMeeting plan taken led (take (i + 1) led) (set left x.0 (slice_index left x.0 - 1)) order
+    pub meets_keeps : slice_index left x.0 - 1 ≢ 0 → IsMeeting plan taken leaders (take (i + 1) leaders) (set left x.0 (slice_index left x.0 - 1)) order
     meets_keeps more = record {
       turn = m.turn;
-      led_is = m.led_is;
-      ordering = keeps plan taken order led m.turn (led_of order m.led_is) left i x there x_is here m.ordering more;
+      leaders_are = m.leaders_are;
+      ordering = keeps plan taken order leaders m.turn (leaders_of order m.leaders_are) left i x there x_is here m.ordering more;
     }
 
-    pub meets_lists : slice_index left x.0 - 1 ≡ 0 → IsMeeting plan taken led (take (i + 1) led) (set left x.0 (slice_index left x.0 - 1)) (order ++ x ∷ [])
+    pub meets_lists : slice_index left x.0 - 1 ≡ 0 → IsMeeting plan taken leaders (take (i + 1) leaders) (set left x.0 (slice_index left x.0 - 1)) (order ++ x ∷ [])
     meets_lists none =
         let same : event_at order taken ≡ event_at (order ++ x ∷ []) taken = sym (ap (λ (d : EventId). d.0) (get_or_append_left order (x ∷ []) no_event taken m.turn)) in
         record {
           turn = omega (arith, m.turn, length_push order x);
-          led_is = λ e. m.led_is e ∙ ap (λ (f : ℕ). cond (nat_lt e (length plan.events)) (occurrences f (cost_of_event plan e)) 0) same;
-          ordering = lists plan taken order led m.turn (led_of order m.led_is) left i x there x_is here m.ordering none;
+          leaders_are = λ e. m.leaders_are e ∙ ap (λ (f : ℕ). cond (nat_lt e (length plan.events)) (occurrences f (cost_of_event plan e)) 0) same;
+          ordering = lists plan taken order leaders m.turn (leaders_of order m.leaders_are) left i x there x_is here m.ordering none;
         }
 
-  pub meets_all : (left : List ℕ) (order : List EventId) → IsMeeting plan taken led led left order → IsOrdering plan (taken + 1) [] left order
-  meets_all left order m = next_turn plan taken order led m.turn (led_of order m.led_is) left m.ordering
+  pub meets_all : (left : List ℕ) (order : List EventId) → IsMeeting plan taken leaders leaders left order → IsOrdering plan (taken + 1) [] left order
+  meets_all left order m = next_turn plan taken order leaders m.turn (leaders_of order m.leaders_are) left m.ordering

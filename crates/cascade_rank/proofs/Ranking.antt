@@ -1,13 +1,13 @@
 -- Ranks and groundedness, round by round.
-use Rattle.std.proofs.Common.{◌≡◌, ℕ, zero, suc, ◌+◌, ◌-◌, ◌≤◌, ◌<◌, true, List, length, slice_index, subst, arith}
+use Rattle.std.proofs.Common.{◌≡◌, ℕ, zero, suc, ◌+◌, ◌≤◌, ◌<◌, true, length, arith}
 use Rattle.std.proofs.lemmas.Bool.{false≢true}
-use Rattle.mpf_plan.specs.PlanView.{PlanView, bound_to}
+use Rattle.mpf_plan.specs.PlanView.{PlanView}
 use Rattle.mpf_plan.specs.Valid.{IsValid}
-use Rattle.cascade_rank.specs.Cost.{mentions, each_of, cost_of_binding, cost_of_event}
+use Rattle.cascade_rank.specs.Cost.{mentions, cost_of_event}
 use Rattle.cascade_rank.specs.Weights.{IsFitting}
-use Rattle.cascade_rank.specs.LeadsTo.{leads, grounded_in, grounded, IsCycle, HasNoFit}
+use Rattle.cascade_rank.specs.LeadsTo.{grounded_in, grounded}
 use Rattle.cascade_rank.specs.Ranks.{rank_in, rank}
-use Rattle.cascade_rank.proofs.Prices.{price_at_most, price_agrees, price-mentioned}
+use Rattle.cascade_rank.proofs.Prices.{price_at_most, price_agrees}
 use Rattle.cascade_rank.proofs.Within.{IsBelow-mentioned, IsBelow-event}
 use Rattle.cascade_rank.proofs.Mentioned.{all_mentioned_at, all_mentioned-weaker}
 
@@ -44,29 +44,3 @@ module _ (plan : PlanView) (valid : IsValid plan) where
   rank-fits all e h =
       let same = rank-stable plan (length plan.events) e (all e h) in
       omega (arith, same)
-
-  -- what an event leads to weighs less
-  lead_falls : (v : ℕ → ℕ) → IsFitting plan v → (e f : ℕ) → e < length plan.events → leads plan e f ≡ true → v f < v e
-  lead_falls v fit e f l m =
-      let fits = fit e l in
-      let cost = price-mentioned v (each_of (cost_of_binding plan) (bound_to plan (record { 0 = e }))) f m in
-      omega (arith, fits, cost)
-
-  cycle_falls : (v : ℕ → ℕ) → IsFitting plan v → (events : List ℕ) → IsCycle plan events → slice_index events 0 < length plan.events → (i : ℕ) → i < length events →
-      (v (slice_index events i) + i ≤ v (slice_index events 0)) × (slice_index events i < length plan.events)
-  cycle_falls v fit events c first zero l = (omega arith, first)
-  cycle_falls v fit events c first (suc i) l =
-      let before = cycle_falls v fit events c first i (omega arith) in
-      let one : i + 1 ≡ suc i = omega arith in
-      let next : leads plan (slice_index events i) (slice_index events (suc i)) ≡ true = subst (λ (n : ℕ). leads plan (slice_index events i) (slice_index events n) ≡ true) one (c.next i (omega arith)) in
-      let falls = lead_falls v fit (slice_index events i) (slice_index events (suc i)) before.1 next in
-      (omega (arith, before.0, falls), mentioned_below (slice_index events i) (slice_index events (suc i)) next)
-
-  -- no weights fit a plan with a cycle
-  pub cycle-no_fit : (events : List ℕ) → IsCycle plan events → HasNoFit plan
-  cycle-no_fit events c v fit =
-      let some = c.some in
-      let first = mentioned_below (slice_index events (length events - 1)) (slice_index events 0) c.back in
-      let last = cycle_falls v fit events c first (length events - 1) (omega arith) in
-      let falls = lead_falls v fit (slice_index events (length events - 1)) (slice_index events 0) last.1 c.back in
-      omega (arith, last.0, falls)

@@ -69,12 +69,12 @@ abbrev pub cost_of_event : PlanView → ℕ → Cost
 cost_of_event plan e = Both (Lines 1) (each_of (cost_of_binding plan) (bound_to plan (record { 0 = e })))
 
 -- what a switch posts when it becomes active, or inactive
-abbrev pub posts_of : Bool → Switch → List EventId
-posts_of active s = if active then s.active else s.inactive
+abbrev pub switch_posts : Bool → Switch → List EventId
+switch_posts active s = if active then s.active else s.inactive
 
 -- to accept a switch as active or inactive costs its line and its posts
 abbrev pub cost_of_acceptance : Bool → Switch → Cost
-cost_of_acceptance active s = Both (Lines 1) (each_of cost_of_post (posts_of active s))
+cost_of_acceptance active s = Both (Lines 1) (each_of cost_of_post (switch_posts active s))
 
 -- the dearer of the two
 abbrev pub cost_of_switch : Switch → Cost

@@ -1,4 +1,4 @@
--- The cycle that is told.
+-- Which cycle is told of a plan that has more than one: the one in which a fixed walk ends.
 use Rattle.std.specs.Prelude.{◌≡◌, ◌≢◌, ℕ, zero, suc, ◌+◌, ◌-◌, ◌<◌, Bool, true, false, ◌&&◌, ◌==◌, if◌then◌else◌, List, [], ◌∷◌, ◌++◌, length, drop, slice_index, Option, position}
 use Rattle.std.specs.List.{list_any, position_or_len, range_with_len}
 use Rattle.mpf_plan.specs.PlanView.{PlanView}
@@ -6,22 +6,22 @@ use Rattle.cascade_rank.specs.LeadsTo.{leads, is_open}
 
 -- ---- what it is
 
--- the least number of which p holds
+-- p holds of e, and of no number below it
 pub record IsFirst (p : ℕ → Bool) (e : ℕ) : Type 0 where
   pub holds : p e ≡ true
   pub least : (d : ℕ) → d < e → p d ≡ false
 
--- f is the lowest-numbered event that is not grounded and to which e leads
+-- a step of the walk: of the open events to which e leads, f has the lowest number
 abbrev pub GoesOn : PlanView → ℕ → ℕ → Type 0
 GoesOn plan e f = IsFirst (λ g. leads plan e g && is_open plan g) f
 
--- from the lowest-numbered event that is not grounded, each time going on; no event comes twice
+-- a walk begins at the open event with the lowest number, and has not come back to an event that it passed
 pub record IsWalk (plan : PlanView) (path : List ℕ) : Type 0 where
   pub first : 0 < length path → IsFirst (is_open plan) (slice_index path 0)
   pub next : (i : ℕ) → i + 1 < length path → GoesOn plan (slice_index path i) (slice_index path (i + 1))
   pub apart : (i j : ℕ) → i < j → j < length path → slice_index path i ≢ slice_index path j
 
--- the part of such a walk from the event to which it goes on at its end
+-- Here the next step comes back to an event: the cycle is the walk from there on.
 pub record IsToldCycle (plan : PlanView) (cycle : List ℕ) : Type 0 where
   pub path : List ℕ
   pub walk : IsWalk plan path
@@ -32,27 +32,28 @@ pub record IsToldCycle (plan : PlanView) (cycle : List ℕ) : Type 0 where
 
 -- ---- how it is computed
 
--- the lowest-numbered event of which p holds, if there is one
+-- the first event of which p holds, or none
 abbrev pub first_event : PlanView → (ℕ → Bool) → Option ℕ
 first_event plan p = position p (range_with_len 0 (length plan.events))
 
 abbrev pub first_open : PlanView → Option ℕ
 first_open plan = first_event plan (is_open plan)
 
--- the event to which e goes on
+-- the event to which a step from e goes, or the number of events where there is none
 abbrev pub next_open : PlanView → ℕ → ℕ
 next_open plan e = position_or_len (λ f. leads plan e f && is_open plan f) (range_with_len 0 (length plan.events))
 
--- the list from the first coming of e on
+-- the list without what stands before the first e, and empty where there is no e
 abbrev pub from_first : ℕ → List ℕ → List ℕ
 from_first e [] = []
 from_first e (d ∷ ds) = if d == e then d ∷ ds else from_first e ds
 
--- The walk has this path behind it and comes to e, in no more than so many steps more.
+-- The walk has passed this path and comes to e, and ends where it passed e before. From an open event on that is so after no
+-- more steps than the plan has events: the number, which is there for the definition to end, is never used up.
 abbrev pub cycle_from : PlanView → ℕ → List ℕ → ℕ → List ℕ
 cycle_from plan zero path e = []
 cycle_from plan (suc k) path e = if list_any (λ d. d == e) path then from_first e path else cycle_from plan k (path ++ e ∷ []) (next_open plan e)
 
--- the cycle to which the walk from e comes
+-- the cycle in which the walk from e ends
 abbrev pub cycle_of : PlanView → ℕ → List ℕ
 cycle_of plan e = cycle_from plan (length plan.events + 1) [] e

@@ -9,16 +9,16 @@ use Rattle.cascade_rank.specs.Weights.{IsFitting}
 abbrev pub leads : PlanView → ℕ → ℕ → Bool
 leads plan e f = mentions f (cost_of_event plan e)
 
--- In round 0 no event is grounded, in each later one those that lead only to events grounded in the round before.
+-- whether each row of events that begins with e, and in which each leads to the next, has at most k events
 abbrev pub grounded_in : PlanView → ℕ → ℕ → Bool
 grounded_in plan zero e = false
 grounded_in plan (suc k) e = all_mentioned (grounded_in plan k) (cost_of_event plan e)
 
--- after as many rounds as there are events
+-- whether each such row comes to an end: one of more events than the plan has comes twice to one of them, and could go on so
 abbrev pub grounded : PlanView → ℕ → Bool
 grounded plan e = grounded_in plan (length plan.events) e
 
--- an event from which one can go on without end
+-- whether one can go on from e without end
 abbrev pub is_open : PlanView → ℕ → Bool
 is_open plan e = not (grounded plan e)
 

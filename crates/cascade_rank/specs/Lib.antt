@@ -6,6 +6,7 @@ pub mod Cycle
 pub mod Finding
 pub mod View
 pub mod Found
+pub mod CycleOrWeights
 pub mod Verified
 pub mod Order
 pub mod Lowest

@@ -51,18 +51,18 @@ pub record IsOrdering (plan : PlanView) (taken : ℕ) (done : List EventId) (lef
   pub listed : (e : ℕ) → e < length plan.events → is_in order e ≡ (slice_index left e == 0)
   pub room : count_by (λ n. nat_lt 0 n) left + length order ≡ length plan.events
 
--- the next event of the order is the one to which `led` leads, each as often as it does
-pub record IsMeeting (plan : PlanView) (taken : ℕ) (led done : List EventId) (left : List ℕ) (order : List EventId) : Type 0 where
+-- `leaders` are those that lead to the next event of the order, each as often as it does
+pub record IsMeeting (plan : PlanView) (taken : ℕ) (leaders done : List EventId) (left : List ℕ) (order : List EventId) : Type 0 where
   pub turn : taken < length order
-  pub led_is : (e : ℕ) → times led e ≡ (if nat_lt e (length plan.events) then occurrences (event_at order taken) (cost_of_event plan e) else 0)
+  pub leaders_are : (e : ℕ) → times leaders e ≡ (if nat_lt e (length plan.events) then occurrences (event_at order taken) (cost_of_event plan e) else 0)
   pub ordering : IsOrdering plan taken done left order
 
 abbrev pub CanMeet : List EventId → List ℕ → List EventId → Type 0
-CanMeet led left order = (plan : PlanView) × (taken : ℕ) × IsMeeting plan taken led [] left order
+CanMeet leaders left order = (plan : PlanView) × (taken : ℕ) × IsMeeting plan taken leaders [] left order
 
 -- `done` are gone through from these counts and this order to those
 abbrev pub Meets : List EventId → List EventId → List ℕ → List EventId → List ℕ → List EventId → Type 0
-Meets led done left order left_then order_then = (plan : PlanView) (taken : ℕ) → IsMeeting plan taken led [] left order → IsMeeting plan taken led done left_then order_then
+Meets leaders done left order left_then order_then = (plan : PlanView) (taken : ℕ) → IsMeeting plan taken leaders [] left order → IsMeeting plan taken leaders done left_then order_then
 
 -- all events of the plan, each behind those to which it leads
 pub record IsWholeOrder (plan : PlanView) (order : List EventId) : Type 0 where

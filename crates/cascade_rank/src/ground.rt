@@ -51,11 +51,11 @@ fn first_grounded(alloc: Global, plan: &Plan, left: &[u128]) -> Result<Vec<Event
 }
 
 /// One post less is left of each of these events, and where none is left the event goes last.
-fn meet(led: &[EventId], left: &mut [u128], order: &mut Vec<EventId>) -> Result<(), AllocError>
-    requires { CanMeet led.now left.old order.old.items }
-    ensures { IfOk result (λ _. Meets led.now led.now left.old order.old.items left.new order.new.items) }
+fn meet(leaders: &[EventId], left: &mut [u128], order: &mut Vec<EventId>) -> Result<(), AllocError>
+    requires { CanMeet leaders.now left.old order.old.items }
+    ensures { IfOk result (λ _. Meets leaders.now leaders.now left.old order.old.items left.new order.new.items) }
 {
-    for event in led {
+    for event in leaders {
         let place = event.0 as usize;
         left[place] -= 1;
         if left[place] == 0 {

@@ -4,6 +4,7 @@
 
 pub mod fault;
 mod ground;
+pub mod law;
 mod leaders;
 pub mod least;
 mod price;

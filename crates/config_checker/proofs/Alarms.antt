@@ -14,7 +14,7 @@ use Rattle.mpf_plan.specs.declared.entries.SwitchKind.{SwitchKind}
 use Rattle.switch_core.specs.SwitchStep.{SwitchState, same_level, is_active, accepted, awaited, changed, is_taken, fired}
 use Rattle.config_checker.specs.declared.line.Line.{Line}
 use Rattle.config_checker.specs.declared.line.Happening.TheVariants as tells
-use Rattle.cascade_rank.specs.Cost.{posts_of}
+use Rattle.cascade_rank.specs.Cost.{switch_posts}
 use Rattle.config_checker.specs.Machine.{Machine, write, post, set_switch, all_do, do_action, do_target, do_binding, initial, planned, kind_at, idle_switch, switch_at, level_of, tell_switch, set_changed}
 use Rattle.config_checker.specs.EventStep.{EventStep, EventSteps, taken}
 use Rattle.config_checker.specs.PlanOrder.{plan_steps}
@@ -66,7 +66,7 @@ module _ (plan : PlanView) where
 
   -- that an acceptance is told alters no switch
   switches-tell : (n : ℕ) (active : Bool) (s : Machine) → (tell_switch plan n active s).switches ≡ s.switches
-  switches-tell n active s = switches-all_do (post owners.Machine) (λ e t. refl) (posts_of active (planned plan n)) (write owners.Machine (tells.Switch (record { 0 = n }) active) s)
+  switches-tell n active s = switches-all_do (post owners.Machine) (λ e t. refl) (switch_posts active (planned plan n)) (write owners.Machine (tells.Switch (record { 0 = n }) active) s)
 
   -- an alarm and a change alter their own switch alone
   pub switches-alarm : (at n : ℕ) (s : Machine) → (begin plan (Alarm at n) s).switches ≡ slice_set s.switches n (fired (kind_at plan n) (switch_at s n))

@@ -11,7 +11,7 @@ use Rattle.mpf_plan.specs.declared.entries.Target.TheVariants.{Run}
 use Rattle.mpf_plan.specs.declared.entries.Binding.{Binding}
 use Rattle.switch_core.specs.SwitchStep.{changed, is_taken, fired}
 use Rattle.config_checker.specs.declared.line.Happening.TheVariants as tells
-use Rattle.cascade_rank.specs.Cost.{Cost, Lines, each_of, cost_of_post, cost_of_action, cost_of_list, cost_of_target, cost_of_binding, posts_of, cost_of_acceptance}
+use Rattle.cascade_rank.specs.Cost.{Cost, Lines, each_of, cost_of_post, cost_of_action, cost_of_list, cost_of_target, cost_of_binding, switch_posts, cost_of_acceptance}
 use Rattle.event_queue.specs.declared.queue.Posted.{Posted}
 use Rattle.config_checker.specs.Machine.{Machine, write, post, do_action, do_list, do_target, do_binding, planned, kind_at, switch_at, level_of, tell_switch, set_changed, change_switch, fire_switch}
 use Rattle.config_checker.specs.EventStep.{after_event, taken}
@@ -47,7 +47,7 @@ module _ (plan : PlanView) where
   does-tell active n s =
       let told = write owners.Machine (tells.Switch (record { 0 = n }) active) s in
       both (wrote owners.Machine (tells.Switch (record { 0 = n }) active) s)
-      (all_do-does (post owners.Machine) cost_of_post (posted owners.Machine) (posts_of active (planned plan n)) told)
+      (all_do-does (post owners.Machine) cost_of_post (posted owners.Machine) (switch_posts active (planned plan n)) told)
 
   pub does-fire : (n : ℕ) (s : Machine) → Does (cost_of_acceptance (level_of plan n (switch_at s n).raw) (planned plan n)) s (fire_switch plan n s)
   does-fire n s = switched n (fired (kind_at plan n) (switch_at s n)) s (does-tell (level_of plan n (switch_at s n).raw) n _)

@@ -16,7 +16,7 @@ use Rattle.config_checker.specs.declared.line.Line.{Line}
 use Rattle.config_checker.specs.declared.line.Happening.{Happening}
 use Rattle.config_checker.specs.declared.line.Happening.TheVariants as tells
 use Rattle.event_queue.specs.declared.queue.Posted.{Posted}
-use Rattle.cascade_rank.specs.Cost.{posts_of}
+use Rattle.cascade_rank.specs.Cost.{switch_posts}
 
 pub record Machine : Type 0 where
   -- the moment of the latest stimulus, in milliseconds
@@ -85,7 +85,7 @@ level_of plan n raw = is_active (kind_at plan n).contact raw
 -- A switch was accepted as active or inactive: the line comes, and then the posts.
 abbrev pub tell_switch : PlanView → ℕ → Bool → Machine → Machine
 tell_switch plan n active s =
-    all_do (post owners.Machine) (posts_of active (planned plan n)) (write owners.Machine (tells.Switch (record { 0 = n }) active) s)
+    all_do (post owners.Machine) (switch_posts active (planned plan n)) (write owners.Machine (tells.Switch (record { 0 = n }) active) s)
 
 -- the switch as a change to the raw level leaves it
 abbrev pub set_changed : PlanView → ℕ → ℕ → Bool → Machine → Machine

@@ -6,7 +6,7 @@ use Rattle.mpf_plan.specs.declared.entries.Owner.{Owner}
 use Rattle.mpf_plan.specs.declared.entries.Owner.TheVariants as owners
 use Rattle.mpf_plan.specs.PlanView.{PlanView}
 use Rattle.config_checker.specs.declared.line.Happening.TheVariants as tells
-use Rattle.cascade_rank.specs.Cost.{Cost, cost_of_post, posts_of}
+use Rattle.cascade_rank.specs.Cost.{Cost, cost_of_post, switch_posts}
 use Rattle.config_checker.specs.Machine.{Machine, write, post, all_do, planned, tell_switch}
 use Rattle.config_checker.proofs.Does.{Does, posted, grows-does, all_do-does}
 use Rattle.event_queue.specs.declared.queue.Posted.{Posted}
@@ -72,6 +72,6 @@ post-room owner now all e es left is whole h =
 pub tell-room : (plan : PlanView) (n : ℕ) (active : Bool) (room : ℕ) (s : Machine) → HasRoom room (tell_switch plan n active s) → length s.lines < room
 tell-room plan n active room s h =
     let told = write owners.Machine (tells.Switch (record { 0 = n }) active) s in
-    let grown = grows-does (all_do-does (post owners.Machine) cost_of_post (posted owners.Machine) (posts_of active (planned plan n)) told) in
+    let grown = grows-does (all_do-does (post owners.Machine) cost_of_post (posted owners.Machine) (switch_posts active (planned plan n)) told) in
     let line = length-append s.lines (record { moment = s.moment; owner = owners.Machine; happening = tells.Switch (record { 0 = n }) active } ∷ []) in
     omega (arith, grown.lines, line, h.lines)

@@ -8,40 +8,40 @@ use Rattle.cascade_rank.proofs.ground.meet.Goals.{then-left-place-eq0+in_ok-push
 pub bounds-left-place : goal.bounds-left-place
 bounds-left-place c =
     let (plan, taken, start) = c.requires in
-    meets_inside plan taken c.args.led.now c.loop-event.left c.loop-event.order.items c.loop-event.event-index (get_or c.args.led.now c.loop-event.event-index no_event) c.loop-event-test.true refl (c.loop-event.invariant plan taken start)
+    meets_inside plan taken c.args.leaders.now c.loop-event.left c.loop-event.order.items c.loop-event.event-index (get_or c.args.leaders.now c.loop-event.event-index no_event) c.loop-event-test.true refl (c.loop-event.invariant plan taken start)
 
 pub overflow_sub-left : goal.overflow_sub-left
 overflow_sub-left c =
     let (plan, taken, start) = c.requires in
-    meets_some plan taken c.args.led.now c.loop-event.left c.loop-event.order.items c.loop-event.event-index (get_or c.args.led.now c.loop-event.event-index no_event) c.loop-event-test.true refl (c.loop-event.invariant plan taken start)
+    meets_some plan taken c.args.leaders.now c.loop-event.left c.loop-event.order.items c.loop-event.event-index (get_or c.args.leaders.now c.loop-event.event-index no_event) c.loop-event-test.true refl (c.loop-event.invariant plan taken start)
 
 pub bounds-left-place-in-loop-event : goal.bounds-left-place-in-loop-event
 bounds-left-place-in-loop-event c =
     let (plan, taken, start) = c.requires in
-    meets_inside plan taken c.args.led.now c.loop-event.left c.loop-event.order.items c.loop-event.event-index (get_or c.args.led.now c.loop-event.event-index no_event) c.loop-event-test.true refl (c.loop-event.invariant plan taken start)
+    meets_inside plan taken c.args.leaders.now c.loop-event.left c.loop-event.order.items c.loop-event.event-index (get_or c.args.leaders.now c.loop-event.event-index no_event) c.loop-event-test.true refl (c.loop-event.invariant plan taken start)
 
 pub bounds-left-place-in-loop-event-2 : goal.bounds-left-place-in-loop-event-2
 bounds-left-place-in-loop-event-2 c =
     let (plan, taken, start) = c.requires in
-    let place = (get_or c.args.led.now c.loop-event.event-index no_event).0 in
-    let inside = meets_inside plan taken c.args.led.now c.loop-event.left c.loop-event.order.items c.loop-event.event-index (get_or c.args.led.now c.loop-event.event-index no_event) c.loop-event-test.true refl (c.loop-event.invariant plan taken start) in
+    let place = (get_or c.args.leaders.now c.loop-event.event-index no_event).0 in
+    let inside = meets_inside plan taken c.args.leaders.now c.loop-event.left c.loop-event.order.items c.loop-event.event-index (get_or c.args.leaders.now c.loop-event.event-index no_event) c.loop-event-test.true refl (c.loop-event.invariant plan taken start) in
     omega (arith, inside, length-set c.loop-event.left place (slice_index c.loop-event.left place - 1))
 
 pub loop-event-preserved : goal.loop-event-preserved
 loop-event-preserved c = λ plan taken start.
-    let event = get_or c.args.led.now c.loop-event.event-index no_event in
+    let event = get_or c.args.leaders.now c.loop-event.event-index no_event in
     let here = c.loop-event.invariant plan taken start in
-    let inside = meets_inside plan taken c.args.led.now c.loop-event.left c.loop-event.order.items c.loop-event.event-index event c.loop-event-test.true refl here in
+    let inside = meets_inside plan taken c.args.leaders.now c.loop-event.left c.loop-event.order.items c.loop-event.event-index event c.loop-event-test.true refl here in
     let less = get_or-set_same c.loop-event.left event.0 (slice_index c.loop-event.left event.0 - 1) 0 inside in
     elim c.if-left-place-eq0.branch [
       | then-left-place-eq0+in_ok-push w ↦
           rw (w.order-is, w.in_ok-push.ensures.items)
-          (meets_lists plan taken c.args.led.now c.loop-event.left c.loop-event.order.items c.loop-event.event-index event c.loop-event-test.true refl here (sym less ∙ w.if-left-place-eq0.true))
+          (meets_lists plan taken c.args.leaders.now c.loop-event.left c.loop-event.order.items c.loop-event.event-index event c.loop-event-test.true refl here (sym less ∙ w.if-left-place-eq0.true))
       | else-left-place-eq0 w ↦
           rw w.order-is
-          (meets_keeps plan taken c.args.led.now c.loop-event.left c.loop-event.order.items c.loop-event.event-index event c.loop-event-test.true refl here (λ none. w.if-left-place-eq0.false (less ∙ none)))
+          (meets_keeps plan taken c.args.leaders.now c.loop-event.left c.loop-event.order.items c.loop-event.event-index event c.loop-event-test.true refl here (λ none. w.if-left-place-eq0.false (less ∙ none)))
     ]
 
 pub returns : goal.returns
 returns c = λ plan taken start.
-    subst (λ (done : List EventId). IsMeeting plan taken c.args.led.now done c.loop-event.left c.loop-event.order.items) (take_all c.loop-event.event-index c.args.led.now c.loop-event-test.false) (c.loop-event.invariant plan taken start)
+    subst (λ (done : List EventId). IsMeeting plan taken c.args.leaders.now done c.loop-event.left c.loop-event.order.items) (take_all c.loop-event.event-index c.args.leaders.now c.loop-event-test.false) (c.loop-event.invariant plan taken start)

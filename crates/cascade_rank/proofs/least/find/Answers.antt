@@ -3,7 +3,7 @@ use Rattle.cascade_rank.specs.Weights.{IsLeastFitting, IsWithinLimit}
 use Rattle.cascade_rank.specs.Finding.{cycle, found_past}
 use Rattle.cascade_rank.specs.Lowest.{IsLeft}
 use Rattle.cascade_rank.specs.Order.{IsWholeOrder}
-use Rattle.cascade_rank.proofs.Ranking.{cycle-no_fit}
+use Rattle.cascade_rank.proofs.Cycles.{cycle-no_fit}
 use Rattle.cascade_rank.proofs.Finds.{left_is_open, found_past_is, first_is_open, all_grounded, whole_order, found_within, least_within, found_above, too_dear}
 use Rattle.cascade_rank.proofs.least.find.Goals as goal
 
@@ -36,7 +36,7 @@ returns-in-Some-clause-exact c =
 pub returns-in-Some-clause-refused : goal.returns-in-Some-clause-refused
 returns-in-Some-clause-refused c =
     let walked = c.in_ok-walk.ensures in
-    (walked.is_one, walked.told, cycle-no_fit c.args.plan.now c.in_ok-grounding.ensures.valid _ walked.is_one)
+    (walked.is_one, walked.told, cycle-no_fit c.args.plan.now _ walked.is_one)
 
 pub weigh-requires : goal.weigh-requires
 weigh-requires c =
