@@ -8,3 +8,4 @@ pub mod Alarms
 pub mod Playing
 pub mod LogRuns
 pub mod Taking
+pub mod VerifiedAgain

@@ -1,6 +1,7 @@
 pub mod Status
 pub mod Judged
 pub mod CheckOutput
+pub mod CheckVerified
 pub mod CommandLine
 pub mod LogText
 pub mod LogView

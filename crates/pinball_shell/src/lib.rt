@@ -5,6 +5,7 @@ pub mod check;
 pub mod command_line;
 pub mod fault;
 mod judgement;
+pub mod law;
 mod log_line;
 pub mod play;
 mod refusal;
