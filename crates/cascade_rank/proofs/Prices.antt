@@ -60,5 +60,3 @@ pub price-dearest : {X : Type 0} (w : ℕ → ℕ) (f : X → Cost) (xs : List X
 price-dearest w f [] i d h = omega arith
 price-dearest w f (x ∷ xs) zero d h = omega arith
 price-dearest w f (x ∷ xs) (suc i) d h = omega (arith, price-dearest w f xs i d (omega arith))
-
-pub ruleset one_more = (price-each_more, price-dearest_more)
