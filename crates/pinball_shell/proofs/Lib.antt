@@ -9,3 +9,4 @@ pub mod Playing
 pub mod LogRuns
 pub mod Taking
 pub mod VerifiedAgain
+pub mod SamePlay

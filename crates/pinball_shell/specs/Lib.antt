@@ -7,5 +7,6 @@ pub mod LogText
 pub mod LogView
 pub mod RunOfLog
 pub mod RunGiven
+pub mod SamePlay
 pub mod TraceText
 pub mod Played

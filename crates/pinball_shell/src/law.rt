@@ -1,6 +1,7 @@
-//! What holds of every certificate that is printed.
+//! What holds of all that is printed and played.
 
 ghost use Rattle.pinball_shell.specs.CheckVerified.{IsJudgedAgain, IsPrintedAgain};
+ghost use Rattle.pinball_shell.specs.SamePlay.{PlaysTheSame};
 
 /// The law of printed certificates, for all bundles. Where `check_text` says yes to a bundle, it
 /// prints the notes, `yes` and a certificate; with that certificate `verify_text` says yes to the
@@ -10,4 +11,13 @@ ghost use Rattle.pinball_shell.specs.CheckVerified.{IsJudgedAgain, IsPrintedAgai
 pub fn printed_certificate_is_verified()
     ensures judged { IsJudgedAgain }
     ensures printed { IsPrintedAgain }
+{}
+
+/// The law of certificates in play. Whatever weights and bound a plan was accepted with, those that
+/// were found or those of a certificate, `play_text` writes the same of every log, and gives the
+/// same verdict: both tell the whole of `told_in`.
+///
+/// It does nothing: its contract is the law, over what is told of a log.
+pub fn any_certificate_plays_the_same()
+    ensures { PlaysTheSame }
 {}
