@@ -10,3 +10,4 @@ pub mod LogRuns
 pub mod Taking
 pub mod VerifiedAgain
 pub mod SamePlay
+pub mod OneRun

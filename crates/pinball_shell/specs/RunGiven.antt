@@ -1,5 +1,5 @@
 -- Which run a log gives, whatever plays it.
-use Rattle.std.specs.Prelude.{◌≡◌, ◌≢◌, ℕ, Option, None, Result, Ok, Err, List, [], ◌∷◌, ◌++◌, option_to_list}
+use Rattle.std.specs.Prelude.{◌≡◌, ◌≢◌, ℕ, Option, None, Result, Ok, Err, List, [], ◌∷◌, ◌++◌, map, option_to_list}
 use Rattle.std.specs.Option.{option_map_or}
 use Rattle.std.specs.Str.Lines.{lines}
 use Rattle.mpf_plan.specs.PlanView.{PlanView}
@@ -34,8 +34,7 @@ without_alarms ((Alarm at switch, n) ∷ more) = without_alarms more
 without_alarms ((Wait at, n) ∷ more) = Wait at ∷ without_alarms more
 
 -- The lines are the trace of a run of the plan that the log gives: its changes and waits are those of the log, in order; before
--- each have come the alarms due by its moment, as in every run; no alarm is the last; and at the end no event waits. This leaves
--- open only the order of handlers of equal priority.
+-- each have come the alarms due by its moment, as in every run; no alarm is the last; and at the end no event waits.
 pub record IsRunOfLog (plan : PlanView) (log : List ℕ) (trace : List Line) : Type 0 where
   pub stimuli : List (Stimulus × ℕ)
   pub end : Machine
@@ -43,3 +42,9 @@ pub record IsRunOfLog (plan : PlanView) (log : List ℕ) (trace : List Line) : T
   pub idle : end.waiting ≡ []
   pub given : without_alarms stimuli ≡ given_in plan log
   pub last : (before : List (Stimulus × ℕ)) (at switch n : ℕ) → stimuli ≢ before ++ (Alarm at switch, n) ∷ []
+
+-- A log gives one list of stimuli: two of its runs differ at most in the order of handlers of equal priority.
+abbrev pub GivesOneRun : Type 0
+GivesOneRun =
+    (plan : PlanView) (log : List ℕ) (trace other : List Line) (a : IsRunOfLog plan log trace) (b : IsRunOfLog plan log other)
+    → map (λ s. s.0) a.stimuli ≡ map (λ s. s.0) b.stimuli

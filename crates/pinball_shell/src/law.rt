@@ -1,6 +1,7 @@
 //! What holds of all that is printed and played.
 
 ghost use Rattle.pinball_shell.specs.CheckVerified.{IsJudgedAgain, IsPrintedAgain};
+ghost use Rattle.pinball_shell.specs.RunGiven.{GivesOneRun};
 ghost use Rattle.pinball_shell.specs.SamePlay.{PlaysTheSame};
 
 /// The law of printed certificates, for all bundles. Where `check_text` says yes to a bundle, it
@@ -20,4 +21,14 @@ pub fn printed_certificate_is_verified()
 /// It does nothing: its contract is the law, over what is told of a log.
 pub fn any_certificate_plays_the_same()
     ensures { PlaysTheSame }
+{}
+
+/// The law of logs. A log gives a plan one list of stimuli: its changes and waits in their order,
+/// and before each the alarms that are due by its moment. What `play_text` promises of the trace
+/// leaves open no more than the order of handlers of equal priority, and what it writes not even
+/// that.
+///
+/// It does nothing: its contract is the law, over the runs that a log gives.
+pub fn log_gives_one_run()
+    ensures { GivesOneRun }
 {}
