@@ -3,7 +3,7 @@ use Rattle.std.specs.Prelude.{ℕ, suc, ◌+◌, ◌-◌, ◌*◌, ◌/◌, ◌%
 use Rattle.std.specs.List.{prefix_len, list_all}
 use Rattle.std.specs.Char.{is_ascii_digit}
 use Rattle.std.specs.Str.{bytes_eq}
-use Rattle.yaml_subset.specs.Bytes.{is_blank}
+use Rattle.yaml_bytes.specs.Bytes.{is_blank}
 use Rattle.yaml_subset.specs.Node.{Node}
 use Rattle.yaml_subset.specs.View.{line_of, text_in, items_in}
 use Rattle.mpf_values.specs.declared.decimals.Decimal.{Decimal}

@@ -3,7 +3,7 @@
 ghost use Rattle.std.specs.Prelude.{◌≡◌, ◌≤◌, length};
 ghost use Rattle.std.specs.List.{prefix_len, list_all};
 ghost use Rattle.std.specs.Char.{is_ascii_digit};
-ghost use Rattle.yaml_subset.specs.Bytes.{is_blank};
+ghost use Rattle.yaml_bytes.specs.Bytes.{is_blank};
 ghost use Rattle.mpf_values.specs.Bytes.{is_name_byte, is_operator_byte, is_word_byte, is_separator};
 ghost use Rattle.mpf_values.specs.Reading.{front, behind};
 

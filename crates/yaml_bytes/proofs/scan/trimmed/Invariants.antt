@@ -1,6 +1,6 @@
 use Rattle.std.proofs.Common.{◌≡◌, length}
-use Rattle.yaml_subset.specs.Scanning.{trimmed}
-use Rattle.yaml_subset.proofs.scan.trimmed.Given as goal
+use Rattle.yaml_bytes.specs.Scanning.{trimmed}
+use Rattle.yaml_bytes.proofs.scan.trimmed.Given as goal
 
 abbrev pub invariant-loop-rest : goal.invariant-loop-rest
 invariant-loop-rest l = trimmed l.rest ≡ trimmed l.text

@@ -1,10 +1,10 @@
 -- The spaces at the front of a text.
 use Rattle.std.proofs.Common.{◌≡◌, ℕ, zero, suc, ◌==◌, false, List, [], ◌∷◌, ◌++◌, drop, replicate, refl, ap, ◌∙◌, inl, inr}
 use Rattle.std.proofs.lemmas.Bool.{cases_Bool, eqb-true, or_parts}
-use Rattle.yaml_subset.specs.Bytes.{begins_blank}
-use Rattle.yaml_subset.specs.Plain.{AreBlank}
-use Rattle.yaml_subset.specs.Scanning.{skipped, spaces_len}
-use Rattle.yaml_subset.proofs.PlainTexts.{behind_blanks-is}
+use Rattle.yaml_bytes.specs.Bytes.{begins_blank}
+use Rattle.yaml_bytes.specs.Plain.{AreBlank}
+use Rattle.yaml_bytes.specs.Scanning.{behind_blanks, spaces_len}
+use Rattle.yaml_bytes.proofs.PlainTexts.{behind_blanks-is}
 
 pub spaces_parts : (raw : List ℕ) → raw ≡ replicate (spaces_len raw) 32 ++ drop (spaces_len raw) raw
 spaces_parts [] = refl
@@ -31,5 +31,5 @@ drop_spaces zero text = refl
 drop_spaces (suc n) text = drop_spaces n text
 
 -- behind the spaces is behind the blanks, where no tab follows them
-pub skipped_spaces : (raw text : List ℕ) (n : ℕ) → raw ≡ replicate n 32 ++ text → begins_blank text ≡ false → skipped raw ≡ text
-skipped_spaces raw text n parts h = behind_blanks-is raw text (record { blanks = replicate n 32; are_blank = spaces_are_blank n; parts = parts; no_more = h })
+pub blanks_are_spaces : (raw text : List ℕ) (n : ℕ) → raw ≡ replicate n 32 ++ text → begins_blank text ≡ false → behind_blanks raw ≡ text
+blanks_are_spaces raw text n parts h = behind_blanks-is raw text (record { blanks = replicate n 32; are_blank = spaces_are_blank n; parts = parts; no_more = h })

@@ -1,25 +1,26 @@
 //! Passes over the bytes of a line.
 
 ghost use Rattle.std.specs.Prelude.{◌≡◌, ◌≤◌, length};
-ghost use Rattle.yaml_subset.specs.Bytes.{characters};
-ghost use Rattle.yaml_subset.specs.Plain.{ends_word};
-ghost use Rattle.yaml_subset.specs.Scanning.{skipped, trimmed, word_len, word_front, word_rest, spaces_len, behind_spaces, behind_dash, before_colon};
-ghost use Rattle.yaml_subset.specs.Inside.{text_option_view};
+ghost use Rattle.std.specs.List.{prefix_len};
+ghost use Rattle.yaml_bytes.specs.Bytes.{is_blank, characters};
+ghost use Rattle.yaml_bytes.specs.Plain.{ends_word};
+ghost use Rattle.yaml_bytes.specs.Scanning.{behind_blanks, trimmed, word_len, word_front, word_rest, spaces_len, behind_spaces, behind_dash, before_colon, text_option_view};
 
 use crate::bytes::{begins_break, begins_character, begins_gap, is_blank, is_flow_indicator};
 
-/// A text without the blanks at its front.
-pub fn skipped(text: &[u8]) -> &[u8]
-    ensures { result.now ≡ skipped text.now }
+// How many blanks come first.
+fn blanks_len(text: &[u8]) -> usize
+    ensures within { result ≤ length text.now }
+    ensures value { result ≡ prefix_len is_blank text.now }
 {
-    let mut rest = text;
-    while let [b, after @ ..] = rest {
-        if !is_blank(*b) {
-            break;
-        }
-        rest = after;
-    }
-    rest
+    text.iter().take_while(|b| is_blank(**b)).count()
+}
+
+/// A text without the blanks at its front.
+pub fn behind_blanks(text: &[u8]) -> &[u8]
+    ensures { result.now ≡ behind_blanks text.now }
+{
+    text.split_at(blanks_len(text)).1
 }
 
 /// A text without the blanks at its end.

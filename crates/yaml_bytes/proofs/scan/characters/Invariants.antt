@@ -1,6 +1,6 @@
 use Rattle.std.proofs.Common.{◌≡◌, ◌≤◌, ◌+◌, length}
-use Rattle.yaml_subset.specs.Bytes.{characters}
-use Rattle.yaml_subset.proofs.scan.characters.Given as goal
+use Rattle.yaml_bytes.specs.Bytes.{characters}
+use Rattle.yaml_bytes.proofs.scan.characters.Given as goal
 
 abbrev pub invariant-loop-rest : goal.invariant-loop-rest
 invariant-loop-rest l = record {

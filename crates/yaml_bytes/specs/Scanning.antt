@@ -1,7 +1,9 @@
 -- Reading a line from its first byte to its last.
 use Rattle.std.specs.Prelude.{ℕ, suc, ◌+◌, ◌-◌, Bool, List, [], ◌∷◌, length, take, drop, Option, Some, None, ◌&&◌, if◌then◌else◌, ◌==◌}
-use Rattle.yaml_subset.specs.Bytes.{is_blank, begins_gap}
-use Rattle.yaml_subset.specs.Plain.{ends_word}
+use Rattle.std.specs.List.{prefix_len}
+use Rattle.std.specs.Borrow.{Bor}
+use Rattle.yaml_bytes.specs.Bytes.{is_blank, begins_gap}
+use Rattle.yaml_bytes.specs.Plain.{ends_word}
 
 -- how many bytes a plain word has up to where it ends, the blanks at its end too; `before` is the byte in front
 abbrev pub word_len : Bool → ℕ → List ℕ → ℕ
@@ -19,9 +21,8 @@ trimmed [] = []
 trimmed (b ∷ bs) = onto_trimmed b (trimmed bs)
 
 -- without the blanks at the front
-abbrev pub skipped : List ℕ → List ℕ
-skipped [] = []
-skipped (b ∷ bs) = if is_blank b then skipped bs else b ∷ bs
+abbrev pub behind_blanks : List ℕ → List ℕ
+behind_blanks text = drop (prefix_len is_blank text) text
 
 -- a plain word with the blanks at its end, and what follows it
 abbrev pub word_front : Bool → List ℕ → List ℕ
@@ -43,6 +44,11 @@ behind_spaces text = drop (spaces_len text) text
 abbrev pub behind_dash : List ℕ → Option (List ℕ)
 behind_dash [] = None
 behind_dash (b ∷ after) = if (b == 45) && begins_gap after then Some after else None
+
+-- a part of a line, where there is one
+abbrev pub text_option_view : Option (Bor (List ℕ)) → Option (List ℕ)
+text_option_view None = None
+text_option_view (Some s) = Some s.now
 
 -- what stands before the colon of an entry, and after it this
 abbrev pub before_colon : List ℕ → List ℕ → List ℕ

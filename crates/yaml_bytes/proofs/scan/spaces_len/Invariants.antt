@@ -1,11 +1,11 @@
 use Rattle.std.proofs.Common.{◌≡◌, ◌+◌, length}
-use Rattle.yaml_subset.specs.Scanning.{word_len}
-use Rattle.yaml_subset.proofs.scan.word_len.Given as goal
+use Rattle.yaml_bytes.specs.Scanning.{spaces_len}
+use Rattle.yaml_bytes.proofs.scan.spaces_len.Given as goal
 
 abbrev pub invariant-loop-rest : goal.invariant-loop-rest
 invariant-loop-rest l = record {
   within : l.len + length l.rest ≡ length l.text;
-  so_far : l.len + word_len l.flow l.before l.rest ≡ word_len l.flow 32 l.text;
+  so_far : l.len + spaces_len l.rest ≡ spaces_len l.text;
 }
 
 abbrev pub decreases-loop-rest : goal.decreases-loop-rest

@@ -3,10 +3,11 @@ use Rattle.std.proofs.Common.{◌≡◌, ℕ, zero, suc, ◌<◌, ◌≤◌, Boo
 use Rattle.std.proofs.lemmas.Bool.{cases_Bool, cases_lt, both_ways}
 use Rattle.std.proofs.lemmas.List.{append-nil}
 use Rattle.std.proofs.Math.Seq.{take-append_seam, drop-append_seam}
-use Rattle.yaml_subset.specs.Bytes.{is_blank, begins_blank, begins_word}
-use Rattle.yaml_subset.specs.Plain.{AreBlank, IsBehindBlanks, ends_word, ends_word_at, IsWordEnd, EndsInNoBlank, IsPlainWord}
-use Rattle.yaml_subset.specs.Scanning.{word_len, onto_trimmed, trimmed, skipped, word_front, word_rest}
-use Rattle.yaml_subset.proofs.Trimming.{last_split, trimmed-blank, trimmed_all}
+use Rattle.std.specs.List.{prefix_len}
+use Rattle.yaml_bytes.specs.Bytes.{is_blank, begins_blank, begins_word}
+use Rattle.yaml_bytes.specs.Plain.{AreBlank, IsBehindBlanks, ends_word, ends_word_at, IsWordEnd, EndsInNoBlank, IsPlainWord}
+use Rattle.yaml_bytes.specs.Scanning.{word_len, onto_trimmed, trimmed, behind_blanks, word_front, word_rest}
+use Rattle.yaml_bytes.proofs.Trimming.{last_split, trimmed-blank, trimmed_all}
 
 -- ---- where a plain word ends
 
@@ -113,24 +114,31 @@ trimmed_is plain blanks are h = trimmed-blanks plain blanks are ∙ trimmed_same
 
 -- ---- blanks at the front
 
-pub behind_blanks : (text : List ℕ) → IsBehindBlanks text (skipped text)
-behind_blanks [] = record { blanks = []; are_blank = tt; parts = refl; no_more = refl }
-behind_blanks (b ∷ bs) =
+behind_blank : (b : ℕ) (bs : List ℕ) → is_blank b ≡ true → behind_blanks (b ∷ bs) ≡ behind_blanks bs
+behind_blank b bs t = let e : prefix_len is_blank (b ∷ bs) ≡ suc (prefix_len is_blank bs) = rw t (omega arith) in ap (λ n. drop n (b ∷ bs)) e
+
+behind_other : (b : ℕ) (bs : List ℕ) → is_blank b ≡ false → behind_blanks (b ∷ bs) ≡ b ∷ bs
+behind_other b bs f = rw f refl
+
+pub is_behind_blanks : (text : List ℕ) → IsBehindBlanks text (behind_blanks text)
+is_behind_blanks [] = record { blanks = []; are_blank = tt; parts = refl; no_more = refl }
+is_behind_blanks (b ∷ bs) =
     elim (cases_Bool (is_blank b)) [
-      | inl t ↦ let r = behind_blanks bs in rw t (record { blanks = b ∷ r.blanks; are_blank = (t, r.are_blank); parts = ap (λ (xs : List ℕ). b ∷ xs) r.parts; no_more = r.no_more })
-      | inr f ↦ rw f (record { blanks = []; are_blank = tt; parts = refl; no_more = f })
+      | inl t ↦ let r = is_behind_blanks bs in rw (behind_blank b bs t) (record { blanks = b ∷ r.blanks; are_blank = (t, r.are_blank); parts = ap (λ (xs : List ℕ). b ∷ xs) r.parts; no_more = r.no_more })
+      | inr f ↦ rw (behind_other b bs f) (record { blanks = []; are_blank = tt; parts = refl; no_more = f })
     ]
 
-skipped_none : (rest : List ℕ) → begins_blank rest ≡ false → skipped rest ≡ rest
-skipped_none [] h = refl
-skipped_none (b ∷ bs) h = rw h refl
+no_blanks : (rest : List ℕ) → begins_blank rest ≡ false → behind_blanks rest ≡ rest
+no_blanks [] h = refl
+no_blanks (b ∷ bs) h = behind_other b bs h
 
-skipped_all : (blanks rest : List ℕ) → AreBlank blanks → begins_blank rest ≡ false → skipped (blanks ++ rest) ≡ rest
-skipped_all [] rest are h = skipped_none rest h
-skipped_all (b ∷ bs) rest are h = rw are.0 (skipped_all bs rest are.1 h)
+-- blanks in front of a text are dropped
+pub in_front : (blanks text : List ℕ) → AreBlank blanks → behind_blanks (blanks ++ text) ≡ behind_blanks text
+in_front [] text are = refl
+in_front (b ∷ bs) text are = behind_blank b (bs ++ text) are.0 ∙ in_front bs text are.1
 
-pub behind_blanks-is : (text rest : List ℕ) → IsBehindBlanks text rest → skipped text ≡ rest
-behind_blanks-is text rest h = ap skipped h.parts ∙ skipped_all h.blanks rest h.are_blank h.no_more
+pub behind_blanks-is : (text rest : List ℕ) → IsBehindBlanks text rest → behind_blanks text ≡ rest
+behind_blanks-is text rest h = ap behind_blanks h.parts ∙ in_front h.blanks rest h.are_blank ∙ no_blanks rest h.no_more
 
 -- ---- both together
 
