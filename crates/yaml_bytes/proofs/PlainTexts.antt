@@ -78,7 +78,7 @@ trimmed_step x xs [] e blanks are parts =
     ]
 trimmed_step x xs (t ∷ ts) e blanks are parts = (blanks, are, ap (λ (ys : List ℕ). x ∷ ys) parts)
 
-trimmed_parts : (xs : List ℕ) → (blanks : List ℕ) × AreBlank blanks × (xs ≡ trimmed xs ++ blanks)
+pub trimmed_parts : (xs : List ℕ) → (blanks : List ℕ) × AreBlank blanks × (xs ≡ trimmed xs ++ blanks)
 trimmed_parts [] = ([], tt, refl)
 trimmed_parts (x ∷ xs) = let r = trimmed_parts xs in trimmed_step x xs (trimmed xs) refl r.0 r.1 r.2
 
@@ -95,11 +95,11 @@ onto_ends x [] h front b e =
 onto_ends x (t ∷ ts) h [] b e = absurd cc
 onto_ends x (t ∷ ts) h (f ∷ fs) b e = let k : t ∷ ts ≡ fs ++ b ∷ [] = cc in h fs b k
 
-trimmed_ends : (xs : List ℕ) → EndsInNoBlank (trimmed xs)
+pub trimmed_ends : (xs : List ℕ) → EndsInNoBlank (trimmed xs)
 trimmed_ends [] = λ front b e. absurd (push_is_no_nil front b e)
 trimmed_ends (x ∷ xs) = onto_ends x (trimmed xs) (trimmed_ends xs)
 
-trimmed-blanks : (xs blanks : List ℕ) → AreBlank blanks → trimmed (xs ++ blanks) ≡ trimmed xs
+pub trimmed-blanks : (xs blanks : List ℕ) → AreBlank blanks → trimmed (xs ++ blanks) ≡ trimmed xs
 trimmed-blanks xs [] h = ap trimmed (append-nil xs)
 trimmed-blanks xs (b ∷ bs) h = ap trimmed (sym (append_assoc xs (b ∷ []) bs)) ∙ trimmed-blanks (xs ++ b ∷ []) bs h.1 ∙ trimmed-blank xs b h.0
 
@@ -128,7 +128,7 @@ is_behind_blanks (b ∷ bs) =
       | inr f ↦ rw (behind_other b bs f) (record { blanks = []; are_blank = tt; parts = refl; no_more = f })
     ]
 
-no_blanks : (rest : List ℕ) → begins_blank rest ≡ false → behind_blanks rest ≡ rest
+pub no_blanks : (rest : List ℕ) → begins_blank rest ≡ false → behind_blanks rest ≡ rest
 no_blanks [] h = refl
 no_blanks (b ∷ bs) h = behind_other b bs h
 

@@ -1,4 +1,4 @@
--- Words without quotes, as they stand on a line.
+-- Blanks, and words without quotes, as they stand on a line.
 use Rattle.std.specs.Prelude.{◌≡◌, ℕ, ◌<◌, Bool, true, false, ◌&&◌, ◌||◌, List, [], ◌∷◌, ◌++◌, length, drop, slice_index, ◌==◌}
 use Rattle.std.specs.List.{AllByRecursion}
 use Rattle.yaml_bytes.specs.Bytes.{is_blank, begins_blank, is_flow_indicator, begins_break, begins_word}

@@ -24,10 +24,7 @@ pub fn begins_blank(text: &[u8]) -> bool
 pub fn begins_gap(text: &[u8]) -> bool
     ensures { result ≡ begins_gap text.now }
 {
-    match text {
-        [] => true,
-        [b, ..] => is_blank(*b),
-    }
+    text.is_empty() || begins_blank(text)
 }
 
 /// Whether a byte is one of `, [ ] { }`, which part a list or mapping on one line.
