@@ -1,13 +1,16 @@
 -- The texts of a bundle are those that are read, and no others.
-use Rattle.std.proofs.Common.{◌≡◌, ◌≢◌, ℕ, ◌+◌, ◌-◌, ◌≤◌, ◌==◌, true, ◌&&◌, List, [], ◌∷◌, ◌++◌, length, take, get_or, Option, Some, None, Ok, refl, sym, ap, subst, ◌∙◌, append_assoc, inl, inr, arith}
+use Rattle.std.proofs.Common.{◌≡◌, ◌≢◌, ℕ, ◌+◌, ◌==◌, true, false, ◌&&◌, List, [], ◌∷◌, ◌++◌, length, Option, Some, None, Ok, refl, sym, ap, subst, ◌∙◌, append_assoc, inl, inr, arith}
 use Rattle.std.proofs.lemmas.Bool.{eqb-true, and_parts}
 use Rattle.std.proofs.lemmas.List.{append-nil}
-use Rattle.mpf_config.specs.BundleText.{Text, is_blank, behind_blanks, trimmed, first_line, behind_first_line, name_in, pieces_of, line_ends, numbered}
-use Rattle.mpf_config.specs.RowsOf.{AreBlanks, IsFirstLine, IsBare, IsPiece, EndsLine, AreTexts}
+use Rattle.yaml_bytes.specs.Bytes.{is_blank, begins_blank}
+use Rattle.yaml_bytes.specs.Plain.{AreBlank}
+use Rattle.yaml_bytes.specs.Scanning.{behind_blanks, trimmed}
+use Rattle.yaml_bytes.proofs.PlainTexts.{trimmed_parts, trimmed_ends, trimmed_is, is_behind_blanks, no_blanks, in_front}
+use Rattle.mpf_config.specs.BundleText.{Text, first_line, behind_first_line, name_in, pieces_of, line_ends, numbered}
+use Rattle.mpf_config.specs.RowsOf.{IsFirstLine, IsBare, IsPiece, EndsLine, AreTexts}
 use Rattle.mpf_config.specs.Reading.{◌>>=◌, each_read, text_from, text_at, texts_at}
 use Rattle.mpf_config.proofs.Steps.{bind_ok, chosen, ok_is}
-use Rattle.mpf_config.proofs.Trimming.{front_and_last, trimmed_all, last_is_none}
-use Rattle.mpf_config.proofs.FirstLines.{trimmed_behind, trimming, skipping, skips, first_is_none, splitting, begins_is}
+use Rattle.mpf_config.proofs.FirstLines.{splitting, begins_is}
 use Rattle.mpf_config.proofs.Pieces.{piece_sound, none_is_empty, BeginsAt, piece_complete}
 
 -- ---- the name
@@ -48,18 +51,16 @@ name_sound (a ∷ b ∷ rest) name e =
 
 bare_from : (rest name : List ℕ) → trimmed (behind_blanks rest) ≡ name → IsBare name
 bare_from rest name e =
-    let t = trimming (behind_blanks rest) in
+    let t = trimmed_parts (behind_blanks rest) in
+    let parts : behind_blanks rest ≡ name ++ t.0 = t.2 ∙ ap (λ (xs : List ℕ). xs ++ t.0) e in
     record {
-      first = λ after b is. first_is_none rest b (after ++ t.blanks) (t.parts ∙ ap (λ (xs : List ℕ). xs ++ t.blanks) (e ∙ is));
-      last = λ front b is. last_is_none (behind_blanks rest) front b (e ∙ is);
+      first = λ after b is. subst (λ xs. begins_blank xs ≡ false) (parts ∙ ap (λ (xs : List ℕ). xs ++ t.0) is) (is_behind_blanks rest).no_more;
+      last = λ front b is. trimmed_ends (behind_blanks rest) front b (e ∙ is);
     }
 
-bare_again : (name blanks : List ℕ) → IsBare name → AreBlanks blanks → trimmed (behind_blanks (name ++ blanks)) ≡ name
-bare_again [] blanks h k = ap (λ (xs : List ℕ). trimmed (behind_blanks xs)) (sym (append-nil blanks)) ∙ ap trimmed (skips blanks [] k)
-bare_again (b ∷ bs) blanks h k =
-    let some : 1 ≤ length (b ∷ bs) = omega arith in
-    let last = h.last (take (length (b ∷ bs) - 1) (b ∷ bs)) (get_or (b ∷ bs) (length (b ∷ bs) - 1) 0) (sym (front_and_last (b ∷ bs) some)) in
-    rw (h.first bs b refl) (trimmed_behind (b ∷ bs) blanks k ∙ trimmed_all (b ∷ bs) some last)
+bare_again : (name blanks : List ℕ) → IsBare name → AreBlank blanks → trimmed (behind_blanks (name ++ blanks)) ≡ name
+bare_again [] blanks h k = ap (λ (xs : List ℕ). trimmed (behind_blanks xs)) (sym (append-nil blanks)) ∙ ap trimmed (in_front blanks [] k)
+bare_again (b ∷ bs) blanks h k = ap trimmed (no_blanks ((b ∷ bs) ++ blanks) (h.first bs b refl)) ∙ trimmed_is (b ∷ bs) blanks k h.last
 
 -- ---- one text
 
@@ -74,20 +75,20 @@ unfolding text_at
 text_sound line piece t e alone =
     let f = from_sound line piece (name_in (first_line piece)) t e in
     let n = name_sound (first_line piece) t.name f.0 in
-    let s = skipping n.rest in
-    let r = trimming (behind_blanks n.rest) in
+    let s = is_behind_blanks n.rest in
+    let r = trimmed_parts (behind_blanks n.rest) in
     let front = 64 ∷ n.blank ∷ (s.blanks ++ t.name) in
-    let behind : behind_blanks n.rest ≡ t.name ++ r.blanks = r.parts ∙ ap (λ (xs : List ℕ). xs ++ r.blanks) n.name_is in
-    let rest : n.rest ≡ (s.blanks ++ t.name) ++ r.blanks = s.parts ∙ ap (λ (xs : List ℕ). s.blanks ++ xs) behind ∙ sym (append_assoc s.blanks t.name r.blanks) in
-    let whole : first_line piece ≡ front ++ r.blanks = n.is ∙ ap (λ (xs : List ℕ). 64 ∷ n.blank ∷ xs) rest in
-    let first : IsFirstLine (front ++ r.blanks) piece t.text =
+    let behind : behind_blanks n.rest ≡ t.name ++ r.0 = r.2 ∙ ap (λ (xs : List ℕ). xs ++ r.0) n.name_is in
+    let rest : n.rest ≡ (s.blanks ++ t.name) ++ r.0 = s.parts ∙ ap (λ (xs : List ℕ). s.blanks ++ xs) behind ∙ sym (append_assoc s.blanks t.name r.0) in
+    let whole : first_line piece ≡ front ++ r.0 = n.is ∙ ap (λ (xs : List ℕ). 64 ∷ n.blank ∷ xs) rest in
+    let first : IsFirstLine (front ++ r.0) piece t.text =
     subst (λ xs. IsFirstLine xs piece t.text) whole (subst (λ xs. IsFirstLine (first_line piece) piece xs) (sym f.1) (splitting piece)) in
     record {
       blank = n.blank;
       blanks = s.blanks;
-      are_blanks = (n.is_a_blank, s.are_blanks);
+      are_blank = (n.is_a_blank, s.are_blank);
       bare = bare_from n.rest t.name n.name_is;
-      begins = record { blanks = r.blanks; are_blanks = r.are_blanks; whole = first };
+      begins = record { blanks = r.0; are_blank = r.1; whole = first };
       alone = alone;
     }
 
@@ -99,9 +100,9 @@ text_complete line piece t h =
     let after = h.begins.blanks in
     let name : trimmed (behind_blanks ((h.blanks ++ t.name) ++ after)) ≡ t.name =
     ap (λ (xs : List ℕ). trimmed (behind_blanks xs)) (append_assoc h.blanks t.name after)
-    ∙ ap trimmed (skips h.blanks (t.name ++ after) h.are_blanks.1)
-    ∙ bare_again t.name after h.bare h.begins.are_blanks in
-    let found : name_in (first_line piece) ≡ Some t.name = ap name_in r.0 ∙ rw (h.are_blanks.0, name) refl in
+    ∙ ap trimmed (in_front h.blanks (t.name ++ after) h.are_blank.1)
+    ∙ bare_again t.name after h.bare h.begins.are_blank in
+    let found : name_in (first_line piece) ≡ Some t.name = ap name_in r.0 ∙ rw (h.are_blank.0, name) refl in
     rw (found, r.1) refl
 
 -- ---- all of them

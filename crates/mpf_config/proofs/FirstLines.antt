@@ -3,67 +3,10 @@ use Rattle.std.proofs.Common.{◌≡◌, ℕ, ◌==◌, Bool, true, false, ◌&&
 use Rattle.std.proofs.lemmas.Bool.{eqb-true}
 use Rattle.std.proofs.lemmas.Slice.Eq.{bytes_eq-Decides}
 use Rattle.std.proofs.lemmas.List.{append-nil}
-use Rattle.mpf_config.specs.BundleText.{is_blank, behind_blanks, onto_trimmed, trimmed, begins_lf, ends_line, behind_end, first_line, behind_first_line, version_line, has_version}
-use Rattle.mpf_config.specs.RowsOf.{AreBlanks, IsLineEnd, IsFirstLine, BeginsWith}
-use Rattle.mpf_config.proofs.Trimming.{drops_blank}
-
--- ---- blanks
-
--- a text is what is left of it, and blanks behind that
-pub record Trimmed (text front : List ℕ) : Type 0 where
-  pub blanks : List ℕ
-  pub are_blanks : AreBlanks blanks
-  pub parts : text ≡ front ++ blanks
-
-trim_last : (b : ℕ) (bs : List ℕ) (blank : Bool) → is_blank b ≡ blank → Trimmed bs [] → Trimmed (b ∷ bs) (onto_trimmed b [])
-trim_last b bs true e h = rw e (record { blanks = b ∷ bs; are_blanks = (e, subst AreBlanks (sym h.parts) h.are_blanks); parts = refl })
-trim_last b bs false e h = rw e (record { blanks = h.blanks; are_blanks = h.are_blanks; parts = ap (λ (xs : List ℕ). b ∷ xs) h.parts })
-
-trim_step : (b : ℕ) (bs front : List ℕ) → Trimmed bs front → Trimmed (b ∷ bs) (onto_trimmed b front)
-trim_step b bs [] h = trim_last b bs (is_blank b) refl h
-trim_step b bs (c ∷ front) h = record { blanks = h.blanks; are_blanks = h.are_blanks; parts = ap (λ (xs : List ℕ). b ∷ xs) h.parts }
-
-pub trimming : (text : List ℕ) → Trimmed text (trimmed text)
-trimming [] = record { blanks = []; are_blanks = tt; parts = refl }
-trimming (b ∷ bs) = trim_step b bs (trimmed bs) (trimming bs)
-
--- blanks are dropped at the end
-pub trimmed_behind : (front blanks : List ℕ) → AreBlanks blanks → trimmed (front ++ blanks) ≡ trimmed front
-trimmed_behind front [] h = ap trimmed (append-nil front)
-trimmed_behind front (b ∷ blanks) h =
-    let regrouped : front ++ b ∷ blanks ≡ (front ++ b ∷ []) ++ blanks = simp append_assoc in
-    ap trimmed regrouped ∙ trimmed_behind (front ++ b ∷ []) blanks h.1 ∙ drops_blank front b h.0
-
--- a text is blanks, and what stands behind them
-pub record Skipped (text rest : List ℕ) : Type 0 where
-  pub blanks : List ℕ
-  pub are_blanks : AreBlanks blanks
-  pub parts : text ≡ blanks ++ rest
-
-skip_step : (b : ℕ) (bs : List ℕ) (blank : Bool) → is_blank b ≡ blank → Skipped bs (behind_blanks bs) → Skipped (b ∷ bs) (behind_blanks (b ∷ bs))
-skip_step b bs true e h = rw e (record { blanks = b ∷ h.blanks; are_blanks = (e, h.are_blanks); parts = ap (λ (xs : List ℕ). b ∷ xs) h.parts })
-skip_step b bs false e h = rw e (record { blanks = []; are_blanks = tt; parts = refl })
-
-pub skipping : (text : List ℕ) → Skipped text (behind_blanks text)
-skipping [] = record { blanks = []; are_blanks = tt; parts = refl }
-skipping (b ∷ bs) = skip_step b bs (is_blank b) refl (skipping bs)
-
-first_step : (c : ℕ) (cs : List ℕ) (b : ℕ) (bs : List ℕ) (blank : Bool) → is_blank c ≡ blank
-    → (behind_blanks cs ≡ b ∷ bs → is_blank b ≡ false) → behind_blanks (c ∷ cs) ≡ b ∷ bs → is_blank b ≡ false
-first_step c cs b bs true e h is = h (rw e at is)
-first_step c cs b bs false e h is =
-    let same : c ∷ cs ≡ b ∷ bs = rw e at is in
-    let at : c ≡ b = cc in
-    rw (← at) e
-
--- none comes first behind them
-pub first_is_none : (text : List ℕ) (b : ℕ) (bs : List ℕ) → behind_blanks text ≡ b ∷ bs → is_blank b ≡ false
-first_is_none [] b bs is = absurd cc
-first_is_none (c ∷ cs) b bs is = first_step c cs b bs (is_blank c) refl (first_is_none cs b bs) is
-
-pub skips : (blanks text : List ℕ) → AreBlanks blanks → behind_blanks (blanks ++ text) ≡ behind_blanks text
-skips [] text h = refl
-skips (b ∷ blanks) text h = rw h.0 (skips blanks text h.1)
+use Rattle.yaml_bytes.specs.Scanning.{trimmed}
+use Rattle.yaml_bytes.proofs.PlainTexts.{trimmed_parts, trimmed-blanks}
+use Rattle.mpf_config.specs.BundleText.{begins_lf, ends_line, behind_end, first_line, behind_first_line, version_line, has_version}
+use Rattle.mpf_config.specs.RowsOf.{IsLineEnd, IsFirstLine, BeginsWith}
 
 -- ---- the first line
 
@@ -115,9 +58,9 @@ splitting (b ∷ bs) = split_step b bs (ends_line b bs) refl (splitting bs)
 -- what a text begins with, as it is read
 pub begins_with : (line text : List ℕ) → trimmed (first_line text) ≡ line → BeginsWith line text (behind_first_line text)
 begins_with line text e =
-    let t = trimming (first_line text) in
-    let whole : first_line text ≡ line ++ t.blanks = t.parts ∙ ap (λ (front : List ℕ). front ++ t.blanks) e in
-    record { blanks = t.blanks; are_blanks = t.are_blanks; whole = subst (λ xs. IsFirstLine xs text (behind_first_line text)) whole (splitting text) }
+    let t = trimmed_parts (first_line text) in
+    let whole : first_line text ≡ line ++ t.0 = t.2 ∙ ap (λ (front : List ℕ). front ++ t.0) e in
+    record { blanks = t.0; are_blank = t.1; whole = subst (λ xs. IsFirstLine xs text (behind_first_line text)) whole (splitting text) }
 
 line_at : (line end behind : List ℕ) → IsLineEnd end behind → ((front rest : List ℕ) (b : ℕ) → line ≡ front ++ b ∷ rest → ends_line b (rest ++ (end ++ behind)) ≡ false)
     → (first_line (line ++ (end ++ behind)) ≡ line) × (behind_first_line (line ++ (end ++ behind)) ≡ behind)
@@ -142,5 +85,5 @@ version_sound text e = begins_with version_line text ((bytes_eq-Decides (trimmed
 pub version_complete : (text behind : List ℕ) → BeginsWith version_line text behind → has_version text ≡ true
 version_complete text behind h =
     let r = begins_is version_line text behind h in
-    let line : trimmed (first_line text) ≡ version_line = ap trimmed r.0 ∙ trimmed_behind version_line h.blanks h.are_blanks in
+    let line : trimmed (first_line text) ≡ version_line = ap trimmed r.0 ∙ trimmed-blanks version_line h.blanks h.are_blank in
     (bytes_eq-Decides (trimmed (first_line text)) version_line).1 line

@@ -3,7 +3,6 @@ pub mod EachRead
 pub mod ListedNames
 pub mod Pairs
 pub mod Kept
-pub mod Trimming
 pub mod Steps
 pub mod Outcomes
 pub mod NameLists

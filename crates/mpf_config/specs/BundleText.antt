@@ -2,6 +2,8 @@
 use Rattle.std.specs.Prelude.{ℕ, suc, ◌+◌, Bool, true, false, ◌&&◌, ◌||◌, ◌==◌, if◌then◌else◌, List, [], ◌∷◌, take, drop, Option, Some, None, codes}
 use Rattle.std.specs.List.{count_by}
 use Rattle.std.specs.Str.{bytes_eq}
+use Rattle.yaml_bytes.specs.Bytes.{is_blank}
+use Rattle.yaml_bytes.specs.Scanning.{behind_blanks, trimmed}
 
 -- a text, and the name in the line `@ NAME` in front of it
 pub record Text : Type 0 where
@@ -15,25 +17,6 @@ machine_name = codes "config/config.yaml"
 -- the first line of a text, of the version that is read
 abbrev pub version_line : List ℕ
 version_line = codes "#config_version=6"
-
--- a space or a tab
-abbrev pub is_blank : ℕ → Bool
-is_blank b = (b == 32) || (b == 9)
-
--- without the blanks at the front
-abbrev pub behind_blanks : List ℕ → List ℕ
-behind_blanks [] = []
-behind_blanks (b ∷ bs) = if is_blank b then behind_blanks bs else b ∷ bs
-
--- a byte in front of a text, where a blank in front of nothing is dropped
-abbrev pub onto_trimmed : ℕ → List ℕ → List ℕ
-onto_trimmed b [] = if is_blank b then [] else b ∷ []
-onto_trimmed b (c ∷ cs) = b ∷ c ∷ cs
-
--- without the blanks at the end
-abbrev pub trimmed : List ℕ → List ℕ
-trimmed [] = []
-trimmed (b ∷ bs) = onto_trimmed b (trimmed bs)
 
 -- whether LF comes first
 abbrev pub begins_lf : List ℕ → Bool

@@ -1,6 +1,8 @@
 -- The rows of a bundle: what they are, however a bundle is read.
 use Rattle.std.specs.Prelude.{◌≡◌, ◌≢◌, ℕ, ◌<◌, ◌≤◌, ◌^◌, true, false, List, [], ◌∷◌, ◌++◌, length, map, Option, Some, ◌⊎◌, codes}
 use Rattle.std.specs.List.{Contains, AllByRecursion, AllZip}
+use Rattle.yaml_bytes.specs.Bytes.{is_blank}
+use Rattle.yaml_bytes.specs.Plain.{AreBlank}
 use Rattle.yaml_subset.specs.Node.{Node, Pair}
 use Rattle.yaml_subset.specs.View.{text_in, pairs_in}
 use Rattle.yaml_subset.specs.TreeOf.{IsTreeOf}
@@ -11,13 +13,10 @@ use Rattle.mpf_config.specs.Rows.{Written, Switch, EventPlayer, SectionRows, swi
 use Rattle.mpf_values.specs.Names.{IsName}
 use Rattle.mpf_values.specs.Lists.{Item, IsList}
 use Rattle.mpf_config.specs.Entries.{entries_of, is_ignored, written_at, bare_switch, with_contact, with_debounce, with_tags, with_activated, with_deactivated, contact_of, debounce_of}
-use Rattle.mpf_config.specs.BundleText.{Text, machine_name, version_line, is_blank, ends_line}
+use Rattle.mpf_config.specs.BundleText.{Text, machine_name, version_line, ends_line}
 use Rattle.mpf_config.specs.Unread.{read_of, skipped_notes, unlisted_notes}
 
 -- ---- the bundle and its texts
-
-abbrev pub AreBlanks : List ℕ → Type 0
-AreBlanks = AllByRecursion (λ b. is_blank b ≡ true)
 
 -- the end of a line: LF, or CR and LF, or nothing where nothing stands behind it
 abbrev pub IsLineEnd : List ℕ → List ℕ → Type 0
@@ -33,7 +32,7 @@ pub record IsFirstLine (line text behind : List ℕ) : Type 0 where
 -- the same, blanks at the end of the line apart
 pub record BeginsWith (line text behind : List ℕ) : Type 0 where
   pub blanks : List ℕ
-  pub are_blanks : AreBlanks blanks
+  pub are_blank : AreBlank blanks
   pub whole : IsFirstLine (line ++ blanks) text behind
 
 -- neither the first byte is a blank nor the last
@@ -45,7 +44,7 @@ pub record IsBare (name : List ℕ) : Type 0 where
 pub record IsPiece (piece : List ℕ) (t : Text) : Type 0 where
   pub blank : ℕ
   pub blanks : List ℕ
-  pub are_blanks : AreBlanks (blank ∷ blanks)
+  pub are_blank : AreBlank (blank ∷ blanks)
   pub bare : IsBare t.name
   pub begins : BeginsWith (64 ∷ blank ∷ (blanks ++ t.name)) piece t.text
   pub alone : (front rest : List ℕ) → piece ≢ front ++ 10 ∷ 64 ∷ rest

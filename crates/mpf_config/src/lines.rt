@@ -1,42 +1,7 @@
-//! Lines of a text, and blanks in them.
+//! Lines of a text.
 
 ghost use Rattle.std.specs.Prelude.{◌≡◌, ◌≤◌, length};
-ghost use Rattle.mpf_config.specs.BundleText.{is_blank, behind_blanks, trimmed, begins_lf, line_len, behind_end, first_line, behind_first_line};
-
-/// Whether a byte is a space or a tab.
-pub fn is_blank(b: u8) -> bool
-    ensures { result ≡ is_blank b }
-{
-    b == b' ' || b == b'\t'
-}
-
-/// What stands behind the blanks at the front.
-pub fn behind_blanks(text: &[u8]) -> &[u8]
-    ensures { result.now ≡ behind_blanks text.now }
-{
-    let mut rest = text;
-    while let [b, after @ ..] = rest {
-        if !is_blank(*b) {
-            break;
-        }
-        rest = after;
-    }
-    rest
-}
-
-/// A text without the blanks at its end.
-pub fn trimmed(text: &[u8]) -> &[u8]
-    ensures { result.now ≡ trimmed text.now }
-{
-    let mut rest = text;
-    while let [before @ .., b] = rest {
-        if !is_blank(*b) {
-            break;
-        }
-        rest = before;
-    }
-    rest
-}
+ghost use Rattle.mpf_config.specs.BundleText.{begins_lf, line_len, behind_end, first_line, behind_first_line};
 
 fn begins_lf(text: &[u8]) -> bool
     ensures { result ≡ begins_lf text.now }

@@ -10,10 +10,11 @@ ghost use Rattle.mpf_config.specs.View.{GivesRows};
 ghost use Rattle.mpf_config.specs.Inside.{bytes_view, text_view, texts_view, keys_view};
 
 use crate::fault::{ConfigFault, FaultKind};
-use crate::lines::{behind_blanks, is_blank, split_line, trimmed};
+use crate::lines::split_line;
 use crate::spot::{NONE, line_of};
 use std::alloc::{AllocFailed, Global};
 use std::collections::BTreeSet;
+use yaml_bytes::{behind_blanks, is_blank, trimmed};
 
 /// The name of the machine text.
 pub const MACHINE_NAME: &[u8] = b"config/config.yaml";

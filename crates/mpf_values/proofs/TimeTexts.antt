@@ -2,7 +2,7 @@
 use Rattle.std.proofs.Common.{◌≡◌, ℕ, ◌-◌, ◌*◌, ◌/◌, ◌%◌, ◌<◌, ◌≤◌, ◌^◌, Bool, true, false, not, ◌||◌, cond, eqb, ltb, ◌==◌, Option, List, [], ◌++◌, Some, None, codes, refl, sym, ap, subst, ◌∙◌, inl, inr, arith, append_assoc}
 use Rattle.std.specs.Char.{is_ascii_digit}
 use Rattle.std.specs.Str.{bytes_eq}
-use Rattle.yaml_subset.specs.Bytes.{is_blank}
+use Rattle.yaml_bytes.specs.Bytes.{is_blank}
 use Rattle.std.proofs.lemmas.Bool.{or_parts, or_from, eqb-true, eq-eqb, not-false, not_from_true, ltb-false, le-ltb}
 use Rattle.std.proofs.lemmas.Option.{same_Some}
 use Rattle.std.proofs.lemmas.Slice.Eq.{bytes_eq-Decides}

@@ -2,7 +2,7 @@
 use Rattle.std.specs.Prelude.{◌≡◌, ℕ, Bool, true, not, ◌&&◌, ◌||◌, List, ◌==◌}
 use Rattle.std.specs.List.{AllByRecursion}
 use Rattle.std.specs.Char.{is_ascii_alphanumeric}
-use Rattle.yaml_subset.specs.Bytes.{is_blank}
+use Rattle.yaml_bytes.specs.Bytes.{is_blank}
 
 -- every byte passes the test p
 abbrev pub Are : (ℕ → Bool) → List ℕ → Type 0

@@ -1,6 +1,6 @@
 -- Texts that are handled events.
 use Rattle.std.specs.Prelude.{◌≡◌, ℕ, List, [], ◌++◌, Option, Some, None, ℤ, codes}
-use Rattle.yaml_subset.specs.Bytes.{is_blank}
+use Rattle.yaml_bytes.specs.Bytes.{is_blank}
 use Rattle.mpf_values.specs.declared.handled.Comparison.{Comparison}
 use Rattle.mpf_values.specs.declared.handled.Comparison.TheVariants.{Equal, NotEqual, Less, LessOrEqual, Greater, GreaterOrEqual}
 use Rattle.mpf_values.specs.Bytes.{Are}

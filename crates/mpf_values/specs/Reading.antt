@@ -3,7 +3,7 @@ use Rattle.std.specs.Prelude.{ℕ, suc, ◌+◌, ◌-◌, ◌*◌, ◌/◌, ◌%
 use Rattle.std.specs.List.{prefix_len, list_all}
 use Rattle.std.specs.Char.{is_ascii_digit}
 use Rattle.std.specs.Str.{bytes_eq}
-use Rattle.yaml_subset.specs.Bytes.{is_blank}
+use Rattle.yaml_bytes.specs.Scanning.{behind_blanks}
 use Rattle.yaml_subset.specs.Node.{Node}
 use Rattle.yaml_subset.specs.View.{line_of, text_in, items_in}
 use Rattle.mpf_values.specs.declared.decimals.Decimal.{Decimal}
@@ -95,7 +95,7 @@ abbrev pub whole_at : ℕ → Option ℕ
 whole_at product = if not (product % 1000 == 0) || nat_lt (2 ^ 32 - 1) (product / 1000) then None else Some (product / 1000)
 
 unfoldable pub time_at : List ℕ → Option ℕ
-time_at text = decimal_at text >>= λ d. unit_at (behind is_blank d.1) >>= λ unit. fitting (d.0.thousandths * unit) >>= λ product. whole_at product
+time_at text = decimal_at text >>= λ d. unit_at (behind_blanks d.1) >>= λ unit. fitting (d.0.thousandths * unit) >>= λ product. whole_at product
 
 -- ---- powers
 
@@ -125,8 +125,8 @@ behind_word word text = if bytes_eq (take (length word) text) word then Some (dr
 -- the variable of a condition, and what stands behind it and the blanks after it
 unfoldable pub variable_at : List ℕ → Option (List ℕ × List ℕ)
 variable_at text =
-    behind_word (codes "{") text >>= λ inside. behind_word (codes "current_player.") (behind is_blank inside)
-    >>= λ named. name_at (front is_name_byte named) >>= λ variable. Some (variable, behind is_blank (behind is_name_byte named))
+    behind_word (codes "{") text >>= λ inside. behind_word (codes "current_player.") (behind_blanks inside)
+    >>= λ named. name_at (front is_name_byte named) >>= λ variable. Some (variable, behind_blanks (behind is_name_byte named))
 
 unfoldable pub operator_at : List ℕ → Option Comparison
 operator_at text =
@@ -139,11 +139,11 @@ operator_at text =
 
 -- the comparison at the front, and what stands behind it and the blanks after it
 unfoldable pub comparison_at : List ℕ → Option (Comparison × List ℕ)
-comparison_at text = operator_at (front is_operator_byte text) >>= λ comparison. Some (comparison, behind is_blank (behind is_operator_byte text))
+comparison_at text = operator_at (front is_operator_byte text) >>= λ comparison. Some (comparison, behind_blanks (behind is_operator_byte text))
 
 -- the integer of a condition, with nothing behind it but blanks and the closing brace
 unfoldable pub last_integer_at : List ℕ → Option ℤ
-last_integer_at text = integer_at (front is_word_byte text) >>= λ n. (if bytes_eq (behind is_blank (behind is_word_byte text)) (codes "}") then Some n else None)
+last_integer_at text = integer_at (front is_word_byte text) >>= λ n. (if bytes_eq (behind_blanks (behind is_word_byte text)) (codes "}") then Some n else None)
 
 -- the condition in braces that a text is
 unfoldable pub condition_at : List ℕ → Option Condition

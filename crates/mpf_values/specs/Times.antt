@@ -1,6 +1,6 @@
 -- Texts that are times.
 use Rattle.std.specs.Prelude.{◌≡◌, ℕ, ◌*◌, ◌^◌, ◌<◌, List, [], ◌++◌, codes}
-use Rattle.yaml_subset.specs.Bytes.{is_blank}
+use Rattle.yaml_bytes.specs.Bytes.{is_blank}
 use Rattle.mpf_values.specs.Bytes.{Are}
 use Rattle.mpf_values.specs.Numbers.{IsDecimal}
 

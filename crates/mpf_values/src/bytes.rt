@@ -3,16 +3,10 @@
 ghost use Rattle.std.specs.Prelude.{◌≡◌, ◌≤◌, length};
 ghost use Rattle.std.specs.List.{prefix_len, list_all};
 ghost use Rattle.std.specs.Char.{is_ascii_digit};
-ghost use Rattle.yaml_subset.specs.Bytes.{is_blank};
 ghost use Rattle.mpf_values.specs.Bytes.{is_name_byte, is_operator_byte, is_word_byte, is_separator};
 ghost use Rattle.mpf_values.specs.Reading.{front, behind};
 
-/// Whether a byte is a space or a tab.
-pub fn is_blank(b: u8) -> bool
-    ensures { result ≡ is_blank b }
-{
-    b == b' ' || b == b'\t'
-}
+use yaml_bytes::is_blank;
 
 /// Whether a byte is an ASCII letter, a digit, `_`, `-` or `.`.
 pub fn is_name_byte(b: u8) -> bool
@@ -56,14 +50,6 @@ pub fn has_name_bytes_only(text: &[u8]) -> bool
     text.iter().all(|b| is_name_byte(*b))
 }
 
-// How many blanks come first.
-fn blanks_len(text: &[u8]) -> usize
-    ensures value { result ≡ prefix_len is_blank text.now }
-    ensures within { result ≤ length text.now }
-{
-    text.iter().take_while(|b| is_blank(**b)).count()
-}
-
 // How many digits come first.
 fn digits_len(text: &[u8]) -> usize
     ensures value { result ≡ prefix_len is_ascii_digit text.now }
@@ -102,13 +88,6 @@ fn separators_len(text: &[u8]) -> usize
     ensures within { result ≤ length text.now }
 {
     text.iter().take_while(|b| is_separator(**b)).count()
-}
-
-/// A text without the blanks at its front.
-pub fn behind_blanks(text: &[u8]) -> &[u8]
-    ensures { result.now ≡ behind is_blank text.now }
-{
-    text.split_at(blanks_len(text)).1
 }
 
 /// A text without the separators at its front.

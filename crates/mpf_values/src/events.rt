@@ -6,11 +6,12 @@ ghost use Rattle.mpf_values.specs.Reading.{behind_word, variable_at, operator_at
 ghost use Rattle.mpf_values.specs.View.{Gives, condition_view, event_view};
 ghost use Rattle.mpf_values.specs.Inside.{rest_view, slices_view, compared_view};
 
-use crate::bytes::{behind_blanks, split_name, split_operator, split_word};
+use crate::bytes::{split_name, split_operator, split_word};
 use crate::fault::BadValue;
 use crate::handled::{Comparison, Condition, Event};
 use crate::integers::signed;
 use crate::names::name;
+use yaml_bytes::behind_blanks;
 
 const OPENING: &[u8] = b"{";
 

@@ -5,9 +5,9 @@ ghost use Rattle.mpf_values.specs.Times.{IsTime};
 ghost use Rattle.mpf_values.specs.Reading.{unit_at, time_at};
 ghost use Rattle.mpf_values.specs.View.{Gives};
 
-use crate::bytes::behind_blanks;
 use crate::decimals::split_decimal;
 use crate::fault::BadValue;
+use yaml_bytes::behind_blanks;
 
 // How many milliseconds a unit is.
 #[tactic(auto, unfolding(crate::specs::Reading::unit_at))]

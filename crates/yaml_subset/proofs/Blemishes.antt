@@ -10,7 +10,7 @@ use Rattle.std.proofs.lemmas.List.{length-append, at_drop_more}
 use Rattle.std.proofs.lemmas.Str.{IsUtf8-nil, IsUtf8-from_is_utf8, utf8_valid_len_le, utf8_valid_len-IsUtf8, encodes-chars, length-encode, len_utf8_bounds}
 use Rattle.yaml_subset.specs.declared.place.PlacedFault.{PlacedFault}
 use Rattle.yaml_subset.specs.declared.fault.FaultKind.TheVariants.{NotInSubset, NotUtf8}
-use Rattle.yaml_subset.specs.Bytes.{is_forbidden}
+use Rattle.yaml_bytes.specs.Bytes.{is_forbidden}
 use Rattle.yaml_subset.specs.Reading.{forbidden_left, utf8_front, blemish_at}
 
 -- no character of a text is forbidden

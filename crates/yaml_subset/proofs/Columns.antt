@@ -2,7 +2,7 @@
 use Rattle.std.proofs.Common.{◌≡◌, ℕ, suc, ◌+◌, List, ◌∷◌, drop, sym, ap, ◌∙◌, arith}
 use Rattle.std.proofs.lemmas.List.{drop-drop}
 use Rattle.yaml_subset.specs.declared.line.Line as lines
-use Rattle.yaml_subset.specs.Scanning.{spaces_len}
+use Rattle.yaml_bytes.specs.Scanning.{spaces_len}
 use Rattle.yaml_subset.specs.TextLines.{Line}
 use Rattle.yaml_subset.specs.Reading.{inner}
 use Rattle.yaml_subset.specs.Inside.{line_view}

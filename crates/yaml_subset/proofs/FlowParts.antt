@@ -4,14 +4,14 @@ use Rattle.std.proofs.lemmas.Bool.{cases_Bool, eqb-true, eq-eqb, ne_eqb}
 use Rattle.std.proofs.lemmas.List.{append-nil}
 use Rattle.yaml_subset.specs.declared.fault.FaultKind.TheVariants.{Flow}
 use Rattle.yaml_subset.specs.declared.flaw.Flaw.{Flaw}
-use Rattle.yaml_subset.specs.Bytes.{begins_blank, begins_gap}
+use Rattle.yaml_bytes.specs.Bytes.{begins_blank, begins_gap}
 use Rattle.yaml_subset.specs.Part.{◌>>=◌}
-use Rattle.yaml_subset.specs.Plain.{IsBehindBlanks}
-use Rattle.yaml_subset.specs.Scanning.{skipped}
+use Rattle.yaml_bytes.specs.Plain.{IsBehindBlanks}
+use Rattle.yaml_bytes.specs.Scanning.{behind_blanks}
 use Rattle.yaml_subset.specs.Flow.{begins_with, begins_colon, IsClosed, IsParted, ArePartsTo, IsBetween, is_ended, start_at, misplaced, behind_close_at, parted_at, behind_colon_at, parts_at, between_at}
 use Rattle.yaml_subset.proofs.Steps.{bind_ok, guard_true, guard_false, ok_is}
 use Rattle.yaml_subset.proofs.Steps.{chosen}
-use Rattle.yaml_subset.proofs.PlainTexts.{behind_blanks, behind_blanks-is}
+use Rattle.yaml_bytes.proofs.PlainTexts.{is_behind_blanks, behind_blanks-is}
 
 abbrev read_to : {A : Type 0} → A → Result A Flaw
 read_to x = Ok x
@@ -54,8 +54,8 @@ part_goes_on text p = subst GoesOn (sym p.parts) (byte_goes_on p.first p.others 
 pub start_sound : (after text : List ℕ) → start_at after ≡ Ok text → IsBehindBlanks after text
 unfolding start_at
 start_sound after text e =
-    let g = guard_false (is_ended (begins_blank after) (skipped after)) (read_to (skipped after)) (record { kind = Flow; left = 0 }) text e in
-    subst (IsBehindBlanks after) (part_is (skipped after) text g.1) (behind_blanks after)
+    let g = guard_false (is_ended (begins_blank after) (behind_blanks after)) (read_to (behind_blanks after)) (record { kind = Flow; left = 0 }) text e in
+    subst (IsBehindBlanks after) (part_is (behind_blanks after) text g.1) (is_behind_blanks after)
 
 pub start_complete : (after text : List ℕ) → IsBehindBlanks after text → GoesOn text → start_at after ≡ Ok text
 unfolding start_at
@@ -75,12 +75,12 @@ close_sound : (close : ℕ) (text rest : List ℕ) → begins_with close text �
 unfolding behind_close_at
 close_sound close [] rest b e = absurd cc
 close_sound close (c ∷ after) rest b e =
-    let g = guard_false (begins_with 35 after) (read_to (skipped after)) (record { kind = Flow; left = length after }) rest e in
+    let g = guard_false (begins_with 35 after) (read_to (behind_blanks after)) (record { kind = Flow; left = length after }) rest e in
     record {
       after = after;
       closes = ap (λ (x : ℕ). x ∷ after) (eqb-true c close b);
       apart = g.0;
-      behind = subst (IsBehindBlanks after) (part_is (skipped after) rest g.1) (behind_blanks after);
+      behind = subst (IsBehindBlanks after) (part_is (behind_blanks after) rest g.1) (is_behind_blanks after);
     }
 
 close_complete : (close : ℕ) (text rest : List ℕ) → IsClosed close text rest → behind_close_at text ≡ Ok rest

@@ -4,7 +4,7 @@ use Rattle.std.proofs.lemmas.Bool.{eqb-true, le-ltb, ltb-false}
 use Rattle.std.proofs.Math.Seq.{take-append_seam}
 use Rattle.yaml_subset.specs.declared.fault.FaultKind.TheVariants.{DuplicateKey, Flow, NotInSubset}
 use Rattle.yaml_subset.specs.declared.flaw.Flaw.{Flaw}
-use Rattle.yaml_subset.specs.Bytes.{characters}
+use Rattle.yaml_bytes.specs.Bytes.{characters}
 use Rattle.yaml_subset.specs.Keys.{is_among}
 use Rattle.yaml_subset.specs.Node.{Node, scalar, sequence, mapping, Pair, nodes_of, pairs_of}
 use Rattle.yaml_subset.specs.Part.{◌>>=◌, flaw_at}

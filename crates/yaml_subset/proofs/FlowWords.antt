@@ -1,7 +1,7 @@
 -- Words in flow, as parts of a list or mapping.
 use Rattle.std.proofs.Common.{◌≡◌, ◌≢◌, ℕ, ◌≤◌, true, false, List, length, Ok, refl, arith}
 use Rattle.std.proofs.lemmas.Bool.{ne_eqb}
-use Rattle.yaml_subset.specs.Bytes.{is_indicator}
+use Rattle.yaml_bytes.specs.Bytes.{is_indicator}
 use Rattle.yaml_subset.specs.Words.{IsWord, word_at}
 use Rattle.yaml_subset.specs.Flow.{begins_bracket}
 use Rattle.yaml_subset.proofs.WordTexts.{BeginsWord, word_sound, word_complete, word_begins, word_shorter}

@@ -6,18 +6,18 @@ use Rattle.std.proofs.Math.Seq.{take-append_seam}
 use Rattle.yaml_subset.specs.declared.flaw.Flaw.{Flaw}
 use Rattle.yaml_subset.specs.declared.place.PlacedFault.{PlacedFault}
 use Rattle.yaml_subset.specs.declared.fault.FaultKind.TheVariants.{Flow}
-use Rattle.yaml_subset.specs.Bytes.{is_blank, is_indicator, is_mark, begins_blank, begins_gap, begins_item, is_over, characters}
+use Rattle.yaml_bytes.specs.Bytes.{is_blank, is_indicator, is_mark, begins_blank, begins_gap, begins_item, is_over, characters}
 use Rattle.yaml_subset.specs.Node.{Node, scalar}
 use Rattle.yaml_subset.specs.Part.{◌>>=◌}
-use Rattle.yaml_subset.specs.Plain.{ends_word}
+use Rattle.yaml_bytes.specs.Plain.{ends_word}
 use Rattle.yaml_subset.specs.Values.{IsKey, IsEntry, IsNode, IsInline}
 use Rattle.yaml_subset.specs.Words.{IsWord, word_at}
 use Rattle.yaml_subset.specs.Flow.{IsFlow, begins_bracket, flow_at}
-use Rattle.yaml_subset.specs.Scanning.{skipped, behind_dash, before_colon}
+use Rattle.yaml_bytes.specs.Scanning.{behind_blanks, behind_dash, before_colon}
 use Rattle.yaml_subset.specs.TreeOf.{IsDash}
 use Rattle.yaml_subset.specs.Reading.{Head, item, entry, alone, word_head, flow_head, text_head, on_line, head_from, head_at, node_from, inline_at}
 use Rattle.yaml_subset.proofs.Steps.{bind_ok, guard_true, chosen, ok_is}
-use Rattle.yaml_subset.proofs.PlainTexts.{behind_blanks, behind_blanks-is}
+use Rattle.yaml_bytes.proofs.PlainTexts.{is_behind_blanks, behind_blanks-is}
 use Rattle.yaml_subset.proofs.WordTexts.{BeginsWord, word_sound, word_complete, word_begins, word_parts, word-rest_ends}
 use Rattle.yaml_subset.proofs.FlowReads.{flow_sound, flow_complete}
 
@@ -245,14 +245,14 @@ entry_short text key after h = rw (before_colon-is text h.front after h.parts) (
 pub inline_sound : (depth n : ℕ) (text : List ℕ) (value : Option Node) → inline_at depth n text ≡ Ok value → IsInline depth n text value
 unfolding inline_at
 inline_sound depth n text value e =
-    let rest = skipped text in
+    let rest = behind_blanks text in
     let made : Head → Result (Option Node) PlacedFault = λ h. node_from n rest h >>= λ t. Ok (Some t) in
     elim (chosen (is_over rest) (Ok None) (head_at depth n rest >>= made) (Ok value) e) [
-      | inl p ↦ subst (IsInline depth n text) (ok_is None value p.1) (rest, behind_blanks text, p.0)
+      | inl p ↦ subst (IsInline depth n text) (ok_is None value p.1) (rest, is_behind_blanks text, p.0)
       | inr p ↦
           let b = bind_ok (head_at depth n rest) made value p.1 in
           let c = bind_ok (node_from n rest b.0) (λ t. Ok (Some t)) value b.2 in
-          subst (IsInline depth n text) (ok_is (Some c.0) value c.2) (rest, behind_blanks text, p.0, alone_sound depth n rest c.0 (b.1 ∙ ap ok_head (is_alone n rest b.0 c.0 c.1)))
+          subst (IsInline depth n text) (ok_is (Some c.0) value c.2) (rest, is_behind_blanks text, p.0, alone_sound depth n rest c.0 (b.1 ∙ ap ok_head (is_alone n rest b.0 c.0 c.1)))
     ]
 
 pub inline_complete : (depth n : ℕ) (text : List ℕ) (value : Option Node) → IsInline depth n text value → inline_at depth n text ≡ Ok value

@@ -1,12 +1,9 @@
 pub mod Views
-pub mod Trimming
 pub mod KeySets
 pub mod LineCuts
 pub mod Columns
 pub mod Groups
 pub mod Steps
-pub mod PlainTexts
-pub mod Spaces
 pub mod QuotedTexts
 pub mod WordTexts
 pub mod FlowParts

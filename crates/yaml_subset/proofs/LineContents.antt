@@ -3,13 +3,13 @@ use Rattle.std.proofs.Common.{◌≡◌, ℕ, ◌+◌, false, cond, List, [], �
 use Rattle.std.specs.Option.{option_to_list}
 use Rattle.yaml_subset.specs.declared.place.PlacedFault.{PlacedFault}
 use Rattle.yaml_subset.specs.declared.fault.FaultKind.TheVariants.{NotInSubset, Tab}
-use Rattle.yaml_subset.specs.Bytes.{begins_blank, is_over, is_marker}
+use Rattle.yaml_bytes.specs.Bytes.{begins_blank, is_over, is_marker}
 use Rattle.yaml_subset.specs.TextLines.{Line, Holds, HaveContent}
-use Rattle.yaml_subset.specs.Scanning.{skipped, spaces_len, behind_spaces}
+use Rattle.yaml_bytes.specs.Scanning.{behind_blanks, spaces_len, behind_spaces}
 use Rattle.yaml_subset.specs.Reading.{fault_at, content_at, blemish_at, add_line, contents_from}
 use Rattle.yaml_subset.proofs.Steps.{guard_false, chosen, ok_is}
-use Rattle.yaml_subset.proofs.PlainTexts.{behind_blanks, behind_blanks-is}
-use Rattle.yaml_subset.proofs.Spaces.{spaces_parts, spaces_len-is, drop_spaces, skipped_spaces}
+use Rattle.yaml_bytes.proofs.PlainTexts.{is_behind_blanks, behind_blanks-is}
+use Rattle.yaml_bytes.proofs.Spaces.{spaces_parts, spaces_len-is, drop_spaces, blanks_are_spaces}
 use Rattle.yaml_subset.proofs.Blemishes.{clean_sound, clean_complete}
 
 -- ---- one line
@@ -22,12 +22,12 @@ unfolding content_at
 content_sound n raw found e =
     let made : Result (Option Line) PlacedFault = cond (is_marker raw) (fault_at NotInSubset n (length raw)) (Ok (Some (found_at n raw))) in
     let indented : Result (Option Line) PlacedFault = cond (begins_blank (behind_spaces raw)) (fault_at Tab n (length (behind_spaces raw))) made in
-    elim (chosen (is_over (skipped raw)) (Ok None) indented (Ok found) e) [
-      | inl p ↦ subst (Holds n raw) (ok_is None found p.1) (skipped raw, behind_blanks raw, p.0)
+    elim (chosen (is_over (behind_blanks raw)) (Ok None) indented (Ok found) e) [
+      | inl p ↦ subst (Holds n raw) (ok_is None found p.1) (behind_blanks raw, is_behind_blanks raw, p.0)
       | inr p ↦
           let t = guard_false (begins_blank (behind_spaces raw)) made (record { kind = Tab; line = n; left = length (behind_spaces raw) }) found p.1 in
           let m = guard_false (is_marker raw) (Ok (Some (found_at n raw))) (record { kind = NotInSubset; line = n; left = length raw }) found t.1 in
-          let same = skipped_spaces raw (behind_spaces raw) (spaces_len raw) (spaces_parts raw) t.0 in
+          let same = blanks_are_spaces raw (behind_spaces raw) (spaces_len raw) (spaces_parts raw) t.0 in
           subst (Holds n raw) (ok_is (Some (found_at n raw)) found m.1) (refl, record { parts = spaces_parts raw; no_more = t.0; not_over = ap is_over (sym same) ∙ p.0; no_marker = m.0 })
     ]
 
@@ -38,7 +38,7 @@ content_complete n raw (Some l) h =
     let c = h.1 in
     let len : spaces_len raw ≡ l.indent = ap spaces_len c.parts ∙ spaces_len-is l.indent l.text c.no_more in
     let text : drop l.indent raw ≡ l.text = ap (drop l.indent) c.parts ∙ drop_spaces l.indent l.text in
-    let over : is_over (skipped raw) ≡ false = ap is_over (skipped_spaces raw l.text l.indent c.parts c.no_more) ∙ c.not_over in
+    let over : is_over (behind_blanks raw) ≡ false = ap is_over (blanks_are_spaces raw l.text l.indent c.parts c.no_more) ∙ c.not_over in
     rw (over, len, text, c.no_more, c.no_marker, h.0) refl
 
 -- ---- all lines

@@ -9,7 +9,7 @@ use Rattle.yaml_subset.specs.declared.place.PlacedFault.{PlacedFault}
 use Rattle.yaml_subset.specs.TextLines.{Line, without_cr, lines_between, lines_of}
 use Rattle.yaml_subset.specs.Reading.{content_at, blemish_at, contents_from}
 use Rattle.yaml_subset.specs.Inside.{lines_behind}
-use Rattle.yaml_subset.proofs.Trimming.{last_split}
+use Rattle.yaml_bytes.proofs.Trimming.{last_split}
 
 -- ---- the CR before an LF
 

@@ -3,19 +3,19 @@ use Rattle.std.proofs.Common.{◌≡◌, ℕ, zero, suc, ◌+◌, ◌==◌, ltb,
 use Rattle.std.proofs.lemmas.Bool.{eqb-true, eq-eqb, le-ltb}
 use Rattle.yaml_subset.specs.declared.place.PlacedFault.{PlacedFault}
 use Rattle.yaml_subset.specs.declared.fault.FaultKind.TheVariants.{Tab, DuplicateKey, NotInSubset}
-use Rattle.yaml_subset.specs.Bytes.{begins_blank, begins_item, is_over, characters}
+use Rattle.yaml_bytes.specs.Bytes.{begins_blank, begins_item, is_over, characters}
 use Rattle.yaml_subset.specs.Node.{Node, scalar, sequence, nodes_of, mapping, no_pairs, Pair, pairs_of}
 use Rattle.yaml_subset.specs.Keys.{is_among}
 use Rattle.yaml_subset.specs.Values.{IsKey, IsNode, IsInline}
-use Rattle.yaml_subset.specs.Scanning.{skipped, spaces_len, behind_spaces, behind_dash, before_colon}
+use Rattle.yaml_bytes.specs.Scanning.{behind_blanks, spaces_len, behind_spaces, behind_dash, before_colon}
 use Rattle.yaml_subset.specs.TextLines.{Line}
 use Rattle.yaml_subset.specs.TreeOf.{Group, IsRun, IsValue, IsPair, ArePairs, IsMapping, IsDash, IsInner, IsItem, AreItems, IsSequence, IsAlone, IsBlock, ByLines, IsTree}
 use Rattle.yaml_subset.specs.Part.{◌>>=◌}
 use Rattle.yaml_subset.specs.Reading.{fault_at, Head, item, entry, alone, head_at, inline_at, BlockReader, hangs, groups_of, misplaced, closed_at, value_at, pair_from, pair_at, pairs_at, mapping_at, inner, item_with, item_from, item_at, items_at, sequence_at, block_from, deep_from, block_at, tree_at}
 use Rattle.yaml_subset.proofs.Steps.{bind_ok, guard_true, guard_false, chosen, ok_is}
-use Rattle.yaml_subset.proofs.PlainTexts.{behind_blanks, behind_blanks-is}
+use Rattle.yaml_bytes.proofs.PlainTexts.{is_behind_blanks, behind_blanks-is}
 use Rattle.yaml_subset.proofs.KeySets.{fresh_sound, fresh_complete}
-use Rattle.yaml_subset.proofs.Spaces.{spaces_parts, spaces_len-is, drop_spaces, skipped_spaces}
+use Rattle.yaml_bytes.proofs.Spaces.{spaces_parts, spaces_len-is, drop_spaces, blanks_are_spaces}
 use Rattle.yaml_subset.proofs.Heads.{dash_sound, dash_complete, item_head, alone_sound, alone_complete, key_sound, key_complete, key_begins, key_no_item, entry_sound, entry_short, inline_sound, inline_complete}
 use Rattle.yaml_subset.proofs.Runs.{AllStand, groups_are_run, run_stands, run_is_groups}
 
@@ -48,9 +48,9 @@ alone_is depth around first others t u e k =
 
 -- ---- what stands behind a `-`
 
-inner_sound : (depth : ℕ) (l : Line) (after key behind : List ℕ) → begins_blank (behind_spaces after) ≡ false → head_at depth l.number (skipped after) ≡ Ok (entry key behind) → IsInner l after (inner l after)
+inner_sound : (depth : ℕ) (l : Line) (after key behind : List ℕ) → begins_blank (behind_spaces after) ≡ false → head_at depth l.number (behind_blanks after) ≡ Ok (entry key behind) → IsInner l after (inner l after)
 inner_sound depth l after key behind no_tab e =
-    let same = skipped_spaces after (behind_spaces after) (spaces_len after) (spaces_parts after) no_tab in
+    let same = blanks_are_spaces after (behind_spaces after) (spaces_len after) (spaces_parts after) no_tab in
     record {
       spaces = spaces_len after;
       parts = spaces_parts after;
@@ -58,16 +58,16 @@ inner_sound depth l after key behind no_tab e =
       column = refl;
       key = key;
       behind = behind;
-      is_key = subst (λ text. IsKey text key behind) same (key_sound depth l.number (skipped after) key behind e);
+      is_key = subst (λ text. IsKey text key behind) same (key_sound depth l.number (behind_blanks after) key behind e);
     }
 
 inner_complete : (depth : ℕ) (l : Line) (after : List ℕ) (found : Line) (h : IsInner l after found)
-    → (inner l after ≡ found) × (is_over (skipped after) ≡ false) × (head_at depth l.number (skipped after) ≡ Ok (entry h.key h.behind)) × (begins_blank (behind_spaces after) ≡ false)
+    → (inner l after ≡ found) × (is_over (behind_blanks after) ≡ false) × (head_at depth l.number (behind_blanks after) ≡ Ok (entry h.key h.behind)) × (begins_blank (behind_spaces after) ≡ false)
 inner_complete depth l after found h =
     let begins = key_begins found.text h.key h.behind h.is_key in
     let len : spaces_len after ≡ h.spaces = ap spaces_len h.parts ∙ spaces_len-is h.spaces found.text begins.0 in
     let text : behind_spaces after ≡ found.text = ap (λ n. drop n after) len ∙ ap (drop h.spaces) h.parts ∙ drop_spaces h.spaces found.text in
-    let behind : skipped after ≡ found.text = skipped_spaces after found.text h.spaces h.parts begins.0 in
+    let behind : behind_blanks after ≡ found.text = blanks_are_spaces after found.text h.spaces h.parts begins.0 in
     let at_column : ℕ → Line = λ i. record { number = l.number; indent = i; text = behind_spaces after } in
     let with_text : List ℕ → Line = λ xs. record { number = l.number; indent = found.indent; text = xs } in
     let on_line : ℕ → Line = λ n. record { number = n; indent = found.indent; text = found.text } in (
@@ -184,13 +184,13 @@ module _ (depth : ℕ) (block : BlockReader) (R : List Line → Node → Type 0)
 
   -- ---- sequences
 
-  item_with_sound : (i : ℕ) (g : Group) (after : List ℕ) (h : Head) (t : Node) → IsDash g.head.text after → is_over (skipped after) ≡ false → head_at depth g.head.number (skipped after) ≡ Ok h → item_with depth block i g after h ≡ Ok t → IsItem depth R g t
+  item_with_sound : (i : ℕ) (g : Group) (after : List ℕ) (h : Head) (t : Node) → IsDash g.head.text after → is_over (behind_blanks after) ≡ false → head_at depth g.head.number (behind_blanks after) ≡ Ok h → item_with depth block i g after h ≡ Ok t → IsItem depth R g t
   unfolding item_with
   item_with_sound i g after (item behind) t dash some e k = absurd cc
   item_with_sound i g after (alone u) t dash some e k = record {
     after = after;
     dash = dash;
-    node = inl (Some u, (skipped after, behind_blanks after, some, alone_sound depth g.head.number (skipped after) u e), value_sound g.head.number i (Some u) g.below t k);
+    node = inl (Some u, (behind_blanks after, is_behind_blanks after, some, alone_sound depth g.head.number (behind_blanks after) u e), value_sound g.head.number i (Some u) g.below t k);
   }
   item_with_sound i g after (entry key behind) t dash some e k =
       let a = guard_false (begins_blank (behind_spaces after)) (block (Some i) (inner g.head after ∷ g.below)) (record { kind = Tab; line = g.head.number; left = length (behind_spaces after) }) t k in
@@ -202,10 +202,10 @@ module _ (depth : ℕ) (block : BlockReader) (R : List Line → Node → Type 0)
   item_from_sound i g (Some after) t d e =
       let n = g.head.number in
       let dash = dash_sound g.head.text after d in
-      elim (chosen (is_over (skipped after)) (value_at block n i None g.below) (head_at depth n (skipped after) >>= λ h. item_with depth block i g after h) (Ok t) e) [
-        | inl p ↦ record { after = after; dash = dash; node = inl (None, (skipped after, behind_blanks after, p.0), value_sound n i None g.below t p.1) }
+      elim (chosen (is_over (behind_blanks after)) (value_at block n i None g.below) (head_at depth n (behind_blanks after) >>= λ h. item_with depth block i g after h) (Ok t) e) [
+        | inl p ↦ record { after = after; dash = dash; node = inl (None, (behind_blanks after, is_behind_blanks after, p.0), value_sound n i None g.below t p.1) }
         | inr p ↦
-            let b = bind_ok (head_at depth n (skipped after)) (λ h. item_with depth block i g after h) t p.1 in
+            let b = bind_ok (head_at depth n (behind_blanks after)) (λ h. item_with depth block i g after h) t p.1 in
             item_with_sound i g after b.0 t dash p.0 b.1 b.2
       ]
 

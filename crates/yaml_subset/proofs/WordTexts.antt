@@ -5,14 +5,14 @@ use Rattle.std.proofs.Math.Seq.{drop-append_seam}
 use Rattle.yaml_subset.specs.declared.fault.FaultKind.TheVariants.{Quote, Flow}
 use Rattle.yaml_subset.specs.declared.flaw.Flaw.{Flaw}
 use Rattle.yaml_subset.specs.Part.{◌>>=◌}
-use Rattle.yaml_subset.specs.Bytes.{is_blank, begins_blank, begins_gap, is_flow_indicator, begins_flow_indicator, begins_break, is_indicator, is_mark, begins_word}
-use Rattle.yaml_subset.specs.Plain.{IsBehindBlanks, ends_word, IsWordEnd}
-use Rattle.yaml_subset.specs.Scanning.{trimmed, skipped, word_front, word_rest}
+use Rattle.yaml_bytes.specs.Bytes.{is_blank, begins_blank, begins_gap, is_flow_indicator, begins_flow_indicator, begins_break, is_indicator, is_mark, begins_word}
+use Rattle.yaml_bytes.specs.Plain.{IsBehindBlanks, ends_word, IsWordEnd}
+use Rattle.yaml_bytes.specs.Scanning.{trimmed, behind_blanks, word_front, word_rest}
 use Rattle.yaml_subset.specs.Quoted.{IsSingle, IsDouble, single_at, double_at}
 use Rattle.yaml_subset.specs.Words.{breaks_flow, may_follow, IsPlainAt, IsQuotedAt, IsWord, misfit, plain_at, behind_quote, quoted_at, word_at}
 use Rattle.yaml_subset.proofs.Steps.{bind_ok, guard_true, guard_false, ok_is}
 use Rattle.yaml_subset.proofs.Steps.{chosen}
-use Rattle.yaml_subset.proofs.PlainTexts.{plain_word, plain_word-is, behind_blanks, behind_blanks-is}
+use Rattle.yaml_bytes.proofs.PlainTexts.{plain_word, plain_word-is, is_behind_blanks, behind_blanks-is}
 use Rattle.yaml_subset.proofs.QuotedTexts.{single_sound, single_complete, double_sound, double_complete}
 
 -- ---- plain words
@@ -39,9 +39,9 @@ plain_complete flow text value rest h =
 behind_sound : (flow : Bool) (after rest : List ℕ) → behind_quote flow after ≡ Ok rest → IsBehindBlanks after rest × (may_follow flow (begins_blank after) rest ≡ true)
 unfolding behind_quote
 behind_sound flow after rest e =
-    let a = guard_true (may_follow flow (begins_blank after) (skipped after)) (Ok (skipped after)) (record { kind = cond (breaks_flow flow (skipped after)) Flow Quote; left = length (skipped after) }) rest e in
-    let same = ok_is (skipped after) rest a.1 in
-    (subst (IsBehindBlanks after) same (behind_blanks after), subst (λ (xs : List ℕ). may_follow flow (begins_blank after) xs ≡ true) same a.0)
+    let a = guard_true (may_follow flow (begins_blank after) (behind_blanks after)) (Ok (behind_blanks after)) (record { kind = cond (breaks_flow flow (behind_blanks after)) Flow Quote; left = length (behind_blanks after) }) rest e in
+    let same = ok_is (behind_blanks after) rest a.1 in
+    (subst (IsBehindBlanks after) same (is_behind_blanks after), subst (λ (xs : List ℕ). may_follow flow (begins_blank after) xs ≡ true) same a.0)
 
 behind_complete : (flow : Bool) (after rest : List ℕ) → IsBehindBlanks after rest → may_follow flow (begins_blank after) rest ≡ true → behind_quote flow after ≡ Ok rest
 unfolding behind_quote

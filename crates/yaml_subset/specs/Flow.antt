@@ -3,12 +3,12 @@ use Rattle.std.specs.Prelude.{◌≡◌, ℕ, zero, suc, ◌≤◌, ◌-◌, Boo
 use Rattle.std.specs.List.{Contains}
 use Rattle.yaml_subset.specs.declared.flaw.Flaw.{Flaw}
 use Rattle.yaml_subset.specs.declared.fault.FaultKind.TheVariants.{DuplicateKey, Flow, NotInSubset, TooDeep}
-use Rattle.yaml_subset.specs.Bytes.{begins_blank, begins_gap, characters}
+use Rattle.yaml_bytes.specs.Bytes.{begins_blank, begins_gap, characters}
 use Rattle.yaml_subset.specs.Node.{Node, scalar, sequence, mapping, Pair, nodes_of, pairs_of}
 use Rattle.yaml_subset.specs.Part.{◌>>=◌, flaw_at}
-use Rattle.yaml_subset.specs.Plain.{IsBehindBlanks}
+use Rattle.yaml_bytes.specs.Plain.{IsBehindBlanks}
 use Rattle.yaml_subset.specs.Keys.{is_among}
-use Rattle.yaml_subset.specs.Scanning.{skipped}
+use Rattle.yaml_bytes.specs.Scanning.{behind_blanks}
 use Rattle.yaml_subset.specs.Words.{IsWord, word_at}
 
 -- whether a byte comes first
@@ -97,7 +97,7 @@ is_ended blank (b ∷ bs) = blank && (b == 35)
 
 -- what stands behind a bracket, a comma or a colon and the blanks after it
 unfoldable pub start_at : List ℕ → Result (List ℕ) Flaw
-start_at after = if is_ended (begins_blank after) (skipped after) then flaw_at Flow 0 else Ok (skipped after)
+start_at after = if is_ended (begins_blank after) (behind_blanks after) then flaw_at Flow 0 else Ok (behind_blanks after)
 
 -- what is wrong with a text that stands in the place of a comma, of the closing byte, or of a key's colon
 unfoldable pub misplaced : List ℕ → Flaw
@@ -109,7 +109,7 @@ misplaced text =
 -- from the closing byte to what stands behind it
 unfoldable pub behind_close_at : List ℕ → Result (List ℕ) Flaw
 behind_close_at [] = flaw_at Flow 0
-behind_close_at (b ∷ after) = if begins_with 35 after then flaw_at Flow (length after) else Ok (skipped after)
+behind_close_at (b ∷ after) = if begins_with 35 after then flaw_at Flow (length after) else Ok (behind_blanks after)
 
 -- from behind a part to the next one, or to the closing byte
 unfoldable pub parted_at : ℕ → List ℕ → Result (List ℕ) Flaw

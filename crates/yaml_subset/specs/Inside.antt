@@ -48,10 +48,6 @@ abbrev pub line_option_view : Option lines.Line → Option Line
 line_option_view None = None
 line_option_view (Some l) = Some (line_view l)
 
-abbrev pub text_option_view : Option (Bor (List ℕ)) → Option (List ℕ)
-text_option_view None = None
-text_option_view (Some s) = Some s.now
-
 -- a byte or a value, and the part of a line that stands behind it
 abbrev pub byte_view : ℕ × Bor (List ℕ) → ℕ × List ℕ
 byte_view r = (r.0, r.1.now)

@@ -1,10 +1,7 @@
 pub mod Node
-pub mod Bytes
-pub mod Plain
 pub mod TextLines
 pub mod Values
 pub mod TreeOf
-pub mod Scanning
 pub mod Keys
 pub mod Reading
 pub mod View

@@ -9,10 +9,10 @@ use Rattle.yaml_subset.specs.declared.fault.FaultKind.{FaultKind}
 use Rattle.yaml_subset.specs.declared.fault.FaultKind.TheVariants.{NotUtf8, Tab, Indent, DuplicateKey, Flow, NotInSubset, TooDeep, TooLong}
 use Rattle.yaml_subset.specs.declared.flaw.Flaw.{Flaw}
 use Rattle.yaml_subset.specs.Keys.{is_among}
-use Rattle.yaml_subset.specs.Bytes.{begins_blank, is_over, is_marker, characters, is_forbidden}
+use Rattle.yaml_bytes.specs.Bytes.{begins_blank, is_over, is_marker, characters, is_forbidden}
 use Rattle.yaml_subset.specs.Part.{◌>>=◌, flaw_at}
 use Rattle.yaml_subset.specs.Node.{Node, scalar, sequence, nodes_of, mapping, no_pairs, Pair, pairs_of}
-use Rattle.yaml_subset.specs.Scanning.{skipped, spaces_len, behind_spaces, behind_dash, before_colon}
+use Rattle.yaml_bytes.specs.Scanning.{behind_blanks, spaces_len, behind_spaces, behind_dash, before_colon}
 use Rattle.yaml_subset.specs.Words.{word_at}
 use Rattle.yaml_subset.specs.Flow.{begins_bracket, flow_at}
 use Rattle.yaml_subset.specs.TextLines.{Line, lines_of}
@@ -70,7 +70,7 @@ node_from n text (alone t) = Ok t
 
 -- what stands behind the colon of an entry or the `-` of an item: a value or nothing
 unfoldable pub inline_at : ℕ → ℕ → List ℕ → Result (Option Node) PlacedFault
-inline_at depth n text = if is_over (skipped text) then Ok None else (head_at depth n (skipped text) >>= λ h. node_from n (skipped text) h >>= λ t. Ok (Some t))
+inline_at depth n text = if is_over (behind_blanks text) then Ok None else (head_at depth n (behind_blanks text) >>= λ h. node_from n (behind_blanks text) h >>= λ t. Ok (Some t))
 
 -- ---- blocks
 
@@ -153,7 +153,7 @@ inner l after = record { number = l.number; indent = l.indent + (1 + spaces_len 
 
 -- behind the `-` of an item, where this begins there
 unfoldable pub item_with : ℕ → BlockReader → ℕ → Group → List ℕ → Head → Result Node PlacedFault
-item_with depth block i g after (item behind) = fault_at NotInSubset g.head.number (length (skipped after))
+item_with depth block i g after (item behind) = fault_at NotInSubset g.head.number (length (behind_blanks after))
 item_with depth block i g after (alone t) = value_at block g.head.number i (Some t) g.below
 item_with depth block i g after (entry key behind) =
     if begins_blank (behind_spaces after) then fault_at Tab g.head.number (length (behind_spaces after)) else block (Some i) (inner g.head after ∷ g.below)
@@ -161,9 +161,9 @@ item_with depth block i g after (entry key behind) =
 unfoldable pub item_from : ℕ → BlockReader → ℕ → Group → Option (List ℕ) → Result Node PlacedFault
 item_from depth block i g None = fault_of NotInSubset g.head
 item_from depth block i g (Some after) =
-    if is_over (skipped after)
+    if is_over (behind_blanks after)
     then value_at block g.head.number i None g.below
-    else (head_at depth g.head.number (skipped after) >>= λ h. item_with depth block i g after h)
+    else (head_at depth g.head.number (behind_blanks after) >>= λ h. item_with depth block i g after h)
 
 unfoldable pub item_at : ℕ → BlockReader → Option ℕ → ℕ → Group → Result Node PlacedFault
 item_at depth block around i g =
@@ -209,7 +209,7 @@ tree_at (suc levels) depth = block_at depth (block_from depth (tree_at levels de
 -- one line: its content, or nothing where it is blank or a comment
 unfoldable pub content_at : ℕ → List ℕ → Result (Option Line) PlacedFault
 content_at n raw =
-    if is_over (skipped raw)
+    if is_over (behind_blanks raw)
     then Ok None
     else (if begins_blank (behind_spaces raw) then fault_at Tab n (length (behind_spaces raw))
     else (if is_marker raw then fault_at NotInSubset n (length raw)

@@ -3,8 +3,8 @@ use Rattle.std.specs.Prelude.{◌≡◌, ℕ, ◌+◌, true, false, List, [], �
 use Rattle.std.specs.List.{slice_split, AllByRecursion}
 use Rattle.std.specs.Option.{option_to_list}
 use Rattle.std.specs.Str.{IsUtf8, chars}
-use Rattle.yaml_subset.specs.Bytes.{begins_blank, is_over, is_marker, is_forbidden}
-use Rattle.yaml_subset.specs.Plain.{IsBehindBlanks}
+use Rattle.yaml_bytes.specs.Bytes.{begins_blank, is_over, is_marker, is_forbidden}
+use Rattle.yaml_bytes.specs.Plain.{IsBehindBlanks}
 
 -- a line with content: its number, its indentation, and what stands behind the spaces at its front
 pub record Line : Type 0 where

@@ -1,7 +1,7 @@
 -- What a text says: the tree of its lines.
 use Rattle.std.specs.Prelude.{◌≡◌, ℕ, zero, suc, ◌<◌, ◌+◌, ◌^◌, nat_lt, ◌==◌, Bool, true, false, ◌&&◌, ◌||◌, List, [], ◌∷◌, ◌++◌, length, replicate, Option, Some, None, ◌⊎◌}
 use Rattle.std.specs.List.{Contains, AllByRecursion}
-use Rattle.yaml_subset.specs.Bytes.{begins_gap, begins_item}
+use Rattle.yaml_bytes.specs.Bytes.{begins_gap, begins_item}
 use Rattle.yaml_subset.specs.Node.{Node, scalar, sequence, nodes_of, mapping, no_pairs, Pair, pairs_of}
 use Rattle.yaml_subset.specs.Values.{IsKey, IsEntry, IsInline, IsNode}
 use Rattle.yaml_subset.specs.TextLines.{Line, lines_of, HaveContent}

@@ -1,8 +1,8 @@
 -- What stands on a line of a block: keys and values.
 use Rattle.std.specs.Prelude.{◌≡◌, ℕ, ◌≤◌, true, false, List, ◌∷◌, ◌++◌, Option, Some, None, ◌⊎◌}
-use Rattle.yaml_subset.specs.Bytes.{is_over, characters}
+use Rattle.yaml_bytes.specs.Bytes.{is_over, characters}
 use Rattle.yaml_subset.specs.Node.{Node, scalar}
-use Rattle.yaml_subset.specs.Plain.{IsBehindBlanks}
+use Rattle.yaml_bytes.specs.Plain.{IsBehindBlanks}
 use Rattle.yaml_subset.specs.Words.{IsWord}
 use Rattle.yaml_subset.specs.Flow.{IsFlow}
 

@@ -3,10 +3,10 @@ use Rattle.std.specs.Prelude.{◌≡◌, ℕ, Bool, true, false, ◌&&◌, ◌||
 use Rattle.yaml_subset.specs.declared.fault.FaultKind.{FaultKind}
 use Rattle.yaml_subset.specs.declared.fault.FaultKind.TheVariants.{Quote, Flow, NotInSubset}
 use Rattle.yaml_subset.specs.declared.flaw.Flaw.{Flaw}
-use Rattle.yaml_subset.specs.Bytes.{begins_blank, begins_gap, is_flow_indicator, begins_flow_indicator, begins_bare_colon, is_mark, begins_word}
+use Rattle.yaml_bytes.specs.Bytes.{begins_blank, begins_gap, is_flow_indicator, begins_flow_indicator, begins_bare_colon, is_mark, begins_word}
 use Rattle.yaml_subset.specs.Part.{◌>>=◌, flaw_at}
-use Rattle.yaml_subset.specs.Plain.{IsBehindBlanks, IsPlainWord}
-use Rattle.yaml_subset.specs.Scanning.{trimmed, skipped, word_front, word_rest}
+use Rattle.yaml_bytes.specs.Plain.{IsBehindBlanks, IsPlainWord}
+use Rattle.yaml_bytes.specs.Scanning.{trimmed, behind_blanks, word_front, word_rest}
 use Rattle.yaml_subset.specs.Quoted.{IsSingle, IsDouble, single_at, double_at}
 
 -- ---- what a word is
@@ -55,9 +55,9 @@ plain_at flow text =
 -- what stands behind a closing quote and the blanks after it
 unfoldable pub behind_quote : Bool → List ℕ → Result (List ℕ) Flaw
 behind_quote flow after =
-    if may_follow flow (begins_blank after) (skipped after)
-    then Ok (skipped after)
-    else flaw_at (if breaks_flow flow (skipped after) then Flow else Quote) (length (skipped after))
+    if may_follow flow (begins_blank after) (behind_blanks after)
+    then Ok (behind_blanks after)
+    else flaw_at (if breaks_flow flow (behind_blanks after) then Flow else Quote) (length (behind_blanks after))
 
 -- a text in quotes, read up to its closing quote
 abbrev pub quoted_at : Bool → Result (List ℕ × List ℕ) Flaw → Result (List ℕ × List ℕ) Flaw

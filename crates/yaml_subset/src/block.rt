@@ -8,16 +8,18 @@ ghost use Rattle.yaml_subset.specs.Reading.{hangs, chunks, groups_of, hanging_le
 ghost use Rattle.yaml_subset.specs.View.{node_view, pair_view};
 ghost use Rattle.yaml_subset.specs.Inside.{GivesLines, line_view, lines_view, node_option_view, copies_view};
 
-use crate::bytes::{begins_blank, begins_item, is_over};
 use crate::entry::{Head, head_of, inline};
 use crate::fault::FaultKind;
 use crate::keys::{MAX_KEY, take_copy};
 use crate::line::Line;
 use crate::place::Halt;
-use crate::scan::{before_colon, behind_dash, behind_spaces, characters, skipped, spaces_len};
 use crate::tree::{Key, Tree};
 use std::alloc::Global;
 use std::collections::BTreeSet;
+use yaml_bytes::{
+    before_colon, begins_blank, begins_item, behind_blanks, behind_dash, behind_spaces, characters,
+    is_over, spaces_len,
+};
 
 // Whether a line hangs from an entry, or else from an item, at an indentation.
 fn hangs(entry: bool, indent: usize, line: &Line) -> bool
@@ -222,7 +224,7 @@ fn item<'a>(
         Some(after) => after,
         None => return Err(line.fault(FaultKind::NotInSubset)),
     };
-    let rest = skipped(after);
+    let rest = behind_blanks(after);
     if is_over(rest) {
         return value(alloc, number, indent, None, below, levels);
     }

@@ -5,15 +5,14 @@ ghost use Rattle.yaml_subset.specs.Part.{GivesPart};
 ghost use Rattle.yaml_subset.specs.Reading.{text_head, head_at, inline_at};
 ghost use Rattle.yaml_subset.specs.Inside.{GivesLines, node_option_view, head_view};
 
-use crate::bytes::is_over;
 use crate::fault::FaultKind;
 use crate::flaw::Stop;
 use crate::flow::{begins_bracket, flow};
 use crate::place::Halt;
-use crate::scan::{behind_dash, skipped};
 use crate::tree::Tree;
 use crate::words::word;
 use std::alloc::Global;
+use yaml_bytes::{behind_blanks, behind_dash, is_over};
 
 /// The most lists and mappings that may stand one inside the other on one line.
 pub const MAX_DEPTH: u8 = 8;
@@ -68,7 +67,7 @@ pub fn head_of(alloc: Global, number: u32, text: &[u8]) -> Result<Head<'_>, Halt
 pub fn inline(alloc: Global, number: u32, text: &[u8]) -> Result<Option<Tree>, Halt>
     ensures { GivesLines node_option_view result (inline_at 8 number text.now) }
 {
-    let rest = skipped(text);
+    let rest = behind_blanks(text);
     if is_over(rest) {
         return Ok(None);
     }

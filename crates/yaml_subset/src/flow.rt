@@ -8,15 +8,14 @@ ghost use Rattle.yaml_subset.specs.Flow.{begins_with, begins_colon, begins_brack
 ghost use Rattle.yaml_subset.specs.View.{pair_view};
 ghost use Rattle.yaml_subset.specs.Inside.{rest_view, copies_view, flow_view, flow_pair_view};
 
-use crate::bytes::{begins_blank, begins_gap};
 use crate::fault::FaultKind;
 use crate::flaw::{Flaw, Stop};
 use crate::keys::{MAX_KEY, take_copy};
-use crate::scan::{characters, skipped};
 use crate::tree::{Key, Tree};
 use crate::words::word;
 use std::alloc::Global;
 use std::collections::BTreeSet;
+use yaml_bytes::{begins_blank, begins_gap, behind_blanks, characters};
 
 // Whether a byte comes first.
 fn begins_with(byte: u8, text: &[u8]) -> bool
@@ -63,7 +62,7 @@ fn is_ended(blank: bool, text: &[u8]) -> bool
 fn start(after: &[u8]) -> Result<&[u8], Stop>
     ensures { GivesPart rest_view result (start_at after.now) }
 {
-    let text = skipped(after);
+    let text = behind_blanks(after);
     if is_ended(begins_blank(after), text) {
         return Err(Stop::at(FaultKind::Flow, 0));
     }
@@ -104,7 +103,7 @@ fn behind_close(text: &[u8]) -> Result<&[u8], Stop>
             if begins_with(b'#', after) {
                 return Err(Stop::at(FaultKind::Flow, after.len()));
             }
-            Ok(skipped(after))
+            Ok(behind_blanks(after))
         }
     }
 }

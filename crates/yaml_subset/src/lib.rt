@@ -19,7 +19,6 @@
 #![tactic(auto)]
 
 mod block;
-mod bytes;
 mod entry;
 pub mod fault;
 mod flaw;
@@ -30,7 +29,6 @@ mod lines;
 mod place;
 mod quotes;
 pub mod reader;
-mod scan;
 #[cfg(test)]
 mod tests;
 pub mod tree;

@@ -4,16 +4,18 @@ ghost use Rattle.std.specs.Prelude.{◌≡◌, ◌∷◌, ◌++◌, ◌<◌, ◌
 ghost use Rattle.std.specs.List.{position_or_len};
 ghost use Rattle.std.specs.Option.{option_to_list};
 ghost use Rattle.std.specs.Str.{chars};
+ghost use Rattle.yaml_bytes.specs.Scanning.{text_option_view};
 ghost use Rattle.yaml_subset.specs.TextLines.{without_cr, lines_of};
 ghost use Rattle.yaml_subset.specs.Reading.{utf8_front, forbidden_left, blemish_at, content_at, contents_from};
-ghost use Rattle.yaml_subset.specs.Inside.{text_option_view, lines_behind, lines_view, line_option_view, GivesOrFaults};
+ghost use Rattle.yaml_subset.specs.Inside.{lines_behind, lines_view, line_option_view, GivesOrFaults};
 
-use crate::bytes::{begins_blank, is_forbidden, is_marker, is_over};
 use crate::fault::FaultKind;
 use crate::line::Line;
 use crate::place::PlacedFault;
-use crate::scan::{behind_spaces, skipped, spaces_len};
 use std::alloc::{AllocError, Global};
+use yaml_bytes::{
+    begins_blank, behind_blanks, behind_spaces, is_forbidden, is_marker, is_over, spaces_len,
+};
 
 // How many bytes stand before the first LF.
 fn line_len(text: &[u8]) -> usize
@@ -104,7 +106,7 @@ fn blemish(number: u32, raw: &[u8]) -> Option<PlacedFault>
 fn content(number: u32, raw: &[u8]) -> Result<Option<Line<'_>>, PlacedFault>
     ensures { GivesOrFaults line_option_view result (content_at number raw.now) }
 {
-    if is_over(skipped(raw)) {
+    if is_over(behind_blanks(raw)) {
         return Ok(None);
     }
     let text = behind_spaces(raw);

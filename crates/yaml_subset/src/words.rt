@@ -5,15 +5,14 @@ ghost use Rattle.yaml_subset.specs.Part.{GivesPart};
 ghost use Rattle.yaml_subset.specs.Words.{breaks_flow, may_follow, misfit, plain_at, behind_quote, word_at};
 ghost use Rattle.yaml_subset.specs.Inside.{word_view, rest_view};
 
-use crate::bytes::{
-    begins_bare_colon, begins_blank, begins_flow_indicator, begins_gap, begins_word,
-    is_flow_indicator, is_mark,
-};
 use crate::fault::FaultKind;
 use crate::flaw::Stop;
 use crate::quotes::{double, single};
-use crate::scan::{skipped, split_word, trimmed};
 use std::alloc::Global;
+use yaml_bytes::{
+    begins_bare_colon, begins_blank, begins_flow_indicator, begins_gap, begins_word, behind_blanks,
+    is_flow_indicator, is_mark, split_word, trimmed,
+};
 
 // Whether in flow a `:` comes first, and directly behind it one of `, [ ] { }`.
 fn breaks_flow(flow: bool, text: &[u8]) -> bool
@@ -73,7 +72,7 @@ fn plain(alloc: Global, flow: bool, text: &[u8]) -> Result<(Vec<u8>, &[u8]), Sto
 fn behind_quote(flow: bool, after: &[u8]) -> Result<&[u8], Stop>
     ensures { GivesPart rest_view result (behind_quote flow after.now) }
 {
-    let rest = skipped(after);
+    let rest = behind_blanks(after);
     if may_follow(flow, begins_blank(after), rest) {
         return Ok(rest);
     }

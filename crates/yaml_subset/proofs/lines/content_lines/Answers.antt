@@ -3,7 +3,8 @@ use Rattle.std.specs.Borrow.{Bor}
 use Rattle.std.specs.Option.{IfSome}
 use Rattle.yaml_subset.specs.TextLines.{lines_of}
 use Rattle.yaml_subset.specs.Reading.{contents_from}
-use Rattle.yaml_subset.specs.Inside.{lines_view, line_option_view, text_option_view, lines_behind}
+use Rattle.yaml_bytes.specs.Scanning.{text_option_view}
+use Rattle.yaml_subset.specs.Inside.{lines_view, line_option_view, lines_behind}
 use Rattle.yaml_subset.proofs.LineCuts.{room, goes_on, stops, stops_behind, all_read}
 use Rattle.yaml_subset.proofs.lines.content_lines.Goals as goal
 

@@ -1,7 +1,8 @@
 use Rattle.std.proofs.Common.{◌≡◌, ◌+◌, ◌≤◌, length}
 use Rattle.yaml_subset.specs.TextLines.{lines_of}
 use Rattle.yaml_subset.specs.Reading.{contents_from}
-use Rattle.yaml_subset.specs.Inside.{lines_view, text_option_view, lines_behind}
+use Rattle.yaml_bytes.specs.Scanning.{text_option_view}
+use Rattle.yaml_subset.specs.Inside.{lines_view, lines_behind}
 use Rattle.yaml_subset.proofs.LineCuts.{in_front, room}
 use Rattle.yaml_subset.proofs.lines.content_lines.Given as goal
 

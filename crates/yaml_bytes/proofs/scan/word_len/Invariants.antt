@@ -1,0 +1,12 @@
+use Rattle.std.proofs.Common.{◌≡◌, ◌+◌, length}
+use Rattle.yaml_bytes.specs.Scanning.{word_len}
+use Rattle.yaml_bytes.proofs.scan.word_len.Given as goal
+
+abbrev pub invariant-loop-rest : goal.invariant-loop-rest
+invariant-loop-rest l = record {
+  within : l.len + length l.rest ≡ length l.text;
+  so_far : l.len + word_len l.flow l.before l.rest ≡ word_len l.flow 32 l.text;
+}
+
+abbrev pub decreases-loop-rest : goal.decreases-loop-rest
+decreases-loop-rest l = length l.rest

@@ -1,0 +1,55 @@
+-- Reading a line from its first byte to its last.
+use Rattle.std.specs.Prelude.{ℕ, suc, ◌+◌, ◌-◌, Bool, List, [], ◌∷◌, length, take, drop, Option, Some, None, ◌&&◌, if◌then◌else◌, ◌==◌}
+use Rattle.std.specs.List.{prefix_len}
+use Rattle.std.specs.Borrow.{Bor}
+use Rattle.yaml_bytes.specs.Bytes.{is_blank, begins_gap}
+use Rattle.yaml_bytes.specs.Plain.{ends_word}
+
+-- how many bytes a plain word has up to where it ends, the blanks at its end too; `before` is the byte in front
+abbrev pub word_len : Bool → ℕ → List ℕ → ℕ
+word_len flow before [] = 0
+word_len flow before (b ∷ bs) = if ends_word flow before (b ∷ bs) then 0 else suc (word_len flow b bs)
+
+-- a byte in front of a text, where a blank in front of nothing is dropped
+abbrev pub onto_trimmed : ℕ → List ℕ → List ℕ
+onto_trimmed b [] = if is_blank b then [] else b ∷ []
+onto_trimmed b (c ∷ cs) = b ∷ c ∷ cs
+
+-- without the blanks at the end
+abbrev pub trimmed : List ℕ → List ℕ
+trimmed [] = []
+trimmed (b ∷ bs) = onto_trimmed b (trimmed bs)
+
+-- without the blanks at the front
+abbrev pub behind_blanks : List ℕ → List ℕ
+behind_blanks text = drop (prefix_len is_blank text) text
+
+-- a plain word with the blanks at its end, and what follows it
+abbrev pub word_front : Bool → List ℕ → List ℕ
+word_front flow text = take (word_len flow 32 text) text
+
+abbrev pub word_rest : Bool → List ℕ → List ℕ
+word_rest flow text = drop (word_len flow 32 text) text
+
+-- how many spaces come first
+abbrev pub spaces_len : List ℕ → ℕ
+spaces_len [] = 0
+spaces_len (b ∷ bs) = if b == 32 then suc (spaces_len bs) else 0
+
+-- without the spaces at the front
+abbrev pub behind_spaces : List ℕ → List ℕ
+behind_spaces text = drop (spaces_len text) text
+
+-- what stands behind the `-` of an item
+abbrev pub behind_dash : List ℕ → Option (List ℕ)
+behind_dash [] = None
+behind_dash (b ∷ after) = if (b == 45) && begins_gap after then Some after else None
+
+-- a part of a line, where there is one
+abbrev pub text_option_view : Option (Bor (List ℕ)) → Option (List ℕ)
+text_option_view None = None
+text_option_view (Some s) = Some s.now
+
+-- what stands before the colon of an entry, and after it this
+abbrev pub before_colon : List ℕ → List ℕ → List ℕ
+before_colon text after = take (length text - (length after + 1)) text
