@@ -1,8 +1,7 @@
 -- The first line of a text, without the blanks at its end, and what stands behind it.
-use Rattle.std.proofs.Common.{◌≡◌, ℕ, ◌==◌, Bool, true, false, ◌&&◌, ◌||◌, List, [], ◌∷◌, ◌++◌, drop, refl, sym, ap, subst, ◌∙◌, append_assoc, inl, inr}
+use Rattle.std.proofs.Common.{◌≡◌, ℕ, ◌==◌, Bool, true, false, ◌&&◌, ◌||◌, List, [], ◌∷◌, ◌++◌, drop, refl, ap, subst, ◌∙◌, inl, inr}
 use Rattle.std.proofs.lemmas.Bool.{eqb-true}
 use Rattle.std.proofs.lemmas.Slice.Eq.{bytes_eq-Decides}
-use Rattle.std.proofs.lemmas.List.{append-nil}
 use Rattle.yaml_bytes.specs.Scanning.{trimmed}
 use Rattle.yaml_bytes.proofs.PlainTexts.{trimmed_parts, trimmed-blanks}
 use Rattle.mpf_config.specs.BundleText.{begins_lf, ends_line, behind_end, first_line, behind_first_line, version_line, has_version}
