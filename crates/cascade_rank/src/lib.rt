@@ -13,6 +13,7 @@ mod walk;
 pub mod weights;
 
 pub use fault::RankFault;
+pub use law::cycles_or_weights;
 pub use least::find;
 pub use verdict::{Bound, verify};
 pub use weights::Weights;

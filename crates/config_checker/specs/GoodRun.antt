@@ -36,7 +36,7 @@ pub record IsGood (c : CheckedView) : Type 0 where
   pub within :
       (stimuli : List (Stimulus × ℕ)) (trace : List Line) (s : Machine) → IsRun c.plan stimuli (initial c.plan) trace s →
       length s.lines + length s.waiting ≤ c.bound
-  -- A machine in which an event waits is never stuck.
+  -- As long as an event waits, some event step can come.
   pub goes_on :
       (stimuli : List (Stimulus × ℕ)) (trace : List Line) (s : Machine) → IsRun c.plan stimuli (initial c.plan) trace s →
       (first : Posted) (rest : List Posted) → s.waiting ≡ first ∷ rest → (t : Machine) × EventStep c.plan s t

@@ -20,6 +20,6 @@ FoundIsReadAgain = (rows : Rows) (c : CheckedView) → checked_at rows ≡ Ok c 
 abbrev pub GivenIsReadAgain : Type 0
 GivenIsReadAgain = (rows : Rows) (text : List ℕ) (c : CheckedView) → checked_with_at rows text ≡ Ok c → IsReadAgain rows c
 
--- The same without a premise, where the rows are those of a bundle: the names of their plan's events are words.
+-- Of rows that are read from a bundle nothing is asked of the names: those of their plan's events are words.
 abbrev pub ReadIsReadAgain : Type 0
 ReadIsReadAgain = (bundle : List ℕ) (rows : Rows) (c : CheckedView) → rows_at bundle ≡ Ok rows → checked_at rows ≡ Ok c → IsReadAgain rows c

@@ -47,7 +47,7 @@ begin plan (Alarm at n) s = fire_switch plan n (arrived at s)
 begin plan (Wait at) s = arrived at s
 
 -- Each stimulus comes with a number: how many event steps follow it. The next one comes only once nothing waits, so that a run
--- may stop in mid-cascade only at its end. The trace has the lines of one stimulus behind those of the other.
+-- may stop in mid-cascade only at its end. In the trace the lines of each stimulus stand behind those of the one before it.
 abbrev pub IsRun : PlanView → List (Stimulus × ℕ) → Machine → List Line → Machine → Type 0
 IsRun plan [] old trace new = (trace ≡ []) × (new ≡ old)
 IsRun plan ((stimulus, n) ∷ more) old trace new =

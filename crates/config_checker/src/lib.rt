@@ -14,6 +14,7 @@ mod telling;
 pub use certificate::write_certificate;
 pub use checked::Checked;
 pub use checker::{check, check_with};
+pub use law::{accepted_is_good, certificate_is_read_again};
 pub use line::{Happening, Line};
 pub use report::{CertificateFault, Fault, Report};
 pub use report_text::write_report;

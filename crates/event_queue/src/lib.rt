@@ -6,6 +6,7 @@ pub mod law;
 pub mod queue;
 
 pub use handlers::Handlers;
+pub use law::first_in_first_out;
 pub use queue::{Full, Posted, Queue};
 
 #[cfg(test)]

@@ -8,19 +8,19 @@ pub use Rattle.mpf_values.specs.Names.{IsName}
 abbrev pub AllNames : List Written → Type 0
 AllNames names = All (λ w. IsName w.text) names
 
--- the name of a switch, those of its tags, and those of the events that its entry lists
+-- the name of a switch is one, and so are those of its tags and of the events that its entry lists
 pub record IsNamedSwitch (s : Switch) : Type 0 where
   pub name : IsName s.name.text
   pub tags : AllNames s.tags
   pub activated : AllNames s.activated
   pub deactivated : AllNames s.deactivated
 
--- the name of the event that an entry handles, and those of the events that it posts
+-- the name of the event that an entry handles is one, and so are those of the events that it posts
 pub record IsNamedPlayer (p : EventPlayer) : Type 0 where
   pub event : IsName p.event.text
   pub posts : AllNames p.posts
 
--- those in each row of the section
+-- so it is in each row of the section
 abbrev pub IsNamed : SectionRows → Type 0
 IsNamed (switches entries) = All IsNamedSwitch entries
 IsNamed (event_player entries) = All IsNamedPlayer entries

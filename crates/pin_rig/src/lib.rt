@@ -9,6 +9,7 @@ pub mod rig;
 mod stimulus;
 
 pub use input::{Input, RigFault, StepFault};
+pub use law::steps_are_run;
 pub use rig::Rig;
 
 #[cfg(test)]

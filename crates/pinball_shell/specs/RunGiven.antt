@@ -15,7 +15,8 @@ abbrev pub given_of : Result (Option Stimulus) Refusal → Option Stimulus
 given_of (Ok given) = given
 given_of (Err refusal) = None
 
--- The stimuli that these lines of a log give, where the latest came at `now`. Neither a refused line nor an alarm changes that.
+-- The stimuli that these lines of a log give, where the latest stimulus before them came at `now`. A line that is refused leaves
+-- `now` as it was; an alarm comes in front of the stimulus of a line, and not at a later moment.
 abbrev pub given_by : PlanView → ℕ → List (List ℕ) → List Stimulus
 given_by plan now [] = []
 given_by plan now (line ∷ more) =
@@ -44,7 +45,7 @@ pub record IsRunOfLog (plan : PlanView) (log : List ℕ) (trace : List Line) : T
   pub last : (before : List (Stimulus × ℕ)) (at switch n : ℕ) → stimuli ≢ before ++ (Alarm at switch, n) ∷ []
 
 -- A log gives one list of stimuli: two of its runs differ at most in the order of handlers of equal priority.
-abbrev pub GivesOneRun : Type 0
-GivesOneRun =
+abbrev pub GivesOneList : Type 0
+GivesOneList =
     (plan : PlanView) (log : List ℕ) (trace other : List Line) (a : IsRunOfLog plan log trace) (b : IsRunOfLog plan log other)
     → map (λ s. s.0) a.stimuli ≡ map (λ s. s.0) b.stimuli

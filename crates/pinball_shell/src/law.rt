@@ -1,7 +1,7 @@
 //! What holds of all that is printed and played.
 
 ghost use Rattle.pinball_shell.specs.CheckVerified.{IsJudgedAgain, IsPrintedAgain};
-ghost use Rattle.pinball_shell.specs.RunGiven.{GivesOneRun};
+ghost use Rattle.pinball_shell.specs.RunGiven.{GivesOneList};
 ghost use Rattle.pinball_shell.specs.SamePlay.{PlaysTheSame};
 
 /// The law of printed certificates, for all bundles. Where `check_text` says yes to a bundle, it
@@ -16,7 +16,7 @@ pub fn printed_certificate_is_verified()
 
 /// The law of certificates in play. Whatever weights and bound a plan was accepted with, those that
 /// were found or those of a certificate, `play_text` writes the same of every log, and gives the
-/// same verdict: both tell the whole of `told_in`.
+/// same verdict: both are functions of `told_in`.
 ///
 /// It does nothing: its contract is the law, over what is told of a log.
 pub fn any_certificate_plays_the_same()
@@ -29,6 +29,6 @@ pub fn any_certificate_plays_the_same()
 /// that.
 ///
 /// It does nothing: its contract is the law, over the runs that a log gives.
-pub fn log_gives_one_run()
-    ensures { GivesOneRun }
+pub fn log_gives_one_list_of_stimuli()
+    ensures { GivesOneList }
 {}

@@ -7,6 +7,7 @@ mod state;
 pub mod switches;
 
 pub use change::Change;
+pub use law::levels_are_accepted;
 pub use switches::Switches;
 
 #[cfg(test)]
