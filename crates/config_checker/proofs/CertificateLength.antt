@@ -1,6 +1,6 @@
 -- How long the text of a certificate is.
-use Rattle.std.proofs.Common.{◌≡◌, ℕ, ◌+◌, ◌*◌, ◌<◌, ◌≤◌, ◌^◌, List, [], ◌∷◌, ◌++◌, length, get_or, Ok, sym, ap, ◌∙◌, subst, arith, codes}
-use Rattle.std.specs.List.{All, zip, flat_map, sum_by}
+use Rattle.std.proofs.Common.{◌≡◌, ℕ, ◌*◌, ◌≤◌, ◌^◌, List, [], ◌∷◌, ◌++◌, length, get_or, Ok, sym, ap, ◌∙◌, subst, arith, codes}
+use Rattle.std.specs.List.{All, zip}
 use Rattle.std.specs.Fmt.{decimal}
 use Rattle.std.proofs.lemmas.Fmt.{length-decimal-le}
 use Rattle.std.proofs.lemmas.List.{length-append, length-map}
@@ -10,11 +10,10 @@ use Rattle.std.proofs.lemmas.Slice.Zip.{firsts-zip, seconds-zip}
 use Rattle.mpf_config.specs.Rows.{Rows}
 use Rattle.mpf_config.specs.Reading.{rows_at}
 use Rattle.mpf_plan.specs.PlanView.{PlanView}
-use Rattle.mpf_plan.specs.PlanOf.{plan_of}
 use Rattle.cascade_rank.specs.Weights.{greatest}
 use Rattle.config_checker.specs.CheckedView.{CheckedView}
 use Rattle.config_checker.specs.Accepted.{IsAccepted}
-use Rattle.config_checker.specs.CertificateText.{event_line, event_lines, bound_line, certificate_of, certificate_text}
+use Rattle.config_checker.specs.CertificateText.{event_line, event_lines, bound_line, certificate_text}
 use Rattle.config_checker.specs.Checking.{checked_at}
 use Rattle.config_checker.proofs.Names.{all_seen}
 use Rattle.config_checker.proofs.EventWords.{events_are_few}
