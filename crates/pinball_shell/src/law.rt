@@ -9,7 +9,7 @@ use crate::check::CERTIFICATE_LIMIT;
 /// The law of printed certificates, for all bundles. Where `check_text` says yes to a bundle, it
 /// prints the notes, `yes` and a certificate; with that certificate `verify_text` says yes to the
 /// same bundle, and prints the same notes, `yes` and the certificate's bound. The certificate is
-/// within the limit of `verify_text`: it has at most `CERTIFICATE_LIMIT` bytes.
+/// within the limit of `verify_text`, 1 MiB.
 ///
 /// It does nothing: its contract is the law, over the outputs that the calls write.
 pub fn printed_certificate_is_verified()
