@@ -15,3 +15,4 @@ pub mod Names
 pub mod Judging
 pub mod EventWords
 pub mod ReadBack
+pub mod CertificateLength

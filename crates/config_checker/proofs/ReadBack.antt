@@ -1,5 +1,5 @@
 -- What was accepted is accepted again with the text of its certificate.
-use Rattle.std.proofs.Common.{◌≡◌, ℕ, ◌<◌, ◌≤◌, ◌^◌, Bool, true, false, ◌==◌, if◌then◌else◌, List, length, slice_index, Option, Some, None, Result, Ok, Err, refl, sym, ap, subst, arith, ◌∙◌}
+use Rattle.std.proofs.Common.{◌≡◌, ℕ, ◌<◌, ◌≤◌, ◌^◌, Bool, true, false, ◌==◌, if◌then◌else◌, List, length, slice_index, Option, Some, None, Result, Ok, Err, refl, sym, ap, subst, arith}
 use Rattle.std.specs.List.{All, zip}
 use Rattle.std.proofs.lemmas.Bool.{not-false, eqb-true}
 use Rattle.std.proofs.lemmas.List.Elements.{All-weaker}
@@ -22,6 +22,7 @@ use Rattle.cascade_rank.proofs.FirstEvent.{first_event-None}
 use Rattle.cascade_rank.proofs.Verifying.{IsWithinLimit-from_test, verified_at-bound}
 use Rattle.cascade_rank.proofs.Finds.{ranks_least}
 use Rattle.config_checker.specs.CheckedView.{CheckedView}
+use Rattle.config_checker.specs.Accepted.{IsAccepted}
 use Rattle.config_checker.specs.CertificateText.{Certificate, certificate_of, certificate_text}
 use Rattle.config_checker.specs.CertificateOf.{IsWord, IsWritable, certificate_at}
 use Rattle.config_checker.specs.Checking.{FaultView, same_names, names_in, weights_in, weighed, judged, bounded, certified, judged_with, alone, checked, checked_at, checked_with_at}
@@ -86,28 +87,27 @@ module _ (rows : Rows) where
   judged_plan judge (Ok plan) c is = (plan, refl, alone_same (judge plan) c is)
   judged_plan judge (Err t) c is = absurd (err_not_ok _ c is)
 
-  weighed-again : (plan : PlanView) (found : Result (List ℕ) RankView) (c : CheckedView) → plan_at rows ≡ Ok plan → found_at plan ≡ found → weighed plan found ≡ Ok c → All IsWord c.plan.events → IsReadAgain rows c
-  weighed-again plan (Ok ws) c made found is =
+  -- what was accepted has the plan of the rows, and weights that serve
+  weighed-accepted : (plan : PlanView) (found : Result (List ℕ) RankView) (c : CheckedView) → plan_at rows ≡ Ok plan → found_at plan ≡ found → weighed plan found ≡ Ok c → (plan_at rows ≡ Ok c.plan) × IsAccepted c
+  weighed-accepted plan (Ok ws) c made found is =
       let accepted : CheckedView = record { plan = plan; weights = ws; bound = bound_of plan (slice_index ws) } in
-      subst (λ (v : CheckedView). All IsWord v.plan.events → IsReadAgain rows v) (ok_same accepted c is) (verified-again accepted made (found-verified plan (IsValid-plan_at rows plan made) ws found))
-  weighed-again plan (Err fault) c made found is = absurd (err_not_ok _ c is)
+      let valid = IsValid-plan_at rows plan made in
+      subst (λ (v : CheckedView). (plan_at rows ≡ Ok v.plan) × IsAccepted v) (ok_same accepted c is) (made, record { valid = valid; verified = found-verified plan valid ws found })
+  weighed-accepted plan (Err fault) c made found is = absurd (err_not_ok _ c is)
+
+  pub found_is_accepted : (c : CheckedView) → checked_at rows ≡ Ok c → (plan_at rows ≡ Ok c.plan) × IsAccepted c
+  unfolding checked_at judged
+  found_is_accepted c is =
+      let from = judged_plan judged (plan_at rows) c is in
+      weighed-accepted from.0 (found_at from.0) c from.1 refl from.2
 
   pub found-again : (c : CheckedView) → checked_at rows ≡ Ok c → All IsWord c.plan.events → IsReadAgain rows c
-  unfolding checked_at judged
-  found-again c is =
-      let from = judged_plan judged (plan_at rows) c is in
-      weighed-again from.0 (found_at from.0) c from.1 refl from.2
+  found-again c is words =
+      let from = found_is_accepted c is in
+      verified-again c from.0 from.1.verified words
 
-  -- what was accepted has the plan of the rows
-  weighed_plan : (plan : PlanView) (found : Result (List ℕ) RankView) (c : CheckedView) → weighed plan found ≡ Ok c → c.plan ≡ plan
-  weighed_plan plan (Ok ws) c is = ap (λ (v : CheckedView). v.plan) (sym (ok_same (record { plan = plan; weights = ws; bound = bound_of plan (slice_index ws) }) c is))
-  weighed_plan plan (Err fault) c is = absurd (err_not_ok _ c is)
-
-  found-plan : (c : CheckedView) → checked_at rows ≡ Ok c → c.plan ≡ plan_of rows
-  unfolding checked_at judged
-  found-plan c is =
-      let from = judged_plan judged (plan_at rows) c is in
-      weighed_plan from.0 (found_at from.0) c from.2 ∙ (plan_at-Ok rows from.0 from.1).0
+  pub found-plan : (c : CheckedView) → checked_at rows ≡ Ok c → c.plan ≡ plan_of rows
+  found-plan c is = (plan_at-Ok rows c.plan (found_is_accepted c is).0).0
 
   -- where the rows are those of a bundle, the names of its events are words
   pub read-again : (bundle : List ℕ) (c : CheckedView) → rows_at bundle ≡ Ok rows → checked_at rows ≡ Ok c → IsReadAgain rows c

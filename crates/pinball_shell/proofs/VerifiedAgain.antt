@@ -1,11 +1,12 @@
--- What was accepted of a bundle is accepted again with its certificate.
-use Rattle.std.proofs.Common.{◌≡◌, ℕ, List, ◌++◌, None, Some, Result, Ok, Err, refl, ap, sym, ◌∙◌}
+-- What was accepted of a bundle is accepted again with its certificate, which is not too long to be read.
+use Rattle.std.proofs.Common.{◌≡◌, ℕ, ◌≤◌, ◌^◌, List, ◌++◌, length, None, Some, Result, Ok, Err, refl, ap, sym, ◌∙◌}
 use Rattle.mpf_config.specs.Rows.{Rows, RowsFault}
 use Rattle.mpf_config.specs.Reading.{rows_at}
 use Rattle.config_checker.specs.CheckedView.{CheckedView}
 use Rattle.config_checker.specs.CertificateText.{certificate_text}
 use Rattle.config_checker.specs.Checking.{FaultView, checked_at}
 use Rattle.config_checker.proofs.ReadBack.{read-again}
+use Rattle.config_checker.proofs.CertificateLength.{certificate-few}
 use Rattle.pinball_shell.specs.Judged.{Answer, answer_of, judged, judged_at, judged_with}
 use Rattle.pinball_shell.specs.CheckOutput.{notes_text, answer_text, acceptance_text, verification_text, judgement_text, check_output, verify_output}
 
@@ -37,3 +38,10 @@ is_printed_again bundle c accepted = (
   ap (λ (a : Answer). notes_text (judged_at bundle).notes ++ answer_text acceptance_text a) accepted,
   ap (judgement_text verification_text) (is_judged_again bundle c accepted) ∙ ap (λ (a : Answer). notes_text (judged_at bundle).notes ++ answer_text verification_text a) accepted,
 )
+
+short-printed : (bundle : List ℕ) (read : Result Rows RowsFault) (c : CheckedView) → rows_at bundle ≡ read → (judged None read).answer ≡ Ok c → length (certificate_text c) ≤ 2 ^ 20
+short-printed bundle (Ok rows) c is accepted = certificate-few rows bundle c is (accepted_is (checked_at rows) c accepted)
+short-printed bundle (Err f) c is accepted = absurd cc
+
+pub is_short : (bundle : List ℕ) (c : CheckedView) → (judged_at bundle).answer ≡ Ok c → length (certificate_text c) ≤ 2 ^ 20
+is_short bundle c accepted = short-printed bundle (rows_at bundle) c refl accepted

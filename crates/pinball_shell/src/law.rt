@@ -1,17 +1,21 @@
 //! What holds of all that is printed and played.
 
-ghost use Rattle.pinball_shell.specs.CheckVerified.{IsJudgedAgain, IsPrintedAgain};
+ghost use Rattle.pinball_shell.specs.CheckVerified.{AcceptedIsJudgedAgain, AcceptedIsPrintedAgain, AcceptedIsShort};
 ghost use Rattle.pinball_shell.specs.RunGiven.{GivesOneList};
 ghost use Rattle.pinball_shell.specs.SamePlay.{PlaysTheSame};
 
+use crate::check::CERTIFICATE_LIMIT;
+
 /// The law of printed certificates, for all bundles. Where `check_text` says yes to a bundle, it
 /// prints the notes, `yes` and a certificate; with that certificate `verify_text` says yes to the
-/// same bundle, and prints the same notes, `yes` and the certificate's bound.
+/// same bundle, and prints the same notes, `yes` and the certificate's bound. The certificate is
+/// within the limit of `verify_text`, 1 MiB.
 ///
 /// It does nothing: its contract is the law, over the outputs that the calls write.
 pub fn printed_certificate_is_verified()
-    ensures judged { IsJudgedAgain }
-    ensures printed { IsPrintedAgain }
+    ensures judged { AcceptedIsJudgedAgain }
+    ensures printed { AcceptedIsPrintedAgain }
+    ensures short { AcceptedIsShort CERTIFICATE_LIMIT }
 {}
 
 /// The law of certificates in play. Whatever weights and bound a plan was accepted with, those that
