@@ -14,7 +14,7 @@ abbrev pub grounded_in : PlanView → ℕ → ℕ → Bool
 grounded_in plan zero e = false
 grounded_in plan (suc k) e = all_mentioned (grounded_in plan k) (cost_of_event plan e)
 
--- whether each such chain ends: in a valid plan, one longer than the plan comes back to an event, and so can go round for ever
+-- whether each such chain ends: in a valid plan, one of more events than the plan has comes back to one of them, and so can go round for ever
 abbrev pub grounded : PlanView → ℕ → Bool
 grounded plan e = grounded_in plan (length plan.events) e
 
