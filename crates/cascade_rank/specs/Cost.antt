@@ -1,6 +1,6 @@
 -- What a thing costs: the lines that it prints and the weights of the events that it posts, added up or compared.
-use Rattle.std.specs.Prelude.{ℕ, ◌+◌, max, Bool, true, false, ◌&&◌, ◌||◌, ◌==◌, if◌then◌else◌, List, [], ◌∷◌}
-use Rattle.mpf_plan.specs.PlanView.{PlanView, Switch, list_at, bound_to}
+use Rattle.std.specs.Prelude.{ℕ, ◌+◌, max, Bool, true, false, ◌&&◌, ◌||◌, ◌==◌, List, [], ◌∷◌}
+use Rattle.mpf_plan.specs.PlanView.{PlanView, Switch, switch_posts, list_at, bound_to}
 use Rattle.mpf_plan.specs.declared.entries.EventId.{EventId}
 use Rattle.mpf_plan.specs.declared.entries.ListId.{ListId}
 use Rattle.mpf_plan.specs.declared.entries.Action.{Action}
@@ -67,10 +67,6 @@ cost_of_binding plan b = cost_of_target plan b.target
 -- an event costs its line and all that is bound to it
 abbrev pub cost_of_event : PlanView → ℕ → Cost
 cost_of_event plan e = Both (Lines 1) (each_of (cost_of_binding plan) (bound_to plan (record { 0 = e })))
-
--- what a switch posts when it becomes active, or inactive
-abbrev pub switch_posts : Bool → Switch → List EventId
-switch_posts active s = if active then s.active else s.inactive
 
 -- to accept a switch as active or inactive costs its line and its posts
 abbrev pub cost_of_acceptance : Bool → Switch → Cost

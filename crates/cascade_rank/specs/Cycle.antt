@@ -15,13 +15,13 @@ pub record IsFirst (p : ℕ → Bool) (e : ℕ) : Type 0 where
 abbrev pub GoesOn : PlanView → ℕ → ℕ → Type 0
 GoesOn plan e f = IsFirst (λ g. leads plan e g && is_open plan g) f
 
--- a walk begins at the open event with the lowest number, and has not come back to an event that it passed
+-- a walk begins at the open event with the lowest number, goes on step by step, and has not come back to one of its events
 pub record IsWalk (plan : PlanView) (path : List ℕ) : Type 0 where
   pub first : 0 < length path → IsFirst (is_open plan) (slice_index path 0)
   pub next : (i : ℕ) → i + 1 < length path → GoesOn plan (slice_index path i) (slice_index path (i + 1))
   pub apart : (i j : ℕ) → i < j → j < length path → slice_index path i ≢ slice_index path j
 
--- Here the next step comes back to an event: the cycle is the walk from there on.
+-- a walk whose next step comes back to one of its events: the cycle is the walk from that event on
 pub record IsToldCycle (plan : PlanView) (cycle : List ℕ) : Type 0 where
   pub path : List ℕ
   pub walk : IsWalk plan path

@@ -9,12 +9,12 @@ use Rattle.cascade_rank.specs.Weights.{IsFitting}
 abbrev pub leads : PlanView → ℕ → ℕ → Bool
 leads plan e f = mentions f (cost_of_event plan e)
 
--- whether each row of events that begins with e, and in which each leads to the next, has at most k events
+-- whether each chain of events that begins with e, each leading to the next, has at most k events
 abbrev pub grounded_in : PlanView → ℕ → ℕ → Bool
 grounded_in plan zero e = false
 grounded_in plan (suc k) e = all_mentioned (grounded_in plan k) (cost_of_event plan e)
 
--- whether each such row comes to an end: one of more events than the plan has comes twice to one of them, and could go on so
+-- whether each such chain ends: in a valid plan, one of more events than the plan has comes back to one of them, and so can go round for ever
 abbrev pub grounded : PlanView → ℕ → Bool
 grounded plan e = grounded_in plan (length plan.events) e
 
@@ -22,7 +22,7 @@ grounded plan e = grounded_in plan (length plan.events) e
 abbrev pub is_open : PlanView → ℕ → Bool
 is_open plan e = not (grounded plan e)
 
--- events each of which leads to the next, and the last to the first
+-- events that lead to each other in a ring, in this order
 pub record IsCycle (plan : PlanView) (events : List ℕ) : Type 0 where
   pub some : 0 < length events
   pub within : All (λ e. e < length plan.events) events

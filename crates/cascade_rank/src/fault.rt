@@ -13,9 +13,10 @@ pub enum RankFault {
     /// Memory ran out.
     #[error("NoMemory")]
     NoMemory,
-    /// Each of these events leads to the next, and the last to the first. They are those to which
-    /// the walk comes that begins at the lowest-numbered event from which one can go on without
-    /// end, and goes on each time to the lowest-numbered such event.
+    /// These events lead to each other in a ring, in this order. They are found by a walk: it
+    /// begins at the lowest-numbered event from which one can go on without end, and goes on each
+    /// time to the lowest-numbered such event that the last one leads to. The cycle is the walk
+    /// from the event on to which it comes back.
     #[error("Cycle")]
     Cycle(Vec<EventId>),
     /// A weight, or what a stimulus leads to at most, is above 10,000.

@@ -363,7 +363,7 @@ fn grounded_by_rounds(alloc: Global, graph: &Graph) -> Result<Vec<bool>, AllocEr
     Ok(grounded)
 }
 
-/// The lowest-numbered event that is not grounded and to which the event leads.
+/// The first event by number, of those that are not grounded, to which the event leads.
 fn go_on(graph: &Graph, grounded: &[bool], from: usize) -> Option<usize> {
     for to in 0..graph.events {
         if leads(graph, from, to) && !is_in(grounded, to) {
@@ -469,7 +469,7 @@ fn all_cycles(alloc: Global, graph: &Graph) -> Result<Vec<Vec<usize>>, AllocErro
     Ok(closed)
 }
 
-/// Whether each of the events leads to the next, and the last to the first.
+/// Whether the events lead to each other in a ring, in this order.
 fn is_cycle(graph: &Graph, cycle: &[usize]) -> bool {
     let first = cycle.first().copied().unwrap_or(usize::MAX);
     for (place, event) in cycle.iter().enumerate() {

@@ -2,7 +2,7 @@
 use Rattle.std.proofs.Common.{◌≡◌, ℕ, zero, suc, ◌+◌, ◌≤◌, ◌<◌, Bool, true, false, is_some, if◌then◌else◌, Option, Some, None, List, [], ◌∷◌, length, slice_index_or, slice_set, refl, ap, sym, ◌∙◌, subst, inl, inr, ◌⊎◌, arith}
 use Rattle.std.proofs.lemmas.Bool.{cases_lt, cases_eq, cond_both}
 use Rattle.std.proofs.lemmas.List.{get_or-set_same, get_or-set_other, get_or_past, set_past}
-use Rattle.mpf_plan.specs.PlanView.{PlanView, list_at}
+use Rattle.mpf_plan.specs.PlanView.{PlanView, switch_posts, list_at}
 use Rattle.mpf_plan.specs.declared.entries.Owner.{Owner}
 use Rattle.mpf_plan.specs.declared.entries.Owner.TheVariants as owners
 use Rattle.mpf_plan.specs.declared.entries.Action.{Action}
@@ -14,7 +14,6 @@ use Rattle.mpf_plan.specs.declared.entries.SwitchKind.{SwitchKind}
 use Rattle.switch_core.specs.SwitchStep.{SwitchState, same_level, is_active, accepted, awaited, changed, is_taken, fired}
 use Rattle.config_checker.specs.declared.line.Line.{Line}
 use Rattle.config_checker.specs.declared.line.Happening.TheVariants as tells
-use Rattle.cascade_rank.specs.Cost.{switch_posts}
 use Rattle.config_checker.specs.Machine.{Machine, write, post, set_switch, all_do, do_action, do_target, do_binding, initial, planned, kind_at, idle_switch, switch_at, level_of, tell_switch, set_changed}
 use Rattle.config_checker.specs.EventStep.{EventStep, EventSteps, taken}
 use Rattle.config_checker.specs.PlanOrder.{plan_steps}

@@ -1,6 +1,6 @@
 -- Each part of the machine does its cost.
 use Rattle.std.proofs.Common.{ℕ, Bool, true, false, if◌then◌else◌, List}
-use Rattle.mpf_plan.specs.PlanView.{PlanView, list_at}
+use Rattle.mpf_plan.specs.PlanView.{PlanView, switch_posts, list_at}
 use Rattle.mpf_plan.specs.declared.entries.ListId.{ListId}
 use Rattle.mpf_plan.specs.declared.entries.Owner.{Owner}
 use Rattle.mpf_plan.specs.declared.entries.Owner.TheVariants as owners
@@ -11,7 +11,7 @@ use Rattle.mpf_plan.specs.declared.entries.Target.TheVariants.{Run}
 use Rattle.mpf_plan.specs.declared.entries.Binding.{Binding}
 use Rattle.switch_core.specs.SwitchStep.{changed, is_taken, fired}
 use Rattle.config_checker.specs.declared.line.Happening.TheVariants as tells
-use Rattle.cascade_rank.specs.Cost.{Cost, Lines, each_of, cost_of_post, cost_of_action, cost_of_list, cost_of_target, cost_of_binding, switch_posts, cost_of_acceptance}
+use Rattle.cascade_rank.specs.Cost.{Cost, Lines, each_of, cost_of_post, cost_of_action, cost_of_list, cost_of_target, cost_of_binding, cost_of_acceptance}
 use Rattle.event_queue.specs.declared.queue.Posted.{Posted}
 use Rattle.config_checker.specs.Machine.{Machine, write, post, do_action, do_list, do_target, do_binding, planned, kind_at, switch_at, level_of, tell_switch, set_changed, change_switch, fire_switch}
 use Rattle.config_checker.specs.EventStep.{after_event, taken}

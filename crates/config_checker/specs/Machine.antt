@@ -1,6 +1,6 @@
 -- The machine's state, and what each thing does to it.
 use Rattle.std.specs.Prelude.{ℕ, Bool, if◌then◌else◌, List, [], ◌∷◌, ◌++◌, map, slice_index_or, slice_set}
-use Rattle.mpf_plan.specs.PlanView.{PlanView, Switch, no_switch, list_at}
+use Rattle.mpf_plan.specs.PlanView.{PlanView, Switch, switch_posts, no_switch, list_at}
 use Rattle.mpf_plan.specs.declared.entries.SwitchKind.{SwitchKind}
 use Rattle.mpf_plan.specs.declared.entries.EventId.{EventId}
 use Rattle.mpf_plan.specs.declared.entries.ListId.{ListId}
@@ -16,7 +16,6 @@ use Rattle.config_checker.specs.declared.line.Line.{Line}
 use Rattle.config_checker.specs.declared.line.Happening.{Happening}
 use Rattle.config_checker.specs.declared.line.Happening.TheVariants as tells
 use Rattle.event_queue.specs.declared.queue.Posted.{Posted}
-use Rattle.cascade_rank.specs.Cost.{switch_posts}
 
 pub record Machine : Type 0 where
   -- the moment of the latest stimulus, in milliseconds

@@ -20,6 +20,10 @@ pub record Switch : Type 0 where
   pub active : List EventId
   pub inactive : List EventId
 
+-- what a switch posts when it becomes active, or inactive
+abbrev pub switch_posts : Bool → Switch → List EventId
+switch_posts active s = if active then s.active else s.inactive
+
 -- in place of a switch where there is none
 abbrev pub no_switch : Switch
 no_switch = record { name = []; kind = record { contact = NormallyOpen; quick = false }; active = []; inactive = [] }
@@ -47,9 +51,9 @@ switch_at plan s = slice_index_or plan.switches s.0 no_switch
 abbrev pub switch_named : PlanView → List ℕ → Option SwitchId
 switch_named plan name = option_map (λ n. record { 0 = n }) (position (λ s. bytes_eq name s.name) plan.switches)
 
--- what a switch posts when it becomes active, or inactive
+-- what a switch of the plan posts
 abbrev pub posts_of : PlanView → SwitchId → Bool → List EventId
-posts_of plan s active = if active then (switch_at plan s).active else (switch_at plan s).inactive
+posts_of plan s active = switch_posts active (switch_at plan s)
 
 -- the actions of an effect list
 abbrev pub list_at : PlanView → ListId → List Action

@@ -4,9 +4,9 @@ use Rattle.std.specs.Prelude.{slice_get}
 use Rattle.mpf_plan.specs.declared.entries.EventId.{EventId}
 use Rattle.mpf_plan.specs.declared.entries.Owner.{Owner}
 use Rattle.mpf_plan.specs.declared.entries.Owner.TheVariants as owners
-use Rattle.mpf_plan.specs.PlanView.{PlanView}
+use Rattle.mpf_plan.specs.PlanView.{PlanView, switch_posts}
 use Rattle.config_checker.specs.declared.line.Happening.TheVariants as tells
-use Rattle.cascade_rank.specs.Cost.{Cost, cost_of_post, switch_posts}
+use Rattle.cascade_rank.specs.Cost.{Cost, cost_of_post}
 use Rattle.config_checker.specs.Machine.{Machine, write, post, all_do, planned, tell_switch}
 use Rattle.config_checker.proofs.Does.{Does, posted, grows-does, all_do-does}
 use Rattle.event_queue.specs.declared.queue.Posted.{Posted}
