@@ -14,7 +14,8 @@ use crate::line::Line;
 use crate::place::PlacedFault;
 use std::alloc::{AllocError, Global};
 use yaml_bytes::{
-    begins_blank, behind_blanks, behind_spaces, is_forbidden, is_marker, is_over, spaces_len,
+    begins_blank, behind_blanks, behind_spaces, is_document_marker, is_forbidden, is_over,
+    spaces_len,
 };
 
 // How many bytes stand before the first LF.
@@ -113,7 +114,7 @@ fn content(number: u32, raw: &[u8]) -> Result<Option<Line<'_>>, PlacedFault>
     if begins_blank(text) {
         return Err(PlacedFault::new(FaultKind::Tab, number, text.len()));
     }
-    if is_marker(raw) {
+    if is_document_marker(raw) {
         return Err(PlacedFault::new(FaultKind::NotInSubset, number, raw.len()));
     }
     Ok(Some(Line {
