@@ -224,7 +224,7 @@ forbidden_left (c ∷ cs) = if is_forbidden c then length (encode_utf8_all (c �
 abbrev pub utf8_front : List ℕ → List ℕ
 utf8_front raw = take (utf8_valid_len raw) raw
 
--- the first character of a line that no text may have, or its first bytes that are not UTF-8
+-- the first character of a line that none may have, or its first bytes that are not UTF-8
 unfoldable pub blemish_at : ℕ → List ℕ → Option PlacedFault
 blemish_at n raw =
     if nat_lt 0 (forbidden_left (chars (utf8_front raw)))

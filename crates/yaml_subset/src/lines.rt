@@ -70,7 +70,7 @@ fn utf8_front(raw: &[u8]) -> &str
     }
 }
 
-// How many bytes have the characters from the first one on that no text may have.
+// How many bytes have the characters from the first one on that no line may have.
 fn forbidden_left(text: &str) -> usize
     ensures within { result ≤ length text.now }
     ensures value { result ≡ forbidden_left (chars text.now) }
@@ -85,7 +85,7 @@ fn forbidden_left(text: &str) -> usize
     0
 }
 
-// The first character of a line that no text may have, or its first bytes that are not UTF-8.
+// The first character of a line that none may have, or its first bytes that are not UTF-8.
 #[tactic(auto, unfolding(crate::specs::Reading::blemish_at))]
 fn blemish(number: u32, raw: &[u8]) -> Option<PlacedFault>
     ensures { result ≡ blemish_at number raw.now }
