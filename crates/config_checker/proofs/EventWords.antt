@@ -4,6 +4,7 @@ use Rattle.std.specs.List.{All}
 use Rattle.std.proofs.lemmas.Bool.{ne_eqb, or_from, not_from_false}
 use Rattle.std.proofs.lemmas.List.Elements.{All-cons, All-append, All-map, All-weaker}
 use Rattle.std.proofs.lemmas.List.Sums.{AllPass-from_list_all}
+use Rattle.yaml_bytes.specs.Bytes.{is_blank}
 use Rattle.mpf_config.specs.Rows.{Written, Switch, EventPlayer, SectionRows, switches, event_player, Rows}
 use Rattle.mpf_config.specs.Named.{IsName, AllNames, IsNamedSwitch, IsNamedPlayer, IsNamed}
 use Rattle.mpf_config.specs.Reading.{rows_at}
@@ -18,7 +19,7 @@ use Rattle.config_checker.specs.CertificateOf.{is_in_word, IsWord}
 byte-in_word : (b : ℕ) → (b ≢ 32) × (b ≢ 9) × (b ≢ 10) → is_in_word b ≡ true
 byte-in_word b (space, tab, end) =
     let blank = or_from (eqb b 32) (eqb b 9) (ne_eqb b 32 space) (ne_eqb b 9 tab) in
-    not_from_false (eqb b 32 || eqb b 9 || eqb b 10) (or_from (eqb b 32 || eqb b 9) (eqb b 10) blank (ne_eqb b 10 end))
+    not_from_false (is_blank b || eqb b 10) (or_from (is_blank b) (eqb b 10) blank (ne_eqb b 10 end))
 
 abbrev AllInWord : List ℕ → Type 0
 AllInWord text = All (λ b. is_in_word b ≡ true) text

@@ -3,13 +3,14 @@ use Rattle.std.specs.Prelude.{◌≡◌, ◌≢◌, ℕ, ◌+◌, ◌*◌, ◌-�
 use Rattle.std.specs.List.{All, list_all, slice_split}
 use Rattle.std.specs.Char.{is_ascii_digit}
 use Rattle.std.specs.Str.{bytes_eq}
+use Rattle.yaml_bytes.specs.Bytes.{is_blank}
 use Rattle.config_checker.specs.CertificateText.{Certificate, text_of}
 
 -- ---- what it is
 
 -- neither a blank nor the end of a line
 abbrev pub is_in_word : ℕ → Bool
-is_in_word b = not (b == 32 || b == 9 || b == 10)
+is_in_word b = not (is_blank b || b == 10)
 
 -- what may stand for a name
 pub record IsWord (word : List ℕ) : Type 0 where

@@ -8,6 +8,7 @@ ghost use Rattle.config_checker.specs.CertificateRead.{event_view, GivesCertific
 ghost use Rattle.config_checker.specs.declared.certificate_reader.ReadFault.TheVariants.{NoMemory};
 
 use std::alloc::{AllocFailed, Global};
+use yaml_bytes::is_blank;
 
 const HEADING: &[u8] = b"pinball-certificate 1";
 
@@ -178,7 +179,7 @@ fn has_no_blank(word: &[u8]) -> bool
 fn is_in_word(b: u8) -> bool
     ensures { result ≡ in_word b }
 {
-    !(b == b' ' || b == b'\t' || b == b'\n')
+    !(is_blank(b) || b == b'\n')
 }
 
 /// The number that a word says: digits, below 2^32, with no 0 before another digit.

@@ -3,7 +3,7 @@ use Rattle.std.proofs.Common.{◌≡◌, ◌≢◌, ℕ, ◌+◌, ◌==◌, true
 use Rattle.std.proofs.lemmas.Bool.{eqb-true, and_parts}
 use Rattle.std.proofs.lemmas.List.{append-nil}
 use Rattle.yaml_bytes.specs.Bytes.{is_blank, begins_blank}
-use Rattle.yaml_bytes.specs.Plain.{AreBlank}
+use Rattle.yaml_bytes.specs.Plain.{AreBlank, EndsInNoBlank}
 use Rattle.yaml_bytes.specs.Scanning.{behind_blanks, trimmed}
 use Rattle.yaml_bytes.proofs.PlainTexts.{trimmed_parts, trimmed_ends, trimmed_is, is_behind_blanks, no_blanks, in_front}
 use Rattle.mpf_config.specs.BundleText.{Text, first_line, behind_first_line, name_in, pieces_of, line_ends, numbered}
@@ -49,18 +49,22 @@ name_sound (a ∷ b ∷ rest) name e =
       | inr p ↦ absurd (no_name name p.1)
     ]
 
+begins_front : (front behind : List ℕ) → begins_blank (front ++ behind) ≡ false → begins_blank front ≡ false
+begins_front [] behind h = refl
+begins_front (b ∷ bs) behind h = h
+
 bare_from : (rest name : List ℕ) → trimmed (behind_blanks rest) ≡ name → IsBare name
 bare_from rest name e =
     let t = trimmed_parts (behind_blanks rest) in
     let parts : behind_blanks rest ≡ name ++ t.0 = t.2 ∙ ap (λ (xs : List ℕ). xs ++ t.0) e in
     record {
-      first = λ after b is. subst (λ xs. begins_blank xs ≡ false) (parts ∙ ap (λ (xs : List ℕ). xs ++ t.0) is) (is_behind_blanks rest).no_more;
-      last = λ front b is. trimmed_ends (behind_blanks rest) front b (e ∙ is);
+      first = begins_front name t.0 (subst (λ xs. begins_blank xs ≡ false) parts (is_behind_blanks rest).no_more);
+      last = subst EndsInNoBlank e (trimmed_ends (behind_blanks rest));
     }
 
 bare_again : (name blanks : List ℕ) → IsBare name → AreBlank blanks → trimmed (behind_blanks (name ++ blanks)) ≡ name
 bare_again [] blanks h k = ap (λ (xs : List ℕ). trimmed (behind_blanks xs)) (sym (append-nil blanks)) ∙ ap trimmed (in_front blanks [] k)
-bare_again (b ∷ bs) blanks h k = ap trimmed (no_blanks ((b ∷ bs) ++ blanks) (h.first bs b refl)) ∙ trimmed_is (b ∷ bs) blanks k h.last
+bare_again (b ∷ bs) blanks h k = ap trimmed (no_blanks ((b ∷ bs) ++ blanks) h.first) ∙ trimmed_is (b ∷ bs) blanks k h.last
 
 -- ---- one text
 

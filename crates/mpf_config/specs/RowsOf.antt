@@ -1,8 +1,8 @@
 -- The rows of a bundle: what they are, however a bundle is read.
 use Rattle.std.specs.Prelude.{◌≡◌, ◌≢◌, ℕ, ◌<◌, ◌≤◌, ◌^◌, true, false, List, [], ◌∷◌, ◌++◌, length, map, Option, Some, ◌⊎◌, codes}
 use Rattle.std.specs.List.{Contains, AllByRecursion, AllZip}
-use Rattle.yaml_bytes.specs.Bytes.{is_blank}
-use Rattle.yaml_bytes.specs.Plain.{AreBlank}
+use Rattle.yaml_bytes.specs.Bytes.{begins_blank}
+use Rattle.yaml_bytes.specs.Plain.{AreBlank, EndsInNoBlank}
 use Rattle.yaml_subset.specs.Node.{Node, Pair}
 use Rattle.yaml_subset.specs.View.{text_in, pairs_in}
 use Rattle.yaml_subset.specs.TreeOf.{IsTreeOf}
@@ -37,8 +37,8 @@ pub record BeginsWith (line text behind : List ℕ) : Type 0 where
 
 -- neither the first byte is a blank nor the last
 pub record IsBare (name : List ℕ) : Type 0 where
-  pub first : (rest : List ℕ) (b : ℕ) → name ≡ b ∷ rest → is_blank b ≡ false
-  pub last : (front : List ℕ) (b : ℕ) → name ≡ front ++ b ∷ [] → is_blank b ≡ false
+  pub first : begins_blank name ≡ false
+  pub last : EndsInNoBlank name
 
 -- A line `@ NAME`, and a text behind it: no other line begins with `@`.
 pub record IsPiece (piece : List ℕ) (t : Text) : Type 0 where

@@ -12,31 +12,23 @@ use thiserror::Error;
 use yaml_subset::fault::FaultKind as YamlKind;
 
 /// What is wrong.
-#[derive(Clone, Copy, Debug, PartialEq, Eq, Error)]
+#[derive(Clone, Copy, Debug, PartialEq, Eq)]
 pub enum FaultKind {
     /// The bundle has no line `@ NAME` first, a bad `@` line, or no machine text.
-    #[error("Bundle")]
     Bundle,
     /// The text does not begin with `#config_version=6`.
-    #[error("Version")]
     Version,
     /// The text is not read as YAML.
-    #[error("Yaml {0}")]
     Yaml(YamlKind),
     /// No section has this name.
-    #[error("UnknownSection")]
     UnknownSection,
     /// The section has no such setting.
-    #[error("UnknownSetting")]
     UnknownSetting,
     /// The value is not one that the setting takes.
-    #[error("BadValue")]
     BadValue,
     /// The name is taken already.
-    #[error("Duplicate")]
     Duplicate,
     /// The bundle or a list is above its limit.
-    #[error("Limit")]
     Limit,
 }
 
@@ -77,7 +69,7 @@ impl FaultKind {
 /// A fault: its text's name (or `-`), the line in that text, counted from 1, and the key that
 /// it is about (or `-`). A fault of the YAML reader has the name of its kind as its key.
 #[derive(Debug, Drop, Error)]
-#[error("{kind} at line {line}")]
+#[error("{} at line {}", .kind.name(), .line)]
 pub struct Fault {
     pub kind: FaultKind,
     pub text: Vec<u8>,

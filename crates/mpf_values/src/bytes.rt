@@ -123,7 +123,7 @@ pub fn split_operator(text: &[u8]) -> (&[u8], &[u8])
 }
 
 /// What stands before the first blank or closing brace, and the rest.
-pub fn split_word(text: &[u8]) -> (&[u8], &[u8])
+pub fn split_value(text: &[u8]) -> (&[u8], &[u8])
     ensures front { result.0.now ≡ front is_word_byte text.now }
     ensures behind { result.1.now ≡ behind is_word_byte text.now }
 {

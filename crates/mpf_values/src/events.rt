@@ -6,7 +6,7 @@ ghost use Rattle.mpf_values.specs.Reading.{behind_word, variable_at, operator_at
 ghost use Rattle.mpf_values.specs.View.{Gives, condition_view, event_view};
 ghost use Rattle.mpf_values.specs.Inside.{rest_view, slices_view, compared_view};
 
-use crate::bytes::{split_name, split_operator, split_word};
+use crate::bytes::{split_name, split_operator, split_value};
 use crate::fault::BadValue;
 use crate::handled::{Comparison, Condition, Event};
 use crate::integers::signed;
@@ -69,7 +69,7 @@ fn compared(text: &[u8]) -> Result<(Comparison, &[u8]), BadValue>
 fn last_integer(text: &[u8]) -> Result<i64, BadValue>
     ensures { Gives (λ n. n) result (last_integer_at text.now) }
 {
-    let (front, rest) = split_word(text);
+    let (front, rest) = split_value(text);
     let n = signed(front)?;
     if behind_blanks(rest) != CLOSING {
         return Err(BadValue);

@@ -5,7 +5,8 @@ use Rattle.std.proofs.lemmas.List.Splits.{slice_split_first, slice_split_none, s
 use Rattle.std.proofs.lemmas.List.Sums.{passes_at_first, prefix_len-le-length}
 use Rattle.std.proofs.lemmas.List.{drop_more, take_all, drop_all}
 use Rattle.std.proofs.lemmas.Bool.{cases_lt, cond-true, lt-ltb}
-use Rattle.pinball_shell.specs.LogText.{is_blank, words}
+use Rattle.yaml_bytes.specs.Bytes.{is_blank}
+use Rattle.pinball_shell.specs.LogText.{words}
 use Rattle.pinball_shell.proofs.FirstPlace.{place_some, place_none}
 use Rattle.pinball_shell.proofs.TextLines.{none_passes}
 

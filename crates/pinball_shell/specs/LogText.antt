@@ -3,6 +3,7 @@ use Rattle.std.specs.Prelude.{ℕ, ◌+◌, ◌*◌, ◌-◌, ◌^◌, nat_lt, n
 use Rattle.std.specs.List.{slice_split, list_all}
 use Rattle.std.specs.Char.{is_ascii_digit}
 use Rattle.std.specs.Str.{byte}
+use Rattle.yaml_bytes.specs.Bytes.{is_blank}
 
 -- what a line asks for: a wait up to a moment, or at a moment a new raw level of the switch of a name
 pub data Said : Type 0 where
@@ -12,10 +13,6 @@ pub data Said : Type 0 where
   Changes : (at : ℕ) (name : List ℕ) (level : Bool) → Said
   -- the line is none of these
   Unreadable : Said
-
--- a space or a tab
-abbrev pub is_blank : ℕ → Bool
-is_blank b = b == byte " " || b == byte "\t"
 
 -- the words of a line, which blanks part
 abbrev pub words : List ℕ → List (List ℕ)

@@ -3,8 +3,11 @@
 ghost use Rattle.std.specs.Prelude.{◌≡◌, ◌<◌, ◌==◌, not, [], ◌∷◌, MatchOption, length, position};
 ghost use Rattle.std.specs.List.{position_or_len};
 ghost use Rattle.std.specs.Str.Lines.{lines, strip_carriage_return};
-ghost use Rattle.pinball_shell.specs.LogText.{is_blank as blank, words, number_in, moment_in, level_in, wait as wait_at, change as change_at, said_in, said};
+ghost use Rattle.yaml_bytes.specs.Bytes.{is_blank as blank};
+ghost use Rattle.pinball_shell.specs.LogText.{words, number_in, moment_in, level_in, wait as wait_at, change as change_at, said_in, said};
 ghost use Rattle.pinball_shell.specs.LogView.{said_view};
+
+use yaml_bytes::is_blank;
 
 /// What a line of a log asks for.
 #[derive(Clone, Copy)]
@@ -60,12 +63,6 @@ pub fn read_line(line: &[u8]) -> Said<'_>
     } else {
         read_words(line)
     }
-}
-
-fn is_blank(b: u8) -> bool
-    ensures { result ≡ blank b }
-{
-    b == b' ' || b == b'\t'
 }
 
 /// What the words of a line say: `MOMENT`, or `MOMENT SWITCH LEVEL`.

@@ -45,7 +45,7 @@ is_indicator b =
     (b == 44) || (b == 91) || (b == 93) || (b == 123) || (b == 125) || (b == 35) || (b == 38) || (b == 42)
     || (b == 33) || (b == 124) || (b == 62) || (b == 39) || (b == 34) || (b == 37) || (b == 64) || (b == 96)
 
--- `-`, `?` and `:`
+-- `-`, `?` and `:`, which begin a plain word only where no gap follows, and in flow none of `, [ ] { }` either
 abbrev pub is_mark : ℕ → Bool
 is_mark b = (b == 45) || (b == 63) || (b == 58)
 
@@ -60,18 +60,18 @@ begins_item [] = false
 begins_item (b ∷ after) = (b == 45) && begins_gap after
 
 -- whether `---` or `...` comes first, and then a gap
-abbrev pub is_marker : List ℕ → Bool
-is_marker (a ∷ b ∷ c ∷ after) = (((a == 45) && ((b == 45) && (c == 45))) || ((a == 46) && ((b == 46) && (c == 46)))) && begins_gap after
-is_marker _ = false
+abbrev pub is_document_marker : List ℕ → Bool
+is_document_marker (a ∷ b ∷ c ∷ after) = (((a == 45) && ((b == 45) && (c == 45))) || ((a == 46) && ((b == 46) && (c == 46)))) && begins_gap after
+is_document_marker _ = false
 
 -- whether a byte begins a character: in UTF-8 each byte does but 128 to 191
 abbrev pub begins_character : ℕ → Bool
 begins_character b = nat_lt b 128 || nat_le 192 b
 
--- the number of characters
+-- the number of characters of a text in UTF-8: of its bytes but 128 to 191, each of which goes on with a character
 abbrev pub characters : List ℕ → ℕ
 characters = count_by begins_character
 
--- whether no text may have a character: a control character other than tab, or U+FEFF, U+FFFE or U+FFFF
+-- whether no line may have a character: a control character other than tab, or U+FEFF, U+FFFE or U+FFFF
 abbrev pub is_forbidden : ℕ → Bool
 is_forbidden c = (nat_lt c 32 && not (c == 9)) || ((nat_le 127 c && nat_lt c 160) || ((c == 65279) || ((c == 65534) || (c == 65535))))

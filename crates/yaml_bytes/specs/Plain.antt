@@ -33,7 +33,7 @@ pub record IsWordEnd (flow : Bool) (text : List ℕ) (n : ℕ) : Type 0 where
 abbrev pub EndsInNoBlank : List ℕ → Type 0
 EndsInNoBlank plain = (front : List ℕ) (b : ℕ) → plain ≡ front ++ b ∷ [] → is_blank b ≡ false
 
--- A plain word at the front, up to the first place where one ends; blanks at its end do not belong to it.
+-- A plain word at the front: up to the first place where one ends, but for the blanks directly before that place.
 pub record IsPlainWord (flow : Bool) (text plain blanks rest : List ℕ) : Type 0 where
   pub begins : begins_word flow text ≡ true
   pub parts : text ≡ plain ++ (blanks ++ rest)

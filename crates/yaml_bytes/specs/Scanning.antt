@@ -1,4 +1,4 @@
--- Reading a line from its first byte to its last.
+-- What a pass over a line finds.
 use Rattle.std.specs.Prelude.{ℕ, suc, ◌+◌, ◌-◌, Bool, List, [], ◌∷◌, length, take, drop, Option, Some, None, ◌&&◌, if◌then◌else◌, ◌==◌}
 use Rattle.std.specs.List.{prefix_len}
 use Rattle.std.specs.Borrow.{Bor}
@@ -50,6 +50,7 @@ abbrev pub text_option_view : Option (Bor (List ℕ)) → Option (List ℕ)
 text_option_view None = None
 text_option_view (Some s) = Some s.now
 
--- what stands before the colon of an entry, and after it this
+-- A text without its last bytes, as many as `after` has and one more. Where `after` is what stands behind the colon of an entry, that is what stands
+-- before the colon.
 abbrev pub before_colon : List ℕ → List ℕ → List ℕ
 before_colon text after = take (length text - (length after + 1)) text

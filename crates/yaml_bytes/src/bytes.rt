@@ -1,7 +1,7 @@
 //! What the bytes of a line are.
 
 ghost use Rattle.std.specs.Prelude.{◌≡◌};
-ghost use Rattle.yaml_bytes.specs.Bytes.{is_blank, begins_blank, begins_gap, is_flow_indicator, begins_flow_indicator, begins_break, begins_bare_colon, is_over, is_indicator, is_mark, begins_word, begins_item, is_marker, begins_character, is_forbidden};
+ghost use Rattle.yaml_bytes.specs.Bytes.{is_blank, begins_blank, begins_gap, is_flow_indicator, begins_flow_indicator, begins_break, begins_bare_colon, is_over, is_indicator, is_mark, begins_word, begins_item, is_document_marker, begins_character, is_forbidden};
 
 /// Whether a byte is a space or a tab.
 pub fn is_blank(b: u8) -> bool
@@ -45,7 +45,7 @@ pub fn begins_flow_indicator(text: &[u8]) -> bool
 }
 
 /// Whether a gap comes first, or in flow one of `, [ ] { }`.
-pub fn begins_break(flow: bool, text: &[u8]) -> bool
+pub(crate) fn begins_break(flow: bool, text: &[u8]) -> bool
     ensures { result ≡ begins_break flow text.now }
 {
     (flow && begins_flow_indicator(text)) || begins_gap(text)
@@ -93,14 +93,16 @@ fn is_indicator(b: u8) -> bool
         || b == b'`'
 }
 
-/// Whether a byte begins something other than a plain text where a gap follows it.
+/// Whether a byte is `-`, `?` or `:`, which begin a plain word only where no gap follows, and in flow
+/// none of `, [ ] { }` either.
 pub fn is_mark(b: u8) -> bool
     ensures { result ≡ is_mark b }
 {
     b == b'-' || b == b'?' || b == b':'
 }
 
-/// Whether a plain word may begin so.
+/// Whether a plain word may begin so: with no blank, no indicator, and no mark before a gap or in flow
+/// before one of `, [ ] { }`.
 pub fn begins_word(flow: bool, text: &[u8]) -> bool
     ensures { result ≡ begins_word flow text.now }
 {
@@ -123,8 +125,8 @@ pub fn begins_item(text: &[u8]) -> bool
 }
 
 /// Whether a line is `---` or `...`, or begins with one of these and a blank.
-pub fn is_marker(raw: &[u8]) -> bool
-    ensures { result ≡ is_marker raw.now }
+pub fn is_document_marker(raw: &[u8]) -> bool
+    ensures { result ≡ is_document_marker raw.now }
 {
     match raw {
         [a, b, c, after @ ..] => {
@@ -136,14 +138,14 @@ pub fn is_marker(raw: &[u8]) -> bool
     }
 }
 
-/// Whether a byte begins a character of UTF-8.
-pub fn begins_character(b: u8) -> bool
+/// Whether a byte begins a character of UTF-8: each does but 128 to 191, which go on with one.
+pub(crate) fn begins_character(b: u8) -> bool
     ensures { result ≡ begins_character b }
 {
     b < 128 || 192 <= b
 }
 
-/// Whether no text may have a character: a control character other than tab, or U+FEFF, U+FFFE or
+/// Whether no line may have a character: a control character other than tab, or U+FEFF, U+FFFE or
 /// U+FFFF.
 pub fn is_forbidden(c: char) -> bool
     ensures { result ≡ is_forbidden c }

@@ -78,7 +78,8 @@ pub fn split_word(flow: bool, text: &[u8]) -> (&[u8], &[u8])
     text.split_at(word_len(flow, text))
 }
 
-/// The number of characters.
+/// The number of characters of a text in UTF-8: of its bytes but 128 to 191, each of which goes on
+/// with a character.
 pub fn characters(text: &[u8]) -> usize
     ensures { result ≡ characters text.now }
 {
@@ -131,7 +132,8 @@ pub fn behind_dash(text: &[u8]) -> Option<&[u8]>
     }
 }
 
-/// What stands before the colon of an entry, and after it this.
+/// A text without its last bytes, as many as `after` has and one more. Where `after` is what stands
+/// behind the colon of an entry, that is what stands before the colon.
 pub fn before_colon<'a>(text: &'a [u8], after: &[u8]) -> &'a [u8]
     ensures { result.now ≡ before_colon text.now after.now }
 {

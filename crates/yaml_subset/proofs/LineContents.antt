@@ -3,7 +3,7 @@ use Rattle.std.proofs.Common.{◌≡◌, ℕ, ◌+◌, false, cond, List, [], �
 use Rattle.std.specs.Option.{option_to_list}
 use Rattle.yaml_subset.specs.declared.place.PlacedFault.{PlacedFault}
 use Rattle.yaml_subset.specs.declared.fault.FaultKind.TheVariants.{NotInSubset, Tab}
-use Rattle.yaml_bytes.specs.Bytes.{begins_blank, is_over, is_marker}
+use Rattle.yaml_bytes.specs.Bytes.{begins_blank, is_over, is_document_marker}
 use Rattle.yaml_subset.specs.TextLines.{Line, Holds, HaveContent}
 use Rattle.yaml_bytes.specs.Scanning.{behind_blanks, spaces_len, behind_spaces}
 use Rattle.yaml_subset.specs.Reading.{fault_at, content_at, blemish_at, add_line, contents_from}
@@ -20,13 +20,13 @@ found_at n raw = record { number = n; indent = spaces_len raw; text = behind_spa
 content_sound : (n : ℕ) (raw : List ℕ) (found : Option Line) → content_at n raw ≡ Ok found → Holds n raw found
 unfolding content_at
 content_sound n raw found e =
-    let made : Result (Option Line) PlacedFault = cond (is_marker raw) (fault_at NotInSubset n (length raw)) (Ok (Some (found_at n raw))) in
+    let made : Result (Option Line) PlacedFault = cond (is_document_marker raw) (fault_at NotInSubset n (length raw)) (Ok (Some (found_at n raw))) in
     let indented : Result (Option Line) PlacedFault = cond (begins_blank (behind_spaces raw)) (fault_at Tab n (length (behind_spaces raw))) made in
     elim (chosen (is_over (behind_blanks raw)) (Ok None) indented (Ok found) e) [
       | inl p ↦ subst (Holds n raw) (ok_is None found p.1) (behind_blanks raw, is_behind_blanks raw, p.0)
       | inr p ↦
           let t = guard_false (begins_blank (behind_spaces raw)) made (record { kind = Tab; line = n; left = length (behind_spaces raw) }) found p.1 in
-          let m = guard_false (is_marker raw) (Ok (Some (found_at n raw))) (record { kind = NotInSubset; line = n; left = length raw }) found t.1 in
+          let m = guard_false (is_document_marker raw) (Ok (Some (found_at n raw))) (record { kind = NotInSubset; line = n; left = length raw }) found t.1 in
           let same = blanks_are_spaces raw (behind_spaces raw) (spaces_len raw) (spaces_parts raw) t.0 in
           subst (Holds n raw) (ok_is (Some (found_at n raw)) found m.1) (refl, record { parts = spaces_parts raw; no_more = t.0; not_over = ap is_over (sym same) ∙ p.0; no_marker = m.0 })
     ]

@@ -9,7 +9,7 @@ use Rattle.yaml_subset.specs.declared.fault.FaultKind.{FaultKind}
 use Rattle.yaml_subset.specs.declared.fault.FaultKind.TheVariants.{NotUtf8, Tab, Indent, DuplicateKey, Flow, NotInSubset, TooDeep, TooLong}
 use Rattle.yaml_subset.specs.declared.flaw.Flaw.{Flaw}
 use Rattle.yaml_subset.specs.Keys.{is_among}
-use Rattle.yaml_bytes.specs.Bytes.{begins_blank, is_over, is_marker, characters, is_forbidden}
+use Rattle.yaml_bytes.specs.Bytes.{begins_blank, is_over, is_document_marker, characters, is_forbidden}
 use Rattle.yaml_subset.specs.Part.{◌>>=◌, flaw_at}
 use Rattle.yaml_subset.specs.Node.{Node, scalar, sequence, nodes_of, mapping, no_pairs, Pair, pairs_of}
 use Rattle.yaml_bytes.specs.Scanning.{behind_blanks, spaces_len, behind_spaces, behind_dash, before_colon}
@@ -212,10 +212,10 @@ content_at n raw =
     if is_over (behind_blanks raw)
     then Ok None
     else (if begins_blank (behind_spaces raw) then fault_at Tab n (length (behind_spaces raw))
-    else (if is_marker raw then fault_at NotInSubset n (length raw)
+    else (if is_document_marker raw then fault_at NotInSubset n (length raw)
     else Ok (Some (record { number = n; indent = spaces_len raw; text = behind_spaces raw }))))
 
--- how many bytes have the characters from the first one on that no text may have
+-- how many bytes have the characters from the first one on that no line may have
 abbrev pub forbidden_left : List ℕ → ℕ
 forbidden_left [] = 0
 forbidden_left (c ∷ cs) = if is_forbidden c then length (encode_utf8_all (c ∷ cs)) else forbidden_left cs
@@ -224,7 +224,7 @@ forbidden_left (c ∷ cs) = if is_forbidden c then length (encode_utf8_all (c �
 abbrev pub utf8_front : List ℕ → List ℕ
 utf8_front raw = take (utf8_valid_len raw) raw
 
--- the first character of a line that no text may have, or its first bytes that are not UTF-8
+-- the first character of a line that none may have, or its first bytes that are not UTF-8
 unfoldable pub blemish_at : ℕ → List ℕ → Option PlacedFault
 blemish_at n raw =
     if nat_lt 0 (forbidden_left (chars (utf8_front raw)))

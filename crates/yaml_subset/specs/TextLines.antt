@@ -3,7 +3,7 @@ use Rattle.std.specs.Prelude.{◌≡◌, ℕ, ◌+◌, true, false, List, [], �
 use Rattle.std.specs.List.{slice_split, AllByRecursion}
 use Rattle.std.specs.Option.{option_to_list}
 use Rattle.std.specs.Str.{IsUtf8, chars}
-use Rattle.yaml_bytes.specs.Bytes.{begins_blank, is_over, is_marker, is_forbidden}
+use Rattle.yaml_bytes.specs.Bytes.{begins_blank, is_over, is_document_marker, is_forbidden}
 use Rattle.yaml_bytes.specs.Plain.{IsBehindBlanks}
 
 -- a line with content: its number, its indentation, and what stands behind the spaces at its front
@@ -33,7 +33,7 @@ pub record IsContent (raw : List ℕ) (l : Line) : Type 0 where
   pub parts : raw ≡ replicate l.indent 32 ++ l.text
   pub no_more : begins_blank l.text ≡ false
   pub not_over : is_over l.text ≡ false
-  pub no_marker : is_marker raw ≡ false
+  pub no_marker : is_document_marker raw ≡ false
 
 -- What the line n holds: nothing but blanks and a comment, or content.
 abbrev pub Holds : ℕ → List ℕ → Option Line → Type 0

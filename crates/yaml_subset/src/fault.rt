@@ -31,7 +31,7 @@ pub enum FaultKind {
     #[error("Flow")]
     Flow,
     /// A form of YAML that is not read, a key of more than 1,024 characters, or a character that no
-    /// text may have.
+    /// line may have.
     #[error("NotInSubset")]
     NotInSubset,
     /// More than 32 sequences and mappings of lines stand one inside the other, or more than 8 lists

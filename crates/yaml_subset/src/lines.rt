@@ -14,7 +14,8 @@ use crate::line::Line;
 use crate::place::PlacedFault;
 use std::alloc::{AllocError, Global};
 use yaml_bytes::{
-    begins_blank, behind_blanks, behind_spaces, is_forbidden, is_marker, is_over, spaces_len,
+    begins_blank, behind_blanks, behind_spaces, is_document_marker, is_forbidden, is_over,
+    spaces_len,
 };
 
 // How many bytes stand before the first LF.
@@ -69,7 +70,7 @@ fn utf8_front(raw: &[u8]) -> &str
     }
 }
 
-// How many bytes have the characters from the first one on that no text may have.
+// How many bytes have the characters from the first one on that no line may have.
 fn forbidden_left(text: &str) -> usize
     ensures within { result ≤ length text.now }
     ensures value { result ≡ forbidden_left (chars text.now) }
@@ -84,7 +85,7 @@ fn forbidden_left(text: &str) -> usize
     0
 }
 
-// The first character of a line that no text may have, or its first bytes that are not UTF-8.
+// The first character of a line that none may have, or its first bytes that are not UTF-8.
 #[tactic(auto, unfolding(crate::specs::Reading::blemish_at))]
 fn blemish(number: u32, raw: &[u8]) -> Option<PlacedFault>
     ensures { result ≡ blemish_at number raw.now }
@@ -113,7 +114,7 @@ fn content(number: u32, raw: &[u8]) -> Result<Option<Line<'_>>, PlacedFault>
     if begins_blank(text) {
         return Err(PlacedFault::new(FaultKind::Tab, number, text.len()));
     }
-    if is_marker(raw) {
+    if is_document_marker(raw) {
         return Err(PlacedFault::new(FaultKind::NotInSubset, number, raw.len()));
     }
     Ok(Some(Line {

@@ -43,7 +43,7 @@ fn read_exactly(alloc: Global, text: &[u8]) -> Result<Tree, YamlFault>
 }
 
 /// The tree of a text, or its first fault: the fault of the first line that has one, and there the
-/// left one; in the same place bytes which are not UTF-8 or a character which no text may have. A
+/// left one; in the same place bytes which are not UTF-8 or a character which no line may have. A
 /// text of more than 1 MiB is `TooLong` at line 1, whatever else is wrong with it. Where no
 /// line has content, the tree is a mapping at line 1 that has no pairs.
 ///

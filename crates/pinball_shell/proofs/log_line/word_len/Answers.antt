@@ -1,5 +1,5 @@
 use Rattle.std.proofs.Common.{sym, ◌∙◌}
-use Rattle.pinball_shell.specs.LogText.{is_blank}
+use Rattle.yaml_bytes.specs.Bytes.{is_blank}
 use Rattle.pinball_shell.proofs.FirstPlace.{place_end}
 use Rattle.pinball_shell.proofs.log_line.word_len.Goals as goal
 
