@@ -16,8 +16,7 @@ pub use check::{check_text, load_text, verify_text};
 pub use command_line::{Ask, AskFault, command};
 pub use fault::{ShellFault, Verdict, status};
 pub use law::{
-    any_certificate_plays_the_same, log_gives_one_list_of_stimuli,
-    printed_certificate_is_verified,
+    any_certificate_plays_the_same, log_gives_one_list_of_stimuli, printed_certificate_is_verified,
 };
 pub use play::play_text;
 pub use text::read_all;
