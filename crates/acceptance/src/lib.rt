@@ -20,5 +20,3 @@ mod play_rows;
 mod row;
 #[cfg(test)]
 mod words;
-#[cfg(test)]
-mod yaml_texts;

@@ -1,8 +1,13 @@
-use crate::handled::{Comparison, Condition, Event};
-use crate::{ListFault, boolean, event, integer, list, name, power, time};
+//! Texts and the values that they have.
+
+use crate::row::cells;
+use mpf_values::{
+    Comparison, Condition, Event, ListFault, boolean, event, integer, list, name, power, time,
+};
 use std::alloc::{AllocError, Global};
-use std::test::*;
-use yaml_subset::tree::Tree;
+use std::process::Abort;
+use std::test::Fail;
+use yaml_subset::{Tree, read};
 
 // Each row of a table is a text in brackets and the value that it has, or `none`.
 // Booleans.
@@ -232,6 +237,19 @@ const NAMES: &str = "\
 [abcdefghijklmnopqrstuvwxyzABCDEFGHIJKLMNOPQRSTUVWXYZ0123456789_-.] none
 ";
 
+// Handled events `e` with a condition: the current player's variable, how it is to compare and the number.
+const CONDITIONS: &str = "\
+[e{current_player.x==1}] x == 1
+[e{current_player.x!=1}] x != 1
+[e{current_player.x<1}] x < 1
+[e{current_player.x<=1}] x <= 1
+[e{current_player.x>1}] x > 1
+[e{current_player.x>=1}] x >= 1
+[e{ \tcurrent_player.x == \t -1 \t}] x == -1
+[e{current_player.x-1>=-2}] x-1 >= -2
+[e{current_player.a.b <1000000000}] a.b < 1000000000
+";
+
 // Texts that are no handled events.
 const NO_EVENTS: &str = "\
 [] none
@@ -264,15 +282,38 @@ const NO_EVENTS: &str = "\
 [e|2s] none
 ";
 
+// List texts at line 7: how many items they have, and each with its line.
+const LIST_TEXTS: &str = "\
+[] 0
+[ ,\t, ] 0
+[a] 1 <a>7
+[a, b] 2 <a>7 <b>7
+[a b\tc,d] 4 <a>7 <b>7 <c>7 <d>7
+[,a,,b ,] 2 <a>7 <b>7
+[a{x == 1}, b] 2 <a{x == 1}>7 <b>7
+[a{b, {c d} e} f] 2 <a{b, {c d} e}>7 <f>7
+[a} b] 2 <a}>7 <b>7
+[}{a b} c] 2 <}{a b}>7 <c>7
+[a {b c, d] 2 <a>7 <{b c, d>7
+";
+
+// Nodes as YAML, and their items. An item that is empty is none.
+const LIST_NODES: &str = "\
+¶- a¶-¶- b c, => 2 <a>2 <b c,>4
+[] => 0
+{} => BadValue
+[[]] => BadValue
+";
+
 // The text and the value of a row.
-fn cells(row: &str) -> Option<(&str, &str)> {
+fn text_and_value(row: &str) -> Option<(&str, &str)> {
     row.strip_prefix('[')?.split_once("] ")
 }
 
 #[test]
 fn booleans(rt: HostRuntime) -> Result<(), Fail> {
     for row in BOOLEANS.lines() {
-        let (text, value) = cells(row).ok_or("a row")?;
+        let (text, value) = text_and_value(row).ok_or("a row")?;
         assert_eq!(rt;
             boolean(text.as_bytes()).ok(),
             value.parse::<bool>().ok(),
@@ -285,7 +326,7 @@ fn booleans(rt: HostRuntime) -> Result<(), Fail> {
 #[test]
 fn integers(rt: HostRuntime) -> Result<(), Fail> {
     for row in INTEGERS.lines() {
-        let (text, value) = cells(row).ok_or("a row")?;
+        let (text, value) = text_and_value(row).ok_or("a row")?;
         assert_eq!(rt;
             integer(text.as_bytes()).ok(),
             value.parse::<i64>().ok(),
@@ -298,7 +339,7 @@ fn integers(rt: HostRuntime) -> Result<(), Fail> {
 #[test]
 fn times(rt: HostRuntime) -> Result<(), Fail> {
     for row in TIMES.lines() {
-        let (text, value) = cells(row).ok_or("a row")?;
+        let (text, value) = text_and_value(row).ok_or("a row")?;
         assert_eq!(rt;
             time(text.as_bytes()).ok(),
             value.parse::<u32>().ok(),
@@ -311,7 +352,7 @@ fn times(rt: HostRuntime) -> Result<(), Fail> {
 #[test]
 fn powers(rt: HostRuntime) -> Result<(), Fail> {
     for row in POWERS.lines() {
-        let (text, value) = cells(row).ok_or("a row")?;
+        let (text, value) = text_and_value(row).ok_or("a row")?;
         assert_eq!(rt;
             power(text.as_bytes()).ok(),
             value.parse::<u16>().ok(),
@@ -324,7 +365,7 @@ fn powers(rt: HostRuntime) -> Result<(), Fail> {
 #[test]
 fn names(rt: HostRuntime) -> Result<(), Fail> {
     for row in NAMES.lines() {
-        let (text, value) = cells(row).ok_or("a row")?;
+        let (text, value) = text_and_value(row).ok_or("a row")?;
         let wanted = if value == "none" {
             None
         } else {
@@ -335,118 +376,95 @@ fn names(rt: HostRuntime) -> Result<(), Fail> {
     Ok(())
 }
 
-// The event `e` where the current player's variable compares so with a number.
-fn under(variable: &str, comparison: Comparison, number: i64) -> Event<'_> {
-    let variable = variable.as_bytes();
-    Event {
-        name: b"e",
-        condition: Some(Condition {
-            variable,
-            comparison,
-            number,
-        }),
-    }
+// What a row of conditions says.
+fn condition(value: &str) -> Option<Condition<'_>> {
+    let (variable, rest) = value.split_once(' ')?;
+    let (sign, number) = rest.split_once(' ')?;
+    let comparison = match sign {
+        "==" => Comparison::Equal,
+        "!=" => Comparison::NotEqual,
+        "<" => Comparison::Less,
+        "<=" => Comparison::LessOrEqual,
+        ">" => Comparison::Greater,
+        ">=" => Comparison::GreaterOrEqual,
+        _ => return None,
+    };
+    Some(Condition {
+        variable: variable.as_bytes(),
+        comparison,
+        number: number.parse::<i64>().ok()?,
+    })
 }
 
 #[test]
-fn events(rt: HostRuntime) -> Result<(), Fail> {
+fn events_without_condition(rt: HostRuntime) -> Result<(), Fail> {
     let plain = Event {
         name: b"s_left.a-1_active",
         condition: None,
     };
     assert_eq!(rt; event(b"s_left.a-1_active").ok(), Some(plain));
-    for (text, wanted) in [
-        ("e{current_player.x==1}", under("x", Comparison::Equal, 1)),
-        (
-            "e{current_player.x!=1}",
-            under("x", Comparison::NotEqual, 1),
-        ),
-        ("e{current_player.x<1}", under("x", Comparison::Less, 1)),
-        (
-            "e{current_player.x<=1}",
-            under("x", Comparison::LessOrEqual, 1),
-        ),
-        ("e{current_player.x>1}", under("x", Comparison::Greater, 1)),
-        (
-            "e{current_player.x>=1}",
-            under("x", Comparison::GreaterOrEqual, 1),
-        ),
-        (
-            "e{ \tcurrent_player.x == \t -1 \t}",
-            under("x", Comparison::Equal, -1),
-        ),
-        (
-            "e{current_player.x-1>=-2}",
-            under("x-1", Comparison::GreaterOrEqual, -2),
-        ),
-        (
-            "e{current_player.a.b <1000000000}",
-            under("a.b", Comparison::Less, 1_000_000_000),
-        ),
-    ] {
+    Ok(())
+}
+
+#[test]
+fn events_with_conditions(rt: HostRuntime) -> Result<(), Fail> {
+    for row in CONDITIONS.lines() {
+        let (text, value) = text_and_value(row).ok_or("a row")?;
+        let wanted = Event {
+            name: b"e",
+            condition: Some(condition(value).ok_or("a condition")?),
+        };
         assert_eq!(rt; event(text.as_bytes()).ok(), Some(wanted), "at {text}");
     }
+    Ok(())
+}
+
+#[test]
+fn no_events(rt: HostRuntime) -> Result<(), Fail> {
     for row in NO_EVENTS.lines() {
-        let (text, _) = cells(row).ok_or("a row")?;
+        let (text, _) = text_and_value(row).ok_or("a row")?;
         assert_eq!(rt; event(text.as_bytes()).ok(), None, "at {text}");
     }
     Ok(())
 }
 
-fn scalar(alloc: Global, line: u32, text: &str) -> Result<Tree, AllocError> {
-    Ok(Tree::Scalar(line, Vec::from_slice(alloc, text.as_bytes())?))
-}
-
-// Whether a text is a list of these items, each at the line of the text.
-fn is_list(alloc: Global, text: &str, wanted: &[&str]) -> Result<bool, AllocError> {
-    let tree = scalar(alloc, 7, text)?;
-    let items = match list(alloc, &tree) {
+// The items of a node as the tables have them.
+fn items_of(alloc: Global, tree: &Tree) -> Result<String, AllocError> {
+    let items = match list(alloc, tree) {
         Ok(items) => items,
-        Err(_) => return Ok(false),
+        Err(ListFault::BadValue) => return String::from_str(alloc, "BadValue"),
+        Err(ListFault::NoMemory) => return Err(AllocError),
     };
-    let same = items.iter().zip(wanted).all(|(item, text)| item.line == 7
-        && item.text == text.as_bytes());
-    Ok(items.len() == wanted.len() && same)
+    let mut out = items.len().to_string(alloc)?;
+    for item in &items {
+        let text = std::str::from_utf8(item.text).unwrap_or("no UTF-8");
+        write!(&mut out, " <{text}>{}", item.line)?;
+    }
+    Ok(out)
 }
 
-#[test]
-fn list_texts(rt: HostRuntime) -> Result<(), Fail> {
-    let alloc = rt.alloc();
-    assert!(rt; is_list(alloc, "", &[])?);
-    assert!(rt; is_list(alloc, " ,\t, ", &[])?);
-    assert!(rt; is_list(alloc, "a", &["a"])?);
-    assert!(rt; is_list(alloc, "a, b", &["a", "b"])?);
-    assert!(rt; is_list(alloc, "a b\tc,d", &["a", "b", "c", "d"])?);
-    assert!(rt; is_list(alloc, ",a,,b ,", &["a", "b"])?);
-    assert!(rt; is_list(alloc, "a{x == 1}, b", &["a{x == 1}", "b"])?);
-    assert!(rt; is_list(alloc, "a{b, {c d} e} f", &["a{b, {c d} e}", "f"])?);
-    assert!(rt; is_list(alloc, "a} b", &["a}", "b"])?);
-    assert!(rt; is_list(alloc, "}{a b} c", &["}{a b}", "c"])?);
-    assert!(rt; is_list(alloc, "a {b c, d", &["a", "{b c, d"])?);
+fn assert_items<R: Abort + AllocGlobal>(rt: &R, tree: &Tree, wanted: &str) -> Result<(), Fail> {
+    let found = items_of(rt.alloc(), tree)?;
+    assert_eq!(rt; found.as_str(), wanted);
     Ok(())
 }
 
 #[test]
-fn lists(rt: HostRuntime) -> Result<(), Fail> {
-    let alloc = rt.alloc();
-    let mut nodes = Vec::new(alloc);
-    nodes.push(scalar(alloc, 2, "a")?)?;
-    nodes.push(scalar(alloc, 3, "")?)?;
-    nodes.push(scalar(alloc, 4, "b c,")?)?;
-    let tree = Tree::List(2, nodes);
-    let items = list(alloc, &tree).ok().ok_or("items")?;
-    let [a, b] = items.as_slice() else {
-        return Err("two items".into());
-    };
-    assert!(rt; a.line == 2 && a.text == b"a".as_slice());
-    assert!(rt; b.line == 4 && b.text == b"b c,".as_slice());
-    let empty = Tree::List(1, Vec::new(alloc));
-    assert!(rt; list(alloc, &empty).ok().ok_or("no items")?.is_empty());
-    let mapping = Tree::Map(1, Vec::new(alloc));
-    assert_eq!(rt; list(alloc, &mapping).err(), Some(ListFault::BadValue));
-    let mut inner = Vec::new(alloc);
-    inner.push(empty)?;
-    let nested = Tree::List(1, inner);
-    assert_eq!(rt; list(alloc, &nested).err(), Some(ListFault::BadValue));
+fn list_texts(rt: HostRuntime) -> Result<(), Fail> {
+    for row in LIST_TEXTS.lines() {
+        let (text, wanted) = text_and_value(row).ok_or("a row")?;
+        let tree = Tree::Scalar(7, Vec::from_slice(rt.alloc(), text.as_bytes())?);
+        assert_items(&rt, &tree, wanted)?;
+    }
+    Ok(())
+}
+
+#[test]
+fn list_nodes(rt: HostRuntime) -> Result<(), Fail> {
+    for row in LIST_NODES.lines() {
+        let (text, wanted) = cells(rt.alloc(), row)?;
+        let tree = read(rt.alloc(), text.as_bytes())?;
+        assert_items(&rt, &tree, &wanted)?;
+    }
     Ok(())
 }

@@ -1,0 +1,21 @@
+//! Tests of the readers below, over their public calls: YAML texts, values and bundles.
+#![tactic(auto)]
+
+#[cfg(test)]
+mod bundles;
+#[cfg(test)]
+mod row;
+#[cfg(test)]
+mod values;
+#[cfg(test)]
+mod yaml_blocks;
+#[cfg(test)]
+mod yaml_first_faults;
+#[cfg(test)]
+mod yaml_flow;
+#[cfg(test)]
+mod yaml_limits;
+#[cfg(test)]
+mod yaml_rows;
+#[cfg(test)]
+mod yaml_words;

@@ -1,0 +1,172 @@
+//! Which fault of a text is the first: that of the first line with one, and there the left one; in the same
+//! place a character's.
+
+use crate::row::cells;
+use crate::yaml_rows::{assert_reads, assert_rows};
+use std::alloc::Global;
+use std::process::Abort;
+use std::test::Fail;
+
+// Characters that no line may have.
+const CHARACTERS: &str = "\
+a: \u{1} => NotInSubset 1
+# \u{1} => NotInSubset 1
+a: \"\u{7F}\" => NotInSubset 1
+a: \u{85} => NotInSubset 1
+\u{FEFF}a: b => NotInSubset 1
+a: \u{FFFE} => NotInSubset 1
+a: \u{FFFF} => NotInSubset 1
+a: b\rc => NotInSubset 1
+a: b\r => NotInSubset 1
+a: b\u{B} => NotInSubset 1
+a\u{0} => NotInSubset 1
+a: b¶# \u{9F} => NotInSubset 2
+a: 1\r¶b: 2\rc\r¶ => NotInSubset 2
+";
+
+// Texts with several faults.
+const FAULTS: &str = "\
+\"a\u{1} => NotInSubset 1
+a: \"b\\q\u{1} => Quote 1
+[a,, \u{1}] => Flow 1
+\t\u{1} => Tab 1
+a: b¶  c: \u{1} => Indent 2
+a: 1¶a: \u{1} => DuplicateKey 2
+a: \"b\" c\u{1} => Quote 1
+[a] b\u{1} => Flow 1
+[a\u{1} => NotInSubset 1
+a: b¶\tc: \" => Tab 2
+a: \"b¶c: \u{1} => Quote 1
+[a: b => NotInSubset 1
+{a: b, a: \"c => DuplicateKey 1
+['a'b, [ => Quote 1
+'a\u{1} => NotInSubset 1
+a: [b, 'c => Quote 1
+";
+
+// Texts with bytes that are not UTF-8. Here each character stands for the byte of its number: `ÿ` for
+// 255, which no UTF-8 text has.
+const BYTES: &str = "\
+ÿ => NotUtf8 1
+a: b¶\u{C3} => NotUtf8 2
+# ÿ => NotUtf8 1
+a: \"bÿ => NotUtf8 1
+[a, ÿ => NotUtf8 1
+a: b: ÿ => NotInSubset 1
+a: \"b\" cÿ => Quote 1
+--- ÿ => NotInSubset 1
+a\u{ED}\u{A0}\u{80}: 1 => NotUtf8 1
+a: 1¶bÿ => NotUtf8 2
+a: 1¶a: ÿ => DuplicateKey 2
+\u{20}\tÿ => Tab 1
+a: \u{C2}\u{85}ÿ => NotInSubset 1
+a: ÿ\u{1} => NotUtf8 1
+a: 'b'ÿ => NotUtf8 1
+\u{C0}\u{80} => NotUtf8 1
+a: 1¶b: ÿ¶\tc: => NotUtf8 2
+a: 1¶a: 2¶b: ÿ => DuplicateKey 2
+a: 1¶ÿa: 2¶a: => NotUtf8 2
+a: \u{1}ÿ => NotInSubset 1
+# \u{C3}\u{A9}ÿ => NotUtf8 1
+\tÿ => Tab 1
+---ÿ => NotUtf8 1
+a: 1¶  bÿ => Indent 2
+a: 1¶  ÿ => NotUtf8 2
+a: &ÿ => NotInSubset 1
+a: ÿ&b: c => NotUtf8 1
+-\tÿ: b => Tab 1
+- - ÿ => NotInSubset 1
+- a¶bÿ => NotInSubset 2
+a: [b, 'cÿ => NotUtf8 1
+a: [b} ÿ => Flow 1
+a: 1¶[b} ÿ => Flow 2
+";
+
+// Where on its line a fault stands: a byte that is not UTF-8 stands directly behind it, where the fault is
+// answered, or to the left of it or in the same place. The end of the line is a place too.
+const PLACES: &str = "\
+a: ,ÿ => NotInSubset 1
+a: - ÿ => NotInSubset 1
+a: @ÿ => NotInSubset 1
+'a''ÿ => NotUtf8 1
+a: \"b\\\"ÿ => NotUtf8 1
+a: \"ÿ\\ => NotUtf8 1
+a: \"\\ÿ => Quote 1
+a: \"bÿ\\x\" => NotUtf8 1
+a: \"b\\xÿ => Quote 1
+a: 'ÿ' b => NotUtf8 1
+a: 'b' cÿ => Quote 1
+a: 'b' ÿ => NotUtf8 1
+'a'#ÿ => Quote 1
+'a':ÿ => Quote 1
+'a',ÿ => Quote 1
+{a: ]ÿ => Flow 1
+[-,ÿ => Flow 1
+[- ÿ => NotInSubset 1
+[#ÿ => NotInSubset 1
+[ÿ:, a] => NotUtf8 1
+[a:,ÿ => Flow 1
+['a' :]ÿ => Flow 1
+['a'[ÿ => Quote 1
+[a #ÿ => NotUtf8 1
+[ #ÿ => NotUtf8 1
+[a,,ÿ => Flow 1
+[,ÿ => Flow 1
+[[a]#ÿ => Flow 1
+[a]#ÿ => Flow 1
+[a: ÿ => NotInSubset 1
+[[a]: ÿ => NotInSubset 1
+[aÿ: b] => NotUtf8 1
+{aÿ} => NotUtf8 1
+{a}ÿ => Flow 1
+{a, ÿ => Flow 1
+{a #ÿ => NotUtf8 1
+{a: }ÿ => Flow 1
+{a: , ÿ => Flow 1
+{a: b: ÿ => NotInSubset 1
+{: ÿ => NotInSubset 1
+{[ÿ => Flow 1
+{a: 1, 'a': ÿ => DuplicateKey 1
+{a: 1, a}ÿ => Flow 1
+{a: 1, a: ÿ => DuplicateKey 1
+[a, &ÿ => NotInSubset 1
+[[[[[[[[{ÿ => TooDeep 1
+[[[[[[[[ÿ{ => NotUtf8 1
+";
+
+#[test]
+fn characters(rt: HostRuntime) -> Result<(), Fail> {
+    assert_rows(&rt, CHARACTERS)
+}
+
+#[test]
+fn first_faults(rt: HostRuntime) -> Result<(), Fail> {
+    assert_rows(&rt, FAULTS)
+}
+
+// The bytes that the characters of a text stand for.
+fn bytes_of(alloc: Global, text: &str) -> Result<Vec<u8>, Fail> {
+    let mut bytes = Vec::new(alloc);
+    for c in text.chars() {
+        bytes.push(u8::try_from(c).ok().ok_or("a byte")?)?;
+    }
+    Ok(bytes)
+}
+
+fn assert_rows_of_bytes<R: Abort + AllocGlobal>(rt: &R, table: &str) -> Result<(), Fail> {
+    for row in table.lines() {
+        let (text, expected) = cells(rt.alloc(), row)?;
+        assert_reads(rt, &bytes_of(rt.alloc(), &text)?, &expected)?;
+    }
+    Ok(())
+}
+
+#[test]
+fn faults_of_bytes(rt: HostRuntime) -> Result<(), Fail> {
+    assert_rows_of_bytes(&rt, BYTES)
+}
+
+#[test]
+fn places_of_faults(rt: HostRuntime) -> Result<(), Fail> {
+    assert_rows_of_bytes(&rt, PLACES)
+}
