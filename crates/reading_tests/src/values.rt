@@ -1,10 +1,9 @@
 //! Texts and the values that they have.
 
 use crate::row::cells;
-use mpf_values::{
-    Comparison, Condition, Event, ListFault, boolean, event, integer, list, name, power, time,
-};
+use mpf_values::{ListFault, boolean, event, integer, list, name, power, time};
 use std::alloc::{AllocError, Global};
+use std::fmt::Display;
 use std::process::Abort;
 use std::test::Fail;
 use yaml_subset::{Tree, read};
@@ -212,16 +211,16 @@ const POWERS: &str = "\
 [18446744073709551617%] none
 ";
 
-// Texts, and whether they are names.
+// Names, which are the text itself.
 const NAMES: &str = "\
-[a] yes
-[Z] yes
-[9] yes
-[_] yes
-[-] yes
-[.] yes
-[s_left-2.b] yes
-[abcdefghijklmnopqrstuvwxyzABCDEFGHIJKLMNOPQRSTUVWXYZ0123456789_-] yes
+[a] a
+[Z] Z
+[9] 9
+[_] _
+[-] -
+[.] .
+[s_left-2.b] s_left-2.b
+[abcdefghijklmnopqrstuvwxyzABCDEFGHIJKLMNOPQRSTUVWXYZ0123456789_-] abcdefghijklmnopqrstuvwxyzABCDEFGHIJKLMNOPQRSTUVWXYZ0123456789_-
 [] none
 [ ] none
 [a b] none
@@ -237,21 +236,19 @@ const NAMES: &str = "\
 [abcdefghijklmnopqrstuvwxyzABCDEFGHIJKLMNOPQRSTUVWXYZ0123456789_-.] none
 ";
 
-// Handled events `e` with a condition: the current player's variable, how it is to compare and the number.
-const CONDITIONS: &str = "\
-[e{current_player.x==1}] x == 1
-[e{current_player.x!=1}] x != 1
-[e{current_player.x<1}] x < 1
-[e{current_player.x<=1}] x <= 1
-[e{current_player.x>1}] x > 1
-[e{current_player.x>=1}] x >= 1
-[e{ \tcurrent_player.x == \t -1 \t}] x == -1
-[e{current_player.x-1>=-2}] x-1 >= -2
-[e{current_player.a.b <1000000000}] a.b < 1000000000
-";
-
-// Texts that are no handled events.
-const NO_EVENTS: &str = "\
+// Handled events, and behind an event its condition: the current player's variable, how it is to compare and
+// the number.
+const EVENTS: &str = "\
+[s_left.a-1_active] s_left.a-1_active
+[e{current_player.x==1}] e x Equal 1
+[e{current_player.x!=1}] e x NotEqual 1
+[e{current_player.x<1}] e x Less 1
+[e{current_player.x<=1}] e x LessOrEqual 1
+[e{current_player.x>1}] e x Greater 1
+[e{current_player.x>=1}] e x GreaterOrEqual 1
+[e{ \tcurrent_player.x == \t -1 \t}] e x Equal -1
+[e{current_player.x-1>=-2}] e x-1 GreaterOrEqual -2
+[e{current_player.a.b <1000000000}] e a.b Less 1000000000
 [] none
 [{current_player.x==1}] none
 [e ] none
@@ -301,170 +298,134 @@ const LIST_TEXTS: &str = "\
 const LIST_NODES: &str = "\
 ¶- a¶-¶- b c, => 2 <a>2 <b c,>4
 [] => 0
-{} => BadValue
-[[]] => BadValue
+{} => none
+[[]] => none
 ";
+
+// What the text of a row is to be read as.
+#[derive(Clone, Copy)]
+enum Kind {
+    Boolean,
+    Integer,
+    Time,
+    Power,
+    Name,
+    Event,
+    List,
+}
+
+fn utf8(text: &[u8]) -> &str {
+    std::str::from_utf8(text).unwrap_or("no UTF-8")
+}
+
+fn show<V: Display + Drop>(alloc: Global, value: Option<V>) -> Result<String, AllocError> {
+    match value {
+        Some(value) => value.to_string(alloc),
+        None => String::from_str(alloc, "none"),
+    }
+}
+
+fn show_event(alloc: Global, text: &[u8]) -> Result<String, AllocError> {
+    let Ok(event) = event(text) else {
+        return String::from_str(alloc, "none");
+    };
+    let mut out = String::from_str(alloc, utf8(event.name))?;
+    if let Some(condition) = event.condition {
+        let variable = utf8(condition.variable);
+        write!(
+            &mut out,
+            " {variable} {:?} {}",
+            condition.comparison, condition.number
+        )?;
+    }
+    Ok(out)
+}
+
+// The items of a node.
+fn show_items(alloc: Global, tree: &Tree) -> Result<String, AllocError> {
+    let items = match list(alloc, tree) {
+        Ok(items) => items,
+        Err(ListFault::BadValue) => return String::from_str(alloc, "none"),
+        Err(ListFault::NoMemory) => return Err(AllocError),
+    };
+    let mut out = items.len().to_string(alloc)?;
+    for item in &items {
+        write!(&mut out, " <{}>{}", utf8(item.text), item.line)?;
+    }
+    Ok(out)
+}
+
+// The value that a text has, as the tables have it.
+fn value_of(alloc: Global, kind: Kind, text: &[u8]) -> Result<String, AllocError> {
+    match kind {
+        Kind::Boolean => show(alloc, boolean(text).ok()),
+        Kind::Integer => show(alloc, integer(text).ok()),
+        Kind::Time => show(alloc, time(text).ok()),
+        Kind::Power => show(alloc, power(text).ok()),
+        Kind::Name => match name(text) {
+            Ok(name) => String::from_str(alloc, utf8(name)),
+            Err(_) => String::from_str(alloc, "none"),
+        },
+        Kind::Event => show_event(alloc, text),
+        Kind::List => show_items(alloc, &Tree::Scalar(7, Vec::from_slice(alloc, text)?)),
+    }
+}
 
 // The text and the value of a row.
 fn text_and_value(row: &str) -> Option<(&str, &str)> {
     row.strip_prefix('[')?.split_once("] ")
 }
 
-#[test]
-fn booleans(rt: HostRuntime) -> Result<(), Fail> {
-    for row in BOOLEANS.lines() {
+fn assert_values<R: Abort + AllocGlobal>(rt: &R, kind: Kind, table: &str) -> Result<(), Fail> {
+    for row in table.lines() {
         let (text, value) = text_and_value(row).ok_or("a row")?;
-        assert_eq!(rt;
-            boolean(text.as_bytes()).ok(),
-            value.parse::<bool>().ok(),
-            "at {text}"
-        );
+        let found = value_of(rt.alloc(), kind, text.as_bytes())?;
+        assert_eq!(rt; (text, found.as_str()), (text, value));
     }
     Ok(())
+}
+
+#[test]
+fn booleans(rt: HostRuntime) -> Result<(), Fail> {
+    assert_values(&rt, Kind::Boolean, BOOLEANS)
 }
 
 #[test]
 fn integers(rt: HostRuntime) -> Result<(), Fail> {
-    for row in INTEGERS.lines() {
-        let (text, value) = text_and_value(row).ok_or("a row")?;
-        assert_eq!(rt;
-            integer(text.as_bytes()).ok(),
-            value.parse::<i64>().ok(),
-            "at {text}"
-        );
-    }
-    Ok(())
+    assert_values(&rt, Kind::Integer, INTEGERS)
 }
 
 #[test]
 fn times(rt: HostRuntime) -> Result<(), Fail> {
-    for row in TIMES.lines() {
-        let (text, value) = text_and_value(row).ok_or("a row")?;
-        assert_eq!(rt;
-            time(text.as_bytes()).ok(),
-            value.parse::<u32>().ok(),
-            "at {text}"
-        );
-    }
-    Ok(())
+    assert_values(&rt, Kind::Time, TIMES)
 }
 
 #[test]
 fn powers(rt: HostRuntime) -> Result<(), Fail> {
-    for row in POWERS.lines() {
-        let (text, value) = text_and_value(row).ok_or("a row")?;
-        assert_eq!(rt;
-            power(text.as_bytes()).ok(),
-            value.parse::<u16>().ok(),
-            "at {text}"
-        );
-    }
-    Ok(())
+    assert_values(&rt, Kind::Power, POWERS)
 }
 
 #[test]
 fn names(rt: HostRuntime) -> Result<(), Fail> {
-    for row in NAMES.lines() {
-        let (text, value) = text_and_value(row).ok_or("a row")?;
-        let wanted = if value == "none" {
-            None
-        } else {
-            Some(text.as_bytes())
-        };
-        assert_eq!(rt; name(text.as_bytes()).ok(), wanted, "at {text}");
-    }
-    Ok(())
-}
-
-// What a row of conditions says.
-fn condition(value: &str) -> Option<Condition<'_>> {
-    let (variable, rest) = value.split_once(' ')?;
-    let (sign, number) = rest.split_once(' ')?;
-    let comparison = match sign {
-        "==" => Comparison::Equal,
-        "!=" => Comparison::NotEqual,
-        "<" => Comparison::Less,
-        "<=" => Comparison::LessOrEqual,
-        ">" => Comparison::Greater,
-        ">=" => Comparison::GreaterOrEqual,
-        _ => return None,
-    };
-    Some(Condition {
-        variable: variable.as_bytes(),
-        comparison,
-        number: number.parse::<i64>().ok()?,
-    })
+    assert_values(&rt, Kind::Name, NAMES)
 }
 
 #[test]
-fn events_without_condition(rt: HostRuntime) -> Result<(), Fail> {
-    let plain = Event {
-        name: b"s_left.a-1_active",
-        condition: None,
-    };
-    assert_eq!(rt; event(b"s_left.a-1_active").ok(), Some(plain));
-    Ok(())
-}
-
-#[test]
-fn events_with_conditions(rt: HostRuntime) -> Result<(), Fail> {
-    for row in CONDITIONS.lines() {
-        let (text, value) = text_and_value(row).ok_or("a row")?;
-        let wanted = Event {
-            name: b"e",
-            condition: Some(condition(value).ok_or("a condition")?),
-        };
-        assert_eq!(rt; event(text.as_bytes()).ok(), Some(wanted), "at {text}");
-    }
-    Ok(())
-}
-
-#[test]
-fn no_events(rt: HostRuntime) -> Result<(), Fail> {
-    for row in NO_EVENTS.lines() {
-        let (text, _) = text_and_value(row).ok_or("a row")?;
-        assert_eq!(rt; event(text.as_bytes()).ok(), None, "at {text}");
-    }
-    Ok(())
-}
-
-// The items of a node as the tables have them.
-fn items_of(alloc: Global, tree: &Tree) -> Result<String, AllocError> {
-    let items = match list(alloc, tree) {
-        Ok(items) => items,
-        Err(ListFault::BadValue) => return String::from_str(alloc, "BadValue"),
-        Err(ListFault::NoMemory) => return Err(AllocError),
-    };
-    let mut out = items.len().to_string(alloc)?;
-    for item in &items {
-        let text = std::str::from_utf8(item.text).unwrap_or("no UTF-8");
-        write!(&mut out, " <{text}>{}", item.line)?;
-    }
-    Ok(out)
-}
-
-fn assert_items<R: Abort + AllocGlobal>(rt: &R, tree: &Tree, wanted: &str) -> Result<(), Fail> {
-    let found = items_of(rt.alloc(), tree)?;
-    assert_eq!(rt; found.as_str(), wanted);
-    Ok(())
+fn events(rt: HostRuntime) -> Result<(), Fail> {
+    assert_values(&rt, Kind::Event, EVENTS)
 }
 
 #[test]
 fn list_texts(rt: HostRuntime) -> Result<(), Fail> {
-    for row in LIST_TEXTS.lines() {
-        let (text, wanted) = text_and_value(row).ok_or("a row")?;
-        let tree = Tree::Scalar(7, Vec::from_slice(rt.alloc(), text.as_bytes())?);
-        assert_items(&rt, &tree, wanted)?;
-    }
-    Ok(())
+    assert_values(&rt, Kind::List, LIST_TEXTS)
 }
 
 #[test]
 fn list_nodes(rt: HostRuntime) -> Result<(), Fail> {
     for row in LIST_NODES.lines() {
         let (text, wanted) = cells(rt.alloc(), row)?;
-        let tree = read(rt.alloc(), text.as_bytes())?;
-        assert_items(&rt, &tree, &wanted)?;
+        let found = show_items(rt.alloc(), &read(rt.alloc(), text.as_bytes())?)?;
+        assert_eq!(rt; found.as_str(), wanted.as_str());
     }
     Ok(())
 }
