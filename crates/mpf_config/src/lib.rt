@@ -11,8 +11,6 @@ pub mod notes;
 mod sections;
 mod spot;
 mod switches;
-#[cfg(test)]
-mod tests;
 mod texts;
 mod unread;
 mod values;

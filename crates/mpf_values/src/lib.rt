@@ -17,8 +17,6 @@ mod items;
 mod lists;
 mod names;
 mod powers;
-#[cfg(test)]
-mod tests;
 mod times;
 
 pub use booleans::boolean;

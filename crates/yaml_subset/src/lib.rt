@@ -29,8 +29,6 @@ mod lines;
 mod place;
 mod quotes;
 pub mod reader;
-#[cfg(test)]
-mod tests;
 pub mod tree;
 mod words;
 
