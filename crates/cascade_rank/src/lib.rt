@@ -17,8 +17,3 @@ pub use law::cycles_or_weights;
 pub use least::find;
 pub use verdict::{Bound, verify};
 pub use weights::Weights;
-
-#[cfg(test)]
-mod random_plans;
-#[cfg(test)]
-mod tests;

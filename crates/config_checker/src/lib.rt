@@ -18,8 +18,3 @@ pub use law::{accepted_is_good, certificate_is_read_again};
 pub use line::{Happening, Line};
 pub use report::{CertificateFault, Fault, Report};
 pub use report_text::write_report;
-
-#[cfg(test)]
-mod certificate_tests;
-#[cfg(test)]
-mod tests;

@@ -8,6 +8,3 @@ pub mod queue;
 pub use handlers::Handlers;
 pub use law::first_in_first_out;
 pub use queue::{Full, Posted, Queue};
-
-#[cfg(test)]
-mod tests;

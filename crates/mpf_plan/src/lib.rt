@@ -16,6 +16,3 @@ pub use entries::{
 };
 pub use fault::{PlanFault, Table};
 pub use tables::Plan;
-
-#[cfg(test)]
-mod tests;

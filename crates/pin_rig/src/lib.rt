@@ -11,6 +11,3 @@ mod stimulus;
 pub use input::{Input, RigFault, StepFault};
 pub use law::steps_are_run;
 pub use rig::Rig;
-
-#[cfg(test)]
-mod tests;

@@ -9,6 +9,3 @@ pub mod switches;
 pub use change::Change;
 pub use law::levels_are_accepted;
 pub use switches::Switches;
-
-#[cfg(test)]
-mod tests;

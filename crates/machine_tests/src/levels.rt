@@ -1,47 +1,38 @@
-//! Switches of a plan by hand.
+//! Switches of a small plan, as their raw levels change.
 
 ghost use Rattle.std.specs.Prelude.{◌≡◌, ◌<◌, ◌^◌, length, IfOk};
 
-use super::*;
-use mpf_config::config::{Config, Contact, Debounce, MachineText, Name, Section, SwitchRow};
-use mpf_plan::SwitchId;
-use std::alloc::{AllocError, Global};
+use crate::rows::{config, name, switch_row};
+use mpf_config::config::{Contact, Debounce, SwitchRow};
+use mpf_plan::{Plan, SwitchId, plan};
+use std::alloc::Global;
 use std::test::Fail;
+use switch_core::{Change, Switches};
 
-fn row(
-    alloc: Global,
-    name: &[u8],
-    contact: Contact,
-    debounce: Debounce,
-) -> Result<SwitchRow, AllocError> {
-    Ok(SwitchRow {
-        name: Name {
-            line: 1,
-            text: Vec::from_slice(alloc, name)?,
-        },
-        contact,
-        debounce,
-        tags: Vec::new(alloc),
-        activated: Vec::new(alloc),
-        deactivated: Vec::new(alloc),
-    })
+/// 0 and 2 are normal, and 1 is quick and normally closed.
+fn plan_of_three(alloc: Global) -> Result<Plan, Fail> {
+    let mut rows = Vec::new(alloc);
+    rows.push(SwitchRow {
+        debounce: Debounce::Normal,
+        ..switch_row(alloc, name(alloc, "a")?)
+    })?;
+    rows.push(SwitchRow {
+        contact: Contact::NormallyClosed,
+        debounce: Debounce::Quick,
+        ..switch_row(alloc, name(alloc, "b")?)
+    })?;
+    rows.push(SwitchRow {
+        debounce: Debounce::Normal,
+        ..switch_row(alloc, name(alloc, "c")?)
+    })?;
+    Ok(plan(alloc, &config(alloc, rows, Vec::new(alloc))?)?)
 }
 
-/// Inactive: 0 and 2 are normal, and 1 is quick and normally closed.
+/// The switches of the plan, inactive.
 fn three(alloc: Global) -> Result<Switches, Fail>
     ensures { IfOk result (λ s. length s.kinds ≡ 3) }
 {
-    let mut rows = Vec::new(alloc);
-    rows.push(row(alloc, b"a", Contact::NormallyOpen, Debounce::Normal)?)?;
-    rows.push(row(alloc, b"b", Contact::NormallyClosed, Debounce::Quick)?)?;
-    rows.push(row(alloc, b"c", Contact::NormallyOpen, Debounce::Normal)?)?;
-    let mut sections = Vec::new(alloc);
-    sections.push(Section::Switches(rows))?;
-    let config = Config {
-        machine: MachineText { sections },
-        notes: Vec::new(alloc),
-    };
-    let plan = mpf_plan::plan(alloc, &config).ok().ok_or("plan")?;
+    let plan = plan_of_three(alloc)?;
     if plan.switch_count() != 3 {
         return Err("three switches".into());
     }
@@ -77,7 +68,13 @@ fn normal_switch_waits(rt: HostRuntime) -> Result<(), Fail> {
     assert!(rt; switches.active(switch));
     assert!(rt; change_unheard(&mut switches, switch, false, 105));
     assert!(rt; accept(&mut switches, 110, switch, false));
-    // A bounce is forgotten.
+    Ok(())
+}
+
+#[test]
+fn bounce_is_forgotten(rt: HostRuntime) -> Result<(), Fail> {
+    let mut switches = three(rt.alloc())?;
+    let switch = SwitchId(0);
     assert!(rt; change_unheard(&mut switches, switch, true, 200));
     assert!(rt; change_unheard(&mut switches, switch, false, 203));
     assert!(rt; switches.due().is_none());

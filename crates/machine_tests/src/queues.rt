@@ -1,9 +1,8 @@
 //! Queues of two sizes, and the handlers of a small plan.
 
-use super::*;
-use mpf_config::config::{Config, EventPlayerRow, MachineText, Name, Section};
-use mpf_plan::{BindingId, EventId, Owner};
-use std::alloc::{AllocError, Global};
+use crate::rows::small_config;
+use event_queue::{Full, Handlers, Posted, Queue};
+use mpf_plan::{BindingId, EventId, Owner, plan};
 use std::test::Fail;
 
 fn posted(event: u16) -> Posted {
@@ -35,36 +34,10 @@ fn queue_of_none_is_full(rt: HostRuntime) -> Result<(), Fail> {
     Ok(())
 }
 
-fn name(alloc: Global, text: &[u8]) -> Result<Name, AllocError> {
-    Ok(Name {
-        line: 1,
-        text: Vec::from_slice(alloc, text)?,
-    })
-}
-
-/// An entry that posts one event.
-fn player(alloc: Global, event: &[u8], post: &[u8]) -> Result<EventPlayerRow, AllocError> {
-    let mut posts = Vec::new(alloc);
-    posts.push(name(alloc, post)?)?;
-    Ok(EventPlayerRow {
-        event: name(alloc, event)?,
-        posts,
-    })
-}
-
 #[test]
 fn counts_handlers_of_the_event(rt: HostRuntime) -> Result<(), Fail> {
-    let mut players = Vec::new(rt.alloc());
-    players.push(player(rt.alloc(), b"a", b"x")?)?;
-    players.push(player(rt.alloc(), b"b", b"x")?)?;
-    players.push(player(rt.alloc(), b"a", b"y")?)?;
-    let mut sections = Vec::new(rt.alloc());
-    sections.push(Section::EventPlayer(players))?;
-    let config = Config {
-        machine: MachineText { sections },
-        notes: Vec::new(rt.alloc()),
-    };
-    let plan = mpf_plan::plan(rt.alloc(), &config).ok().ok_or("plan")?;
+    let config = small_config(rt.alloc(), "", "a: x\nb: x\na: y")?;
+    let plan = plan(rt.alloc(), &config)?;
     let handlers = Handlers::new(rt.alloc(), &plan)?;
     let a = plan.find_event(b"a").ok_or("a")?;
     assert_eq!(rt; handlers.nth(a, 0), Some(BindingId(0)));
