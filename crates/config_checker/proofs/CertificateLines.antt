@@ -82,7 +82,7 @@ only text last e = sym (ap (join_with_byte 32) e) ∙ join_with_byte-slice_split
 no_number_with_blank : (word a b : List ℕ) (more : List (List ℕ)) → parts 32 word ≡ a ∷ b ∷ more → number_in word ≡ None
 no_number_with_blank word a b more e =
     no_number word (λ n s.
-    let same = ap length (sym e ∙ slice_split_none (λ b. b == 32) word (not_in_digits 32 refl word s.digits)) in
+    let same = ap length (sym e ∙ slice_split_none (λ b. b == 32) word (not_in_digits 32 refl word s.number.digits)) in
     omega (arith, same))
 
 module _ (word number : List ℕ) where

@@ -11,17 +11,13 @@ use Rattle.std.proofs.lemmas.List.Sums.{AllPass-from_list_all, list_all-from_All
 use Rattle.std.proofs.lemmas.Slice.Eq.{bytes_eq-Decides}
 use Rattle.config_checker.specs.CertificateText.{Certificate, event_lines, bound_line}
 use Rattle.config_checker.specs.CertificateOf.{is_in_word, IsWord, IsWritable, IsTextOf, number_in, parts, is_heading, bound_by, bound_in, named, event_by, event_in, with_event, events_at, with_bound, bound_at, heading_at, certificate_at}
-use Rattle.config_checker.proofs.Numerals.{says_number, number_said, is_written, written_says, not_in_digits}
+use Rattle.config_checker.proofs.Numerals.{guard, says_number, number_said, is_written, written_says, not_in_digits}
 use Rattle.config_checker.proofs.CertificateLines.{heading_first, bound_first, event_first}
 
 -- ---- what was read
 
 abbrev some_event : List ℕ × ℕ → Option (List ℕ × ℕ)
 some_event e = Some e
-
-guard : {A : Type 0} (t : Bool) (o : Option A) (x : A) → cond t o None ≡ Some x → (t ≡ true) × (o ≡ Some x)
-guard true o x e = (refl, e)
-guard false o x e = absurd cc
 
 word_is : (word other : List ℕ) → bytes_eq word other ≡ true → word ≡ other
 word_is word other e = (bytes_eq-Decides word other).0 e
@@ -175,7 +171,7 @@ no_end_in : (word : List ℕ) → IsWord word → Without 10 word
 no_end_in word h = λ i d l. let b = get_or word i d in (or_parts (b == 32 || b == 9) (b == 10) (not-true (b == 32 || b == 9 || b == 10) (h.letters i d l))).1
 
 not_in_decimal : (c : ℕ) → is_ascii_digit c ≡ false → (n : ℕ) → n < 2 ^ 32 → Without c (decimal n)
-not_in_decimal c other n small = not_in_digits c other (decimal n) (written_says n small).digits
+not_in_decimal c other n small = not_in_digits c other (decimal n) (written_says n small).number.digits
 
 is_some_word : (word : List ℕ) → IsWord word → (nat_lt 0 (length word) && list_all is_in_word word) ≡ true
 is_some_word [] h = absurd (h.some refl)

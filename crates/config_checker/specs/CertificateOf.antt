@@ -1,9 +1,9 @@
 -- The certificate that a text is.
-use Rattle.std.specs.Prelude.{◌≡◌, ◌≢◌, ℕ, ◌+◌, ◌*◌, ◌-◌, ◌<◌, ◌^◌, nat_lt, ◌==◌, Bool, true, ◌&&◌, ◌||◌, not, if◌then◌else◌, Option, Some, None, option_map, Result, Ok, Err, List, [], ◌∷◌, length, slice_index, codes}
+use Rattle.std.specs.Prelude.{◌≡◌, ◌≢◌, ℕ, ◌+◌, ◌<◌, ◌^◌, nat_lt, ◌==◌, Bool, true, ◌&&◌, ◌||◌, not, if◌then◌else◌, Option, Some, None, option_map, option_and_then, Result, Ok, Err, List, [], ◌∷◌, length, slice_index, codes}
 use Rattle.std.specs.List.{All, list_all, slice_split}
-use Rattle.std.specs.Char.{is_ascii_digit}
 use Rattle.std.specs.Str.{bytes_eq}
 use Rattle.yaml_bytes.specs.Bytes.{is_blank}
+use Rattle.yaml_bytes.specs.Numbers.{number_at}
 use Rattle.config_checker.specs.CertificateText.{Certificate, text_of}
 
 -- ---- what it is
@@ -29,20 +29,17 @@ IsTextOf c text = IsWritable c × (text ≡ text_of c)
 
 -- ---- how it is computed
 
--- the number that is written before these digits, and then these
-abbrev pub number_on : ℕ → List ℕ → ℕ
-number_on n [] = n
-number_on n (d ∷ ds) = number_on (n * 10 + (d - 48)) ds
-
 -- no 0 stands before another digit
 abbrev pub is_plain : List ℕ → Bool
 is_plain word = length word == 1 || not (slice_index word 0 == 48)
 
+-- a number, where it is below 2^32
+abbrev pub fitting : ℕ → Option ℕ
+fitting n = if nat_lt n (2 ^ 32) then Some n else None
+
 -- the number that a word of digits says, where it is below 2^32
 abbrev pub number_in : List ℕ → Option ℕ
-number_in word =
-    if nat_lt 0 (length word) && list_all is_ascii_digit word && is_plain word && nat_lt (number_on 0 word) (2 ^ 32)
-    then Some (number_on 0 word) else None
+number_in word = if is_plain word then option_and_then fitting (number_at word) else None
 
 -- a text, cut at each of these bytes
 abbrev pub parts : ℕ → List ℕ → List (List ℕ)

@@ -2,13 +2,12 @@
 
 ghost use Rattle.std.specs.Prelude.{◌≡◌, ◌<◌, ◌+◌, ◌==◌, ◌&&◌, not, ℕ, Some, Err, [], ◌∷◌, IfOk, IfSome, MatchOption, length, nat_lt, option_map, position};
 ghost use Rattle.std.specs.List.{list_all};
-ghost use Rattle.std.specs.Char.{is_ascii_digit};
 ghost use Rattle.config_checker.specs.CertificateOf.{is_in_word as in_word, is_plain, number_in, parts, lines, words, bound_in, event_in, with_event, events_at, with_bound, bound_at, certificate_at};
 ghost use Rattle.config_checker.specs.CertificateRead.{event_view, GivesCertificate};
 ghost use Rattle.config_checker.specs.declared.certificate_reader.ReadFault.TheVariants.{NoMemory};
 
 use std::alloc::{AllocFailed, Global};
-use yaml_bytes::is_blank;
+use yaml_bytes::{is_blank, number};
 
 const HEADING: &[u8] = b"pinball-certificate 1";
 
@@ -186,10 +185,10 @@ fn is_in_word(b: u8) -> bool
 fn read_number(word: &[u8]) -> Option<u32>
     ensures { result ≡ number_in word.now }
 {
-    if has_leading_zero(word) || !has_digits_only(word) {
+    if has_leading_zero(word) {
         return None;
     }
-    std::str::from_utf8(word).ok()?.parse().ok()
+    u32::try_from(number(word)?).ok()
 }
 
 /// Whether a 0 stands before another byte.
@@ -197,10 +196,4 @@ fn has_leading_zero(word: &[u8]) -> bool
     ensures { result ≡ not (is_plain word.now) }
 {
     matches!(word, [b'0', _, ..])
-}
-
-fn has_digits_only(word: &[u8]) -> bool
-    ensures { result ≡ list_all is_ascii_digit word.now }
-{
-    word.iter().all(|b| b.is_ascii_digit())
 }

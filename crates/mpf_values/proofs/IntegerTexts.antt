@@ -2,9 +2,10 @@
 use Rattle.std.proofs.Common.{◌≡◌, ℕ, ◌<◌, ◌≤◌, ◌^◌, Bool, true, false, cond, eqb, ltb, List, [], ◌∷◌, length, Some, None, ℤ, pos, neg_ℤ, refl, sym, ap, subst, ◌∙◌, inl, inr, arith}
 use Rattle.std.proofs.lemmas.Bool.{eqb-true, ne_eqb, ltb-false, le-ltb}
 use Rattle.std.proofs.lemmas.Option.{same_Some}
-use Rattle.mpf_values.specs.Numbers.{AreDigits, number_of}
+use Rattle.yaml_bytes.specs.Numbers.{number_of, number_at}
+use Rattle.mpf_values.specs.Numbers.{AreDigits}
 use Rattle.mpf_values.specs.Integers.{with_sign, signed, IsInteger}
-use Rattle.mpf_values.specs.Reading.{◌>>=◌, number_at, magnitude_at, integer_at}
+use Rattle.mpf_values.specs.Reading.{◌>>=◌, magnitude_at, integer_at}
 use Rattle.mpf_values.proofs.Steps.{bind_some, guard_false, chosen}
 use Rattle.mpf_values.proofs.ByteKinds.{digit_range}
 use Rattle.mpf_values.proofs.WrittenNumbers.{number_sound, number_complete}

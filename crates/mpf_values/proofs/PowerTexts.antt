@@ -6,7 +6,8 @@ use Rattle.std.proofs.lemmas.List.{append-nil}
 use Rattle.std.proofs.lemmas.Option.{same_Some}
 use Rattle.std.proofs.lemmas.Slice.Eq.{bytes_eq-Decides}
 use Rattle.mpf_values.specs.declared.decimals.Decimal.{Decimal}
-use Rattle.mpf_values.specs.Numbers.{number_of, IsDecimal}
+use Rattle.yaml_bytes.specs.Numbers.{number_of}
+use Rattle.mpf_values.specs.Numbers.{IsDecimal}
 use Rattle.mpf_values.specs.Powers.{IsFraction, IsPercentage, IsPower}
 use Rattle.mpf_values.specs.Reading.{◌>>=◌, decimal_at, share_at, power_at}
 use Rattle.mpf_values.proofs.Steps.{bind_some, guard_true, guard_false, chosen}

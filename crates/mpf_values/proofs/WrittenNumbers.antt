@@ -1,77 +1,26 @@
 -- Numbers are read as they are written.
-use Rattle.std.proofs.Common.{◌≡◌, ℕ, zero, suc, ◌+◌, ◌-◌, ◌*◌, ◌^◌, ◌<◌, ◌≤◌, Bool, true, false, cond, eqb, ltb, ◌==◌, List, [], ◌∷◌, ◌++◌, length, Option, Some, None, Result, Ok, Err, get_or, refl, sym, ap, subst, ◌∙◌, inl, inr, arith, rules, append_assoc}
-use Rattle.std.specs.List.{list_all}
+use Rattle.std.proofs.Common.{◌≡◌, ℕ, zero, suc, ◌+◌, ◌-◌, ◌*◌, ◌^◌, ◌<◌, ◌≤◌, false, cond, eqb, ◌==◌, List, [], ◌∷◌, ◌++◌, length, Option, Some, None, refl, sym, ap, subst, ◌∙◌, inl, inr, arith, append_assoc}
 use Rattle.std.specs.Char.{is_ascii_digit}
-use Rattle.std.specs.Str.{IsUtf8, IsAscii}
-use Rattle.std.specs.Str.Parse.{ParsesUnsigned}
-use Rattle.std.proofs.lemmas.Bool.{cases_lt, eqb-true, eqb-false, eq-eqb, ne_eqb, le-ltb}
-use Rattle.std.proofs.lemmas.List.{append-nil}
-use Rattle.std.proofs.lemmas.Option.{same_Some, some_pair_parts}
-use Rattle.std.proofs.lemmas.Str.{IsUtf8-from_ascii}
-use Rattle.std.proofs.lemmas.Str.Ascii.{IsAscii-nil, IsAscii-cons}
-use Rattle.std.proofs.lemmas.Str.Parse.{IsNumeralModel, numerals_by_weight, parse_digits}
+use Rattle.std.proofs.lemmas.Bool.{eqb-true}
+use Rattle.std.proofs.lemmas.Option.{same_Some}
+use Rattle.yaml_bytes.specs.Numbers.{number_of, number_at}
+use Rattle.yaml_bytes.proofs.WrittenNumbers as written
 use Rattle.mpf_values.specs.declared.decimals.Decimal.{Decimal}
 use Rattle.mpf_values.specs.Bytes.{Are}
-use Rattle.mpf_values.specs.Numbers.{AreDigits, number_of, decimal_text, IsDecimal}
-use Rattle.mpf_values.specs.Reading.{◌>>=◌, front, behind, fitting, number_at, worth_of, fraction_at, decimal_from, decimal_at}
-use Rattle.mpf_values.proofs.Steps.{bind_some, guard_true, guard_false, chosen, fitting_some, fitting_is}
-use Rattle.mpf_values.proofs.ByteKinds.{digit_range}
-use Rattle.mpf_values.proofs.Fronts.{begins, parts, are_front, front_is, behind_is, Are-from_list_all, list_all-from_Are}
-
--- ---- digits, as `parse` has them
-
-own : IsNumeralModel (λ ds. list_all is_ascii_digit ds ≡ true) number_of
-own = numerals_by_weight _ (search rules) number_of (search rules)
-
-digits_are_ascii : (text : List ℕ) → Are is_ascii_digit text → IsAscii text
-digits_are_ascii [] h = IsAscii-nil
-digits_are_ascii (b ∷ bs) h = IsAscii-cons b bs (let r = digit_range b h.0 in omega arith) (digits_are_ascii bs h.1)
-
-pub digits_are_utf8 : (text : List ℕ) → list_all is_ascii_digit text ≡ true → IsUtf8 text
-digits_are_utf8 text h = IsUtf8-from_ascii text (digits_are_ascii text (Are-from_list_all is_ascii_digit text h))
-
-pub no_number : (text : List ℕ) → list_all is_ascii_digit text ≡ false → number_at text ≡ None
-unfolding number_at
-no_number text h = rw h refl
-
-pub parsed : (text digits : List ℕ) (n : ℕ) → list_all is_ascii_digit text ≡ true → digits ≡ text → ParsesUnsigned {E = ℕ} 64 10 digits (Ok n) → number_at text ≡ Some n
-unfolding number_at
-parsed text digits n h is r =
-    let k = parse_digits own {E = ℕ} 64 text (Ok n) (subst (λ ds. ParsesUnsigned {E = ℕ} 64 10 ds (Ok n)) is r) h in
-    let some = k.0.0 in
-    rw (h, ne_eqb (length text) 0 (λ e. omega arith), fitting_is (number_of text) k.0.1, k.1) refl
-
--- a text of digits is no number where it is empty, or its number does not fit
-none_at : (text : List ℕ) → ((0 < length text) × (number_of text < 2 ^ 64) → ⊥) → list_all is_ascii_digit text ≡ true → number_at text ≡ None
-unfolding number_at
-none_at text no_such h =
-    elim (cases_lt 0 (length text)) [
-      | inl some ↦ elim (cases_lt (number_of text) (2 ^ 64)) [
-        | inl small ↦ absurd (no_such (some, small))
-        | inr large ↦ rw (h, ne_eqb (length text) 0 (λ e. omega arith), le-ltb (number_of text) (2 ^ 64) large) refl
-      ]
-      | inr none ↦ rw (h, eq-eqb (length text) 0 (omega arith)) refl
-    ]
-
-pub not_parsed : (text digits : List ℕ) (e : ℕ) → list_all is_ascii_digit text ≡ true → digits ≡ text → ParsesUnsigned {E = ℕ} 64 10 digits (Err e) → number_at text ≡ None
-not_parsed text digits e h is r =
-    none_at text (parse_digits own {E = ℕ} 64 text (Err e) (subst (λ ds. ParsesUnsigned {E = ℕ} 64 10 ds (Err e)) is r) h) h
+use Rattle.mpf_values.specs.Numbers.{AreDigits, decimal_text, IsDecimal}
+use Rattle.mpf_values.specs.Reading.{◌>>=◌, front, behind, fitting, worth_of, fraction_at, decimal_from, decimal_at}
+use Rattle.mpf_values.proofs.Steps.{bind_some, guard_true, chosen, fitting_some, fitting_is}
+use Rattle.mpf_values.proofs.Fronts.{begins, parts, front_is, behind_is, Are-from_list_all, list_all-from_Are}
 
 -- ---- digits
 
 pub number_sound : (text : List ℕ) (n : ℕ) → number_at text ≡ Some n → AreDigits text × (n ≡ number_of text)
-unfolding number_at
 number_sound text n e =
-    let a = guard_true (list_all is_ascii_digit text) (cond (eqb (length text) 0) None (fitting (number_of text))) n e in
-    let b = guard_false (eqb (length text) 0) (fitting (number_of text)) n a.1 in
-    let some = eqb-false (length text) 0 b.0 in
-    (record { some = omega arith; each = Are-from_list_all is_ascii_digit text a.0 }, sym (fitting_some (number_of text) n b.1).0)
+    let h = written.number_sound text n e in
+    (record { some = h.some; each = Are-from_list_all is_ascii_digit text h.digits }, sym h.value)
 
 pub number_complete : (text : List ℕ) → AreDigits text → number_of text < 2 ^ 64 → number_at text ≡ Some (number_of text)
-unfolding number_at
-number_complete text h fits =
-    let some = h.some in
-    rw (list_all-from_Are is_ascii_digit text h.each, ne_eqb (length text) 0 (λ e. omega arith), fitting_is (number_of text) fits) refl
+number_complete text h fits = written.number_complete text (number_of text) (record { some = h.some; digits = list_all-from_Are is_ascii_digit text h.each; value = refl; fits = fits })
 
 -- ---- decimals
 

@@ -1,6 +1,7 @@
 -- Texts that are integers.
 use Rattle.std.specs.Prelude.{◌≡◌, ℕ, ◌≤◌, ◌^◌, Bool, true, false, List, ◌∷◌, ℤ, pos, neg_ℤ}
-use Rattle.mpf_values.specs.Numbers.{AreDigits, number_of}
+use Rattle.yaml_bytes.specs.Numbers.{number_of}
+use Rattle.mpf_values.specs.Numbers.{AreDigits}
 
 -- digits, with a `-` in front or without
 abbrev pub with_sign : Bool → List ℕ → List ℕ

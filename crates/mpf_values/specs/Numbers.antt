@@ -1,17 +1,13 @@
 -- Numbers as they are written, in decimal digits.
 use Rattle.std.specs.Prelude.{◌≡◌, ℕ, ◌+◌, ◌-◌, ◌*◌, ◌^◌, ◌<◌, ◌≤◌, List, [], ◌∷◌, ◌++◌, length}
 use Rattle.std.specs.Char.{is_ascii_digit}
+use Rattle.yaml_bytes.specs.Numbers.{number_of}
 use Rattle.mpf_values.specs.Bytes.{Are}
 
 -- one decimal digit or more
 pub record AreDigits (digits : List ℕ) : Type 0 where
   pub some : 0 < length digits
   pub each : Are is_ascii_digit digits
-
--- the number that digits write: each is worth ten times the one behind it
-abbrev pub number_of : List ℕ → ℕ
-number_of [] = 0
-number_of (d ∷ ds) = (d - 48) * 10 ^ length ds + number_of ds
 
 -- digits, or digits, a point and more digits
 abbrev pub decimal_text : List ℕ → List ℕ → List ℕ

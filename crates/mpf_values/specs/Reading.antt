@@ -4,13 +4,13 @@ use Rattle.std.specs.List.{prefix_len, list_all}
 use Rattle.std.specs.Char.{is_ascii_digit}
 use Rattle.std.specs.Str.{bytes_eq}
 use Rattle.yaml_bytes.specs.Scanning.{behind_blanks}
+use Rattle.yaml_bytes.specs.Numbers.{number_at}
 use Rattle.yaml_subset.specs.Node.{Node}
 use Rattle.yaml_subset.specs.View.{line_of, text_in, items_in}
 use Rattle.mpf_values.specs.declared.decimals.Decimal.{Decimal}
 use Rattle.mpf_values.specs.declared.handled.Comparison.{Comparison}
 use Rattle.mpf_values.specs.declared.handled.Comparison.TheVariants.{Equal, NotEqual, Less, LessOrEqual, Greater, GreaterOrEqual}
 use Rattle.mpf_values.specs.Bytes.{is_name_byte, is_operator_byte, is_word_byte, is_separator}
-use Rattle.mpf_values.specs.Numbers.{number_of}
 use Rattle.mpf_values.specs.Booleans.{capital, with_capital}
 use Rattle.mpf_values.specs.Events.{Condition, Event}
 use Rattle.mpf_values.specs.ListText.{open_after, ends_item}
@@ -33,10 +33,6 @@ behind p text = drop (prefix_len p text) text
 -- a number that fits 64 bits
 abbrev pub fitting : ℕ → Option ℕ
 fitting n = if nat_lt n (2 ^ 64) then Some n else None
-
--- the number that digits write
-unfoldable pub number_at : List ℕ → Option ℕ
-number_at text = if list_all is_ascii_digit text then (if length text == 0 then None else fitting (number_of text)) else None
 
 -- how many thousandths the last of so many decimals is worth
 abbrev pub worth_of : ℕ → Option ℕ

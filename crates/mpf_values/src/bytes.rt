@@ -36,13 +36,6 @@ pub fn is_separator(b: u8) -> bool
     b == b',' || is_blank(b)
 }
 
-/// Whether every byte is a digit.
-pub fn has_digits_only(text: &[u8]) -> bool
-    ensures { result ≡ list_all is_ascii_digit text.now }
-{
-    text.iter().all(|b| b.is_ascii_digit())
-}
-
 /// Whether every byte is one that a name may have.
 pub fn has_name_bytes_only(text: &[u8]) -> bool
     ensures { result ≡ list_all is_name_byte text.now }

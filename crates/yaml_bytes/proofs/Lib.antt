@@ -1,3 +1,4 @@
 pub mod Trimming
 pub mod PlainTexts
 pub mod Spaces
+pub mod WrittenNumbers

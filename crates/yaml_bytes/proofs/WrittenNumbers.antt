@@ -1,0 +1,72 @@
+-- Numbers are read as digits write them.
+use Rattle.std.proofs.Common.{◌≡◌, ℕ, ◌^◌, ◌<◌, ◌&&◌, nat_lt, true, false, Option, Some, None, Result, Ok, Err, List, length, refl, sym, ap, subst, ◌∙◌, rules}
+use Rattle.std.specs.List.{list_all}
+use Rattle.std.specs.Char.{is_ascii_digit}
+use Rattle.std.specs.Result.{result_ok, OkIff, MatchResult}
+use Rattle.std.specs.Str.{IsUtf8}
+use Rattle.std.specs.Str.Parse.{ParsesUnsigned}
+use Rattle.std.proofs.lemmas.Bool.{and_parts, ltb-true, lt-ltb, false≢true}
+use Rattle.std.proofs.lemmas.Fmt.{IsAscii-from_digits}
+use Rattle.std.proofs.lemmas.Option.{cond_some, none-some, same_Some}
+use Rattle.std.proofs.lemmas.Str.{IsUtf8-from_ascii}
+use Rattle.std.proofs.lemmas.Str.Parse.{IsNumeralModel, numerals_by_weight, parse_digits}
+use Rattle.yaml_bytes.specs.Numbers.{number_of, number_at}
+
+-- ---- digits, as `parse` has them
+
+pub own : IsNumeralModel (λ ds. list_all is_ascii_digit ds ≡ true) number_of
+own = numerals_by_weight _ (search rules) number_of (search rules)
+
+pub digits_are_utf8 : (text : List ℕ) → list_all is_ascii_digit text ≡ true → IsUtf8 text
+digits_are_utf8 text h = IsUtf8-from_ascii text (IsAscii-from_digits text (own.to text h))
+
+-- ---- what a text is that is a number
+
+pub record IsNumber (text : List ℕ) (n : ℕ) : Type 0 where
+  pub some : 0 < length text
+  pub digits : list_all is_ascii_digit text ≡ true
+  pub value : number_of text ≡ n
+  pub fits : n < 2 ^ 64
+
+pub number_sound : (text : List ℕ) (n : ℕ) → number_at text ≡ Some n → IsNumber text n
+unfolding number_at
+number_sound text n e =
+    let are = nat_lt 0 (length text) && list_all is_ascii_digit text in
+    let a = cond_some (are && nat_lt (number_of text) (2 ^ 64)) (number_of text) n e in
+    let b = and_parts are (nat_lt (number_of text) (2 ^ 64)) a.0 in
+    let c = and_parts (nat_lt 0 (length text)) (list_all is_ascii_digit text) b.0 in
+    record { some = ltb-true 0 (length text) c.0; digits = c.1; value = a.1; fits = subst (λ k. k < 2 ^ 64) a.1 (ltb-true (number_of text) (2 ^ 64) b.1) }
+
+pub number_complete : (text : List ℕ) (n : ℕ) → IsNumber text n → number_at text ≡ Some n
+unfolding number_at
+number_complete text n h =
+    let fits : number_of text < 2 ^ 64 = subst (λ k. k < 2 ^ 64) (sym h.value) h.fits in
+    rw (lt-ltb 0 (length text) h.some, h.digits, lt-ltb (number_of text) (2 ^ 64) fits) (ap Some h.value)
+
+pub none_of : (o : Option ℕ) → ((n : ℕ) → o ≡ Some n → ⊥) → o ≡ None
+none_of None h = refl
+none_of (Some n) h = absurd (h n refl)
+
+no_number : (text : List ℕ) → ((n : ℕ) → IsNumber text n → ⊥) → number_at text ≡ None
+no_number text h = none_of (number_at text) (λ n e. h n (number_sound text n e))
+
+-- ---- what `parse` gives
+
+-- what is not digits alone is no number
+pub not_digits : (text : List ℕ) → list_all is_ascii_digit text ≡ false → number_at text ≡ None
+not_digits text h = no_number text (λ n k. false≢true (sym h ∙ k.digits))
+
+pub no_fault : {T E : Type 0} (r : Result T E) (P : T → Type 0) (Q : E → Type 0) → MatchResult r P Q → ((e : E) → Q e → ⊥) → result_ok r ≡ None → ⊥
+no_fault (Ok x) P Q h never e = cc
+no_fault (Err y) P Q h never e = never y h
+
+pub found_ok : {T E : Type 0} (r : Result T E) (P : T → Type 0) (Q : E → Type 0) (x : T) → MatchResult r P Q → result_ok r ≡ Some x → P x
+found_ok (Ok y) P Q x h e = subst P (same_Some y x e) h
+found_ok (Err y) P Q x h e = absurd (none-some x e)
+
+pub parsed : {E : Type 0} (text : List ℕ) (r : Result ℕ E) → list_all is_ascii_digit text ≡ true → ParsesUnsigned 64 10 text r → result_ok r ≡ number_at text
+parsed {E} text r digits h = as_parsed r (parse_digits own 64 text r h digits)
+  where
+    as_parsed : (r : Result ℕ E) → OkIff r ((0 < length text) × (number_of text < 2 ^ 64)) (number_of text) → result_ok r ≡ number_at text
+    as_parsed (Ok n) k = sym (number_complete text n (record { some = k.0.0; digits = digits; value = sym k.1; fits = subst (λ m. m < 2 ^ 64) (sym k.1) k.0.1 }))
+    as_parsed (Err e) k = sym (no_number text (λ n s. k (s.some, subst (λ m. m < 2 ^ 64) (sym s.value) s.fits)))
