@@ -3,7 +3,6 @@ pub mod Words
 pub mod FirstPlace
 pub mod TextLines
 pub mod LineWords
-pub mod Digits
 pub mod Alarms
 pub mod Playing
 pub mod LogRuns

@@ -1,9 +1,9 @@
 -- What the lines of a log say.
-use Rattle.std.specs.Prelude.{ℕ, ◌+◌, ◌*◌, ◌-◌, ◌^◌, nat_lt, nat_le, ◌==◌, Bool, true, false, ◌&&◌, ◌||◌, if◌then◌else◌, Option, Some, None, List, [], ◌∷◌, length, slice_index, filter}
-use Rattle.std.specs.List.{slice_split, list_all}
-use Rattle.std.specs.Char.{is_ascii_digit}
+use Rattle.std.specs.Prelude.{ℕ, ◌-◌, nat_lt, nat_le, ◌==◌, Bool, true, false, ◌||◌, if◌then◌else◌, Option, Some, None, List, [], ◌∷◌, length, slice_index, filter}
+use Rattle.std.specs.List.{slice_split}
 use Rattle.std.specs.Str.{byte}
 use Rattle.yaml_bytes.specs.Bytes.{is_blank}
+use Rattle.yaml_bytes.specs.Numbers.{number_at}
 
 -- what a line asks for: a wait up to a moment, or at a moment a new raw level of the switch of a name
 pub data Said : Type 0 where
@@ -22,18 +22,9 @@ words line = filter (λ w. nat_lt 0 (length w)) (slice_split is_blank line)
 abbrev pub has_outer_blank : List ℕ → Bool
 has_outer_blank line = is_blank (slice_index line 0) || is_blank (slice_index line (length line - 1))
 
--- the number that is written before these digits, and then these
-abbrev pub number_on : ℕ → List ℕ → ℕ
-number_on n [] = n
-number_on n (d ∷ ds) = number_on (n * 10 + (d - byte "0")) ds
-
--- the number that a word of digits says, where it is below 2^64
-abbrev pub number_in : List ℕ → Option ℕ
-number_in word = if list_all is_ascii_digit word && nat_lt (number_on 0 word) (2 ^ 64) then Some (number_on 0 word) else None
-
--- a moment is a number of 1 to 20 digits
+-- a moment is a number of at most 20 digits
 abbrev pub moment_in : List ℕ → Option ℕ
-moment_in word = if nat_lt 0 (length word) && nat_le (length word) 20 then number_in word else None
+moment_in word = if nat_le (length word) 20 then number_at word else None
 
 -- `0` and `1` are the raw levels
 abbrev pub level_in : List ℕ → Option Bool

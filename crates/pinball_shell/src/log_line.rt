@@ -4,10 +4,10 @@ ghost use Rattle.std.specs.Prelude.{◌≡◌, ◌<◌, ◌==◌, not, [], ◌�
 ghost use Rattle.std.specs.List.{position_or_len};
 ghost use Rattle.std.specs.Str.Lines.{lines, strip_carriage_return};
 ghost use Rattle.yaml_bytes.specs.Bytes.{is_blank as blank};
-ghost use Rattle.pinball_shell.specs.LogText.{words, number_in, moment_in, level_in, wait as wait_at, change as change_at, said_in, said};
+ghost use Rattle.pinball_shell.specs.LogText.{words, moment_in, level_in, wait as wait_at, change as change_at, said_in, said};
 ghost use Rattle.pinball_shell.specs.LogView.{said_view};
 
-use yaml_bytes::is_blank;
+use yaml_bytes::{is_blank, number};
 
 /// What a line of a log asks for.
 #[derive(Clone, Copy)]
@@ -151,23 +151,5 @@ fn read_level(word: &[u8]) -> Option<bool>
 fn read_moment(word: &[u8]) -> Option<u64>
     ensures { result ≡ moment_in word.now }
 {
-    if word.is_empty() || word.len() > 20 {
-        None
-    } else {
-        read_number(word)
-    }
-}
-
-/// The number that a word of digits says, where it is below 2^64.
-fn read_number(word: &[u8]) -> Option<u64>
-    ensures { result ≡ number_in word.now }
-{
-    let mut number: u64 = 0;
-    for digit in word {
-        if !digit.is_ascii_digit() {
-            return None;
-        }
-        number = number.checked_mul(10)?.checked_add((*digit - b'0') as u64)?;
-    }
-    Some(number)
+    if word.len() > 20 { None } else { number(word) }
 }
