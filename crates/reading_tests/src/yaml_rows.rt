@@ -8,6 +8,7 @@ use std::test::Fail;
 use yaml_subset::{Key, Tree, YamlFault, read};
 
 // A tree as the tables have it.
+#[cycle(show)]
 fn show(out: &mut String, tree: &Tree) -> Result<(), AllocError> {
     match tree {
         Tree::Scalar(line, text) => write!(out, "<{}>{line}", utf8(text)),
@@ -24,6 +25,7 @@ fn show(out: &mut String, tree: &Tree) -> Result<(), AllocError> {
     }
 }
 
+#[cycle(show)]
 fn show_items(out: &mut String, items: &[Tree]) -> Result<(), AllocError> {
     for (number, item) in items.iter().enumerate() {
         if number > 0 {
@@ -34,6 +36,7 @@ fn show_items(out: &mut String, items: &[Tree]) -> Result<(), AllocError> {
     Ok(())
 }
 
+#[cycle(show)]
 fn show_pairs(out: &mut String, pairs: &[(Key, Tree)]) -> Result<(), AllocError> {
     for (number, (key, value)) in pairs.iter().enumerate() {
         if number > 0 {
