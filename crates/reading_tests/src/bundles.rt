@@ -1,6 +1,6 @@
 //! Bundles and their rows, faults and notes.
 
-use crate::row::cells;
+use crate::row::{cells, utf8};
 use mpf_config::{
     Config, ConfigFault, EventPlayerRow, Name, Section, SwitchRow, read_bundle, write_fault,
     write_note,
@@ -51,6 +51,7 @@ event_player:¶  a{b==1}: c¶ => error 6 BadValue config/config.yaml 3 a{b==1}¶
 event_player:¶  a:¶    b/c¶ => error 6 BadValue config/config.yaml 3 a¶
 event_player:¶  a:¶    b: c¶ => error 6 BadValue config/config.yaml 3 a¶
 event_player:¶  a: b{c, d}¶ => error 6 BadValue config/config.yaml 3 a¶
+switches:¶  a:¶event_player:¶  b: c, d/¶ => error 6 BadValue config/config.yaml 5 b¶
 ";
 
 // Bundles and the lines that their notes are printed as.
@@ -75,22 +76,22 @@ fn printed(alloc: Global, answer: Result<Config, ConfigFault>) -> Option<Vec<u8>
     Some(line)
 }
 
-// The answer is this fault.
+// The answer to a row is this fault.
 fn assert_fault<R: Abort + AllocGlobal>(
     rt: &R,
+    row: &str,
     answer: Result<Config, ConfigFault>,
     line: &str,
 ) -> Result<(), Fail> {
     let found = printed(rt.alloc(), answer).ok_or("a fault")?;
-    assert_eq!(rt; std::str::from_utf8(&found).ok(), Some(line));
+    assert_eq!(rt; utf8(&found), line, "{row}");
     Ok(())
 }
 
 // Names with their lines.
 fn show_names(out: &mut String, names: &[Name]) -> Result<(), AllocError> {
     for name in names {
-        let text = std::str::from_utf8(&name.text).unwrap_or("no UTF-8");
-        write!(out, " {text}@{}", name.line)?;
+        write!(out, " {}@{}", utf8(&name.text), name.line)?;
     }
     out.push_str(";")
 }
@@ -110,22 +111,32 @@ fn show_player(out: &mut String, row: &EventPlayerRow) -> Result<(), AllocError>
     out.push_str("\n")
 }
 
-fn show_section(out: &mut String, section: &Section) -> Result<(), AllocError> {
-    match section {
-        Section::Switches(rows) => {
-            out.push_str("switches\n")?;
-            for row in rows {
-                show_switch(out, row)?;
-            }
-        }
-        Section::EventPlayer(rows) => {
-            out.push_str("event_player\n")?;
-            for row in rows {
-                show_player(out, row)?;
-            }
-        }
+fn show_switches(out: &mut String, rows: &[SwitchRow]) -> Result<(), AllocError> {
+    out.push_str("switches\n")?;
+    for row in rows {
+        show_switch(out, row)?;
     }
     Ok(())
+}
+
+fn show_players(out: &mut String, rows: &[EventPlayerRow]) -> Result<(), AllocError> {
+    out.push_str("event_player\n")?;
+    for row in rows {
+        show_player(out, row)?;
+    }
+    Ok(())
+}
+
+// The sections of a machine text, as the tables have them.
+fn sections_of(alloc: Global, config: &Config) -> Result<String, AllocError> {
+    let mut out = String::new(alloc);
+    for section in &config.machine.sections {
+        match section {
+            Section::Switches(rows) => show_switches(&mut out, rows)?,
+            Section::EventPlayer(rows) => show_players(&mut out, rows)?,
+        }
+    }
+    Ok(out)
 }
 
 #[test]
@@ -133,11 +144,8 @@ fn machines_have_rows(rt: HostRuntime) -> Result<(), Fail> {
     for row in ROWS.lines() {
         let (lines, wanted) = cells(rt.alloc(), row)?;
         let config = rows_of(rt.alloc(), &lines).ok().ok_or("rows")?;
-        let mut found = String::new(rt.alloc());
-        for section in &config.machine.sections {
-            show_section(&mut found, section)?;
-        }
-        assert_eq!(rt; found.as_str(), wanted.as_str());
+        let found = sections_of(rt.alloc(), &config)?;
+        assert_eq!(rt; found.as_str(), wanted.as_str(), "{row}");
     }
     Ok(())
 }
@@ -146,7 +154,7 @@ fn machines_have_rows(rt: HostRuntime) -> Result<(), Fail> {
 fn bundles_have_faults(rt: HostRuntime) -> Result<(), Fail> {
     for row in BUNDLES.lines() {
         let (bundle, line) = cells(rt.alloc(), row)?;
-        assert_fault(&rt, read_bundle(rt.alloc(), bundle.as_bytes()), &line)?;
+        assert_fault(&rt, row, read_bundle(rt.alloc(), bundle.as_bytes()), &line)?;
     }
     Ok(())
 }
@@ -155,7 +163,7 @@ fn bundles_have_faults(rt: HostRuntime) -> Result<(), Fail> {
 fn machines_have_faults(rt: HostRuntime) -> Result<(), Fail> {
     for row in MACHINES.lines() {
         let (lines, line) = cells(rt.alloc(), row)?;
-        assert_fault(&rt, rows_of(rt.alloc(), &lines), &line)?;
+        assert_fault(&rt, row, rows_of(rt.alloc(), &lines), &line)?;
     }
     Ok(())
 }
@@ -177,7 +185,7 @@ fn bundles_have_notes(rt: HostRuntime) -> Result<(), Fail> {
             .ok()
             .ok_or("rows")?;
         let found = notes_of(rt.alloc(), &config)?;
-        assert_eq!(rt; std::str::from_utf8(&found).ok(), Some(lines.as_str()));
+        assert_eq!(rt; utf8(&found), lines.as_str(), "{row}");
     }
     Ok(())
 }
@@ -193,16 +201,21 @@ fn posts(alloc: Global, item: &str, count: usize) -> Result<Config, ConfigFault>
 fn longest_list(rt: HostRuntime) -> Result<(), Fail> {
     assert!(rt; posts(rt.alloc(), "b,", 1024).is_ok());
     let long = posts(rt.alloc(), "b/ ", 1025);
-    assert_fault(&rt, long, "error 9 Limit config/config.yaml 3 a\n")
+    assert_fault(
+        &rt,
+        "1,025 posts",
+        long,
+        "error 9 Limit config/config.yaml 3 a\n",
+    )
 }
 
 #[test]
 fn longest_bundle(rt: HostRuntime) -> Result<(), Fail> {
     let bundle = vec![in rt.alloc(); b'a'; 8_388_609]?;
     let long = read_bundle(rt.alloc(), &bundle);
-    assert_fault(&rt, long, "error 9 Limit - 1 -\n")?;
+    assert_fault(&rt, "one byte too many", long, "error 9 Limit - 1 -\n")?;
     let longest = read_bundle(rt.alloc(), &bundle[1..]);
-    assert_fault(&rt, longest, "error 1 Bundle - 1 -\n")
+    assert_fault(&rt, "8 MiB", longest, "error 1 Bundle - 1 -\n")
 }
 
 // With any allocation refused: no fault where there are rows, and no other fault where there is
@@ -213,6 +226,7 @@ fn want_of_memory(rt: HostRuntime) {
     let good = rows_of(alloc, "switches:\n  a:\nevent_player:\n  b: c, d\n");
     assert!(rt; printed(alloc, good).is_none());
     let bad = rows_of(alloc, "switches:\n  a:\nevent_player:\n  b: c, d/\n");
+    assert!(rt; bad.is_err());
     if let Some(line) = printed(alloc, bad) {
         assert_eq!(rt;
             line.as_slice(),

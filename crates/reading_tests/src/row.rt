@@ -17,3 +17,8 @@ pub fn cells(alloc: Global, row: &str) -> Result<(String, String), Fail> {
     let (text, given) = row.split_once(" => ").ok_or("a row")?;
     Ok((whole(alloc, text)?, whole(alloc, given)?))
 }
+
+/// The text that these bytes are.
+pub fn utf8(text: &[u8]) -> &str {
+    std::str::from_utf8(text).unwrap_or("no UTF-8")
+}

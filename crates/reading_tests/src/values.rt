@@ -1,6 +1,6 @@
 //! Texts and the values that they have.
 
-use crate::row::cells;
+use crate::row::{cells, utf8};
 use mpf_values::{ListFault, boolean, event, integer, list, name, power, time};
 use std::alloc::{AllocError, Global};
 use std::fmt::Display;
@@ -9,6 +9,7 @@ use std::test::Fail;
 use yaml_subset::{Tree, read};
 
 // Each row of a table is a text in brackets and the value that it has, or `none`.
+
 // Booleans.
 const BOOLEANS: &str = "\
 [yes] true
@@ -314,10 +315,6 @@ enum Kind {
     List,
 }
 
-fn utf8(text: &[u8]) -> &str {
-    std::str::from_utf8(text).unwrap_or("no UTF-8")
-}
-
 fn show<V: Display + Drop>(alloc: Global, value: Option<V>) -> Result<String, AllocError> {
     match value {
         Some(value) => value.to_string(alloc),
@@ -380,7 +377,7 @@ fn assert_values<R: Abort + AllocGlobal>(rt: &R, kind: Kind, table: &str) -> Res
     for row in table.lines() {
         let (text, value) = text_and_value(row).ok_or("a row")?;
         let found = value_of(rt.alloc(), kind, text.as_bytes())?;
-        assert_eq!(rt; (text, found.as_str()), (text, value));
+        assert_eq!(rt; found.as_str(), value, "{row}");
     }
     Ok(())
 }
@@ -425,7 +422,7 @@ fn list_nodes(rt: HostRuntime) -> Result<(), Fail> {
     for row in LIST_NODES.lines() {
         let (text, wanted) = cells(rt.alloc(), row)?;
         let found = show_items(rt.alloc(), &read(rt.alloc(), text.as_bytes())?)?;
-        assert_eq!(rt; found.as_str(), wanted.as_str());
+        assert_eq!(rt; found.as_str(), wanted.as_str(), "{row}");
     }
     Ok(())
 }

@@ -2,6 +2,7 @@
 
 use crate::yaml_rows::assert_rows;
 use std::test::Fail;
+use yaml_subset::read;
 
 // Texts with trees.
 const TREES: &str = "\
@@ -125,4 +126,11 @@ fn trees(rt: HostRuntime) -> Result<(), Fail> {
 #[test]
 fn faults(rt: HostRuntime) -> Result<(), Fail> {
     assert_rows(&rt, FAULTS)
+}
+
+#[test]
+fn nodes_of_a_list(rt: HostRuntime) -> Result<(), Fail> {
+    let tree = read(rt.alloc(), b"- a\n- b\n")?;
+    assert_eq!(rt; tree.as_list().ok_or("a list")?.len(), 2);
+    Ok(())
 }

@@ -82,8 +82,8 @@ a: [b} ÿ => Flow 1
 a: 1¶[b} ÿ => Flow 2
 ";
 
-// Where on its line a fault stands: a byte that is not UTF-8 stands directly behind it, where the fault is
-// answered, or to the left of it or in the same place. The end of the line is a place too.
+// Where on its line a fault stands. `ÿ` marks a place: directly behind the fault's place the row's fault is
+// answered; at it, or left of it, `NotUtf8`. The end of the line is a place too.
 const PLACES: &str = "\
 a: ,ÿ => NotInSubset 1
 a: - ÿ => NotInSubset 1
@@ -132,6 +132,21 @@ a: 'b' ÿ => NotUtf8 1
 [a, &ÿ => NotInSubset 1
 [[[[[[[[{ÿ => TooDeep 1
 [[[[[[[[ÿ{ => NotUtf8 1
+[[a] bÿ => Flow 1
+[[a] ÿ => NotUtf8 1
+['a'}ÿ => Flow 1
+[a:]ÿ => Flow 1
+[[ÿa]# => NotUtf8 1
+[ÿa]# => NotUtf8 1
+[[ÿa]: b => NotUtf8 1
+{a: bÿ: c} => NotUtf8 1
+{aÿ, b: c} => NotUtf8 1
+{aÿ: } => NotUtf8 1
+{aÿ: , b => NotUtf8 1
+{a: ÿ, a: 1 => NotUtf8 1
+{a: 1, aÿ} => NotUtf8 1
+['aÿ' :] => NotUtf8 1
+['ÿ'[b]] => NotUtf8 1
 ";
 
 #[test]
@@ -156,7 +171,7 @@ fn bytes_of(alloc: Global, text: &str) -> Result<Vec<u8>, Fail> {
 fn assert_rows_of_bytes<R: Abort + AllocGlobal>(rt: &R, table: &str) -> Result<(), Fail> {
     for row in table.lines() {
         let (text, expected) = cells(rt.alloc(), row)?;
-        assert_reads(rt, &bytes_of(rt.alloc(), &text)?, &expected)?;
+        assert_reads(rt, row, &bytes_of(rt.alloc(), &text)?, &expected)?;
     }
     Ok(())
 }
