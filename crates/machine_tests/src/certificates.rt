@@ -1,7 +1,7 @@
 //! Texts that are certificates of small configurations, and texts that are not.
 
-use crate::checks::{OF_ONE_SWITCH, one_switch, text_of};
-use crate::rows::{numbers, small_config};
+use crate::checks::{CERTIFICATE_OF_ONE_SWITCH, text_of};
+use crate::rows::{numbers_in, one_switch, small_config};
 use config_checker::check_with;
 use mpf_config::config::Config;
 use mpf_plan::EventId;
@@ -36,8 +36,8 @@ fn assert_refused<R: Abort + AllocGlobal>(
 }
 
 /// A certificate of `one_switch`: the bound, and the weights of its events.
-fn certificate(alloc: Global, numbers_text: &str) -> Result<String, Fail> {
-    let numbers = numbers(alloc, numbers_text)?;
+fn certificate(alloc: Global, row: &str) -> Result<String, Fail> {
+    let numbers = numbers_in(alloc, row)?;
     let [bound, active, inactive, a, b] = numbers.as_slice() else {
         return Err("not a bound and four weights".into());
     };
@@ -51,7 +51,7 @@ fn certificate(alloc: Global, numbers_text: &str) -> Result<String, Fail> {
 
 #[test]
 fn certificate_is_accepted(rt: HostRuntime) -> Result<(), Fail> {
-    assert_accepted(&rt, &one_switch(rt.alloc())?, OF_ONE_SWITCH)
+    assert_accepted(&rt, &one_switch(rt.alloc())?, CERTIFICATE_OF_ONE_SWITCH)
 }
 
 #[test]
@@ -104,8 +104,8 @@ fn odd_name_is_accepted(rt: HostRuntime) -> Result<(), Fail> {
     )
 }
 
-// Texts, where `¶` stands for LF, and what is wrong with them as certificates of `odd_name`. Where
-// it is no line, the whole text is read.
+// Texts, where `¶` stands for LF, and what is wrong with them as certificates of `odd_name`. Another
+// fault than that of a line is told only where each line of the text is right.
 const TEXTS: &str = "\
 \u{20}=> Line 1
 pinball-certificate 1 => Line 1

@@ -1,6 +1,6 @@
 //! Small configurations that are checked, from their rows to the texts.
 
-use crate::rows::{config, fan, name, names, silent_entries, small_config, switch_row};
+use crate::rows::{config, fan, name, names, one_switch, silent_entries, small_config, switch_row};
 use config_checker::{
     CertificateFault, Checked, Fault, Report, check, write_certificate, write_report,
 };
@@ -11,13 +11,8 @@ use std::io::{self, ErrorKind, Write};
 use std::process::Abort;
 use std::test::Fail;
 
-/// A switch, and an entry that posts two events when it becomes active.
-pub fn one_switch(alloc: Global) -> Result<Config, Fail> {
-    small_config(alloc, "s_left", "s_left_active: a b")
-}
-
 /// The certificate that `check` gives `one_switch`.
-pub const OF_ONE_SWITCH: &str =
+pub const CERTIFICATE_OF_ONE_SWITCH: &str =
     "pinball-certificate 1\nbound 4\nevent s_left_active 3\nevent s_left_inactive 1\nevent a 1\nevent b 1\n";
 
 /// The certificate, or the report.
@@ -51,7 +46,7 @@ fn one_switch_is_accepted(rt: HostRuntime) -> Result<(), Fail> {
 
 #[test]
 fn one_switch_check(rt: HostRuntime) -> Result<(), Fail> {
-    assert_checks(&rt, &one_switch(rt.alloc())?, OF_ONE_SWITCH)
+    assert_checks(&rt, &one_switch(rt.alloc())?, CERTIFICATE_OF_ONE_SWITCH)
 }
 
 /// A quick switch, normally closed, with a tag, and three events for when it becomes inactive.

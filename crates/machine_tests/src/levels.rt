@@ -68,13 +68,7 @@ fn normal_switch_waits(rt: HostRuntime) -> Result<(), Fail> {
     assert!(rt; switches.active(switch));
     assert!(rt; change_unheard(&mut switches, switch, false, 105));
     assert!(rt; accept(&mut switches, 110, switch, false));
-    Ok(())
-}
-
-#[test]
-fn bounce_is_forgotten(rt: HostRuntime) -> Result<(), Fail> {
-    let mut switches = three(rt.alloc())?;
-    let switch = SwitchId(0);
+    // A bounce is forgotten.
     assert!(rt; change_unheard(&mut switches, switch, true, 200));
     assert!(rt; change_unheard(&mut switches, switch, false, 203));
     assert!(rt; switches.due().is_none());

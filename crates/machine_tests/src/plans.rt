@@ -1,7 +1,7 @@
 //! Plans of small configurations, and the limits of their tables.
 
 use crate::rows::{
-    config, config_of, name, names, numbered, numbers, players, silent_entries, small_config,
+    config, config_of, name, names, numbered, numbers_in, plan_of, players, silent_entries,
     switch_row, switch_rows,
 };
 use crate::shown::{name_of, names_of};
@@ -19,7 +19,7 @@ fn assert_events<R: Abort + AllocGlobal>(rt: &R, plan: &Plan, names: &str) -> Re
     for number in 0..plan.event_count() {
         let event = EventId(u16::try_from(number)?);
         let found = plan.find_event(name_of(plan, event)?.as_bytes());
-        assert_eq!(rt; found, Some(event));
+        assert_eq!(rt; found, Some(event), "{number}");
         events.push(event)?;
     }
     assert_eq!(rt; names_of(rt.alloc(), plan, &events)?.as_str(), names);
@@ -106,8 +106,7 @@ fn binding_of_an_entry(rt: HostRuntime) -> Result<(), Fail> {
 
 #[test]
 fn bindings_of_each_event_in_order(rt: HostRuntime) -> Result<(), Fail> {
-    let config = small_config(rt.alloc(), "", "a: c\nb:\na: b")?;
-    let plan = plan(rt.alloc(), &config)?;
+    let plan = plan_of(rt.alloc(), "", "a: c\nb:\na: b")?;
     assert_eq!(rt; plan.event_count(), 3);
     let first = [BindingId(0), BindingId(2)];
     let last = [BindingId(1)];
@@ -194,17 +193,20 @@ fn events_of_tags_count(rt: HostRuntime) -> Result<(), Fail> {
     Ok(())
 }
 
-/// So many entries of one event, one of which posts so many others; and so many switches.
+/// So many entries of one event, the first of which posts so many others; and so many switches.
 fn sized(alloc: Global, sizes: &str) -> Result<Config, Fail> {
-    let numbers = numbers(alloc, sizes)?;
+    let numbers = numbers_in(alloc, sizes)?;
     let [posts, entries, switches] = numbers.as_slice() else {
         return Err("not three sizes".into());
     };
-    let mut rows = silent_entries(alloc, "e", entries.saturating_sub(1))?;
+    let mut rows = Vec::new(alloc);
     rows.push(EventPlayerRow {
         event: name(alloc, "e")?,
         posts: numbered(alloc, "p", *posts)?,
     })?;
+    for row in silent_entries(alloc, "e", entries.saturating_sub(1))? {
+        rows.push(row)?;
+    }
     let switches = switch_rows(alloc, numbered(alloc, "s", *switches)?)?;
     Ok(config(alloc, switches, rows)?)
 }

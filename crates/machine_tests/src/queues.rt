@@ -1,8 +1,9 @@
 //! Queues of two sizes, and the handlers of a small plan.
 
-use crate::rows::small_config;
+use crate::rows::plan_of;
 use event_queue::{Full, Handlers, Posted, Queue};
-use mpf_plan::{BindingId, EventId, Owner, plan};
+use mpf_plan::{BindingId, EventId, Owner, Plan};
+use std::alloc::Global;
 use std::test::Fail;
 
 fn posted(event: u16) -> Posted {
@@ -34,15 +35,26 @@ fn queue_of_none_is_full(rt: HostRuntime) -> Result<(), Fail> {
     Ok(())
 }
 
+/// Two entries of `a`, with one of `b` between them. None is of `x`, which both events post.
+fn three_entries(alloc: Global) -> Result<Plan, Fail> {
+    plan_of(alloc, "", "a: x\nb: x\na: y")
+}
+
 #[test]
 fn counts_handlers_of_the_event(rt: HostRuntime) -> Result<(), Fail> {
-    let config = small_config(rt.alloc(), "", "a: x\nb: x\na: y")?;
-    let plan = plan(rt.alloc(), &config)?;
+    let plan = three_entries(rt.alloc())?;
     let handlers = Handlers::new(rt.alloc(), &plan)?;
     let a = plan.find_event(b"a").ok_or("a")?;
     assert_eq!(rt; handlers.nth(a, 0), Some(BindingId(0)));
     assert_eq!(rt; handlers.nth(a, 1), Some(BindingId(2)));
     assert_eq!(rt; handlers.nth(a, 2), None);
+    Ok(())
+}
+
+#[test]
+fn event_without_handlers(rt: HostRuntime) -> Result<(), Fail> {
+    let plan = three_entries(rt.alloc())?;
+    let handlers = Handlers::new(rt.alloc(), &plan)?;
     let x = plan.find_event(b"x").ok_or("x")?;
     assert_eq!(rt; handlers.nth(x, 0), None);
     Ok(())

@@ -50,7 +50,7 @@ fn to_find(alloc: Global, graph: &Graph) -> Result<Found, AllocError> {
     Ok(Found::Cycle(cycle_to_tell(alloc, graph)?))
 }
 
-fn numbers(alloc: Global, events: &[EventId]) -> Result<Vec<usize>, AllocError> {
+fn event_numbers(alloc: Global, events: &[EventId]) -> Result<Vec<usize>, AllocError> {
     let mut numbers = Vec::new(alloc);
     for event in events {
         numbers.push(event.0 as usize)?;
@@ -61,7 +61,7 @@ fn numbers(alloc: Global, events: &[EventId]) -> Result<Vec<usize>, AllocError> 
 fn find_so(alloc: Global, plan: &Plan) -> Result<Found, Fail> {
     match find(alloc, plan) {
         Ok(weights) => Ok(Found::Weights(listed(alloc, &weights)?)),
-        Err(RankFault::Cycle(events)) => Ok(Found::Cycle(numbers(alloc, &events)?)),
+        Err(RankFault::Cycle(events)) => Ok(Found::Cycle(event_numbers(alloc, &events)?)),
         Err(RankFault::BoundTooLarge) => Ok(Found::TooLarge),
         Err(fault) => Err(Fail::from(fault)),
     }

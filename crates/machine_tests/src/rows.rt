@@ -3,6 +3,7 @@
 use mpf_config::config::{
     Config, Contact, Debounce, EventPlayerRow, MachineText, Name, Section, SwitchRow,
 };
+use mpf_plan::{Plan, plan};
 use std::alloc::{AllocError, Global};
 use std::test::Fail;
 
@@ -125,8 +126,18 @@ pub fn small_config(alloc: Global, switches: &str, entries: &str) -> Result<Conf
     Ok(config(alloc, switches, players(alloc, entries)?)?)
 }
 
+/// The plan of such a configuration.
+pub fn plan_of(alloc: Global, switches: &str, entries: &str) -> Result<Plan, Fail> {
+    Ok(plan(alloc, &small_config(alloc, switches, entries)?)?)
+}
+
+/// A switch, and an entry that posts two events when it becomes active.
+pub fn one_switch(alloc: Global) -> Result<Config, Fail> {
+    small_config(alloc, "s_left", "s_left_active: a b")
+}
+
 /// The numbers that stand between the blanks of a text.
-pub fn numbers(alloc: Global, text: &str) -> Result<Vec<u64>, Fail> {
+pub fn numbers_in(alloc: Global, text: &str) -> Result<Vec<u64>, Fail> {
     let mut numbers = Vec::new(alloc);
     for word in text.split_whitespace() {
         numbers.push(word.parse::<u64>()?)?;

@@ -1,6 +1,6 @@
 //! A machine by hand, one input at a time.
 
-use crate::rows::{config, name, numbers, players, switch_row};
+use crate::rows::{config, name, numbers_in, players, switch_row};
 use crate::shown::name_of;
 use config_checker::{Checked, Happening, Line, Report, check};
 use mpf_config::config::{Debounce, SwitchRow};
@@ -35,11 +35,11 @@ fn input_of(alloc: Global, text: &str) -> Result<Input, Fail> {
     if text == "alarm" {
         return Ok(Input::Alarm);
     }
-    let (_, behind) = text.split_once(' ').ok_or("an input")?;
-    let numbers = numbers(alloc, behind)?;
+    let (word, behind) = text.split_once(' ').ok_or("an input")?;
+    let numbers = numbers_in(alloc, behind)?;
     match numbers.as_slice() {
-        [at] => Ok(Input::Wait { at: *at }),
-        [at, switch, level] => Ok(Input::Change {
+        [at] if word == "wait" => Ok(Input::Wait { at: *at }),
+        [at, switch, level] if word == "change" && *level <= 1 => Ok(Input::Change {
             at: *at,
             switch: SwitchId(u16::try_from(*switch)?),
             level: *level == 1,
@@ -91,7 +91,7 @@ fn assert_steps<R: Abort + AllocGlobal>(rt: &R, rows: &str) -> Result<(), Fail> 
         let input = input_of(rt.alloc(), input)?;
         let mut text = stepped(rt.alloc(), &mut rig, checked.plan(), input)?;
         write_moments(&mut text, &rig)?;
-        assert_eq!(rt; text.as_str(), want);
+        assert_eq!(rt; text.as_str(), want, "{row}");
     }
     Ok(())
 }

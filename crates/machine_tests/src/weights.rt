@@ -1,6 +1,6 @@
 //! Weights of small configurations, written by hand.
 
-use crate::rows::{config, fan, names, numbers, small_config, switch_rows};
+use crate::rows::{config, fan, names, numbers_in, one_switch, plan_of, switch_rows};
 use crate::shown::names_of;
 use cascade_rank::{RankFault, Weights, find, verify};
 use mpf_plan::{EventId, Plan, plan};
@@ -8,15 +8,9 @@ use std::alloc::{AllocError, Global};
 use std::process::Abort;
 use std::test::Fail;
 
-/// The switches that the first text names, and the entries that the second one has.
-fn plan_of(alloc: Global, switches: &str, entries: &str) -> Result<Plan, Fail> {
-    Ok(plan(alloc, &small_config(alloc, switches, entries)?)?)
-}
-
-/// A switch, and an entry that posts two events when it becomes active. Its events by number:
-/// `s_left_active`, `s_left_inactive`, `a`, `b`.
-fn one_switch(alloc: Global) -> Result<Plan, Fail> {
-    plan_of(alloc, "s_left", "s_left_active: a b")
+/// The plan of `one_switch`. Its events by number: `s_left_active`, `s_left_inactive`, `a`, `b`.
+fn plan_of_one_switch(alloc: Global) -> Result<Plan, Fail> {
+    Ok(plan(alloc, &one_switch(alloc)?)?)
 }
 
 /// The entries `a`, which posts `b` twice, and `c`, which posts `a` and `b`.
@@ -27,7 +21,7 @@ fn two_entries(alloc: Global) -> Result<Plan, Fail> {
 /// The weights that a text has.
 fn weights(alloc: Global, text: &str) -> Result<Weights, Fail> {
     let mut weights = Vec::new(alloc);
-    for number in numbers(alloc, text)? {
+    for number in numbers_in(alloc, text)? {
         weights.push(u32::try_from(number)?)?;
     }
     Ok(Weights::of(weights))
@@ -61,8 +55,8 @@ fn weights_by_event(rt: HostRuntime) -> Result<(), Fail> {
     Ok(())
 }
 
-// The first event that weighs too little is told.
-const OF_ONE_SWITCH: &str = "\
+// Weights, and what `verify` says of them: the first event that weighs too little is told.
+const WEIGHTS_OF_ONE_SWITCH: &str = "\
 3 1 1 1 => bound 4
 5 2 2 2 => bound 6
 2 1 1 1 => short 0 3
@@ -75,11 +69,11 @@ const OF_ONE_SWITCH: &str = "\
 
 #[test]
 fn weights_of_one_switch(rt: HostRuntime) -> Result<(), Fail> {
-    assert_judged(&rt, &one_switch(rt.alloc())?, OF_ONE_SWITCH)
+    assert_judged(&rt, &plan_of_one_switch(rt.alloc())?, WEIGHTS_OF_ONE_SWITCH)
 }
 
 // An event can need more than 32 bits hold.
-const OF_TWO_ENTRIES: &str = "\
+const WEIGHTS_OF_TWO_ENTRIES: &str = "\
 1 2147483648 3 => short 0 4294967297
 3 1 10000 => bound 0
 3 1 10001 => BoundTooLarge
@@ -87,13 +81,13 @@ const OF_TWO_ENTRIES: &str = "\
 
 #[test]
 fn weights_of_two_entries(rt: HostRuntime) -> Result<(), Fail> {
-    assert_judged(&rt, &two_entries(rt.alloc())?, OF_TWO_ENTRIES)
+    assert_judged(&rt, &two_entries(rt.alloc())?, WEIGHTS_OF_TWO_ENTRIES)
 }
 
 /// The weights by `get`, up to the first event that has none.
 pub fn listed(alloc: Global, weights: &Weights) -> Result<Vec<u128>, AllocError> {
     let mut list = Vec::new(alloc);
-    for number in 0..100u16 {
+    for number in 0..=u16::MAX {
         match weights.get(EventId(number)) {
             Some(weight) => list.push(u128::from(weight))?,
             None => break,
@@ -132,7 +126,7 @@ fn assert_finds<R: Abort + AllocGlobal>(rt: &R, plan: &Plan, want: &str) -> Resu
 
 #[test]
 fn least_weights_of_one_switch(rt: HostRuntime) -> Result<(), Fail> {
-    assert_finds(&rt, &one_switch(rt.alloc())?, "weights 3 1 1 1")
+    assert_finds(&rt, &plan_of_one_switch(rt.alloc())?, "weights 3 1 1 1")
 }
 
 #[test]
