@@ -20,7 +20,7 @@ fn main(rt: HostRuntime) -> ExitCode {
         Ok(ask) => {
             let answer = answer(&rt, &ask);
             if let Err(fault) = &answer {
-                let _ = eprintln!(&rt; "fault: {fault}");
+                let _ = eprintln!(&rt; "fault: {}", fault.name());
             }
             ExitCode::from(status(&answer))
         }
@@ -29,7 +29,7 @@ fn main(rt: HostRuntime) -> ExitCode {
             ExitCode::from(USAGE)
         }
         Err(AskFault::NoMemory) => {
-            let _ = eprintln!(&rt; "fault: NoMemory");
+            let _ = eprintln!(&rt; "fault: {}", ShellFault::NoMemory.name());
             ExitCode::from(FAULT)
         }
     }

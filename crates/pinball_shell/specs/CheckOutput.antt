@@ -21,7 +21,7 @@ acceptance_text c = codes "yes" ++ 10 ∷ [] ++ certificate_text c
 unfoldable pub verification_text : CheckedView → List ℕ
 verification_text c = codes "yes" ++ 10 ∷ [] ++ bound_line c.bound
 
--- the fault that was met first, or all faults of the rows
+-- the fault that was met first, or the faults that are told of the rows
 abbrev pub refusal_lines : RefusalView → List ℕ
 refusal_lines (unread f) = fault_line f
 refusal_lines (unfit faults) = report_text faults

@@ -46,17 +46,18 @@ impl From<AllocError> for AskFault {
 }
 
 /// What the words after the program's name ask for: `check`, `verify CERT`, or `play LOG`. `Usage`
-/// for all other words, and for those that ask for help.
+/// for words that the command line does not take, and for those that ask for help.
 pub fn command(alloc: Global, words: Vec<String>) -> Result<Ask, AskFault>
     ensures asked { IfOk result (λ ask. asked_at (map string_bytes words.items) ≡ Some (ask_view ask)) }
     ensures checks { map string_bytes words.items ≡ codes "check" ∷ [] → Asks check result }
     ensures verifies { (path : List ℕ) → begins_with_hyphen path ≡ false → map string_bytes words.items ≡ codes "verify" ∷ path ∷ [] → Asks (verify path) result }
     ensures plays { (log : List ℕ) → begins_with_hyphen log ≡ false → map string_bytes words.items ≡ codes "play" ∷ log ∷ [] → Asks (play log) result }
+    ensures only { IfErr result (λ fault. is_taken (map string_bytes words.items) ≡ true → IsSome (asked_at (map string_bytes words.items)) → fault ≡ AskFault.NoMemory) }
 {
     read_words(alloc, &words)
 }
 
-/// What the words ask for. Words that are in order and ask for something fail only by memory.
+/// What the words ask for. Words that are in order, and ask for something, fail only by memory.
 fn read_words(alloc: Global, words: &[String]) -> Result<Ask, AskFault>
     ensures asked { IfOk result (λ ask. asked_at (map string_bytes words.now) ≡ Some (ask_view ask)) }
     ensures only { IfErr result (λ fault. is_taken (map string_bytes words.now) ≡ true → IsSome (asked_at (map string_bytes words.now)) → fault ≡ AskFault.NoMemory) }

@@ -1,7 +1,7 @@
 //! What can go wrong outside of the texts.
 
 ghost use Rattle.std.specs.Prelude.{◌≡◌};
-ghost use Rattle.pinball_shell.specs.Status.{status_of};
+ghost use Rattle.pinball_shell.specs.Status.{status_of, fault_name};
 ghost use Rattle.pinball_shell.specs.declared.fault.ShellFault.TheVariants.{NoMemory};
 
 use pin_rig::RigFault;
@@ -10,18 +10,15 @@ use thiserror::Error;
 
 /// Why there is no verdict.
 #[derive(Clone, Copy, Debug, PartialEq, Eq, Error)]
+#[error("{}", self.name())]
 pub enum ShellFault {
     /// Memory ran out.
-    #[error("NoMemory")]
     NoMemory,
     /// A reader failed.
-    #[error("Read")]
     Read,
     /// A writer failed.
-    #[error("Write")]
     Write,
     /// A text is longer than its limit.
-    #[error("TooLong")]
     TooLong,
 }
 
@@ -32,6 +29,20 @@ pub enum Verdict {
     Yes,
     /// Refused, or played with a line refused.
     Refused,
+}
+
+impl ShellFault {
+    /// The name that the fault is told by.
+    pub fn name(&self) -> &'static str
+        ensures { result.now ≡ fault_name self.now }
+    {
+        match self {
+            ShellFault::NoMemory => "NoMemory",
+            ShellFault::Read => "Read",
+            ShellFault::Write => "Write",
+            ShellFault::TooLong => "TooLong",
+        }
+    }
 }
 
 impl From<AllocError> for ShellFault {

@@ -12,7 +12,7 @@ use mpf_config::{Fault as RowsFault, Note};
 pub enum BundleRefusal {
     /// It has no rows: the fault that was met first.
     Unread(RowsFault),
-    /// Its rows are refused: all of their faults.
+    /// Its rows are refused: the faults that are told of them.
     Unfit(Vec<Fault>),
 }
 
