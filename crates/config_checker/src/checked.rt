@@ -50,7 +50,7 @@ impl Checked {
         &self.plan
     }
 
-    /// The weight of each event: how many lines it leads to at most.
+    /// The weight of each event, 1 to 10,000: how many lines it leads to at most.
     pub fn weights(&self) -> &Weights
         ensures weights { result.now ≡ self.now.weights }
         ensures accepted { IsAccepted self.now }

@@ -32,7 +32,7 @@ impl Handlers {
     ghost use Rattle.event_queue.specs.Handlers.{takes_part, runs_at};
     ghost use Rattle.event_queue.specs.PlanOrder.{in_order, at_place};
 
-    /// The handlers of a plan.
+    /// The handlers of a plan. Fails only by memory.
     pub fn new(alloc: Global, plan: &Plan) -> Result<Handlers, AllocError>
         ensures { IfOk result (λ h. h ≡ record { bindings = plan.now.bindings }) }
     {

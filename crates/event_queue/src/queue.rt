@@ -9,7 +9,9 @@ use thiserror::Error;
 /// An event that waits, and who posted it.
 #[derive(Clone, Copy, Debug, PartialEq, Eq)]
 pub struct Posted {
+    /// The event that was posted.
     pub event: EventId,
+    /// Who posted it.
     pub owner: Owner,
 }
 
@@ -41,7 +43,7 @@ impl Queue {
     ghost use Rattle.std.specs.Prelude.{◌≡◌, IfOk};
     ghost use Rattle.event_queue.specs.Queue.{empty, IsPushed, IsTaken};
 
-    /// An empty queue in which at most `size` events may wait.
+    /// An empty queue in which at most `size` events may wait. Fails only by memory.
     pub fn new(alloc: Global, size: usize) -> Result<Queue, AllocError>
         ensures { IfOk result (λ q. q ≡ empty size) }
     {

@@ -20,7 +20,7 @@ pub enum Contact {
 /// How long a raw level has to stand until it is accepted.
 #[derive(Clone, Copy, Debug, PartialEq, Eq)]
 pub enum Debounce {
-    /// As the use of the switch asks.
+    /// As the use of the switch asks: as `Normal`, since nothing asks for more yet.
     Auto,
     /// Not at all.
     Quick,
@@ -54,7 +54,9 @@ pub struct EventPlayerRow {
 /// A section of a text, with its entries as written.
 #[derive(Debug, Drop)]
 pub enum Section {
+    /// `switches`.
     Switches(Vec<SwitchRow>),
+    /// `event_player`.
     EventPlayer(Vec<EventPlayerRow>),
 }
 
@@ -88,6 +90,7 @@ pub struct Note {
 /// The rows of a bundle.
 #[derive(Debug, Drop)]
 pub struct Config {
+    /// What stands in the machine text.
     pub machine: MachineText,
     /// What was not read, in the order in which it is told.
     pub notes: Vec<Note>,

@@ -2,11 +2,11 @@
 
 use mpf_config::config::Contact;
 
-/// An event, by its number in order of first use.
+/// An event, by its number in order of first use: below 4,096.
 #[derive(Clone, Copy, Debug, Default, PartialEq, Eq)]
 pub struct EventId(pub u16);
 
-/// A switch, by its number in order of first use.
+/// A switch, by its number in order of first use: below 256.
 #[derive(Clone, Copy, Debug, Default, PartialEq, Eq)]
 pub struct SwitchId(pub u16);
 
@@ -19,17 +19,18 @@ pub struct SwitchKind {
     pub quick: bool,
 }
 
-/// An effect list, by its number.
+/// An effect list, by its number: below 16,384.
 #[derive(Clone, Copy, Debug, Default, PartialEq, Eq)]
 pub struct ListId(pub u16);
 
-/// A binding, by its place in plan order.
+/// A binding, by its place in plan order: below 16,384.
 #[derive(Clone, Copy, Debug, Default, PartialEq, Eq)]
 pub struct BindingId(pub u16);
 
-/// Who acts: what stands in the machine text belongs to the machine.
+/// Who acts.
 #[derive(Clone, Copy, Debug, PartialEq, Eq)]
 pub enum Owner {
+    /// What stands in the machine text.
     Machine,
 }
 
@@ -50,9 +51,12 @@ pub enum Target {
 /// What is done when an event is handled.
 #[derive(Clone, Copy, Debug, PartialEq, Eq)]
 pub struct Binding {
+    /// The event that is handled.
     pub event: EventId,
+    /// Who handles it.
     pub owner: Owner,
-    /// Of an event's handlers those of higher priority run first: 0 to 1,000,000.
+    /// Of an event's handlers those of higher priority run first. 0 yet: nothing sets it.
     pub priority: u32,
+    /// What is done.
     pub target: Target,
 }

@@ -20,8 +20,11 @@ pub enum Comparison {
 /// That a variable of the current player compares so with a number.
 #[derive(Clone, Copy, Debug, PartialEq, Eq)]
 pub struct Condition<'a> {
+    /// The name of the variable.
     pub variable: &'a [u8],
+    /// How it is to compare.
     pub comparison: Comparison,
+    /// The number that it is compared with: -1,000,000,000 to 1,000,000,000.
     pub number: i64,
 }
 

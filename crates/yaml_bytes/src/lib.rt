@@ -1,4 +1,4 @@
-//! What the bytes of a YAML line are, and passes over them.
+//! What the bytes of a YAML line are, passes over them, and the number that digits write.
 //!
 //! There are blanks, the marks of items and entries, the words without quotes, with the bytes where
 //! one may begin and where one ends, and the numbers in decimal digits. All passes go from the first
