@@ -1,6 +1,7 @@
 -- The items of a list text: its longest pieces that have no separator outside braces.
 use Rattle.std.specs.Prelude.{◌≡◌, ◌≢◌, ℕ, ◌+◌, ◌-◌, Bool, true, false, ◌&&◌, ◌==◌, if◌then◌else◌, List, [], ◌∷◌, ◌++◌}
-use Rattle.mpf_values.specs.Bytes.{Are, is_separator}
+use Rattle.yaml_bytes.specs.Plain.{Are}
+use Rattle.mpf_values.specs.Bytes.{is_separator}
 
 -- How many braces are open behind a byte, where so many are open before it: a closing one that closes none is an ordinary byte.
 abbrev pub open_after : ℕ → ℕ → ℕ

@@ -10,7 +10,7 @@ use Rattle.yaml_subset.specs.View.{line_of, text_in, items_in}
 use Rattle.mpf_values.specs.declared.decimals.Decimal.{Decimal}
 use Rattle.mpf_values.specs.declared.handled.Comparison.{Comparison}
 use Rattle.mpf_values.specs.declared.handled.Comparison.TheVariants.{Equal, NotEqual, Less, LessOrEqual, Greater, GreaterOrEqual}
-use Rattle.mpf_values.specs.Bytes.{is_name_byte, is_operator_byte, is_word_byte, is_separator}
+use Rattle.mpf_values.specs.Bytes.{is_name_byte, is_operator_byte, is_word_byte}
 use Rattle.mpf_values.specs.Booleans.{capital, with_capital}
 use Rattle.mpf_values.specs.Events.{Condition, Event}
 use Rattle.mpf_values.specs.ListText.{open_after, ends_item}
@@ -167,13 +167,13 @@ onto_item true b pieces = ([], onto_items pieces.0 pieces.1)
 onto_item false b pieces = (b ∷ pieces.0, pieces.1)
 
 -- the item that a text begins with, inside so many braces, and the items behind it
-abbrev pub pieces_from : ℕ → List ℕ → List ℕ × List (List ℕ)
-pieces_from open_braces [] = ([], [])
-pieces_from open_braces (b ∷ bs) = onto_item (ends_item open_braces b) b (pieces_from (open_after open_braces b) bs)
+abbrev pub items_from : ℕ → List ℕ → List ℕ × List (List ℕ)
+items_from open_braces [] = ([], [])
+items_from open_braces (b ∷ bs) = onto_item (ends_item open_braces b) b (items_from (open_after open_braces b) bs)
 
 -- the items of a list text
 unfoldable pub items_of : List ℕ → List (List ℕ)
-items_of text = onto_items (pieces_from 0 text).0 (pieces_from 0 text).1
+items_of text = onto_items (items_from 0 text).0 (items_from 0 text).1
 
 -- how many bytes the item has that a text begins with
 abbrev pub item_len : ℕ → List ℕ → ℕ

@@ -3,7 +3,8 @@ use Rattle.std.proofs.Common.{◌≡◌, ℕ, suc, ◌-◌, ◌<◌, true, false
 use Rattle.yaml_subset.specs.declared.flaw.Flaw.{Flaw}
 use Rattle.yaml_subset.specs.declared.flaw.Stop.{Stop}
 use Rattle.yaml_subset.specs.declared.flaw.Stop.TheVariants as stops
-use Rattle.yaml_subset.specs.Part.{◌>>=◌, FailsPart}
+use Rattle.yaml_bytes.specs.Results.{◌>>=◌}
+use Rattle.yaml_subset.specs.Part.{FailsPart}
 use Rattle.yaml_subset.specs.Flow.{begins_with, start_at, behind_close_at, parted_at, parts_at, between_at}
 
 -- what follows what was read, where that fails

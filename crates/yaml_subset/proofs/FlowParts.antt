@@ -5,12 +5,12 @@ use Rattle.std.proofs.lemmas.List.{append-nil}
 use Rattle.yaml_subset.specs.declared.fault.FaultKind.TheVariants.{Flow}
 use Rattle.yaml_subset.specs.declared.flaw.Flaw.{Flaw}
 use Rattle.yaml_bytes.specs.Bytes.{begins_blank, begins_gap}
-use Rattle.yaml_subset.specs.Part.{◌>>=◌}
+use Rattle.yaml_bytes.specs.Results.{◌>>=◌}
 use Rattle.yaml_bytes.specs.Plain.{IsBehindBlanks}
 use Rattle.yaml_bytes.specs.Scanning.{behind_blanks}
 use Rattle.yaml_subset.specs.Flow.{begins_with, begins_colon, IsClosed, IsParted, ArePartsTo, IsBetween, is_ended, start_at, misplaced, behind_close_at, parted_at, behind_colon_at, parts_at, between_at}
-use Rattle.yaml_subset.proofs.Steps.{bind_ok, guard_true, guard_false, ok_is}
-use Rattle.yaml_subset.proofs.Steps.{chosen}
+use Rattle.yaml_bytes.proofs.Steps.{bind_ok, guard_true, guard_false, ok_is}
+use Rattle.yaml_bytes.proofs.Steps.{chosen}
 use Rattle.yaml_bytes.proofs.PlainTexts.{is_behind_blanks, behind_blanks-is}
 
 abbrev read_to : {A : Type 0} → A → Result A Flaw

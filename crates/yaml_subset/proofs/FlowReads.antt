@@ -7,12 +7,13 @@ use Rattle.yaml_subset.specs.declared.flaw.Flaw.{Flaw}
 use Rattle.yaml_bytes.specs.Bytes.{characters}
 use Rattle.yaml_subset.specs.Keys.{is_among}
 use Rattle.yaml_subset.specs.Node.{Node, scalar, sequence, mapping, Pair, nodes_of, pairs_of}
-use Rattle.yaml_subset.specs.Part.{◌>>=◌, flaw_at}
+use Rattle.yaml_bytes.specs.Results.{◌>>=◌}
+use Rattle.yaml_subset.specs.Part.{flaw_at}
 use Rattle.yaml_subset.specs.Words.{IsWord, word_at}
 use Rattle.yaml_subset.specs.Flow.{begins_bracket, keys_of, ArePartsTo, IsBetween, IsFlowPair, IsBracketed, IsFlowValue, IsFlow, start_at, behind_colon_at, between_at, flow_pair_at, flow_list_at, flow_mapping_at, bracketed_at, flow_value_at, flow_at}
 use Rattle.yaml_subset.proofs.KeySets.{fresh_sound, fresh_complete}
-use Rattle.yaml_subset.proofs.Steps.{bind_ok, guard_true, guard_false}
-use Rattle.yaml_subset.proofs.Steps.{chosen}
+use Rattle.yaml_bytes.proofs.Steps.{bind_ok, guard_true, guard_false}
+use Rattle.yaml_bytes.proofs.Steps.{chosen}
 use Rattle.yaml_subset.proofs.WordTexts.{word_parts}
 use Rattle.yaml_subset.proofs.FlowParts.{part_is, BeginsPart, Reads, part_goes_on, start_sound, start_complete, behind_shorter, colon_sound, colon_complete, closes_list, closes_mapping, between_sound, between_complete, between_shorter}
 use Rattle.yaml_subset.proofs.FlowWords.{word_begins_part, word_reads}

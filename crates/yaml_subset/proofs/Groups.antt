@@ -12,7 +12,7 @@ use Rattle.yaml_subset.specs.TextLines.{Line}
 use Rattle.yaml_subset.specs.TreeOf.{Group}
 use Rattle.yaml_subset.specs.Inside.{FailsLines, line_view, lines_view}
 use Rattle.yaml_subset.specs.Keys.{is_among}
-use Rattle.yaml_subset.specs.Part.{◌>>=◌}
+use Rattle.yaml_bytes.specs.Results.{◌>>=◌}
 use Rattle.yaml_subset.specs.Reading.{Head, item, entry, alone, head_at, BlockReader, chunks, groups_of, hanging_len, pair_from, pair_at, pairs_at, item_at, items_at}
 
 -- ---- the lines that hang, and the groups behind them

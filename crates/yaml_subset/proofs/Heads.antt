@@ -8,7 +8,7 @@ use Rattle.yaml_subset.specs.declared.place.PlacedFault.{PlacedFault}
 use Rattle.yaml_subset.specs.declared.fault.FaultKind.TheVariants.{Flow}
 use Rattle.yaml_bytes.specs.Bytes.{is_blank, is_indicator, is_mark, begins_blank, begins_gap, begins_item, is_over, characters}
 use Rattle.yaml_subset.specs.Node.{Node, scalar}
-use Rattle.yaml_subset.specs.Part.{◌>>=◌}
+use Rattle.yaml_bytes.specs.Results.{◌>>=◌}
 use Rattle.yaml_bytes.specs.Plain.{ends_word}
 use Rattle.yaml_subset.specs.Values.{IsKey, IsEntry, IsNode, IsInline}
 use Rattle.yaml_subset.specs.Words.{IsWord, word_at}
@@ -16,7 +16,7 @@ use Rattle.yaml_subset.specs.Flow.{IsFlow, begins_bracket, flow_at}
 use Rattle.yaml_bytes.specs.Scanning.{behind_blanks, behind_dash, before_colon}
 use Rattle.yaml_subset.specs.TreeOf.{IsDash}
 use Rattle.yaml_subset.specs.Reading.{Head, item, entry, alone, word_head, flow_head, text_head, on_line, head_from, head_at, node_from, inline_at}
-use Rattle.yaml_subset.proofs.Steps.{bind_ok, guard_true, chosen, ok_is}
+use Rattle.yaml_bytes.proofs.Steps.{bind_ok, guard_true, chosen, ok_is}
 use Rattle.yaml_bytes.proofs.PlainTexts.{is_behind_blanks, behind_blanks-is}
 use Rattle.yaml_subset.proofs.WordTexts.{BeginsWord, word_sound, word_complete, word_begins, word_parts, word-rest_ends}
 use Rattle.yaml_subset.proofs.FlowReads.{flow_sound, flow_complete}

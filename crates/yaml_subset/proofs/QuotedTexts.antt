@@ -6,10 +6,11 @@ use Rattle.yaml_subset.specs.declared.fault.FaultKind.TheVariants.{Quote}
 use Rattle.yaml_subset.specs.declared.flaw.Flaw.{Flaw}
 use Rattle.yaml_subset.specs.declared.flaw.Stop.{Stop}
 use Rattle.yaml_subset.specs.declared.flaw.Stop.TheVariants as stops
-use Rattle.yaml_subset.specs.Part.{◌>>=◌, flaw_at, FailsPart}
+use Rattle.yaml_bytes.specs.Results.{◌>>=◌}
+use Rattle.yaml_subset.specs.Part.{flaw_at, FailsPart}
 use Rattle.yaml_subset.specs.Quoted.{IsSingleByte, unescaped, IsDoubleByte, IsWritten, begins_single, IsSingle, IsDouble, onto_value, single_at, escape_at, double_at, escaped_byte, double_byte_at}
-use Rattle.yaml_subset.proofs.Steps.{ok_is}
-use Rattle.yaml_subset.proofs.LineCuts.{none_at, behind_at}
+use Rattle.yaml_bytes.proofs.Steps.{ok_is}
+use Rattle.yaml_bytes.proofs.TextLines.{none_at, after_first}
 
 -- ---- behind bytes that were read
 
@@ -98,7 +99,7 @@ value_is value after = ap (λ (xs : List ℕ). Ok (xs, after)) (append-nil value
 module _ (rest value : List ℕ) (total : Result (List ℕ × List ℕ) Flaw) where
   pub single_stops : with_value value (single_at rest) ≡ total → 1 ≤ length rest → get_or rest 0 0 ≡ 39 → begins_single (behind rest) ≡ false → total ≡ Ok (value, behind rest)
   single_stops so_far long quote ends =
-      sym so_far ∙ ap (λ xs. with_value value (single_at xs)) (behind_at rest long) ∙ ap (with_value value) (single-ends (get_or rest 0 0) (behind rest) (eq-eqb _ 39 quote) ends) ∙ value_is value (behind rest)
+      sym so_far ∙ ap (λ xs. with_value value (single_at xs)) (after_first rest long) ∙ ap (with_value value) (single-ends (get_or rest 0 0) (behind rest) (eq-eqb _ 39 quote) ends) ∙ value_is value (behind rest)
 
   pub single_twice : with_value value (single_at rest) ≡ total → 1 ≤ length rest → get_or rest 0 0 ≡ 39 → begins_single (behind rest) ≡ true
       → with_value (value ++ get_or rest 0 0 ∷ []) (single_at (behind (behind rest))) ≡ total
@@ -106,15 +107,15 @@ module _ (rest value : List ℕ) (total : Result (List ℕ × List ℕ) Flaw) wh
       sym (regroup value (get_or rest 0 0) (single_at (behind (behind rest))))
       ∙ ap (λ b. with_value value (onto_value b (single_at (behind (behind rest))))) quote
       ∙ ap (with_value value) (sym (single-quote (get_or rest 0 0) (get_or (behind rest) 0 0) (behind (behind rest)) (eq-eqb _ 39 quote) (begins_single-first (behind rest) again)))
-      ∙ ap (λ xs. with_value value (single_at (get_or rest 0 0 ∷ xs))) (sym (behind_at (behind rest) (begins_single-long (behind rest) again)))
-      ∙ ap (λ xs. with_value value (single_at xs)) (sym (behind_at rest long))
+      ∙ ap (λ xs. with_value value (single_at (get_or rest 0 0 ∷ xs))) (sym (after_first (behind rest) (begins_single-long (behind rest) again)))
+      ∙ ap (λ xs. with_value value (single_at xs)) (sym (after_first rest long))
       ∙ so_far
 
   pub single_once : with_value value (single_at rest) ≡ total → 1 ≤ length rest → get_or rest 0 0 ≢ 39 → with_value (value ++ get_or rest 0 0 ∷ []) (single_at (behind rest)) ≡ total
   single_once so_far long other =
       sym (regroup value (get_or rest 0 0) (single_at (behind rest)))
       ∙ ap (with_value value) (sym (single-other (get_or rest 0 0) (behind rest) (ne_eqb _ 39 other)))
-      ∙ ap (λ xs. with_value value (single_at xs)) (sym (behind_at rest long))
+      ∙ ap (λ xs. with_value value (single_at xs)) (sym (after_first rest long))
       ∙ so_far
 
   pub single_open : with_value value (single_at rest) ≡ total → length rest < 1 → total ≡ flaw_at Quote 0
@@ -123,13 +124,13 @@ module _ (rest value : List ℕ) (total : Result (List ℕ × List ℕ) Flaw) wh
 
   pub double_stops : with_value value (double_at rest) ≡ total → 1 ≤ length rest → get_or rest 0 0 ≡ 34 → total ≡ Ok (value, behind rest)
   double_stops so_far long quote =
-      sym so_far ∙ ap (λ xs. with_value value (double_at xs)) (behind_at rest long) ∙ ap (with_value value) (double-ends (get_or rest 0 0) (behind rest) (eq-eqb _ 34 quote)) ∙ value_is value (behind rest)
+      sym so_far ∙ ap (λ xs. with_value value (double_at xs)) (after_first rest long) ∙ ap (with_value value) (double-ends (get_or rest 0 0) (behind rest) (eq-eqb _ 34 quote)) ∙ value_is value (behind rest)
 
   one_byte : 1 ≤ length rest → get_or rest 0 0 ≢ 34 → double_at rest ≡ (double_byte_at rest >>= λ r. onto_value r.0 (double_at r.1))
   one_byte long other =
-      ap double_at (behind_at rest long)
+      ap double_at (after_first rest long)
       ∙ double-goes_on (get_or rest 0 0) (behind rest) (ne_eqb _ 34 other)
-      ∙ ap (λ xs. double_byte_at xs >>= λ r. onto_value r.0 (double_at r.1)) (sym (behind_at rest long))
+      ∙ ap (λ xs. double_byte_at xs >>= λ r. onto_value r.0 (double_at r.1)) (sym (after_first rest long))
 
   pub double_once : with_value value (double_at rest) ≡ total → 1 ≤ length rest → get_or rest 0 0 ≢ 34 → (byte : ℕ) (more : List ℕ) → double_byte_at rest ≡ Ok (byte, more) → with_value (value ++ byte ∷ []) (double_at more) ≡ total
   double_once so_far long other byte more e =

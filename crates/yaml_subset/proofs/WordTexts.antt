@@ -4,14 +4,14 @@ use Rattle.std.proofs.lemmas.Bool.{cases_Bool, both_ways, eqb-true, ne_eqb, not-
 use Rattle.std.proofs.Math.Seq.{drop-append_seam}
 use Rattle.yaml_subset.specs.declared.fault.FaultKind.TheVariants.{Quote, Flow}
 use Rattle.yaml_subset.specs.declared.flaw.Flaw.{Flaw}
-use Rattle.yaml_subset.specs.Part.{◌>>=◌}
+use Rattle.yaml_bytes.specs.Results.{◌>>=◌}
 use Rattle.yaml_bytes.specs.Bytes.{is_blank, begins_blank, begins_gap, is_flow_indicator, begins_flow_indicator, begins_break, is_indicator, is_mark, begins_word}
 use Rattle.yaml_bytes.specs.Plain.{IsBehindBlanks, ends_word, IsWordEnd}
 use Rattle.yaml_bytes.specs.Scanning.{trimmed, behind_blanks, word_front, word_rest}
 use Rattle.yaml_subset.specs.Quoted.{IsSingle, IsDouble, single_at, double_at}
 use Rattle.yaml_subset.specs.Words.{breaks_flow, may_follow, IsPlainAt, IsQuotedAt, IsWord, misfit, plain_at, behind_quote, quoted_at, word_at}
-use Rattle.yaml_subset.proofs.Steps.{bind_ok, guard_true, guard_false, ok_is}
-use Rattle.yaml_subset.proofs.Steps.{chosen}
+use Rattle.yaml_bytes.proofs.Steps.{bind_ok, guard_true, guard_false, ok_is}
+use Rattle.yaml_bytes.proofs.Steps.{chosen}
 use Rattle.yaml_bytes.proofs.PlainTexts.{plain_word, plain_word-is, is_behind_blanks, behind_blanks-is}
 use Rattle.yaml_subset.proofs.QuotedTexts.{single_sound, single_complete, double_sound, double_complete}
 

@@ -5,7 +5,8 @@ use Rattle.yaml_subset.specs.declared.flaw.Flaw.{Flaw}
 use Rattle.yaml_subset.specs.declared.fault.FaultKind.TheVariants.{DuplicateKey, Flow, NotInSubset, TooDeep}
 use Rattle.yaml_bytes.specs.Bytes.{begins_blank, begins_gap, characters}
 use Rattle.yaml_subset.specs.Node.{Node, scalar, sequence, mapping, Pair, nodes_of, pairs_of}
-use Rattle.yaml_subset.specs.Part.{◌>>=◌, flaw_at}
+use Rattle.yaml_bytes.specs.Results.{◌>>=◌}
+use Rattle.yaml_subset.specs.Part.{flaw_at}
 use Rattle.yaml_bytes.specs.Plain.{IsBehindBlanks}
 use Rattle.yaml_subset.specs.Keys.{is_among}
 use Rattle.yaml_bytes.specs.Scanning.{behind_blanks}

@@ -1,5 +1,5 @@
 -- What the reader's own contracts see of the values that it passes on.
-use Rattle.std.specs.Prelude.{◌≡◌, ℕ, List, [], map, drop, Option, Some, None, Result, Ok, Err}
+use Rattle.std.specs.Prelude.{◌≡◌, ℕ, List, map, drop, Option, Some, None, Result, Ok, Err}
 use Rattle.std.specs.Borrow.{Bor}
 use Rattle.std.specs.BTreeSet.{BTreeSet}
 use Rattle.std.specs.Global.{Vec}
@@ -11,7 +11,7 @@ use Rattle.yaml_subset.specs.declared.line.Line as lines
 use Rattle.yaml_subset.specs.declared.tree.Key.{Key}
 use Rattle.yaml_subset.specs.declared.tree.Tree.{Tree}
 use Rattle.yaml_subset.specs.Node.{Node, Pair}
-use Rattle.yaml_subset.specs.TextLines.{Line, lines_of}
+use Rattle.yaml_subset.specs.TextLines.{Line}
 use Rattle.yaml_subset.specs.Reading.{Head, item, entry, alone}
 use Rattle.yaml_subset.specs.View.{node_view, pair_view}
 
@@ -57,11 +57,6 @@ word_view r = (r.0.items, r.1.now)
 
 abbrev pub rest_view : Bor (List ℕ) → List ℕ
 rest_view rest = rest.now
-
--- the lines of what follows a line, where something does
-abbrev pub lines_behind : Option (List ℕ) → List (List ℕ)
-lines_behind None = []
-lines_behind (Some text) = lines_of text
 
 -- the keys of a set
 abbrev pub copies_view : BTreeSet (Vec ℕ) → List (List ℕ)

@@ -5,11 +5,6 @@ use Rattle.yaml_subset.specs.declared.flaw.Flaw.{Flaw}
 use Rattle.yaml_subset.specs.declared.flaw.Stop.{Stop}
 use Rattle.yaml_subset.specs.declared.flaw.Stop.TheVariants as stops
 
-infixl 10 ◌>>=◌
-abbrev pub ◌>>=◌ : {A B E : Type 0} → Result A E → (A → Result B E) → Result B E
-(Ok x) >>= f = f x
-(Err e) >>= f = Err e
-
 -- a flaw where so many bytes of the line are left
 abbrev pub flaw_at : {A : Type 0} → FaultKind → ℕ → Result A Flaw
 flaw_at kind left = Err (record { kind = kind; left = left })

@@ -10,12 +10,14 @@ use Rattle.yaml_subset.specs.declared.fault.FaultKind.TheVariants.{NotUtf8, Tab,
 use Rattle.yaml_subset.specs.declared.flaw.Flaw.{Flaw}
 use Rattle.yaml_subset.specs.Keys.{is_among}
 use Rattle.yaml_bytes.specs.Bytes.{begins_blank, is_over, is_document_marker, characters, is_forbidden}
-use Rattle.yaml_subset.specs.Part.{◌>>=◌, flaw_at}
+use Rattle.yaml_bytes.specs.Results.{◌>>=◌}
+use Rattle.yaml_subset.specs.Part.{flaw_at}
 use Rattle.yaml_subset.specs.Node.{Node, scalar, sequence, nodes_of, mapping, no_pairs, Pair, pairs_of}
 use Rattle.yaml_bytes.specs.Scanning.{behind_blanks, spaces_len, behind_spaces, behind_dash, before_colon}
 use Rattle.yaml_subset.specs.Words.{word_at}
 use Rattle.yaml_subset.specs.Flow.{begins_bracket, flow_at}
-use Rattle.yaml_subset.specs.TextLines.{Line, lines_of}
+use Rattle.yaml_bytes.specs.Lines.{lines_of}
+use Rattle.yaml_subset.specs.TextLines.{Line}
 use Rattle.yaml_subset.specs.TreeOf.{Group, is_deeper, hangs_from_entry}
 
 -- a fault on the line n where so many bytes of the line are left

@@ -4,7 +4,8 @@ use Rattle.std.specs.List.{Contains, AllByRecursion}
 use Rattle.yaml_bytes.specs.Bytes.{begins_gap, begins_item}
 use Rattle.yaml_subset.specs.Node.{Node, scalar, sequence, nodes_of, mapping, no_pairs, Pair, pairs_of}
 use Rattle.yaml_subset.specs.Values.{IsKey, IsEntry, IsInline, IsNode}
-use Rattle.yaml_subset.specs.TextLines.{Line, lines_of, HaveContent}
+use Rattle.yaml_bytes.specs.Lines.{lines_of}
+use Rattle.yaml_subset.specs.TextLines.{Line, HaveContent}
 
 -- a line of a block, and the lines that hang from it
 pub record Group : Type 0 where

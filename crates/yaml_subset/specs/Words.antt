@@ -4,7 +4,8 @@ use Rattle.yaml_subset.specs.declared.fault.FaultKind.{FaultKind}
 use Rattle.yaml_subset.specs.declared.fault.FaultKind.TheVariants.{Quote, Flow, NotInSubset}
 use Rattle.yaml_subset.specs.declared.flaw.Flaw.{Flaw}
 use Rattle.yaml_bytes.specs.Bytes.{begins_blank, begins_gap, is_flow_indicator, begins_flow_indicator, begins_bare_colon, is_mark, begins_word}
-use Rattle.yaml_subset.specs.Part.{◌>>=◌, flaw_at}
+use Rattle.yaml_bytes.specs.Results.{◌>>=◌}
+use Rattle.yaml_subset.specs.Part.{flaw_at}
 use Rattle.yaml_bytes.specs.Plain.{IsBehindBlanks, IsPlainWord}
 use Rattle.yaml_bytes.specs.Scanning.{trimmed, behind_blanks, word_front, word_rest}
 use Rattle.yaml_subset.specs.Quoted.{IsSingle, IsDouble, single_at, double_at}
