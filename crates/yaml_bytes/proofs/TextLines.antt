@@ -1,9 +1,10 @@
 -- The first line of a text, and the lines after it.
-use Rattle.std.proofs.Common.{◌≡◌, ℕ, ◌-◌, ◌<◌, ◌≤◌, Bool, true, false, List, [], ◌∷◌, Option, Some, None, take, drop, get_or, length, refl, sym, ap, subst, ◌∙◌, arith, one-add}
+use Rattle.std.proofs.Common.{◌≡◌, ℕ, suc, ◌-◌, ◌<◌, ◌≤◌, ◌==◌, Bool, ◌&&◌, true, false, cond, List, [], ◌∷◌, Option, Some, None, take, drop, get_or, slice_index, length, refl, sym, ap, subst, ◌∙◌, arith, one-add}
 use Rattle.std.specs.List.{slice_split, position_or_len, onto_first}
 use Rattle.std.specs.Str.Lines.{strip_carriage_return}
 use Rattle.std.proofs.Math.Seq.{take-length}
-use Rattle.yaml_bytes.specs.Lines.{is_lf, line_with, cut_line, lines_between, lines_of, lines_after}
+use Rattle.std.proofs.lemmas.Bool.{or_parts}
+use Rattle.yaml_bytes.specs.Lines.{is_lf, ends_line, line_with, cut_line, lines_between, lines_of, lines_after}
 
 -- ---- where a text is cut
 
@@ -73,3 +74,46 @@ module _ (text front rest : List ℕ) (n : ℕ) (first_lf : n ≡ position_or_le
 
   pub next_line : 1 ≤ length rest → lines_of text ≡ strip_carriage_return front ∷ lines_of (take (length rest - 1) (drop 1 rest))
   next_line some = lines_here (strip_carriage_return front, Some (take (length rest - 1) (drop 1 rest))) (ap (line_with front) (after_first rest some))
+
+-- ---- the first line, from the first byte on
+
+pub cut_lf : (after : List ℕ) → cut_line (10 ∷ after) ≡ ([], Some after)
+cut_lf after = refl
+
+pub cut_cr_lf : (after : List ℕ) → cut_line (13 ∷ 10 ∷ after) ≡ ([], Some after)
+cut_cr_lf after = refl
+
+-- a byte in front of a first line
+abbrev pub onto_line : ℕ → List ℕ × Option (List ℕ) → List ℕ × Option (List ℕ)
+onto_line b r = (b ∷ r.0, r.1)
+
+-- without the CR at a place, where that is the last
+abbrev strip_at : ℕ → List ℕ → List ℕ
+strip_at n line = cond (slice_index line n == 13) (take n line) line
+
+strip_step : (b n : ℕ) (line : List ℕ) (cr : Bool) → (slice_index line n == 13) ≡ cr → strip_at (suc n) (b ∷ line) ≡ b ∷ strip_at n line
+strip_step b n line true e = rw e refl
+strip_step b n line false e = rw e refl
+
+strip_more : (b c : ℕ) (cs : List ℕ) → strip_carriage_return (b ∷ c ∷ cs) ≡ b ∷ strip_carriage_return (c ∷ cs)
+strip_more b c cs =
+    let line = c ∷ cs in
+    let long : length (b ∷ line) - 1 ≡ suc (length line - 1) = omega arith in
+    ap (λ n. strip_at n (b ∷ line)) long ∙ strip_step b (length line - 1) line (slice_index line (length line - 1) == 13) refl
+
+with_more : (b c : ℕ) (front rest : List ℕ) → line_with (b ∷ c ∷ front) rest ≡ onto_line b (line_with (c ∷ front) rest)
+with_more b c front [] = refl
+with_more b c front (lf ∷ after) = ap (λ (xs : List ℕ). (xs, Some after)) (strip_more b c front)
+
+and_true_left : (x : Bool) → (x && true) ≡ false → x ≡ false
+and_true_left true e = e
+and_true_left false e = refl
+
+other_step : (b c : ℕ) (cs : List ℕ) (lf : Bool) → is_lf c ≡ lf → is_lf b ≡ false → ((b == 13) && lf) ≡ false → cut_line (b ∷ c ∷ cs) ≡ onto_line b (cut_line (c ∷ cs))
+other_step b c cs true e f g = rw (f, e) (rw (and_true_left (b == 13) g) refl)
+other_step b c cs false e f g = rw (f, e) (simp one-add (with_more b c (take (position_or_len is_lf cs) cs) (drop (position_or_len is_lf cs) cs)))
+
+-- a byte where no line ends is in front of the first line of what follows it
+pub cut_other : (b : ℕ) (bs : List ℕ) → ends_line b bs ≡ false → cut_line (b ∷ bs) ≡ onto_line b (cut_line bs)
+cut_other b [] e = let p = or_parts (is_lf b) ((b == 13) && false) e in rw p.0 refl
+cut_other b (c ∷ cs) e = let p = or_parts (is_lf b) ((b == 13) && is_lf c) e in other_step b c cs (is_lf c) refl p.0 p.1

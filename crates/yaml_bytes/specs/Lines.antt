@@ -1,10 +1,19 @@
 -- The lines of a text. LF ends each line but the last, and a CR directly before that LF is no part of the line.
-use Rattle.std.specs.Prelude.{ℕ, ◌==◌, Bool, List, [], ◌∷◌, take, drop, Option, Some, None}
+use Rattle.std.specs.Prelude.{ℕ, ◌==◌, Bool, false, ◌&&◌, ◌||◌, List, [], ◌∷◌, take, drop, Option, Some, None}
 use Rattle.std.specs.List.{slice_split, position_or_len}
 use Rattle.std.specs.Str.Lines.{strip_carriage_return}
 
 abbrev pub is_lf : ℕ → Bool
 is_lf b = b == 10
+
+-- whether LF comes first
+abbrev pub begins_lf : List ℕ → Bool
+begins_lf [] = false
+begins_lf (b ∷ bs) = is_lf b
+
+-- whether a line ends here: at LF, or at CR directly before it
+abbrev pub ends_line : ℕ → List ℕ → Bool
+ends_line b after = is_lf b || ((b == 13) && begins_lf after)
 
 -- the bytes before the first LF, and from there on, as a line and what comes after it
 abbrev pub line_with : List ℕ → List ℕ → List ℕ × Option (List ℕ)
