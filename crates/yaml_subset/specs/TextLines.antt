@@ -6,7 +6,7 @@ use Rattle.std.specs.Str.{IsUtf8, chars}
 use Rattle.yaml_bytes.specs.Bytes.{begins_blank, is_over, is_document_marker, is_forbidden}
 use Rattle.yaml_bytes.specs.Plain.{IsBehindBlanks}
 
--- a line with content: its number, its indentation, and what stands behind the spaces at its front
+-- a line with content: its number, its indentation, and what comes after the spaces at its front
 pub record Line : Type 0 where
   pub number : ℕ
   pub indent : ℕ

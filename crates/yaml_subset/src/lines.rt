@@ -91,7 +91,7 @@ pub struct Contents<'a> {
     pub fault: Option<PlacedFault>,
 }
 
-// Puts a line behind others, where there is one.
+// Puts a line after others, where there is one.
 fn push_line<'a>(lines: &mut Vec<Line<'a>>, found: Option<Line<'a>>) -> Result<(), AllocError>
     ensures { IfOk result (λ _. lines_view lines.new.items ≡ lines_view lines.old.items ++ option_to_list (line_option_view found.entry)) }
 {
