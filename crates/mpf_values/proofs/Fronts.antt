@@ -1,4 +1,4 @@
--- The bytes at the front of a text that pass a test, and what stands behind them.
+-- The bytes at the front of a text that pass a test, and what comes after them.
 use Rattle.std.proofs.Common.{◌≡◌, ℕ, suc, ◌≤◌, Bool, true, false, List, [], ◌∷◌, ◌++◌, length, take, drop, refl, ap, ◌∙◌, inl, inr, arith, take-append-drop}
 use Rattle.std.specs.List.{prefix_len}
 use Rattle.std.proofs.lemmas.Bool.{cases_Bool}

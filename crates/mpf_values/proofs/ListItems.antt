@@ -27,7 +27,7 @@ without_separators : (text : List ℕ) → items_of text ≡ items_of (behind is
 without_separators [] = refl
 without_separators (b ∷ bs) = behind_step b bs (is_separator b) refl (without_separators bs)
 
--- none comes first behind them
+-- none comes first after them
 first_is_none : (text : List ℕ) (b : ℕ) (bs : List ℕ) → behind is_separator text ≡ b ∷ bs → is_separator b ≡ false
 first_is_none text b bs is = subst (λ xs. begins is_separator xs ≡ false) is (stops is_separator text)
 

@@ -12,7 +12,7 @@ abbrev IsWholeFrom : ℕ → List ℕ → Type 0
 IsWholeFrom n [] = Unit {0}
 IsWholeFrom n (b ∷ bs) = (ends_item n b ≡ false) × IsWholeFrom (open_after n b) bs
 
--- a piece ends with its text, or before a separator, where so many braces are open behind it
+-- a piece ends with its text, or before a separator, where so many braces are open after it
 abbrev EndsFrom : ℕ → List ℕ → Type 0
 EndsFrom n [] = Unit {0}
 EndsFrom n (b ∷ behind) = ends_item n b ≡ true
@@ -42,7 +42,7 @@ ends_before item (b ∷ behind) h = h
 
 -- ---- what is read is a list text
 
--- what a text begins with, inside so many braces, and the list text behind it
+-- what a text begins with, inside so many braces, and the list text after it
 record Cut (n : ℕ) (text item : List ℕ) (items : List (List ℕ)) : Type 0 where
   behind : List ℕ
   parts : text ≡ item ++ behind

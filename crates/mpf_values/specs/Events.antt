@@ -43,7 +43,7 @@ pub record IsCondition (text : List ℕ) (c : Condition) : Type 0 where
   pub is_operator : IsOperator operator c.comparison
   pub is_number : IsInteger number c.number
 
--- what stands behind the name of an event: a condition or nothing
+-- what comes after the name of an event: a condition or nothing
 abbrev pub IsUnder : List ℕ → Option Condition → Type 0
 IsUnder text None = text ≡ []
 IsUnder text (Some c) = IsCondition text c
