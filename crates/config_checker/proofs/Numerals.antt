@@ -1,6 +1,6 @@
 -- Numbers of a certificate are read as they are written.
 use Rattle.std.proofs.Common.{◌≡◌, ℕ, zero, suc, ◌^◌, ◌<◌, ◌==◌, ◌||◌, not, nat_lt, Bool, true, false, cond, Option, Some, None, option_and_then, Result, Ok, Err, List, length, get_or, refl, sym, ap, subst, ◌∙◌, arith}
-use Rattle.std.specs.List.{list_all, All}
+use Rattle.std.specs.List.{All}
 use Rattle.std.specs.Char.{is_ascii_digit}
 use Rattle.std.specs.Fmt.{decimal}
 use Rattle.std.specs.Result.{result_ok, OkIff}
@@ -8,7 +8,8 @@ use Rattle.std.proofs.lemmas.Bool.{or_right, eqb-true, eq-eqb, ne_eqb, ltb-true,
 use Rattle.std.proofs.lemmas.Fmt.{decimal_nonempty, decimal_digit, first_decimal, digits_decimal, digits_value-decimal, decimal-digits_value}
 use Rattle.std.proofs.lemmas.List.Sums.{AllPass-from_list_all}
 use Rattle.std.proofs.lemmas.Option.{cond_some, option_and_then_some}
-use Rattle.yaml_bytes.specs.Numbers.{number_of, number_at}
+use Rattle.yaml_bytes.specs.Numbers.{value_of_digits, AreDigits, number_at}
+use Rattle.yaml_bytes.proofs.AllBytes.{Are-from_list_all, list_all-from_Are}
 use Rattle.yaml_bytes.proofs.WrittenNumbers.{own, IsNumber, number_sound, number_complete, none_of}
 use Rattle.config_checker.specs.CertificateOf.{is_plain, fitting, number_in}
 
@@ -37,8 +38,8 @@ pub no_number : (word : List ℕ) → ((n : ℕ) → SaysNumber word n → ⊥) 
 no_number word h = none_of (number_in word) (λ n e. h n (says_number word n e))
 
 -- a byte that is no digit is not in digits
-pub not_in_digits : (c : ℕ) → is_ascii_digit c ≡ false → (word : List ℕ) → list_all is_ascii_digit word ≡ true → All (λ b. (b == c) ≡ false) word
-not_in_digits c other word h = λ i d l. ne_eqb (get_or word i d) c (λ e. none_is_both (is_ascii_digit (get_or word i d)) (AllPass-from_list_all is_ascii_digit word h i d l) (ap is_ascii_digit e ∙ other))
+pub not_in_digits : (c : ℕ) → is_ascii_digit c ≡ false → (word : List ℕ) → AreDigits word → All (λ b. (b == c) ≡ false) word
+not_in_digits c other word h = λ i d l. ne_eqb (get_or word i d) c (λ e. none_is_both (is_ascii_digit (get_or word i d)) (AllPass-from_list_all is_ascii_digit word (list_all-from_Are is_ascii_digit word h.each) i d l) (ap is_ascii_digit e ∙ other))
   where
     none_is_both : (t : Bool) → t ≡ true → t ≡ false → ⊥
     none_is_both true h k = cc
@@ -57,8 +58,8 @@ alone word plain e = eqb-true (length word) 1 (first_of (length word == 1) (get_
 pub is_written : (word : List ℕ) (n : ℕ) → SaysNumber word n → word ≡ decimal n
 is_written word n h =
     let is = h.number in
-    let small : number_of word < 2 ^ 64 = omega (arith, is.value, is.fits) in
-    sym (decimal-digits_value own word is.digits is.some (alone word h.plain) small) ∙ ap decimal is.value
+    let small : value_of_digits word < 2 ^ 64 = omega (arith, is.value, is.fits) in
+    sym (decimal-digits_value own word (list_all-from_Are is_ascii_digit word is.digits.each) is.digits.some (alone word h.plain) small) ∙ ap decimal is.value
 
 decimal_is_plain : (n : ℕ) → n < 2 ^ 64 → is_plain (decimal n) ≡ true
 decimal_is_plain zero small = ap is_plain (decimal_digit 0 (omega arith))
@@ -70,7 +71,7 @@ pub written_says : (n : ℕ) → n < 2 ^ 32 → SaysNumber (decimal n) n
 written_says n small =
     let within : n < 2 ^ 64 = omega arith in
     record {
-      number = record { some = decimal_nonempty n within; digits = digits_decimal own n within; value = digits_value-decimal own n within; fits = within };
+      number = record { digits = record { some = decimal_nonempty n within; each = Are-from_list_all is_ascii_digit (decimal n) (digits_decimal own n within) }; value = digits_value-decimal own n within; fits = within };
       plain = decimal_is_plain n within;
       small = small;
     }

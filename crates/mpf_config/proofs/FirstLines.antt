@@ -1,10 +1,12 @@
 -- The first line of a text, without the blanks at its end, and what stands behind it.
-use Rattle.std.proofs.Common.{◌≡◌, ℕ, ◌==◌, Bool, true, false, ◌&&◌, ◌||◌, List, [], ◌∷◌, ◌++◌, drop, refl, ap, subst, ◌∙◌, inl, inr}
+use Rattle.std.proofs.Common.{◌≡◌, ℕ, ◌==◌, Bool, true, false, ◌&&◌, ◌||◌, List, [], ◌∷◌, ◌++◌, Option, unwrap_or, refl, sym, ap, subst, ◌∙◌, inl, inr}
 use Rattle.std.proofs.lemmas.Bool.{eqb-true}
 use Rattle.std.proofs.lemmas.Slice.Eq.{bytes_eq-Decides}
+use Rattle.yaml_bytes.specs.Lines.{begins_lf, ends_line}
 use Rattle.yaml_bytes.specs.Scanning.{trimmed}
+use Rattle.yaml_bytes.proofs.TextLines.{cut_other}
 use Rattle.yaml_bytes.proofs.PlainTexts.{trimmed_parts, trimmed-blanks}
-use Rattle.mpf_config.specs.BundleText.{begins_lf, ends_line, behind_end, first_line, behind_first_line, version_line, has_version}
+use Rattle.mpf_config.specs.BundleText.{first_line, behind_first_line, version_line, has_version}
 use Rattle.mpf_config.specs.RowsOf.{IsLineEnd, IsFirstLine, BeginsWith}
 
 -- ---- the first line
@@ -22,19 +24,23 @@ longer_first a line after e h [] rest b is =
     rw (← first, ← others) e
 longer_first a line after e h (c ∷ front) rest b is = h front rest b (let others : line ≡ front ++ b ∷ rest = cc in others)
 
-split_cr : (bs : List ℕ) → begins_lf bs ≡ true → IsFirstLine [] (13 ∷ bs) (drop 1 bs)
-split_cr [] e = absurd cc
-split_cr (c ∷ cs) e =
-    let lf : c ≡ 10 = eqb-true c 10 e in
-    record { end = 13 ∷ 10 ∷ []; is_end = inr (inl refl); parts = ap (λ (x : ℕ). 13 ∷ x ∷ cs) lf; first = λ front rest b h. absurd (nothing_in front rest b h) }
+at_lf : (after : List ℕ) → IsFirstLine [] (10 ∷ after) after
+at_lf after = record { end = 10 ∷ []; is_end = inl refl; parts = refl; first = λ front rest b h. absurd (nothing_in front rest b h) }
 
-split_end : (b : ℕ) (bs : List ℕ) (lf cr : Bool) → b == 10 ≡ lf → b == 13 ≡ cr → (lf || (cr && begins_lf bs)) ≡ true → IsFirstLine [] (b ∷ bs) (behind_end (b ∷ bs))
-split_end b bs true cr l c e =
-    let is : b ≡ 10 = eqb-true b 10 l in
-    rw is (record { end = 10 ∷ []; is_end = inl refl; parts = refl; first = λ front rest d h. absurd (nothing_in front rest d h) })
-split_end b bs false true l c e =
-    let is : b ≡ 13 = eqb-true b 13 c in
-    rw is (split_cr bs e)
+at_cr_lf : (after : List ℕ) → IsFirstLine [] (13 ∷ 10 ∷ after) after
+at_cr_lf after = record { end = 13 ∷ 10 ∷ []; is_end = inr (inl refl); parts = refl; first = λ front rest b h. absurd (nothing_in front rest b h) }
+
+-- a text begins with its first line
+abbrev Splits : List ℕ → Type 0
+Splits text = IsFirstLine (first_line text) text (behind_first_line text)
+
+split_cr : (bs : List ℕ) → begins_lf bs ≡ true → Splits (13 ∷ bs)
+split_cr [] e = absurd cc
+split_cr (c ∷ cs) e = subst (λ (x : ℕ). Splits (13 ∷ x ∷ cs)) (sym (eqb-true c 10 e)) (at_cr_lf cs)
+
+split_end : (b : ℕ) (bs : List ℕ) (lf cr : Bool) → b == 10 ≡ lf → b == 13 ≡ cr → (lf || (cr && begins_lf bs)) ≡ true → Splits (b ∷ bs)
+split_end b bs true cr l c e = subst (λ (x : ℕ). Splits (x ∷ bs)) (sym (eqb-true b 10 l)) (at_lf bs)
+split_end b bs false true l c e = subst (λ (x : ℕ). Splits (x ∷ bs)) (sym (eqb-true b 13 c)) (split_cr bs e)
 split_end b bs false false l c e = absurd cc
 
 -- a byte in front of a line, where no line ends
@@ -46,9 +52,13 @@ longer a text line behind e h = record {
   first = longer_first a line (h.end ++ behind) (subst (λ xs. ends_line a xs ≡ false) h.parts e) h.first;
 }
 
-split_step : (b : ℕ) (bs : List ℕ) (ends : Bool) → ends_line b bs ≡ ends → IsFirstLine (first_line bs) bs (behind_first_line bs) → IsFirstLine (first_line (b ∷ bs)) (b ∷ bs) (behind_first_line (b ∷ bs))
-split_step b bs true e h = rw e (split_end b bs (b == 10) (b == 13) refl refl e)
-split_step b bs false e h = rw e (longer b bs (first_line bs) (behind_first_line bs) e h)
+-- the first line of a text and what comes after it, of the text that was cut
+abbrev SplitsAs : List ℕ → List ℕ × Option (List ℕ) → Type 0
+SplitsAs text r = IsFirstLine r.0 text (unwrap_or r.1 [])
+
+split_step : (b : ℕ) (bs : List ℕ) (ends : Bool) → ends_line b bs ≡ ends → Splits bs → Splits (b ∷ bs)
+split_step b bs true e h = split_end b bs (b == 10) (b == 13) refl refl e
+split_step b bs false e h = subst (SplitsAs (b ∷ bs)) (sym (cut_other b bs e)) (longer b bs (first_line bs) (behind_first_line bs) e h)
 
 pub splitting : (text : List ℕ) → IsFirstLine (first_line text) text (behind_first_line text)
 splitting [] = record { end = []; is_end = inr (inr (refl, refl)); parts = refl; first = λ front rest b h. absurd (nothing_in front rest b h) }
@@ -68,7 +78,8 @@ line_at [] end behind (inr (inl crlf)) h = rw crlf (refl, refl)
 line_at [] end behind (inr (inr none)) h = rw (none.0, none.1) (refl, refl)
 line_at (b ∷ line) end behind is h =
     let r = line_at line end behind is (λ front rest c e. h (b ∷ front) rest c (ap (λ (xs : List ℕ). b ∷ xs) e)) in
-    rw (h [] line b refl) (ap (λ (xs : List ℕ). b ∷ xs) r.0, r.1)
+    let o = cut_other b (line ++ (end ++ behind)) (h [] line b refl) in
+    (ap (λ (x : List ℕ × Option (List ℕ)). x.0) o ∙ ap (λ (xs : List ℕ). b ∷ xs) r.0, ap (λ (x : List ℕ × Option (List ℕ)). unwrap_or x.1 []) o ∙ r.1)
 
 -- what a text begins with is read so
 pub begins_is : (line text behind : List ℕ) → (h : BeginsWith line text behind) → (first_line text ≡ line ++ h.blanks) × (behind_first_line text ≡ behind)

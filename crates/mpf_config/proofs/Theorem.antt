@@ -4,7 +4,7 @@ use Rattle.std.proofs.lemmas.Bool.{cases_lt, le-ltb}
 use Rattle.yaml_subset.specs.declared.fault.Fault as yaml
 use Rattle.yaml_subset.specs.declared.fault.YamlFault.TheVariants as yaml_faults
 use Rattle.yaml_subset.specs.Node.{Node, Pair}
-use Rattle.yaml_subset.specs.TextLines.{lines_of}
+use Rattle.yaml_bytes.specs.Lines.{lines_of}
 use Rattle.yaml_subset.specs.TreeOf.{IsTree, IsTreeOf}
 use Rattle.yaml_subset.specs.Reading.{read_at}
 use Rattle.yaml_subset.proofs.LineContents.{one_content}

@@ -1,8 +1,9 @@
 -- How a bundle holds texts, and how a text begins.
-use Rattle.std.specs.Prelude.{ℕ, suc, ◌+◌, Bool, true, false, ◌&&◌, ◌||◌, ◌==◌, if◌then◌else◌, List, [], ◌∷◌, take, drop, Option, Some, None, codes}
+use Rattle.std.specs.Prelude.{ℕ, suc, ◌+◌, Bool, true, false, ◌&&◌, ◌==◌, if◌then◌else◌, List, [], ◌∷◌, Option, Some, None, unwrap_or, codes}
 use Rattle.std.specs.List.{count_by}
 use Rattle.std.specs.Str.{bytes_eq}
 use Rattle.yaml_bytes.specs.Bytes.{is_blank}
+use Rattle.yaml_bytes.specs.Lines.{cut_line}
 use Rattle.yaml_bytes.specs.Scanning.{behind_blanks, trimmed}
 
 -- a text, and the name in the line `@ NAME` in front of it
@@ -18,30 +19,12 @@ machine_name = codes "config/config.yaml"
 abbrev pub version_line : List ℕ
 version_line = codes "#config_version=6"
 
--- whether LF comes first
-abbrev pub begins_lf : List ℕ → Bool
-begins_lf [] = false
-begins_lf (b ∷ bs) = b == 10
-
--- whether a line ends here: at LF, or at CR before it
-abbrev pub ends_line : ℕ → List ℕ → Bool
-ends_line b after = (b == 10) || ((b == 13) && begins_lf after)
-
--- how many bytes the first line has
-abbrev pub line_len : List ℕ → ℕ
-line_len [] = 0
-line_len (b ∷ bs) = if ends_line b bs then 0 else suc (line_len bs)
-
--- what stands behind LF, or CR and LF
-abbrev pub behind_end : List ℕ → List ℕ
-behind_end [] = []
-behind_end (b ∷ bs) = if b == 13 then drop 1 bs else bs
-
+-- the first line of a text, and the text after it
 abbrev pub first_line : List ℕ → List ℕ
-first_line text = take (line_len text) text
+first_line text = (cut_line text).0
 
 abbrev pub behind_first_line : List ℕ → List ℕ
-behind_first_line text = behind_end (drop (line_len text) text)
+behind_first_line text = unwrap_or (cut_line text).1 []
 
 -- the name in a line `@ NAME`
 abbrev pub name_in : List ℕ → Option (List ℕ)

@@ -1,6 +1,7 @@
 -- Reading a bundle from its first line to its last, with the first fault that is met.
 use Rattle.std.specs.Prelude.{ℕ, ◌^◌, nat_lt, if◌then◌else◌, List, [], ◌∷◌, ◌++◌, length, Option, Some, None, Result, Ok, Err, codes}
 use Rattle.std.specs.Str.{bytes_eq}
+pub use Rattle.yaml_bytes.specs.Results.{◌>>=◌}
 use Rattle.yaml_subset.specs.declared.fault.Fault as yaml
 use Rattle.yaml_subset.specs.Node.{Node, Pair}
 use Rattle.yaml_subset.specs.Reading.{read_at}
@@ -17,11 +18,6 @@ use Rattle.mpf_config.specs.BundleText.{Text, machine_name, first_line, behind_f
 use Rattle.mpf_config.specs.Unread.{read_of, skipped_notes, unlisted_notes}
 use Rattle.mpf_values.specs.Lists.{Item}
 use Rattle.mpf_values.specs.Reading.{is_name, list_at}
-
-infixl 10 ◌>>=◌
-abbrev pub ◌>>=◌ : {A B : Type 0} → Result A RowsFault → (A → Result B RowsFault) → Result B RowsFault
-(Ok x) >>= f = f x
-(Err e) >>= f = Err e
 
 -- where a fault stands: in which text, at which line, and with which key
 pub record Spot : Type 0 where

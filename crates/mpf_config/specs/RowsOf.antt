@@ -3,6 +3,7 @@ use Rattle.std.specs.Prelude.{◌≡◌, ◌≢◌, ℕ, ◌<◌, ◌≤◌, ◌
 use Rattle.std.specs.List.{Contains, AllByRecursion, AllZip}
 use Rattle.yaml_bytes.specs.Bytes.{begins_blank}
 use Rattle.yaml_bytes.specs.Plain.{AreBlank, EndsInNoBlank}
+use Rattle.yaml_bytes.specs.Lines.{ends_line}
 use Rattle.yaml_subset.specs.Node.{Node, Pair}
 use Rattle.yaml_subset.specs.View.{text_in, pairs_in}
 use Rattle.yaml_subset.specs.TreeOf.{IsTreeOf}
@@ -13,7 +14,7 @@ use Rattle.mpf_config.specs.Rows.{Written, Switch, EventPlayer, SectionRows, swi
 use Rattle.mpf_values.specs.Names.{IsName}
 use Rattle.mpf_values.specs.Lists.{Item, IsList}
 use Rattle.mpf_config.specs.Entries.{entries_of, is_ignored, written_at, bare_switch, with_contact, with_debounce, with_tags, with_activated, with_deactivated, contact_of, debounce_of}
-use Rattle.mpf_config.specs.BundleText.{Text, machine_name, version_line, ends_line}
+use Rattle.mpf_config.specs.BundleText.{Text, machine_name, version_line}
 use Rattle.mpf_config.specs.Unread.{read_of, skipped_notes, unlisted_notes}
 
 -- ---- the bundle and its texts

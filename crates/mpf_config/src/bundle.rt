@@ -11,13 +11,12 @@ ghost use Rattle.mpf_config.specs.View.{rows_view, GivesRows};
 
 use crate::config::{Config, MachineText};
 use crate::fault::{ConfigFault, FaultKind};
-use crate::lines::split_line;
 use crate::sections::{sections, sections_in};
 use crate::spot::{NONE, Spot, line_of};
 use crate::texts::{MACHINE_NAME, compare_names, machine_text, texts};
 use crate::unread::{add_skipped, add_unlisted};
 use std::alloc::Global;
-use yaml_bytes::trimmed;
+use yaml_bytes::{split_line, trimmed};
 use yaml_subset::fault::{FaultKind as YamlKind, YamlFault};
 use yaml_subset::reader::read;
 use yaml_subset::tree::Tree;

@@ -6,7 +6,6 @@ pub mod config;
 mod entry;
 mod event_player;
 pub mod fault;
-mod lines;
 pub mod notes;
 mod sections;
 mod spot;

@@ -10,11 +10,10 @@ ghost use Rattle.mpf_config.specs.View.{GivesRows};
 ghost use Rattle.mpf_config.specs.Inside.{bytes_view, text_view, texts_view, keys_view};
 
 use crate::fault::{ConfigFault, FaultKind};
-use crate::lines::split_line;
 use crate::spot::{NONE, line_of};
 use std::alloc::{AllocFailed, Global};
 use std::collections::BTreeSet;
-use yaml_bytes::{behind_blanks, is_blank, trimmed};
+use yaml_bytes::{behind_blanks, is_blank, split_line, trimmed};
 
 /// The name of the machine text.
 pub const MACHINE_NAME: &[u8] = b"config/config.yaml";
@@ -69,10 +68,14 @@ fn line_ends(piece: &[u8]) -> usize
 fn text_of<'a>(alloc: Global, line: u32, piece: &'a [u8]) -> Result<Text<'a>, ConfigFault>
     ensures { GivesRows text_view result (text_at (line, piece.now)) }
 {
-    let (first, text) = split_line(piece);
+    let (first, after) = split_line(piece);
     let Some(name) = name_in(first) else {
         let fault = line_of(NONE, line).fault(alloc, FaultKind::Bundle)?;
         return Err(ConfigFault::Bundle(fault));
+    };
+    let text = match after {
+        None => &[],
+        Some(after) => after,
     };
     Ok(Text { name, text })
 }

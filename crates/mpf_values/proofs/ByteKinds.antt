@@ -1,9 +1,10 @@
 -- Bytes of one kind are none of another.
-use Rattle.std.proofs.Common.{◌≡◌, ℕ, ◌≤◌, Bool, true, false, not, ◌&&◌, ◌||◌, eqb, leb, List, [], ◌∷◌, refl, inl, inr, arith}
+use Rattle.std.proofs.Common.{◌≡◌, ℕ, ◌≤◌, Bool, true, false, not, ◌||◌, eqb, leb, List, [], ◌∷◌, inl, inr, arith}
 use Rattle.std.specs.Char.{is_ascii_digit}
 use Rattle.std.proofs.lemmas.Bool.{and_parts, and_from, or_cases, or_from, eqb-true, ne_eqb, leb-true, not_from_false}
 use Rattle.yaml_bytes.specs.Bytes.{is_blank}
-use Rattle.mpf_values.specs.Bytes.{Are, is_operator_byte, is_word_byte}
+use Rattle.yaml_bytes.specs.Plain.{Are}
+use Rattle.mpf_values.specs.Bytes.{is_operator_byte, is_word_byte}
 
 -- what holds of neither blank holds of no blank
 pub no_blank : (p : ℕ → Bool) → p 32 ≡ false → p 9 ≡ false → (b : ℕ) → is_blank b ≡ true → p b ≡ false

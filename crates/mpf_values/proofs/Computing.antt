@@ -1,5 +1,5 @@
 -- From what reading a text gives to what its value is.
-use Rattle.std.proofs.Common.{◌≡◌, Option, Some, None, Result, Ok, Err, IfOk, IfErr, sym, ◌∙◌}
+use Rattle.std.proofs.Common.{◌≡◌, Option, Some, Result, Ok, Err, IfOk, IfErr, sym, ◌∙◌}
 use Rattle.std.proofs.lemmas.Option.{same_Some, none-some}
 use Rattle.mpf_values.specs.declared.fault.BadValue.{BadValue}
 use Rattle.mpf_values.specs.View.{Gives}

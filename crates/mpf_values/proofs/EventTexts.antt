@@ -1,15 +1,15 @@
 -- Handled events are read as they are written.
-use Rattle.std.proofs.Common.{◌≡◌, ℕ, ◌<◌, Bool, true, false, cond, eqb, List, [], ◌∷◌, ◌++◌, length, take, drop, Option, Some, None, ℤ, codes, refl, sym, ap, subst, ◌∙◌, inl, inr, arith, take-append-drop}
-use Rattle.std.specs.Char.{is_ascii_digit}
+use Rattle.std.proofs.Common.{◌≡◌, ℕ, Bool, true, false, cond, eqb, List, [], ◌∷◌, ◌++◌, length, take, drop, Option, Some, None, ℤ, codes, refl, sym, ap, subst, ◌∙◌, inl, inr, arith, take-append-drop}
 use Rattle.std.specs.Str.{bytes_eq}
-use Rattle.std.proofs.lemmas.Bool.{eqb-true, eq-eqb, ne_eqb}
+use Rattle.std.proofs.lemmas.Bool.{eqb-true, ne_eqb}
 use Rattle.std.proofs.lemmas.Option.{same_Some, cond_some}
 use Rattle.std.proofs.lemmas.Slice.Eq.{bytes_eq-Decides}
 use Rattle.yaml_bytes.specs.Bytes.{is_blank}
 use Rattle.mpf_values.specs.declared.handled.Comparison.{Comparison}
 use Rattle.mpf_values.specs.declared.handled.Comparison.TheVariants.{Equal, NotEqual, Less, LessOrEqual, Greater, GreaterOrEqual}
-use Rattle.mpf_values.specs.Bytes.{Are, is_name_byte, is_operator_byte, is_word_byte}
-use Rattle.mpf_values.specs.Numbers.{AreDigits}
+use Rattle.yaml_bytes.specs.Plain.{Are, AreBlank}
+use Rattle.mpf_values.specs.Bytes.{is_name_byte, is_operator_byte, is_word_byte}
+use Rattle.yaml_bytes.specs.Numbers.{AreDigits}
 use Rattle.mpf_values.specs.Integers.{with_sign, IsInteger}
 use Rattle.mpf_values.specs.Names.{IsName}
 use Rattle.mpf_values.specs.Events.{Condition, Event, IsOperator, equal, not_equal, less, less_or_equal, greater, greater_or_equal, IsCondition, IsUnder, IsEvent}
@@ -108,8 +108,8 @@ record Variable (text variable rest : List ℕ) : Type 0 where
   inside : List ℕ
   left : List ℕ
   parts : text ≡ codes "{" ++ (inside ++ (codes "current_player." ++ (variable ++ (left ++ rest))))
-  inside_blank : Are is_blank inside
-  left_blank : Are is_blank left
+  inside_blank : AreBlank inside
+  left_blank : AreBlank left
   is_name : IsName variable
 
 variable_sound : (text : List ℕ) (r : List ℕ × List ℕ) → variable_at text ≡ Some r → Variable text r.0 r.1
@@ -140,7 +140,7 @@ record Compared (text : List ℕ) (c : Comparison) (rest : List ℕ) : Type 0 wh
   operator : List ℕ
   right : List ℕ
   parts : text ≡ operator ++ (right ++ rest)
-  right_blank : Are is_blank right
+  right_blank : AreBlank right
   is_operator : IsOperator operator c
 
 comparison_sound : (text : List ℕ) (r : Comparison × List ℕ) → comparison_at text ≡ Some r → Compared text r.0 r.1
@@ -162,7 +162,7 @@ record LastInteger (text : List ℕ) (n : ℤ) : Type 0 where
   number : List ℕ
   after : List ℕ
   parts : text ≡ number ++ (after ++ codes "}")
-  after_blank : Are is_blank after
+  after_blank : AreBlank after
   is_number : IsInteger number n
 
 last_integer_sound : (text : List ℕ) (n : ℤ) → last_integer_at text ≡ Some n → LastInteger text n
@@ -212,7 +212,7 @@ condition_sound text c e =
 
 -- ---- a condition is read
 
-variable_complete : (inside variable left rest : List ℕ) → Are is_blank inside → IsName variable → Are is_blank left → begins is_name_byte (left ++ rest) ≡ false → begins is_blank rest ≡ false
+variable_complete : (inside variable left rest : List ℕ) → AreBlank inside → IsName variable → AreBlank left → begins is_name_byte (left ++ rest) ≡ false → begins is_blank rest ≡ false
     → variable_at (codes "{" ++ (inside ++ (codes "current_player." ++ (variable ++ (left ++ rest))))) ≡ Some (variable, rest)
 unfolding variable_at
 variable_complete inside variable left rest are h blank ends stop =
@@ -224,7 +224,7 @@ variable_complete inside variable left rest are h blank ends stop =
       behind_is is_blank left rest blank stop,
     ) refl
 
-comparison_complete : (operator right rest : List ℕ) (c : Comparison) → IsOperator operator c → Are is_blank right → begins is_operator_byte rest ≡ false → begins is_blank rest ≡ false
+comparison_complete : (operator right rest : List ℕ) (c : Comparison) → IsOperator operator c → AreBlank right → begins is_operator_byte rest ≡ false → begins is_blank rest ≡ false
     → comparison_at (operator ++ (right ++ rest)) ≡ Some (c, rest)
 unfolding comparison_at
 comparison_complete operator right rest c h blank ends stop =
@@ -237,7 +237,7 @@ comparison_complete operator right rest c h blank ends stop =
       behind_is is_blank right rest blank stop,
     ) refl
 
-last_integer_complete : (number after : List ℕ) (n : ℤ) → IsInteger number n → Are is_blank after → last_integer_at (number ++ (after ++ codes "}")) ≡ Some n
+last_integer_complete : (number after : List ℕ) (n : ℤ) → IsInteger number n → AreBlank after → last_integer_at (number ++ (after ++ codes "}")) ≡ Some n
 unfolding last_integer_at
 last_integer_complete number after n h blank =
     let i = integer_bytes number n h in

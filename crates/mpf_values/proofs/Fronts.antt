@@ -1,8 +1,8 @@
--- The bytes at the front of a text that pass a test, and what stands behind them.
-use Rattle.std.proofs.Common.{◌≡◌, ℕ, suc, ◌+◌, ◌≤◌, Bool, true, false, ◌&&◌, List, [], ◌∷◌, ◌++◌, length, take, drop, refl, ap, ◌∙◌, inl, inr, arith, take-append-drop}
-use Rattle.std.specs.List.{prefix_len, list_all}
-use Rattle.std.proofs.lemmas.Bool.{cases_Bool, and_parts, and_from}
-use Rattle.mpf_values.specs.Bytes.{Are}
+-- The bytes at the front of a text that pass a test, and what comes after them.
+use Rattle.std.proofs.Common.{◌≡◌, ℕ, suc, ◌≤◌, Bool, true, false, List, [], ◌∷◌, ◌++◌, length, take, drop, refl, ap, ◌∙◌, inl, inr, arith, take-append-drop}
+use Rattle.std.specs.List.{prefix_len}
+use Rattle.std.proofs.lemmas.Bool.{cases_Bool}
+use Rattle.yaml_bytes.specs.Plain.{Are}
 use Rattle.mpf_values.specs.Reading.{front, behind}
 
 -- whether a byte comes first that passes the test
@@ -70,14 +70,6 @@ behind_is p (x ∷ xs) ys h s = behind_yes p x (xs ++ ys) h.0 ∙ behind_is p xs
 pub begins_behind : (p q : ℕ → Bool) (xs ys : List ℕ) → ((b : ℕ) → p b ≡ true → q b ≡ false) → Are p xs → begins q ys ≡ false → begins q (xs ++ ys) ≡ false
 begins_behind p q [] ys other h s = s
 begins_behind p q (x ∷ xs) ys other h s = other x h.0
-
-pub Are-from_list_all : (p : ℕ → Bool) (xs : List ℕ) → list_all p xs ≡ true → Are p xs
-Are-from_list_all p [] h = tt
-Are-from_list_all p (x ∷ xs) h = let both = and_parts (p x) (list_all p xs) h in (both.0, Are-from_list_all p xs both.1)
-
-pub list_all-from_Are : (p : ℕ → Bool) (xs : List ℕ) → Are p xs → list_all p xs ≡ true
-list_all-from_Are p [] h = refl
-list_all-from_Are p (x ∷ xs) h = and_from (p x) (list_all p xs) h.0 (list_all-from_Are p xs h.1)
 
 pub no_bytes : (text : List ℕ) → length text ≡ 0 → text ≡ []
 no_bytes [] h = refl

@@ -1,21 +1,21 @@
 -- Integers are read as they are written.
-use Rattle.std.proofs.Common.{◌≡◌, ℕ, ◌<◌, ◌≤◌, ◌^◌, Bool, true, false, cond, eqb, ltb, List, [], ◌∷◌, length, Some, None, ℤ, pos, neg_ℤ, refl, sym, ap, subst, ◌∙◌, inl, inr, arith}
+use Rattle.std.proofs.Common.{◌≡◌, ℕ, ◌≤◌, Bool, true, false, cond, eqb, ltb, List, [], ◌∷◌, Some, None, ℤ, pos, neg_ℤ, refl, sym, ap, ◌∙◌, inl, inr, arith}
 use Rattle.std.proofs.lemmas.Bool.{eqb-true, ne_eqb, ltb-false, le-ltb}
 use Rattle.std.proofs.lemmas.Option.{same_Some}
-use Rattle.yaml_bytes.specs.Numbers.{number_of, number_at}
-use Rattle.mpf_values.specs.Numbers.{AreDigits}
+use Rattle.yaml_bytes.specs.Numbers.{value_of_digits, number_at}
+use Rattle.yaml_bytes.specs.Numbers.{AreDigits}
 use Rattle.mpf_values.specs.Integers.{with_sign, signed, IsInteger}
 use Rattle.mpf_values.specs.Reading.{◌>>=◌, magnitude_at, integer_at}
 use Rattle.mpf_values.proofs.Steps.{bind_some, guard_false, chosen}
 use Rattle.mpf_values.proofs.ByteKinds.{digit_range}
-use Rattle.mpf_values.proofs.WrittenNumbers.{number_sound, number_complete}
+use Rattle.yaml_bytes.proofs.WrittenNumbers.{number_sound, number_complete}
 use Rattle.mpf_values.proofs.Computing.{Computes}
 
 -- what digits are that are read
 record Magnitude (digits : List ℕ) (n : ℕ) : Type 0 where
   are : AreDigits digits
-  value : n ≡ number_of digits
-  within : number_of digits ≤ 1000000000
+  value : n ≡ value_of_digits digits
+  within : value_of_digits digits ≤ 1000000000
 
 magnitude_sound : (digits : List ℕ) (n : ℕ) → magnitude_at digits ≡ Some n → Magnitude digits n
 unfolding magnitude_at
@@ -24,11 +24,11 @@ magnitude_sound digits n e =
     let d = number_sound digits a.0 a.1 in
     let b = guard_false (ltb 1000000000 a.0) (Some a.0) n a.2 in
     let below = ltb-false 1000000000 a.0 b.0 in
-    record { are = d.0; value = sym (same_Some a.0 n b.1) ∙ d.1; within = omega (arith, d.1) }
+    record { are = d.digits; value = sym (same_Some a.0 n b.1) ∙ sym d.value; within = omega (arith, d.value) }
 
-magnitude_complete : (digits : List ℕ) → AreDigits digits → number_of digits ≤ 1000000000 → magnitude_at digits ≡ Some (number_of digits)
+magnitude_complete : (digits : List ℕ) → AreDigits digits → value_of_digits digits ≤ 1000000000 → magnitude_at digits ≡ Some (value_of_digits digits)
 unfolding magnitude_at
-magnitude_complete digits h within = rw (number_complete digits h (omega arith), le-ltb 1000000000 (number_of digits) within) refl
+magnitude_complete digits h within = rw (number_complete digits (value_of_digits digits) (record { digits = h; value = refl; fits = omega arith }), le-ltb 1000000000 (value_of_digits digits) within) refl
 
 plain_integer : (text : List ℕ) (n : ℤ) → (magnitude_at text >>= λ m. Some (pos m)) ≡ Some n → IsInteger text n
 plain_integer text n e =
@@ -55,16 +55,16 @@ integer_sound (b ∷ bs) n e =
       | inr c ↦ plain_integer (b ∷ bs) n c.1
     ]
 
-plain_complete : (digits : List ℕ) → AreDigits digits → number_of digits ≤ 1000000000 → integer_at digits ≡ Some (pos (number_of digits))
+plain_complete : (digits : List ℕ) → AreDigits digits → value_of_digits digits ≤ 1000000000 → integer_at digits ≡ Some (pos (value_of_digits digits))
 unfolding integer_at
 plain_complete [] h within = absurd (omega (arith, h.some))
 plain_complete (d ∷ ds) h within = rw (ne_eqb d 45 (λ e. let r = digit_range d h.each.0 in absurd (omega arith)), magnitude_complete (d ∷ ds) h within) refl
 
-minus_complete : (digits : List ℕ) → AreDigits digits → number_of digits ≤ 1000000000 → integer_at (45 ∷ digits) ≡ Some (neg_ℤ (pos (number_of digits)))
+minus_complete : (digits : List ℕ) → AreDigits digits → value_of_digits digits ≤ 1000000000 → integer_at (45 ∷ digits) ≡ Some (neg_ℤ (pos (value_of_digits digits)))
 unfolding integer_at
 minus_complete digits h within = rw (magnitude_complete digits h within) refl
 
-signed_complete : (negative : Bool) (digits : List ℕ) → AreDigits digits → number_of digits ≤ 1000000000 → integer_at (with_sign negative digits) ≡ Some (signed negative (number_of digits))
+signed_complete : (negative : Bool) (digits : List ℕ) → AreDigits digits → value_of_digits digits ≤ 1000000000 → integer_at (with_sign negative digits) ≡ Some (signed negative (value_of_digits digits))
 signed_complete true digits h within = minus_complete digits h within
 signed_complete false digits h within = plain_complete digits h within
 

@@ -3,7 +3,7 @@ use Rattle.std.proofs.Common.{◌≡◌, ℕ, ◌+◌, ◌≤◌, ◌<◌, ◌==
 use Rattle.std.proofs.lemmas.Bool.{eqb-true}
 use Rattle.mpf_values.specs.Bytes.{is_separator}
 use Rattle.mpf_values.specs.ListText.{open_after, ends_item}
-use Rattle.mpf_values.specs.Reading.{behind, onto_items, pieces_from, items_of, item_len}
+use Rattle.mpf_values.specs.Reading.{behind, onto_items, items_from, items_of, item_len}
 use Rattle.mpf_values.proofs.Fronts.{begins, behind_yes, behind_no, stops}
 
 -- a separator opens no brace
@@ -27,31 +27,31 @@ without_separators : (text : List ℕ) → items_of text ≡ items_of (behind is
 without_separators [] = refl
 without_separators (b ∷ bs) = behind_step b bs (is_separator b) refl (without_separators bs)
 
--- none comes first behind them
+-- none comes first after them
 first_is_none : (text : List ℕ) (b : ℕ) (bs : List ℕ) → behind is_separator text ≡ b ∷ bs → is_separator b ≡ false
 first_is_none text b bs is = subst (λ xs. begins is_separator xs ≡ false) is (stops is_separator text)
 
 cut_step : (n b : ℕ) (bs : List ℕ) (ends : Bool) → ends_item n b ≡ ends
-    → pieces_from (open_after n b) bs ≡ (take (item_len (open_after n b) bs) bs, items_of (drop (item_len (open_after n b) bs) bs))
-    → (ends_item n b ≡ true → onto_items (pieces_from (open_after n b) bs).0 (pieces_from (open_after n b) bs).1 ≡ items_of (b ∷ bs))
-    → pieces_from n (b ∷ bs) ≡ (take (item_len n (b ∷ bs)) (b ∷ bs), items_of (drop (item_len n (b ∷ bs)) (b ∷ bs)))
+    → items_from (open_after n b) bs ≡ (take (item_len (open_after n b) bs) bs, items_of (drop (item_len (open_after n b) bs) bs))
+    → (ends_item n b ≡ true → onto_items (items_from (open_after n b) bs).0 (items_from (open_after n b) bs).1 ≡ items_of (b ∷ bs))
+    → items_from n (b ∷ bs) ≡ (take (item_len n (b ∷ bs)) (b ∷ bs), items_of (drop (item_len n (b ∷ bs)) (b ∷ bs)))
 cut_step n b bs true e h s = rw e (ap (λ (items : List (List ℕ)). ([], items)) (s e))
 cut_step n b bs false e h s = rw (e, h) refl
 
-ends_zero : (b : ℕ) (bs : List ℕ) → ends_item 0 b ≡ true → onto_items (pieces_from (open_after 0 b) bs).0 (pieces_from (open_after 0 b) bs).1 ≡ items_of (b ∷ bs)
+ends_zero : (b : ℕ) (bs : List ℕ) → ends_item 0 b ≡ true → onto_items (items_from (open_after 0 b) bs).0 (items_from (open_after 0 b) bs).1 ≡ items_of (b ∷ bs)
 unfolding items_of
 ends_zero b bs e = rw e refl
 
-pub ends_cases : (n b : ℕ) (bs : List ℕ) (none : Bool) → n == 0 ≡ none → ends_item n b ≡ true → onto_items (pieces_from (open_after n b) bs).0 (pieces_from (open_after n b) bs).1 ≡ items_of (b ∷ bs)
+pub ends_cases : (n b : ℕ) (bs : List ℕ) (none : Bool) → n == 0 ≡ none → ends_item n b ≡ true → onto_items (items_from (open_after n b) bs).0 (items_from (open_after n b) bs).1 ≡ items_of (b ∷ bs)
 ends_cases n b bs true z e = let is_zero : n ≡ 0 = eqb-true n 0 z in rw is_zero (ends_zero b bs (rw is_zero at e))
 ends_cases n b bs false z e = absurd (let no_end : false ≡ true = rw z at e in cc)
 
 -- where an item ends, the others begin afresh
-pub ends_step : (n b : ℕ) (bs : List ℕ) → ends_item n b ≡ true → onto_items (pieces_from (open_after n b) bs).0 (pieces_from (open_after n b) bs).1 ≡ items_of (b ∷ bs)
+pub ends_step : (n b : ℕ) (bs : List ℕ) → ends_item n b ≡ true → onto_items (items_from (open_after n b) bs).0 (items_from (open_after n b) bs).1 ≡ items_of (b ∷ bs)
 ends_step n b bs e = ends_cases n b bs (n == 0) refl e
 
 -- the item that a text begins with, and the items of the rest
-cut : (n : ℕ) (text : List ℕ) → pieces_from n text ≡ (take (item_len n text) text, items_of (drop (item_len n text) text))
+cut : (n : ℕ) (text : List ℕ) → items_from n text ≡ (take (item_len n text) text, items_of (drop (item_len n text) text))
 unfolding items_of
 cut n [] = refl
 cut n (b ∷ bs) = cut_step n b bs (ends_item n b) refl (cut (open_after n b) bs) (ends_step n b bs)

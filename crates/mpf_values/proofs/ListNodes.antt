@@ -1,15 +1,13 @@
 -- Lists are read as they are.
-use Rattle.std.proofs.Common.{◌≡◌, ℕ, ◌+◌, ◌<◌, ◌≤◌, Bool, true, false, cond, List, [], ◌∷◌, ◌++◌, length, map, filter, drop, get_or, Option, Some, None, Result, Ok, Err, IfOk, IfErr, ◌≢◌, refl, sym, ap, subst, ◌∙◌, append_assoc, add-one}
-use Rattle.std.proofs.lemmas.Bool.{cases_Bool}
+use Rattle.std.proofs.Common.{◌≡◌, ℕ, ◌+◌, ◌<◌, ◌≤◌, true, false, List, [], ◌∷◌, ◌++◌, length, map, filter, drop, get_or, Option, Some, None, Result, Ok, Err, IfOk, IfErr, ◌≢◌, refl, sym, ap, ◌∙◌, append_assoc, add-one}
 use Rattle.std.proofs.Math.Seq.{drop-cons}
 use Rattle.std.proofs.lemmas.List.{append-nil, drop_all}
 use Rattle.std.proofs.lemmas.Option.{same_Some, none-some}
 use Rattle.yaml_subset.specs.declared.tree.Tree.{Tree}
-use Rattle.yaml_subset.specs.Node.{Node, scalar, sequence, mapping, Nodes, list_nodes}
+use Rattle.yaml_subset.specs.Node.{Node, scalar, sequence, mapping, list_nodes}
 use Rattle.yaml_subset.specs.View.{line_of, text_in, node_view}
 use Rattle.mpf_values.specs.declared.fault.ListFault.{ListFault}
 use Rattle.mpf_values.specs.declared.fault.ListFault.TheVariants as faults
-use Rattle.mpf_values.specs.ListText.{IsListText}
 use Rattle.mpf_values.specs.Lists.{Item, item_at, has_text, scalar_of, IsList}
 use Rattle.mpf_values.specs.Reading.{◌>>=◌, items_of, scalar_at, onto_list, scalars_at, list_at}
 use Rattle.mpf_values.specs.View.{GivesList}

@@ -1,8 +1,9 @@
 -- The items of a list text are those that are read, and no others.
 use Rattle.std.proofs.Common.{◌≡◌, ℕ, ◌==◌, Bool, true, false, List, [], ◌∷◌, ◌++◌, refl, sym, ap, subst, ◌∙◌}
 use Rattle.std.proofs.lemmas.Bool.{eqb-true, and_parts}
-use Rattle.mpf_values.specs.Bytes.{Are, is_separator}
-use Rattle.mpf_values.specs.Reading.{onto_items, onto_item, pieces_from, items_of}
+use Rattle.yaml_bytes.specs.Plain.{Are}
+use Rattle.mpf_values.specs.Bytes.{is_separator}
+use Rattle.mpf_values.specs.Reading.{onto_items, onto_item, items_from, items_of}
 use Rattle.mpf_values.specs.ListText.{open_after, open_behind, ends_item, IsItem, EndsBefore, IsListText}
 use Rattle.mpf_values.proofs.ListItems.{opens_none, separator_step, ends_step}
 
@@ -11,7 +12,7 @@ abbrev IsWholeFrom : ℕ → List ℕ → Type 0
 IsWholeFrom n [] = Unit {0}
 IsWholeFrom n (b ∷ bs) = (ends_item n b ≡ false) × IsWholeFrom (open_after n b) bs
 
--- a piece ends with its text, or before a separator, where so many braces are open behind it
+-- a piece ends with its text, or before a separator, where so many braces are open after it
 abbrev EndsFrom : ℕ → List ℕ → Type 0
 EndsFrom n [] = Unit {0}
 EndsFrom n (b ∷ behind) = ends_item n b ≡ true
@@ -41,7 +42,7 @@ ends_before item (b ∷ behind) h = h
 
 -- ---- what is read is a list text
 
--- what a text begins with, inside so many braces, and the list text behind it
+-- what a text begins with, inside so many braces, and the list text after it
 record Cut (n : ℕ) (text item : List ℕ) (items : List (List ℕ)) : Type 0 where
   behind : List ℕ
   parts : text ≡ item ++ behind
@@ -71,13 +72,13 @@ cut_step n b bs item items true e h =
 cut_step n b bs item items false e h =
     record { behind = h.behind; parts = ap (λ (xs : List ℕ). b ∷ xs) h.parts; whole = (e, h.whole); ends = h.ends; list = h.list }
 
-cut_of : (n : ℕ) (text : List ℕ) → Cut n text (pieces_from n text).0 (pieces_from n text).1
+cut_of : (n : ℕ) (text : List ℕ) → Cut n text (items_from n text).0 (items_from n text).1
 cut_of n [] = record { behind = []; parts = refl; whole = tt; ends = tt; list = tt }
-cut_of n (b ∷ bs) = cut_step n b bs (pieces_from (open_after n b) bs).0 (pieces_from (open_after n b) bs).1 (ends_item n b) refl (cut_of (open_after n b) bs)
+cut_of n (b ∷ bs) = cut_step n b bs (items_from (open_after n b) bs).0 (items_from (open_after n b) bs).1 (ends_item n b) refl (cut_of (open_after n b) bs)
 
 pub is_list_text : (text : List ℕ) → IsListText text (items_of text)
 unfolding items_of
-is_list_text text = from_cut text (pieces_from 0 text).0 (pieces_from 0 text).1 (cut_of 0 text)
+is_list_text text = from_cut text (items_from 0 text).0 (items_from 0 text).1 (cut_of 0 text)
 
 -- ---- a list text is read so
 
@@ -90,7 +91,7 @@ skips : (before text : List ℕ) → Are is_separator before → items_of (befor
 skips [] text h = refl
 skips (b ∷ before) text h = separator_step b (before ++ text) h.0 ∙ skips before text h.1
 
-piece_of : (n : ℕ) (item behind : List ℕ) → IsWholeFrom n item → EndsFrom (open_behind n item) behind → pieces_from n (item ++ behind) ≡ (item, items_of behind)
+piece_of : (n : ℕ) (item behind : List ℕ) → IsWholeFrom n item → EndsFrom (open_behind n item) behind → items_from n (item ++ behind) ≡ (item, items_of behind)
 unfolding items_of
 piece_of n [] [] w e = refl
 piece_of n [] (b ∷ behind) w e = rw e (ap (λ (items : List (List ℕ)). ([], items)) (ends_step n b behind e))

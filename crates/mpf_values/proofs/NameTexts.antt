@@ -1,12 +1,12 @@
 -- Names are told from other texts.
-use Rattle.std.proofs.Common.{◌≡◌, ℕ, ◌<◌, ◌≤◌, Bool, true, false, not, ◌&&◌, eqb, leb, List, length, Some, refl, sym, arith}
+use Rattle.std.proofs.Common.{◌≡◌, ℕ, true, false, not, ◌&&◌, eqb, leb, List, length, Some, refl, sym, arith}
 use Rattle.std.specs.List.{list_all}
 use Rattle.std.proofs.lemmas.Bool.{and_parts, and_from, eqb-false, ne_eqb, leb-true, le-leb, not-true, not_from_false, both_ways}
 use Rattle.std.proofs.lemmas.Option.{cond_some}
 use Rattle.mpf_values.specs.Bytes.{is_name_byte}
 use Rattle.mpf_values.specs.Names.{IsName}
 use Rattle.mpf_values.specs.Reading.{is_name, name_at}
-use Rattle.mpf_values.proofs.Fronts.{Are-from_list_all, list_all-from_Are}
+use Rattle.yaml_bytes.proofs.AllBytes.{Are-from_list_all, list_all-from_Are}
 
 pub IsName-from_is_name : (text : List ℕ) → is_name text ≡ true → IsName text
 IsName-from_is_name text h =

@@ -1,17 +1,17 @@
 -- Powers are read as they are written.
-use Rattle.std.proofs.Common.{◌≡◌, ℕ, zero, suc, ◌+◌, ◌-◌, ◌*◌, ◌/◌, ◌<◌, ◌≤◌, ◌^◌, Bool, true, false, ◌&&◌, cond, eqb, ltb, leb, List, [], ◌++◌, Some, None, codes, refl, sym, ap, subst, ◌∙◌, ◌⊎◌, inl, inr, arith}
+use Rattle.std.proofs.Common.{◌≡◌, ℕ, zero, suc, ◌+◌, ◌-◌, ◌*◌, ◌/◌, ◌<◌, ◌≤◌, ◌^◌, ◌&&◌, cond, ltb, leb, List, [], ◌++◌, Some, None, codes, refl, sym, ap, ◌∙◌, ◌⊎◌, inl, inr, arith}
 use Rattle.std.specs.Str.{bytes_eq}
 use Rattle.std.proofs.lemmas.Bool.{and_parts, leb-true, le-leb, ltb-false, le-ltb}
 use Rattle.std.proofs.lemmas.List.{append-nil}
 use Rattle.std.proofs.lemmas.Option.{same_Some}
 use Rattle.std.proofs.lemmas.Slice.Eq.{bytes_eq-Decides}
 use Rattle.mpf_values.specs.declared.decimals.Decimal.{Decimal}
-use Rattle.yaml_bytes.specs.Numbers.{number_of}
+use Rattle.yaml_bytes.specs.Numbers.{value_of_digits}
 use Rattle.mpf_values.specs.Numbers.{IsDecimal}
 use Rattle.mpf_values.specs.Powers.{IsFraction, IsPercentage, IsPower}
 use Rattle.mpf_values.specs.Reading.{◌>>=◌, decimal_at, share_at, power_at}
 use Rattle.mpf_values.proofs.Steps.{bind_some, guard_true, guard_false, chosen}
-use Rattle.mpf_values.proofs.WrittenNumbers.{Front, decimal_sound, Ends, decimal_complete}
+use Rattle.mpf_values.proofs.WrittenNumbers.{Front, decimal_sound, decimal_complete}
 use Rattle.mpf_values.proofs.Computing.{Computes}
 
 -- ---- hundredths
@@ -24,9 +24,9 @@ hundreds n (suc (suc places)) h = absurd (omega arith)
 
 whole_hundreds : (number : List ℕ) (n places : ℕ) → IsDecimal number n places → places ≤ 1 → (n / 100) * 100 ≡ n
 whole_hundreds number n places h few =
-    let k = hundreds (number_of h.decimals) places few in
+    let k = hundreds (value_of_digits h.decimals) places few in
     let value = h.value in
-    let is : n ≡ (number_of h.whole * 10 + k.0) * 100 = omega (arith, k.1) in
+    let is : n ≡ (value_of_digits h.whole * 10 + k.0) * 100 = omega (arith, k.1) in
     omega arith
 
 -- ---- what is read is a power

@@ -1,19 +1,17 @@
 -- Times are read as they are written.
-use Rattle.std.proofs.Common.{◌≡◌, ℕ, ◌-◌, ◌*◌, ◌/◌, ◌%◌, ◌<◌, ◌≤◌, ◌^◌, Bool, true, false, not, ◌||◌, cond, eqb, ltb, ◌==◌, Option, List, [], ◌++◌, Some, None, codes, refl, sym, ap, subst, ◌∙◌, inl, inr, arith, append_assoc}
+use Rattle.std.proofs.Common.{◌≡◌, ℕ, ◌-◌, ◌*◌, ◌/◌, ◌%◌, ◌<◌, ◌≤◌, ◌^◌, true, false, not, ◌||◌, cond, eqb, ltb, ◌==◌, Option, List, [], ◌++◌, Some, None, codes, refl, sym, ap, ◌∙◌, inl, inr, arith}
 use Rattle.std.specs.Char.{is_ascii_digit}
 use Rattle.std.specs.Str.{bytes_eq}
 use Rattle.yaml_bytes.specs.Bytes.{is_blank}
-use Rattle.std.proofs.lemmas.Bool.{or_parts, or_from, eqb-true, eq-eqb, not-false, not_from_true, ltb-false, le-ltb}
+use Rattle.std.proofs.lemmas.Bool.{or_parts, eqb-true, eq-eqb, not-false, ltb-false, le-ltb}
 use Rattle.std.proofs.lemmas.Option.{same_Some}
 use Rattle.std.proofs.lemmas.Slice.Eq.{bytes_eq-Decides}
-use Rattle.mpf_values.specs.declared.decimals.Decimal.{Decimal}
-use Rattle.mpf_values.specs.Bytes.{Are}
 use Rattle.mpf_values.specs.Times.{IsUnit, bare, milliseconds, seconds, minutes, hours, days, IsTime}
 use Rattle.mpf_values.specs.Reading.{◌>>=◌, front, behind, fitting, decimal_at, unit_at, whole_at, time_at}
 use Rattle.mpf_values.proofs.Steps.{bind_some, guard_true, guard_false, chosen, fitting_some, fitting_is}
 use Rattle.mpf_values.proofs.Fronts.{begins, behind_is, begins_behind, parts, are_front}
 use Rattle.mpf_values.proofs.ByteKinds.{no_blank}
-use Rattle.mpf_values.proofs.WrittenNumbers.{Front, decimal_sound, Ends, decimal_complete}
+use Rattle.mpf_values.proofs.WrittenNumbers.{decimal_sound, Ends, decimal_complete}
 use Rattle.mpf_values.proofs.Computing.{Computes}
 
 -- ---- units

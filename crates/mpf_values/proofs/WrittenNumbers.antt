@@ -3,24 +3,15 @@ use Rattle.std.proofs.Common.{◌≡◌, ℕ, zero, suc, ◌+◌, ◌-◌, ◌*�
 use Rattle.std.specs.Char.{is_ascii_digit}
 use Rattle.std.proofs.lemmas.Bool.{eqb-true}
 use Rattle.std.proofs.lemmas.Option.{same_Some}
-use Rattle.yaml_bytes.specs.Numbers.{number_of, number_at}
-use Rattle.yaml_bytes.proofs.WrittenNumbers as written
+use Rattle.yaml_bytes.specs.Numbers.{value_of_digits, number_at}
+use Rattle.yaml_bytes.proofs.WrittenNumbers.{number_sound, number_complete}
 use Rattle.mpf_values.specs.declared.decimals.Decimal.{Decimal}
-use Rattle.mpf_values.specs.Bytes.{Are}
-use Rattle.mpf_values.specs.Numbers.{AreDigits, decimal_text, IsDecimal}
+use Rattle.yaml_bytes.specs.Plain.{Are}
+use Rattle.yaml_bytes.specs.Numbers.{AreDigits}
+use Rattle.mpf_values.specs.Numbers.{decimal_text, IsDecimal}
 use Rattle.mpf_values.specs.Reading.{◌>>=◌, front, behind, fitting, worth_of, fraction_at, decimal_from, decimal_at}
 use Rattle.mpf_values.proofs.Steps.{bind_some, guard_true, chosen, fitting_some, fitting_is}
-use Rattle.mpf_values.proofs.Fronts.{begins, parts, front_is, behind_is, Are-from_list_all, list_all-from_Are}
-
--- ---- digits
-
-pub number_sound : (text : List ℕ) (n : ℕ) → number_at text ≡ Some n → AreDigits text × (n ≡ number_of text)
-number_sound text n e =
-    let h = written.number_sound text n e in
-    (record { some = h.some; each = Are-from_list_all is_ascii_digit text h.digits }, sym h.value)
-
-pub number_complete : (text : List ℕ) → AreDigits text → number_of text < 2 ^ 64 → number_at text ≡ Some (number_of text)
-number_complete text h fits = written.number_complete text (number_of text) (record { some = h.some; digits = list_all-from_Are is_ascii_digit text h.each; value = refl; fits = fits })
+use Rattle.mpf_values.proofs.Fronts.{begins, parts, front_is, behind_is}
 
 -- ---- decimals
 
@@ -48,7 +39,7 @@ worth_complete (suc (suc (suc (suc n)))) some few = absurd (omega arith)
 record Fraction (decimals : List ℕ) (f : ℕ) : Type 0 where
   digits : AreDigits decimals
   few : length decimals ≤ 3
-  value : f ≡ number_of decimals * 10 ^ (3 - length decimals)
+  value : f ≡ value_of_digits decimals * 10 ^ (3 - length decimals)
 
 fraction_sound : (decimals : List ℕ) (f : ℕ) → fraction_at decimals ≡ Some f → Fraction decimals f
 unfolding fraction_at
@@ -57,13 +48,13 @@ fraction_sound decimals f e =
     let w = worth_sound (length decimals) a.0 a.1 in
     let b = bind_some (number_at decimals) (λ n. fitting (n * a.0)) f a.2 in
     let d = number_sound decimals b.0 b.1 in
-    record { digits = d.0; few = w.1; value = sym (fitting_some (b.0 * a.0) f b.2).0 ∙ rw (d.1, w.2) refl }
+    record { digits = d.digits; few = w.1; value = sym (fitting_some (b.0 * a.0) f b.2).0 ∙ rw (← d.value, w.2) refl }
 
-fraction_complete : (decimals : List ℕ) → AreDigits decimals → length decimals ≤ 3 → number_of decimals < 2 ^ 64 → number_of decimals * 10 ^ (3 - length decimals) < 2 ^ 64
-    → fraction_at decimals ≡ Some (number_of decimals * 10 ^ (3 - length decimals))
+fraction_complete : (decimals : List ℕ) → AreDigits decimals → length decimals ≤ 3 → value_of_digits decimals < 2 ^ 64 → value_of_digits decimals * 10 ^ (3 - length decimals) < 2 ^ 64
+    → fraction_at decimals ≡ Some (value_of_digits decimals * 10 ^ (3 - length decimals))
 unfolding fraction_at
 fraction_complete decimals h few fits product =
-    rw (worth_complete (length decimals) h.some few, number_complete decimals h fits, fitting_is (number_of decimals * 10 ^ (3 - length decimals)) product) refl
+    rw (worth_complete (length decimals) h.some few, number_complete decimals (value_of_digits decimals) (record { digits = h; value = refl; fits = fits }), fitting_is (value_of_digits decimals * 10 ^ (3 - length decimals)) product) refl
 
 -- a number at the front of a text
 pub record Front (text : List ℕ) (d : Decimal) (rest : List ℕ) : Type 0 where
@@ -75,7 +66,7 @@ text_some : (whole decimals : List ℕ) → 0 < length decimals → decimal_text
 text_some whole [] h = absurd (omega arith)
 text_some whole (d ∷ ds) h = refl
 
-plain_front : (digits rest : List ℕ) (n : ℕ) → AreDigits digits → n ≡ number_of digits * 1000 → Front (digits ++ rest) (record { thousandths = n; places = 0 }) rest
+plain_front : (digits rest : List ℕ) (n : ℕ) → AreDigits digits → n ≡ value_of_digits digits * 1000 → Front (digits ++ rest) (record { thousandths = n; places = 0 }) rest
 plain_front digits rest n h value =
     record {
       number = digits;
@@ -83,7 +74,7 @@ plain_front digits rest n h value =
       is = record { whole = digits; decimals = []; parts = refl; is_whole = h; are_decimals = tt; count = refl; few = omega arith; value = omega arith };
     }
 
-point_front : (digits : List ℕ) (b : ℕ) (bs : List ℕ) (n f m : ℕ) → AreDigits digits → n ≡ number_of digits * 1000 → b ≡ 46 → Fraction (front is_ascii_digit bs) f → n + f ≡ m
+point_front : (digits : List ℕ) (b : ℕ) (bs : List ℕ) (n f m : ℕ) → AreDigits digits → n ≡ value_of_digits digits * 1000 → b ≡ 46 → Fraction (front is_ascii_digit bs) f → n + f ≡ m
     → Front (digits ++ b ∷ bs) (record { thousandths = m; places = length (front is_ascii_digit bs) }) (behind is_ascii_digit bs)
 point_front digits b bs n f m h value point k sum =
     let decimals = front is_ascii_digit bs in
@@ -98,14 +89,14 @@ point_front digits b bs n f m h value point k sum =
         are_decimals = k.digits.each;
         count = refl;
         few = k.few;
-        value = sym sum ∙ ap (λ x. x + f) value ∙ ap (λ x. number_of digits * 1000 + x) k.value;
+        value = sym sum ∙ ap (λ x. x + f) value ∙ ap (λ x. value_of_digits digits * 1000 + x) k.value;
       };
     }
 
 abbrev at_front : List ℕ → Decimal × List ℕ → Type 0
 at_front text r = Front text r.0 r.1
 
-from_sound : (digits rest : List ℕ) (n : ℕ) (r : Decimal × List ℕ) → AreDigits digits → n ≡ number_of digits * 1000 → decimal_from n rest ≡ Some r → at_front (digits ++ rest) r
+from_sound : (digits rest : List ℕ) (n : ℕ) (r : Decimal × List ℕ) → AreDigits digits → n ≡ value_of_digits digits * 1000 → decimal_from n rest ≡ Some r → at_front (digits ++ rest) r
 from_sound digits [] n r h value e = subst (at_front (digits ++ [])) (same_Some (record { thousandths = n; places = 0 }, []) r e) (plain_front digits [] n h value)
 from_sound digits (b ∷ bs) n r h value e =
     let decimals = front is_ascii_digit bs in
@@ -130,8 +121,8 @@ decimal_sound text r e =
     let a = bind_some (number_at digits) (λ n. fitting (n * 1000) >>= λ whole. decimal_from whole rest) r e in
     let d = number_sound digits a.0 a.1 in
     let b = bind_some (fitting (a.0 * 1000)) (λ whole. decimal_from whole rest) r a.2 in
-    let value : b.0 ≡ number_of digits * 1000 = sym (fitting_some (a.0 * 1000) b.0 b.1).0 ∙ rw d.1 refl in
-    subst (λ whole. Front whole r.0 r.1) (parts is_ascii_digit text) (from_sound digits rest b.0 r d.0 value b.2)
+    let value : b.0 ≡ value_of_digits digits * 1000 = sym (fitting_some (a.0 * 1000) b.0 b.1).0 ∙ rw (← d.value) refl in
+    subst (λ whole. Front whole r.0 r.1) (parts is_ascii_digit text) (from_sound digits rest b.0 r d.digits value b.2)
 
 -- a number ends before what follows: no digit comes, and no point
 pub record Ends (rest : List ℕ) : Type 0 where
@@ -142,13 +133,13 @@ from_plain : (n : ℕ) (rest : List ℕ) → Ends rest → decimal_from n rest �
 from_plain n [] h = refl
 from_plain n (b ∷ bs) h = rw h.point refl
 
-plain_complete : (whole rest : List ℕ) (n : ℕ) → AreDigits whole → n ≡ number_of whole * 1000 → n < 2 ^ 64 → Ends rest
+plain_complete : (whole rest : List ℕ) (n : ℕ) → AreDigits whole → n ≡ value_of_digits whole * 1000 → n < 2 ^ 64 → Ends rest
     → decimal_at (whole ++ rest) ≡ Some (record { thousandths = n; places = 0 }, rest)
 unfolding decimal_at
 plain_complete whole rest n h value fits ends =
-    let small : number_of whole < 2 ^ 64 = omega arith in
-    let product : number_of whole * 1000 < 2 ^ 64 = omega arith in
-    rw (front_is is_ascii_digit whole rest h.each ends.digit, behind_is is_ascii_digit whole rest h.each ends.digit, number_complete whole h small, fitting_is (number_of whole * 1000) product, ← value)
+    let small : value_of_digits whole < 2 ^ 64 = omega arith in
+    let product : value_of_digits whole * 1000 < 2 ^ 64 = omega arith in
+    rw (front_is is_ascii_digit whole rest h.each ends.digit, behind_is is_ascii_digit whole rest h.each ends.digit, number_complete whole (value_of_digits whole) (record { digits = h; value = refl; fits = small }), fitting_is (value_of_digits whole * 1000) product, ← value)
     (from_plain n rest ends)
 
 not_less : (n k : ℕ) → k ≤ 2 → n ≤ n * 10 ^ k
@@ -157,38 +148,38 @@ not_less n (suc zero) h = omega arith
 not_less n (suc (suc zero)) h = omega arith
 not_less n (suc (suc (suc k))) h = absurd (omega arith)
 
-from_point : (whole n : ℕ) (decimals rest : List ℕ) → AreDigits decimals → length decimals ≤ 3 → n ≡ whole + number_of decimals * 10 ^ (3 - length decimals) → n < 2 ^ 64 → Ends rest
+from_point : (whole n : ℕ) (decimals rest : List ℕ) → AreDigits decimals → length decimals ≤ 3 → n ≡ whole + value_of_digits decimals * 10 ^ (3 - length decimals) → n < 2 ^ 64 → Ends rest
     → decimal_from whole (46 ∷ (decimals ++ rest)) ≡ Some (record { thousandths = n; places = length decimals }, rest)
 from_point whole n decimals rest h few value fits ends =
     let some = h.some in
-    let le = not_less (number_of decimals) (3 - length decimals) (omega arith) in
-    let product : number_of decimals * 10 ^ (3 - length decimals) < 2 ^ 64 = omega arith in
-    let small : number_of decimals < 2 ^ 64 = omega arith in
-    let sum : whole + number_of decimals * 10 ^ (3 - length decimals) < 2 ^ 64 = omega arith in
+    let le = not_less (value_of_digits decimals) (3 - length decimals) (omega arith) in
+    let product : value_of_digits decimals * 10 ^ (3 - length decimals) < 2 ^ 64 = omega arith in
+    let small : value_of_digits decimals < 2 ^ 64 = omega arith in
+    let sum : whole + value_of_digits decimals * 10 ^ (3 - length decimals) < 2 ^ 64 = omega arith in
     rw (front_is is_ascii_digit decimals rest h.each ends.digit, behind_is is_ascii_digit decimals rest h.each ends.digit, fraction_complete decimals h few small product)
-    (rw (fitting_is (whole + number_of decimals * 10 ^ (3 - length decimals)) sum, ← value) refl)
+    (rw (fitting_is (whole + value_of_digits decimals * 10 ^ (3 - length decimals)) sum, ← value) refl)
 
 point_complete : (whole decimals rest : List ℕ) (n : ℕ) → AreDigits whole → AreDigits decimals → length decimals ≤ 3
-    → n ≡ number_of whole * 1000 + number_of decimals * 10 ^ (3 - length decimals) → n < 2 ^ 64 → Ends rest
+    → n ≡ value_of_digits whole * 1000 + value_of_digits decimals * 10 ^ (3 - length decimals) → n < 2 ^ 64 → Ends rest
     → decimal_at (whole ++ 46 ∷ (decimals ++ rest)) ≡ Some (record { thousandths = n; places = length decimals }, rest)
 unfolding decimal_at
 point_complete whole decimals rest n h d few value fits ends =
     let behind_whole : List ℕ = 46 ∷ (decimals ++ rest) in
-    let small : number_of whole < 2 ^ 64 = omega arith in
-    let product : number_of whole * 1000 < 2 ^ 64 = omega arith in
-    rw (front_is is_ascii_digit whole behind_whole h.each refl, behind_is is_ascii_digit whole behind_whole h.each refl, number_complete whole h small, fitting_is (number_of whole * 1000) product)
-    (from_point (number_of whole * 1000) n decimals rest d few value fits ends)
+    let small : value_of_digits whole < 2 ^ 64 = omega arith in
+    let product : value_of_digits whole * 1000 < 2 ^ 64 = omega arith in
+    rw (front_is is_ascii_digit whole behind_whole h.each refl, behind_is is_ascii_digit whole behind_whole h.each refl, number_complete whole (value_of_digits whole) (record { digits = h; value = refl; fits = small }), fitting_is (value_of_digits whole * 1000) product)
+    (from_point (value_of_digits whole * 1000) n decimals rest d few value fits ends)
 
 written_complete : (whole decimals rest : List ℕ) (n places : ℕ) → AreDigits whole → Are is_ascii_digit decimals → length decimals ≡ places → places ≤ 3
-    → n ≡ number_of whole * 1000 + number_of decimals * 10 ^ (3 - places) → n < 2 ^ 64 → Ends rest
+    → n ≡ value_of_digits whole * 1000 + value_of_digits decimals * 10 ^ (3 - places) → n < 2 ^ 64 → Ends rest
     → decimal_at (decimal_text whole decimals ++ rest) ≡ Some (record { thousandths = n; places = places }, rest)
 written_complete whole [] rest n places h d count few value fits ends =
-    let plain : n ≡ number_of whole * 1000 = omega arith in
+    let plain : n ≡ value_of_digits whole * 1000 = omega arith in
     rw (← count) (plain_complete whole rest n h plain fits ends)
 written_complete whole (b ∷ bs) rest n places h d count few value fits ends =
     let decimals : AreDigits (b ∷ bs) = record { some = omega arith; each = d } in
     let short : length (b ∷ bs) ≤ 3 = omega arith in
-    let value_here : n ≡ number_of whole * 1000 + number_of (b ∷ bs) * 10 ^ (3 - length (b ∷ bs)) = subst (λ k. n ≡ number_of whole * 1000 + number_of (b ∷ bs) * 10 ^ (3 - k)) (sym count) value in
+    let value_here : n ≡ value_of_digits whole * 1000 + value_of_digits (b ∷ bs) * 10 ^ (3 - length (b ∷ bs)) = subst (λ k. n ≡ value_of_digits whole * 1000 + value_of_digits (b ∷ bs) * 10 ^ (3 - k)) (sym count) value in
     let read = point_complete whole (b ∷ bs) rest n h decimals short value_here fits ends in
     subst (λ k. decimal_at ((whole ++ 46 ∷ b ∷ bs) ++ rest) ≡ Some (record { thousandths = n; places = k }, rest)) count (ap decimal_at (append_assoc whole (46 ∷ b ∷ bs) rest) ∙ read)
 

@@ -1,12 +1,7 @@
 -- What the bytes of a value are.
-use Rattle.std.specs.Prelude.{◌≡◌, ℕ, Bool, true, not, ◌&&◌, ◌||◌, List, ◌==◌}
-use Rattle.std.specs.List.{AllByRecursion}
+use Rattle.std.specs.Prelude.{ℕ, Bool, not, ◌&&◌, ◌||◌, ◌==◌}
 use Rattle.std.specs.Char.{is_ascii_alphanumeric}
 use Rattle.yaml_bytes.specs.Bytes.{is_blank}
-
--- every byte passes the test p
-abbrev pub Are : (ℕ → Bool) → List ℕ → Type 0
-Are p = AllByRecursion (λ b. p b ≡ true)
 
 -- an ASCII letter, a digit, `_`, `-` or `.`
 abbrev pub is_name_byte : ℕ → Bool

@@ -1,9 +1,8 @@
 -- Texts that are handled events.
 use Rattle.std.specs.Prelude.{◌≡◌, ℕ, List, [], ◌++◌, Option, Some, None, ℤ, codes}
-use Rattle.yaml_bytes.specs.Bytes.{is_blank}
 use Rattle.mpf_values.specs.declared.handled.Comparison.{Comparison}
 use Rattle.mpf_values.specs.declared.handled.Comparison.TheVariants.{Equal, NotEqual, Less, LessOrEqual, Greater, GreaterOrEqual}
-use Rattle.mpf_values.specs.Bytes.{Are}
+use Rattle.yaml_bytes.specs.Plain.{AreBlank}
 use Rattle.mpf_values.specs.Integers.{IsInteger}
 use Rattle.mpf_values.specs.Names.{IsName}
 
@@ -36,15 +35,15 @@ pub record IsCondition (text : List ℕ) (c : Condition) : Type 0 where
   pub number : List ℕ
   pub after : List ℕ
   pub parts : text ≡ codes "{" ++ (inside ++ (codes "current_player." ++ (c.variable ++ (left ++ (operator ++ (right ++ (number ++ (after ++ codes "}"))))))))
-  pub inside_blank : Are is_blank inside
-  pub left_blank : Are is_blank left
-  pub right_blank : Are is_blank right
-  pub after_blank : Are is_blank after
+  pub inside_blank : AreBlank inside
+  pub left_blank : AreBlank left
+  pub right_blank : AreBlank right
+  pub after_blank : AreBlank after
   pub is_variable : IsName c.variable
   pub is_operator : IsOperator operator c.comparison
   pub is_number : IsInteger number c.number
 
--- what stands behind the name of an event: a condition or nothing
+-- what comes after the name of an event: a condition or nothing
 abbrev pub IsUnder : List ℕ → Option Condition → Type 0
 IsUnder text None = text ≡ []
 IsUnder text (Some c) = IsCondition text c

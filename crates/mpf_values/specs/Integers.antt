@@ -1,7 +1,7 @@
 -- Texts that are integers.
-use Rattle.std.specs.Prelude.{◌≡◌, ℕ, ◌≤◌, ◌^◌, Bool, true, false, List, ◌∷◌, ℤ, pos, neg_ℤ}
-use Rattle.yaml_bytes.specs.Numbers.{number_of}
-use Rattle.mpf_values.specs.Numbers.{AreDigits}
+use Rattle.std.specs.Prelude.{◌≡◌, ℕ, ◌≤◌, Bool, true, false, List, ◌∷◌, ℤ, pos, neg_ℤ}
+use Rattle.yaml_bytes.specs.Numbers.{value_of_digits}
+use Rattle.yaml_bytes.specs.Numbers.{AreDigits}
 
 -- digits, with a `-` in front or without
 abbrev pub with_sign : Bool → List ℕ → List ℕ
@@ -18,5 +18,5 @@ pub record IsInteger (text : List ℕ) (n : ℤ) : Type 0 where
   pub digits : List ℕ
   pub parts : text ≡ with_sign negative digits
   pub are_digits : AreDigits digits
-  pub value : n ≡ signed negative (number_of digits)
-  pub within : number_of digits ≤ 1000000000
+  pub value : n ≡ signed negative (value_of_digits digits)
+  pub within : value_of_digits digits ≤ 1000000000

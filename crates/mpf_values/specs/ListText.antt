@@ -1,12 +1,13 @@
 -- The items of a list text: its longest pieces that have no separator outside braces.
 use Rattle.std.specs.Prelude.{◌≡◌, ◌≢◌, ℕ, ◌+◌, ◌-◌, Bool, true, false, ◌&&◌, ◌==◌, if◌then◌else◌, List, [], ◌∷◌, ◌++◌}
-use Rattle.mpf_values.specs.Bytes.{Are, is_separator}
+use Rattle.yaml_bytes.specs.Plain.{Are}
+use Rattle.mpf_values.specs.Bytes.{is_separator}
 
--- How many braces are open behind a byte, where so many are open before it: a closing one that closes none is an ordinary byte.
+-- How many braces are open after a byte, where so many are open before it: a closing one that closes none is an ordinary byte.
 abbrev pub open_after : ℕ → ℕ → ℕ
 open_after open_braces b = if b == 123 then open_braces + 1 else (if b == 125 then open_braces - 1 else open_braces)
 
--- how many braces are open behind a text
+-- how many braces are open after a text
 abbrev pub open_behind : ℕ → List ℕ → ℕ
 open_behind open_braces [] = open_braces
 open_behind open_braces (b ∷ bs) = open_behind (open_after open_braces b) bs
@@ -25,7 +26,7 @@ abbrev pub EndsBefore : List ℕ → List ℕ → Type 0
 EndsBefore item [] = Unit {0}
 EndsBefore item (b ∷ behind) = ends_item (open_behind 0 item) b ≡ true
 
--- A list text is separators, an item and a list text behind it, or separators alone.
+-- A list text is separators, an item and a list text after it, or separators alone.
 abbrev pub IsListText : List ℕ → List (List ℕ) → Type 0
 IsListText text [] = Are is_separator text
 IsListText text (item ∷ items) =

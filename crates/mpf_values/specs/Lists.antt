@@ -3,7 +3,7 @@ use Rattle.std.specs.Prelude.{◌≡◌, ℕ, Bool, not, ◌==◌, List, length,
 use Rattle.yaml_subset.specs.Node.{Node, scalar, sequence, mapping, list_nodes}
 use Rattle.mpf_values.specs.ListText.{IsListText}
 
--- an item, and the line where it stands
+-- an item, and the line where it is
 pub record Item : Type 0 where
   pub line : ℕ
   pub text : List ℕ

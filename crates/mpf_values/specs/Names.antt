@@ -1,6 +1,7 @@
 -- Texts that are names.
 use Rattle.std.specs.Prelude.{ℕ, ◌<◌, ◌≤◌, List, length}
-use Rattle.mpf_values.specs.Bytes.{Are, is_name_byte}
+use Rattle.yaml_bytes.specs.Plain.{Are}
+use Rattle.mpf_values.specs.Bytes.{is_name_byte}
 
 -- 1 to 64 letters, digits, `_`, `-` and `.`
 pub record IsName (text : List ℕ) : Type 0 where

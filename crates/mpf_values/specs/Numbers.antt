@@ -1,13 +1,8 @@
 -- Numbers as they are written, in decimal digits.
-use Rattle.std.specs.Prelude.{◌≡◌, ℕ, ◌+◌, ◌-◌, ◌*◌, ◌^◌, ◌<◌, ◌≤◌, List, [], ◌∷◌, ◌++◌, length}
+use Rattle.std.specs.Prelude.{◌≡◌, ℕ, ◌+◌, ◌-◌, ◌*◌, ◌^◌, ◌≤◌, List, [], ◌∷◌, ◌++◌, length}
 use Rattle.std.specs.Char.{is_ascii_digit}
-use Rattle.yaml_bytes.specs.Numbers.{number_of}
-use Rattle.mpf_values.specs.Bytes.{Are}
-
--- one decimal digit or more
-pub record AreDigits (digits : List ℕ) : Type 0 where
-  pub some : 0 < length digits
-  pub each : Are is_ascii_digit digits
+use Rattle.yaml_bytes.specs.Numbers.{value_of_digits, AreDigits}
+use Rattle.yaml_bytes.specs.Plain.{Are}
 
 -- digits, or digits, a point and more digits
 abbrev pub decimal_text : List ℕ → List ℕ → List ℕ
@@ -23,4 +18,4 @@ pub record IsDecimal (text : List ℕ) (thousandths places : ℕ) : Type 0 where
   pub are_decimals : Are is_ascii_digit decimals
   pub count : length decimals ≡ places
   pub few : places ≤ 3
-  pub value : thousandths ≡ number_of whole * 1000 + number_of decimals * 10 ^ (3 - places)
+  pub value : thousandths ≡ value_of_digits whole * 1000 + value_of_digits decimals * 10 ^ (3 - places)

@@ -10,7 +10,7 @@ use Rattle.yaml_subset.specs.View.{line_of, text_in, items_in}
 use Rattle.mpf_values.specs.declared.decimals.Decimal.{Decimal}
 use Rattle.mpf_values.specs.declared.handled.Comparison.{Comparison}
 use Rattle.mpf_values.specs.declared.handled.Comparison.TheVariants.{Equal, NotEqual, Less, LessOrEqual, Greater, GreaterOrEqual}
-use Rattle.mpf_values.specs.Bytes.{is_name_byte, is_operator_byte, is_word_byte, is_separator}
+use Rattle.mpf_values.specs.Bytes.{is_name_byte, is_operator_byte, is_word_byte}
 use Rattle.mpf_values.specs.Booleans.{capital, with_capital}
 use Rattle.mpf_values.specs.Events.{Condition, Event}
 use Rattle.mpf_values.specs.ListText.{open_after, ends_item}
@@ -21,7 +21,7 @@ abbrev pub ◌>>=◌ : {A B : Type 0} → Option A → (A → Option B) → Opti
 (Some x) >>= f = f x
 None >>= f = None
 
--- the bytes at the front that pass the test p, and what stands behind them
+-- the bytes at the front that pass the test p, and what comes after them
 abbrev pub front : (ℕ → Bool) → List ℕ → List ℕ
 front p text = take (prefix_len p text) text
 
@@ -42,7 +42,7 @@ worth_of places = if places == 1 then Some 100 else (if places == 2 then Some 10
 unfoldable pub fraction_at : List ℕ → Option ℕ
 fraction_at decimals = worth_of (length decimals) >>= λ worth. number_at decimals >>= λ n. fitting (n * worth)
 
--- a number of so many thousandths with the decimals behind its point, where it has one
+-- a number of so many thousandths with the decimals after its point, where it has one
 abbrev pub decimal_from : ℕ → List ℕ → Option (Decimal × List ℕ)
 decimal_from whole [] = Some (record { thousandths = whole; places = 0 }, [])
 decimal_from whole (b ∷ bs) =
@@ -51,7 +51,7 @@ decimal_from whole (b ∷ bs) =
     >>= λ n. Some (record { thousandths = n; places = length (front is_ascii_digit bs) }, behind is_ascii_digit bs))
     else Some (record { thousandths = whole; places = 0 }, b ∷ bs)
 
--- the number at the front, and what stands behind it
+-- the number at the front, and what comes after it
 unfoldable pub decimal_at : List ℕ → Option (Decimal × List ℕ)
 decimal_at text = number_at (front is_ascii_digit text) >>= λ n. fitting (n * 1000) >>= λ whole. decimal_from whole (behind is_ascii_digit text)
 
@@ -95,7 +95,7 @@ time_at text = decimal_at text >>= λ d. unit_at (behind_blanks d.1) >>= λ unit
 
 -- ---- powers
 
--- the thousandths of full power that a number is, with what stands behind it
+-- the thousandths of full power that a number is, with what comes after it
 unfoldable pub share_at : Decimal → List ℕ → Option ℕ
 share_at number rest =
     if bytes_eq rest [] then Some number.thousandths
@@ -114,11 +114,11 @@ name_at text = if is_name text then Some text else None
 
 -- ---- handled events
 
--- what stands behind a word that a text begins with
+-- what comes after a word that a text begins with
 abbrev pub behind_word : List ℕ → List ℕ → Option (List ℕ)
 behind_word word text = if bytes_eq (take (length word) text) word then Some (drop (length word) text) else None
 
--- the variable of a condition, and what stands behind it and the blanks after it
+-- the variable of a condition, and what comes after it and the blanks that follow it
 unfoldable pub variable_at : List ℕ → Option (List ℕ × List ℕ)
 variable_at text =
     behind_word (codes "{") text >>= λ inside. behind_word (codes "current_player.") (behind_blanks inside)
@@ -133,11 +133,11 @@ operator_at text =
     else (if bytes_eq text (codes ">") then Some Greater
     else (if bytes_eq text (codes ">=") then Some GreaterOrEqual else None)))))
 
--- the comparison at the front, and what stands behind it and the blanks after it
+-- the comparison at the front, and what comes after it and the blanks that follow it
 unfoldable pub comparison_at : List ℕ → Option (Comparison × List ℕ)
 comparison_at text = operator_at (front is_operator_byte text) >>= λ comparison. Some (comparison, behind_blanks (behind is_operator_byte text))
 
--- the integer of a condition, with nothing behind it but blanks and the closing brace
+-- the integer of a condition, with nothing after it but blanks and the closing brace
 unfoldable pub last_integer_at : List ℕ → Option ℤ
 last_integer_at text = integer_at (front is_word_byte text) >>= λ n. (if bytes_eq (behind_blanks (behind is_word_byte text)) (codes "}") then Some n else None)
 
@@ -147,7 +147,7 @@ condition_at text =
     variable_at text >>= λ v. comparison_at v.1 >>= λ c. last_integer_at c.1
     >>= λ n. Some (record { variable = v.0; comparison = c.0; number = n })
 
--- an event with what stands behind its name
+-- an event with what comes after its name
 unfoldable pub event_at : List ℕ → Option Event
 event_at text =
     name_at (front is_name_byte text)
@@ -161,19 +161,19 @@ abbrev pub onto_items : List ℕ → List (List ℕ) → List (List ℕ)
 onto_items [] items = items
 onto_items (b ∷ item) items = (b ∷ item) ∷ items
 
--- a byte in front of an item and those behind it, or at the end of an empty one
+-- a byte in front of an item and those after it, or at the end of an empty one
 abbrev pub onto_item : Bool → ℕ → List ℕ × List (List ℕ) → List ℕ × List (List ℕ)
 onto_item true b pieces = ([], onto_items pieces.0 pieces.1)
 onto_item false b pieces = (b ∷ pieces.0, pieces.1)
 
--- the item that a text begins with, inside so many braces, and the items behind it
-abbrev pub pieces_from : ℕ → List ℕ → List ℕ × List (List ℕ)
-pieces_from open_braces [] = ([], [])
-pieces_from open_braces (b ∷ bs) = onto_item (ends_item open_braces b) b (pieces_from (open_after open_braces b) bs)
+-- the item that a text begins with, inside so many braces, and the items after it
+abbrev pub items_from : ℕ → List ℕ → List ℕ × List (List ℕ)
+items_from open_braces [] = ([], [])
+items_from open_braces (b ∷ bs) = onto_item (ends_item open_braces b) b (items_from (open_after open_braces b) bs)
 
 -- the items of a list text
 unfoldable pub items_of : List ℕ → List (List ℕ)
-items_of text = onto_items (pieces_from 0 text).0 (pieces_from 0 text).1
+items_of text = onto_items (items_from 0 text).0 (items_from 0 text).1
 
 -- how many bytes the item has that a text begins with
 abbrev pub item_len : ℕ → List ℕ → ℕ

@@ -1,7 +1,6 @@
 -- Texts that are times.
 use Rattle.std.specs.Prelude.{◌≡◌, ℕ, ◌*◌, ◌^◌, ◌<◌, List, [], ◌++◌, codes}
-use Rattle.yaml_bytes.specs.Bytes.{is_blank}
-use Rattle.mpf_values.specs.Bytes.{Are}
+use Rattle.yaml_bytes.specs.Plain.{AreBlank}
 use Rattle.mpf_values.specs.Numbers.{IsDecimal}
 
 -- how many milliseconds a unit is
@@ -22,7 +21,7 @@ pub record IsTime (text : List ℕ) (ms : ℕ) : Type 0 where
   pub thousandths : ℕ
   pub places : ℕ
   pub is_number : IsDecimal number thousandths places
-  pub are_blank : Are is_blank blanks
+  pub are_blank : AreBlank blanks
   pub each : ℕ
   pub is_unit : IsUnit unit each
   pub value : ms * 1000 ≡ thousandths * each

@@ -25,7 +25,7 @@ fn truth(text: &[u8]) -> Result<bool, BadValue>
 /// `yes`, `Yes` and `YES`. Any other text is `BadValue`: `yEs`, `1`, the empty one, and one with a
 /// blank in it.
 pub fn boolean(text: &[u8]) -> Result<bool, BadValue>
-    // What is answered is the value of the text.
+    // The result is the value of the text.
     ensures found { IfOk result (λ b. IsBoolean text.now b) }
 
     // The text has no other value.
@@ -34,7 +34,7 @@ pub fn boolean(text: &[u8]) -> Result<bool, BadValue>
     // A text that is refused has no value.
     ensures refused { IfErr result (λ _. (b : Bool) → IsBoolean text.now b → ⊥) }
 
-    // What reading the text gives is answered.
+    // The result is what reading the text gives.
     ensures exact { Gives (λ b. b) result (boolean_at text.now) }
 {
     truth(text)

@@ -1,4 +1,4 @@
-//! The bytes that stand at the front of a text.
+//! The bytes at the front of a text.
 
 ghost use Rattle.std.specs.Prelude.{◌≡◌, ◌≤◌, length};
 ghost use Rattle.std.specs.List.{prefix_len, list_all};
@@ -91,7 +91,7 @@ pub fn behind_separators(text: &[u8]) -> &[u8]
     text.split_at(separators_len(text)).1
 }
 
-/// The digits at the front, and what stands behind them.
+/// The digits at the front, and what comes after them.
 pub fn split_digits(text: &[u8]) -> (&[u8], &[u8])
     ensures front { result.0.now ≡ front is_ascii_digit text.now }
     ensures behind { result.1.now ≡ behind is_ascii_digit text.now }
@@ -99,7 +99,7 @@ pub fn split_digits(text: &[u8]) -> (&[u8], &[u8])
     text.split_at(digits_len(text))
 }
 
-/// The bytes of a name at the front, and what stands behind them.
+/// The bytes of a name at the front, and what comes after them.
 pub fn split_name(text: &[u8]) -> (&[u8], &[u8])
     ensures front { result.0.now ≡ front is_name_byte text.now }
     ensures behind { result.1.now ≡ behind is_name_byte text.now }
@@ -107,7 +107,7 @@ pub fn split_name(text: &[u8]) -> (&[u8], &[u8])
     text.split_at(name_len(text))
 }
 
-/// The bytes of an operator at the front, and what stands behind them.
+/// The bytes of an operator at the front, and what comes after them.
 pub fn split_operator(text: &[u8]) -> (&[u8], &[u8])
     ensures front { result.0.now ≡ front is_operator_byte text.now }
     ensures behind { result.1.now ≡ behind is_operator_byte text.now }
@@ -115,7 +115,7 @@ pub fn split_operator(text: &[u8]) -> (&[u8], &[u8])
     text.split_at(operator_len(text))
 }
 
-/// What stands before the first blank or closing brace, and the rest.
+/// What comes before the first blank or closing brace, and the rest.
 pub fn split_value(text: &[u8]) -> (&[u8], &[u8])
     ensures front { result.0.now ≡ front is_word_byte text.now }
     ensures behind { result.1.now ≡ behind is_word_byte text.now }

@@ -29,8 +29,8 @@ fn fraction(decimals: &[u8]) -> Result<u64, BadValue>
     number(decimals)?.checked_mul(worth).ok_or(BadValue)
 }
 
-/// The number at the front of a text: digits, or digits, a point and one to three digits. And what
-/// stands behind it.
+/// The number at the front of a text, and what comes after it. A number is digits, or digits, a
+/// point and one to three digits.
 #[tactic(auto, unfolding(crate::specs::Reading::decimal_at))]
 pub fn split_decimal(text: &[u8]) -> Result<(Decimal, &[u8]), BadValue>
     ensures { Gives decimal_view result (decimal_at text.now) }

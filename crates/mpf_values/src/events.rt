@@ -19,7 +19,7 @@ const CLOSING: &[u8] = b"}";
 
 const CURRENT_PLAYER: &[u8] = b"current_player.";
 
-// What stands behind a word that a text begins with.
+// What comes after a word that a text begins with.
 fn behind_word<'a>(word: &[u8], text: &'a [u8]) -> Result<&'a [u8], BadValue>
     ensures { Gives rest_view result (behind_word word.now text.now) }
 {
@@ -29,7 +29,7 @@ fn behind_word<'a>(word: &[u8], text: &'a [u8]) -> Result<&'a [u8], BadValue>
     }
 }
 
-// The variable of a condition, and what stands behind it and the blanks after it.
+// The variable of a condition, and what comes after it and the blanks that follow it.
 #[tactic(auto, unfolding(crate::specs::Reading::variable_at))]
 fn variable(text: &[u8]) -> Result<(&[u8], &[u8]), BadValue>
     ensures { Gives slices_view result (variable_at text.now) }
@@ -55,7 +55,7 @@ fn operator(text: &[u8]) -> Result<Comparison, BadValue>
     }
 }
 
-// The comparison at the front, and what stands behind it and the blanks after it.
+// The comparison at the front, and what comes after it and the blanks that follow it.
 #[tactic(auto, unfolding(crate::specs::Reading::comparison_at))]
 fn compared(text: &[u8]) -> Result<(Comparison, &[u8]), BadValue>
     ensures { Gives compared_view result (comparison_at text.now) }
@@ -64,7 +64,7 @@ fn compared(text: &[u8]) -> Result<(Comparison, &[u8]), BadValue>
     Ok((operator(front)?, behind_blanks(rest)))
 }
 
-// The integer of a condition, with nothing behind it but blanks and the closing brace.
+// The integer of a condition, with nothing after it but blanks and the closing brace.
 #[tactic(auto, unfolding(crate::specs::Reading::last_integer_at))]
 fn last_integer(text: &[u8]) -> Result<i64, BadValue>
     ensures { Gives (λ n. n) result (last_integer_at text.now) }
@@ -112,15 +112,15 @@ fn handled(text: &[u8]) -> Result<Event<'_>, BadValue>
     })
 }
 
-/// A handled event: a name, and right behind it, or not, a condition in braces, as in
+/// A handled event: a name, and directly after it a condition in braces or nothing, as in
 /// `ball_started{current_player.ball >= 2}`: a variable of the current player, one of `==`, `!=`,
 /// `<`, `<=`, `>` and `>=`, and an integer. The variable is a name, of as many bytes as can belong
 /// to one. Blanks may stand directly inside the braces and around the operator. Any other text is
 /// `BadValue`: one with a name that is empty or has more than 64 bytes, with an integer beyond the
-/// range of [`integer`](crate::integer), with a blank in front of the `{`, or with anything behind
+/// range of [`integer`](crate::integer), with a blank in front of the `{`, or with anything after
 /// the `}`.
 pub fn event(text: &[u8]) -> Result<Event<'_>, BadValue>
-    // What is answered is the value of the text.
+    // The result is the value of the text.
     ensures found { IfOk result (λ event. IsEvent text.now (event_view event)) }
 
     // The text has no other value.
@@ -129,7 +129,7 @@ pub fn event(text: &[u8]) -> Result<Event<'_>, BadValue>
     // A text that is refused has no value.
     ensures refused { IfErr result (λ _. (e : Handled) → IsEvent text.now e → ⊥) }
 
-    // What reading the text gives is answered.
+    // The result is what reading the text gives.
     ensures exact { Gives event_view result (event_at text.now) }
 {
     handled(text)

@@ -23,7 +23,7 @@ fn magnitude(digits: &[u8]) -> Result<u32, BadValue>
     Ok(n as u32)
 }
 
-/// The integer that a text is, as [`integer`] answers it.
+/// The integer that a text is, as [`integer`] gives it.
 #[tactic(auto, unfolding(crate::specs::Reading::integer_at))]
 pub fn signed(text: &[u8]) -> Result<i64, BadValue>
     ensures { Gives (λ n. n) result (integer_at text.now) }
@@ -38,7 +38,7 @@ pub fn signed(text: &[u8]) -> Result<i64, BadValue>
 /// front among them. Any other text is `BadValue`: `1000000001`, `+1`, `1.0`, the empty one,
 /// and one with a blank in it.
 pub fn integer(text: &[u8]) -> Result<i64, BadValue>
-    // What is answered is the value of the text.
+    // The result is the value of the text.
     ensures found { IfOk result (λ n. IsInteger text.now n) }
 
     // The text has no other value.
@@ -47,7 +47,7 @@ pub fn integer(text: &[u8]) -> Result<i64, BadValue>
     // A text that is refused has no value.
     ensures refused { IfErr result (λ _. (n : ℤ) → IsInteger text.now n → ⊥) }
 
-    // What reading the text gives is answered.
+    // The result is what reading the text gives.
     ensures exact { Gives (λ n. n) result (integer_at text.now) }
 {
     signed(text)

@@ -11,14 +11,14 @@ ghost use Rattle.mpf_values.specs.Inside.{next_items};
 use crate::bytes::{behind_separators, is_separator};
 use std::alloc::{AllocError, Global};
 
-/// An item of a list, with the line where it stands.
+/// An item of a list, with the line where it is.
 #[derive(Clone, Copy, Debug, PartialEq, Eq)]
 pub struct Item<'a> {
     pub line: u32,
     pub text: &'a [u8],
 }
 
-// How many braces are open behind a byte.
+// How many braces are open after a byte.
 fn open_after(open_braces: usize, b: u8) -> usize
     requires { open_braces + 1 < 2 ^ 64 }
     ensures value { result ≡ open_after open_braces b }
@@ -51,7 +51,7 @@ fn item_len(text: &[u8]) -> usize
     len
 }
 
-// The first item of a list text, and what stands behind it.
+// The first item of a list text, and what comes after it.
 fn next_item(text: &[u8]) -> Option<(&[u8], &[u8])>
     ensures items { items_of text.now ≡ next_items result }
     ensures shorter { IfSome result (λ found. length found.1.now < length text.now) }

@@ -1,8 +1,8 @@
-//! The values of settings: what a text that stands at a setting says.
+//! The values of settings: what the text of a setting says.
 //!
-//! Each reader takes the bytes of one scalar and answers its value, or [`BadValue`] exactly where
-//! there is none. What the value of a text is, the files of `specs/` define, one for each kind of
-//! value. A reader takes no memory, but for [`list`].
+//! Each reader takes the bytes of one scalar and gives its value, or [`BadValue`] exactly where there
+//! is none. The files of `specs/` define what the value of a text is, one for each kind of value. No
+//! reader but [`list`] takes memory.
 #![tactic(auto)]
 
 mod booleans;

@@ -48,18 +48,18 @@ fn items_of(alloc: Global, tree: &Tree) -> Result<Vec<Item<'_>>, ListFault>
 /// the text. Empty items are dropped, so the empty text is an empty list.
 ///
 /// Any other node is `BadValue`: a mapping, and a YAML list that holds a list or a mapping.
-/// `NoMemory` is answered where memory runs out before that is found.
+/// The error is `NoMemory` where memory runs out before that is found.
 pub fn list(alloc: Global, tree: &Tree) -> Result<Vec<Item<'_>>, ListFault>
-    // What is answered are the items of the list.
+    // The result is the items of the list.
     ensures found { IfOk result (λ items. IsList (node_view tree.now) (items_view items.items)) }
 
     // The list has no others.
     ensures only { IfOk result (λ items. (others : List Listed) → IsList (node_view tree.now) others → others ≡ items_view items.items) }
 
-    // What is refused, but for want of memory, is no list.
+    // What is refused, unless memory ran out, is no list.
     ensures refused { IfErr result (λ e. e ≢ ListFault.NoMemory → (items : List Listed) → IsList (node_view tree.now) items → ⊥) }
 
-    // What reading the list gives is answered, unless memory ran out.
+    // The result is what reading the list gives, unless memory ran out.
     ensures exact { GivesList (λ items. items_view items.items) result (list_at (node_view tree.now)) }
 {
     items_of(alloc, tree)

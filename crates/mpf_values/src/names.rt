@@ -28,7 +28,7 @@ pub fn name(text: &[u8]) -> Result<&[u8], BadValue>
     // A text that is refused is no name.
     ensures refused { IfErr result (λ _. IsName text.now → ⊥) }
 
-    // What reading the text gives is answered.
+    // The result is what reading the text gives.
     ensures exact { Gives (λ name. name.now) result (name_at text.now) }
 {
     if !is_name(text) {

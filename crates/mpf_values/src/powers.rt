@@ -11,7 +11,7 @@ use crate::fault::BadValue;
 /// Full power, in thousandths.
 const FULL: u64 = 1000;
 
-// The thousandths of full power that a number is, with what stands behind it: nothing, or a per
+// The thousandths of full power that a number is, with what comes after it: nothing, or a per
 // cent sign where the number has at most one decimal.
 #[tactic(auto, unfolding(crate::specs::Reading::share_at))]
 fn share(number: Decimal, rest: &[u8]) -> Result<u64, BadValue>
@@ -38,11 +38,11 @@ fn thousandths(text: &[u8]) -> Result<u16, BadValue>
 }
 
 /// A power in thousandths of full power, 0 to 1000: a number from 0 to 1 with up to three decimals,
-/// or one from 0 to 100 with up to one decimal and `%` right behind it, as in `0.25` and `25%`;
+/// or one from 0 to 100 with up to one decimal and `%` right after it, as in `0.25` and `25%`;
 /// there is a digit on each side of the point. Any other text is `BadValue`: one above full power,
 /// one of more decimals, `.5`, and one with a blank in it.
 pub fn power(text: &[u8]) -> Result<u16, BadValue>
-    // What is answered is the value of the text.
+    // The result is the value of the text.
     ensures found { IfOk result (λ power. IsPower text.now power) }
 
     // The text has no other value.
@@ -51,7 +51,7 @@ pub fn power(text: &[u8]) -> Result<u16, BadValue>
     // A text that is refused has no value.
     ensures refused { IfErr result (λ _. (power : ℕ) → IsPower text.now power → ⊥) }
 
-    // What reading the text gives is answered.
+    // The result is what reading the text gives.
     ensures exact { Gives (λ n. n) result (power_at text.now) }
 {
     thousandths(text)

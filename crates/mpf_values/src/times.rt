@@ -39,13 +39,13 @@ fn milliseconds(text: &[u8]) -> Result<u32, BadValue>
     Ok(whole as u32)
 }
 
-/// A time in milliseconds, below 2^32: a number, and behind it, with or without blanks between, a
+/// A time in milliseconds, below 2^32: a number, and after it, with or without blanks between, a
 /// unit: `ms`, `s`, `m`, `h` or `d`, or nothing for milliseconds. The number may have up to three
 /// decimals where the time is a whole number of milliseconds, as in `1.5s`; there is a digit on
 /// each side of the point. Any other text is `BadValue`: `0.5ms`, which is not whole, `50d`, which
 /// is not below 2^32 ms, `.5s`, `5S`, and one with a blank in front.
 pub fn time(text: &[u8]) -> Result<u32, BadValue>
-    // What is answered is the value of the text.
+    // The result is the value of the text.
     ensures found { IfOk result (λ ms. IsTime text.now ms) }
 
     // The text has no other value.
@@ -54,7 +54,7 @@ pub fn time(text: &[u8]) -> Result<u32, BadValue>
     // A text that is refused has no value.
     ensures refused { IfErr result (λ _. (ms : ℕ) → IsTime text.now ms → ⊥) }
 
-    // What reading the text gives is answered.
+    // The result is what reading the text gives.
     ensures exact { Gives (λ n. n) result (time_at text.now) }
 {
     milliseconds(text)

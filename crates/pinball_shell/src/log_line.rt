@@ -1,13 +1,13 @@
 //! What the lines of a log say.
 
-ghost use Rattle.std.specs.Prelude.{◌≡◌, ◌<◌, ◌==◌, not, [], ◌∷◌, MatchOption, length, position};
+ghost use Rattle.std.specs.Prelude.{◌≡◌, ◌<◌, not, [], ◌∷◌, MatchOption, length, position};
 ghost use Rattle.std.specs.List.{position_or_len};
-ghost use Rattle.std.specs.Str.Lines.{lines, strip_carriage_return};
+ghost use Rattle.std.specs.Str.Lines.{lines};
 ghost use Rattle.yaml_bytes.specs.Bytes.{is_blank as blank};
 ghost use Rattle.pinball_shell.specs.LogText.{words, moment_in, level_in, wait as wait_at, change as change_at, said_in, said};
 ghost use Rattle.pinball_shell.specs.LogView.{said_view};
 
-use yaml_bytes::{is_blank, number};
+use yaml_bytes::{is_blank, number, split_line};
 
 /// What a line of a log asks for.
 #[derive(Clone, Copy)]
@@ -29,26 +29,10 @@ pub fn first_line(text: &[u8]) -> (&[u8], &[u8])
     ensures first { lines text.now ≡ result.0.now ∷ lines result.1.now }
     ensures shorter { length result.1.now < length text.now }
 {
-    match line_end(text) {
-        None => (text, &[]),
-        Some(end) => (without_return(&text[..end]), &text[end + 1..]),
-    }
-}
-
-/// Where the first LF of a text stands.
-fn line_end(text: &[u8]) -> Option<usize>
-    ensures { result ≡ position (λ b. b == 10) text.now }
-{
-    text.iter().position(|b| *b == b'\n')
-}
-
-/// A line without the CR at its end, if it has one.
-fn without_return(line: &[u8]) -> &[u8]
-    ensures { result.now ≡ strip_carriage_return line.now }
-{
-    match line {
-        [front @ .., b'\r'] => front,
-        _ => line,
+    let (line, after) = split_line(text);
+    match after {
+        None => (line, &[]),
+        Some(after) => (line, after),
     }
 }
 

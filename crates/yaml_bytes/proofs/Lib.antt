@@ -1,4 +1,7 @@
+pub mod Steps
+pub mod AllBytes
 pub mod Trimming
 pub mod PlainTexts
 pub mod Spaces
 pub mod WrittenNumbers
+pub mod TextLines

@@ -10,12 +10,13 @@ use Rattle.std.proofs.lemmas.Fmt.{IsAscii-from_digits}
 use Rattle.std.proofs.lemmas.Option.{cond_some, none-some, same_Some}
 use Rattle.std.proofs.lemmas.Str.{IsUtf8-from_ascii}
 use Rattle.std.proofs.lemmas.Str.Parse.{IsNumeralModel, numerals_by_weight, parse_digits}
-use Rattle.yaml_bytes.specs.Numbers.{number_of, number_at}
+use Rattle.yaml_bytes.specs.Numbers.{value_of_digits, AreDigits, number_at}
+use Rattle.yaml_bytes.proofs.AllBytes.{Are-from_list_all, list_all-from_Are}
 
 -- ---- digits, as `parse` has them
 
-pub own : IsNumeralModel (λ ds. list_all is_ascii_digit ds ≡ true) number_of
-own = numerals_by_weight _ (search rules) number_of (search rules)
+pub own : IsNumeralModel (λ ds. list_all is_ascii_digit ds ≡ true) value_of_digits
+own = numerals_by_weight _ (search rules) value_of_digits (search rules)
 
 pub digits_are_utf8 : (text : List ℕ) → list_all is_ascii_digit text ≡ true → IsUtf8 text
 digits_are_utf8 text h = IsUtf8-from_ascii text (IsAscii-from_digits text (own.to text h))
@@ -23,25 +24,24 @@ digits_are_utf8 text h = IsUtf8-from_ascii text (IsAscii-from_digits text (own.t
 -- ---- what a text is that is a number
 
 pub record IsNumber (text : List ℕ) (n : ℕ) : Type 0 where
-  pub some : 0 < length text
-  pub digits : list_all is_ascii_digit text ≡ true
-  pub value : number_of text ≡ n
+  pub digits : AreDigits text
+  pub value : value_of_digits text ≡ n
   pub fits : n < 2 ^ 64
 
 pub number_sound : (text : List ℕ) (n : ℕ) → number_at text ≡ Some n → IsNumber text n
 unfolding number_at
 number_sound text n e =
     let are = nat_lt 0 (length text) && list_all is_ascii_digit text in
-    let a = cond_some (are && nat_lt (number_of text) (2 ^ 64)) (number_of text) n e in
-    let b = and_parts are (nat_lt (number_of text) (2 ^ 64)) a.0 in
+    let a = cond_some (are && nat_lt (value_of_digits text) (2 ^ 64)) (value_of_digits text) n e in
+    let b = and_parts are (nat_lt (value_of_digits text) (2 ^ 64)) a.0 in
     let c = and_parts (nat_lt 0 (length text)) (list_all is_ascii_digit text) b.0 in
-    record { some = ltb-true 0 (length text) c.0; digits = c.1; value = a.1; fits = subst (λ k. k < 2 ^ 64) a.1 (ltb-true (number_of text) (2 ^ 64) b.1) }
+    record { digits = record { some = ltb-true 0 (length text) c.0; each = Are-from_list_all is_ascii_digit text c.1 }; value = a.1; fits = subst (λ k. k < 2 ^ 64) a.1 (ltb-true (value_of_digits text) (2 ^ 64) b.1) }
 
 pub number_complete : (text : List ℕ) (n : ℕ) → IsNumber text n → number_at text ≡ Some n
 unfolding number_at
 number_complete text n h =
-    let fits : number_of text < 2 ^ 64 = subst (λ k. k < 2 ^ 64) (sym h.value) h.fits in
-    rw (lt-ltb 0 (length text) h.some, h.digits, lt-ltb (number_of text) (2 ^ 64) fits) (ap Some h.value)
+    let fits : value_of_digits text < 2 ^ 64 = subst (λ k. k < 2 ^ 64) (sym h.value) h.fits in
+    rw (lt-ltb 0 (length text) h.digits.some, list_all-from_Are is_ascii_digit text h.digits.each, lt-ltb (value_of_digits text) (2 ^ 64) fits) (ap Some h.value)
 
 pub none_of : (o : Option ℕ) → ((n : ℕ) → o ≡ Some n → ⊥) → o ≡ None
 none_of None h = refl
@@ -54,7 +54,7 @@ no_number text h = none_of (number_at text) (λ n e. h n (number_sound text n e)
 
 -- what is not digits alone is no number
 pub not_digits : (text : List ℕ) → list_all is_ascii_digit text ≡ false → number_at text ≡ None
-not_digits text h = no_number text (λ n k. false≢true (sym h ∙ k.digits))
+not_digits text h = no_number text (λ n k. false≢true (sym h ∙ list_all-from_Are is_ascii_digit text k.digits.each))
 
 pub no_fault : {T E : Type 0} (r : Result T E) (P : T → Type 0) (Q : E → Type 0) → MatchResult r P Q → ((e : E) → Q e → ⊥) → result_ok r ≡ None → ⊥
 no_fault (Ok x) P Q h never e = cc
@@ -67,6 +67,6 @@ found_ok (Err y) P Q x h e = absurd (none-some x e)
 pub parsed : {E : Type 0} (text : List ℕ) (r : Result ℕ E) → list_all is_ascii_digit text ≡ true → ParsesUnsigned 64 10 text r → result_ok r ≡ number_at text
 parsed {E} text r digits h = as_parsed r (parse_digits own 64 text r h digits)
   where
-    as_parsed : (r : Result ℕ E) → OkIff r ((0 < length text) × (number_of text < 2 ^ 64)) (number_of text) → result_ok r ≡ number_at text
-    as_parsed (Ok n) k = sym (number_complete text n (record { some = k.0.0; digits = digits; value = sym k.1; fits = subst (λ m. m < 2 ^ 64) (sym k.1) k.0.1 }))
-    as_parsed (Err e) k = sym (no_number text (λ n s. k (s.some, subst (λ m. m < 2 ^ 64) (sym s.value) s.fits)))
+    as_parsed : (r : Result ℕ E) → OkIff r ((0 < length text) × (value_of_digits text < 2 ^ 64)) (value_of_digits text) → result_ok r ≡ number_at text
+    as_parsed (Ok n) k = sym (number_complete text n (record { digits = record { some = k.0.0; each = Are-from_list_all is_ascii_digit text digits }; value = sym k.1; fits = subst (λ m. m < 2 ^ 64) (sym k.1) k.0.1 }))
+    as_parsed (Err e) k = sym (no_number text (λ n s. k (s.digits.some, subst (λ m. m < 2 ^ 64) (sym s.value) s.fits)))

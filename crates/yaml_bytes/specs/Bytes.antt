@@ -16,7 +16,7 @@ abbrev pub begins_gap : List ℕ → Bool
 begins_gap [] = true
 begins_gap (b ∷ bs) = is_blank b
 
--- `, [ ] { }`, which part a list or mapping on one line
+-- `, [ ] { }`, which separate the parts of a list or mapping on one line
 abbrev pub is_flow_indicator : ℕ → Bool
 is_flow_indicator b = (b == 44) || (b == 91) || (b == 93) || (b == 123) || (b == 125)
 
@@ -29,12 +29,12 @@ begins_flow_indicator (b ∷ bs) = is_flow_indicator b
 abbrev pub begins_break : Bool → List ℕ → Bool
 begins_break flow text = (flow && begins_flow_indicator text) || begins_gap text
 
--- whether `:` comes first, and directly behind it one of `, [ ] { }`
+-- whether `:` comes first, and directly after it one of `, [ ] { }`
 abbrev pub begins_bare_colon : List ℕ → Bool
 begins_bare_colon [] = false
 begins_bare_colon (b ∷ after) = (b == 58) && begins_flow_indicator after
 
--- whether nothing comes, or a comment
+-- whether nothing more comes but a comment
 abbrev pub is_over : List ℕ → Bool
 is_over [] = true
 is_over (b ∷ bs) = b == 35
@@ -49,12 +49,12 @@ is_indicator b =
 abbrev pub is_mark : ℕ → Bool
 is_mark b = (b == 45) || (b == 63) || (b == 58)
 
--- Whether a plain word may begin so: with no blank, no indicator, and no mark before a gap or in flow before one of `, [ ] { }`.
+-- Whether a plain word may begin here: with no blank, no indicator, and no mark that a gap follows, nor in flow one of `, [ ] { }`.
 abbrev pub begins_word : Bool → List ℕ → Bool
 begins_word flow [] = false
 begins_word flow (b ∷ bs) = not (is_blank b) && (not (is_indicator b) && not (is_mark b && begins_break flow bs))
 
--- whether an item begins so: with `-` and a gap behind it
+-- whether an item begins here: `-`, and a gap after it
 abbrev pub begins_item : List ℕ → Bool
 begins_item [] = false
 begins_item (b ∷ after) = (b == 45) && begins_gap after
@@ -68,10 +68,10 @@ is_document_marker _ = false
 abbrev pub begins_character : ℕ → Bool
 begins_character b = nat_lt b 128 || nat_le 192 b
 
--- the number of characters of a text in UTF-8: of its bytes but 128 to 191, each of which goes on with a character
+-- the number of characters of a text in UTF-8: of its bytes other than 128 to 191, which continue a character
 abbrev pub characters : List ℕ → ℕ
 characters = count_by begins_character
 
--- whether no line may have a character: a control character other than tab, or U+FEFF, U+FFFE or U+FFFF
+-- whether a character is allowed in no line: a control character other than tab, U+FEFF, U+FFFE and U+FFFF
 abbrev pub is_forbidden : ℕ → Bool
 is_forbidden c = (nat_lt c 32 && not (c == 9)) || ((nat_le 127 c && nat_lt c 160) || ((c == 65279) || ((c == 65534) || (c == 65535))))

@@ -1,11 +1,15 @@
--- Blanks, and words without quotes, as they stand on a line.
+-- Blanks, and words without quotes, on a line.
 use Rattle.std.specs.Prelude.{◌≡◌, ℕ, ◌<◌, Bool, true, false, ◌&&◌, ◌||◌, List, [], ◌∷◌, ◌++◌, length, drop, slice_index, ◌==◌}
 use Rattle.std.specs.List.{AllByRecursion}
 use Rattle.yaml_bytes.specs.Bytes.{is_blank, begins_blank, is_flow_indicator, begins_break, begins_word}
 
+-- every byte passes the test p
+abbrev pub Are : (ℕ → Bool) → List ℕ → Type 0
+Are p = AllByRecursion (λ b. p b ≡ true)
+
 -- every byte is a blank
 abbrev pub AreBlank : List ℕ → Type 0
-AreBlank = AllByRecursion (λ b. is_blank b ≡ true)
+AreBlank = Are is_blank
 
 -- what follows the blanks at the front of a text
 pub record IsBehindBlanks (text rest : List ℕ) : Type 0 where
@@ -14,13 +18,13 @@ pub record IsBehindBlanks (text rest : List ℕ) : Type 0 where
   pub parts : text ≡ blanks ++ rest
   pub no_more : begins_blank rest ≡ false
 
--- Whether a plain word ends before what follows: nothing, `#` behind a blank, `:` before a gap, or in flow one of `, [ ] { }` or a `:` directly
--- before one of these.
+-- Whether a plain word ends before what follows: nothing, `#` after a blank, `:` before a gap, or in flow one of `, [ ] { }` or a `:` directly
+-- before one of these. The byte in front is given.
 abbrev pub ends_word : Bool → ℕ → List ℕ → Bool
 ends_word flow before [] = true
 ends_word flow before (b ∷ after) = (flow && is_flow_indicator b) || (((b == 35) && is_blank before) || ((b == 58) && begins_break flow after))
 
--- whether a plain word ends at the place n, where the text counts as one behind a blank
+-- whether a plain word ends at the place n, where the text counts as one after a blank
 abbrev pub ends_word_at : Bool → List ℕ → ℕ → Bool
 ends_word_at flow text n = ends_word flow (slice_index (32 ∷ text) n) (drop n text)
 

@@ -1,7 +1,6 @@
 -- What a pass over a line finds.
 use Rattle.std.specs.Prelude.{ℕ, suc, ◌+◌, ◌-◌, Bool, List, [], ◌∷◌, length, take, drop, Option, Some, None, ◌&&◌, if◌then◌else◌, ◌==◌}
 use Rattle.std.specs.List.{prefix_len}
-use Rattle.std.specs.Borrow.{Bor}
 use Rattle.yaml_bytes.specs.Bytes.{is_blank, begins_gap}
 use Rattle.yaml_bytes.specs.Plain.{ends_word}
 
@@ -24,10 +23,11 @@ trimmed (b ∷ bs) = onto_trimmed b (trimmed bs)
 abbrev pub behind_blanks : List ℕ → List ℕ
 behind_blanks text = drop (prefix_len is_blank text) text
 
--- a plain word with the blanks at its end, and what follows it
+-- a plain word at the front, with the blanks at its end
 abbrev pub word_front : Bool → List ℕ → List ℕ
 word_front flow text = take (word_len flow 32 text) text
 
+-- what follows that
 abbrev pub word_rest : Bool → List ℕ → List ℕ
 word_rest flow text = drop (word_len flow 32 text) text
 
@@ -40,17 +40,12 @@ spaces_len (b ∷ bs) = if b == 32 then suc (spaces_len bs) else 0
 abbrev pub behind_spaces : List ℕ → List ℕ
 behind_spaces text = drop (spaces_len text) text
 
--- what stands behind the `-` of an item
+-- what comes after the `-` of an item
 abbrev pub behind_dash : List ℕ → Option (List ℕ)
 behind_dash [] = None
 behind_dash (b ∷ after) = if (b == 45) && begins_gap after then Some after else None
 
--- a part of a line, where there is one
-abbrev pub text_option_view : Option (Bor (List ℕ)) → Option (List ℕ)
-text_option_view None = None
-text_option_view (Some s) = Some s.now
-
--- A text without its last bytes, as many as `after` has and one more. Where `after` is what stands behind the colon of an entry, that is what stands
+-- A text without its last bytes, as many as `after` has and one more. Where `after` is what comes after the colon of an entry, this is what comes
 -- before the colon.
 abbrev pub before_colon : List ℕ → List ℕ → List ℕ
 before_colon text after = take (length text - (length after + 1)) text

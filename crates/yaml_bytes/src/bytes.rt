@@ -27,7 +27,7 @@ pub fn begins_gap(text: &[u8]) -> bool
     text.is_empty() || begins_blank(text)
 }
 
-/// Whether a byte is one of `, [ ] { }`, which part a list or mapping on one line.
+/// Whether a byte is one of `, [ ] { }`, which separate the parts of a list or mapping on one line.
 pub fn is_flow_indicator(b: u8) -> bool
     ensures { result ≡ is_flow_indicator b }
 {
@@ -51,7 +51,7 @@ pub(crate) fn begins_break(flow: bool, text: &[u8]) -> bool
     (flow && begins_flow_indicator(text)) || begins_gap(text)
 }
 
-/// Whether `:` comes first, and directly behind it one of `, [ ] { }`.
+/// Whether `:` comes first, and directly after it one of `, [ ] { }`.
 pub fn begins_bare_colon(text: &[u8]) -> bool
     ensures { result ≡ begins_bare_colon text.now }
 {
@@ -61,7 +61,7 @@ pub fn begins_bare_colon(text: &[u8]) -> bool
     }
 }
 
-/// Whether nothing comes, or a comment.
+/// Whether nothing more comes but a comment.
 pub fn is_over(text: &[u8]) -> bool
     ensures { result ≡ is_over text.now }
 {
@@ -71,7 +71,7 @@ pub fn is_over(text: &[u8]) -> bool
     }
 }
 
-// Whether a byte begins something other than a plain text.
+// Whether a byte begins something other than a plain word.
 fn is_indicator(b: u8) -> bool
     ensures { result ≡ is_indicator b }
 {
@@ -93,7 +93,7 @@ fn is_indicator(b: u8) -> bool
         || b == b'`'
 }
 
-/// Whether a byte is `-`, `?` or `:`, which begin a plain word only where no gap follows, and in flow
+/// Whether a byte is `-`, `?` or `:`. These begin a plain word only where no gap follows, and in flow
 /// none of `, [ ] { }` either.
 pub fn is_mark(b: u8) -> bool
     ensures { result ≡ is_mark b }
@@ -101,8 +101,8 @@ pub fn is_mark(b: u8) -> bool
     b == b'-' || b == b'?' || b == b':'
 }
 
-/// Whether a plain word may begin so: with no blank, no indicator, and no mark before a gap or in flow
-/// before one of `, [ ] { }`.
+/// Whether a plain word may begin here: with no blank, no indicator, and no mark that a gap follows,
+/// nor in flow one of `, [ ] { }`.
 pub fn begins_word(flow: bool, text: &[u8]) -> bool
     ensures { result ≡ begins_word flow text.now }
 {
@@ -114,7 +114,7 @@ pub fn begins_word(flow: bool, text: &[u8]) -> bool
     }
 }
 
-/// Whether an item begins so: with `-` and a gap behind it.
+/// Whether an item begins here: `-`, and a gap after it.
 pub fn begins_item(text: &[u8]) -> bool
     ensures { result ≡ begins_item text.now }
 {
@@ -138,14 +138,14 @@ pub fn is_document_marker(raw: &[u8]) -> bool
     }
 }
 
-/// Whether a byte begins a character of UTF-8: each does but 128 to 191, which go on with one.
+/// Whether a byte begins a character of UTF-8. Each byte does but 128 to 191, which continue one.
 pub(crate) fn begins_character(b: u8) -> bool
     ensures { result ≡ begins_character b }
 {
     b < 128 || 192 <= b
 }
 
-/// Whether no line may have a character: a control character other than tab, or U+FEFF, U+FFFE or
+/// Whether a character is allowed in no line: a control character other than tab, U+FEFF, U+FFFE and
 /// U+FFFF.
 pub fn is_forbidden(c: char) -> bool
     ensures { result ≡ is_forbidden c }

@@ -4,7 +4,8 @@ ghost use Rattle.std.specs.Prelude.{◌≡◌, ◌≤◌, length};
 ghost use Rattle.std.specs.List.{prefix_len};
 ghost use Rattle.yaml_bytes.specs.Bytes.{is_blank, characters};
 ghost use Rattle.yaml_bytes.specs.Plain.{ends_word};
-ghost use Rattle.yaml_bytes.specs.Scanning.{behind_blanks, trimmed, word_len, word_front, word_rest, spaces_len, behind_spaces, behind_dash, before_colon, text_option_view};
+ghost use Rattle.yaml_bytes.specs.Scanning.{behind_blanks, trimmed, word_len, word_front, word_rest, spaces_len, behind_spaces, behind_dash, before_colon};
+ghost use Rattle.yaml_bytes.specs.View.{option_slice};
 
 use crate::bytes::{begins_break, begins_character, begins_gap, is_blank, is_flow_indicator};
 
@@ -37,7 +38,7 @@ pub fn trimmed(text: &[u8]) -> &[u8]
     rest
 }
 
-// Whether a plain word ends before what follows, behind this byte.
+// Whether a plain word ends before this text, where `before` is the byte in front of it.
 fn ends_word(flow: bool, before: u8, text: &[u8]) -> bool
     ensures { result ≡ ends_word flow before text.now }
 {
@@ -78,8 +79,8 @@ pub fn split_word(flow: bool, text: &[u8]) -> (&[u8], &[u8])
     text.split_at(word_len(flow, text))
 }
 
-/// The number of characters of a text in UTF-8: of its bytes but 128 to 191, each of which goes on
-/// with a character.
+/// The number of characters of a text in UTF-8: of its bytes other than 128 to 191, which continue a
+/// character.
 pub fn characters(text: &[u8]) -> usize
     ensures { result ≡ characters text.now }
 {
@@ -116,9 +117,9 @@ pub fn behind_spaces(text: &[u8]) -> &[u8]
     rest
 }
 
-/// What stands behind the `-` of an item, where a text is one.
+/// What comes after the `-` of an item, where the text is an item.
 pub fn behind_dash(text: &[u8]) -> Option<&[u8]>
-    ensures { text_option_view result ≡ behind_dash text.now }
+    ensures { option_slice (λ after. after) result ≡ behind_dash text.now }
 {
     match text {
         [] => None,
@@ -132,8 +133,8 @@ pub fn behind_dash(text: &[u8]) -> Option<&[u8]>
     }
 }
 
-/// A text without its last bytes, as many as `after` has and one more. Where `after` is what stands
-/// behind the colon of an entry, that is what stands before the colon.
+/// A text without its last bytes, as many as `after` has and one more. Where `after` is what comes
+/// after the colon of an entry, this is what comes before the colon.
 pub fn before_colon<'a>(text: &'a [u8], after: &[u8]) -> &'a [u8]
     ensures { result.now ≡ before_colon text.now after.now }
 {

@@ -1,4 +1,4 @@
--- What stands behind the `-` of a line, as a line at its own column.
+-- What comes after the `-` of a line, as a line at its own column.
 use Rattle.std.proofs.Common.{◌≡◌, ℕ, suc, ◌+◌, List, ◌∷◌, drop, sym, ap, ◌∙◌, arith}
 use Rattle.std.proofs.lemmas.List.{drop-drop}
 use Rattle.yaml_subset.specs.declared.line.Line as lines

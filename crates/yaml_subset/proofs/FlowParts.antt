@@ -3,17 +3,17 @@ use Rattle.std.proofs.Common.{◌≡◌, ◌≢◌, ℕ, zero, suc, ◌≤◌, �
 use Rattle.std.proofs.lemmas.Bool.{cases_Bool, eqb-true, eq-eqb, ne_eqb}
 use Rattle.std.proofs.lemmas.List.{append-nil}
 use Rattle.yaml_subset.specs.declared.fault.FaultKind.TheVariants.{Flow}
-use Rattle.yaml_subset.specs.declared.flaw.Flaw.{Flaw}
+use Rattle.yaml_subset.specs.declared.place.PlacedFault.{PlacedFault}
 use Rattle.yaml_bytes.specs.Bytes.{begins_blank, begins_gap}
-use Rattle.yaml_subset.specs.Part.{◌>>=◌}
+use Rattle.yaml_bytes.specs.Results.{◌>>=◌}
 use Rattle.yaml_bytes.specs.Plain.{IsBehindBlanks}
 use Rattle.yaml_bytes.specs.Scanning.{behind_blanks}
-use Rattle.yaml_subset.specs.Flow.{begins_with, begins_colon, IsClosed, IsParted, ArePartsTo, IsBetween, is_ended, start_at, misplaced, behind_close_at, parted_at, behind_colon_at, parts_at, between_at}
-use Rattle.yaml_subset.proofs.Steps.{bind_ok, guard_true, guard_false, ok_is}
-use Rattle.yaml_subset.proofs.Steps.{chosen}
+use Rattle.yaml_subset.specs.Flow.{begins_with, begins_colon, IsClosed, IsParted, ArePartsTo, IsBetween, is_ended, start_at, unexpected, behind_close_at, parted_at, behind_colon_at, parts_at, between_at}
+use Rattle.yaml_bytes.proofs.Steps.{bind_ok, guard_true, guard_false, ok_is}
+use Rattle.yaml_bytes.proofs.Steps.{chosen}
 use Rattle.yaml_bytes.proofs.PlainTexts.{is_behind_blanks, behind_blanks-is}
 
-abbrev read_to : {A : Type 0} → A → Result A Flaw
+abbrev read_to : {A : Type 0} → A → Result A PlacedFault
 read_to x = Ok x
 
 pub part_is : {A : Type 0} (x y : A) → read_to x ≡ read_to y → x ≡ y
@@ -28,8 +28,8 @@ pub record BeginsPart (text : List ℕ) : Type 0 where
   pub no_mapping_end : first ≢ 125
   pub no_comment : first ≢ 35
 
--- a reader that gives what a text begins with, and what stands behind it, and gives nothing else
-pub record Reads {A : Type 0} (read : List ℕ → Result (A × List ℕ) Flaw) (R : List ℕ → A → List ℕ → Type 0) : Type 0 where
+-- a reader that gives what a text begins with, and what comes after it, and gives nothing else
+pub record Reads {A : Type 0} (read : List ℕ → Result (A × List ℕ) PlacedFault) (R : List ℕ → A → List ℕ → Type 0) : Type 0 where
   pub sound : (text : List ℕ) (x : A) (rest : List ℕ) → read text ≡ Ok (x, rest) → R text x rest
   pub complete : (text : List ℕ) (x : A) (rest : List ℕ) → R text x rest → read text ≡ Ok (x, rest)
   pub shorter : (text : List ℕ) (x : A) (rest : List ℕ) → R text x rest → length rest < length text
@@ -37,7 +37,7 @@ pub record Reads {A : Type 0} (read : List ℕ → Result (A × List ℕ) Flaw) 
 
 -- ---- blanks, commas, colons and closing bytes
 
--- the line's text does not end here, whatever stands in front
+-- the line's text does not end here, whatever is in front
 abbrev pub GoesOn : List ℕ → Type 0
 GoesOn text = (blank : Bool) → is_ended blank text ≡ false
 
@@ -51,15 +51,15 @@ byte_goes_on b bs other blank = rw (ne_eqb b 35 other) (and_false blank)
 pub part_goes_on : (text : List ℕ) → BeginsPart text → GoesOn text
 part_goes_on text p = subst GoesOn (sym p.parts) (byte_goes_on p.first p.others p.no_comment)
 
-pub start_sound : (after text : List ℕ) → start_at after ≡ Ok text → IsBehindBlanks after text
+pub start_sound : (n : ℕ) (after text : List ℕ) → start_at n after ≡ Ok text → IsBehindBlanks after text
 unfolding start_at
-start_sound after text e =
-    let g = guard_false (is_ended (begins_blank after) (behind_blanks after)) (read_to (behind_blanks after)) (record { kind = Flow; left = 0 }) text e in
+start_sound n after text e =
+    let g = guard_false (is_ended (begins_blank after) (behind_blanks after)) (read_to (behind_blanks after)) (record { kind = Flow; line = n; left = 0 }) text e in
     subst (IsBehindBlanks after) (part_is (behind_blanks after) text g.1) (is_behind_blanks after)
 
-pub start_complete : (after text : List ℕ) → IsBehindBlanks after text → GoesOn text → start_at after ≡ Ok text
+pub start_complete : (n : ℕ) (after text : List ℕ) → IsBehindBlanks after text → GoesOn text → start_at n after ≡ Ok text
 unfolding start_at
-start_complete after text h on = rw (behind_blanks-is after text h, on (begins_blank after)) refl
+start_complete n after text h on = rw (behind_blanks-is after text h, on (begins_blank after)) refl
 
 pub behind_shorter : (after text : List ℕ) → IsBehindBlanks after text → length text ≤ length after
 behind_shorter after text h = omega (arith, ap length h.parts, length-append h.blanks text)
@@ -71,11 +71,11 @@ begins_with-is b (c ∷ cs) e = (cs, ap (λ (x : ℕ). x ∷ cs) (eqb-true c b e
 pub begins_with-here : (b : ℕ) (text after : List ℕ) → text ≡ b ∷ after → begins_with b text ≡ true
 begins_with-here b text after e = rw e (eq-eqb b b refl)
 
-close_sound : (close : ℕ) (text rest : List ℕ) → begins_with close text ≡ true → behind_close_at text ≡ Ok rest → IsClosed close text rest
+close_sound : (n : ℕ) (close : ℕ) (text rest : List ℕ) → begins_with close text ≡ true → behind_close_at n text ≡ Ok rest → IsClosed close text rest
 unfolding behind_close_at
-close_sound close [] rest b e = absurd cc
-close_sound close (c ∷ after) rest b e =
-    let g = guard_false (begins_with 35 after) (read_to (behind_blanks after)) (record { kind = Flow; left = length after }) rest e in
+close_sound n close [] rest b e = absurd cc
+close_sound n close (c ∷ after) rest b e =
+    let g = guard_false (begins_with 35 after) (read_to (behind_blanks after)) (record { kind = Flow; line = n; left = length after }) rest e in
     record {
       after = after;
       closes = ap (λ (x : ℕ). x ∷ after) (eqb-true c close b);
@@ -83,25 +83,25 @@ close_sound close (c ∷ after) rest b e =
       behind = subst (IsBehindBlanks after) (part_is (behind_blanks after) rest g.1) (is_behind_blanks after);
     }
 
-close_complete : (close : ℕ) (text rest : List ℕ) → IsClosed close text rest → behind_close_at text ≡ Ok rest
+close_complete : (n : ℕ) (close : ℕ) (text rest : List ℕ) → IsClosed close text rest → behind_close_at n text ≡ Ok rest
 unfolding behind_close_at
-close_complete close text rest h = rw (h.closes, h.apart, behind_blanks-is h.after rest h.behind) refl
+close_complete n close text rest h = rw (h.closes, h.apart, behind_blanks-is h.after rest h.behind) refl
 
-pub parted_sound : (close : ℕ) (text next : List ℕ) → parted_at close text ≡ Ok next → IsParted close text next
+pub parted_sound : (n : ℕ) (close : ℕ) (text next : List ℕ) → parted_at n close text ≡ Ok next → IsParted close text next
 unfolding parted_at
-parted_sound close [] next e = absurd cc
-parted_sound close (b ∷ after) next e =
-    elim (chosen (b == 44) (start_at after) (cond (b == close) (Ok (b ∷ after)) (Err (misplaced (b ∷ after)))) (Ok next) e) [
-      | inl p ↦ inl (after, ap (λ (x : ℕ). x ∷ after) (eqb-true b 44 p.0), start_sound after next p.1)
+parted_sound n close [] next e = absurd cc
+parted_sound n close (b ∷ after) next e =
+    elim (chosen (b == 44) (start_at n after) (cond (b == close) (Ok (b ∷ after)) (Err (unexpected n (b ∷ after)))) (Ok next) e) [
+      | inl p ↦ inl (after, ap (λ (x : ℕ). x ∷ after) (eqb-true b 44 p.0), start_sound n after next p.1)
       | inr p ↦
-          let g = guard_true (b == close) (read_to (b ∷ after)) (misplaced (b ∷ after)) next p.1 in
+          let g = guard_true (b == close) (read_to (b ∷ after)) (unexpected n (b ∷ after)) next p.1 in
           inr (g.0, sym (part_is (b ∷ after) next g.1))
     ]
 
-pub parted_complete : (close : ℕ) (text next : List ℕ) → close ≢ 44 → GoesOn next → IsParted close text next → parted_at close text ≡ Ok next
+pub parted_complete : (n : ℕ) (close : ℕ) (text next : List ℕ) → close ≢ 44 → GoesOn next → IsParted close text next → parted_at n close text ≡ Ok next
 unfolding parted_at
-parted_complete close text next other on (inl p) = rw p.1 (start_complete p.0 next p.2 on)
-parted_complete close text next other on (inr p) =
+parted_complete n close text next other on (inl p) = rw p.1 (start_complete n p.0 next p.2 on)
+parted_complete n close text next other on (inr p) =
     let h = begins_with-is close text p.0 in
     rw (p.1, h.1, ne_eqb close 44 other, eq-eqb close close refl) refl
 
@@ -109,14 +109,14 @@ parted_shorter : (close : ℕ) (text next : List ℕ) → IsParted close text ne
 parted_shorter close text next (inl p) = omega (arith, ap length p.1, behind_shorter p.0 next p.2)
 parted_shorter close text next (inr p) = omega (arith, ap length p.1)
 
-pub parted_less : (close : ℕ) (text next : List ℕ) → parted_at close text ≡ Ok next → length next ≤ length text
-parted_less close text next e = parted_shorter close text next (parted_sound close text next e)
+pub parted_less : (n : ℕ) (close : ℕ) (text next : List ℕ) → parted_at n close text ≡ Ok next → length next ≤ length text
+parted_less n close text next e = parted_shorter close text next (parted_sound n close text next e)
 
-pub colon_sound : (text after : List ℕ) → behind_colon_at text ≡ Ok after → (text ≡ 58 ∷ after) × (begins_gap after ≡ true)
+pub colon_sound : (n : ℕ) (text after : List ℕ) → behind_colon_at n text ≡ Ok after → (text ≡ 58 ∷ after) × (begins_gap after ≡ true)
 unfolding behind_colon_at
-colon_sound [] after e = absurd cc
-colon_sound (b ∷ bs) after e =
-    let g = guard_true (begins_colon (b ∷ bs)) (read_to bs) (misplaced (b ∷ bs)) after e in
+colon_sound n [] after e = absurd cc
+colon_sound n (b ∷ bs) after e =
+    let g = guard_true (begins_colon (b ∷ bs)) (read_to bs) (unexpected n (b ∷ bs)) after e in
     let same : bs ≡ after = part_is bs after g.1 in
     elim (cases_Bool (b == 58)) [
       | inl t ↦
@@ -125,9 +125,9 @@ colon_sound (b ∷ bs) after e =
       | inr f ↦ let none = rw f at g.0 in absurd cc
     ]
 
-pub colon_complete : (after : List ℕ) → begins_gap after ≡ true → behind_colon_at (58 ∷ after) ≡ Ok after
+pub colon_complete : (n : ℕ) (after : List ℕ) → begins_gap after ≡ true → behind_colon_at n (58 ∷ after) ≡ Ok after
 unfolding behind_colon_at
-colon_complete after gap = rw gap refl
+colon_complete n after gap = rw gap refl
 
 -- ---- parts
 
@@ -146,7 +146,7 @@ closes_list = record { no_comma = λ e. omega (arith, e); no_comment = λ e. ome
 pub closes_mapping : IsCloser 125
 closes_mapping = record { no_comma = λ e. omega (arith, e); no_comment = λ e. omega (arith, e); no_part = λ text p. no_begin 125 text p p.no_mapping_end }
 
-module _ {A : Type 0} (close : ℕ) (closer : IsCloser close) (part : List A → List ℕ → Result (A × List ℕ) Flaw) (R : List A → List ℕ → A → List ℕ → Type 0) (reads : (before : List A) → Reads (part before) (R before)) where
+module _ {A : Type 0} (n close : ℕ) (closer : IsCloser close) (part : List A → List ℕ → Result (A × List ℕ) PlacedFault) (R : List A → List ℕ → A → List ℕ → Type 0) (reads : (before : List A) → Reads (part before) (R before)) where
   parts_go_on : (before : List A) (text : List ℕ) (xs : List A) (rest : List ℕ) → ArePartsTo close R before text xs rest → GoesOn text
   parts_go_on before text [] rest h = subst GoesOn (sym h.closes) (byte_goes_on close h.after closer.no_comment)
   parts_go_on before text (x ∷ xs) rest h = part_goes_on text ((reads before).begins text x h.0 h.2)
@@ -156,47 +156,47 @@ module _ {A : Type 0} (close : ℕ) (closer : IsCloser close) (part : List A →
   parts_shorter before text (x ∷ xs) rest h =
       omega (arith, (reads before).shorter text x h.0 h.2, parted_shorter close h.0 h.1 h.3, parts_shorter (before ++ x ∷ []) h.1 xs rest h.4)
 
-  parts_sound : (k : ℕ) (before : List A) (text : List ℕ) (all : List A) (rest : List ℕ) → parts_at close part k before text ≡ Ok (all, rest) → (xs : List A) × (all ≡ before ++ xs) × ArePartsTo close R before text xs rest
+  parts_sound : (k : ℕ) (before : List A) (text : List ℕ) (all : List A) (rest : List ℕ) → parts_at n close part k before text ≡ Ok (all, rest) → (xs : List A) × (all ≡ before ++ xs) × ArePartsTo close R before text xs rest
   unfolding parts_at
   parts_sound zero before text all rest e = absurd cc
   parts_sound (suc k) before text all rest e =
-      elim (chosen (begins_with close text) (behind_close_at text >>= λ after. Ok (before, after)) (part before text >>= λ p. parted_at close p.1 >>= λ next. parts_at close part k (before ++ p.0 ∷ []) next) (Ok (all, rest)) e) [
+      elim (chosen (begins_with close text) (behind_close_at n text >>= λ after. Ok (before, after)) (part before text >>= λ p. parted_at n close p.1 >>= λ next. parts_at n close part k (before ++ p.0 ∷ []) next) (Ok (all, rest)) e) [
         | inl p ↦
-            let b = bind_ok (behind_close_at text) (λ after. Ok (before, after)) (all, rest) p.1 in
+            let b = bind_ok (behind_close_at n text) (λ after. Ok (before, after)) (all, rest) p.1 in
             let q = part_is (before, b.0) (all, rest) b.2 in
             let same : all ≡ before = sym (ap (λ (z : List A × List ℕ). z.0) q) in
             let ends : b.0 ≡ rest = ap (λ (z : List A × List ℕ). z.1) q in
-            ([], same ∙ sym (append-nil before), subst (IsClosed close text) ends (close_sound close text b.0 p.0 b.1))
+            ([], same ∙ sym (append-nil before), subst (IsClosed close text) ends (close_sound n close text b.0 p.0 b.1))
         | inr p ↦
-            let b = bind_ok (part before text) (λ p. parted_at close p.1 >>= λ next. parts_at close part k (before ++ p.0 ∷ []) next) (all, rest) p.1 in
-            let c = bind_ok (parted_at close b.0.1) (λ next. parts_at close part k (before ++ b.0.0 ∷ []) next) (all, rest) b.2 in
+            let b = bind_ok (part before text) (λ p. parted_at n close p.1 >>= λ next. parts_at n close part k (before ++ p.0 ∷ []) next) (all, rest) p.1 in
+            let c = bind_ok (parted_at n close b.0.1) (λ next. parts_at n close part k (before ++ b.0.0 ∷ []) next) (all, rest) b.2 in
             let r = parts_sound k (before ++ b.0.0 ∷ []) c.0 all rest c.2 in
-            (b.0.0 ∷ r.0, r.1 ∙ append_assoc before (b.0.0 ∷ []) r.0, (b.0.1, c.0, (reads before).sound text b.0.0 b.0.1 b.1, parted_sound close b.0.1 c.0 c.1, r.2))
+            (b.0.0 ∷ r.0, r.1 ∙ append_assoc before (b.0.0 ∷ []) r.0, (b.0.1, c.0, (reads before).sound text b.0.0 b.0.1 b.1, parted_sound n close b.0.1 c.0 c.1, r.2))
       ]
 
-  parts_complete : (k : ℕ) (before : List A) (text : List ℕ) (xs : List A) (rest : List ℕ) → length text < k → ArePartsTo close R before text xs rest → parts_at close part k before text ≡ Ok (before ++ xs, rest)
+  parts_complete : (k : ℕ) (before : List A) (text : List ℕ) (xs : List A) (rest : List ℕ) → length text < k → ArePartsTo close R before text xs rest → parts_at n close part k before text ≡ Ok (before ++ xs, rest)
   unfolding parts_at
   parts_complete zero before text xs rest lt h = absurd (omega arith)
   parts_complete (suc k) before text [] rest lt h =
-      rw (begins_with-here close text h.after h.closes, close_complete close text rest h) (ap (λ (ys : List A). Ok (ys, rest)) (sym (append-nil before)))
+      rw (begins_with-here close text h.after h.closes, close_complete n close text rest h) (ap (λ (ys : List A). Ok (ys, rest)) (sym (append-nil before)))
   parts_complete (suc k) before text (x ∷ xs) rest lt h =
       let none = closer.no_part text ((reads before).begins text x h.0 h.2) in
       let one = (reads before).complete text x h.0 h.2 in
-      let on = parted_complete close h.0 h.1 closer.no_comma (parts_go_on (before ++ x ∷ []) h.1 xs rest h.4) h.3 in
+      let on = parted_complete n close h.0 h.1 closer.no_comma (parts_go_on (before ++ x ∷ []) h.1 xs rest h.4) h.3 in
       let less : length h.1 < k = omega (arith, (reads before).shorter text x h.0 h.2, parted_shorter close h.0 h.1 h.3) in
       rw (none, one, on, parts_complete k (before ++ x ∷ []) h.1 xs rest less h.4) (ap (λ (ys : List A). Ok (ys, rest)) (append_assoc before (x ∷ []) xs))
 
-  pub between_sound : (opening : ℕ) (after : List ℕ) (xs : List A) (rest : List ℕ) → between_at close part after ≡ Ok (xs, rest) → IsBetween opening close R (opening ∷ after) xs rest
+  pub between_sound : (opening : ℕ) (after : List ℕ) (xs : List A) (rest : List ℕ) → between_at n close part after ≡ Ok (xs, rest) → IsBetween opening close R (opening ∷ after) xs rest
   unfolding between_at
   between_sound opening after xs rest e =
-      let b = bind_ok (start_at after) (λ body. parts_at close part (suc (length body)) [] body) (xs, rest) e in
+      let b = bind_ok (start_at n after) (λ body. parts_at n close part (suc (length body)) [] body) (xs, rest) e in
       let p = parts_sound (suc (length b.0)) [] b.0 xs rest b.2 in
-      record { after = after; opens = refl; body = b.0; behind = start_sound after b.0 b.1; each = subst (λ ys. ArePartsTo close R [] b.0 ys rest) (sym p.1) p.2 }
+      record { after = after; opens = refl; body = b.0; behind = start_sound n after b.0 b.1; each = subst (λ ys. ArePartsTo close R [] b.0 ys rest) (sym p.1) p.2 }
 
-  pub between_complete : (opening : ℕ) (text : List ℕ) (xs : List A) (rest : List ℕ) (h : IsBetween opening close R text xs rest) → between_at close part h.after ≡ Ok (xs, rest)
+  pub between_complete : (opening : ℕ) (text : List ℕ) (xs : List A) (rest : List ℕ) (h : IsBetween opening close R text xs rest) → between_at n close part h.after ≡ Ok (xs, rest)
   unfolding between_at
   between_complete opening text xs rest h =
-      rw (start_complete h.after h.body h.behind (parts_go_on [] h.body xs rest h.each)) (parts_complete (suc (length h.body)) [] h.body xs rest (omega arith) h.each)
+      rw (start_complete n h.after h.body h.behind (parts_go_on [] h.body xs rest h.each)) (parts_complete (suc (length h.body)) [] h.body xs rest (omega arith) h.each)
 
   pub between_shorter : (opening : ℕ) (text : List ℕ) (xs : List A) (rest : List ℕ) → IsBetween opening close R text xs rest → length rest < length text
   between_shorter opening text xs rest h =

@@ -3,33 +3,34 @@ use Rattle.std.proofs.Common.{◌≡◌, ℕ, zero, suc, ◌+◌, ◌-◌, ◌�
 use Rattle.std.proofs.lemmas.Bool.{eqb-true, le-ltb, ltb-false}
 use Rattle.std.proofs.Math.Seq.{take-append_seam}
 use Rattle.yaml_subset.specs.declared.fault.FaultKind.TheVariants.{DuplicateKey, Flow, NotInSubset}
-use Rattle.yaml_subset.specs.declared.flaw.Flaw.{Flaw}
+use Rattle.yaml_subset.specs.declared.place.PlacedFault.{PlacedFault}
 use Rattle.yaml_bytes.specs.Bytes.{characters}
 use Rattle.yaml_subset.specs.Keys.{is_among}
 use Rattle.yaml_subset.specs.Node.{Node, scalar, sequence, mapping, Pair, nodes_of, pairs_of}
-use Rattle.yaml_subset.specs.Part.{◌>>=◌, flaw_at}
-use Rattle.yaml_subset.specs.Words.{IsWord, word_at}
+use Rattle.yaml_bytes.specs.Results.{◌>>=◌}
+use Rattle.yaml_subset.specs.Placed.{fault_at}
+use Rattle.yaml_subset.specs.Words.{IsWordAt, word_at}
 use Rattle.yaml_subset.specs.Flow.{begins_bracket, keys_of, ArePartsTo, IsBetween, IsFlowPair, IsBracketed, IsFlowValue, IsFlow, start_at, behind_colon_at, between_at, flow_pair_at, flow_list_at, flow_mapping_at, bracketed_at, flow_value_at, flow_at}
 use Rattle.yaml_subset.proofs.KeySets.{fresh_sound, fresh_complete}
-use Rattle.yaml_subset.proofs.Steps.{bind_ok, guard_true, guard_false}
-use Rattle.yaml_subset.proofs.Steps.{chosen}
+use Rattle.yaml_bytes.proofs.Steps.{bind_ok, guard_true, guard_false}
+use Rattle.yaml_bytes.proofs.Steps.{chosen}
 use Rattle.yaml_subset.proofs.WordTexts.{word_parts}
 use Rattle.yaml_subset.proofs.FlowParts.{part_is, BeginsPart, Reads, part_goes_on, start_sound, start_complete, behind_shorter, colon_sound, colon_complete, closes_list, closes_mapping, between_sound, between_complete, between_shorter}
 use Rattle.yaml_subset.proofs.FlowWords.{word_begins_part, word_reads}
 
 abbrev pub ValueReader : Type 0
-ValueReader = List ℕ → Result (Node × List ℕ) Flaw
+ValueReader = List ℕ → Result (Node × List ℕ) PlacedFault
 
 abbrev pub ValueRelation : Type 1
 ValueRelation = List ℕ → Node → List ℕ → Type 0
 
--- what stands in front of the rest
+-- what is in front of the rest
 front_is : (text front rest : List ℕ) → text ≡ front ++ rest → take (length text - length rest) text ≡ front
 front_is text front rest e =
     let k : length front ≡ length text - length rest = omega (arith, ap length e, length-append front rest) in
     subst (λ n. take n text ≡ front) k (ap (take (length front)) e ∙ take-append_seam front rest)
 
-bind_same : {A B : Type 0} (r : Result A Flaw) (f g : A → Result B Flaw) → ((x : A) → f x ≡ g x) → (r >>= f) ≡ (r >>= g)
+bind_same : {A B : Type 0} (r : Result A PlacedFault) (f g : A → Result B PlacedFault) → ((x : A) → f x ≡ g x) → (r >>= f) ≡ (r >>= g)
 bind_same (Ok x) f g same = same x
 bind_same (Err e) f g same = refl
 
@@ -37,48 +38,48 @@ bind_same (Err e) f g same = refl
 
 module _ (n : ℕ) (value : ValueReader) where
   -- a pair whose value was read, and the steps before that, the last first
-  abbrev made : List ℕ → Node × List ℕ → Result (Pair × List ℕ) Flaw
+  abbrev made : List ℕ → Node × List ℕ → Result (Pair × List ℕ) PlacedFault
   made key v = Ok (record { line = n; key = key; value = v.0 }, v.1)
 
-  abbrev inside : List ℕ → List ℕ → Result (Pair × List ℕ) Flaw
-  inside key after = start_at after >>= λ inner. value inner >>= made key
+  abbrev inside : List ℕ → List ℕ → Result (Pair × List ℕ) PlacedFault
+  inside key after = start_at n after >>= λ inner. value inner >>= made key
 
-  abbrev measured : List ℕ → List ℕ × List ℕ → List ℕ → Result (Pair × List ℕ) Flaw
-  measured text w after = cond (ltb 1024 (characters (take (length text - length w.1) text))) (flaw_at NotInSubset (length w.1)) (inside w.0 after)
+  abbrev measured : List ℕ → List ℕ × List ℕ → List ℕ → Result (Pair × List ℕ) PlacedFault
+  measured text w after = cond (ltb 1024 (characters (take (length text - length w.1) text))) (fault_at NotInSubset n (length w.1)) (inside w.0 after)
 
-  abbrev compared : List (List ℕ) → List ℕ → List ℕ × List ℕ → List ℕ → Result (Pair × List ℕ) Flaw
-  compared keys text w after = cond (is_among keys w.0) (flaw_at DuplicateKey (length text)) (measured text w after)
+  abbrev compared : List (List ℕ) → List ℕ → List ℕ × List ℕ → List ℕ → Result (Pair × List ℕ) PlacedFault
+  compared keys text w after = cond (is_among keys w.0) (fault_at DuplicateKey n (length text)) (measured text w after)
 
-  abbrev behind_key : List (List ℕ) → List ℕ → List ℕ × List ℕ → Result (Pair × List ℕ) Flaw
-  behind_key keys text w = behind_colon_at w.1 >>= compared keys text w
+  abbrev behind_key : List (List ℕ) → List ℕ → List ℕ × List ℕ → Result (Pair × List ℕ) PlacedFault
+  behind_key keys text w = behind_colon_at n w.1 >>= compared keys text w
 
   -- a key is compared with those before it, whatever their order
   pub pair_same : (keys others : List (List ℕ)) (text : List ℕ) → ((q : List ℕ) → is_among keys q ≡ is_among others q) → flow_pair_at n value keys text ≡ flow_pair_at n value others text
   unfolding flow_pair_at
   pair_same keys others text same =
-      bind_same (word_at true text) (behind_key keys text) (behind_key others text)
-      (λ w. bind_same (behind_colon_at w.1) (compared keys text w) (compared others text w) (λ after. rw (same w.0) refl))
+      bind_same (word_at n true text) (behind_key keys text) (behind_key others text)
+      (λ w. bind_same (behind_colon_at n w.1) (compared keys text w) (compared others text w) (λ after. rw (same w.0) refl))
 
 module _ (n : ℕ) (value : ValueReader) (R : ValueRelation) (reads : Reads value R) where
   pair_of : (before : List Pair) (text : List ℕ) (w : List ℕ × List ℕ) (after inner : List ℕ) (v : Node × List ℕ) (p : Pair) (rest : List ℕ)
-      → word_at true text ≡ Ok w → behind_colon_at w.1 ≡ Ok after → is_among (keys_of before) w.0 ≡ false → ltb 1024 (characters (take (length text - length w.1) text)) ≡ false → start_at after ≡ Ok inner → value inner ≡ Ok v
+      → word_at n true text ≡ Ok w → behind_colon_at n w.1 ≡ Ok after → is_among (keys_of before) w.0 ≡ false → ltb 1024 (characters (take (length text - length w.1) text)) ≡ false → start_at n after ≡ Ok inner → value inner ≡ Ok v
       → made n value w.0 v ≡ Ok (p, rest) → IsFlowPair n R before text p rest
   pair_of before text w after inner v p rest e c a l s r m =
-      let colon = colon_sound w.1 after c in
-      let is_word = word_reads.sound text w.0 w.1 e in
+      let colon = colon_sound n w.1 after c in
+      let is_word = (word_reads n).sound text w.0 w.1 e in
       let f = word_parts true text w.0 w.1 is_word in
       let few : characters (take (length text - length w.1) text) ≤ 1024 = ltb-false 1024 (characters (take (length text - length w.1) text)) l in
       subst (λ (q : Pair × List ℕ). IsFlowPair n R before text q.0 q.1) (part_is (record { line = n; key = w.0; value = v.0 }, v.1) (p, rest) m) (record {
         line = refl;
         after = after;
-        is_key = subst (IsWord true text w.0) colon.0 is_word;
+        is_key = subst (IsWordAt true text w.0) colon.0 is_word;
         gap = colon.1;
         fresh = fresh_sound (keys_of before) w.0 a;
         front = f.0;
         parts = f.1 ∙ ap (λ (xs : List ℕ). f.0 ++ xs) colon.0;
         near = subst (λ xs. characters xs ≤ 1024) (front_is text f.0 w.1 f.1) few;
         inner = inner;
-        behind = start_sound after inner s;
+        behind = start_sound n after inner s;
         value = reads.sound inner v.0 v.1 r;
       })
 
@@ -86,11 +87,11 @@ module _ (n : ℕ) (value : ValueReader) (R : ValueRelation) (reads : Reads valu
   unfolding flow_pair_at
   pair_sound before text p rest e =
       let keys = keys_of before in
-      let w = bind_ok (word_at true text) (behind_key n value keys text) (p, rest) e in
-      let c = bind_ok (behind_colon_at w.0.1) (compared n value keys text w.0) (p, rest) w.2 in
-      let a = guard_false (is_among keys w.0.0) (measured n value text w.0 c.0) (record { kind = DuplicateKey; left = length text }) (p, rest) c.2 in
-      let l = guard_false (ltb 1024 (characters (take (length text - length w.0.1) text))) (inside n value w.0.0 c.0) (record { kind = NotInSubset; left = length w.0.1 }) (p, rest) a.1 in
-      let s = bind_ok (start_at c.0) (λ inner. value inner >>= made n value w.0.0) (p, rest) l.1 in
+      let w = bind_ok (word_at n true text) (behind_key n value keys text) (p, rest) e in
+      let c = bind_ok (behind_colon_at n w.0.1) (compared n value keys text w.0) (p, rest) w.2 in
+      let a = guard_false (is_among keys w.0.0) (measured n value text w.0 c.0) (record { kind = DuplicateKey; line = n; left = length text }) (p, rest) c.2 in
+      let l = guard_false (ltb 1024 (characters (take (length text - length w.0.1) text))) (inside n value w.0.0 c.0) (record { kind = NotInSubset; line = n; left = length w.0.1 }) (p, rest) a.1 in
+      let s = bind_ok (start_at n c.0) (λ inner. value inner >>= made n value w.0.0) (p, rest) l.1 in
       let v = bind_ok (value s.0) (made n value w.0.0) (p, rest) s.2 in
       pair_of before text w.0 c.0 s.0 v.0 p rest w.1 c.1 a.0 l.0 s.1 v.1 v.2
 
@@ -99,8 +100,8 @@ module _ (n : ℕ) (value : ValueReader) (R : ValueRelation) (reads : Reads valu
   pair_complete before text p rest h =
       let few : ltb 1024 (characters (take (length text - length (58 ∷ h.after)) text)) ≡ false =
       subst (λ xs. ltb 1024 (characters xs) ≡ false) (sym (front_is text h.front (58 ∷ h.after) h.parts)) (le-ltb 1024 (characters h.front) h.near) in
-      let inside = start_complete h.after h.inner h.behind (part_goes_on h.inner (reads.begins h.inner p.value rest h.value)) in
-      rw (word_reads.complete text p.key (58 ∷ h.after) h.is_key, colon_complete h.after h.gap, fresh_complete (keys_of before) p.key h.fresh, few, inside, reads.complete h.inner p.value rest h.value)
+      let inside = start_complete n h.after h.inner h.behind (part_goes_on h.inner (reads.begins h.inner p.value rest h.value)) in
+      rw ((word_reads n).complete text p.key (58 ∷ h.after) h.is_key, colon_complete n h.after h.gap, fresh_complete (keys_of before) p.key h.fresh, few, inside, reads.complete h.inner p.value rest h.value)
       (ap (λ (m : ℕ). Ok (record { line = m; key = p.key; value = p.value }, rest)) (sym h.line))
 
   pair_shorter : (before : List Pair) (text : List ℕ) (p : Pair) (rest : List ℕ) → IsFlowPair n R before text p rest → length rest < length text
@@ -120,43 +121,43 @@ module _ (n : ℕ) (value : ValueReader) (R : ValueRelation) (reads : Reads valu
   list_sound : (after : List ℕ) (t : Node) (rest : List ℕ) → flow_list_at n value after ≡ Ok (t, rest) → (items : List Node) × IsBetween 91 93 (λ before. R) (91 ∷ after) items rest × (t ≡ sequence n (nodes_of items))
   unfolding flow_list_at
   list_sound after t rest e =
-      let b = bind_ok (between_at 93 (λ before. value) after) (λ r. Ok (sequence n (nodes_of r.0), r.1)) (t, rest) e in
+      let b = bind_ok (between_at n 93 (λ before. value) after) (λ r. Ok (sequence n (nodes_of r.0), r.1)) (t, rest) e in
       let q = part_is (sequence n (nodes_of b.0.0), b.0.1) (t, rest) b.2 in
       let ends : b.0.1 ≡ rest = ap (λ (z : Node × List ℕ). z.1) q in
-      let between : IsBetween 91 93 (λ before. R) (91 ∷ after) b.0.0 b.0.1 = between_sound 93 closes_list (λ before. value) (λ before. R) (λ before. reads) 91 after b.0.0 b.0.1 b.1 in
+      let between : IsBetween 91 93 (λ before. R) (91 ∷ after) b.0.0 b.0.1 = between_sound n 93 closes_list (λ before. value) (λ before. R) (λ before. reads) 91 after b.0.0 b.0.1 b.1 in
       (b.0.0, subst (IsBetween 91 93 (λ before. R) (91 ∷ after) b.0.0) ends between, sym (ap (λ (z : Node × List ℕ). z.0) q))
 
   mapping_sound : (after : List ℕ) (t : Node) (rest : List ℕ) → flow_mapping_at n value after ≡ Ok (t, rest) → (pairs : List Pair) × IsBetween 123 125 (IsFlowPair n R) (123 ∷ after) pairs rest × (t ≡ mapping n (pairs_of pairs))
   unfolding flow_mapping_at
   mapping_sound after t rest e =
-      let part : List Pair → List ℕ → Result (Pair × List ℕ) Flaw = λ before. flow_pair_at n value (keys_of before) in
-      let b = bind_ok (between_at 125 part after) (λ r. Ok (mapping n (pairs_of r.0), r.1)) (t, rest) e in
+      let part : List Pair → List ℕ → Result (Pair × List ℕ) PlacedFault = λ before. flow_pair_at n value (keys_of before) in
+      let b = bind_ok (between_at n 125 part after) (λ r. Ok (mapping n (pairs_of r.0), r.1)) (t, rest) e in
       let q = part_is (mapping n (pairs_of b.0.0), b.0.1) (t, rest) b.2 in
       let ends : b.0.1 ≡ rest = ap (λ (z : Node × List ℕ). z.1) q in
-      let between : IsBetween 123 125 (IsFlowPair n R) (123 ∷ after) b.0.0 b.0.1 = between_sound 125 closes_mapping part (IsFlowPair n R) pair_reads 123 after b.0.0 b.0.1 b.1 in
+      let between : IsBetween 123 125 (IsFlowPair n R) (123 ∷ after) b.0.0 b.0.1 = between_sound n 125 closes_mapping part (IsFlowPair n R) pair_reads 123 after b.0.0 b.0.1 b.1 in
       (b.0.0, subst (IsBetween 123 125 (IsFlowPair n R) (123 ∷ after) b.0.0) ends between, sym (ap (λ (z : Node × List ℕ). z.0) q))
 
   bracketed_sound : (text : List ℕ) (t : Node) (rest : List ℕ) → bracketed_at n value text ≡ Ok (t, rest) → IsBracketed n R text t rest
   unfolding bracketed_at
   bracketed_sound [] t rest e = absurd cc
   bracketed_sound (b ∷ after) t rest e =
-      elim (chosen (b == 91) (flow_list_at n value after) (cond (b == 123) (flow_mapping_at n value after) (flaw_at Flow (length (b ∷ after)))) (Ok (t, rest)) e) [
+      elim (chosen (b == 91) (flow_list_at n value after) (cond (b == 123) (flow_mapping_at n value after) (fault_at Flow n (length (b ∷ after)))) (Ok (t, rest)) e) [
         | inl p ↦ inl (subst (λ (x : ℕ). (items : List Node) × IsBetween 91 93 (λ before. R) (x ∷ after) items rest × (t ≡ sequence n (nodes_of items))) (sym (eqb-true b 91 p.0)) (list_sound after t rest p.1))
         | inr p ↦
-            let g = guard_true (b == 123) (flow_mapping_at n value after) (record { kind = Flow; left = length (b ∷ after) }) (t, rest) p.1 in
+            let g = guard_true (b == 123) (flow_mapping_at n value after) (record { kind = Flow; line = n; left = length (b ∷ after) }) (t, rest) p.1 in
             inr (subst (λ (x : ℕ). (pairs : List Pair) × IsBetween 123 125 (IsFlowPair n R) (x ∷ after) pairs rest × (t ≡ mapping n (pairs_of pairs))) (sym (eqb-true b 123 g.0)) (mapping_sound after t rest g.1))
       ]
 
   bracketed_complete : (text : List ℕ) (t : Node) (rest : List ℕ) → IsBracketed n R text t rest → bracketed_at n value text ≡ Ok (t, rest)
   unfolding bracketed_at flow_list_at flow_mapping_at
   bracketed_complete text t rest (inl h) =
-      rw (h.1.opens, between_complete 93 closes_list (λ before. value) (λ before. R) (λ before. reads) 91 text h.0 rest h.1, h.2) refl
+      rw (h.1.opens, between_complete n 93 closes_list (λ before. value) (λ before. R) (λ before. reads) 91 text h.0 rest h.1, h.2) refl
   bracketed_complete text t rest (inr h) =
-      rw (h.1.opens, between_complete 125 closes_mapping (λ before. flow_pair_at n value (keys_of before)) (IsFlowPair n R) pair_reads 123 text h.0 rest h.1, h.2) refl
+      rw (h.1.opens, between_complete n 125 closes_mapping (λ before. flow_pair_at n value (keys_of before)) (IsFlowPair n R) pair_reads 123 text h.0 rest h.1, h.2) refl
 
   bracketed_shorter : (text : List ℕ) (t : Node) (rest : List ℕ) → IsBracketed n R text t rest → length rest < length text
-  bracketed_shorter text t rest (inl h) = between_shorter 93 closes_list (λ before. value) (λ before. R) (λ before. reads) 91 text h.0 rest h.1
-  bracketed_shorter text t rest (inr h) = between_shorter 125 closes_mapping (λ before. flow_pair_at n value (keys_of before)) (IsFlowPair n R) pair_reads 123 text h.0 rest h.1
+  bracketed_shorter text t rest (inl h) = between_shorter n 93 closes_list (λ before. value) (λ before. R) (λ before. reads) 91 text h.0 rest h.1
+  bracketed_shorter text t rest (inr h) = between_shorter n 125 closes_mapping (λ before. flow_pair_at n value (keys_of before)) (IsFlowPair n R) pair_reads 123 text h.0 rest h.1
 
 bracketed_begins : (n : ℕ) (R : ValueRelation) (text : List ℕ) (t : Node) (rest : List ℕ) → IsBracketed n R text t rest → BeginsPart text × (begins_bracket text ≡ true)
 bracketed_begins n R text t rest (inl h) =
@@ -170,26 +171,26 @@ module _ (n : ℕ) (inner : ValueReader) (R : ValueRelation) (reads : Reads inne
   value_sound : (text : List ℕ) (t : Node) (rest : List ℕ) → flow_value_at n inner text ≡ Ok (t, rest) → IsFlowValue n R text t rest
   unfolding flow_value_at
   value_sound text t rest e =
-      elim (chosen (begins_bracket text) (inner text) (word_at true text >>= λ w. Ok (scalar n w.0, w.1)) (Ok (t, rest)) e) [
+      elim (chosen (begins_bracket text) (inner text) (word_at n true text >>= λ w. Ok (scalar n w.0, w.1)) (Ok (t, rest)) e) [
         | inl p ↦ inr (reads.sound text t rest p.1)
         | inr p ↦
-            let b = bind_ok (word_at true text) (λ w. Ok (scalar n w.0, w.1)) (t, rest) p.1 in
+            let b = bind_ok (word_at n true text) (λ w. Ok (scalar n w.0, w.1)) (t, rest) p.1 in
             let q = part_is (scalar n b.0.0, b.0.1) (t, rest) b.2 in
             let ends : b.0.1 ≡ rest = ap (λ (z : Node × List ℕ). z.1) q in
-            inl (b.0.0, subst (IsWord true text b.0.0) ends (word_reads.sound text b.0.0 b.0.1 b.1), sym (ap (λ (z : Node × List ℕ). z.0) q))
+            inl (b.0.0, subst (IsWordAt true text b.0.0) ends ((word_reads n).sound text b.0.0 b.0.1 b.1), sym (ap (λ (z : Node × List ℕ). z.0) q))
       ]
 
   value_complete : (text : List ℕ) (t : Node) (rest : List ℕ) → IsFlowValue n R text t rest → flow_value_at n inner text ≡ Ok (t, rest)
   unfolding flow_value_at
-  value_complete text t rest (inl w) = rw ((word_begins_part text w.0 rest w.1).1, word_reads.complete text w.0 rest w.1, w.2) refl
+  value_complete text t rest (inl w) = rw ((word_begins_part text w.0 rest w.1).1, (word_reads n).complete text w.0 rest w.1, w.2) refl
   value_complete text t rest (inr h) = rw (opens text t rest h) (reads.complete text t rest h)
 
   value_shorter : (text : List ℕ) (t : Node) (rest : List ℕ) → IsFlowValue n R text t rest → length rest < length text
-  value_shorter text t rest (inl w) = word_reads.shorter text w.0 rest w.1
+  value_shorter text t rest (inl w) = (word_reads n).shorter text w.0 rest w.1
   value_shorter text t rest (inr h) = reads.shorter text t rest h
 
   value_begins : (text : List ℕ) (t : Node) (rest : List ℕ) → IsFlowValue n R text t rest → BeginsPart text
-  value_begins text t rest (inl w) = word_reads.begins text w.0 rest w.1
+  value_begins text t rest (inl w) = (word_reads n).begins text w.0 rest w.1
   value_begins text t rest (inr h) = reads.begins text t rest h
 
   pub value_reads : Reads (flow_value_at n inner) (IsFlowValue n R)

@@ -10,12 +10,13 @@ use Rattle.yaml_subset.specs.declared.line.Line as lines
 use Rattle.yaml_subset.specs.Node.{Node, Pair}
 use Rattle.yaml_subset.specs.TextLines.{Line}
 use Rattle.yaml_subset.specs.TreeOf.{Group}
-use Rattle.yaml_subset.specs.Inside.{FailsLines, line_view, lines_view}
+use Rattle.yaml_subset.specs.Placed.{HaltsAs}
+use Rattle.yaml_subset.specs.Inside.{line_view, lines_view}
 use Rattle.yaml_subset.specs.Keys.{is_among}
-use Rattle.yaml_subset.specs.Part.{◌>>=◌}
+use Rattle.yaml_bytes.specs.Results.{◌>>=◌}
 use Rattle.yaml_subset.specs.Reading.{Head, item, entry, alone, head_at, BlockReader, chunks, groups_of, hanging_len, pair_from, pair_at, pairs_at, item_at, items_at}
 
--- ---- the lines that hang, and the groups behind them
+-- ---- the lines that hang, and the groups after them
 
 chunks_step : (hangs : Line → Bool) (l : Line) (ls : List Line) (b : Bool) → hangs l ≡ b →
     chunks hangs ls ≡ (take (hanging_len hangs ls) ls, groups_of hangs (drop (hanging_len hangs ls) ls)) →
@@ -44,7 +45,7 @@ chunks-split hangs k ls below after e b a = rw (b, a, lines_view-take, lines_vie
 rest_at : (n : ℕ) (ls : List lines.Line) → take (length ls - n) (drop n ls) ≡ drop n ls
 rest_at n ls = rw (← length-drop n ls) (take-length (drop n ls))
 
--- the first group of the lines from a place on, where the first line stands apart from the others
+-- the first group of the lines from a place on, where the first line is apart from the others
 pub groups_at : (hangs : Line → Bool) (at : ℕ) (line first : lines.Line) (others below after : List lines.Line) → at ≤ length others → line ≡ get_or (first ∷ others) at first
     → chunks hangs (lines_view (take (length others - at) (drop at others))) ≡ (lines_view below, groups_of hangs (lines_view after))
     → after ≡ drop (length below) (take (length others - at) (drop at others))
@@ -105,7 +106,7 @@ module _ (depth : ℕ) (block : BlockReader) (around : Option ℕ) (i : ℕ) (fr
       let one : with_front front (pairs_at depth block around i seen groups) ≡ with_front (front ++ p ∷ []) (pairs_at depth block around i (p.key ∷ seen) gs) = rw (is, h) (regroup front p (pairs_at depth block around i (p.key ∷ seen) gs)) in
       ap (with_front (front ++ p ∷ [])) (pairs_at-same depth block around i known (p.key ∷ seen) gs is_known) ∙ sym one ∙ so_far
 
-  pub pairs_stop : (e : Halt) → FailsLines e (pair_at depth block around i seen g) → with_front front (pairs_at depth block around i seen groups) ≡ total → FailsLines e total
+  pub pairs_stop : (e : Halt) → HaltsAs e (pair_at depth block around i seen g) → with_front front (pairs_at depth block around i seen groups) ≡ total → HaltsAs e total
   unfolding pairs_at
   pairs_stop halts.NoMemory h so_far = tt
   pairs_stop (halts.At f) h so_far =
@@ -119,7 +120,7 @@ module _ (depth : ℕ) (block : BlockReader) (around : Option ℕ) (i : ℕ) (fr
       let one : with_front front (items_at depth block around i groups) ≡ with_front (front ++ t ∷ []) (items_at depth block around i gs) = rw (is, h) (regroup front t (items_at depth block around i gs)) in
       sym one ∙ so_far
 
-  pub items_stop : (e : Halt) → FailsLines e (item_at depth block around i g) → with_front front (items_at depth block around i groups) ≡ total → FailsLines e total
+  pub items_stop : (e : Halt) → HaltsAs e (item_at depth block around i g) → with_front front (items_at depth block around i groups) ≡ total → HaltsAs e total
   unfolding items_at
   items_stop halts.NoMemory h so_far = tt
   items_stop (halts.At f) h so_far =
@@ -142,7 +143,7 @@ module _ (depth : ℕ) (block : BlockReader) (around : Option ℕ) (i at : ℕ) 
       let one : with_front front (items_at depth block around i (groups_of hangs (lines_view (drop at ls)))) ≡ Ok front = rw no_groups (ap (λ (xs : List Node). Ok xs) (append-nil front)) in
       sym so_far ∙ one
 
-pub fails_then : {A B : Type 0} (e : Halt) (read : Result A PlacedFault) (f : A → Result B PlacedFault) → FailsLines e read → FailsLines e (read >>= f)
+pub fails_then : {A B : Type 0} (e : Halt) (read : Result A PlacedFault) (f : A → Result B PlacedFault) → HaltsAs e read → HaltsAs e (read >>= f)
 fails_then halts.NoMemory read f h = tt
 fails_then (halts.At d) read f h = rw h refl
 

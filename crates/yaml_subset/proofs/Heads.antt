@@ -1,22 +1,21 @@
 -- What a line is read as is what it is.
-use Rattle.std.proofs.Common.{◌≡◌, ◌≢◌, ℕ, suc, zero, ◌+◌, ◌-◌, ◌≤◌, ltb, ◌==◌, true, false, ◌&&◌, List, [], ◌∷◌, ◌++◌, length, take, Option, Some, None, Result, Ok, Err, refl, sym, ap, subst, ◌∙◌, ◌⊎◌, inl, inr, arith}
+use Rattle.std.proofs.Common.{◌≡◌, ◌≢◌, ℕ, suc, zero, ◌+◌, ◌-◌, ◌≤◌, ltb, ◌==◌, true, false, ◌&&◌, List, [], ◌∷◌, ◌++◌, length, take, Option, Some, None, Result, Ok, refl, sym, ap, subst, ◌∙◌, ◌⊎◌, inl, inr, arith}
 use Rattle.std.proofs.lemmas.Bool.{eqb-true, ne_eqb, le-ltb, ltb-false, cases_Bool, and_parts, or_cases, both_ways}
 use Rattle.std.proofs.lemmas.List.{length-append}
 use Rattle.std.proofs.Math.Seq.{take-append_seam}
-use Rattle.yaml_subset.specs.declared.flaw.Flaw.{Flaw}
 use Rattle.yaml_subset.specs.declared.place.PlacedFault.{PlacedFault}
 use Rattle.yaml_subset.specs.declared.fault.FaultKind.TheVariants.{Flow}
 use Rattle.yaml_bytes.specs.Bytes.{is_blank, is_indicator, is_mark, begins_blank, begins_gap, begins_item, is_over, characters}
 use Rattle.yaml_subset.specs.Node.{Node, scalar}
-use Rattle.yaml_subset.specs.Part.{◌>>=◌}
+use Rattle.yaml_bytes.specs.Results.{◌>>=◌}
 use Rattle.yaml_bytes.specs.Plain.{ends_word}
 use Rattle.yaml_subset.specs.Values.{IsKey, IsEntry, IsNode, IsInline}
-use Rattle.yaml_subset.specs.Words.{IsWord, word_at}
+use Rattle.yaml_subset.specs.Words.{IsWordAt, word_at}
 use Rattle.yaml_subset.specs.Flow.{IsFlow, begins_bracket, flow_at}
 use Rattle.yaml_bytes.specs.Scanning.{behind_blanks, behind_dash, before_colon}
 use Rattle.yaml_subset.specs.TreeOf.{IsDash}
-use Rattle.yaml_subset.specs.Reading.{Head, item, entry, alone, word_head, flow_head, text_head, on_line, head_from, head_at, node_from, inline_at}
-use Rattle.yaml_subset.proofs.Steps.{bind_ok, guard_true, chosen, ok_is}
+use Rattle.yaml_subset.specs.Reading.{Head, item, entry, alone, word_head, flow_head, text_head, head_from, head_at, node_from, inline_at}
+use Rattle.yaml_bytes.proofs.Steps.{bind_ok, guard_true, chosen, ok_is}
 use Rattle.yaml_bytes.proofs.PlainTexts.{is_behind_blanks, behind_blanks-is}
 use Rattle.yaml_subset.proofs.WordTexts.{BeginsWord, word_sound, word_complete, word_begins, word_parts, word-rest_ends}
 use Rattle.yaml_subset.proofs.FlowReads.{flow_sound, flow_complete}
@@ -82,7 +81,7 @@ is_alone n text (item after) t e = absurd cc
 is_alone n text (entry key after) t e = absurd cc
 is_alone n text (alone u) t e = ap (λ (v : Node). alone v) (ok_is u t e)
 
--- behind a word a comment stands, or a colon
+-- after a word a comment is, or a colon
 over_or_colon : (rest : List ℕ) → ends_word false 32 rest ≡ true → (is_over rest ≡ true) ⊎ ((after : List ℕ) × (rest ≡ 58 ∷ after))
 over_or_colon [] e = inl refl
 over_or_colon (b ∷ bs) e =
@@ -121,13 +120,9 @@ word_entry n value (b ∷ bs) key after e =
 
 -- ---- from the line to its text
 
-line_ok : {A : Type 0} (n : ℕ) (r : Result A Flaw) (x : A) → on_line n r ≡ Ok x → r ≡ Ok x
-line_ok n (Ok y) x e = ap (λ z. Ok z) (ok_is y x e)
-line_ok n (Err f) x e = absurd cc
-
 head_from_cases : (depth n : ℕ) (text : List ℕ) (found : Option (List ℕ)) (h : Head) → head_from depth n text found ≡ Ok h → ((after : List ℕ) × (found ≡ Some after) × (h ≡ item after)) ⊎ (text_head depth n text ≡ Ok h)
 unfolding head_from
-head_from_cases depth n text None h e = inr (line_ok n (text_head depth n text) h e)
+head_from_cases depth n text None h e = inr e
 head_from_cases depth n text (Some after) h e = inl (after, refl, sym (ok_is (item after) h e))
 
 -- an item, or no item
@@ -138,20 +133,20 @@ head_cases depth n text h e = head_from_cases depth n text (behind_dash text) h 
 -- a list or mapping alone, or a word
 text_cases : (depth n : ℕ) (text : List ℕ) (h : Head) → text_head depth n text ≡ Ok h
     → ((t : Node) × (rest : List ℕ) × IsFlow depth n text t rest × (is_over rest ≡ true) × (h ≡ alone t))
-    ⊎ ((value : List ℕ) × (rest : List ℕ) × IsWord false text value rest × (word_head n value rest ≡ h))
+    ⊎ ((value : List ℕ) × (rest : List ℕ) × IsWordAt false text value rest × (word_head n value rest ≡ h))
 unfolding text_head flow_head
 text_cases depth n text h e =
-    let worded : List ℕ × List ℕ → Result Head Flaw = λ r. Ok (word_head n r.0 r.1) in
-    elim (chosen (begins_bracket text) (flow_at depth n text >>= λ r. flow_head r) (word_at false text >>= worded) (Ok h) e) [
+    let worded : List ℕ × List ℕ → Result Head PlacedFault = λ r. Ok (word_head n r.0 r.1) in
+    elim (chosen (begins_bracket text) (flow_at depth n text >>= λ r. flow_head n r) (word_at n false text >>= worded) (Ok h) e) [
       | inl p ↦
-          let a = bind_ok (flow_at depth n text) (λ r. flow_head r) h p.1 in
+          let a = bind_ok (flow_at depth n text) (λ r. flow_head n r) h p.1 in
           let r = a.0 in
-          let g = guard_true (is_over r.1) (Ok (alone r.0)) (record { kind = Flow; left = length r.1 }) h a.2 in
+          let g = guard_true (is_over r.1) (Ok (alone r.0)) (record { kind = Flow; line = n; left = length r.1 }) h a.2 in
           inl (r.0, r.1, flow_sound depth n text r.0 r.1 a.1, g.0, sym (ok_is (alone r.0) h g.1))
       | inr p ↦
-          let a = bind_ok (word_at false text) worded h p.1 in
+          let a = bind_ok (word_at n false text) worded h p.1 in
           let r = a.0 in
-          inr (r.0, r.1, word_sound false text r.0 r.1 a.1, ok_is (word_head n r.0 r.1) h a.2)
+          inr (r.0, r.1, word_sound n false text r.0 r.1 a.1, ok_is (word_head n r.0 r.1) h a.2)
     ]
 
 pub alone_sound : (depth n : ℕ) (text : List ℕ) (t : Node) → head_at depth n text ≡ Ok (alone t) → IsNode depth n text t
@@ -175,7 +170,7 @@ alone_complete depth n text t h =
     elim h.1 [
       | inl v ↦
           let w = word_begins false text v.0 h.0 v.1 in
-          rw (word_no_dash text w, word_no_bracket text w, word_complete false text v.0 h.0 v.1, head_over n v.0 h.0 h.2, v.2) refl
+          rw (word_no_dash text w, word_no_bracket text w, word_complete n false text v.0 h.0 v.1, head_over n v.0 h.0 h.2, v.2) refl
       | inr f ↦
           let b = flow_begins_so depth n text t h.0 f in
           rw (b.0, b.1, flow_complete depth n text t h.0 f, h.2) refl
@@ -191,7 +186,7 @@ key_sound depth n text key after e =
         | inl f ↦ let h : entry key after ≡ alone f.0 = f.4 in absurd cc
         | inr v ↦
             let a = word_entry n v.0 v.1 key after v.3 in
-            subst (λ k. IsWord false text k (58 ∷ after)) a.1 (subst (λ rest. IsWord false text v.0 rest) a.0 v.2)
+            subst (λ k. IsWordAt false text k (58 ∷ after)) a.1 (subst (λ rest. IsWordAt false text v.0 rest) a.0 v.2)
       ]
     ]
 
@@ -199,7 +194,7 @@ pub key_complete : (depth n : ℕ) (text key after : List ℕ) → IsKey text ke
 unfolding head_at head_from text_head word_head
 key_complete depth n text key after h =
     let w = word_begins false text key (58 ∷ after) h in
-    rw (word_no_dash text w, word_no_bracket text w, word_complete false text key (58 ∷ after) h) refl
+    rw (word_no_dash text w, word_no_bracket text w, word_complete n false text key (58 ∷ after) h) refl
 
 -- a key begins with no blank, and with no comment
 pub key_begins : (text key after : List ℕ) → IsKey text key after → (begins_blank text ≡ false) × (is_over text ≡ false)
@@ -240,7 +235,7 @@ entry_sound depth n text key after e short =
 pub entry_short : (text key after : List ℕ) → IsEntry text key after → ltb 1024 (characters (before_colon text after)) ≡ false
 entry_short text key after h = rw (before_colon-is text h.front after h.parts) (le-ltb 1024 (characters h.front) h.short)
 
--- ---- what stands behind a colon
+-- ---- what comes after a colon
 
 pub inline_sound : (depth n : ℕ) (text : List ℕ) (value : Option Node) → inline_at depth n text ≡ Ok value → IsInline depth n text value
 unfolding inline_at

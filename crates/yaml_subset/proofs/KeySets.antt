@@ -82,7 +82,7 @@ fresh_complete keys key h =
       | inr e ↦ e
     ]
 
--- a key behind others is among them as well as in front of them
+-- a key after others is among them as well as in front of them
 pub among-push : (keys : List (List ℕ)) (key q : List ℕ) → is_among (keys ++ key ∷ []) q ≡ (bytes_eq key q || is_among keys q)
 among-push [] key q = refl
 among-push (k ∷ ks) key q = ap (λ b. bytes_eq k q || b) (among-push ks key q) ∙ or_swap (bytes_eq k q) (bytes_eq key q) (is_among ks q)

@@ -4,7 +4,7 @@ use Rattle.yaml_subset.specs.Node.{Node, Pair}
 use Rattle.yaml_subset.specs.Values.{IsNode, IsInline}
 use Rattle.yaml_subset.specs.TextLines.{Line}
 use Rattle.yaml_subset.specs.TreeOf.{Group, IsValue, ArePairs, IsMapping, IsItem, AreItems, IsSequence, IsAlone, IsBlock, ByLines, IsTree}
-use Rattle.yaml_subset.proofs.Steps.{ok_is}
+use Rattle.yaml_bytes.proofs.Steps.{ok_is}
 use Rattle.yaml_subset.proofs.FlowReads.{more_flow_levels}
 use Rattle.yaml_subset.proofs.Meaning.{tree_computes}
 

@@ -3,7 +3,6 @@ pub mod KeySets
 pub mod LineCuts
 pub mod Columns
 pub mod Groups
-pub mod Steps
 pub mod QuotedTexts
 pub mod WordTexts
 pub mod FlowParts

@@ -6,8 +6,9 @@ use Rattle.yaml_subset.specs.declared.fault.FaultKind.TheVariants.{NotInSubset, 
 use Rattle.yaml_bytes.specs.Bytes.{begins_blank, is_over, is_document_marker}
 use Rattle.yaml_subset.specs.TextLines.{Line, Holds, HaveContent}
 use Rattle.yaml_bytes.specs.Scanning.{behind_blanks, spaces_len, behind_spaces}
-use Rattle.yaml_subset.specs.Reading.{fault_at, content_at, blemish_at, add_line, contents_from}
-use Rattle.yaml_subset.proofs.Steps.{guard_false, chosen, ok_is}
+use Rattle.yaml_subset.specs.Placed.{fault_at}
+use Rattle.yaml_subset.specs.Reading.{content_at, blemish_at, add_line, contents_from}
+use Rattle.yaml_bytes.proofs.Steps.{guard_false, chosen, ok_is}
 use Rattle.yaml_bytes.proofs.PlainTexts.{is_behind_blanks, behind_blanks-is}
 use Rattle.yaml_bytes.proofs.Spaces.{spaces_parts, spaces_len-is, drop_spaces, blanks_are_spaces}
 use Rattle.yaml_subset.proofs.Blemishes.{clean_sound, clean_complete}

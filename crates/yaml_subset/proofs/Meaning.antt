@@ -10,9 +10,10 @@ use Rattle.yaml_subset.specs.Values.{IsKey, IsNode, IsInline}
 use Rattle.yaml_bytes.specs.Scanning.{behind_blanks, spaces_len, behind_spaces, behind_dash, before_colon}
 use Rattle.yaml_subset.specs.TextLines.{Line}
 use Rattle.yaml_subset.specs.TreeOf.{Group, IsRun, IsValue, IsPair, ArePairs, IsMapping, IsDash, IsInner, IsItem, AreItems, IsSequence, IsAlone, IsBlock, ByLines, IsTree}
-use Rattle.yaml_subset.specs.Part.{◌>>=◌}
-use Rattle.yaml_subset.specs.Reading.{fault_at, Head, item, entry, alone, head_at, inline_at, BlockReader, hangs, groups_of, misplaced, closed_at, value_at, pair_from, pair_at, pairs_at, mapping_at, inner, item_with, item_from, item_at, items_at, sequence_at, block_from, deep_from, block_at, tree_at}
-use Rattle.yaml_subset.proofs.Steps.{bind_ok, guard_true, guard_false, chosen, ok_is}
+use Rattle.yaml_bytes.specs.Results.{◌>>=◌}
+use Rattle.yaml_subset.specs.Placed.{fault_at}
+use Rattle.yaml_subset.specs.Reading.{Head, item, entry, alone, head_at, inline_at, BlockReader, hangs, groups_of, misplaced, closed_at, value_at, pair_from, pair_at, pairs_at, mapping_at, inner, item_with, item_from, item_at, items_at, sequence_at, block_from, deep_from, block_at, tree_at}
+use Rattle.yaml_bytes.proofs.Steps.{bind_ok, guard_true, guard_false, chosen, ok_is}
 use Rattle.yaml_bytes.proofs.PlainTexts.{is_behind_blanks, behind_blanks-is}
 use Rattle.yaml_subset.proofs.KeySets.{fresh_sound, fresh_complete}
 use Rattle.yaml_bytes.proofs.Spaces.{spaces_parts, spaces_len-is, drop_spaces, blanks_are_spaces}
@@ -46,7 +47,7 @@ alone_is depth around first others t u e k =
     let v = closed_sound around u others t k in
     record { alone = v.0; value = subst (IsNode depth first.number first.text) (sym v.1) (alone_sound depth first.number first.text u e) }
 
--- ---- what stands behind a `-`
+-- ---- what comes after a `-`
 
 inner_sound : (depth : ℕ) (l : Line) (after key behind : List ℕ) → begins_blank (behind_spaces after) ≡ false → head_at depth l.number (behind_blanks after) ≡ Ok (entry key behind) → IsInner l after (inner l after)
 inner_sound depth l after key behind no_tab e =

@@ -3,21 +3,22 @@ use Rattle.std.proofs.Common.{◌≡◌, ◌≢◌, ℕ, ◌≤◌, ◌<◌, ◌
 use Rattle.std.proofs.lemmas.Bool.{cases_Bool, both_ways, eqb-true, eq-eqb, ne_eqb}
 use Rattle.std.proofs.lemmas.List.{append-nil}
 use Rattle.yaml_subset.specs.declared.fault.FaultKind.TheVariants.{Quote}
-use Rattle.yaml_subset.specs.declared.flaw.Flaw.{Flaw}
-use Rattle.yaml_subset.specs.declared.flaw.Stop.{Stop}
-use Rattle.yaml_subset.specs.declared.flaw.Stop.TheVariants as stops
-use Rattle.yaml_subset.specs.Part.{◌>>=◌, flaw_at, FailsPart}
+use Rattle.yaml_subset.specs.declared.place.PlacedFault.{PlacedFault}
+use Rattle.yaml_subset.specs.declared.place.Halt.{Halt}
+use Rattle.yaml_subset.specs.declared.place.Halt.TheVariants as halts
+use Rattle.yaml_bytes.specs.Results.{◌>>=◌}
+use Rattle.yaml_subset.specs.Placed.{fault_at, HaltsAs}
 use Rattle.yaml_subset.specs.Quoted.{IsSingleByte, unescaped, IsDoubleByte, IsWritten, begins_single, IsSingle, IsDouble, onto_value, single_at, escape_at, double_at, escaped_byte, double_byte_at}
-use Rattle.yaml_subset.proofs.Steps.{ok_is}
-use Rattle.yaml_subset.proofs.LineCuts.{none_at, behind_at}
+use Rattle.yaml_bytes.proofs.Steps.{ok_is}
+use Rattle.yaml_bytes.proofs.TextLines.{none_at, after_first}
 
--- ---- behind bytes that were read
+-- ---- after bytes that were read
 
-abbrev pub with_value : List ℕ → Result (List ℕ × List ℕ) Flaw → Result (List ℕ × List ℕ) Flaw
+abbrev pub with_value : List ℕ → Result (List ℕ × List ℕ) PlacedFault → Result (List ℕ × List ℕ) PlacedFault
 with_value front (Ok r) = Ok (front ++ r.0, r.1)
 with_value front (Err f) = Err f
 
-pub regroup : (front : List ℕ) (b : ℕ) (read : Result (List ℕ × List ℕ) Flaw) → with_value front (onto_value b read) ≡ with_value (front ++ b ∷ []) read
+pub regroup : (front : List ℕ) (b : ℕ) (read : Result (List ℕ × List ℕ) PlacedFault) → with_value front (onto_value b read) ≡ with_value (front ++ b ∷ []) read
 regroup front b (Ok r) = ap (λ (xs : List ℕ). Ok (xs, r.1)) (sym (append_assoc front (b ∷ []) r.0))
 regroup front b (Err f) = refl
 
@@ -31,59 +32,59 @@ begins_single-first : (text : List ℕ) → begins_single text ≡ true → (get
 begins_single-first [] e = absurd cc
 begins_single-first (b ∷ bs) e = e
 
-pub single-ends : (b : ℕ) (bs : List ℕ) → (b == 39) ≡ true → begins_single bs ≡ false → single_at (b ∷ bs) ≡ Ok ([], bs)
+pub single-ends : (n : ℕ) (b : ℕ) (bs : List ℕ) → (b == 39) ≡ true → begins_single bs ≡ false → single_at n (b ∷ bs) ≡ Ok ([], bs)
 unfolding single_at
-single-ends b [] e f = rw e refl
-single-ends b (c ∷ cs) e f = rw (e, f) refl
+single-ends n b [] e f = rw e refl
+single-ends n b (c ∷ cs) e f = rw (e, f) refl
 
-pub single-quote : (b c : ℕ) (cs : List ℕ) → (b == 39) ≡ true → (c == 39) ≡ true → single_at (b ∷ c ∷ cs) ≡ onto_value 39 (single_at cs)
+pub single-quote : (n : ℕ) (b c : ℕ) (cs : List ℕ) → (b == 39) ≡ true → (c == 39) ≡ true → single_at n (b ∷ c ∷ cs) ≡ onto_value 39 (single_at n cs)
 unfolding single_at
-single-quote b c cs e f = rw (e, f) refl
+single-quote n b c cs e f = rw (e, f) refl
 
-pub single-other : (b : ℕ) (bs : List ℕ) → (b == 39) ≡ false → single_at (b ∷ bs) ≡ onto_value b (single_at bs)
+pub single-other : (n : ℕ) (b : ℕ) (bs : List ℕ) → (b == 39) ≡ false → single_at n (b ∷ bs) ≡ onto_value b (single_at n bs)
 unfolding single_at
-single-other b [] e = rw e refl
-single-other b (c ∷ cs) e = rw e refl
+single-other n b [] e = rw e refl
+single-other n b (c ∷ cs) e = rw e refl
 
 -- ---- double quotes, byte for byte
 
-pub double-ends : (b : ℕ) (bs : List ℕ) → (b == 34) ≡ true → double_at (b ∷ bs) ≡ Ok ([], bs)
+pub double-ends : (n : ℕ) (b : ℕ) (bs : List ℕ) → (b == 34) ≡ true → double_at n (b ∷ bs) ≡ Ok ([], bs)
 unfolding double_at
-double-ends b [] e = rw e refl
-double-ends b (c ∷ cs) e = rw e refl
+double-ends n b [] e = rw e refl
+double-ends n b (c ∷ cs) e = rw e refl
 
-escape_step : (o : Option ℕ) (left : ℕ) (cs : List ℕ) → escape_at o left (double_at cs) ≡ (escaped_byte o left cs >>= λ r. onto_value r.0 (double_at r.1))
-escape_step None left cs = refl
-escape_step (Some b) left cs = refl
+escape_step : (n : ℕ) (o : Option ℕ) (left : ℕ) (cs : List ℕ) → escape_at n o left (double_at n cs) ≡ (escaped_byte n o left cs >>= λ r. onto_value r.0 (double_at n r.1))
+escape_step n None left cs = refl
+escape_step n (Some b) left cs = refl
 
-pub double-goes_on : (b : ℕ) (bs : List ℕ) → (b == 34) ≡ false → double_at (b ∷ bs) ≡ (double_byte_at (b ∷ bs) >>= λ r. onto_value r.0 (double_at r.1))
+pub double-goes_on : (n : ℕ) (b : ℕ) (bs : List ℕ) → (b == 34) ≡ false → double_at n (b ∷ bs) ≡ (double_byte_at n (b ∷ bs) >>= λ r. onto_value r.0 (double_at n r.1))
 unfolding double_at double_byte_at
-double-goes_on b [] e =
+double-goes_on n b [] e =
     elim (cases_Bool (b == 92)) [
       | inl t ↦ rw (e, t) refl
       | inr f ↦ rw (e, f) refl
     ]
-double-goes_on b (c ∷ cs) e =
+double-goes_on n b (c ∷ cs) e =
     elim (cases_Bool (b == 92)) [
-      | inl t ↦ rw (e, t) (escape_step (unescaped c) (length (b ∷ c ∷ cs)) cs)
+      | inl t ↦ rw (e, t) (escape_step n (unescaped c) (length (b ∷ c ∷ cs)) cs)
       | inr f ↦ rw (e, f) refl
     ]
 
-shorter_from : (o : Option ℕ) (left : ℕ) (after : List ℕ) (byte : ℕ) (more : List ℕ) → escaped_byte o left after ≡ Ok (byte, more) → more ≡ after
-shorter_from None left after byte more e = absurd cc
-shorter_from (Some b) left after byte more e = sym (ap (λ (r : ℕ × List ℕ). r.1) (ok_is (b, after) (byte, more) e))
+shorter_from : (n : ℕ) (o : Option ℕ) (left : ℕ) (after : List ℕ) (byte : ℕ) (more : List ℕ) → escaped_byte n o left after ≡ Ok (byte, more) → more ≡ after
+shorter_from n None left after byte more e = absurd cc
+shorter_from n (Some b) left after byte more e = sym (ap (λ (r : ℕ × List ℕ). r.1) (ok_is (b, after) (byte, more) e))
 
-pub double_byte-shorter : (text : List ℕ) (byte : ℕ) (more : List ℕ) → double_byte_at text ≡ Ok (byte, more) → length more < length text
+pub double_byte-shorter : (n : ℕ) (text : List ℕ) (byte : ℕ) (more : List ℕ) → double_byte_at n text ≡ Ok (byte, more) → length more < length text
 unfolding double_byte_at
-double_byte-shorter [] byte more e = absurd cc
-double_byte-shorter (b ∷ []) byte more e =
+double_byte-shorter n [] byte more e = absurd cc
+double_byte-shorter n (b ∷ []) byte more e =
     elim (cases_Bool (b == 92)) [
       | inl t ↦ let k = rw t at e in absurd cc
       | inr f ↦ let k = rw f at e in let same : [] ≡ more = ap (λ (r : ℕ × List ℕ). r.1) (ok_is (b, []) (byte, more) k) in rw (sym same) (omega arith)
     ]
-double_byte-shorter (b ∷ c ∷ cs) byte more e =
+double_byte-shorter n (b ∷ c ∷ cs) byte more e =
     elim (cases_Bool (b == 92)) [
-      | inl t ↦ let k = rw t at e in let same = shorter_from (unescaped c) (length (b ∷ c ∷ cs)) cs byte more k in rw same (omega arith)
+      | inl t ↦ let k = rw t at e in let same = shorter_from n (unescaped c) (length (b ∷ c ∷ cs)) cs byte more k in rw same (omega arith)
       | inr f ↦ let k = rw f at e in let same : c ∷ cs ≡ more = ap (λ (r : ℕ × List ℕ). r.1) (ok_is (b, c ∷ cs) (byte, more) k) in rw (sym same) (omega arith)
     ]
 
@@ -95,72 +96,72 @@ behind rest = take (length rest - 1) (drop 1 rest)
 value_is : (value after : List ℕ) → with_value value (Ok ([], after)) ≡ Ok (value, after)
 value_is value after = ap (λ (xs : List ℕ). Ok (xs, after)) (append-nil value)
 
-module _ (rest value : List ℕ) (total : Result (List ℕ × List ℕ) Flaw) where
-  pub single_stops : with_value value (single_at rest) ≡ total → 1 ≤ length rest → get_or rest 0 0 ≡ 39 → begins_single (behind rest) ≡ false → total ≡ Ok (value, behind rest)
+module _ (n : ℕ) (rest value : List ℕ) (total : Result (List ℕ × List ℕ) PlacedFault) where
+  pub single_stops : with_value value (single_at n rest) ≡ total → 1 ≤ length rest → get_or rest 0 0 ≡ 39 → begins_single (behind rest) ≡ false → total ≡ Ok (value, behind rest)
   single_stops so_far long quote ends =
-      sym so_far ∙ ap (λ xs. with_value value (single_at xs)) (behind_at rest long) ∙ ap (with_value value) (single-ends (get_or rest 0 0) (behind rest) (eq-eqb _ 39 quote) ends) ∙ value_is value (behind rest)
+      sym so_far ∙ ap (λ xs. with_value value (single_at n xs)) (after_first rest long) ∙ ap (with_value value) (single-ends n (get_or rest 0 0) (behind rest) (eq-eqb _ 39 quote) ends) ∙ value_is value (behind rest)
 
-  pub single_twice : with_value value (single_at rest) ≡ total → 1 ≤ length rest → get_or rest 0 0 ≡ 39 → begins_single (behind rest) ≡ true
-      → with_value (value ++ get_or rest 0 0 ∷ []) (single_at (behind (behind rest))) ≡ total
+  pub single_twice : with_value value (single_at n rest) ≡ total → 1 ≤ length rest → get_or rest 0 0 ≡ 39 → begins_single (behind rest) ≡ true
+      → with_value (value ++ get_or rest 0 0 ∷ []) (single_at n (behind (behind rest))) ≡ total
   single_twice so_far long quote again =
-      sym (regroup value (get_or rest 0 0) (single_at (behind (behind rest))))
-      ∙ ap (λ b. with_value value (onto_value b (single_at (behind (behind rest))))) quote
-      ∙ ap (with_value value) (sym (single-quote (get_or rest 0 0) (get_or (behind rest) 0 0) (behind (behind rest)) (eq-eqb _ 39 quote) (begins_single-first (behind rest) again)))
-      ∙ ap (λ xs. with_value value (single_at (get_or rest 0 0 ∷ xs))) (sym (behind_at (behind rest) (begins_single-long (behind rest) again)))
-      ∙ ap (λ xs. with_value value (single_at xs)) (sym (behind_at rest long))
+      sym (regroup value (get_or rest 0 0) (single_at n (behind (behind rest))))
+      ∙ ap (λ b. with_value value (onto_value b (single_at n (behind (behind rest))))) quote
+      ∙ ap (with_value value) (sym (single-quote n (get_or rest 0 0) (get_or (behind rest) 0 0) (behind (behind rest)) (eq-eqb _ 39 quote) (begins_single-first (behind rest) again)))
+      ∙ ap (λ xs. with_value value (single_at n (get_or rest 0 0 ∷ xs))) (sym (after_first (behind rest) (begins_single-long (behind rest) again)))
+      ∙ ap (λ xs. with_value value (single_at n xs)) (sym (after_first rest long))
       ∙ so_far
 
-  pub single_once : with_value value (single_at rest) ≡ total → 1 ≤ length rest → get_or rest 0 0 ≢ 39 → with_value (value ++ get_or rest 0 0 ∷ []) (single_at (behind rest)) ≡ total
+  pub single_once : with_value value (single_at n rest) ≡ total → 1 ≤ length rest → get_or rest 0 0 ≢ 39 → with_value (value ++ get_or rest 0 0 ∷ []) (single_at n (behind rest)) ≡ total
   single_once so_far long other =
-      sym (regroup value (get_or rest 0 0) (single_at (behind rest)))
-      ∙ ap (with_value value) (sym (single-other (get_or rest 0 0) (behind rest) (ne_eqb _ 39 other)))
-      ∙ ap (λ xs. with_value value (single_at xs)) (sym (behind_at rest long))
+      sym (regroup value (get_or rest 0 0) (single_at n (behind rest)))
+      ∙ ap (with_value value) (sym (single-other n (get_or rest 0 0) (behind rest) (ne_eqb _ 39 other)))
+      ∙ ap (λ xs. with_value value (single_at n xs)) (sym (after_first rest long))
       ∙ so_far
 
-  pub single_open : with_value value (single_at rest) ≡ total → length rest < 1 → total ≡ flaw_at Quote 0
+  pub single_open : with_value value (single_at n rest) ≡ total → length rest < 1 → total ≡ fault_at Quote n 0
   unfolding single_at
-  single_open so_far short = sym so_far ∙ ap (λ xs. with_value value (single_at xs)) (none_at rest short)
+  single_open so_far short = sym so_far ∙ ap (λ xs. with_value value (single_at n xs)) (none_at rest short)
 
-  pub double_stops : with_value value (double_at rest) ≡ total → 1 ≤ length rest → get_or rest 0 0 ≡ 34 → total ≡ Ok (value, behind rest)
+  pub double_stops : with_value value (double_at n rest) ≡ total → 1 ≤ length rest → get_or rest 0 0 ≡ 34 → total ≡ Ok (value, behind rest)
   double_stops so_far long quote =
-      sym so_far ∙ ap (λ xs. with_value value (double_at xs)) (behind_at rest long) ∙ ap (with_value value) (double-ends (get_or rest 0 0) (behind rest) (eq-eqb _ 34 quote)) ∙ value_is value (behind rest)
+      sym so_far ∙ ap (λ xs. with_value value (double_at n xs)) (after_first rest long) ∙ ap (with_value value) (double-ends n (get_or rest 0 0) (behind rest) (eq-eqb _ 34 quote)) ∙ value_is value (behind rest)
 
-  one_byte : 1 ≤ length rest → get_or rest 0 0 ≢ 34 → double_at rest ≡ (double_byte_at rest >>= λ r. onto_value r.0 (double_at r.1))
+  one_byte : 1 ≤ length rest → get_or rest 0 0 ≢ 34 → double_at n rest ≡ (double_byte_at n rest >>= λ r. onto_value r.0 (double_at n r.1))
   one_byte long other =
-      ap double_at (behind_at rest long)
-      ∙ double-goes_on (get_or rest 0 0) (behind rest) (ne_eqb _ 34 other)
-      ∙ ap (λ xs. double_byte_at xs >>= λ r. onto_value r.0 (double_at r.1)) (sym (behind_at rest long))
+      ap (double_at n) (after_first rest long)
+      ∙ double-goes_on n (get_or rest 0 0) (behind rest) (ne_eqb _ 34 other)
+      ∙ ap (λ xs. double_byte_at n xs >>= λ r. onto_value r.0 (double_at n r.1)) (sym (after_first rest long))
 
-  pub double_once : with_value value (double_at rest) ≡ total → 1 ≤ length rest → get_or rest 0 0 ≢ 34 → (byte : ℕ) (more : List ℕ) → double_byte_at rest ≡ Ok (byte, more) → with_value (value ++ byte ∷ []) (double_at more) ≡ total
+  pub double_once : with_value value (double_at n rest) ≡ total → 1 ≤ length rest → get_or rest 0 0 ≢ 34 → (byte : ℕ) (more : List ℕ) → double_byte_at n rest ≡ Ok (byte, more) → with_value (value ++ byte ∷ []) (double_at n more) ≡ total
   double_once so_far long other byte more e =
-      let one : double_at rest ≡ onto_value byte (double_at more) = one_byte long other ∙ ap (λ read. read >>= λ r. onto_value r.0 (double_at r.1)) e in
-      sym (regroup value byte (double_at more)) ∙ ap (with_value value) (sym one) ∙ so_far
+      let one : double_at n rest ≡ onto_value byte (double_at n more) = one_byte long other ∙ ap (λ read. read >>= λ r. onto_value r.0 (double_at n r.1)) e in
+      sym (regroup value byte (double_at n more)) ∙ ap (with_value value) (sym one) ∙ so_far
 
-  pub double_fails : with_value value (double_at rest) ≡ total → 1 ≤ length rest → get_or rest 0 0 ≢ 34 → (e : Stop) → FailsPart e (double_byte_at rest) → FailsPart e total
-  double_fails so_far long other stops.NoMemory h = tt
-  double_fails so_far long other (stops.At f) h =
-      let one : double_at rest ≡ Err f = one_byte long other ∙ ap (λ read. read >>= λ r. onto_value r.0 (double_at r.1)) h in
+  pub double_fails : with_value value (double_at n rest) ≡ total → 1 ≤ length rest → get_or rest 0 0 ≢ 34 → (e : Halt) → HaltsAs e (double_byte_at n rest) → HaltsAs e total
+  double_fails so_far long other halts.NoMemory h = tt
+  double_fails so_far long other (halts.At f) h =
+      let one : double_at n rest ≡ Err f = one_byte long other ∙ ap (λ read. read >>= λ r. onto_value r.0 (double_at n r.1)) h in
       sym so_far ∙ ap (with_value value) one
 
-  pub double_open : with_value value (double_at rest) ≡ total → length rest < 1 → total ≡ flaw_at Quote 0
+  pub double_open : with_value value (double_at n rest) ≡ total → length rest < 1 → total ≡ fault_at Quote n 0
   unfolding double_at
-  double_open so_far short = sym so_far ∙ ap (λ xs. with_value value (double_at xs)) (none_at rest short)
+  double_open so_far short = sym so_far ∙ ap (λ xs. with_value value (double_at n xs)) (none_at rest short)
 
 -- ---- the value is written so
 
-onto_ok : (b : ℕ) (read : Result (List ℕ × List ℕ) Flaw) (value after : List ℕ) → onto_value b read ≡ Ok (value, after) → (v : List ℕ) × (value ≡ b ∷ v) × (read ≡ Ok (v, after))
+onto_ok : (b : ℕ) (read : Result (List ℕ × List ℕ) PlacedFault) (value after : List ℕ) → onto_value b read ≡ Ok (value, after) → (v : List ℕ) × (value ≡ b ∷ v) × (read ≡ Ok (v, after))
 onto_ok b (Ok r) value after e =
     let same = ok_is (b ∷ r.0, r.1) (value, after) e in
     (r.0, sym (ap (λ (p : List ℕ × List ℕ). p.0) same), ap (λ (xs : List ℕ). Ok (r.0, xs)) (ap (λ (p : List ℕ × List ℕ). p.1) same))
 onto_ok b (Err f) value after e = absurd cc
 
-escape_ok : (o : Option ℕ) (left : ℕ) (read : Result (List ℕ × List ℕ) Flaw) (value after : List ℕ) → escape_at o left read ≡ Ok (value, after) → (b : ℕ) × (o ≡ Some b) × (v : List ℕ) × (value ≡ b ∷ v) × (read ≡ Ok (v, after))
-escape_ok None left read value after e = absurd cc
-escape_ok (Some b) left read value after e = let p = onto_ok b read value after e in (b, refl, p.0, p.1, p.2)
+escape_ok : (n : ℕ) (o : Option ℕ) (left : ℕ) (read : Result (List ℕ × List ℕ) PlacedFault) (value after : List ℕ) → escape_at n o left read ≡ Ok (value, after) → (b : ℕ) × (o ≡ Some b) × (v : List ℕ) × (value ≡ b ∷ v) × (read ≡ Ok (v, after))
+escape_ok n None left read value after e = absurd cc
+escape_ok n (Some b) left read value after e = let p = onto_ok b read value after e in (b, refl, p.0, p.1, p.2)
 
-single_none : (b : ℕ) (bs value after : List ℕ) → (b == 39) ≡ true → begins_single bs ≡ false → single_at (b ∷ bs) ≡ Ok (value, after) → IsSingle (b ∷ bs) value after
-single_none b bs value after t ends e =
-    let same = ok_is ([], bs) (value, after) (sym (single-ends b bs t ends) ∙ e) in
+single_none : (n : ℕ) (b : ℕ) (bs value after : List ℕ) → (b == 39) ≡ true → begins_single bs ≡ false → single_at n (b ∷ bs) ≡ Ok (value, after) → IsSingle (b ∷ bs) value after
+single_none n b bs value after t ends e =
+    let same = ok_is ([], bs) (value, after) (sym (single-ends n b bs t ends) ∙ e) in
     subst (λ (p : List ℕ × List ℕ). IsSingle (b ∷ bs) p.0 p.1) same (record { written = []; is_written = refl; parts = ap (λ x. x ∷ bs) (eqb-true b 39 t); ends = ends })
 
 single_more : (b : ℕ) (bs v after : List ℕ) → (b == 39) ≡ false → IsSingle bs v after → IsSingle (b ∷ bs) (b ∷ v) after
@@ -179,51 +180,51 @@ single_doubled b c cs v after t u h = record {
   ends = h.ends;
 }
 
-pub single_sound : (text value after : List ℕ) → single_at text ≡ Ok (value, after) → IsSingle text value after
+pub single_sound : (n : ℕ) (text value after : List ℕ) → single_at n text ≡ Ok (value, after) → IsSingle text value after
 unfolding single_at
-single_sound [] value after e = absurd cc
-single_sound (b ∷ []) value after e =
+single_sound n [] value after e = absurd cc
+single_sound n (b ∷ []) value after e =
     elim (cases_Bool (b == 39)) [
-      | inl t ↦ single_none b [] value after t refl e
+      | inl t ↦ single_none n b [] value after t refl e
       | inr f ↦ let k = rw f at e in absurd cc
     ]
-single_sound (b ∷ c ∷ cs) value after e =
+single_sound n (b ∷ c ∷ cs) value after e =
     elim (cases_Bool (b == 39)) [
       | inl t ↦ elim (cases_Bool (c == 39)) [
         | inl u ↦
-            let p = onto_ok 39 (single_at cs) value after (sym (single-quote b c cs t u) ∙ e) in
-            subst (λ xs. IsSingle (b ∷ c ∷ cs) xs after) (sym p.1) (single_doubled b c cs p.0 after t u (single_sound cs p.0 after p.2))
-        | inr g ↦ single_none b (c ∷ cs) value after t g e
+            let p = onto_ok 39 (single_at n cs) value after (sym (single-quote n b c cs t u) ∙ e) in
+            subst (λ xs. IsSingle (b ∷ c ∷ cs) xs after) (sym p.1) (single_doubled b c cs p.0 after t u (single_sound n cs p.0 after p.2))
+        | inr g ↦ single_none n b (c ∷ cs) value after t g e
       ]
       | inr f ↦
-          let p = onto_ok b (single_at (c ∷ cs)) value after (sym (single-other b (c ∷ cs) f) ∙ e) in
-          subst (λ xs. IsSingle (b ∷ c ∷ cs) xs after) (sym p.1) (single_more b (c ∷ cs) p.0 after f (single_sound (c ∷ cs) p.0 after p.2))
+          let p = onto_ok b (single_at n (c ∷ cs)) value after (sym (single-other n b (c ∷ cs) f) ∙ e) in
+          subst (λ xs. IsSingle (b ∷ c ∷ cs) xs after) (sym p.1) (single_more b (c ∷ cs) p.0 after f (single_sound n (c ∷ cs) p.0 after p.2))
     ]
 
-single_reads : (value written after : List ℕ) → IsWritten IsSingleByte value written → begins_single after ≡ false → single_at (written ++ 39 ∷ after) ≡ Ok (value, after)
-single_reads [] written after is ends = ap (λ (w : List ℕ). single_at (w ++ 39 ∷ after)) is ∙ single-ends 39 after refl ends
-single_reads (b ∷ bs) written after is ends =
+single_reads : (n : ℕ) (value written after : List ℕ) → IsWritten IsSingleByte value written → begins_single after ≡ false → single_at n (written ++ 39 ∷ after) ≡ Ok (value, after)
+single_reads n [] written after is ends = ap (λ (w : List ℕ). single_at n (w ++ 39 ∷ after)) is ∙ single-ends n 39 after refl ends
+single_reads n (b ∷ bs) written after is ends =
     let front = is.0 in
     let rest = is.1 in
-    let below = single_reads bs rest after is.4 ends in
+    let below = single_reads n bs rest after is.4 ends in
     elim is.3 [
       | inl p ↦
-          ap (λ (w : List ℕ). single_at (w ++ 39 ∷ after)) (is.2 ∙ ap (λ (f : List ℕ). f ++ rest) p.1)
-          ∙ single-quote 39 39 (rest ++ 39 ∷ after) refl refl
+          ap (λ (w : List ℕ). single_at n (w ++ 39 ∷ after)) (is.2 ∙ ap (λ (f : List ℕ). f ++ rest) p.1)
+          ∙ single-quote n 39 39 (rest ++ 39 ∷ after) refl refl
           ∙ ap (onto_value 39) below
           ∙ ap (λ x. Ok (x ∷ bs, after)) (sym p.0)
       | inr p ↦
-          ap (λ (w : List ℕ). single_at (w ++ 39 ∷ after)) (is.2 ∙ ap (λ (f : List ℕ). f ++ rest) p.1)
-          ∙ single-other b (rest ++ 39 ∷ after) (ne_eqb b 39 p.0)
+          ap (λ (w : List ℕ). single_at n (w ++ 39 ∷ after)) (is.2 ∙ ap (λ (f : List ℕ). f ++ rest) p.1)
+          ∙ single-other n b (rest ++ 39 ∷ after) (ne_eqb b 39 p.0)
           ∙ ap (onto_value b) below
     ]
 
-pub single_complete : (text value after : List ℕ) → IsSingle text value after → single_at text ≡ Ok (value, after)
-single_complete text value after h = ap single_at h.parts ∙ single_reads value h.written after h.is_written h.ends
+pub single_complete : (n : ℕ) (text value after : List ℕ) → IsSingle text value after → single_at n text ≡ Ok (value, after)
+single_complete n text value after h = ap (single_at n) h.parts ∙ single_reads n value h.written after h.is_written h.ends
 
-double_none : (b : ℕ) (bs value after : List ℕ) → (b == 34) ≡ true → double_at (b ∷ bs) ≡ Ok (value, after) → IsDouble (b ∷ bs) value after
-double_none b bs value after t e =
-    let same = ok_is ([], bs) (value, after) (sym (double-ends b bs t) ∙ e) in
+double_none : (n : ℕ) (b : ℕ) (bs value after : List ℕ) → (b == 34) ≡ true → double_at n (b ∷ bs) ≡ Ok (value, after) → IsDouble (b ∷ bs) value after
+double_none n b bs value after t e =
+    let same = ok_is ([], bs) (value, after) (sym (double-ends n b bs t) ∙ e) in
     subst (λ (p : List ℕ × List ℕ). IsDouble (b ∷ bs) p.0 p.1) same (record { written = []; is_written = refl; parts = ap (λ x. x ∷ bs) (eqb-true b 34 t) })
 
 double_more : (b : ℕ) (bs v after : List ℕ) → (b == 34) ≡ false → (b == 92) ≡ false → IsDouble bs v after → IsDouble (b ∷ bs) (b ∷ v) after
@@ -240,56 +241,56 @@ double_escaped b c x cs v after t u h = record {
   parts = ap (λ y. y ∷ c ∷ cs) (eqb-true b 92 t) ∙ ap (λ (xs : List ℕ). 92 ∷ c ∷ xs) h.parts;
 }
 
-double-other : (b : ℕ) (bs : List ℕ) → (b == 34) ≡ false → (b == 92) ≡ false → double_at (b ∷ bs) ≡ onto_value b (double_at bs)
+double-other : (n : ℕ) (b : ℕ) (bs : List ℕ) → (b == 34) ≡ false → (b == 92) ≡ false → double_at n (b ∷ bs) ≡ onto_value b (double_at n bs)
 unfolding double_at
-double-other b [] f g = rw (f, g) refl
-double-other b (c ∷ cs) f g = rw (f, g) refl
+double-other n b [] f g = rw (f, g) refl
+double-other n b (c ∷ cs) f g = rw (f, g) refl
 
-double-escape : (b c : ℕ) (cs : List ℕ) → (b == 34) ≡ false → (b == 92) ≡ true → double_at (b ∷ c ∷ cs) ≡ escape_at (unescaped c) (length (b ∷ c ∷ cs)) (double_at cs)
+double-escape : (n : ℕ) (b c : ℕ) (cs : List ℕ) → (b == 34) ≡ false → (b == 92) ≡ true → double_at n (b ∷ c ∷ cs) ≡ escape_at n (unescaped c) (length (b ∷ c ∷ cs)) (double_at n cs)
 unfolding double_at
-double-escape b c cs f t = rw (f, t) refl
+double-escape n b c cs f t = rw (f, t) refl
 
-pub double_sound : (text value after : List ℕ) → double_at text ≡ Ok (value, after) → IsDouble text value after
+pub double_sound : (n : ℕ) (text value after : List ℕ) → double_at n text ≡ Ok (value, after) → IsDouble text value after
 unfolding double_at
-double_sound [] value after e = absurd cc
-double_sound (b ∷ []) value after e =
+double_sound n [] value after e = absurd cc
+double_sound n (b ∷ []) value after e =
     elim (cases_Bool (b == 34)) [
-      | inl t ↦ double_none b [] value after t e
+      | inl t ↦ double_none n b [] value after t e
       | inr f ↦ elim (cases_Bool (b == 92)) [
         | inl u ↦ let k = rw (f, u) at e in absurd cc
         | inr g ↦ let k = rw (f, g) at e in absurd cc
       ]
     ]
-double_sound (b ∷ c ∷ cs) value after e =
+double_sound n (b ∷ c ∷ cs) value after e =
     elim (cases_Bool (b == 34)) [
-      | inl t ↦ double_none b (c ∷ cs) value after t e
+      | inl t ↦ double_none n b (c ∷ cs) value after t e
       | inr f ↦ elim (cases_Bool (b == 92)) [
         | inl u ↦
-            let p = escape_ok (unescaped c) (length (b ∷ c ∷ cs)) (double_at cs) value after (sym (double-escape b c cs f u) ∙ e) in
-            subst (λ xs. IsDouble (b ∷ c ∷ cs) xs after) (sym p.3) (double_escaped b c p.0 cs p.2 after u p.1 (double_sound cs p.2 after p.4))
+            let p = escape_ok n (unescaped c) (length (b ∷ c ∷ cs)) (double_at n cs) value after (sym (double-escape n b c cs f u) ∙ e) in
+            subst (λ xs. IsDouble (b ∷ c ∷ cs) xs after) (sym p.3) (double_escaped b c p.0 cs p.2 after u p.1 (double_sound n cs p.2 after p.4))
         | inr g ↦
-            let p = onto_ok b (double_at (c ∷ cs)) value after (sym (double-other b (c ∷ cs) f g) ∙ e) in
-            subst (λ xs. IsDouble (b ∷ c ∷ cs) xs after) (sym p.1) (double_more b (c ∷ cs) p.0 after f g (double_sound (c ∷ cs) p.0 after p.2))
+            let p = onto_ok b (double_at n (c ∷ cs)) value after (sym (double-other n b (c ∷ cs) f g) ∙ e) in
+            subst (λ xs. IsDouble (b ∷ c ∷ cs) xs after) (sym p.1) (double_more b (c ∷ cs) p.0 after f g (double_sound n (c ∷ cs) p.0 after p.2))
       ]
     ]
 
-double_reads : (value written after : List ℕ) → IsWritten IsDoubleByte value written → double_at (written ++ 34 ∷ after) ≡ Ok (value, after)
-double_reads [] written after is = ap (λ (w : List ℕ). double_at (w ++ 34 ∷ after)) is ∙ double-ends 34 after refl
-double_reads (b ∷ bs) written after is =
+double_reads : (n : ℕ) (value written after : List ℕ) → IsWritten IsDoubleByte value written → double_at n (written ++ 34 ∷ after) ≡ Ok (value, after)
+double_reads n [] written after is = ap (λ (w : List ℕ). double_at n (w ++ 34 ∷ after)) is ∙ double-ends n 34 after refl
+double_reads n (b ∷ bs) written after is =
     let front = is.0 in
     let rest = is.1 in
-    let below = double_reads bs rest after is.4 in
+    let below = double_reads n bs rest after is.4 in
     elim is.3 [
       | inl p ↦
-          ap (λ (w : List ℕ). double_at (w ++ 34 ∷ after)) (is.2 ∙ ap (λ (f : List ℕ). f ++ rest) p.2)
-          ∙ double-other b (rest ++ 34 ∷ after) (ne_eqb b 34 p.0) (ne_eqb b 92 p.1)
+          ap (λ (w : List ℕ). double_at n (w ++ 34 ∷ after)) (is.2 ∙ ap (λ (f : List ℕ). f ++ rest) p.2)
+          ∙ double-other n b (rest ++ 34 ∷ after) (ne_eqb b 34 p.0) (ne_eqb b 92 p.1)
           ∙ ap (onto_value b) below
       | inr p ↦
-          ap (λ (w : List ℕ). double_at (w ++ 34 ∷ after)) (is.2 ∙ ap (λ (f : List ℕ). f ++ rest) p.2)
-          ∙ double-escape 92 p.0 (rest ++ 34 ∷ after) refl refl
-          ∙ ap (λ o. escape_at o (length (92 ∷ p.0 ∷ (rest ++ 34 ∷ after))) (double_at (rest ++ 34 ∷ after))) p.1
+          ap (λ (w : List ℕ). double_at n (w ++ 34 ∷ after)) (is.2 ∙ ap (λ (f : List ℕ). f ++ rest) p.2)
+          ∙ double-escape n 92 p.0 (rest ++ 34 ∷ after) refl refl
+          ∙ ap (λ o. escape_at n o (length (92 ∷ p.0 ∷ (rest ++ 34 ∷ after))) (double_at n (rest ++ 34 ∷ after))) p.1
           ∙ ap (onto_value b) below
     ]
 
-pub double_complete : (text value after : List ℕ) → IsDouble text value after → double_at text ≡ Ok (value, after)
-double_complete text value after h = ap double_at h.parts ∙ double_reads value h.written after h.is_written
+pub double_complete : (n : ℕ) (text value after : List ℕ) → IsDouble text value after → double_at n text ≡ Ok (value, after)
+double_complete n text value after h = ap (double_at n) h.parts ∙ double_reads n value h.written after h.is_written

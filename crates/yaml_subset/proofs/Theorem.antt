@@ -9,10 +9,10 @@ use Rattle.yaml_subset.specs.declared.fault.YamlFault.TheVariants as faults
 use Rattle.yaml_subset.specs.declared.tree.Tree.{Tree}
 use Rattle.yaml_subset.specs.Node.{Node}
 use Rattle.yaml_subset.specs.View.{node_view, Gives}
-use Rattle.yaml_subset.specs.TextLines.{lines_of}
+use Rattle.yaml_bytes.specs.Lines.{lines_of}
 use Rattle.yaml_subset.specs.TreeOf.{IsTree, IsTreeOf, IsAbove}
 use Rattle.yaml_subset.specs.Reading.{tree_at, contents_from, unless, without_place, read_at}
-use Rattle.yaml_subset.proofs.Steps.{guard_false, ok_is}
+use Rattle.yaml_bytes.proofs.Steps.{guard_false, ok_is}
 use Rattle.yaml_subset.proofs.Meaning.{tree_computes}
 use Rattle.yaml_subset.proofs.Levels.{more_levels, one_tree}
 use Rattle.yaml_subset.proofs.LineContents.{contents_sound, contents_complete, one_content}

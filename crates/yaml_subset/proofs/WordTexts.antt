@@ -3,58 +3,58 @@ use Rattle.std.proofs.Common.{◌≡◌, ◌≢◌, ℕ, ◌≤◌, ◌<◌, ◌
 use Rattle.std.proofs.lemmas.Bool.{cases_Bool, both_ways, eqb-true, ne_eqb, not-true, and_parts, and_cases, and_from, and_left, and_right, or_cases, or_from, or_left, or_right}
 use Rattle.std.proofs.Math.Seq.{drop-append_seam}
 use Rattle.yaml_subset.specs.declared.fault.FaultKind.TheVariants.{Quote, Flow}
-use Rattle.yaml_subset.specs.declared.flaw.Flaw.{Flaw}
-use Rattle.yaml_subset.specs.Part.{◌>>=◌}
+use Rattle.yaml_subset.specs.declared.place.PlacedFault.{PlacedFault}
+use Rattle.yaml_bytes.specs.Results.{◌>>=◌}
 use Rattle.yaml_bytes.specs.Bytes.{is_blank, begins_blank, begins_gap, is_flow_indicator, begins_flow_indicator, begins_break, is_indicator, is_mark, begins_word}
 use Rattle.yaml_bytes.specs.Plain.{IsBehindBlanks, ends_word, IsWordEnd}
 use Rattle.yaml_bytes.specs.Scanning.{trimmed, behind_blanks, word_front, word_rest}
 use Rattle.yaml_subset.specs.Quoted.{IsSingle, IsDouble, single_at, double_at}
-use Rattle.yaml_subset.specs.Words.{breaks_flow, may_follow, IsPlainAt, IsQuotedAt, IsWord, misfit, plain_at, behind_quote, quoted_at, word_at}
-use Rattle.yaml_subset.proofs.Steps.{bind_ok, guard_true, guard_false, ok_is}
-use Rattle.yaml_subset.proofs.Steps.{chosen}
+use Rattle.yaml_subset.specs.Words.{breaks_flow, may_follow, IsPlainAt, IsQuotedAt, IsWordAt, misfit, plain_at, behind_quote, quoted_at, word_at}
+use Rattle.yaml_bytes.proofs.Steps.{bind_ok, guard_true, guard_false, ok_is}
+use Rattle.yaml_bytes.proofs.Steps.{chosen}
 use Rattle.yaml_bytes.proofs.PlainTexts.{plain_word, plain_word-is, is_behind_blanks, behind_blanks-is}
 use Rattle.yaml_subset.proofs.QuotedTexts.{single_sound, single_complete, double_sound, double_complete}
 
 -- ---- plain words
 
-plain_sound : (flow : Bool) (text value rest : List ℕ) → plain_at flow text ≡ Ok (value, rest) → IsPlainAt flow text value rest
+plain_sound : (n : ℕ) (flow : Bool) (text value rest : List ℕ) → plain_at n flow text ≡ Ok (value, rest) → IsPlainAt flow text value rest
 unfolding plain_at
-plain_sound flow text value rest e =
-    let found : Result (List ℕ × List ℕ) Flaw = Ok (trimmed (word_front flow text), word_rest flow text) in
-    let broken : Flaw = record { kind = Flow; left = length (word_rest flow text) } in
-    let a = guard_true (begins_word flow text) (cond (breaks_flow flow (word_rest flow text)) (Err broken) found) (record { kind = misfit flow text; left = length text }) (value, rest) e in
+plain_sound n flow text value rest e =
+    let found : Result (List ℕ × List ℕ) PlacedFault = Ok (trimmed (word_front flow text), word_rest flow text) in
+    let broken : PlacedFault = record { kind = Flow; line = n; left = length (word_rest flow text) } in
+    let a = guard_true (begins_word flow text) (cond (breaks_flow flow (word_rest flow text)) (Err broken) found) (record { kind = misfit flow text; line = n; left = length text }) (value, rest) e in
     let b = guard_false (breaks_flow flow (word_rest flow text)) found broken (value, rest) a.1 in
     let same = ok_is (trimmed (word_front flow text), word_rest flow text) (value, rest) b.1 in
     let p = plain_word flow text a.0 in
     subst (λ (r : List ℕ × List ℕ). IsPlainAt flow text r.0 r.1) same (record { blanks = p.0; is_plain = p.1; unbroken = b.0 })
 
-plain_complete : (flow : Bool) (text value rest : List ℕ) → IsPlainAt flow text value rest → plain_at flow text ≡ Ok (value, rest)
+plain_complete : (n : ℕ) (flow : Bool) (text value rest : List ℕ) → IsPlainAt flow text value rest → plain_at n flow text ≡ Ok (value, rest)
 unfolding plain_at
-plain_complete flow text value rest h =
+plain_complete n flow text value rest h =
     let p = plain_word-is flow text value h.blanks rest h.is_plain in
     rw (h.is_plain.begins, p.0, p.1, h.unbroken, p.2) refl
 
 -- ---- texts in quotes
 
-behind_sound : (flow : Bool) (after rest : List ℕ) → behind_quote flow after ≡ Ok rest → IsBehindBlanks after rest × (may_follow flow (begins_blank after) rest ≡ true)
+behind_sound : (n : ℕ) (flow : Bool) (after rest : List ℕ) → behind_quote n flow after ≡ Ok rest → IsBehindBlanks after rest × (may_follow flow (begins_blank after) rest ≡ true)
 unfolding behind_quote
-behind_sound flow after rest e =
-    let a = guard_true (may_follow flow (begins_blank after) (behind_blanks after)) (Ok (behind_blanks after)) (record { kind = cond (breaks_flow flow (behind_blanks after)) Flow Quote; left = length (behind_blanks after) }) rest e in
+behind_sound n flow after rest e =
+    let a = guard_true (may_follow flow (begins_blank after) (behind_blanks after)) (Ok (behind_blanks after)) (record { kind = cond (breaks_flow flow (behind_blanks after)) Flow Quote; line = n; left = length (behind_blanks after) }) rest e in
     let same = ok_is (behind_blanks after) rest a.1 in
     (subst (IsBehindBlanks after) same (is_behind_blanks after), subst (λ (xs : List ℕ). may_follow flow (begins_blank after) xs ≡ true) same a.0)
 
-behind_complete : (flow : Bool) (after rest : List ℕ) → IsBehindBlanks after rest → may_follow flow (begins_blank after) rest ≡ true → behind_quote flow after ≡ Ok rest
+behind_complete : (n : ℕ) (flow : Bool) (after rest : List ℕ) → IsBehindBlanks after rest → may_follow flow (begins_blank after) rest ≡ true → behind_quote n flow after ≡ Ok rest
 unfolding behind_quote
-behind_complete flow after rest h follows = rw (behind_blanks-is after rest h, follows) refl
+behind_complete n flow after rest h follows = rw (behind_blanks-is after rest h, follows) refl
 
-quoted_sound : (quote : ℕ) (IsInside : List ℕ → List ℕ → List ℕ → Type 0) (read : List ℕ → Result (List ℕ × List ℕ) Flaw) → ((text value after : List ℕ) → read text ≡ Ok (value, after) → IsInside text value after)
-    → (flow : Bool) (b : ℕ) (bs value rest : List ℕ) → (b == quote) ≡ true → quoted_at flow (read bs) ≡ Ok (value, rest) → IsQuotedAt quote IsInside flow (b ∷ bs) value rest
-quoted_sound quote IsInside read sound flow b bs value rest t e =
-    let p = bind_ok (read bs) (λ r. behind_quote flow r.1 >>= λ after. Ok (r.0, after)) (value, rest) e in
+quoted_sound : (n : ℕ) (quote : ℕ) (IsInside : List ℕ → List ℕ → List ℕ → Type 0) (read : List ℕ → Result (List ℕ × List ℕ) PlacedFault) → ((text value after : List ℕ) → read text ≡ Ok (value, after) → IsInside text value after)
+    → (flow : Bool) (b : ℕ) (bs value rest : List ℕ) → (b == quote) ≡ true → quoted_at n flow (read bs) ≡ Ok (value, rest) → IsQuotedAt quote IsInside flow (b ∷ bs) value rest
+quoted_sound n quote IsInside read sound flow b bs value rest t e =
+    let p = bind_ok (read bs) (λ r. behind_quote n flow r.1 >>= λ after. Ok (r.0, after)) (value, rest) e in
     let r = p.0 in
-    let q = bind_ok (behind_quote flow r.1) (λ after. Ok (r.0, after)) (value, rest) p.2 in
+    let q = bind_ok (behind_quote n flow r.1) (λ after. Ok (r.0, after)) (value, rest) p.2 in
     let same = ok_is (r.0, q.0) (value, rest) q.2 in
-    let s = behind_sound flow r.1 q.0 q.1 in
+    let s = behind_sound n flow r.1 q.0 q.1 in
     subst (λ (x : List ℕ × List ℕ). IsQuotedAt quote IsInside flow (b ∷ bs) x.0 x.1) same (record {
       inside = bs;
       opens = ap (λ x. x ∷ bs) (eqb-true b quote t);
@@ -64,23 +64,23 @@ quoted_sound quote IsInside read sound flow b bs value rest t e =
       follows = s.1;
     })
 
-quoted_complete : (quote : ℕ) (IsInside : List ℕ → List ℕ → List ℕ → Type 0) (read : List ℕ → Result (List ℕ × List ℕ) Flaw) → ((text value after : List ℕ) → IsInside text value after → read text ≡ Ok (value, after))
-    → (flow : Bool) (text value rest : List ℕ) → (h : IsQuotedAt quote IsInside flow text value rest) → quoted_at flow (read h.inside) ≡ Ok (value, rest)
-quoted_complete quote IsInside read complete flow text value rest h =
-    ap (quoted_at flow) (complete h.inside value h.after h.is_inside)
-    ∙ ap (λ (found : Result (List ℕ) Flaw). found >>= λ after. Ok (value, after)) (behind_complete flow h.after rest h.behind h.follows)
+quoted_complete : (n : ℕ) (quote : ℕ) (IsInside : List ℕ → List ℕ → List ℕ → Type 0) (read : List ℕ → Result (List ℕ × List ℕ) PlacedFault) → ((text value after : List ℕ) → IsInside text value after → read text ≡ Ok (value, after))
+    → (flow : Bool) (text value rest : List ℕ) → (h : IsQuotedAt quote IsInside flow text value rest) → quoted_at n flow (read h.inside) ≡ Ok (value, rest)
+quoted_complete n quote IsInside read complete flow text value rest h =
+    ap (quoted_at n flow) (complete h.inside value h.after h.is_inside)
+    ∙ ap (λ (found : Result (List ℕ) PlacedFault). found >>= λ after. Ok (value, after)) (behind_complete n flow h.after rest h.behind h.follows)
 
 -- ---- words
 
-pub word_sound : (flow : Bool) (text value rest : List ℕ) → word_at flow text ≡ Ok (value, rest) → IsWord flow text value rest
+pub word_sound : (n : ℕ) (flow : Bool) (text value rest : List ℕ) → word_at n flow text ≡ Ok (value, rest) → IsWordAt flow text value rest
 unfolding word_at
-word_sound flow [] value rest e = inl (plain_sound flow [] value rest e)
-word_sound flow (b ∷ bs) value rest e =
-    elim (chosen (b == 39) (quoted_at flow (single_at bs)) (cond (b == 34) (quoted_at flow (double_at bs)) (plain_at flow (b ∷ bs))) (Ok (value, rest)) e) [
-      | inl p ↦ inr (inl (quoted_sound 39 IsSingle single_at single_sound flow b bs value rest p.0 p.1))
-      | inr p ↦ elim (chosen (b == 34) (quoted_at flow (double_at bs)) (plain_at flow (b ∷ bs)) (Ok (value, rest)) p.1) [
-        | inl q ↦ inr (inr (quoted_sound 34 IsDouble double_at double_sound flow b bs value rest q.0 q.1))
-        | inr q ↦ inl (plain_sound flow (b ∷ bs) value rest q.1)
+word_sound n flow [] value rest e = inl (plain_sound n flow [] value rest e)
+word_sound n flow (b ∷ bs) value rest e =
+    elim (chosen (b == 39) (quoted_at n flow (single_at n bs)) (cond (b == 34) (quoted_at n flow (double_at n bs)) (plain_at n flow (b ∷ bs))) (Ok (value, rest)) e) [
+      | inl p ↦ inr (inl (quoted_sound n 39 IsSingle (single_at n) (single_sound n) flow b bs value rest p.0 p.1))
+      | inr p ↦ elim (chosen (b == 34) (quoted_at n flow (double_at n bs)) (plain_at n flow (b ∷ bs)) (Ok (value, rest)) p.1) [
+        | inl q ↦ inr (inr (quoted_sound n 34 IsDouble (double_at n) (double_sound n) flow b bs value rest q.0 q.1))
+        | inr q ↦ inl (plain_sound n flow (b ∷ bs) value rest q.1)
       ]
     ]
 
@@ -91,26 +91,26 @@ no_quote flow b bs h = (
   ne_eqb b 34 (λ is. let k : begins_word flow (34 ∷ bs) ≡ true = subst (λ x. begins_word flow (x ∷ bs) ≡ true) is h in absurd cc),
 )
 
-plain_at-word : (flow : Bool) (text value rest : List ℕ) → IsPlainAt flow text value rest → word_at flow text ≡ plain_at flow text
+plain_at-word : (n : ℕ) (flow : Bool) (text value rest : List ℕ) → IsPlainAt flow text value rest → word_at n flow text ≡ plain_at n flow text
 unfolding word_at
-plain_at-word flow [] value rest h = refl
-plain_at-word flow (b ∷ bs) value rest h = let n = no_quote flow b bs h.is_plain.begins in rw (n.0, n.1) refl
+plain_at-word n flow [] value rest h = refl
+plain_at-word n flow (b ∷ bs) value rest h = let n = no_quote flow b bs h.is_plain.begins in rw (n.0, n.1) refl
 
-single_at-word : (flow : Bool) (inside : List ℕ) → word_at flow (39 ∷ inside) ≡ quoted_at flow (single_at inside)
+single_at-word : (n : ℕ) (flow : Bool) (inside : List ℕ) → word_at n flow (39 ∷ inside) ≡ quoted_at n flow (single_at n inside)
 unfolding word_at
-single_at-word flow inside = refl
+single_at-word n flow inside = refl
 
-double_at-word : (flow : Bool) (inside : List ℕ) → word_at flow (34 ∷ inside) ≡ quoted_at flow (double_at inside)
+double_at-word : (n : ℕ) (flow : Bool) (inside : List ℕ) → word_at n flow (34 ∷ inside) ≡ quoted_at n flow (double_at n inside)
 unfolding word_at
-double_at-word flow inside = refl
+double_at-word n flow inside = refl
 
-pub word_complete : (flow : Bool) (text value rest : List ℕ) → IsWord flow text value rest → word_at flow text ≡ Ok (value, rest)
-word_complete flow text value rest h =
+pub word_complete : (n : ℕ) (flow : Bool) (text value rest : List ℕ) → IsWordAt flow text value rest → word_at n flow text ≡ Ok (value, rest)
+word_complete n flow text value rest h =
     elim h [
-      | inl p ↦ plain_at-word flow text value rest p ∙ plain_complete flow text value rest p
+      | inl p ↦ plain_at-word n flow text value rest p ∙ plain_complete n flow text value rest p
       | inr q ↦ elim q [
-        | inl s ↦ ap (word_at flow) s.opens ∙ single_at-word flow s.inside ∙ quoted_complete 39 IsSingle single_at single_complete flow text value rest s
-        | inr d ↦ ap (word_at flow) d.opens ∙ double_at-word flow d.inside ∙ quoted_complete 34 IsDouble double_at double_complete flow text value rest d
+        | inl s ↦ ap (word_at n flow) s.opens ∙ single_at-word n flow s.inside ∙ quoted_complete n 39 IsSingle (single_at n) (single_complete n) flow text value rest s
+        | inr d ↦ ap (word_at n flow) d.opens ∙ double_at-word n flow d.inside ∙ quoted_complete n 34 IsDouble (double_at n) (double_complete n) flow text value rest d
       ]
     ]
 
@@ -139,7 +139,7 @@ plain_begins flow (b ∷ bs) h =
       no_mark = not-true (is_mark b && begins_break flow bs) q.1;
     }
 
-pub word_begins : (flow : Bool) (text value rest : List ℕ) → IsWord flow text value rest → BeginsWord flow text
+pub word_begins : (flow : Bool) (text value rest : List ℕ) → IsWordAt flow text value rest → BeginsWord flow text
 word_begins flow text value rest h =
     elim h [
       | inl p ↦ plain_begins flow text p.is_plain.begins
@@ -188,8 +188,8 @@ quoted_parts quote text inside written after blanks rest opens parts behind =
     ∙ ap (λ (xs : List ℕ). quote ∷ (written ++ quote ∷ xs)) behind
     ∙ ap (λ (xs : List ℕ). quote ∷ xs) (sym (append_assoc written (quote ∷ blanks) rest))
 
--- a word has at least a byte, and the rest is what stands behind it
-pub word_parts : (flow : Bool) (text value rest : List ℕ) → IsWord flow text value rest → (front : List ℕ) × (text ≡ front ++ rest) × (1 ≤ length front)
+-- a word has at least a byte, and the rest is what comes after it
+pub word_parts : (flow : Bool) (text value rest : List ℕ) → IsWordAt flow text value rest → (front : List ℕ) × (text ≡ front ++ rest) × (1 ≤ length front)
 word_parts flow text value rest h =
     elim h [
       | inl p ↦ (value ++ p.blanks, p.is_plain.parts ∙ sym (append_assoc value p.blanks rest), plain_long flow text (value ++ p.blanks) p.is_plain.begins p.is_plain.ends)
@@ -199,13 +199,13 @@ word_parts flow text value rest h =
       ]
     ]
 
-pub word_shorter : (flow : Bool) (text value rest : List ℕ) → IsWord flow text value rest → length rest < length text
+pub word_shorter : (flow : Bool) (text value rest : List ℕ) → IsWordAt flow text value rest → length rest < length text
 word_shorter flow text value rest h =
     let p = word_parts flow text value rest h in
     let whole = ap length p.1 ∙ length-append p.0 rest in
     omega (arith, whole, p.2)
 
--- ---- what stands behind a word
+-- ---- what comes after a word
 
 one_of_three : (p q r s t : Bool) → (p || r || t) ≡ true → (p || q || r || s || t) ≡ true
 one_of_three true q r s t h = refl
@@ -229,7 +229,7 @@ follows-ends flow blank (b ∷ after) h =
       ])
     ]
 
--- a plain word that ends behind some byte ends behind a blank
+-- a plain word that ends after some byte ends after a blank
 ends-blank : (flow : Bool) (before : ℕ) (rest : List ℕ) → ends_word flow before rest ≡ true → ends_word flow 32 rest ≡ true
 ends-blank flow before [] h = refl
 ends-blank flow before (b ∷ after) h =
@@ -242,7 +242,7 @@ ends-blank flow before (b ∷ after) h =
     ]
 
 -- The rest is nothing, or begins with `#`, with `:` before a break, or in flow with one of `, [ ] { }`.
-pub word-rest_ends : (flow : Bool) (text value rest : List ℕ) → IsWord flow text value rest → ends_word flow 32 rest ≡ true
+pub word-rest_ends : (flow : Bool) (text value rest : List ℕ) → IsWordAt flow text value rest → ends_word flow 32 rest ≡ true
 word-rest_ends flow text value rest h =
     elim h [
       | inl p ↦

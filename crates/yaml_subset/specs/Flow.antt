@@ -1,15 +1,16 @@
 -- Lists `[a, b]` and mappings `{k: v}` on one line.
 use Rattle.std.specs.Prelude.{◌≡◌, ℕ, zero, suc, ◌≤◌, ◌-◌, Bool, true, false, ◌&&◌, ◌||◌, nat_lt, List, [], ◌∷◌, ◌++◌, length, map, take, Result, Ok, Err, if◌then◌else◌, ◌==◌, ◌⊎◌}
 use Rattle.std.specs.List.{Contains}
-use Rattle.yaml_subset.specs.declared.flaw.Flaw.{Flaw}
+use Rattle.yaml_subset.specs.declared.place.PlacedFault.{PlacedFault}
 use Rattle.yaml_subset.specs.declared.fault.FaultKind.TheVariants.{DuplicateKey, Flow, NotInSubset, TooDeep}
 use Rattle.yaml_bytes.specs.Bytes.{begins_blank, begins_gap, characters}
 use Rattle.yaml_subset.specs.Node.{Node, scalar, sequence, mapping, Pair, nodes_of, pairs_of}
-use Rattle.yaml_subset.specs.Part.{◌>>=◌, flaw_at}
+use Rattle.yaml_bytes.specs.Results.{◌>>=◌}
+use Rattle.yaml_subset.specs.Placed.{fault_at}
 use Rattle.yaml_bytes.specs.Plain.{IsBehindBlanks}
 use Rattle.yaml_subset.specs.Keys.{is_among}
 use Rattle.yaml_bytes.specs.Scanning.{behind_blanks}
-use Rattle.yaml_subset.specs.Words.{IsWord, word_at}
+use Rattle.yaml_subset.specs.Words.{IsWordAt, word_at}
 
 -- whether a byte comes first
 abbrev pub begins_with : ℕ → List ℕ → Bool
@@ -32,19 +33,19 @@ keys_of = map (λ p. p.key)
 
 -- ---- what they are
 
--- The closing byte, and what stands behind it and the blanks after it; a comment stands only behind a blank.
+-- The closing byte, and what comes after it and the blanks that follow it; a comment comes only after a blank.
 pub record IsClosed (close : ℕ) (text rest : List ℕ) : Type 0 where
   pub after : List ℕ
   pub closes : text ≡ close ∷ after
   pub apart : begins_with 35 after ≡ false
   pub behind : IsBehindBlanks after rest
 
--- Behind a part: a comma, with what stands behind it and the blanks after it; or else the closing byte is next.
+-- After a part: a comma, with what comes after it and the blanks that follow it; or else the closing byte is next.
 abbrev pub IsParted : ℕ → List ℕ → List ℕ → Type 0
 IsParted close text next = ((after : List ℕ) × (text ≡ 44 ∷ after) × IsBehindBlanks after next) ⊎ ((begins_with close text ≡ true) × (next ≡ text))
 
 module _ {A : Type 0} (close : ℕ) (IsPart : List A → List ℕ → A → List ℕ → Type 0) where
-  -- Parts with commas between them, behind those before; the last may have a comma too. Then the closing byte.
+  -- Parts with commas between them, after those before; the last may have a comma too. Then the closing byte.
   abbrev pub ArePartsTo : List A → List ℕ → List A → List ℕ → Type 0
   ArePartsTo before text [] rest = IsClosed close text rest
   ArePartsTo before text (x ∷ xs) rest =
@@ -62,7 +63,7 @@ pub record IsBetween {A : Type 0} (opening close : ℕ) (IsPart : List A → Lis
 pub record IsFlowPair (n : ℕ) (IsValue : List ℕ → Node → List ℕ → Type 0) (before : List Pair) (text : List ℕ) (p : Pair) (rest : List ℕ) : Type 0 where
   pub line : p.line ≡ n
   pub after : List ℕ
-  pub is_key : IsWord true text p.key (58 ∷ after)
+  pub is_key : IsWordAt true text p.key (58 ∷ after)
   pub gap : begins_gap after ≡ true
   pub fresh : Contains (keys_of before) p.key → ⊥
   pub front : List ℕ
@@ -80,9 +81,9 @@ IsBracketed n IsValue text t rest =
 
 -- a value in a list or mapping: a word, or one of these
 abbrev pub IsFlowValue : ℕ → (List ℕ → Node → List ℕ → Type 0) → List ℕ → Node → List ℕ → Type 0
-IsFlowValue n IsInner text t rest = ((value : List ℕ) × IsWord true text value rest × (t ≡ scalar n value)) ⊎ IsInner text t rest
+IsFlowValue n IsInner text t rest = ((value : List ℕ) × IsWordAt true text value rest × (t ≡ scalar n value)) ⊎ IsInner text t rest
 
--- A text begins with a list or a mapping, at most so many of them one inside the other, all on the line n; this rest stands behind it and the
+-- A text begins with a list or a mapping, at most so many of them one inside the other, all on the line n; this rest comes after it and the
 -- blanks after it.
 abbrev pub IsFlow : ℕ → ℕ → List ℕ → Node → List ℕ → Type 0
 IsFlow zero n text t rest = ⊥
@@ -90,81 +91,81 @@ IsFlow (suc levels) n text t rest = IsBracketed n (IsFlowValue n (IsFlow levels 
 
 -- ---- reading them from the first byte to the last
 
--- whether the line's text ends here: by its end, or by a comment where a blank stands in front
+-- whether the line's text ends here: by its end, or by a comment where a blank is in front
 abbrev pub is_ended : Bool → List ℕ → Bool
 is_ended blank [] = true
 is_ended blank (b ∷ bs) = blank && (b == 35)
 
--- what stands behind a bracket, a comma or a colon and the blanks after it
-unfoldable pub start_at : List ℕ → Result (List ℕ) Flaw
-start_at after = if is_ended (begins_blank after) (behind_blanks after) then flaw_at Flow 0 else Ok (behind_blanks after)
+-- what comes after a bracket, a comma or a colon and the blanks that follow it
+unfoldable pub start_at : ℕ → List ℕ → Result (List ℕ) PlacedFault
+start_at n after = if is_ended (begins_blank after) (behind_blanks after) then fault_at Flow n 0 else Ok (behind_blanks after)
 
--- what is wrong with a text that stands in the place of a comma, of the closing byte, or of a key's colon
-unfoldable pub misplaced : List ℕ → Flaw
-misplaced text =
+-- what is wrong with a text in the place of a comma, of the closing byte, or of a key's colon
+unfoldable pub unexpected : ℕ → List ℕ → PlacedFault
+unexpected n text =
     if is_ended true text
-    then record { kind = Flow; left = 0 }
-    else record { kind = if begins_colon text then NotInSubset else Flow; left = length text }
+    then record { kind = Flow; line = n; left = 0 }
+    else record { kind = if begins_colon text then NotInSubset else Flow; line = n; left = length text }
 
--- from the closing byte to what stands behind it
-unfoldable pub behind_close_at : List ℕ → Result (List ℕ) Flaw
-behind_close_at [] = flaw_at Flow 0
-behind_close_at (b ∷ after) = if begins_with 35 after then flaw_at Flow (length after) else Ok (behind_blanks after)
+-- from the closing byte to what comes after it
+unfoldable pub behind_close_at : ℕ → List ℕ → Result (List ℕ) PlacedFault
+behind_close_at n [] = fault_at Flow n 0
+behind_close_at n (b ∷ after) = if begins_with 35 after then fault_at Flow n (length after) else Ok (behind_blanks after)
 
--- from behind a part to the next one, or to the closing byte
-unfoldable pub parted_at : ℕ → List ℕ → Result (List ℕ) Flaw
-parted_at close [] = Err (misplaced [])
-parted_at close (b ∷ after) = if b == 44 then start_at after else (if b == close then Ok (b ∷ after) else Err (misplaced (b ∷ after)))
+-- from the end of a part to the next one, or to the closing byte
+unfoldable pub parted_at : ℕ → ℕ → List ℕ → Result (List ℕ) PlacedFault
+parted_at n close [] = Err (unexpected n [])
+parted_at n close (b ∷ after) = if b == 44 then start_at n after else (if b == close then Ok (b ∷ after) else Err (unexpected n (b ∷ after)))
 
--- from a key's colon to what stands behind it
-unfoldable pub behind_colon_at : List ℕ → Result (List ℕ) Flaw
-behind_colon_at [] = Err (misplaced [])
-behind_colon_at (b ∷ after) = if begins_colon (b ∷ after) then Ok after else Err (misplaced (b ∷ after))
+-- from a key's colon to what comes after it
+unfoldable pub behind_colon_at : ℕ → List ℕ → Result (List ℕ) PlacedFault
+behind_colon_at n [] = Err (unexpected n [])
+behind_colon_at n (b ∷ after) = if begins_colon (b ∷ after) then Ok after else Err (unexpected n (b ∷ after))
 
-module _ {A : Type 0} (close : ℕ) (part : List A → List ℕ → Result (A × List ℕ) Flaw) where
-  -- The parts up to the closing byte, behind those before: fewer than so many.
-  unfoldable pub parts_at : ℕ → List A → List ℕ → Result (List A × List ℕ) Flaw
-  parts_at zero before text = flaw_at Flow 0
+module _ {A : Type 0} (n close : ℕ) (part : List A → List ℕ → Result (A × List ℕ) PlacedFault) where
+  -- The parts up to the closing byte, after those before: fewer than so many.
+  unfoldable pub parts_at : ℕ → List A → List ℕ → Result (List A × List ℕ) PlacedFault
+  parts_at zero before text = fault_at Flow n 0
   parts_at (suc k) before text =
       if begins_with close text
-      then (behind_close_at text >>= λ rest. Ok (before, rest))
-      else (part before text >>= λ p. parted_at close p.1 >>= λ next. parts_at k (before ++ p.0 ∷ []) next)
+      then (behind_close_at n text >>= λ rest. Ok (before, rest))
+      else (part before text >>= λ p. parted_at n close p.1 >>= λ next. parts_at k (before ++ p.0 ∷ []) next)
 
-  -- the parts behind an opening byte; each has a byte, so they are no more than the bytes
-  unfoldable pub between_at : List ℕ → Result (List A × List ℕ) Flaw
-  between_at after = start_at after >>= λ body. parts_at (suc (length body)) [] body
+  -- the parts after an opening byte; each has a byte, so they are no more than the bytes
+  unfoldable pub between_at : List ℕ → Result (List A × List ℕ) PlacedFault
+  between_at after = start_at n after >>= λ body. parts_at (suc (length body)) [] body
 
--- the pair at the front, behind pairs with these keys
-unfoldable pub flow_pair_at : ℕ → (List ℕ → Result (Node × List ℕ) Flaw) → List (List ℕ) → List ℕ → Result (Pair × List ℕ) Flaw
+-- the pair at the front, after pairs with these keys
+unfoldable pub flow_pair_at : ℕ → (List ℕ → Result (Node × List ℕ) PlacedFault) → List (List ℕ) → List ℕ → Result (Pair × List ℕ) PlacedFault
 flow_pair_at n value keys text =
-    word_at true text
-    >>= λ w. behind_colon_at w.1
+    word_at n true text
+    >>= λ w. behind_colon_at n w.1
     >>= λ after.
     if is_among keys w.0
-    then flaw_at DuplicateKey (length text)
+    then fault_at DuplicateKey n (length text)
     else (if nat_lt 1024 (characters (take (length text - length w.1) text))
-    then flaw_at NotInSubset (length w.1)
-    else (start_at after >>= λ inner. value inner >>= λ v. Ok (record { line = n; key = w.0; value = v.0 }, v.1)))
+    then fault_at NotInSubset n (length w.1)
+    else (start_at n after >>= λ inner. value inner >>= λ v. Ok (record { line = n; key = w.0; value = v.0 }, v.1)))
 
--- a list, and a mapping, behind its opening byte
-unfoldable pub flow_list_at : ℕ → (List ℕ → Result (Node × List ℕ) Flaw) → List ℕ → Result (Node × List ℕ) Flaw
-flow_list_at n value after = between_at 93 (λ before. value) after >>= λ r. Ok (sequence n (nodes_of r.0), r.1)
+-- a list, and a mapping, after its opening byte
+unfoldable pub flow_list_at : ℕ → (List ℕ → Result (Node × List ℕ) PlacedFault) → List ℕ → Result (Node × List ℕ) PlacedFault
+flow_list_at n value after = between_at n 93 (λ before. value) after >>= λ r. Ok (sequence n (nodes_of r.0), r.1)
 
-unfoldable pub flow_mapping_at : ℕ → (List ℕ → Result (Node × List ℕ) Flaw) → List ℕ → Result (Node × List ℕ) Flaw
-flow_mapping_at n value after = between_at 125 (λ before. flow_pair_at n value (keys_of before)) after >>= λ r. Ok (mapping n (pairs_of r.0), r.1)
+unfoldable pub flow_mapping_at : ℕ → (List ℕ → Result (Node × List ℕ) PlacedFault) → List ℕ → Result (Node × List ℕ) PlacedFault
+flow_mapping_at n value after = between_at n 125 (λ before. flow_pair_at n value (keys_of before)) after >>= λ r. Ok (mapping n (pairs_of r.0), r.1)
 
-unfoldable pub bracketed_at : ℕ → (List ℕ → Result (Node × List ℕ) Flaw) → List ℕ → Result (Node × List ℕ) Flaw
-bracketed_at n value [] = flaw_at Flow 0
+unfoldable pub bracketed_at : ℕ → (List ℕ → Result (Node × List ℕ) PlacedFault) → List ℕ → Result (Node × List ℕ) PlacedFault
+bracketed_at n value [] = fault_at Flow n 0
 bracketed_at n value (b ∷ after) =
     if b == 91
     then flow_list_at n value after
-    else (if b == 123 then flow_mapping_at n value after else flaw_at Flow (length (b ∷ after)))
+    else (if b == 123 then flow_mapping_at n value after else fault_at Flow n (length (b ∷ after)))
 
 -- a value in a list or mapping
-unfoldable pub flow_value_at : ℕ → (List ℕ → Result (Node × List ℕ) Flaw) → List ℕ → Result (Node × List ℕ) Flaw
-flow_value_at n inner text = if begins_bracket text then inner text else (word_at true text >>= λ w. Ok (scalar n w.0, w.1))
+unfoldable pub flow_value_at : ℕ → (List ℕ → Result (Node × List ℕ) PlacedFault) → List ℕ → Result (Node × List ℕ) PlacedFault
+flow_value_at n inner text = if begins_bracket text then inner text else (word_at n true text >>= λ w. Ok (scalar n w.0, w.1))
 
--- The list or mapping at the front of a text, and what stands behind it and the blanks after it.
-unfoldable pub flow_at : ℕ → ℕ → List ℕ → Result (Node × List ℕ) Flaw
-flow_at zero n text = flaw_at TooDeep (length text)
+-- The list or mapping at the front of a text, and what comes after it and the blanks that follow it.
+unfoldable pub flow_at : ℕ → ℕ → List ℕ → Result (Node × List ℕ) PlacedFault
+flow_at zero n text = fault_at TooDeep n (length text)
 flow_at (suc levels) n text = bracketed_at n (flow_value_at n (flow_at levels n)) text

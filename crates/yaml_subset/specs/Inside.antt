@@ -1,33 +1,22 @@
 -- What the reader's own contracts see of the values that it passes on.
-use Rattle.std.specs.Prelude.{◌≡◌, ℕ, List, [], map, drop, Option, Some, None, Result, Ok, Err}
+use Rattle.std.specs.Prelude.{◌≡◌, ℕ, List, map, drop, Option, Some, None, Result, Ok, Err}
 use Rattle.std.specs.Borrow.{Bor}
 use Rattle.std.specs.BTreeSet.{BTreeSet}
 use Rattle.std.specs.Global.{Vec}
 use Rattle.yaml_subset.specs.declared.place.PlacedFault.{PlacedFault}
-use Rattle.yaml_subset.specs.declared.place.Halt.{Halt}
-use Rattle.yaml_subset.specs.declared.place.Halt.TheVariants as halts
 use Rattle.yaml_subset.specs.declared.entry.Head as heads
 use Rattle.yaml_subset.specs.declared.line.Line as lines
 use Rattle.yaml_subset.specs.declared.tree.Key.{Key}
 use Rattle.yaml_subset.specs.declared.tree.Tree.{Tree}
 use Rattle.yaml_subset.specs.Node.{Node, Pair}
-use Rattle.yaml_subset.specs.TextLines.{Line, lines_of}
+use Rattle.yaml_subset.specs.TextLines.{Line}
 use Rattle.yaml_subset.specs.Reading.{Head, item, entry, alone}
 use Rattle.yaml_subset.specs.View.{node_view, pair_view}
 
--- An answer without want of memory, seen by view, is what reading gives.
+-- An answer, seen by view, is what reading gives; memory does not run out.
 abbrev pub GivesOrFaults : {X Y : Type 0} → (X → Y) → Result X PlacedFault → Result Y PlacedFault → Type 0
 GivesOrFaults view (Ok x) read = read ≡ Ok (view x)
 GivesOrFaults view (Err f) read = read ≡ Err f
-
--- An answer, seen by view, is what reading gives, unless memory ran out.
-abbrev pub FailsLines : {Y : Type 0} → Halt → Result Y PlacedFault → Type 0
-FailsLines halts.NoMemory read = Unit {0}
-FailsLines (halts.At f) read = read ≡ Err f
-
-abbrev pub GivesLines : {X Y : Type 0} → (X → Y) → Result X Halt → Result Y PlacedFault → Type 0
-GivesLines view (Ok x) read = read ≡ Ok (view x)
-GivesLines view (Err e) read = FailsLines e read
 
 abbrev pub node_option_view : Option Tree → Option Node
 node_option_view None = None
@@ -48,7 +37,7 @@ abbrev pub line_option_view : Option lines.Line → Option Line
 line_option_view None = None
 line_option_view (Some l) = Some (line_view l)
 
--- a byte or a value, and the part of a line that stands behind it
+-- a byte or a value, and the part of a line that comes after it
 abbrev pub byte_view : ℕ × Bor (List ℕ) → ℕ × List ℕ
 byte_view r = (r.0, r.1.now)
 
@@ -58,16 +47,11 @@ word_view r = (r.0.items, r.1.now)
 abbrev pub rest_view : Bor (List ℕ) → List ℕ
 rest_view rest = rest.now
 
--- the lines of what follows a line, where something does
-abbrev pub lines_behind : Option (List ℕ) → List (List ℕ)
-lines_behind None = []
-lines_behind (Some text) = lines_of text
-
 -- the keys of a set
 abbrev pub copies_view : BTreeSet (Vec ℕ) → List (List ℕ)
 copies_view s = map (λ k. k.items) s.keys
 
--- a node or a pair, and what stands behind it on its line
+-- a node or a pair, and what comes after it on its line
 abbrev pub flow_view : Tree × Bor (List ℕ) → Node × List ℕ
 flow_view r = (node_view r.0, r.1.now)
 

@@ -5,7 +5,7 @@ pub mod TreeOf
 pub mod Keys
 pub mod Reading
 pub mod View
-pub mod Part
+pub mod Placed
 pub mod Quoted
 pub mod Words
 pub mod Flow

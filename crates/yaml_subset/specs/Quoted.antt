@@ -1,24 +1,24 @@
--- Texts in quotes, as they stand on a line behind the opening quote.
+-- Texts in quotes, as they are on a line after the opening quote.
 use Rattle.std.specs.Prelude.{◌≡◌, ◌≢◌, ℕ, Bool, false, List, [], ◌∷◌, ◌++◌, length, Option, Some, None, Result, Ok, Err, if◌then◌else◌, ◌==◌, ◌⊎◌}
 use Rattle.yaml_subset.specs.declared.fault.FaultKind.TheVariants.{Quote}
-use Rattle.yaml_subset.specs.declared.flaw.Flaw.{Flaw}
-use Rattle.yaml_subset.specs.Part.{flaw_at}
+use Rattle.yaml_subset.specs.declared.place.PlacedFault.{PlacedFault}
+use Rattle.yaml_subset.specs.Placed.{fault_at}
 
--- ---- what stands in quotes
+-- ---- what is in quotes
 
 -- how a byte is written between single quotes: a quote twice, any other as it is
 abbrev pub IsSingleByte : ℕ → List ℕ → Type 0
 IsSingleByte b text = ((b ≡ 39) × (text ≡ 39 ∷ 39 ∷ [])) ⊎ ((b ≢ 39) × (text ≡ b ∷ []))
 
--- what stands behind the backslash for a byte: `\` and `"` for themselves, `n` for LF and `t` for the tab
+-- what comes after the backslash for a byte: `\` and `"` for themselves, `n` for LF and `t` for the tab
 abbrev pub unescaped : ℕ → Option ℕ
 unescaped e = if e == 92 then Some 92 else (if e == 34 then Some 34 else (if e == 110 then Some 10 else (if e == 116 then Some 9 else None)))
 
--- how a byte is written between double quotes: as it is, but for the quote and the backslash; or behind a backslash
+-- how a byte is written between double quotes: as it is, but for the quote and the backslash; or after a backslash
 abbrev pub IsDoubleByte : ℕ → List ℕ → Type 0
 IsDoubleByte b text = ((b ≢ 34) × (b ≢ 92) × (text ≡ b ∷ [])) ⊎ ((e : ℕ) × (unescaped e ≡ Some b) × (text ≡ 92 ∷ e ∷ []))
 
--- how a value is written: its bytes, one behind the other
+-- how a value is written: its bytes, one after the other
 abbrev pub IsWritten : (ℕ → List ℕ → Type 0) → List ℕ → List ℕ → Type 0
 IsWritten IsByte [] text = text ≡ []
 IsWritten IsByte (b ∷ bs) text = (front : List ℕ) × (rest : List ℕ) × (text ≡ front ++ rest) × IsByte b front × IsWritten IsByte bs rest
@@ -44,34 +44,34 @@ pub record IsDouble (text value after : List ℕ) : Type 0 where
 -- ---- reading it from the first byte to the last: the value, and what follows the quote that ends it
 
 -- a byte in front of the value
-abbrev pub onto_value : ℕ → Result (List ℕ × List ℕ) Flaw → Result (List ℕ × List ℕ) Flaw
+abbrev pub onto_value : ℕ → Result (List ℕ × List ℕ) PlacedFault → Result (List ℕ × List ℕ) PlacedFault
 onto_value b (Ok r) = Ok (b ∷ r.0, r.1)
 onto_value b (Err f) = Err f
 
-unfoldable pub single_at : List ℕ → Result (List ℕ × List ℕ) Flaw
-single_at [] = flaw_at Quote 0
-single_at (b ∷ []) = if b == 39 then Ok ([], []) else flaw_at Quote 0
-single_at (b ∷ c ∷ cs) = if b == 39 then (if c == 39 then onto_value 39 (single_at cs) else Ok ([], c ∷ cs)) else onto_value b (single_at (c ∷ cs))
+unfoldable pub single_at : ℕ → List ℕ → Result (List ℕ × List ℕ) PlacedFault
+single_at n [] = fault_at Quote n 0
+single_at n (b ∷ []) = if b == 39 then Ok ([], []) else fault_at Quote n 0
+single_at n (b ∷ c ∷ cs) = if b == 39 then (if c == 39 then onto_value 39 (single_at n cs) else Ok ([], c ∷ cs)) else onto_value b (single_at n (c ∷ cs))
 
--- a byte behind a backslash, in front of a text that was read; `left` counts from the backslash on
-abbrev pub escape_at : Option ℕ → ℕ → Result (List ℕ × List ℕ) Flaw → Result (List ℕ × List ℕ) Flaw
-escape_at (Some b) left r = onto_value b r
-escape_at None left r = flaw_at Quote left
+-- a byte after a backslash, in front of a text that was read; `left` counts from the backslash on
+abbrev pub escape_at : ℕ → Option ℕ → ℕ → Result (List ℕ × List ℕ) PlacedFault → Result (List ℕ × List ℕ) PlacedFault
+escape_at n (Some b) left r = onto_value b r
+escape_at n None left r = fault_at Quote n left
 
-unfoldable pub double_at : List ℕ → Result (List ℕ × List ℕ) Flaw
-double_at [] = flaw_at Quote 0
-double_at (b ∷ []) = if b == 34 then Ok ([], []) else (if b == 92 then flaw_at Quote 1 else flaw_at Quote 0)
-double_at (b ∷ c ∷ cs) =
+unfoldable pub double_at : ℕ → List ℕ → Result (List ℕ × List ℕ) PlacedFault
+double_at n [] = fault_at Quote n 0
+double_at n (b ∷ []) = if b == 34 then Ok ([], []) else (if b == 92 then fault_at Quote n 1 else fault_at Quote n 0)
+double_at n (b ∷ c ∷ cs) =
     if b == 34
     then Ok ([], c ∷ cs)
-    else (if b == 92 then escape_at (unescaped c) (length (b ∷ c ∷ cs)) (double_at cs) else onto_value b (double_at (c ∷ cs)))
+    else (if b == 92 then escape_at n (unescaped c) (length (b ∷ c ∷ cs)) (double_at n cs) else onto_value b (double_at n (c ∷ cs)))
 
 -- the byte at the front, which an escape may write, and what follows it
-abbrev pub escaped_byte : Option ℕ → ℕ → List ℕ → Result (ℕ × List ℕ) Flaw
-escaped_byte (Some b) left after = Ok (b, after)
-escaped_byte None left after = flaw_at Quote left
+abbrev pub escaped_byte : ℕ → Option ℕ → ℕ → List ℕ → Result (ℕ × List ℕ) PlacedFault
+escaped_byte n (Some b) left after = Ok (b, after)
+escaped_byte n None left after = fault_at Quote n left
 
-unfoldable pub double_byte_at : List ℕ → Result (ℕ × List ℕ) Flaw
-double_byte_at [] = flaw_at Quote 0
-double_byte_at (b ∷ []) = if b == 92 then flaw_at Quote 1 else Ok (b, [])
-double_byte_at (b ∷ c ∷ cs) = if b == 92 then escaped_byte (unescaped c) (length (b ∷ c ∷ cs)) cs else Ok (b, c ∷ cs)
+unfoldable pub double_byte_at : ℕ → List ℕ → Result (ℕ × List ℕ) PlacedFault
+double_byte_at n [] = fault_at Quote n 0
+double_byte_at n (b ∷ []) = if b == 92 then fault_at Quote n 1 else Ok (b, [])
+double_byte_at n (b ∷ c ∷ cs) = if b == 92 then escaped_byte n (unescaped c) (length (b ∷ c ∷ cs)) cs else Ok (b, c ∷ cs)

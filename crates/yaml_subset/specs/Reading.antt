@@ -7,68 +7,60 @@ use Rattle.yaml_subset.specs.declared.fault.Fault.{Fault}
 use Rattle.yaml_subset.specs.declared.place.PlacedFault.{PlacedFault}
 use Rattle.yaml_subset.specs.declared.fault.FaultKind.{FaultKind}
 use Rattle.yaml_subset.specs.declared.fault.FaultKind.TheVariants.{NotUtf8, Tab, Indent, DuplicateKey, Flow, NotInSubset, TooDeep, TooLong}
-use Rattle.yaml_subset.specs.declared.flaw.Flaw.{Flaw}
 use Rattle.yaml_subset.specs.Keys.{is_among}
 use Rattle.yaml_bytes.specs.Bytes.{begins_blank, is_over, is_document_marker, characters, is_forbidden}
-use Rattle.yaml_subset.specs.Part.{◌>>=◌, flaw_at}
+use Rattle.yaml_bytes.specs.Results.{◌>>=◌}
+use Rattle.yaml_subset.specs.Placed.{fault_at}
 use Rattle.yaml_subset.specs.Node.{Node, scalar, sequence, nodes_of, mapping, no_pairs, Pair, pairs_of}
 use Rattle.yaml_bytes.specs.Scanning.{behind_blanks, spaces_len, behind_spaces, behind_dash, before_colon}
 use Rattle.yaml_subset.specs.Words.{word_at}
 use Rattle.yaml_subset.specs.Flow.{begins_bracket, flow_at}
-use Rattle.yaml_subset.specs.TextLines.{Line, lines_of}
+use Rattle.yaml_bytes.specs.Lines.{lines_of}
+use Rattle.yaml_subset.specs.TextLines.{Line}
 use Rattle.yaml_subset.specs.TreeOf.{Group, is_deeper, hangs_from_entry}
 
--- a fault on the line n where so many bytes of the line are left
-abbrev pub fault_at : {A : Type 0} → FaultKind → ℕ → ℕ → Result A PlacedFault
-fault_at kind n left = Err (record { kind = kind; line = n; left = left })
-
--- a fault at the begin of a line
+-- a fault at the beginning of a line
 abbrev pub fault_of : {A : Type 0} → FaultKind → Line → Result A PlacedFault
 fault_of kind l = fault_at kind l.number (length l.text)
 
 -- ---- one line
 
--- what a line begins: an item, with what stands behind its `-`; an entry, with its key and what stands behind its colon; or a value
+-- what a line begins: an item, with what comes after its `-`; an entry, with its key and what comes after its colon; or a value
 pub data Head : Type 0 where
   item : List ℕ → Head
   entry : List ℕ → List ℕ → Head
   alone : Node → Head
 
--- behind a word: the colon of a key, or nothing but a comment
+-- after a word: the colon of a key, or nothing but a comment
 unfoldable pub word_head : ℕ → List ℕ → List ℕ → Head
 word_head n value [] = alone (scalar n value)
 word_head n value (b ∷ after) = if b == 58 then entry value after else alone (scalar n value)
 
--- behind a list or mapping: nothing but a comment
-unfoldable pub flow_head : Node × List ℕ → Result Head Flaw
-flow_head r = if is_over r.1 then Ok (alone r.0) else flaw_at Flow (length r.1)
+-- after a list or mapping: nothing but a comment
+unfoldable pub flow_head : ℕ → Node × List ℕ → Result Head PlacedFault
+flow_head n r = if is_over r.1 then Ok (alone r.0) else fault_at Flow n (length r.1)
 
 -- an entry or a value
-unfoldable pub text_head : ℕ → ℕ → List ℕ → Result Head Flaw
+unfoldable pub text_head : ℕ → ℕ → List ℕ → Result Head PlacedFault
 text_head depth n text =
     if begins_bracket text
-    then (flow_at depth n text >>= λ r. flow_head r)
-    else (word_at false text >>= λ r. Ok (word_head n r.0 r.1))
-
--- a part of the line n
-abbrev pub on_line : {A : Type 0} → ℕ → Result A Flaw → Result A PlacedFault
-on_line n (Ok x) = Ok x
-on_line n (Err f) = fault_at f.kind n f.left
+    then (flow_at depth n text >>= λ r. flow_head n r)
+    else (word_at n false text >>= λ r. Ok (word_head n r.0 r.1))
 
 unfoldable pub head_from : ℕ → ℕ → List ℕ → Option (List ℕ) → Result Head PlacedFault
-head_from depth n text None = on_line n (text_head depth n text)
+head_from depth n text None = text_head depth n text
 head_from depth n text (Some after) = Ok (item after)
 
 unfoldable pub head_at : ℕ → ℕ → List ℕ → Result Head PlacedFault
 head_at depth n text = head_from depth n text (behind_dash text)
 
--- where a value has to stand, at the front of a text
+-- where a value has to be, at the front of a text
 unfoldable pub node_from : ℕ → List ℕ → Head → Result Node PlacedFault
 node_from n text (item after) = fault_at NotInSubset n (length text)
 node_from n text (entry key after) = fault_at NotInSubset n (length after + 1)
 node_from n text (alone t) = Ok t
 
--- what stands behind the colon of an entry or the `-` of an item: a value or nothing
+-- what comes after the colon of an entry or the `-` of an item: a value or nothing
 unfoldable pub inline_at : ℕ → ℕ → List ℕ → Result (Option Node) PlacedFault
 inline_at depth n text = if is_over (behind_blanks text) then Ok None else (head_at depth n (behind_blanks text) >>= λ h. node_from n (behind_blanks text) h >>= λ t. Ok (Some t))
 
@@ -83,7 +75,7 @@ hangs false i l = is_deeper i l
 abbrev pub BlockReader : Type 0
 BlockReader = Option ℕ → List Line → Result Node PlacedFault
 
--- the lines that hang at the front, and the groups behind them
+-- the lines that hang at the front, and the groups after them
 abbrev pub chunk_step : Bool → Line → List Line × List Group → List Line × List Group
 chunk_step true l r = (l ∷ r.0, r.1)
 chunk_step false l r = ([], record { head = l; below = r.0 } ∷ r.1)
@@ -102,12 +94,12 @@ abbrev pub hanging_len : (Line → Bool) → List Line → ℕ
 hanging_len hangs [] = 0
 hanging_len hangs (l ∷ ls) = if hangs l then suc (hanging_len hangs ls) else 0
 
--- What is wrong with a line that has no place in its block: it stands where the block around stands, or where no open block does.
+-- What is wrong with a line that has no place in its block: it is where the block around is, or where no open block is.
 abbrev pub misplaced : Option ℕ → Line → FaultKind
 misplaced None l = Indent
 misplaced (Some around) l = if l.indent == around then NotInSubset else Indent
 
--- a value that stands on a line, where these lines are below it
+-- a value that is on a line, where these lines are below it
 unfoldable pub closed_at : Option ℕ → Node → List Line → Result Node PlacedFault
 closed_at around t [] = Ok t
 closed_at around t (l ∷ ls) = fault_of (misplaced around l) l
@@ -118,7 +110,7 @@ value_at block n i (Some t) below = closed_at (Some i) t below
 value_at block n i None [] = Ok (scalar n [])
 value_at block n i None (l ∷ ls) = block (Some i) (l ∷ ls)
 
--- the pair of an entry, with the fault that stands first on its line
+-- the pair of an entry, with the fault that comes first on its line
 unfoldable pub pair_from : ℕ → BlockReader → ℕ → List (List ℕ) → Group → Head → Result Pair PlacedFault
 pair_from depth block i before g (item after) = fault_of NotInSubset g.head
 pair_from depth block i before g (alone t) = fault_at NotInSubset g.head.number 0
@@ -147,11 +139,11 @@ unfoldable pub mapping_at : ℕ → BlockReader → Option ℕ → Line → List
 mapping_at depth block around first others =
     pairs_at depth block around first.indent [] (groups_of (hangs true first.indent) (first ∷ others)) >>= λ ps. Ok (mapping first.number (pairs_of ps))
 
--- what stands behind the `-` of a line and the spaces there, as a line at its own column
+-- what comes after the `-` of a line and the spaces there, as a line at its own column
 abbrev pub inner : Line → List ℕ → Line
 inner l after = record { number = l.number; indent = l.indent + (1 + spaces_len after); text = behind_spaces after }
 
--- behind the `-` of an item, where this begins there
+-- after the `-` of an item, where this begins there
 unfoldable pub item_with : ℕ → BlockReader → ℕ → Group → List ℕ → Head → Result Node PlacedFault
 item_with depth block i g after (item behind) = fault_at NotInSubset g.head.number (length (behind_blanks after))
 item_with depth block i g after (alone t) = value_at block g.head.number i (Some t) g.below
@@ -232,7 +224,7 @@ blemish_at n raw =
     else (if nat_lt (length (utf8_front raw)) (length raw) then Some (record { kind = NotUtf8; line = n; left = length raw - length (utf8_front raw) })
     else None)
 
--- A line in front of those behind it; no line is read behind one with a fault.
+-- A line in front of those after it; no line is read after one with a fault.
 abbrev pub add_line : Result (Option Line) PlacedFault → Option PlacedFault → List Line × Option PlacedFault → List Line × Option PlacedFault
 add_line (Err f) blemish r = ([], Some f)
 add_line (Ok found) (Some f) r = (option_to_list found, Some f)
@@ -243,7 +235,7 @@ unfoldable pub contents_from : ℕ → List (List ℕ) → List Line × Option P
 contents_from n [] = ([], None)
 contents_from n (raw ∷ raws) = add_line (content_at n raw) (blemish_at n raw) (contents_from (n + 1) raws)
 
--- whether a fault stands on an earlier line, or to the left on the same one
+-- whether a fault is on an earlier line, or to the left on the same one
 abbrev pub is_before : PlacedFault → PlacedFault → Bool
 is_before e f = nat_lt e.line f.line || ((e.line == f.line) && nat_lt f.left e.left)
 

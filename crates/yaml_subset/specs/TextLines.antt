@@ -1,32 +1,16 @@
 -- The lines of a text, and which of them have content.
-use Rattle.std.specs.Prelude.{◌≡◌, ℕ, ◌+◌, true, false, List, [], ◌∷◌, ◌++◌, replicate, Option, Some, None, if◌then◌else◌, ◌==◌}
-use Rattle.std.specs.List.{slice_split, AllByRecursion}
+use Rattle.std.specs.Prelude.{◌≡◌, ℕ, ◌+◌, true, false, List, [], ◌∷◌, ◌++◌, replicate, Option, Some, None}
+use Rattle.std.specs.List.{AllByRecursion}
 use Rattle.std.specs.Option.{option_to_list}
 use Rattle.std.specs.Str.{IsUtf8, chars}
 use Rattle.yaml_bytes.specs.Bytes.{begins_blank, is_over, is_document_marker, is_forbidden}
 use Rattle.yaml_bytes.specs.Plain.{IsBehindBlanks}
 
--- a line with content: its number, its indentation, and what stands behind the spaces at its front
+-- a line with content: its number, its indentation, and what comes after the spaces at its front
 pub record Line : Type 0 where
   pub number : ℕ
   pub indent : ℕ
   pub text : List ℕ
-
--- a line without the CR before its LF
-abbrev pub without_cr : List ℕ → List ℕ
-without_cr [] = []
-without_cr (b ∷ []) = if b == 13 then [] else b ∷ []
-without_cr (b ∷ c ∷ cs) = b ∷ without_cr (c ∷ cs)
-
--- the lines that the parts between LFs are: each but the last ends with LF or CR LF
-abbrev pub lines_between : List (List ℕ) → List (List ℕ)
-lines_between [] = []
-lines_between (last ∷ []) = last ∷ []
-lines_between (part ∷ next ∷ more) = without_cr part ∷ lines_between (next ∷ more)
-
--- the lines of a text
-abbrev pub lines_of : List ℕ → List (List ℕ)
-lines_of text = lines_between (slice_split (λ b. b == 10) text)
 
 -- Spaces, and then a text: neither a blank comes first nor a comment, and the line is no `---` or `...`.
 pub record IsContent (raw : List ℕ) (l : Line) : Type 0 where

@@ -4,7 +4,8 @@ use Rattle.std.specs.List.{Contains, AllByRecursion}
 use Rattle.yaml_bytes.specs.Bytes.{begins_gap, begins_item}
 use Rattle.yaml_subset.specs.Node.{Node, scalar, sequence, nodes_of, mapping, no_pairs, Pair, pairs_of}
 use Rattle.yaml_subset.specs.Values.{IsKey, IsEntry, IsInline, IsNode}
-use Rattle.yaml_subset.specs.TextLines.{Line, lines_of, HaveContent}
+use Rattle.yaml_bytes.specs.Lines.{lines_of}
+use Rattle.yaml_subset.specs.TextLines.{Line, HaveContent}
 
 -- a line of a block, and the lines that hang from it
 pub record Group : Type 0 where
@@ -23,13 +24,13 @@ hangs_from_entry i l = is_deeper i l || ((l.indent == i) && begins_item l.text)
 abbrev pub Stands : (Line → Bool) → ℕ → Line → Type 0
 Stands hangs i l = (l.indent ≡ i) × (hangs l ≡ false)
 
--- The lines are these groups, one behind the other: each a line at the indentation, and the lines that hang from it.
+-- The lines are these groups, one after the other: each a line at the indentation, and the lines that hang from it.
 abbrev pub IsRun : (Line → Bool) → ℕ → List Line → List Group → Type 0
 IsRun hangs i lines [] = lines ≡ []
 IsRun hangs i lines (g ∷ gs) =
     (rest : List Line) × (lines ≡ g.head ∷ (g.below ++ rest)) × Stands hangs i g.head × AllByRecursion (λ l. hangs l ≡ true) g.below × IsRun hangs i rest gs
 
--- The value of an entry or item on the line n: what stands on its line, with nothing below; or else the block below; or else the empty text.
+-- The value of an entry or item on the line n: what is on its line, with nothing below; or else the block below; or else the empty text.
 abbrev pub IsValue : (List Line → Node → Type 0) → ℕ → Option Node → List Line → Node → Type 0
 IsValue IsBelow n (Some u) below t = (below ≡ []) × (t ≡ u)
 IsValue IsBelow n None [] t = t ≡ scalar n []
@@ -45,7 +46,7 @@ pub record IsPair (depth : ℕ) (IsBelow : List Line → Node → Type 0) (befor
   pub is_inline : IsInline depth g.head.number after inline
   pub value : IsValue IsBelow g.head.number inline g.below p.value
 
--- the pairs that groups are, behind pairs with these keys
+-- the pairs that groups are, after pairs with these keys
 abbrev pub ArePairs : ℕ → (List Line → Node → Type 0) → List (List ℕ) → List Group → List Pair → Type 0
 ArePairs depth IsBelow before [] [] = Unit {0}
 ArePairs depth IsBelow before [] (p ∷ ps) = ⊥
@@ -60,11 +61,11 @@ pub record IsMapping (depth : ℕ) (IsBelow : List Line → Node → Type 0) (fi
   pub each : ArePairs depth IsBelow [] groups pairs
   pub tree : t ≡ mapping first.number (pairs_of pairs)
 
--- `-`, and behind it a blank or nothing
+-- `-`, and after it a blank or nothing
 abbrev pub IsDash : List ℕ → List ℕ → Type 0
 IsDash text after = (text ≡ 45 ∷ after) × (begins_gap after ≡ true)
 
--- What stands behind the `-` of a line and the spaces there, as a line at its own column: `KEY:`.
+-- What comes after the `-` of a line and the spaces there, as a line at its own column: `KEY:`.
 pub record IsInner (l : Line) (after : List ℕ) (inner : Line) : Type 0 where
   pub spaces : ℕ
   pub parts : after ≡ replicate spaces 32 ++ inner.text
@@ -74,7 +75,7 @@ pub record IsInner (l : Line) (after : List ℕ) (inner : Line) : Type 0 where
   pub behind : List ℕ
   pub is_key : IsKey inner.text key behind
 
--- The node that a group is behind its `-`: a value, as entries have them, or the mapping that a key begins there.
+-- The node that a group is after its `-`: a value, as entries have them, or the mapping that a key begins there.
 pub record IsItem (depth : ℕ) (IsBelow : List Line → Node → Type 0) (g : Group) (t : Node) : Type 0 where
   pub after : List ℕ
   pub dash : IsDash g.head.text after
@@ -101,7 +102,7 @@ pub record IsAlone (depth : ℕ) (first : Line) (others : List Line) (t : Node) 
   pub alone : others ≡ []
   pub value : IsNode depth first.number first.text t
 
--- No line is the empty mapping; other lines are what is said of the first and of those behind it.
+-- No line is the empty mapping; other lines are what is said of the first and of those after it.
 abbrev pub ByLines : (Line → List Line → Node → Type 0) → List Line → Node → Type 0
 ByLines IsBlock [] t = t ≡ mapping 1 no_pairs
 ByLines IsBlock (first ∷ others) t = IsBlock first others t

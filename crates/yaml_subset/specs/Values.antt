@@ -1,14 +1,14 @@
--- What stands on a line of a block: keys and values.
+-- What is on a line of a block: keys and values.
 use Rattle.std.specs.Prelude.{◌≡◌, ℕ, ◌≤◌, true, false, List, ◌∷◌, ◌++◌, Option, Some, None, ◌⊎◌}
 use Rattle.yaml_bytes.specs.Bytes.{is_over, characters}
 use Rattle.yaml_subset.specs.Node.{Node, scalar}
 use Rattle.yaml_bytes.specs.Plain.{IsBehindBlanks}
-use Rattle.yaml_subset.specs.Words.{IsWord}
+use Rattle.yaml_subset.specs.Words.{IsWordAt}
 use Rattle.yaml_subset.specs.Flow.{IsFlow}
 
--- `KEY:`, and what stands behind it
+-- `KEY:`, and what comes after it
 abbrev pub IsKey : List ℕ → List ℕ → List ℕ → Type 0
-IsKey text key after = IsWord false text key (58 ∷ after)
+IsKey text key after = IsWordAt false text key (58 ∷ after)
 
 -- `KEY:`, its colon at most 1,024 characters after its begin
 pub record IsEntry (text key after : List ℕ) : Type 0 where
@@ -19,13 +19,13 @@ pub record IsEntry (text key after : List ℕ) : Type 0 where
 
 -- a word, or a list or mapping on one line, with at most so many of these one inside the other
 abbrev pub IsValueOf : ℕ → ℕ → List ℕ → Node → List ℕ → Type 0
-IsValueOf depth n text t rest = ((value : List ℕ) × IsWord false text value rest × (t ≡ scalar n value)) ⊎ IsFlow depth n text t rest
+IsValueOf depth n text t rest = ((value : List ℕ) × IsWordAt false text value rest × (t ≡ scalar n value)) ⊎ IsFlow depth n text t rest
 
 -- a value on the line n, and nothing after it but a comment
 abbrev pub IsNode : ℕ → ℕ → List ℕ → Node → Type 0
 IsNode depth n text t = (rest : List ℕ) × IsValueOf depth n text t rest × (is_over rest ≡ true)
 
--- what stands behind the colon of an entry or the `-` of an item on the line n: a value or nothing
+-- what comes after the colon of an entry or the `-` of an item on the line n: a value or nothing
 abbrev pub IsInline : ℕ → ℕ → List ℕ → Option Node → Type 0
 IsInline depth n text None = (rest : List ℕ) × IsBehindBlanks text rest × (is_over rest ≡ true)
 IsInline depth n text (Some t) = (rest : List ℕ) × IsBehindBlanks text rest × (is_over rest ≡ false) × IsNode depth n rest t

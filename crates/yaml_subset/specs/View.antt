@@ -1,6 +1,6 @@
 -- What contracts see of a tree, and of an answer.
 use Rattle.std.specs.Prelude.{◌≡◌, ℕ, List, map, Option, Some, None, Result, Ok, Err}
-use Rattle.std.specs.Borrow.{Bor}
+pub use Rattle.yaml_bytes.specs.View.{option_slice}
 use Rattle.yaml_subset.specs.declared.fault.Fault.{Fault}
 use Rattle.yaml_subset.specs.declared.fault.YamlFault.{YamlFault}
 use Rattle.yaml_subset.specs.declared.fault.YamlFault.TheVariants as faults
@@ -46,11 +46,6 @@ items_in _ = None
 abbrev pub pairs_in : Node → Option (List Pair)
 pairs_in (mapping n pairs) = Some (list_pairs pairs)
 pairs_in _ = None
-
--- what stands behind an optional reference to a list, seen by f
-abbrev pub option_slice : {A B : Type 0} → (List A → B) → Option (Bor (List A)) → Option B
-option_slice f None = None
-option_slice f (Some s) = Some (f s.now)
 
 -- An answer, seen by view, is what reading gives, unless memory ran out.
 abbrev pub Fails : {Y : Type 0} → YamlFault → Result Y Fault → Type 0

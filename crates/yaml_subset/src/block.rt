@@ -5,8 +5,9 @@ ghost use Rattle.std.specs.Str.{bytes_eq};
 ghost use Rattle.yaml_subset.specs.Keys.{is_among};
 ghost use Rattle.yaml_subset.specs.Node.{scalar};
 ghost use Rattle.yaml_subset.specs.Reading.{hangs, chunks, groups_of, hanging_len, misplaced, closed_at, value_at, pair_at, mapping_at, inner, item_at, sequence_at, tree_at};
+ghost use Rattle.yaml_subset.specs.Placed.{GivesOrHalts};
 ghost use Rattle.yaml_subset.specs.View.{node_view, pair_view};
-ghost use Rattle.yaml_subset.specs.Inside.{GivesLines, line_view, lines_view, node_option_view, copies_view};
+ghost use Rattle.yaml_subset.specs.Inside.{line_view, lines_view, node_option_view, copies_view};
 
 use crate::entry::{Head, head_of, inline};
 use crate::fault::FaultKind;
@@ -45,7 +46,7 @@ fn hanging_len(entry: bool, indent: usize, lines: &[Line]) -> usize
     len
 }
 
-// The lines at the front that hang, and the lines behind them.
+// The lines at the front that hang, and the lines after them.
 fn split_below<'a, 'b>(
     entry: bool,
     indent: usize,
@@ -58,7 +59,7 @@ fn split_below<'a, 'b>(
     lines.split_at(hanging_len(entry, indent, lines))
 }
 
-// The line of a block at a place, where the first stands apart from the others.
+// The line of a block at a place, where the first is given apart from the others.
 fn line_at<'a>(first: &Line<'a>, others: &[Line<'a>], at: usize) -> Line<'a>
     requires { at ≤ length others.now }
     ensures { result ≡ get_or (first.now ∷ others.now) at first.now }
@@ -81,10 +82,10 @@ fn misplaced(around: Option<usize>, line: &Line) -> Halt
     line.fault(kind)
 }
 
-// A value that stands on a line, where no line may be below it.
+// A value that is on a line, where no line may be below it.
 #[tactic(auto, unfolding(crate::specs::Reading::closed_at))]
 fn closed(around: Option<usize>, value: Tree, below: &[Line]) -> Result<Tree, Halt>
-    ensures { GivesLines node_view result (closed_at around (node_view value) (lines_view below.now)) }
+    ensures { GivesOrHalts node_view result (closed_at around (node_view value) (lines_view below.now)) }
 {
     match below {
         [] => Ok(value),
@@ -111,7 +112,7 @@ fn value(
     below: &[Line],
     levels: u8,
 ) -> Result<Tree, Halt>
-    ensures { GivesLines node_view result (value_at (tree_at levels 8) number indent (node_option_view inline) (lines_view below.now)) }
+    ensures { GivesOrHalts node_view result (value_at (tree_at levels 8) number indent (node_option_view inline) (lines_view below.now)) }
 {
     match inline {
         Some(value) => closed(Some(indent), value, below),
@@ -134,7 +135,7 @@ fn pair(
     keys: &mut BTreeSet<Vec<u8>>,
     levels: u8,
 ) -> Result<(Key, Tree), Halt>
-    ensures value { GivesLines pair_view result (pair_at 8 (tree_at levels 8) around indent (copies_view keys.old) (record { head = line_view line.now; below = lines_view below.now })) }
+    ensures value { GivesOrHalts pair_view result (pair_at 8 (tree_at levels 8) around indent (copies_view keys.old) (record { head = line_view line.now; below = lines_view below.now })) }
     ensures known { IfOk result (λ pair. (q : List ℕ) → is_among (copies_view keys.new) q ≡ (bytes_eq (pair_view pair).key q || is_among (copies_view keys.old) q)) }
 {
     let number = line.number;
@@ -175,7 +176,7 @@ fn mapping<'a>(
     others: &[Line<'a>],
     levels: u8,
 ) -> Result<Tree, Halt>
-    ensures { GivesLines node_view result (mapping_at 8 (tree_at levels 8) around (line_view first.now) (lines_view others.now)) }
+    ensures { GivesOrHalts node_view result (mapping_at 8 (tree_at levels 8) around (line_view first.now) (lines_view others.now)) }
 {
     let indent = first.indent;
     let mut keys = BTreeSet::new(alloc);
@@ -191,7 +192,7 @@ fn mapping<'a>(
     Ok(Tree::Map(first.number, pairs))
 }
 
-// What stands behind the `-` of a line and the spaces there, as a line at its own column.
+// What comes after the `-` of a line and the spaces there, as a line at its own column.
 fn inner<'a>(line: &Line<'a>, after: &[u8]) -> Line<'a>
     requires { drop line.now.indent line.now.raw.now ≡ 45 ∷ after.now }
     ensures { line_view result ≡ inner (line_view line.now) after.now }
@@ -203,7 +204,7 @@ fn inner<'a>(line: &Line<'a>, after: &[u8]) -> Line<'a>
     }
 }
 
-// A line with the deeper lines behind it, as the next item of a sequence.
+// A line with the deeper lines after it, as the next item of a sequence.
 #[cycle(block)]
 #[tactic(auto, unfolding(crate::specs::Reading::item_at, crate::specs::Reading::item_from, crate::specs::Reading::item_with))]
 fn item<'a>(
@@ -214,7 +215,7 @@ fn item<'a>(
     below: &[Line<'a>],
     levels: u8,
 ) -> Result<Tree, Halt>
-    ensures { GivesLines node_view result (item_at 8 (tree_at levels 8) around indent (record { head = line_view line.now; below = lines_view below.now })) }
+    ensures { GivesOrHalts node_view result (item_at 8 (tree_at levels 8) around indent (record { head = line_view line.now; below = lines_view below.now })) }
 {
     let number = line.number;
     if line.indent != indent {
@@ -251,7 +252,7 @@ fn sequence<'a>(
     others: &[Line<'a>],
     levels: u8,
 ) -> Result<Tree, Halt>
-    ensures { GivesLines node_view result (sequence_at 8 (tree_at levels 8) around (line_view first.now) (lines_view others.now)) }
+    ensures { GivesOrHalts node_view result (sequence_at 8 (tree_at levels 8) around (line_view first.now) (lines_view others.now)) }
 {
     let indent = first.indent;
     let mut items = Vec::new(alloc);
@@ -277,7 +278,7 @@ fn block<'a>(
     others: &[Line<'a>],
     levels: u8,
 ) -> Result<Tree, Halt>
-    ensures { GivesLines node_view result (tree_at levels 8 around (line_view first.now ∷ lines_view others.now)) }
+    ensures { GivesOrHalts node_view result (tree_at levels 8 around (line_view first.now ∷ lines_view others.now)) }
 {
     match head_of(alloc, first.number, first.text())? {
         Head::Alone(value) => closed(around, value, others),
@@ -290,7 +291,7 @@ fn block<'a>(
 /// The tree of lines with at most so many sequences and mappings one inside the other.
 #[tactic(auto, unfolding(crate::specs::Reading::tree_at, crate::specs::Reading::block_at))]
 pub fn tree(alloc: Global, lines: &[Line], levels: u8) -> Result<Tree, Halt>
-    ensures { GivesLines node_view result (tree_at levels 8 None (lines_view lines.now)) }
+    ensures { GivesOrHalts node_view result (tree_at levels 8 None (lines_view lines.now)) }
 {
     match lines {
         [] => Ok(Tree::Map(1, Vec::new(alloc))),

@@ -1,12 +1,11 @@
-//! What a line begins, and what stands behind the colon of an entry.
+//! What a line begins, and what comes after the colon of an entry.
 
 ghost use Rattle.std.specs.Prelude.{◌≡◌};
-ghost use Rattle.yaml_subset.specs.Part.{GivesPart};
+ghost use Rattle.yaml_subset.specs.Placed.{GivesOrHalts};
 ghost use Rattle.yaml_subset.specs.Reading.{text_head, head_at, inline_at};
-ghost use Rattle.yaml_subset.specs.Inside.{GivesLines, node_option_view, head_view};
+ghost use Rattle.yaml_subset.specs.Inside.{node_option_view, head_view};
 
 use crate::fault::FaultKind;
-use crate::flaw::Stop;
 use crate::flow::{begins_bracket, flow};
 use crate::place::Halt;
 use crate::tree::Tree;
@@ -14,15 +13,15 @@ use crate::words::word;
 use std::alloc::Global;
 use yaml_bytes::{behind_blanks, behind_dash, is_over};
 
-/// The most lists and mappings that may stand one inside the other on one line.
+/// The most lists and mappings that may be one inside the other on one line.
 pub const MAX_DEPTH: u8 = 8;
 
 /// What a line begins.
 #[derive(Drop)]
 pub enum Head<'a> {
-    /// An item: the text behind its `-`.
+    /// An item: the text after its `-`.
     Item(&'a [u8]),
-    /// An entry: its key, and the text behind its colon.
+    /// An entry: its key, and the text after its colon.
     Entry(Vec<u8>, &'a [u8]),
     /// A value, and nothing after it but a comment.
     Alone(Tree),
@@ -30,17 +29,17 @@ pub enum Head<'a> {
 
 // What a line begins that is no item: an entry or a value.
 #[tactic(auto, unfolding(crate::specs::Reading::text_head, crate::specs::Reading::word_head, crate::specs::Reading::flow_head))]
-fn text_head(alloc: Global, number: u32, text: &[u8]) -> Result<Head<'_>, Stop>
-    ensures { GivesPart head_view result (text_head 8 number text.now) }
+fn text_head(alloc: Global, number: u32, text: &[u8]) -> Result<Head<'_>, Halt>
+    ensures { GivesOrHalts head_view result (text_head 8 number text.now) }
 {
     if begins_bracket(text) {
         let (value, rest) = flow(alloc, MAX_DEPTH, number, text)?;
         if !is_over(rest) {
-            return Err(Stop::at(FaultKind::Flow, rest.len()));
+            return Err(Halt::at(FaultKind::Flow, number, rest.len()));
         }
         return Ok(Head::Alone(value));
     }
-    let (value, rest) = word(alloc, false, text)?;
+    let (value, rest) = word(alloc, number, false, text)?;
     match rest {
         [b':', after @ ..] => Ok(Head::Entry(value, after)),
         _ => Ok(Head::Alone(Tree::Scalar(number, value))),
@@ -50,22 +49,18 @@ fn text_head(alloc: Global, number: u32, text: &[u8]) -> Result<Head<'_>, Stop>
 /// What a line begins.
 #[tactic(auto, unfolding(crate::specs::Reading::head_at, crate::specs::Reading::head_from))]
 pub fn head_of(alloc: Global, number: u32, text: &[u8]) -> Result<Head<'_>, Halt>
-    ensures { GivesLines head_view result (head_at 8 number text.now) }
+    ensures { GivesOrHalts head_view result (head_at 8 number text.now) }
 {
     if let Some(after) = behind_dash(text) {
         return Ok(Head::Item(after));
     }
-    match text_head(alloc, number, text) {
-        Ok(head) => Ok(head),
-        Err(Stop::NoMemory) => Err(Halt::NoMemory),
-        Err(Stop::At(flaw)) => Err(Halt::at(flaw.kind, number, flaw.left)),
-    }
+    text_head(alloc, number, text)
 }
 
-/// What stands behind the colon of an entry: a value or nothing.
+/// What comes after the colon of an entry: a value or nothing.
 #[tactic(auto, unfolding(crate::specs::Reading::inline_at, crate::specs::Reading::node_from))]
 pub fn inline(alloc: Global, number: u32, text: &[u8]) -> Result<Option<Tree>, Halt>
-    ensures { GivesLines node_option_view result (inline_at 8 number text.now) }
+    ensures { GivesOrHalts node_option_view result (inline_at 8 number text.now) }
 {
     let rest = behind_blanks(text);
     if is_over(rest) {

@@ -12,14 +12,14 @@ pub enum FaultKind {
     /// The bytes of the line are not UTF-8.
     #[error("NotUtf8")]
     NotUtf8,
-    /// A tab stands among the blanks that indent a line with content.
+    /// A tab is among the blanks that indent a line with content.
     #[error("Tab")]
     Tab,
     /// The line belongs to no block: it is deeper than the items or entries around it, or no block
     /// that is still open has its indentation.
     #[error("Indent")]
     Indent,
-    /// The key stands in its mapping already.
+    /// The key is in its mapping already.
     #[error("DuplicateKey")]
     DuplicateKey,
     /// A text in quotes is not closed on its line, has an unknown escape, or is followed by other
@@ -34,7 +34,7 @@ pub enum FaultKind {
     /// line may have.
     #[error("NotInSubset")]
     NotInSubset,
-    /// More than 32 sequences and mappings of lines stand one inside the other, or more than 8 lists
+    /// More than 32 sequences and mappings of lines are one inside the other, or more than 8 lists
     /// and mappings on one line.
     #[error("TooDeep")]
     TooDeep,
@@ -43,7 +43,7 @@ pub enum FaultKind {
     TooLong,
 }
 
-/// A fault and the line where it stands, counted from 1.
+/// A fault and the line where it is, counted from 1.
 #[derive(Clone, Copy, Debug, PartialEq, Eq, Error)]
 #[error("{kind} at line {line}")]
 pub struct Fault {
@@ -72,7 +72,7 @@ impl Fault {
 }
 
 impl YamlFault {
-    /// The answer that a text has a fault of a kind at a line.
+    /// The error that a text has a fault of a kind at a line.
     pub fn at(kind: FaultKind, line: u32) -> Self
         ensures { result ≡ YamlFault.Text (record { kind = kind; line = line }) }
     {

@@ -3,14 +3,14 @@
 ghost use Rattle.std.specs.Prelude.{◌≡◌, ◌||◌, ℕ, List, IfOk};
 ghost use Rattle.std.specs.Str.{bytes_eq};
 ghost use Rattle.yaml_subset.specs.Keys.{is_among};
-ghost use Rattle.yaml_subset.specs.Part.{GivesPart};
-ghost use Rattle.yaml_subset.specs.Flow.{begins_with, begins_colon, begins_bracket, is_ended, start_at, misplaced, behind_close_at, parted_at, behind_colon_at, flow_pair_at, flow_list_at, flow_mapping_at, bracketed_at, flow_value_at, flow_at};
+ghost use Rattle.yaml_subset.specs.Placed.{GivesOrHalts};
+ghost use Rattle.yaml_subset.specs.Flow.{begins_with, begins_colon, begins_bracket, is_ended, start_at, unexpected, behind_close_at, parted_at, behind_colon_at, flow_pair_at, flow_list_at, flow_mapping_at, bracketed_at, flow_value_at, flow_at};
 ghost use Rattle.yaml_subset.specs.View.{pair_view};
 ghost use Rattle.yaml_subset.specs.Inside.{rest_view, copies_view, flow_view, flow_pair_view};
 
 use crate::fault::FaultKind;
-use crate::flaw::{Flaw, Stop};
 use crate::keys::{MAX_KEY, take_copy};
+use crate::place::{Halt, PlacedFault};
 use crate::tree::{Key, Tree};
 use crate::words::word;
 use std::alloc::Global;
@@ -47,7 +47,7 @@ pub fn begins_bracket(text: &[u8]) -> bool
     }
 }
 
-// Whether the line's text ends here: by its end, or by a comment where a blank stands in front.
+// Whether the line's text ends here: by its end, or by a comment where a blank is in front.
 fn is_ended(blank: bool, text: &[u8]) -> bool
     ensures { result ≡ is_ended blank text.now }
 {
@@ -57,90 +57,84 @@ fn is_ended(blank: bool, text: &[u8]) -> bool
     }
 }
 
-// What stands behind a bracket, a comma or a colon and the blanks after it.
+// What comes after a bracket, a comma or a colon and the blanks that follow it.
 #[tactic(auto, unfolding(crate::specs::Flow::start_at))]
-fn start(after: &[u8]) -> Result<&[u8], Stop>
-    ensures { GivesPart rest_view result (start_at after.now) }
+fn start(number: u32, after: &[u8]) -> Result<&[u8], Halt>
+    ensures { GivesOrHalts rest_view result (start_at number after.now) }
 {
     let text = behind_blanks(after);
     if is_ended(begins_blank(after), text) {
-        return Err(Stop::at(FaultKind::Flow, 0));
+        return Err(Halt::at(FaultKind::Flow, number, 0));
     }
     Ok(text)
 }
 
-// What is wrong with a text that stands in the place of a comma, of the closing byte, or of a
+// What is wrong with a text in the place of a comma, of the closing byte, or of a
 // key's colon.
-#[tactic(auto, unfolding(crate::specs::Flow::misplaced))]
-fn misplaced(text: &[u8]) -> Flaw
-    ensures { result ≡ misplaced text.now }
+#[tactic(auto, unfolding(crate::specs::Flow::unexpected))]
+fn unexpected(number: u32, text: &[u8]) -> PlacedFault
+    ensures { result ≡ unexpected number text.now }
 {
     if is_ended(true, text) {
-        return Flaw {
-            kind: FaultKind::Flow,
-            left: 0,
-        };
+        return PlacedFault::new(FaultKind::Flow, number, 0);
     }
     let kind = if begins_colon(text) {
         FaultKind::NotInSubset
     } else {
         FaultKind::Flow
     };
-    Flaw {
-        kind,
-        left: text.len(),
-    }
+    PlacedFault::new(kind, number, text.len())
 }
 
-// From the closing byte to what stands behind it and the blanks after it.
+// From the closing byte to what comes after it and the blanks that follow it.
 #[tactic(auto, unfolding(crate::specs::Flow::behind_close_at))]
-fn behind_close(text: &[u8]) -> Result<&[u8], Stop>
-    ensures { GivesPart rest_view result (behind_close_at text.now) }
+fn behind_close(number: u32, text: &[u8]) -> Result<&[u8], Halt>
+    ensures { GivesOrHalts rest_view result (behind_close_at number text.now) }
 {
     match text {
-        [] => Err(Stop::at(FaultKind::Flow, 0)),
+        [] => Err(Halt::at(FaultKind::Flow, number, 0)),
         [_, after @ ..] => {
             if begins_with(b'#', after) {
-                return Err(Stop::at(FaultKind::Flow, after.len()));
+                return Err(Halt::at(FaultKind::Flow, number, after.len()));
             }
             Ok(behind_blanks(after))
         }
     }
 }
 
-// From behind a part to the next one, or to the closing byte.
+// From the end of a part to the next one, or to the closing byte.
 #[tactic(auto, unfolding(crate::specs::Flow::parted_at))]
-fn parted(close: u8, text: &[u8]) -> Result<&[u8], Stop>
-    ensures { GivesPart rest_view result (parted_at close text.now) }
+fn parted(number: u32, close: u8, text: &[u8]) -> Result<&[u8], Halt>
+    ensures { GivesOrHalts rest_view result (parted_at number close text.now) }
 {
     match text {
-        [b',', after @ ..] => start(after),
+        [b',', after @ ..] => start(number, after),
         [b, ..] if *b == close => Ok(text),
-        _ => Err(Stop::At(misplaced(text))),
+        _ => Err(Halt::At(unexpected(number, text))),
     }
 }
 
-// From a key's colon to what stands behind it.
+// From a key's colon to what comes after it.
 #[tactic(auto, unfolding(crate::specs::Flow::behind_colon_at))]
-fn behind_colon(text: &[u8]) -> Result<&[u8], Stop>
-    ensures { GivesPart rest_view result (behind_colon_at text.now) }
+fn behind_colon(number: u32, text: &[u8]) -> Result<&[u8], Halt>
+    ensures { GivesOrHalts rest_view result (behind_colon_at number text.now) }
 {
     match text {
         [b':', after @ ..] if begins_gap(after) => Ok(after),
-        _ => Err(Stop::At(misplaced(text))),
+        _ => Err(Halt::At(unexpected(number, text))),
     }
 }
 
 // A value in a list or mapping: a word, or a list or mapping with at most so many inside the other.
 #[cycle(flow)]
 #[tactic(auto, unfolding(crate::specs::Flow::flow_value_at))]
-fn value(alloc: Global, levels: u8, number: u32, text: &[u8]) -> Result<(Tree, &[u8]), Stop>
-    ensures { GivesPart flow_view result (flow_value_at number (flow_at levels number) text.now) }
+fn value(alloc: Global, levels: u8, number: u32, text: &[u8]) -> Result<(Tree, &[u8]), Halt>
+    ensures { GivesOrHalts flow_view result (flow_value_at number (flow_at levels number) text.now) }
 {
     if begins_bracket(text) {
         return flow(alloc, levels, number, text);
     }
-    let (text, rest) = word(alloc, true, text)?;
+    let (text, rest) = word(alloc, number, true, text)?;
     Ok((Tree::Scalar(number, text), rest))
 }
 
@@ -153,20 +147,20 @@ fn pair<'a>(
     number: u32,
     keys: &mut BTreeSet<Vec<u8>>,
     text: &'a [u8],
-) -> Result<((Key, Tree), &'a [u8]), Stop>
-    ensures value { GivesPart flow_pair_view result (flow_pair_at number (flow_value_at number (flow_at levels number)) (copies_view keys.old) text.now) }
+) -> Result<((Key, Tree), &'a [u8]), Halt>
+    ensures value { GivesOrHalts flow_pair_view result (flow_pair_at number (flow_value_at number (flow_at levels number)) (copies_view keys.old) text.now) }
     ensures known { IfOk result (λ r. (q : List ℕ) → is_among (copies_view keys.new) q ≡ (bytes_eq (pair_view r.0).key q || is_among (copies_view keys.old) q)) }
 {
-    let (key, colon) = word(alloc, true, text)?;
-    let after = behind_colon(colon)?;
+    let (key, colon) = word(alloc, number, true, text)?;
+    let after = behind_colon(number, colon)?;
     let fresh = take_copy(alloc, keys, &key)?;
     if !fresh {
-        return Err(Stop::at(FaultKind::DuplicateKey, text.len()));
+        return Err(Halt::at(FaultKind::DuplicateKey, number, text.len()));
     }
     if characters(&text[..text.len() - colon.len()]) > MAX_KEY {
-        return Err(Stop::at(FaultKind::NotInSubset, colon.len()));
+        return Err(Halt::at(FaultKind::NotInSubset, number, colon.len()));
     }
-    let (value, rest) = value(alloc, levels, number, start(after)?)?;
+    let (value, rest) = value(alloc, levels, number, start(number, after)?)?;
     Ok((
         (
             Key {
@@ -179,61 +173,61 @@ fn pair<'a>(
     ))
 }
 
-// A list, from behind its bracket.
+// A list, read from after its bracket on.
 #[cycle(flow)]
 #[tactic(auto, unfolding(crate::specs::Flow::flow_list_at))]
-fn list(alloc: Global, levels: u8, number: u32, after: &[u8]) -> Result<(Tree, &[u8]), Stop>
-    ensures { GivesPart flow_view result (flow_list_at number (flow_value_at number (flow_at levels number)) after.now) }
+fn list(alloc: Global, levels: u8, number: u32, after: &[u8]) -> Result<(Tree, &[u8]), Halt>
+    ensures { GivesOrHalts flow_view result (flow_list_at number (flow_value_at number (flow_at levels number)) after.now) }
 {
     let mut items = Vec::new(alloc);
-    let mut text = start(after)?;
+    let mut text = start(number, after)?;
     while !begins_with(b']', text) {
         let (item, rest) = value(alloc, levels, number, text)?;
         items.push(item)?;
-        text = parted(b']', rest)?;
+        text = parted(number, b']', rest)?;
     }
-    let rest = behind_close(text)?;
+    let rest = behind_close(number, text)?;
     Ok((Tree::List(number, items), rest))
 }
 
-// A mapping, from behind its brace.
+// A mapping, read from after its brace on.
 #[cycle(flow)]
 #[tactic(auto, unfolding(crate::specs::Flow::flow_mapping_at))]
-fn mapping(alloc: Global, levels: u8, number: u32, after: &[u8]) -> Result<(Tree, &[u8]), Stop>
-    ensures { GivesPart flow_view result (flow_mapping_at number (flow_value_at number (flow_at levels number)) after.now) }
+fn mapping(alloc: Global, levels: u8, number: u32, after: &[u8]) -> Result<(Tree, &[u8]), Halt>
+    ensures { GivesOrHalts flow_view result (flow_mapping_at number (flow_value_at number (flow_at levels number)) after.now) }
 {
     let mut keys = BTreeSet::new(alloc);
     let mut pairs = Vec::new(alloc);
-    let mut text = start(after)?;
+    let mut text = start(number, after)?;
     while !begins_with(b'}', text) {
         let (next, rest) = pair(alloc, levels, number, &mut keys, text)?;
         pairs.push(next)?;
-        text = parted(b'}', rest)?;
+        text = parted(number, b'}', rest)?;
     }
-    let rest = behind_close(text)?;
+    let rest = behind_close(number, text)?;
     Ok((Tree::Map(number, pairs), rest))
 }
 
 /// The list or mapping at the front of a text that begins with `[` or `{`, with at most so many of
-/// them one inside the other, and what stands behind it and the blanks after it. Each node in it has
+/// them one inside the other, and what comes after it and the blanks that follow it. Each node in it has
 /// the line's number. A `#` there begins a comment.
 ///
-/// The left flaw is answered: what is wrong with a word at its place; `DuplicateKey` at the second
+/// The error is the leftmost fault: what is wrong with a word at its place; `DuplicateKey` at the second
 /// of two equal keys; `NotInSubset` at the colon of a key that is too long, and at a `:` before a gap
-/// that is no key's; `TooDeep` at a bracket or brace; `Flow` where something else stands in the
+/// that is no key's; `TooDeep` at a bracket or brace; `Flow` where something else is in the
 /// place of a comma, a colon, a value or the closing bracket or brace, and at the line's end where
 /// this is missing.
 #[cycle(flow)]
 #[tactic(auto, unfolding(crate::specs::Flow::flow_at, crate::specs::Flow::bracketed_at))]
-pub fn flow(alloc: Global, levels: u8, number: u32, text: &[u8]) -> Result<(Tree, &[u8]), Stop>
-    ensures { GivesPart flow_view result (flow_at levels number text.now) }
+pub fn flow(alloc: Global, levels: u8, number: u32, text: &[u8]) -> Result<(Tree, &[u8]), Halt>
+    ensures { GivesOrHalts flow_view result (flow_at levels number text.now) }
 {
     if levels == 0 {
-        return Err(Stop::at(FaultKind::TooDeep, text.len()));
+        return Err(Halt::at(FaultKind::TooDeep, number, text.len()));
     }
     match text {
         [b'[', after @ ..] => list(alloc, levels - 1, number, after),
         [b'{', after @ ..] => mapping(alloc, levels - 1, number, after),
-        _ => Err(Stop::at(FaultKind::Flow, text.len())),
+        _ => Err(Halt::at(FaultKind::Flow, number, text.len())),
     }
 }

@@ -8,7 +8,7 @@ ghost use Rattle.yaml_subset.specs.Inside.{copies_view};
 use std::alloc::{AllocError, Global};
 use std::collections::BTreeSet;
 
-/// How many characters of a line may stand before the colon of a key.
+/// How many characters of a line may come before the colon of a key.
 pub const MAX_KEY: usize = 1024;
 
 /// Takes a copy of a key, and says whether it is new. Where memory runs out it may be taken or not.

@@ -1,13 +1,13 @@
 //! A subset of YAML 1.2.2, read into a tree whose nodes know their lines.
 //!
 //! A text is UTF-8, and its lines end with LF or CR LF. A line has content unless it is blank or
-//! nothing but a comment stands on it. The others are blocks:
+//! has nothing but a comment. The others are blocks:
 //!
 //! - a sequence: lines `- VALUE`, `-` or `- KEY: ..` at one indentation,
 //! - a mapping: lines `KEY: VALUE` or `KEY:` at one indentation, with keys that differ,
 //! - or one line with a value.
 //!
-//! Where no value stands on the line, it is the block of the deeper lines below, for an entry also the
+//! Where no value is on the line, it is the block of the deeper lines below, for an entry also the
 //! items at its own indentation, or else the empty text. `- KEY: ..` begins a mapping at the column
 //! of KEY. A value on a line is a text without quotes or in single or double quotes, a list `[a, b]`
 //! or a mapping `{k: v}`; a key is a text. A comment may follow. Everything else of YAML is refused:
@@ -15,13 +15,12 @@
 //! empty values in lists and mappings on one line, document markers, control characters and a byte
 //! order mark. All values that are read are texts.
 //!
-//! [`read`] answers the tree of a text, which `specs/TreeOf.antt` defines, or the first fault.
+//! [`read`] gives the tree of a text, which `specs/TreeOf.antt` defines, or the first fault.
 #![tactic(auto)]
 
 mod block;
 mod entry;
 pub mod fault;
-mod flaw;
 mod flow;
 mod keys;
 mod line;

@@ -17,7 +17,7 @@ pub struct Line<'a> {
 }
 
 impl<'a> Line<'a> {
-    /// What stands from the column on.
+    /// What comes from the column on.
     pub fn text(&self) -> &'a [u8]
         ensures { result.now ≡ drop self.now.indent self.now.raw.now }
     {
@@ -30,7 +30,7 @@ impl<'a> Line<'a> {
         }
     }
 
-    /// The answer that the line has a fault of a kind at its begin.
+    /// The error that the line has a fault of a kind at its beginning.
     pub fn fault(&self, kind: FaultKind) -> Halt
         ensures { result ≡ Halt.At (record { kind = kind; line = self.now.number; left = length (drop self.now.indent self.now.raw.now) }) }
     {

@@ -1,13 +1,11 @@
 //! The lines of a text that have content.
 
-ghost use Rattle.std.specs.Prelude.{◌≡◌, ◌∷◌, ◌++◌, ◌<◌, ◌≤◌, ◌==◌, ◌^◌, length, IfSome, IfOk};
-ghost use Rattle.std.specs.List.{position_or_len};
+ghost use Rattle.std.specs.Prelude.{◌≡◌, ◌++◌, ◌≤◌, ◌^◌, length, IfOk};
 ghost use Rattle.std.specs.Option.{option_to_list};
 ghost use Rattle.std.specs.Str.{chars};
-ghost use Rattle.yaml_bytes.specs.Scanning.{text_option_view};
-ghost use Rattle.yaml_subset.specs.TextLines.{without_cr, lines_of};
+ghost use Rattle.yaml_bytes.specs.Lines.{lines_of};
 ghost use Rattle.yaml_subset.specs.Reading.{utf8_front, forbidden_left, blemish_at, content_at, contents_from};
-ghost use Rattle.yaml_subset.specs.Inside.{lines_behind, lines_view, line_option_view, GivesOrFaults};
+ghost use Rattle.yaml_subset.specs.Inside.{lines_view, line_option_view, GivesOrFaults};
 
 use crate::fault::FaultKind;
 use crate::line::Line;
@@ -15,47 +13,8 @@ use crate::place::PlacedFault;
 use std::alloc::{AllocError, Global};
 use yaml_bytes::{
     begins_blank, behind_blanks, behind_spaces, is_document_marker, is_forbidden, is_over,
-    spaces_len,
+    spaces_len, split_line,
 };
-
-// How many bytes stand before the first LF.
-fn line_len(text: &[u8]) -> usize
-    ensures within { result ≤ length text.now }
-    ensures value { result ≡ position_or_len (λ b. b == 10) text.now }
-{
-    let mut len = 0;
-    let mut rest = text;
-    while let [b, after @ ..] = rest {
-        if *b == b'\n' {
-            break;
-        }
-        rest = after;
-        len += 1;
-    }
-    len
-}
-
-// A line without the CR before its LF.
-fn without_cr(line: &[u8]) -> &[u8]
-    ensures { result.now ≡ without_cr line.now }
-{
-    match line {
-        [] => line,
-        [before @ .., b] => { if *b == b'\r' { before } else { line } }
-    }
-}
-
-// The first line, and what follows its end where it has one.
-fn split_line(text: &[u8]) -> (&[u8], Option<&[u8]>)
-    ensures lines { lines_of text.now ≡ result.0.now ∷ lines_behind (text_option_view result.1) }
-    ensures shorter { IfSome result.1 (λ rest. length rest.now < length text.now) }
-{
-    let (line, end) = text.split_at(line_len(text));
-    match end {
-        [] => (line, None),
-        [_, after @ ..] => (without_cr(line), Some(after)),
-    }
-}
 
 // The front of a line that is UTF-8.
 fn utf8_front(raw: &[u8]) -> &str
@@ -132,7 +91,7 @@ pub struct Contents<'a> {
     pub fault: Option<PlacedFault>,
 }
 
-// Puts a line behind others, where there is one.
+// Puts a line after others, where there is one.
 fn push_line<'a>(lines: &mut Vec<Line<'a>>, found: Option<Line<'a>>) -> Result<(), AllocError>
     ensures { IfOk result (λ _. lines_view lines.new.items ≡ lines_view lines.old.items ++ option_to_list (line_option_view found.entry)) }
 {

@@ -1,4 +1,4 @@
-//! Where on its line a fault stands.
+//! Where on its line a fault is.
 
 ghost use Rattle.std.specs.Prelude.{◌≡◌};
 ghost use Rattle.yaml_subset.specs.Reading.{is_before, first_fault};
@@ -7,7 +7,7 @@ ghost use Rattle.yaml_subset.specs.declared.place.Halt.TheVariants.{NoMemory};
 use crate::fault::FaultKind;
 use std::alloc::{AllocError, AllocFailed};
 
-/// A fault and its place: so many of its line's bytes stand there and behind it. Of two faults of a
+/// A fault and its place: so many of its line's bytes are there and after it. Of two faults of a
 /// line the left one has more bytes left.
 #[derive(Clone, Copy)]
 pub struct PlacedFault {
@@ -24,7 +24,7 @@ impl PlacedFault {
         PlacedFault { kind, line, left }
     }
 
-    /// Whether the fault stands on an earlier line than another, or to the left of it on the same
+    /// Whether the fault is on an earlier line than another, or to the left of it on the same
     /// one.
     pub fn is_before(&self, other: &PlacedFault) -> bool
         ensures { result ≡ is_before self.now other.now }
@@ -53,7 +53,7 @@ pub enum Halt {
 }
 
 impl Halt {
-    /// The answer that a line has a fault of a kind where so many of its bytes are left.
+    /// The error that a line has a fault of a kind where so many of its bytes are left.
     pub fn at(kind: FaultKind, line: u32, left: usize) -> Self
         ensures { result ≡ Halt.At (record { kind = kind; line = line; left = left }) }
     {

@@ -1,12 +1,12 @@
 //! Texts in quotes.
 
 ghost use Rattle.std.specs.Prelude.{◌≡◌};
-ghost use Rattle.yaml_subset.specs.Part.{GivesPart};
+ghost use Rattle.yaml_subset.specs.Placed.{GivesOrHalts};
 ghost use Rattle.yaml_subset.specs.Quoted.{begins_single, single_at, double_byte_at, double_at, unescaped};
 ghost use Rattle.yaml_subset.specs.Inside.{word_view, byte_view};
 
 use crate::fault::FaultKind;
-use crate::flaw::Stop;
+use crate::place::Halt;
 use std::alloc::Global;
 
 // Whether a single quote comes first.
@@ -19,9 +19,9 @@ fn begins_single(text: &[u8]) -> bool
     }
 }
 
-/// The value of a text in single quotes, from behind the first quote, and what follows the last.
-pub fn single(alloc: Global, text: &[u8]) -> Result<(Vec<u8>, &[u8]), Stop>
-    ensures { GivesPart word_view result (single_at text.now) }
+/// The value of a text in single quotes, read from after the first quote on, and what follows the last.
+pub fn single(alloc: Global, number: u32, text: &[u8]) -> Result<(Vec<u8>, &[u8]), Halt>
+    ensures { GivesOrHalts word_view result (single_at number text.now) }
 {
     let mut value = Vec::new(alloc);
     let mut rest = text;
@@ -35,10 +35,10 @@ pub fn single(alloc: Global, text: &[u8]) -> Result<(Vec<u8>, &[u8]), Stop>
         }
         value.push(*b)?;
     }
-    Err(Stop::at(FaultKind::Quote, 0))
+    Err(Halt::at(FaultKind::Quote, number, 0))
 }
 
-// What stands behind a backslash for a byte.
+// What comes after a backslash for a byte.
 fn unescaped(b: u8) -> Option<u8>
     ensures { result ≡ unescaped b }
 {
@@ -53,23 +53,23 @@ fn unescaped(b: u8) -> Option<u8>
 
 // The byte at the front of a text in double quotes, which an escape may write, and what follows it.
 #[tactic(auto, unfolding(crate::specs::Quoted::double_byte_at))]
-fn double_byte(text: &[u8]) -> Result<(u8, &[u8]), Stop>
-    ensures { GivesPart byte_view result (double_byte_at text.now) }
+fn double_byte(number: u32, text: &[u8]) -> Result<(u8, &[u8]), Halt>
+    ensures { GivesOrHalts byte_view result (double_byte_at number text.now) }
 {
     match text {
         [b'\\', e, after @ ..] => match unescaped(*e) {
             Some(b) => Ok((b, after)),
-            None => Err(Stop::at(FaultKind::Quote, text.len())),
+            None => Err(Halt::at(FaultKind::Quote, number, text.len())),
         },
-        [b'\\'] => Err(Stop::at(FaultKind::Quote, 1)),
+        [b'\\'] => Err(Halt::at(FaultKind::Quote, number, 1)),
         [b, after @ ..] => Ok((*b, after)),
-        [] => Err(Stop::at(FaultKind::Quote, 0)),
+        [] => Err(Halt::at(FaultKind::Quote, number, 0)),
     }
 }
 
-/// The value of a text in double quotes, from behind the first quote, and what follows the last.
-pub fn double(alloc: Global, text: &[u8]) -> Result<(Vec<u8>, &[u8]), Stop>
-    ensures { GivesPart word_view result (double_at text.now) }
+/// The value of a text in double quotes, read from after the first quote on, and what follows the last.
+pub fn double(alloc: Global, number: u32, text: &[u8]) -> Result<(Vec<u8>, &[u8]), Halt>
+    ensures { GivesOrHalts word_view result (double_at number text.now) }
 {
     let mut value = Vec::new(alloc);
     let mut rest = text;
@@ -77,9 +77,9 @@ pub fn double(alloc: Global, text: &[u8]) -> Result<(Vec<u8>, &[u8]), Stop>
         if *b == b'"' {
             return Ok((value, after));
         }
-        let (byte, more) = double_byte(rest)?;
+        let (byte, more) = double_byte(number, rest)?;
         value.push(byte)?;
         rest = more;
     }
-    Err(Stop::at(FaultKind::Quote, 0))
+    Err(Halt::at(FaultKind::Quote, number, 0))
 }

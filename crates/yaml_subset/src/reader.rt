@@ -14,11 +14,11 @@ use crate::tree::Tree;
 use std::alloc::Global;
 
 /// The most bytes that a text may have: 1 MiB.
-pub const MAX_BYTES: usize = 1_048_576;
+const MAX_BYTES: usize = 1_048_576;
 
-/// The most sequences and mappings of lines that may stand one inside the other, the one of the text
+/// The most sequences and mappings of lines that may be one inside the other, the one of the text
 /// itself among them.
-pub const MAX_LEVELS: u8 = 32;
+const MAX_LEVELS: u8 = 32;
 
 // The tree of a text, or its first fault.
 #[tactic(auto, unfolding(crate::specs::Reading::read_at))]
@@ -47,7 +47,7 @@ fn read_exactly(alloc: Global, text: &[u8]) -> Result<Tree, YamlFault>
 /// text of more than 1 MiB is `TooLong` at line 1, whatever else is wrong with it. Where no
 /// line has content, the tree is a mapping at line 1 that has no pairs.
 ///
-/// `NoMemory` is answered where memory runs out before a fault is found.
+/// The error is `NoMemory` where memory runs out before a fault is found.
 pub fn read(alloc: Global, text: &[u8]) -> Result<Tree, YamlFault>
     // What is read is the tree of the text.
     ensures found { IfOk result (λ tree. IsTreeOf 32 8 text.now (node_view tree)) }

@@ -14,11 +14,11 @@ pub struct Key {
 /// is written, that is the line of the key or `-` in front of it.
 #[derive(Debug, Drop)]
 pub enum Tree {
-    /// A text; the empty text where no value stands.
+    /// A text; the empty text where there is no value.
     Scalar(u32, Vec<u8>),
     /// Nodes in order.
     List(u32, Vec<Tree>),
-    /// Keys with their values, in order; no key stands twice.
+    /// Keys with their values, in order; no key comes twice.
     Map(u32, Vec<(Key, Tree)>),
 }
 

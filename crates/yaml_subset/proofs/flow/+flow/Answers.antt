@@ -2,7 +2,7 @@ use Rattle.std.proofs.Common.{◌≡◌, ◌||◌, ℕ, ◌<◌, List, [], ◌�
 use Rattle.std.specs.Str.{bytes_eq}
 use Rattle.std.proofs.lemmas.Result.{err_from_is_err_and}
 use Rattle.std.proofs.lemmas.List.{map_push}
-use Rattle.yaml_subset.specs.declared.flaw.Flaw.{Flaw}
+use Rattle.yaml_subset.specs.declared.place.PlacedFault.{PlacedFault}
 use Rattle.yaml_subset.specs.Keys.{is_among}
 use Rattle.yaml_subset.specs.Node.{Node, Pair, sequence, mapping, nodes_of, pairs_of}
 use Rattle.yaml_subset.specs.Flow.{keys_of, between_at, flow_pair_at, flow_list_at, flow_mapping_at, flow_value_at, flow_at}
@@ -13,22 +13,23 @@ use Rattle.yaml_subset.proofs.KeySets.{among-push}
 use Rattle.yaml_subset.proofs.FlowParts.{parted_less}
 use Rattle.yaml_subset.proofs.FlowWords.{word_less}
 use Rattle.yaml_subset.proofs.FlowReads.{pair_same, value_less, pair_less}
-use Rattle.yaml_subset.proofs.FlowLoops.{fails_then, begun, begin_fails, closed, close_fails, part_fails, parted_fails, goes_on}
+use Rattle.yaml_subset.proofs.Groups.{fails_then}
+use Rattle.yaml_subset.proofs.FlowLoops.{begun, begin_fails, closed, close_fails, part_fails, parted_fails, goes_on}
 use Rattle.yaml_subset.proofs.flow.+flow.Goals as goal
 
-abbrev value_in : ℕ → ℕ → List ℕ → Result (Node × List ℕ) Flaw
+abbrev value_in : ℕ → ℕ → List ℕ → Result (Node × List ℕ) PlacedFault
 value_in levels n = flow_value_at n (flow_at levels n)
 
-abbrev item_in : ℕ → ℕ → List Node → List ℕ → Result (Node × List ℕ) Flaw
+abbrev item_in : ℕ → ℕ → List Node → List ℕ → Result (Node × List ℕ) PlacedFault
 item_in levels n before = value_in levels n
 
-abbrev pair_in : ℕ → ℕ → List Pair → List ℕ → Result (Pair × List ℕ) Flaw
+abbrev pair_in : ℕ → ℕ → List Pair → List ℕ → Result (Pair × List ℕ) PlacedFault
 pair_in levels n before = flow_pair_at n (value_in levels n) (keys_of before)
 
-abbrev list_of : ℕ → List Node × List ℕ → Result (Node × List ℕ) Flaw
+abbrev list_of : ℕ → List Node × List ℕ → Result (Node × List ℕ) PlacedFault
 list_of n r = Ok (sequence n (nodes_of r.0), r.1)
 
-abbrev mapping_of : ℕ → List Pair × List ℕ → Result (Node × List ℕ) Flaw
+abbrev mapping_of : ℕ → List Pair × List ℕ → Result (Node × List ℕ) PlacedFault
 mapping_of n r = Ok (mapping n (pairs_of r.0), r.1)
 
 -- ---- lists
@@ -40,21 +41,21 @@ list-returns-in_err-text t c =
     let part = item_in c.args.levels c.args.number in
     let after = c.args.after.now in
     let e = c.in_err-text.field-0.0 in
-    rw (p.1, p.2) (fails_then e (between_at 93 part after) (list_of c.args.number) (begin_fails 93 part after e c.in_err-text.ensures))
+    rw (p.1, p.2) (fails_then e (between_at c.args.number 93 part after) (list_of c.args.number) (begin_fails c.args.number 93 part after e c.in_err-text.ensures))
 
 pub list-loop-alloc-init : goal.list-loop-alloc-init
 list-loop-alloc-init t c =
-    rw c.new-items.ensures.items (begun 93 (item_in c.args.levels c.args.number) c.args.after.now c.in_ok-text.text.now c.in_ok-text.ensures)
+    rw c.new-items.ensures.items (begun c.args.number 93 (item_in c.args.levels c.args.number) c.args.after.now c.in_ok-text.text.now c.in_ok-text.ensures)
 
 pub list-returns-in_err-item : goal.list-returns-in_err-item
 unfolding flow_list_at
 list-returns-in_err-item t c =
     let p = err_from_is_err_and c.from_residual-in_err-item.result c.from_residual-in_err-item.ensures.1 in
     let part = item_in c.args.levels c.args.number in
-    let total = between_at 93 part c.args.after.now in
+    let total = between_at c.args.number 93 part c.args.after.now in
     let e = c.in_err-item.field-0.0 in
     let more = sym c.begins_with.ensures ∙ c.loop-alloc-test.true in
-    let d = part_fails 93 part total (map node_view c.loop-alloc.items.items) c.loop-alloc.text.now c.loop-alloc.invariant more e c.in_err-item.ensures in
+    let d = part_fails c.args.number 93 part total (map node_view c.loop-alloc.items.items) c.loop-alloc.text.now c.loop-alloc.invariant more e c.in_err-item.ensures in
     rw (p.1, p.2) (fails_then e total (list_of c.args.number) d)
 
 pub list-returns-in_err-text-2 : goal.list-returns-in_err-text-2
@@ -62,16 +63,16 @@ unfolding flow_list_at
 list-returns-in_err-text-2 t c =
     let p = err_from_is_err_and c.from_residual-in_err-text-2.result c.from_residual-in_err-text-2.ensures.1 in
     let part = item_in c.args.levels c.args.number in
-    let total = between_at 93 part c.args.after.now in
+    let total = between_at c.args.number 93 part c.args.after.now in
     let e = c.in_err-text-2.field-0.0 in
     let more = sym c.begins_with.ensures ∙ c.loop-alloc-test.true in
-    let d = parted_fails 93 part total (map node_view c.loop-alloc.items.items) c.loop-alloc.text.now c.loop-alloc.invariant more (node_view c.in_ok-item.item) c.in_ok-item.rest.now c.in_ok-item.ensures e c.in_err-text-2.ensures in
+    let d = parted_fails c.args.number 93 part total (map node_view c.loop-alloc.items.items) c.loop-alloc.text.now c.loop-alloc.invariant more (node_view c.in_ok-item.item) c.in_ok-item.rest.now c.in_ok-item.ensures e c.in_err-text-2.ensures in
     rw (p.1, p.2) (fails_then e total (list_of c.args.number) d)
 
 pub list-loop-alloc-smaller : goal.list-loop-alloc-smaller
 list-loop-alloc-smaller t c =
     let one = value_less c.args.levels c.args.number c.loop-alloc.text.now (node_view c.in_ok-item.item) c.in_ok-item.rest.now c.in_ok-item.ensures in
-    let two = parted_less 93 c.in_ok-item.rest.now c.in_ok-text-2.text.now c.in_ok-text-2.ensures in
+    let two = parted_less c.args.number 93 c.in_ok-item.rest.now c.in_ok-text-2.text.now c.in_ok-text-2.ensures in
     omega (arith, one, two)
 
 pub list-loop-alloc-preserved : goal.list-loop-alloc-preserved
@@ -84,27 +85,27 @@ list-loop-alloc-preserved t c =
     let e : map node_view c.push.new.self.items ≡ map node_view c.loop-alloc.items.items ++ node_view item ∷ [] = rw c.in_ok-push.ensures.items (map_push node_view c.loop-alloc.items.items item) in
     let more = sym c.begins_with.ensures ∙ c.loop-alloc-test.true in
     let less : length next < length text =
-    omega (arith, value_less c.args.levels c.args.number text (node_view item) rest c.in_ok-item.ensures, parted_less 93 rest next c.in_ok-text-2.ensures) in
-    rw e (goes_on 93 part (between_at 93 part c.args.after.now) (map node_view c.loop-alloc.items.items) text c.loop-alloc.invariant more (node_view item) rest c.in_ok-item.ensures next c.in_ok-text-2.ensures less)
+    omega (arith, value_less c.args.levels c.args.number text (node_view item) rest c.in_ok-item.ensures, parted_less c.args.number 93 rest next c.in_ok-text-2.ensures) in
+    rw e (goes_on c.args.number 93 part (between_at c.args.number 93 part c.args.after.now) (map node_view c.loop-alloc.items.items) text c.loop-alloc.invariant more (node_view item) rest c.in_ok-item.ensures next c.in_ok-text-2.ensures less)
 
 pub list-returns-in_err-rest : goal.list-returns-in_err-rest
 unfolding flow_list_at
 list-returns-in_err-rest t c =
     let p = err_from_is_err_and c.from_residual-in_err-rest.result c.from_residual-in_err-rest.ensures.1 in
     let part = item_in c.args.levels c.args.number in
-    let total = between_at 93 part c.args.after.now in
+    let total = between_at c.args.number 93 part c.args.after.now in
     let e = c.in_err-rest.field-0.0 in
     let ends = sym c.begins_with.ensures ∙ c.loop-alloc-test.false in
-    let d = close_fails 93 part total (map node_view c.loop-alloc.items.items) c.loop-alloc.text.now c.loop-alloc.invariant ends e c.in_err-rest.ensures in
+    let d = close_fails c.args.number 93 part total (map node_view c.loop-alloc.items.items) c.loop-alloc.text.now c.loop-alloc.invariant ends e c.in_err-rest.ensures in
     rw (p.1, p.2) (fails_then e total (list_of c.args.number) d)
 
 pub list-returns : goal.list-returns
 unfolding flow_list_at
 list-returns t c =
     let part = item_in c.args.levels c.args.number in
-    let total = between_at 93 part c.args.after.now in
+    let total = between_at c.args.number 93 part c.args.after.now in
     let ends = sym c.begins_with.ensures ∙ c.loop-alloc-test.false in
-    let d = closed 93 part total (map node_view c.loop-alloc.items.items) c.loop-alloc.text.now c.loop-alloc.invariant ends c.in_ok-rest.rest.now c.in_ok-rest.ensures in
+    let d = closed c.args.number 93 part total (map node_view c.loop-alloc.items.items) c.loop-alloc.text.now c.loop-alloc.invariant ends c.in_ok-rest.rest.now c.in_ok-rest.ensures in
     rw (d, node_view-List) refl
 
 -- ---- mappings
@@ -116,12 +117,12 @@ mapping-returns-in_err-text t c =
     let part = pair_in c.args.levels c.args.number in
     let after = c.args.after.now in
     let e = c.in_err-text.field-0.0 in
-    rw (p.1, p.2) (fails_then e (between_at 125 part after) (mapping_of c.args.number) (begin_fails 125 part after e c.in_err-text.ensures))
+    rw (p.1, p.2) (fails_then e (between_at c.args.number 125 part after) (mapping_of c.args.number) (begin_fails c.args.number 125 part after e c.in_err-text.ensures))
 
 pub mapping-loop-alloc-init : goal.mapping-loop-alloc-init
 mapping-loop-alloc-init t c = record {
   known = λ q. rw (c.new-keys.ensures.empty, c.new-pairs.ensures.items) refl;
-  so_far = rw c.new-pairs.ensures.items (begun 125 (pair_in c.args.levels c.args.number) c.args.after.now c.in_ok-text.text.now c.in_ok-text.ensures);
+  so_far = rw c.new-pairs.ensures.items (begun c.args.number 125 (pair_in c.args.levels c.args.number) c.args.after.now c.in_ok-text.text.now c.in_ok-text.ensures);
 }
 
 pub mapping-returns-in_err-next : goal.mapping-returns-in_err-next
@@ -130,13 +131,13 @@ mapping-returns-in_err-next t c =
     let p = err_from_is_err_and c.from_residual-in_err-next.result c.from_residual-in_err-next.ensures.1 in
     let n = c.args.number in
     let part = pair_in c.args.levels n in
-    let total = between_at 125 part c.args.after.now in
+    let total = between_at c.args.number 125 part c.args.after.now in
     let pairs = map pair_view c.loop-alloc.pairs.items in
     let text = c.loop-alloc.text.now in
     let e = c.in_err-next.field-0.0 in
     let more = sym c.begins_with.ensures ∙ c.loop-alloc-test.true in
     let same = pair_same n (value_in c.args.levels n) (copies_view c.loop-alloc.keys) (keys_of pairs) text c.loop-alloc.invariant.known in
-    let d = part_fails 125 part total pairs text c.loop-alloc.invariant.so_far more e (rw same at c.in_err-next.ensures.value) in
+    let d = part_fails c.args.number 125 part total pairs text c.loop-alloc.invariant.so_far more e (rw same at c.in_err-next.ensures.value) in
     rw (p.1, p.2) (fails_then e total (mapping_of n) d)
 
 pub mapping-returns-in_err-text-2 : goal.mapping-returns-in_err-text-2
@@ -145,13 +146,13 @@ mapping-returns-in_err-text-2 t c =
     let p = err_from_is_err_and c.from_residual-in_err-text-2.result c.from_residual-in_err-text-2.ensures.1 in
     let n = c.args.number in
     let part = pair_in c.args.levels n in
-    let total = between_at 125 part c.args.after.now in
+    let total = between_at c.args.number 125 part c.args.after.now in
     let pairs = map pair_view c.loop-alloc.pairs.items in
     let text = c.loop-alloc.text.now in
     let e = c.in_err-text-2.field-0.0 in
     let more = sym c.begins_with.ensures ∙ c.loop-alloc-test.true in
     let same = pair_same n (value_in c.args.levels n) (copies_view c.loop-alloc.keys) (keys_of pairs) text c.loop-alloc.invariant.known in
-    let d = parted_fails 125 part total pairs text c.loop-alloc.invariant.so_far more (pair_view c.in_ok-next.next) c.in_ok-next.rest.now (sym same ∙ c.in_ok-next.ensures.value) e c.in_err-text-2.ensures in
+    let d = parted_fails c.args.number 125 part total pairs text c.loop-alloc.invariant.so_far more (pair_view c.in_ok-next.next) c.in_ok-next.rest.now (sym same ∙ c.in_ok-next.ensures.value) e c.in_err-text-2.ensures in
     rw (p.1, p.2) (fails_then e total (mapping_of n) d)
 
 pub mapping-loop-alloc-smaller : goal.mapping-loop-alloc-smaller
@@ -161,7 +162,7 @@ mapping-loop-alloc-smaller t c =
     let text = c.loop-alloc.text.now in
     let same = pair_same n (value_in c.args.levels n) (copies_view c.loop-alloc.keys) (keys_of pairs) text c.loop-alloc.invariant.known in
     let one = pair_less c.args.levels n pairs text (pair_view c.in_ok-next.next) c.in_ok-next.rest.now (sym same ∙ c.in_ok-next.ensures.value) in
-    let two = parted_less 125 c.in_ok-next.rest.now c.in_ok-text-2.text.now c.in_ok-text-2.ensures in
+    let two = parted_less c.args.number 125 c.in_ok-next.rest.now c.in_ok-text-2.text.now c.in_ok-text-2.ensures in
     omega (arith, one, two)
 
 pub mapping-loop-alloc-preserved : goal.mapping-loop-alloc-preserved
@@ -177,7 +178,7 @@ mapping-loop-alloc-preserved t c =
     let more = sym c.begins_with.ensures ∙ c.loop-alloc-test.true in
     let same = pair_same n (value_in c.args.levels n) (copies_view c.loop-alloc.keys) (keys_of pairs) text c.loop-alloc.invariant.known in
     let read = sym same ∙ c.in_ok-next.ensures.value in
-    let less : length next < length text = omega (arith, pair_less c.args.levels n pairs text p rest read, parted_less 125 rest next c.in_ok-text-2.ensures) in
+    let less : length next < length text = omega (arith, pair_less c.args.levels n pairs text p rest read, parted_less c.args.number 125 rest next c.in_ok-text-2.ensures) in
     record {
       known = λ q.
           c.in_ok-next.ensures.known q
@@ -185,7 +186,7 @@ mapping-loop-alloc-preserved t c =
           ∙ sym (among-push (keys_of pairs) p.key q)
           ∙ ap (λ keys. is_among keys q) (sym (map_push (λ (r : Pair). r.key) pairs p))
           ∙ ap (λ ps. is_among (keys_of ps) q) (sym e);
-      so_far = rw e (goes_on 125 part (between_at 125 part c.args.after.now) pairs text c.loop-alloc.invariant.so_far more p rest read next c.in_ok-text-2.ensures less);
+      so_far = rw e (goes_on c.args.number 125 part (between_at c.args.number 125 part c.args.after.now) pairs text c.loop-alloc.invariant.so_far more p rest read next c.in_ok-text-2.ensures less);
     }
 
 pub mapping-returns-in_err-rest : goal.mapping-returns-in_err-rest
@@ -193,22 +194,22 @@ unfolding flow_mapping_at
 mapping-returns-in_err-rest t c =
     let p = err_from_is_err_and c.from_residual-in_err-rest.result c.from_residual-in_err-rest.ensures.1 in
     let part = pair_in c.args.levels c.args.number in
-    let total = between_at 125 part c.args.after.now in
+    let total = between_at c.args.number 125 part c.args.after.now in
     let e = c.in_err-rest.field-0.0 in
     let ends = sym c.begins_with.ensures ∙ c.loop-alloc-test.false in
-    let d = close_fails 125 part total (map pair_view c.loop-alloc.pairs.items) c.loop-alloc.text.now c.loop-alloc.invariant.so_far ends e c.in_err-rest.ensures in
+    let d = close_fails c.args.number 125 part total (map pair_view c.loop-alloc.pairs.items) c.loop-alloc.text.now c.loop-alloc.invariant.so_far ends e c.in_err-rest.ensures in
     rw (p.1, p.2) (fails_then e total (mapping_of c.args.number) d)
 
 pub mapping-returns : goal.mapping-returns
 unfolding flow_mapping_at
 mapping-returns t c =
     let part = pair_in c.args.levels c.args.number in
-    let total = between_at 125 part c.args.after.now in
+    let total = between_at c.args.number 125 part c.args.after.now in
     let ends = sym c.begins_with.ensures ∙ c.loop-alloc-test.false in
-    let d = closed 125 part total (map pair_view c.loop-alloc.pairs.items) c.loop-alloc.text.now c.loop-alloc.invariant.so_far ends c.in_ok-rest.rest.now c.in_ok-rest.ensures in
+    let d = closed c.args.number 125 part total (map pair_view c.loop-alloc.pairs.items) c.loop-alloc.text.now c.loop-alloc.invariant.so_far ends c.in_ok-rest.rest.now c.in_ok-rest.ensures in
     rw (d, node_view-Map) refl
 
 -- ---- pairs
 
 pub pair-slice_bounds-characters-count : goal.pair-slice_bounds-characters-count
-pair-slice_bounds-characters-count t c = word_less c.args.text.now c.in_ok-key.key.items c.in_ok-key.colon.now c.in_ok-key.ensures
+pair-slice_bounds-characters-count t c = word_less c.args.number c.args.text.now c.in_ok-key.key.items c.in_ok-key.colon.now c.in_ok-key.ensures

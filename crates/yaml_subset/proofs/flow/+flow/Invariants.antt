@@ -23,7 +23,7 @@ decreases-mapping l = 4 * l.levels + 3
 
 abbrev pub invariant-list-loop-alloc : goal.invariant-list-loop-alloc
 invariant-list-loop-alloc l =
-    IsSoFar 93 (λ before. flow_value_at l.number (flow_at l.levels l.number)) (between_at 93 (λ before. flow_value_at l.number (flow_at l.levels l.number)) l.after) (map node_view l.items.items) l.text
+    IsSoFar l.number 93 (λ before. flow_value_at l.number (flow_at l.levels l.number)) (between_at l.number 93 (λ before. flow_value_at l.number (flow_at l.levels l.number)) l.after) (map node_view l.items.items) l.text
 
 abbrev pub decreases-list-loop-alloc : goal.decreases-list-loop-alloc
 decreases-list-loop-alloc l = length l.text
@@ -31,8 +31,8 @@ decreases-list-loop-alloc l = length l.text
 abbrev pub invariant-mapping-loop-alloc : goal.invariant-mapping-loop-alloc
 invariant-mapping-loop-alloc l = record {
   known : (q : List ℕ) → is_among (copies_view l.keys) q ≡ is_among (keys_of (map pair_view l.pairs.items)) q;
-  so_far : IsSoFar 125 (λ before. flow_pair_at l.number (flow_value_at l.number (flow_at l.levels l.number)) (keys_of before))
-      (between_at 125 (λ before. flow_pair_at l.number (flow_value_at l.number (flow_at l.levels l.number)) (keys_of before)) l.after)
+  so_far : (IsSoFar l.number) 125 (λ before. flow_pair_at l.number (flow_value_at l.number (flow_at l.levels l.number)) (keys_of before))
+      (between_at l.number 125 (λ before. flow_pair_at l.number (flow_value_at l.number (flow_at l.levels l.number)) (keys_of before)) l.after)
       (map pair_view l.pairs.items) l.text;
 }
 

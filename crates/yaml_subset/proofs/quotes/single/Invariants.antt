@@ -4,7 +4,7 @@ use Rattle.yaml_subset.proofs.QuotedTexts.{with_value}
 use Rattle.yaml_subset.proofs.quotes.single.Given as goal
 
 abbrev pub invariant-loop-rest : goal.invariant-loop-rest
-invariant-loop-rest l = with_value l.value.items (single_at l.rest) ≡ single_at l.text
+invariant-loop-rest l = with_value l.value.items (single_at l.number l.rest) ≡ single_at l.number l.text
 
 abbrev pub decreases-loop-rest : goal.decreases-loop-rest
 decreases-loop-rest l = length l.rest

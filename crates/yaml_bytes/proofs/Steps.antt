@@ -1,6 +1,6 @@
--- What a read that did not fail went through.
+-- What a result that is no error went through.
 use Rattle.std.proofs.Common.{◌≡◌, Bool, true, false, cond, Result, Ok, Err, refl, ◌⊎◌, inl, inr}
-use Rattle.yaml_subset.specs.Part.{◌>>=◌}
+use Rattle.yaml_bytes.specs.Results.{◌>>=◌}
 
 pub bind_ok : {A B E : Type 0} (r : Result A E) (f : A → Result B E) (y : B) → (r >>= f) ≡ Ok y → (x : A) × (r ≡ Ok x) × (f x ≡ Ok y)
 bind_ok (Ok x) f y e = (x, refl, e)

@@ -1,5 +1,5 @@
-use Rattle.yaml_subset.proofs.LineCuts.{last_line, next_line}
-use Rattle.yaml_subset.proofs.lines.split_line.Goals as goal
+use Rattle.yaml_bytes.proofs.TextLines.{last_line, next_line}
+use Rattle.yaml_bytes.proofs.lines.split_line.Goals as goal
 
 pub returns-in-empty-clause-lines : goal.returns-in-empty-clause-lines
 returns-in-empty-clause-lines c =
