@@ -77,19 +77,28 @@ judged_with text plan = certified plan (certificate_at text)
 
 -- ---- rows
 
--- a fault is told alone
+-- the faults of the rows themselves, in the order in which a report lists them: there are none yet
+abbrev pub faults_of_rows : Rows → List FaultView
+faults_of_rows rows = []
+
+-- A report lists them all. Only where there are none, it says what is wrong with the plan.
+abbrev pub reported : {X : Type 0} → List FaultView → Result X (List FaultView) → Result X (List FaultView)
+reported [] answer = answer
+reported (fault ∷ faults) answer = Err (fault ∷ faults)
+
+-- a fault of a plan, or of a certificate for it, is reported alone
 abbrev pub alone : {X Y : Type 0} → Result X Y → Result X (List Y)
 alone (Ok x) = Ok x
 alone (Err y) = Err (y ∷ [])
 
--- a table above its limit is told before all others
+-- a table above its limit is reported before a fault of the plan
 abbrev pub checked : (PlanView → Result CheckedView FaultView) → Result PlanView Table → Result CheckedView (List FaultView)
 checked judge (Ok plan) = alone (judge plan)
 checked judge (Err t) = Err (limit t ∷ [])
 
 unfoldable pub checked_at : Rows → Result CheckedView (List FaultView)
-checked_at rows = checked judged (plan_at rows)
+checked_at rows = reported (faults_of_rows rows) (checked judged (plan_at rows))
 
 -- the certificate's weights are taken as they are
 unfoldable pub checked_with_at : Rows → List ℕ → Result CheckedView (List FaultView)
-checked_with_at rows text = checked (judged_with text) (plan_at rows)
+checked_with_at rows text = reported (faults_of_rows rows) (checked (judged_with text) (plan_at rows))

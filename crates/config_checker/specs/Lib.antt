@@ -1,7 +1,8 @@
 pub mod Machine
 pub mod EventStep
 pub mod Run
-pub mod RawChanges
+pub mod SwitchCalls
+pub mod NextAlarm
 pub mod PlanOrder
 pub mod CheckedView
 pub mod GoodRun
