@@ -4,7 +4,7 @@
 pub mod check;
 pub mod command_line;
 pub mod fault;
-mod judgement;
+mod reply;
 pub mod law;
 mod log_line;
 pub mod play;

@@ -1,5 +1,5 @@
 use Rattle.std.proofs.Common.{◌∷◌, [], ◌++◌, codes, append_assoc}
-use Rattle.pinball_shell.specs.Judged.{refusal_view}
+use Rattle.pinball_shell.specs.Reply.{refusal_view}
 use Rattle.pinball_shell.specs.CheckOutput.{refusal_lines, refusal_text}
 use Rattle.pinball_shell.proofs.Writing.{joined_last}
 use Rattle.pinball_shell.proofs.check.write_refusal.Goals as goal

@@ -1,4 +1,4 @@
--- What is found of a bundle: a function of its bytes.
+-- The reply to a bundle: a function of its bytes.
 use Rattle.std.specs.Prelude.{ℕ, List, [], Option, Some, None, Result, Ok, Err, map}
 use Rattle.mpf_config.specs.Rows.{Note, Rows, RowsFault}
 use Rattle.mpf_config.specs.Reading.{rows_at}
@@ -6,9 +6,9 @@ use Rattle.mpf_config.specs.View as rows_views
 use Rattle.config_checker.specs.CheckedView.{CheckedView}
 use Rattle.config_checker.specs.Checking.{FaultView, checked_at, checked_with_at}
 use Rattle.config_checker.specs.View as checked_views
-use Rattle.pinball_shell.specs.declared.judgement.BundleRefusal.{BundleRefusal}
-use Rattle.pinball_shell.specs.declared.judgement.BundleRefusal.TheVariants as refusals
-use Rattle.pinball_shell.specs.declared.judgement.Judged.{Judged}
+use Rattle.pinball_shell.specs.declared.reply.BundleRefusal.{BundleRefusal}
+use Rattle.pinball_shell.specs.declared.reply.BundleRefusal.TheVariants as refusals
+use Rattle.pinball_shell.specs.declared.reply.Reply.{Reply as HeldReply}
 use Rattle.pinball_shell.specs.declared.fault.Verdict.{Verdict}
 use Rattle.pinball_shell.specs.declared.fault.Verdict.TheVariants.{Yes, Refused}
 
@@ -22,7 +22,7 @@ abbrev pub Answer : Type 0
 Answer = Result CheckedView RefusalView
 
 -- the notes on the rows of a bundle, and the answer
-pub record Judgement : Type 0 where
+pub record Reply : Type 0 where
   pub notes : List Note
   pub answer : Answer
 
@@ -36,32 +36,32 @@ checked_by None rows = checked_at rows
 checked_by (Some certificate) rows = checked_with_at rows certificate
 
 -- rows have their notes, whether they are accepted or not; where there are no rows, there are no notes
-abbrev pub judged : Option (List ℕ) → Result Rows RowsFault → Judgement
-judged certificate (Ok rows) = record { notes = rows.notes; answer = answer_of (checked_by certificate rows) }
-judged certificate (Err f) = record { notes = []; answer = Err (unread f) }
+abbrev pub replied : Option (List ℕ) → Result Rows RowsFault → Reply
+replied certificate (Ok rows) = record { notes = rows.notes; answer = answer_of (checked_by certificate rows) }
+replied certificate (Err f) = record { notes = []; answer = Err (unread f) }
 
 -- the bundle's rows are read and then checked
-abbrev pub judged_at : List ℕ → Judgement
-judged_at bundle = judged None (rows_at bundle)
+abbrev pub reply_to : List ℕ → Reply
+reply_to bundle = replied None (rows_at bundle)
 
 -- the bundle's rows are read and then checked with the weights of a certificate
-abbrev pub judged_with : List ℕ → List ℕ → Judgement
-judged_with certificate bundle = judged (Some certificate) (rows_at bundle)
+abbrev pub reply_with : List ℕ → List ℕ → Reply
+reply_with certificate bundle = replied (Some certificate) (rows_at bundle)
 
 abbrev pub verdict_on : Answer → Verdict
 verdict_on (Ok c) = Yes
 verdict_on (Err r) = Refused
 
-abbrev pub verdict_of : Judgement → Verdict
-verdict_of j = verdict_on j.answer
+abbrev pub verdict_of : Reply → Verdict
+verdict_of r = verdict_on r.answer
 
 -- what was accepted, if it was
 abbrev pub accepted_by : Answer → Option CheckedView
 accepted_by (Ok c) = Some c
 accepted_by (Err r) = None
 
-abbrev pub accepted_of : Judgement → Option CheckedView
-accepted_of j = accepted_by j.answer
+abbrev pub accepted_of : Reply → Option CheckedView
+accepted_of r = accepted_by r.answer
 
 -- ---- what code finds
 
@@ -73,5 +73,5 @@ abbrev pub answer_view : Result CheckedView BundleRefusal → Answer
 answer_view (Ok c) = Ok c
 answer_view (Err r) = Err (refusal_view r)
 
-abbrev pub judgement_view : Judged → Judgement
-judgement_view j = record { notes = map rows_views.note_view j.notes.items; answer = answer_view j.answer }
+abbrev pub reply_view : HeldReply → Reply
+reply_view r = record { notes = map rows_views.note_view r.notes.items; answer = answer_view r.answer }

@@ -1,7 +1,7 @@
-//! What is found of a bundle.
+//! The reply to a bundle.
 
 ghost use Rattle.std.specs.Prelude.{◌≡◌};
-ghost use Rattle.pinball_shell.specs.Judged.{verdict_of, judgement_view};
+ghost use Rattle.pinball_shell.specs.Reply.{verdict_of, reply_view};
 
 use crate::fault::Verdict;
 use config_checker::{Checked, Fault};
@@ -12,23 +12,23 @@ use mpf_config::{Fault as RowsFault, Note};
 pub enum BundleRefusal {
     /// It has no rows: the fault that was met first.
     Unread(RowsFault),
-    /// Its rows are refused: the faults that are told of them.
+    /// Its rows are refused: the faults that the report lists.
     Unfit(Vec<Fault>),
 }
 
-/// What is found of a bundle.
+/// The reply to a bundle.
 #[derive(Drop)]
-pub struct Judged {
-    /// The notes on its rows, in the order in which they are told; none where it has no rows.
+pub struct Reply {
+    /// The notes on its rows, in the order in which they are printed; none where it has no rows.
     pub notes: Vec<Note>,
     /// What was accepted, or why nothing was.
     pub answer: Result<Checked, BundleRefusal>,
 }
 
-impl Judged {
+impl Reply {
     /// Whether the bundle is accepted.
     pub fn verdict(&self) -> Verdict
-        ensures { result ≡ verdict_of (judgement_view self.now) }
+        ensures { result ≡ verdict_of (reply_view self.now) }
     {
         match self.answer {
             Ok(_) => Verdict::Yes,
