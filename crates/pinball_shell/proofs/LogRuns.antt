@@ -1,9 +1,8 @@
 -- The trace of a log is that of a run which the log gives.
-use Rattle.std.proofs.Common.{◌≡◌, ◌≢◌, ℕ, zero, suc, ◌+◌, ◌<◌, ◌≤◌, ◌^◌, nat_lt, nat_le, Bool, true, false, cond, Option, Some, None, option_map, option_to_list, Result, Ok, Err, List, [], ◌∷◌, ◌++◌, length, map, position, inl, inr, refl, ap, sym, ◌∙◌, subst, arith, append_assoc, append-nil}
+use Rattle.std.proofs.Common.{◌≡◌, ◌≢◌, ℕ, zero, suc, ◌+◌, ◌<◌, ◌≤◌, ◌^◌, Bool, true, false, Option, Some, None, option_map, option_to_list, Result, Ok, Err, List, [], ◌∷◌, ◌++◌, length, map, position, inl, inr, refl, ap, sym, ◌∙◌, subst, arith, append_assoc, append-nil}
 use Rattle.std.specs.Option.{option_map_or}
 use Rattle.std.specs.Str.{bytes_eq}
 use Rattle.std.specs.Str.Lines.{lines}
-use Rattle.std.proofs.lemmas.Bool.{cond_both, ltb-false, leb-false}
 use Rattle.mpf_plan.specs.PlanView.{PlanView, switch_named}
 use Rattle.mpf_plan.specs.declared.entries.SwitchId.{SwitchId}
 use Rattle.config_checker.specs.declared.line.Line.{Line}
@@ -18,15 +17,15 @@ use Rattle.config_checker.proofs.AlarmsEnd.{alarms-end}
 use Rattle.config_checker.proofs.Cascade.{every_run_is_good}
 use Rattle.config_checker.proofs.PlanSteps.{settled-run, settled-idle, settled-steps}
 use Rattle.pin_rig.specs.declared.input.StepFault.{StepFault}
-use Rattle.pin_rig.specs.declared.input.StepFault.TheVariants.{Backwards, TooLate}
 use Rattle.pin_rig.specs.Refused.{admitted}
+use Rattle.pin_rig.proofs.Judging.{admitted-is}
 use Rattle.pinball_shell.specs.declared.refusal.Refusal.{Refusal}
 use Rattle.pinball_shell.specs.LogText.{Said, Nothing, Unreadable, said}
 use Rattle.pinball_shell.specs.LogText as says
 use Rattle.pinball_shell.specs.RunOfLog.{if_admitted, change_of, given_by_line, lines_of, all_alarms_by, with_alarms, Printed, Traced, Refused, printed_for_line, after_line, printed_for_lines, printed_for_log, traced}
 use Rattle.pinball_shell.specs.RunGiven.{given_of, given_by_lines, without_alarms, IsRunOfLog}
 use Rattle.pinball_shell.proofs.FirstPlace.{place_some}
-use Rattle.pinball_shell.proofs.Alarms.{moment-settled, ComesBy, cases_due, alarm-allowed, AreAll, alarms_by-none, alarms_by-some, all-next}
+use Rattle.pinball_shell.proofs.Alarms.{moment-settled, cases_due, alarm-allowed, AreAll, alarms_by-none, alarms_by-some, all-next}
 use Rattle.pinball_shell.proofs.Playing.{state_after-append, lines_of-append}
 
 -- ---- what a line gives comes in time
@@ -40,19 +39,11 @@ IsInTime plan now (Wait at) = (now ≤ at) × (at < 2 ^ 40)
 given_is : (a b : Stimulus) → ◌≡◌ {A = Result (Option Stimulus) Refusal} (Ok (Some a)) (Ok (Some b)) → a ≡ b
 given_is a b h = cc
 
-admitted-in : (now at : ℕ) (u : Unit) → admitted now at ≡ Ok u → (now ≤ at) × (at < 2 ^ 40)
-admitted-in now at u =
-    cond_both (nat_lt at now) (Err Backwards) (cond (nat_le (2 ^ 40) at) (Err TooLate) (Ok tt)) (λ (v : Result Unit StepFault). v ≡ Ok u → (now ≤ at) × (at < 2 ^ 40))
-    (λ back h. cc)
-    (λ forward. cond_both (nat_le (2 ^ 40) at) (Err TooLate) (Ok tt) (λ (v : Result Unit StepFault). v ≡ Ok u → (now ≤ at) × (at < 2 ^ 40))
-    (λ late h. cc)
-    (λ early h. (ltb-false at now forward, leb-false (2 ^ 40) at early)))
-
 in_time : (now at : ℕ) (stimulus given : Stimulus) → if_admitted (admitted now at) stimulus ≡ Ok (Some given) → (now ≤ at) × (at < 2 ^ 40) × (stimulus ≡ given)
 in_time now at stimulus given = go (admitted now at) refl
   where
     go : (r : Result Unit StepFault) → admitted now at ≡ r → if_admitted r stimulus ≡ Ok (Some given) → (now ≤ at) × (at < 2 ^ 40) × (stimulus ≡ given)
-    go (Ok u) is h = let there = admitted-in now at u is in (there.0, there.1, given_is stimulus given h)
+    go (Ok u) is h = let there = admitted-is now at is in (there.0, there.1, given_is stimulus given h)
     go (Err fault) is h = cc
 
 -- a switch that has the name is one of the plan's

@@ -17,7 +17,7 @@ use Rattle.config_checker.proofs.Reached.{reached-initial, reached-next}
 use Rattle.pinball_shell.specs.declared.refusal.Refusal.{Refusal}
 use Rattle.pinball_shell.specs.LogText.{said}
 use Rattle.pinball_shell.specs.RunOfLog.{given_by_line, lines_of, all_alarms_by, with_alarms, Printed, Traced, printed_for_line, after_line, printed_for_lines, printed_for_log}
-use Rattle.pinball_shell.proofs.Alarms.{moment-settled, ComesBy, cases_due, alarm-allowed, AreAll, alarms_by-none, alarms_by-some, all-next}
+use Rattle.pinball_shell.proofs.Alarms.{moment-settled, cases_due, alarm-allowed, AreAll, alarms_by-none, alarms_by-some, all-next}
 use Rattle.pinball_shell.proofs.Playing.{state_after-append, lines_of-append}
 use Rattle.pinball_shell.proofs.LogRuns.{IsInTime, given-in_time, in_time-early, may_come}
 

@@ -9,5 +9,6 @@ pub mod RunGiven
 pub mod SamePlay
 pub mod TraceText
 -- what the contracts of private functions cite, and no public one
+pub mod ReplyView
 pub mod LogView
 pub mod Played

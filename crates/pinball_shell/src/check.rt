@@ -4,7 +4,8 @@ ghost use Rattle.std.specs.Prelude.{◌≡◌, ◌≢◌, ◌<◌, ◌≤◌, If
 ghost use Rattle.std.specs.Io.KnownBytes.{Appends, Keeps};
 ghost use Rattle.mpf_config.specs.View.{rows_view, note_view};
 ghost use Rattle.mpf_config.specs.Reading.{rows_at};
-ghost use Rattle.pinball_shell.specs.Reply.{replied, reply_to, reply_with, checked_by, answer_of, verdict_of, accepted_of, refusal_view, answer_view, reply_view};
+ghost use Rattle.pinball_shell.specs.Reply.{replied, reply_to, reply_with, checked_by, answer_of, verdict_of, accepted_of};
+ghost use Rattle.pinball_shell.specs.ReplyView.{refusal_view, answer_view, reply_view};
 ghost use Rattle.pinball_shell.specs.CheckOutput.{notes_text, refusal_lines, refusal_text, acceptance_text, verification_text, reply_text, check_output, verify_output, load_output};
 
 use crate::fault::{ShellFault, Verdict};

@@ -1,7 +1,8 @@
 //! The reply to a bundle.
 
 ghost use Rattle.std.specs.Prelude.{◌≡◌};
-ghost use Rattle.pinball_shell.specs.Reply.{verdict_of, reply_view};
+ghost use Rattle.pinball_shell.specs.Reply.{verdict_of};
+ghost use Rattle.pinball_shell.specs.ReplyView.{reply_view};
 
 use crate::fault::Verdict;
 use config_checker::{Checked, Fault};
