@@ -23,11 +23,11 @@ pub const BUNDLE_LIMIT: usize = 8_388_608;
 /// How many bytes a certificate has at most: 1 MiB.
 pub const CERTIFICATE_LIMIT: usize = 1_048_576;
 
-/// Reads a bundle, of at most 8 MiB, and writes what `check` prints for it: a line for each note on its rows, and then
-/// `yes` and its certificate, or why it is refused and `no`. A bundle that has no rows, being
-/// refused by an `error` line, has no notes either. Nothing is written before the answer is known, so
-/// after `NoMemory`, `Read` and `TooLong` (a longer bundle) nothing has been; how much was after
-/// `Write` is not said.
+/// Reads a bundle, of at most 8 MiB, and writes what `check` prints for it: a line for each note on
+/// its rows, and then `yes` and its certificate, or why it is refused and `no`. A bundle that has
+/// no rows, being refused by an `error` line, has no notes either. Nothing is written before the
+/// answer is known, so after `NoMemory`, `Read` and `TooLong` (a longer bundle) nothing has been;
+/// how much was after `Write` is not said.
 pub fn check_text<R: Read, W: Write>(
     alloc: Global,
     reader: &mut R,
@@ -48,11 +48,11 @@ pub fn check_text<R: Read, W: Write>(
 }
 
 /// Reads a bundle, of at most 8 MiB, and a certificate, of at most 1 MiB, and writes what `verify`
-/// prints for them: a line for each note
-/// on the bundle's rows, and then `yes` and the bound of the certificate's weights, or why they are
-/// refused and `no`. First the whole bundle is read, then the whole certificate, and only then is
-/// either checked. Nothing is written before the answer is known, so after `NoMemory`, `Read` and
-/// `TooLong` (a longer text) nothing has been; how much was after `Write` is not said.
+/// prints for them: a line for each note on the bundle's rows, and then `yes` and the bound of the
+/// certificate's weights, or why they are refused and `no`. First the whole bundle is read, then
+/// the whole certificate, and only then is either checked. Nothing is written before the answer is
+/// known, so after `NoMemory`, `Read` and `TooLong` (a longer text) nothing has been; how much was
+/// after `Write` is not said.
 pub fn verify_text<R: Read, Q: Read, W: Write>(
     alloc: Global,
     bundle: &mut R,
@@ -74,9 +74,9 @@ pub fn verify_text<R: Read, Q: Read, W: Write>(
     }
 }
 
-/// Reads a bundle, of at most 8 MiB, and checks it. Where it is refused, writes what `check` prints for it, its notes
-/// too, and answers nothing; where it is accepted, writes nothing, not even its notes. Its errors
-/// are those of `check_text`.
+/// Reads a bundle, of at most 8 MiB, and checks it. Where it is refused, writes what `check` prints
+/// for it, its notes too, and answers nothing; where it is accepted, writes nothing, not even its
+/// notes. Its errors are those of `check_text`.
 pub fn load_text<R: Read, W: Write>(
     alloc: Global,
     reader: &mut R,
@@ -128,7 +128,11 @@ fn verify_bundle<R: Read, Q: Read>(
 
 /// The reply to a bundle, with the weights of a certificate where there is one. Fails only by
 /// memory.
-fn reply_to_text(alloc: Global, bundle: &[u8], certificate: Option<&[u8]>) -> Result<Reply, ShellFault>
+fn reply_to_text(
+    alloc: Global,
+    bundle: &[u8],
+    certificate: Option<&[u8]>,
+) -> Result<Reply, ShellFault>
     ensures exact { IfOk result (λ reply. replied (option_map (λ c. c.now) certificate.entry) (rows_at bundle.now) ≡ reply_view reply) }
     ensures only { IfErr result (λ e. e ≡ ShellFault.NoMemory) }
 {
