@@ -1,6 +1,7 @@
 -- A rig that is held acts on an input that is not refused, and is held again.
-use Rattle.std.proofs.Common.{◌≡◌, ℕ, Ok, [], ◌++◌, List, length, refl, ap, sym, ◌∙◌, subst, arith}
+use Rattle.std.proofs.Common.{◌≡◌, ℕ, Ok, [], ◌++◌, List, length, length-map, refl, ap, sym, ◌∙◌, subst, arith}
 use Rattle.mpf_plan.specs.PlanView.{PlanView}
+use Rattle.mpf_plan.specs.declared.entries.SwitchKind.{SwitchKind}
 use Rattle.config_checker.specs.declared.line.Line.{Line}
 use Rattle.config_checker.specs.Machine.{Machine}
 use Rattle.config_checker.specs.EventStep.{EventSteps}
@@ -8,7 +9,8 @@ use Rattle.config_checker.specs.PlanOrder.{plan_steps}
 use Rattle.config_checker.specs.Run.{Stimulus, Change, Alarm, Wait, IsAllowed, begin, IsReached}
 use Rattle.config_checker.specs.CheckedView.{CheckedView}
 use Rattle.config_checker.specs.Accepted.{IsAccepted}
-use Rattle.config_checker.proofs.PlanSteps.{plan_steps-event_steps}
+use Rattle.config_checker.proofs.Cascade.{every_run_is_good}
+use Rattle.config_checker.proofs.PlanSteps.{settled-steps}
 use Rattle.config_checker.proofs.Reached.{reached-next, reached-within, reached-same, reached-kinds, reached-complete}
 use Rattle.pin_rig.specs.declared.input.Input.{Input}
 use Rattle.pin_rig.specs.Core.{CoreView, IsPlayable, HasRoom, StaysWithin, HasSettled, after}
@@ -51,7 +53,9 @@ module _ (c : CheckedView) (core : CoreView) (held : IsHeld c core) (accepted : 
         sym (reached-same c accepted held.reached.0 core.machine held.reached.1 stimulus allowed settled.count idle) ∙ sym there
 
     steps : (n : ℕ) × EventSteps c.plan n begun (plan_steps c.plan c.bound begun)
-    steps = plan_steps-event_steps c.plan c.bound begun
+    steps =
+        let run = held.reached.1 in
+        settled-steps c (every_run_is_good c accepted) run.stimuli held.reached.0 core.machine run.run run.idle stimulus allowed
 
     step : IsStep input rig (record { checked = c; machine = new.machine })
     step = record {
@@ -76,8 +80,8 @@ module _ (c : CheckedView) (core : CoreView) (held : IsHeld c core) (accepted : 
         record {
           core_is = record {
             handlers = ap (λ (v : CoreView). v.handlers) settled.new_is ∙ held.core_is.handlers;
-            kinds = reached-kinds c accepted trace new.machine reached;
-            complete = reached-complete c accepted trace new.machine reached;
+            kinds = ap (λ (kinds : List SwitchKind). length kinds) (reached-kinds c.plan trace new.machine reached) ∙ length-map c.plan.switches (λ s. s.kind);
+            complete = reached-complete c.plan trace new.machine reached accepted.valid;
           };
           room = let was = held.room in let is = ap (λ (v : CoreView). v.room) settled.new_is in omega (arith, was, is);
           reached = (trace, reached);

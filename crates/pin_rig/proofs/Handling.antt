@@ -4,6 +4,8 @@ use Rattle.std.specs.Prelude.{slice_get, ◌==◌}
 use Rattle.std.specs.List.{range_with_len}
 use Rattle.std.proofs.lemmas.Bool.{cond_both}
 use Rattle.std.proofs.lemmas.List.{length-map}
+use Rattle.std.proofs.lemmas.List.FromFn.{length-range_with_len}
+use Rattle.std.proofs.lemmas.List.Sorted.{length_permutation}
 use Rattle.std.proofs.lemmas.Option.{get_or_from_slice_get, slice_get_within}
 use Rattle.mpf_plan.specs.PlanView.{PlanView, no_binding, binding_at, places_of}
 use Rattle.mpf_plan.specs.declared.entries.BindingId.{BindingId}
@@ -29,8 +31,8 @@ length-in_order plan e =
     let numbers = range_with_len 0 (length plan.bindings) in
     let bound : ℕ → Bool = λ n. (binding_at plan n).event.0 == e.0 in
     let place : ℕ → BindingId = λ n. record { 0 = n } in
-    let same = IsPermutation-length (handlers plan e) (in_order plan e) (by_priority-permutes plan (handlers plan e)) in
-    omega (arith, same, length-kept (runs_at plan) (places_of plan e), length-map (filter bound numbers) place, length-kept bound numbers, length-range 0 (length plan.bindings))
+    let same = length_permutation (handlers plan e) (in_order plan e) (by_priority-permutes plan (handlers plan e)) in
+    omega (arith, same, length-kept (runs_at plan) (places_of plan e), length-map (filter bound numbers) place, length-kept bound numbers, length-range_with_len 0 (length plan.bindings))
 
 -- so many of the handlers of an event have run: what is left, run now, is all, run at the start
 module _ (plan : PlanView) (start now : CoreView) (kept : start.handlers ≡ record { plan = plan }) (event : EventId) (k : ℕ)

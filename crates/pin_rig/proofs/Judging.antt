@@ -1,18 +1,19 @@
 -- What an input is judged to be may come next.
-use Rattle.std.proofs.Common.{◌≡◌, ℕ, ◌<◌, ◌≤◌, ◌^◌, nat_lt, nat_le, Bool, true, false, cond, Option, Some, None, Result, Ok, Err, length, refl, sym, subst, ap, ◌∙◌}
+use Rattle.std.proofs.Common.{◌≡◌, ℕ, ◌<◌, ◌≤◌, ◌^◌, nat_lt, nat_le, Bool, true, false, cond, if◌then◌else◌, Option, Some, None, Result, Ok, Err, length, refl, sym, subst, ap, ◌∙◌}
 use Rattle.std.specs.Result.{result_and}
 use Rattle.std.proofs.lemmas.Bool.{cond_both, cond-true, cond-false, ltb-true, ltb-false, lt-ltb, le-ltb, leb-false, lt-leb}
 use Rattle.mpf_plan.specs.declared.entries.SwitchId.{SwitchId}
 use Rattle.config_checker.specs.Machine.{Machine}
 use Rattle.config_checker.specs.Run.{Source, Stimulus, Change, Alarm, Wait, IsTimely, IsAllowed}
 use Rattle.config_checker.specs.NextAlarm.{next_alarm, is_due_by}
-use Rattle.config_checker.proofs.NextAlarms.{alarm-is_next, next-is_alarm, not_due-quiet, quiet-not_due}
+use Rattle.config_checker.proofs.NextAlarms.{found-is_next, next-is_found, not_due-nothing, nothing-not_due}
+use Rattle.config_checker.proofs.Reached.{reached-not_late}
 use Rattle.pin_rig.specs.declared.input.Input.{Input}
 use Rattle.pin_rig.specs.declared.input.Input.TheVariants as inputs
 use Rattle.pin_rig.specs.declared.input.StepFault.{StepFault}
 use Rattle.pin_rig.specs.declared.input.StepFault.TheVariants as faults
 use Rattle.pin_rig.specs.Refused.{is_too_late, admitted}
-use Rattle.pin_rig.specs.Rig.{RigView, timely, alarm_at, stimulus_at}
+use Rattle.pin_rig.specs.Rig.{RigView, timely, alarm_at, stimulus_at, IsOfRun}
 use Rattle.pin_rig.specs.Steps.{IsOfInput}
 
 ok_is : (a b : Stimulus) → ◌≡◌ {A = Result Stimulus StepFault} (Ok a) (Ok b) → a ≡ b
@@ -39,16 +40,19 @@ both_ok : (r : Result Unit StepFault) (given : Result Stimulus StepFault) (stimu
 both_ok (Ok done) given stimulus h = (refl, h)
 both_ok (Err fault) given stimulus h = cc
 
--- where it comes after the latest stimulus, an alarm is refused only for a moment that is too late
-late_or : (late : Bool) (given : Result Stimulus StepFault) → result_and (cond late (Err faults.TooLate) (Ok tt)) given ≡ cond late (Err faults.TooLate) given
+late_or : (late : Bool) (given : Result Stimulus StepFault) → result_and (if late then Err faults.TooLate else Ok tt) given ≡ (if late then Err faults.TooLate else given)
 late_or true given = refl
 late_or false given = refl
 
-pub alarm-admitted : (latest : ℕ) (a : ℕ × Source) → latest ≤ a.0 → alarm_at (Some a) ≡ result_and (admitted latest a.0) (Ok (Alarm a.0 a.1))
-alarm-admitted latest a ahead =
+-- no alarm is late, so that the moment of one is refused only where it is too late
+pub alarm-judged : (rig : RigView) → IsOfRun rig → (a : ℕ × Source) → next_alarm rig.machine ≡ Some a → alarm_at (next_alarm rig.machine) ≡ result_and (admitted rig.machine.moment a.0) (Ok (Alarm a.0 a.1))
+alarm-judged rig (trace, reached) a next =
     let given : Result Stimulus StepFault = Ok (Alarm a.0 a.1) in
-    let early : Result Unit StepFault = cond (is_too_late a.0) (Err faults.TooLate) (Ok tt) in
-    sym (ap (λ (r : Result Unit StepFault). result_and r given) (cond-false (nat_lt a.0 latest) (Err faults.Backwards) early (le-ltb a.0 latest ahead)) ∙ late_or (is_too_late a.0) given)
+    let early : Result Unit StepFault = if is_too_late a.0 then Err faults.TooLate else Ok tt in
+    let here = found-is_next rig.machine a.0 a.1 next in
+    let ahead = reached-not_late rig.checked.plan trace rig.machine reached a.1 a.0 here.due in
+    ap alarm_at next
+    ∙ sym (ap (λ (r : Result Unit StepFault). result_and r given) (cond-false (nat_lt a.0 rig.machine.moment) (Err faults.Backwards) early (le-ltb a.0 rig.machine.moment ahead)) ∙ late_or (is_too_late a.0) given)
 
 -- ---- what is taken may come
 
@@ -58,7 +62,7 @@ timely-is s at stimulus given h =
     let time = admitted-is s.moment at both.0 in
     cond_both (is_due_by at s) (Err faults.AlarmPending) (Ok stimulus) (λ (r : Result Stimulus StepFault). r ≡ Ok given → IsTimely s at × (stimulus ≡ given))
     (λ v k. cc)
-    (λ v k. (record { forward = time.0; early = time.1; quiet = not_due-quiet s at v }, ok_is stimulus given k)) both.1
+    (λ v k. (record { forward = time.0; early = time.1; quiet = not_due-nothing s at v }, ok_is stimulus given k)) both.1
 
 -- of an alarm
 pub record IsAlarm (s : Machine) (given : Stimulus) : Type 0 where
@@ -91,7 +95,7 @@ judged-allowed rig (inputs.Change at switch level) given h =
     subst (IsAllowed rig.checked.plan rig.machine) is (time, within)
 judged-allowed rig inputs.Alarm given h =
     let a = alarm-is rig.machine given (next_alarm rig.machine) refl h in
-    subst (IsAllowed rig.checked.plan rig.machine) a.given_is (alarm-is_next rig.machine a.at a.source a.next, a.early)
+    subst (IsAllowed rig.checked.plan rig.machine) a.given_is (found-is_next rig.machine a.at a.source a.next, a.early)
 judged-allowed rig (inputs.Wait at) given h =
     let (time, is) = timely-is rig.machine at (Wait at) given h in
     subst (IsAllowed rig.checked.plan rig.machine) is time
@@ -126,7 +130,7 @@ judged-asks rig (inputs.Wait at) given h =
 timely-ok : (s : Machine) (at : ℕ) (stimulus : Stimulus) → IsTimely s at → timely s at stimulus ≡ Ok stimulus
 timely-ok s at stimulus time =
     ap (λ (r : Result Unit StepFault). result_and r (cond (is_due_by at s) (Err faults.AlarmPending) (Ok stimulus))) (admitted-ok s.moment at time.forward time.early)
-    ∙ cond-false (is_due_by at s) (Err faults.AlarmPending) (Ok stimulus) (quiet-not_due s at time.quiet)
+    ∙ cond-false (is_due_by at s) (Err faults.AlarmPending) (Ok stimulus) (nothing-not_due s at time.quiet)
 
 pub allowed-judged : (rig : RigView) (input : Input) (given : Stimulus) → IsOfInput input given → IsAllowed rig.checked.plan rig.machine given → stimulus_at rig input ≡ Ok given
 allowed-judged rig (inputs.Change at switch level) given is allowed =
@@ -135,7 +139,7 @@ allowed-judged rig (inputs.Change at switch level) given is allowed =
     ∙ timely-ok rig.machine at (Change at switch level) time ∙ ap Ok (sym is)
 allowed-judged rig inputs.Alarm given (at, source, is) allowed =
     let (next, early) = subst (IsAllowed rig.checked.plan rig.machine) is allowed in
-    ap alarm_at (next-is_alarm rig.machine at source next)
+    ap alarm_at (next-is_found rig.machine at source next)
     ∙ cond-false (nat_le (2 ^ 40) at) (Err faults.TooLate) (Ok (Alarm at source)) (lt-leb (2 ^ 40) at early) ∙ ap Ok (sym is)
 allowed-judged rig (inputs.Wait at) given is allowed =
     timely-ok rig.machine at (Wait at) (subst (IsAllowed rig.checked.plan rig.machine) is allowed) ∙ ap Ok (sym is)

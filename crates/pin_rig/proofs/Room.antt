@@ -3,12 +3,10 @@ use Rattle.std.proofs.Common.{◌≡◌, ℕ, zero, suc, ◌+◌, ◌≤◌, ◌
 use Rattle.std.specs.Prelude.{slice_get}
 use Rattle.mpf_plan.specs.declared.entries.EventId.{EventId}
 use Rattle.mpf_plan.specs.declared.entries.Owner.{Owner}
-use Rattle.mpf_plan.specs.declared.entries.Owner.TheVariants as owners
-use Rattle.mpf_plan.specs.PlanView.{PlanView, posts_of}
+use Rattle.mpf_plan.specs.PlanView.{PlanView}
 use Rattle.switch_core.specs.declared.change.Change.{Change as Acceptance}
-use Rattle.config_checker.specs.declared.line.Happening.TheVariants as happenings
-use Rattle.config_checker.specs.Machine.{Machine, write, post, all_do, do_accepted}
-use Rattle.config_checker.proofs.Growth.{post-grows, all_do-grows}
+use Rattle.config_checker.specs.Machine.{Machine, post, all_do, do_accepted}
+use Rattle.config_checker.proofs.Growth.{all_do-grows, post-grows, accepted-grows}
 use Rattle.event_queue.specs.declared.queue.Posted.{Posted}
 use Rattle.event_queue.specs.Queue.{QueueView, IsTaken}
 use Rattle.pin_rig.specs.Core.{CoreView, TakesFirst, HasRoom, after}
@@ -72,8 +70,4 @@ post-room owner now all e es left is whole h =
 
 -- where the acceptance of a switch leaves room, there is room for its line
 pub accepted-room : (plan : PlanView) (a : Acceptance) (room : ℕ) (s : Machine) → HasRoom room (do_accepted plan a s) → length s.lines < room
-accepted-room plan a room s h =
-    let written = write owners.Machine (happenings.Switch a.switch a.active) s in
-    let grown = all_do-grows (post owners.Machine) (post-grows owners.Machine) (posts_of plan a.switch a.active) written in
-    let line = length-append s.lines (record { moment = s.moment; owner = owners.Machine; happening = happenings.Switch a.switch a.active } ∷ []) in
-    omega (arith, grown.0, line, h.lines)
+accepted-room plan a room s h = omega (arith, (accepted-grows plan a s).0, h.lines)

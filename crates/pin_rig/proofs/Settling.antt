@@ -1,5 +1,5 @@
 -- One event step more in plan order, from a core whose steps all have room.
-use Rattle.std.proofs.Common.{◌≡◌, ℕ, ◌+◌, ◌-◌, ◌<◌, List, [], ◌∷◌, length, length-append, ap, sym, ◌∙◌, subst, arith}
+use Rattle.std.proofs.Common.{◌≡◌, ℕ, ◌+◌, ◌-◌, ◌<◌, List, [], ◌∷◌, length, ap, sym, ◌∙◌, subst, arith}
 use Rattle.mpf_plan.specs.PlanView.{PlanView}
 use Rattle.event_queue.specs.declared.queue.Posted.{Posted}
 use Rattle.event_queue.specs.PlanOrder.{in_order}
@@ -7,7 +7,7 @@ use Rattle.config_checker.specs.declared.line.Happening.TheVariants as happening
 use Rattle.config_checker.specs.Machine.{Machine, write, all_do, do_handler}
 use Rattle.config_checker.specs.EventStep.{taken}
 use Rattle.config_checker.specs.PlanOrder.{plan_step_from, plan_step, plan_steps}
-use Rattle.config_checker.proofs.Growth.{all_do-grows, handler-grows}
+use Rattle.config_checker.proofs.Growth.{event-grows}
 use Rattle.config_checker.proofs.PlanSteps.{plan_steps-more}
 use Rattle.pin_rig.specs.Core.{CoreView, HasRoom, StaysWithin, after}
 
@@ -30,10 +30,7 @@ module _ (plan : PlanView) (start now : CoreView) (stays : StaysWithin plan star
       (subst (HasRoom start.room) steps-are (stays (count + 1)))
 
   pub line-more : length now.machine.lines < length handled.lines
-  line-more =
-      let grown = all_do-grows (do_handler plan) (handler-grows plan) (in_order plan first.event) (taken first rest now.machine) in
-      let line = length-append now.machine.lines (record { moment = now.machine.moment; owner = first.owner; happening = happenings.Event first.event } ∷ []) in
-      omega (arith, grown.0, line)
+  line-more = (event-grows plan first rest (in_order plan first.event) now.machine).0
 
   pub line-room : length now.machine.lines < now.room
   line-room = let fits = handled-room.lines in omega (arith, line-more, fits)

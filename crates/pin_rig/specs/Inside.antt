@@ -18,7 +18,7 @@ abbrev pub alarm_view : ℕ × HeldSource → ℕ × Source
 alarm_view a = (a.0, source_view a.1)
 
 abbrev pub stimulus_view : HeldStimulus → Stimulus
-stimulus_view (held.Change at switch level) = Change at switch level
+stimulus_view (held.Change at n level) = Change at n level
 stimulus_view (held.Alarm at source) = Alarm at (source_view source)
 stimulus_view (held.Wait at) = Wait at
 

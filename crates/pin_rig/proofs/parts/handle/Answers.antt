@@ -2,8 +2,8 @@ use Rattle.std.proofs.Common.{arith}
 use Rattle.pin_rig.proofs.Handling.{handler-place, handler-room, handler-within, handler-limit, handler-run, handlers-end}
 use Rattle.pin_rig.proofs.parts.handle.Goals as goal
 
-pub binding-requires : goal.binding-requires
-binding-requires c =
+pub binding-binding-requires : goal.binding-binding-requires
+binding-binding-requires c =
     handler-place c.args.plan.now c.args.core.now c.loop-place.core c.requires.handlers c.args.event c.loop-place.k c.loop-place.invariant
     c.in-Some.place c.in-Some.ensures.handler c.in-Some.ensures.within
 
