@@ -11,7 +11,8 @@ use Rattle.std.proofs.lemmas.Map.Keys.{IsDistinct-cons}
 use Rattle.std.proofs.lemmas.Map.Steps.{length-le_from_distinct_below}
 use Rattle.mpf_plan.specs.PlanView.{PlanView, bound_to}
 use Rattle.mpf_plan.specs.Valid.{IsValid}
-use Rattle.cascade_rank.specs.Cost.{each_of, cost_of_binding, cost_of_event}
+use Rattle.mpf_plan.specs.declared.entries.EventId.{EventId}
+use Rattle.cascade_rank.specs.Cost.{Both, each_of, cost_of_binding, cost_of_work, cost_of_event}
 use Rattle.cascade_rank.specs.Weights.{IsFitting}
 use Rattle.cascade_rank.specs.LeadsTo.{leads, grounded_in, grounded, is_open, IsCycle, HasNoFit}
 use Rattle.cascade_rank.proofs.Prices.{price-mentioned}
@@ -45,7 +46,8 @@ module _ (plan : PlanView) (events : List ℕ) (c : IsCycle plan events) where
     lead_falls : (i f : ℕ) → i < length events → leads plan (slice_index events i) f ≡ true → v f < v (slice_index events i)
     lead_falls i f l m =
         let fits = fit (slice_index events i) (All-get_or (λ e. e < length plan.events) events i 0 l c.within) in
-        let cost = price-mentioned v (each_of (cost_of_binding plan) (bound_to plan (record { 0 = slice_index events i }))) f m in
+        let e : EventId = record { 0 = slice_index events i } in
+        let cost = price-mentioned v (Both (each_of (cost_of_binding plan) (bound_to plan e)) (cost_of_work plan e)) f m in
         omega (arith, fits, cost)
 
     cycle_falls : (i : ℕ) → i < length events → v (slice_index events i) + i ≤ v (slice_index events 0)

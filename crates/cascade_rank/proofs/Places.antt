@@ -14,7 +14,7 @@ use Rattle.mpf_plan.proofs.BoundTo.{places_of-bound, places_of-within}
 use Rattle.cascade_rank.specs.Cost.{Cost, Both, price, each_of, cost_of_binding, cost_of_event}
 use Rattle.cascade_rank.proofs.Prices.{price-each_more}
 
-each_of-map : {X Y : Type 0} (f : Y → Cost) (g : X → Y) (xs : List X) → each_of (λ x. f (g x)) xs ≡ each_of f (map g xs)
+pub each_of-map : {X Y : Type 0} (f : Y → Cost) (g : X → Y) (xs : List X) → each_of (λ x. f (g x)) xs ≡ each_of f (map g xs)
 each_of-map f g [] = refl
 each_of-map f g (x ∷ xs) = ap (Both (f (g x))) (each_of-map f g xs)
 
@@ -57,4 +57,5 @@ module _ (plan : PlanView) where
     price-places_all w i total whole so_far =
         let taken : take i places ≡ places_of plan e = take_all i places whole ∙ are in
         let bound = each_of-map (cost_of_binding plan) (λ (p : BindingId). binding_at plan p.0) (places_of plan e) ∙ ap (each_of (cost_of_binding plan)) (places_of-bound plan e) in
-        so_far ∙ ap (λ (c : Cost). 1 + price w c) (ap (each_of cost_at_place) taken ∙ bound)
+        let each = ap (price w) (ap (each_of cost_at_place) taken ∙ bound) in
+        omega (arith, so_far, each)

@@ -81,26 +81,28 @@ fn lowest_of_target(plan: &Plan, left: &[u128], target: Target) -> u16
     ensures { result ≡ lowest (length left.now) (λ e. nat_lt 0 (slice_index left.now e)) (cost_of_target plan.now target) }
 {
     match target {
-        Target::Run(list) => lowest_of_actions(left, plan.list(list)),
+        Target::Run(list) => lowest_of_actions(plan, left, plan.list(list)),
     }
 }
 
-fn lowest_of_actions(left: &[u128], actions: &[Action]) -> u16
-    requires actions { All (IsActionWithin (length left.now)) actions.now }
+fn lowest_of_actions(plan: &Plan, left: &[u128], actions: &[Action]) -> u16
+    requires actions { All (IsActionWithin (length plan.now.events)) actions.now }
+    requires left { length left.now ≡ length plan.now.events }
     requires small { length left.now < 65536 }
-    ensures { result ≡ lowest (length left.now) (λ e. nat_lt 0 (slice_index left.now e)) (each_of cost_of_action actions.now) }
+    ensures { result ≡ lowest (length left.now) (λ e. nat_lt 0 (slice_index left.now e)) (each_of (cost_of_action plan.now) actions.now) }
 {
     let mut lowest = left.len() as u16;
     for action in actions {
-        lowest = lowest.min(lowest_of_action(left, *action));
+        lowest = lowest.min(lowest_of_action(plan, left, *action));
     }
     lowest
 }
 
-fn lowest_of_action(left: &[u128], action: Action) -> u16
-    requires action { IsActionWithin (length left.now) action }
+fn lowest_of_action(plan: &Plan, left: &[u128], action: Action) -> u16
+    requires action { IsActionWithin (length plan.now.events) action }
+    requires left { length left.now ≡ length plan.now.events }
     requires small { length left.now < 65536 }
-    ensures { result ≡ lowest (length left.now) (λ e. nat_lt 0 (slice_index left.now e)) (cost_of_action action) }
+    ensures { result ≡ lowest (length left.now) (λ e. nat_lt 0 (slice_index left.now e)) (cost_of_action plan.now action) }
 {
     match action {
         Action::Post(event) if left[event.0 as usize] > 0 => event.0,
