@@ -1,9 +1,9 @@
 -- The costs of a valid plan mention only events of the plan.
-use Rattle.std.proofs.Common.{◌≡◌, ℕ, ◌<◌, Bool, true, false, ◌==◌, List, [], ◌∷◌, length, get_or, sym, subst, inl, inr, arith}
+use Rattle.std.proofs.Common.{◌≡◌, ℕ, ◌<◌, Bool, true, false, ◌==◌, List, [], ◌∷◌, length, sym, subst, inl, inr}
 use Rattle.std.specs.List.{All, AllByRecursion}
-use Rattle.std.proofs.lemmas.Bool.{or_cases, eqb-true, false≢true}
-use Rattle.std.proofs.lemmas.List.Elements.{recursion_from_All, All-get_or, All-weaker, All-nil, All-filter, All-from_get_or}
-use Rattle.std.proofs.lemmas.List.FromFn.{length-map-range_with_len, get_or-map-range_with_len}
+use Rattle.std.proofs.lemmas.Bool.{cases_lt, or_cases, eqb-true, false≢true}
+use Rattle.std.proofs.lemmas.List.Elements.{recursion_from_All, All-get_or, All-weaker, All-nil, All-filter}
+use Rattle.std.proofs.lemmas.List.{get_or_past}
 use Rattle.mpf_plan.specs.PlanView.{PlanView, no_switch, switch_at, list_at, posts_of, bound_to}
 use Rattle.mpf_plan.specs.Valid.{IsValid, IsEventWithin, IsActionWithin, IsTargetWithin, IsBindingWithin, IsSwitchWithin}
 use Rattle.mpf_plan.specs.declared.entries.EventId.{EventId}
@@ -41,59 +41,29 @@ pub IsBelow-each_of : {X : Type 0} (n : ℕ) (f : X → Cost) (xs : List X) → 
 IsBelow-each_of n f [] h = tt
 IsBelow-each_of n f (x ∷ xs) h = (h.0, IsBelow-each_of n f xs h.1)
 
-pub IsBelow-dearest_of : {X : Type 0} (n : ℕ) (f : X → Cost) (xs : List X) → AllByRecursion (λ x. IsBelow n (f x)) xs → IsBelow n (dearest_of f xs)
-IsBelow-dearest_of n f [] h = tt
-IsBelow-dearest_of n f (x ∷ xs) h = (h.0, IsBelow-dearest_of n f xs h.1)
-
 -- where each of a list is within, all that they cost is below
 pub each_below : {X : Type 0} (n : ℕ) (f : X → Cost) (P : X → Type 0) → ((x : X) → P x → IsBelow n (f x)) → (xs : List X) → All P xs → IsBelow n (each_of f xs)
 each_below n f P each xs h =
     IsBelow-each_of n f xs (recursion_from_All (λ x. IsBelow n (f x)) xs (All-weaker P (λ x. IsBelow n (f x)) each xs h))
 
-pub dearest_below : {X : Type 0} (n : ℕ) (f : X → Cost) (P : X → Type 0) → ((x : X) → P x → IsBelow n (f x)) → (xs : List X) → All P xs → IsBelow n (dearest_of f xs)
-dearest_below n f P each xs h =
-    IsBelow-dearest_of n f xs (recursion_from_All (λ x. IsBelow n (f x)) xs (All-weaker P (λ x. IsBelow n (f x)) each xs h))
+pub dearest_below : {X : Type 0} (n : ℕ) (f : X → Cost) → ((x : X) → IsBelow n (f x)) → (xs : List X) → IsBelow n (dearest_of f xs)
+dearest_below n f each [] = tt
+dearest_below n f each (x ∷ xs) = (each x, dearest_below n f each xs)
 
-pub IsBelow-action : (plan : PlanView) (a : Action) → IsActionWithin (length plan.events) a → IsBelow (length plan.events) (cost_of_action plan a)
+pub IsBelow-action : (plan : PlanView) (a : Action) → IsActionWithin plan a → IsBelow (length plan.events) (cost_of_action plan a)
 IsBelow-action plan (Post e) h = h
-
-pub IsBelow-posts : (n : ℕ) (es : List EventId) → All (IsEventWithin n) es → IsBelow n (each_of cost_of_post es)
-IsBelow-posts n es h = each_below n cost_of_post (IsEventWithin n) (λ e k. k) es h
-
-pub IsBelow-acceptance : (plan : PlanView) (s : SwitchId) (active : Bool) (n : ℕ) → IsSwitchWithin n (switch_at plan s) → IsBelow n (cost_of_acceptance plan s active)
-IsBelow-acceptance plan s true n h = (tt, IsBelow-posts n (posts_of plan s true) h.0)
-IsBelow-acceptance plan s false n h = (tt, IsBelow-posts n (posts_of plan s false) h.1)
-
-pub no_switch-within : (n : ℕ) → IsSwitchWithin n no_switch
-no_switch-within n = (All-nil (IsEventWithin n), All-nil (IsEventWithin n))
-
--- ---- the switches of a plan
-
-pub length-switches : (plan : PlanView) → length (switches_of plan) ≡ length plan.switches
-length-switches plan = length-map-range_with_len (λ n. record { 0 = n }) 0 (length plan.switches)
-
-pub switch_of : (plan : PlanView) (n : ℕ) (d : SwitchId) → n < length plan.switches → get_or (switches_of plan) n d ≡ record { 0 = n }
-switch_of plan n d h = get_or-map-range_with_len (λ n. record { 0 = n }) 0 (length plan.switches) n n d h (omega arith)
-
-switches-within : (plan : PlanView) → All (λ s. s.0 < length plan.switches) (switches_of plan)
-switches-within plan =
-    All-from_get_or (λ s. s.0 < length plan.switches) (switches_of plan) (record { 0 = 0 }) (λ i l.
-    let within : i < length plan.switches = omega (arith, l, length-switches plan) in
-    subst (λ (s : SwitchId). s.0 < length plan.switches) (sym (switch_of plan i (record { 0 = 0 }) within)) within)
-
--- ---- a valid plan
 
 module _ (plan : PlanView) (valid : IsValid plan) where
   pub IsBelow-list : (l : ListId) → l.0 < length plan.lists → IsBelow (length plan.events) (cost_of_list plan l)
   IsBelow-list l h =
-      each_below (length plan.events) (cost_of_action plan) (IsActionWithin (length plan.events)) (IsBelow-action plan) (list_at plan l)
-      (All-get_or (All (IsActionWithin (length plan.events))) plan.lists l.0 [] h valid.lists)
+      each_below (length plan.events) (cost_of_action plan) (IsActionWithin plan) (IsBelow-action plan) (list_at plan l)
+      (All-get_or (All (IsActionWithin plan)) plan.lists l.0 [] h valid.lists)
 
-  pub IsBelow-target : (t : Target) → IsTargetWithin (length plan.lists) t → IsBelow (length plan.events) (cost_of_target plan t)
+  pub IsBelow-target : (t : Target) → IsTargetWithin plan t → IsBelow (length plan.events) (cost_of_target plan t)
   IsBelow-target (Run l) h = IsBelow-list l h
 
   pub IsBelow-binding : (b : Binding) → IsBindingWithin plan b → IsBelow (length plan.events) (cost_of_binding plan b)
-  IsBelow-binding b h = IsBelow-target b.target h.1
+  IsBelow-binding b h = IsBelow-target b.target h.2
 
   pub IsBelow-event : (e : ℕ) → IsBelow (length plan.events) (cost_of_event plan e)
   IsBelow-event e = (
@@ -105,17 +75,27 @@ module _ (plan : PlanView) (valid : IsValid plan) where
     ),
   )
 
-  pub IsBelow-switch : (s : SwitchId) → s.0 < length plan.switches → IsBelow (length plan.events) (cost_of_switch plan s)
-  IsBelow-switch s h =
-      let within = All-get_or (IsSwitchWithin (length plan.events)) plan.switches s.0 no_switch h valid.switches in
-      (IsBelow-acceptance plan s true (length plan.events) within, IsBelow-acceptance plan s false (length plan.events) within)
+  -- a switch posts events of the plan; where there is none of its number, it posts nothing
+  pub posts-below : (s : SwitchId) (active : Bool) → All (IsEventWithin (length plan.events)) (posts_of plan s active)
+  posts-below s active = by active (elim (cases_lt s.0 (length plan.switches)) [
+    | inl within ↦ All-get_or (IsSwitchWithin (length plan.events)) plan.switches s.0 no_switch within valid.switches
+    | inr past ↦ subst (IsSwitchWithin (length plan.events)) (sym (get_or_past plan.switches s.0 no_switch past)) (All-nil (IsEventWithin (length plan.events)), All-nil (IsEventWithin (length plan.events)))
+  ])
+    where
+      by : (a : Bool) → IsSwitchWithin (length plan.events) (switch_at plan s) → All (IsEventWithin (length plan.events)) (posts_of plan s a)
+      by true h = h.0
+      by false h = h.1
+
+  pub IsBelow-acceptance : (s : SwitchId) (active : Bool) → IsBelow (length plan.events) (cost_of_acceptance plan s active)
+  IsBelow-acceptance s active = (tt, each_below (length plan.events) cost_of_post (IsEventWithin (length plan.events)) (λ e k. k) (posts_of plan s active) (posts-below s active))
+
+  pub IsBelow-switch : (s : SwitchId) → IsBelow (length plan.events) (cost_of_switch plan s)
+  IsBelow-switch s = (IsBelow-acceptance s true, IsBelow-acceptance s false)
 
   pub IsBelow-stimuli : IsBelow (length plan.events) (cost_of_stimuli plan)
-  IsBelow-stimuli = dearest_below (length plan.events) (cost_of_switch plan) (λ s. s.0 < length plan.switches) IsBelow-switch (switches_of plan) (switches-within plan)
+  IsBelow-stimuli = dearest_below (length plan.events) (cost_of_switch plan) IsBelow-switch (switches_of plan)
 
--- a switch of a valid plan posts events of the plan
-pub posts-within : (plan : PlanView) → IsValid plan → (s : SwitchId) (active : Bool) (n : ℕ) (es : List EventId) → s.0 < length plan.switches → n ≡ length plan.events → es ≡ posts_of plan s active → All (IsEventWithin n) es
-posts-within plan valid s active n es h count is =
-    let within = All-get_or (IsSwitchWithin (length plan.events)) plan.switches s.0 no_switch h valid.switches in
-    let all : All (IsEventWithin (length plan.events)) (posts_of plan s active) = elim active as (λ a. All (IsEventWithin (length plan.events)) (posts_of plan s a)) [ true ↦ within.0 | false ↦ within.1 ] in
-    subst (λ (xs : List EventId). All (IsEventWithin n) xs) (sym is) (subst (λ (m : ℕ). All (IsEventWithin m) (posts_of plan s active)) (sym count) all)
+-- the same of as many events as the plan has
+pub posts-within : (plan : PlanView) → IsValid plan → (s : SwitchId) (active : Bool) (n : ℕ) (es : List EventId) → n ≡ length plan.events → es ≡ posts_of plan s active → All (IsEventWithin n) es
+posts-within plan valid s active n es count is =
+    subst (λ (m : ℕ). All (IsEventWithin m) es) (sym count) (subst (All (IsEventWithin (length plan.events))) (sym is) (posts-below plan valid s active))

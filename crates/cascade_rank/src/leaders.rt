@@ -94,7 +94,7 @@ fn add_target(
     event: EventId,
     target: Target,
 ) -> Result<u128, AllocError>
-    requires target { IsTargetWithin (length plan.now.lists) target }
+    requires target { IsTargetWithin plan.now target }
     requires leaders { length leaders.old ≡ length plan.now.events }
     ensures leaders { IfOk result (λ _. AddsLeader event.0 (cost_of_target plan.now target) leaders.old leaders.new) }
     ensures posts { IfOk result (λ posts. posts ≡ unmet (λ _. false) (cost_of_target plan.now target)) }
@@ -111,7 +111,7 @@ fn add_actions(
     event: EventId,
     actions: &[Action],
 ) -> Result<u128, AllocError>
-    requires actions { All (IsActionWithin (length plan.now.events)) actions.now }
+    requires actions { All (IsActionWithin plan.now) actions.now }
     requires leaders { length leaders.old ≡ length plan.now.events }
     ensures leaders { IfOk result (λ _. AddsLeader event.0 (each_of (cost_of_action plan.now) actions.now) leaders.old leaders.new) }
     ensures posts { IfOk result (λ posts. posts ≡ unmet (λ _. false) (each_of (cost_of_action plan.now) actions.now)) }
@@ -131,7 +131,7 @@ fn add_action(
     event: EventId,
     action: Action,
 ) -> Result<u128, AllocError>
-    requires action { IsActionWithin (length plan.now.events) action }
+    requires action { IsActionWithin plan.now action }
     requires leaders { length leaders.old ≡ length plan.now.events }
     ensures leaders { IfOk result (λ _. AddsLeader event.0 (cost_of_action plan.now action) leaders.old leaders.new) }
     ensures posts { IfOk result (λ posts. posts ≡ unmet (λ _. false) (cost_of_action plan.now action)) }

@@ -35,7 +35,7 @@ fn price_of_binding(plan: &Plan, weights: &[u32], binding: Binding) -> u128
 }
 
 fn price_of_target(plan: &Plan, weights: &[u32], target: Target) -> u128
-    requires target { IsTargetWithin (length plan.now.lists) target }
+    requires target { IsTargetWithin plan.now target }
     requires weights { length weights.now ≡ length plan.now.events }
     ensures price { result ≡ price (slice_index weights.now) (cost_of_target plan.now target) }
     ensures small { result < 2 ^ 96 }
@@ -55,7 +55,7 @@ fn price_of_list(plan: &Plan, weights: &[u32], list: ListId) -> u128
 }
 
 fn price_of_actions(plan: &Plan, weights: &[u32], actions: &[Action]) -> u128
-    requires actions { All (IsActionWithin (length plan.now.events)) actions.now }
+    requires actions { All (IsActionWithin plan.now) actions.now }
     requires weights { length weights.now ≡ length plan.now.events }
     ensures price { result ≡ price (slice_index weights.now) (each_of (cost_of_action plan.now) actions.now) }
     ensures small { result < 2 ^ 96 }
@@ -68,7 +68,7 @@ fn price_of_actions(plan: &Plan, weights: &[u32], actions: &[Action]) -> u128
 }
 
 fn price_of_action(plan: &Plan, weights: &[u32], action: Action) -> u128
-    requires action { IsActionWithin (length plan.now.events) action }
+    requires action { IsActionWithin plan.now action }
     requires weights { length weights.now ≡ length plan.now.events }
     ensures price { result ≡ price (slice_index weights.now) (cost_of_action plan.now action) }
     ensures small { result < 2 ^ 32 }

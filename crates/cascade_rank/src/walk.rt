@@ -75,7 +75,7 @@ fn next(plan: &Plan, left: &[u128], event: EventId) -> EventId
 
 /// The lowest of those that the target posts, or the number of events where there is none.
 fn lowest_of_target(plan: &Plan, left: &[u128], target: Target) -> u16
-    requires target { IsTargetWithin (length plan.now.lists) target }
+    requires target { IsTargetWithin plan.now target }
     requires left { length left.now ≡ length plan.now.events }
     requires small { length left.now < 65536 }
     ensures { result ≡ lowest (length left.now) (λ e. nat_lt 0 (slice_index left.now e)) (cost_of_target plan.now target) }
@@ -86,7 +86,7 @@ fn lowest_of_target(plan: &Plan, left: &[u128], target: Target) -> u16
 }
 
 fn lowest_of_actions(plan: &Plan, left: &[u128], actions: &[Action]) -> u16
-    requires actions { All (IsActionWithin (length plan.now.events)) actions.now }
+    requires actions { All (IsActionWithin plan.now) actions.now }
     requires left { length left.now ≡ length plan.now.events }
     requires small { length left.now < 65536 }
     ensures { result ≡ lowest (length left.now) (λ e. nat_lt 0 (slice_index left.now e)) (each_of (cost_of_action plan.now) actions.now) }
@@ -99,7 +99,7 @@ fn lowest_of_actions(plan: &Plan, left: &[u128], actions: &[Action]) -> u16
 }
 
 fn lowest_of_action(plan: &Plan, left: &[u128], action: Action) -> u16
-    requires action { IsActionWithin (length plan.now.events) action }
+    requires action { IsActionWithin plan.now action }
     requires left { length left.now ≡ length plan.now.events }
     requires small { length left.now < 65536 }
     ensures { result ≡ lowest (length left.now) (λ e. nat_lt 0 (slice_index left.now e)) (cost_of_action plan.now action) }

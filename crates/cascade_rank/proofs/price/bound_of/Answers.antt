@@ -2,7 +2,7 @@ use Rattle.std.proofs.Common.{◌≡◌, ◌<◌, ◌≤◌, List, max, length, 
 use Rattle.mpf_plan.specs.declared.entries.SwitchId.{SwitchId}
 use Rattle.cascade_rank.specs.Cost.{price, dearest_of, cost_of_switch, switches_of}
 use Rattle.cascade_rank.proofs.Prices.{price-dearest_more}
-use Rattle.cascade_rank.proofs.Within.{length-switches, switch_of}
+use Rattle.cascade_rank.proofs.Switches.{length-switches, switch_of}
 use Rattle.cascade_rank.proofs.price.bound_of.Goals as goal
 
 pub loop-number-preserved : goal.loop-number-preserved
