@@ -1,5 +1,5 @@
 -- Events are noted as leading to what they post: one post, a list of them, an event, all events.
-use Rattle.std.proofs.Common.{◌≡◌, ◌≢◌, ℕ, zero, suc, ◌+◌, ◌<◌, ◌≤◌, Bool, true, false, cond, ◌==◌, nat_lt, List, [], ◌∷◌, ◌++◌, length, map, take, drop, take_at, set, replicate, get_or, Some, refl, sym, ◌∙◌, ap, subst, inl, inr, arith, length-set, take_all, get_or-set_same, get_or-set_other}
+use Rattle.std.proofs.Common.{◌≡◌, ◌≢◌, ℕ, zero, suc, ◌+◌, ◌<◌, ◌≤◌, Bool, true, false, cond, ◌==◌, nat_lt, List, [], ◌∷◌, ◌++◌, length, take, drop, take_at, set, replicate, get_or, Some, refl, sym, ◌∙◌, ap, subst, inl, inr, arith, length-set, take_all, get_or-set_same, get_or-set_other}
 use Rattle.std.specs.List.{slice_get}
 use Rattle.std.proofs.lemmas.Option.{get_or_from_slice_get}
 use Rattle.std.proofs.lemmas.Bool.{cases_lt, cases_eq, eq-eqb, ne_eqb, lt-ltb, le-ltb}

@@ -1,4 +1,4 @@
--- Which cycle is told of a plan that has more than one: the one in which a fixed walk ends.
+-- Which cycle is reported of a plan that has more than one: the one in which a fixed walk ends.
 use Rattle.std.specs.Prelude.{◌≡◌, ◌≢◌, ℕ, zero, suc, ◌+◌, ◌-◌, ◌<◌, Bool, true, false, ◌&&◌, ◌==◌, if◌then◌else◌, List, [], ◌∷◌, ◌++◌, length, drop, slice_index, Option, position}
 use Rattle.std.specs.List.{list_any, position_or_len, range_with_len}
 use Rattle.mpf_plan.specs.PlanView.{PlanView}
@@ -22,7 +22,7 @@ pub record IsWalk (plan : PlanView) (path : List ℕ) : Type 0 where
   pub apart : (i j : ℕ) → i < j → j < length path → slice_index path i ≢ slice_index path j
 
 -- a walk whose next step comes back to one of its events: the cycle is the walk from that event on
-pub record IsToldCycle (plan : PlanView) (cycle : List ℕ) : Type 0 where
+pub record IsReportedCycle (plan : PlanView) (cycle : List ℕ) : Type 0 where
   pub path : List ℕ
   pub walk : IsWalk plan path
   pub place : ℕ

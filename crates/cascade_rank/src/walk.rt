@@ -5,7 +5,7 @@ ghost use Rattle.std.specs.List.{All};
 ghost use Rattle.mpf_plan.specs.Valid.{IsActionWithin, IsTargetWithin};
 ghost use Rattle.cascade_rank.specs.Cost.{each_of, cost_of_action, cost_of_target};
 ghost use Rattle.cascade_rank.specs.LeadsTo.{is_open, IsCycle};
-ghost use Rattle.cascade_rank.specs.Cycle.{IsFirst, IsToldCycle, next_open, from_first, cycle_of};
+ghost use Rattle.cascade_rank.specs.Cycle.{IsFirst, IsReportedCycle, next_open, from_first, cycle_of};
 ghost use Rattle.cascade_rank.specs.Lowest.{lowest, IsLeft};
 
 use mpf_plan::{Action, EventId, Plan, Target};
@@ -30,7 +30,7 @@ pub(crate) fn walk(
     requires within { start.0 < length plan.now.events }
     requires first { IsFirst (is_open plan.now) start.0 }
     ensures cycle { IfOk result (λ cycle. map (λ e. e.0) cycle.items ≡ cycle_of plan.now start.0) }
-    ensures told { IfOk result (λ cycle. IsToldCycle plan.now (map (λ e. e.0) cycle.items)) }
+    ensures reported { IfOk result (λ cycle. IsReportedCycle plan.now (map (λ e. e.0) cycle.items)) }
     ensures is_one { IfOk result (λ cycle. IsCycle plan.now (map (λ e. e.0) cycle.items)) }
 {
     let mut passed = vec![in alloc; false; plan.event_count()]?;
