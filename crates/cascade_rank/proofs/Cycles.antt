@@ -1,5 +1,5 @@
--- Events that lead to each other: none of them is grounded, and with them no weights fit. From an event that is not grounded
--- one comes to some.
+-- Events that lead to each other: none of them is grounded, and with them no weights fit. From an event that is not
+-- grounded one comes to some.
 use Rattle.std.proofs.Common.{◌≡◌, ℕ, zero, suc, ◌+◌, ◌-◌, ◌<◌, ◌≤◌, ◌⊎◌, Bool, true, false, not, eqb, List, [], ◌∷◌, length, take, slice_index, All, refl, sym, ◌∙◌, ap, subst, inl, inr, arith, length-take}
 use Rattle.std.specs.List.{IsDistinct, position_or_len}
 use Rattle.std.proofs.lemmas.Bool.{cases_lt, eqb-true, false_from_ne_true, false≢true}
@@ -66,7 +66,7 @@ module _ (plan : PlanView) (events : List ℕ) (c : IsCycle plan events) where
 
 -- ---- the way from an event that is not grounded
 
--- events from e on, each of which leads to the next, k of them behind it, and none comes twice
+-- events from e on, each of which leads to the next, k of them after e, and none comes twice
 pub record IsTrail (plan : PlanView) (e k : ℕ) (trail : List ℕ) : Type 0 where
   pub count : length trail ≡ k + 1
   pub begins : slice_index trail 0 ≡ e
@@ -86,7 +86,7 @@ module _ (plan : PlanView) where
   }
 
   module _ (e f k : ℕ) (trail : List ℕ) (t : IsTrail plan f k trail) (leads_there : leads plan e f ≡ true) where
-    -- e leads to the trail, and stands on it: the part of the trail up to there is a cycle
+    -- e leads to the trail, and is on it: the part of the trail up to there is a cycle
     module _ (n : ℕ) (within : n < length trail) (here : slice_index trail n ≡ e) where
       at_start : (i : ℕ) → i < n + 1 → slice_index (take (n + 1) trail) i ≡ slice_index trail i
       at_start i l = get_or-take (n + 1) trail i 0 l

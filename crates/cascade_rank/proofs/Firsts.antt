@@ -144,7 +144,7 @@ is_left n = elim (cases_eq n 0) [
   | inr other ↦ lt-ltb 0 n (omega (arith, other)) ∙ sym (ap not (ne_eqb n 0 other))
 ]
 
--- the lowest of those that stand at the places of what is bound to it
+-- the lowest of those that are at the places of what is bound to it
 pub next_is : (plan : PlanView) → IsValid plan → (left : List ℕ) → IsLeft plan left → (e : EventId) (places : List BindingId) (i found : ℕ) → places ≡ places_of plan e → length places ≤ i →
     found ≡ lowest (length left) (λ f. nat_lt 0 (slice_index left f)) (each_of (cost_at_place plan) (take i places)) → found ≡ next_open plan e.0
 next_is plan valid left l e places i found are whole is =

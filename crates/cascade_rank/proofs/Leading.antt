@@ -91,11 +91,11 @@ adds-one leader f old l = record {
 -- ---- an event
 
 module _ (plan : PlanView) (places : List BindingId) (i : ℕ) where
-  -- what stands at the next place costs what the binding there costs
+  -- what is at the next place costs what the binding there costs
   pub place-cost : (b : Binding) → slice_get plan.bindings (get_or places i (record { 0 = 0 })).0 ≡ Some b → cost_at_place plan (get_or places i (record { 0 = 0 })) ≡ cost_of_binding plan b
   place-cost b at = ap (cost_of_binding plan) (get_or_from_slice_get plan.bindings (get_or places i (record { 0 = 0 })).0 b no_binding at)
 
-  -- an event costs its line, what stands at the places of what is bound to it, and the machine's work
+  -- an event costs its line, what is at the places of what is bound to it, and the machine's work
   pub event-places : (e : EventId) → places ≡ places_of plan e → length places ≤ i → cost_of_event plan e.0 ≡ Both (Lines 1) (Both (each_of (cost_at_place plan) (take i places)) (cost_of_work plan e))
   event-places e are whole =
       let taken : take i places ≡ places_of plan e = take_all i places whole ∙ are in

@@ -1,4 +1,4 @@
--- What is bound to an event costs what stands at its places costs.
+-- What is bound to an event costs as much as what is at its places.
 use Rattle.std.proofs.Common.{◌≡◌, ℕ, ◌+◌, ◌<◌, ◌≤◌, ◌==◌, List, [], ◌∷◌, length, map, take, get_or, Some, refl, sym, ap, ◌∙◌, subst, arith}
 use Rattle.std.specs.List.{All, slice_get}
 use Rattle.std.proofs.lemmas.Option.{get_or_from_slice_get, slice_get_within}
@@ -28,7 +28,7 @@ module _ (plan : PlanView) where
   abbrev pub cost_at_place : BindingId → Cost
   cost_at_place p = cost_of_binding plan (binding_at plan p.0)
 
-  -- a line and what stands at the first places costs, and at one place more
+  -- the price of a line and of what is at the first places, and at one place more
   pub price-places_more : (w : ℕ → ℕ) (places : List BindingId) (i : ℕ) (b : Binding) (total cost : ℕ) → i < length places
       → slice_get plan.bindings (get_or places i (record { 0 = 0 })).0 ≡ Some b → cost ≡ price w (cost_of_binding plan b)
       → total ≡ 1 + price w (each_of cost_at_place (take i places)) → total + cost ≡ 1 + price w (each_of cost_at_place (take (i + 1) places))

@@ -55,7 +55,7 @@ has-push path x e = list_any-append (λ d. d == e) path (x ∷ []) ∙ ap (λ (b
     by true = refl
     by false = refl
 
--- it has this path behind it, of which the events are marked, and comes to `at`
+-- it has passed this path, of which the events are marked, and comes to `at`
 pub record WalkAt (plan : PlanView) (start : ℕ) (passed : List Bool) (path : List ℕ) (at : ℕ) : Type 0 where
   pub count : length passed ≡ length plan.events
   pub walk : IsWalk plan path

@@ -16,7 +16,7 @@ use Rattle.mpf_plan.specs.declared.entries.Target.TheVariants.{Run}
 use Rattle.mpf_plan.specs.declared.entries.Binding.{Binding}
 use Rattle.cascade_rank.specs.Cost.{Cost, Lines, Weight, Both, Greater, mentions, each_of, dearest_of, cost_of_post, cost_of_action, cost_of_list, cost_of_target, cost_of_binding, cost_of_event, cost_of_acceptance, cost_of_switch, switches_of, cost_of_stimuli}
 
--- each event whose weight stands in the cost is below n
+-- each event whose weight is in the cost is below n
 abbrev pub IsBelow : ℕ → Cost → Type 0
 IsBelow n (Lines k) = Unit {0}
 IsBelow n (Weight e) = e < n
