@@ -40,7 +40,7 @@ both_ok : (r : Result Unit StepFault) (given : Result Stimulus StepFault) (stimu
 both_ok (Ok done) given stimulus h = (refl, h)
 both_ok (Err fault) given stimulus h = cc
 
-late_or : (late : Bool) (given : Result Stimulus StepFault) → result_and (if late then Err faults.TooLate else Ok tt) given ≡ (if late then Err faults.TooLate else given)
+late_or : (late : Bool) (given : Result Stimulus StepFault) → result_and (if late then Err faults.TooLate else Ok (tt {0})) given ≡ (if late then Err faults.TooLate else given)
 late_or true given = refl
 late_or false given = refl
 

@@ -107,7 +107,7 @@ fn handle(plan: &Plan, core: &mut Core<'_>, event: EventId)
 }
 
 fn run_target(plan: &Plan, core: &mut Core<'_>, owner: Owner, target: Target)
-    requires target { IsTargetWithin (length plan.now.lists) target }
+    requires target { IsTargetWithin plan.now target }
     requires room { HasRoom core.old.room (do_target plan.now owner target core.old.machine) }
     ensures { core.new ≡ after (do_target plan.now owner target) core.old }
 {

@@ -57,7 +57,7 @@ impl<'c> Rig<'c> {
     }
 
     /// One input: what it does itself, and then the whole cascade that it begins, handlers of one
-    /// event in plan order. Gives the lines, first come first.
+    /// event in plan order. Lends the lines, first come first.
     ///
     /// # Errors
     ///
