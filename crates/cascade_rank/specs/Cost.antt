@@ -24,14 +24,14 @@ price w (Weight e) = w e
 price w (Both a b) = price w a + price w b
 price w (Greater a b) = max (price w a) (price w b)
 
--- whether the weight of e stands in the cost
+-- whether the weight of e is in the cost
 abbrev pub mentions : ℕ → Cost → Bool
 mentions e (Lines n) = false
 mentions e (Weight f) = e == f
 mentions e (Both a b) = mentions e a || mentions e b
 mentions e (Greater a b) = mentions e a || mentions e b
 
--- whether p holds of each event whose weight stands in the cost
+-- whether p holds of each event whose weight is in the cost
 abbrev pub all_mentioned : (ℕ → Bool) → Cost → Bool
 all_mentioned p (Lines n) = true
 all_mentioned p (Weight e) = p e

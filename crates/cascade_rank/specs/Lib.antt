@@ -8,6 +8,7 @@ pub mod View
 pub mod Found
 pub mod CycleOrWeights
 pub mod Verified
+-- No promise rests on these: only contracts of private functions and proofs cite them.
 pub mod Order
 pub mod Lowest
 pub mod Leaders

@@ -1,6 +1,7 @@
-//! What holds after every list of calls.
+//! What holds after every list of calls of a queue, and of the handlers of every event.
 
 ghost use Rattle.event_queue.specs.Calls.{IsFirstInFirstOut, IsWithinSize};
+ghost use Rattle.event_queue.specs.PlanOrder.{HandlersAreInPlanOrder};
 
 /// The law of `Queue`, for every list of calls of `push` and `take` on a new queue.
 ///
@@ -11,4 +12,12 @@ ghost use Rattle.event_queue.specs.Calls.{IsFirstInFirstOut, IsWithinSize};
 pub fn first_in_first_out()
     ensures order { IsFirstInFirstOut }
     ensures size { IsWithinSize }
+{}
+
+/// The law of `Handlers`, for every plan and every event of it: the order that `nth` gives is plan
+/// order, and no other order of the same places is. No priority comes after a lower one.
+///
+/// It does nothing: its contract is the law, over the order that `nth` gives.
+pub fn handlers_are_in_plan_order()
+    ensures { HandlersAreInPlanOrder }
 {}
