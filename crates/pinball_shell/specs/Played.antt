@@ -25,7 +25,7 @@ input_of (Change at switch level) = inputs.Change at switch level
 input_of (Alarm at source) = inputs.Alarm
 input_of (Wait at) = inputs.Wait at
 
--- what stands for a stimulus that a line gives: its moment, and the input
+-- a stimulus that a line gives is its moment and the input
 abbrev pub GivesInput : Result (Option (ℕ × Input)) Refusal → Result (Option Stimulus) Refusal → Type 0
 GivesInput (Ok None) given = given ≡ Ok None
 GivesInput (Ok (Some timed)) given = (stimulus : Stimulus) × (given ≡ Ok (Some stimulus)) × (timed ≡ (moment_of stimulus, input_of stimulus))

@@ -17,13 +17,14 @@ use Rattle.pinball_shell.specs.declared.refusal.Refusal.TheVariants.{Step, BadLi
 use Rattle.pinball_shell.specs.LogText.{Said, Nothing, Unreadable, said}
 use Rattle.pinball_shell.specs.LogText as says
 
--- ---- what becomes of a line
+-- ---- what a line gives
 
--- what a line gives, unless its moment is not admitted
+-- what a line gives, where its moment is admitted
 abbrev pub if_admitted : {X : Type 0} → Result Unit StepFault → X → Result (Option X) Refusal
 if_admitted (Ok admitted) what = Ok (Some what)
 if_admitted (Err fault) what = Err (Step fault)
 
+-- a change of the switch that has the name, if there is one
 abbrev pub change_of : ℕ → ℕ → Option SwitchId → Bool → Result (Option Stimulus) Refusal
 change_of now at None level = Err (Step NoSuchSwitch)
 change_of now at (Some switch) level = if_admitted (admitted now at) (Change at switch level)

@@ -37,7 +37,7 @@ happening_text plan (happenings.Event e) = event_text (name_of_event plan e)
 abbrev pub line_text : PlanView → Line → List ℕ
 line_text plan line = decimal line.moment ++ codes " " ++ owner_text line.owner ++ codes " " ++ happening_text plan line.happening
 
--- A refusal has the number and the name of the fault of its step. A line that is none of a log has its own.
+-- The number and the name of a refusal are those of the fault of the step. A line that is no line of a log has its own.
 abbrev pub refusal_number : Refusal → ℕ
 refusal_number (refusals.Step fault) = step_fault_number fault
 refusal_number refusals.BadLine = 8
@@ -54,7 +54,7 @@ abbrev pub printed_text : PlanView → Printed → List ℕ
 printed_text plan (Traced line) = line_text plan line
 printed_text plan (Refused number refusal) = refused_text number refusal
 
--- what a plan, with the bound of its cascades, plays of a log
+-- what is printed where a log is played on a plan, whose cascades have this bound
 abbrev pub trace_text : PlanView → ℕ → List ℕ → List ℕ
 trace_text plan bound log = flat_map (printed_text plan) (printed_for_log plan bound log)
 
