@@ -3,7 +3,7 @@ use Rattle.std.proofs.Common.{◌≡◌, ℕ, ◌≤◌, ◌<◌, List, [], ◌�
 use Rattle.mpf_plan.specs.PlanView.{PlanView, switch_at}
 use Rattle.mpf_plan.specs.declared.entries.SwitchId.{SwitchId}
 use Rattle.switch_core.specs.SwitchStep.{raw_at_rest}
-use Rattle.switch_core.specs.Switches.{SwitchesView, all_idle, active_at, IsQuietUntil, IsNextDue, after_fire}
+use Rattle.switch_core.specs.Switches.{SwitchesView, all_idle, active_at, IsQuietUntil}
 use Rattle.switch_core.specs.AcceptedLevel.{accepted_level}
 use Rattle.switch_core.specs.Calls.{Call, Fire, call_moment, after_call, after_calls, last_moment, IsInTime, AreInTime, raw_changes}
 use Rattle.switch_core.specs.Calls as calls

@@ -1,10 +1,10 @@
 -- The next alarm that is computed is the next alarm, and nothing is due by a moment just where it is computed so.
-use Rattle.std.proofs.Common.{◌≡◌, ℕ, ◌<◌, ◌≤◌, ◌⊎◌, Bool, true, false, nat_le, cond, Option, Some, None, option_map, refl, ap, sym, ◌∙◌, inl, inr, arith}
+use Rattle.std.proofs.Common.{◌≡◌, ℕ, ◌<◌, ◌≤◌, ◌⊎◌, Bool, true, false, nat_le, cond, Option, Some, None, option_map, refl, ap, sym, ◌∙◌, arith}
 use Rattle.std.specs.Option.{option_map_or}
 use Rattle.std.proofs.lemmas.Bool.{cond_both, cond-true, cond-false, leb-true, le-leb}
 use Rattle.mpf_plan.specs.declared.entries.SwitchId.{SwitchId}
-use Rattle.switch_core.specs.Switches.{IsNextDue, IsNothingDue, next_due}
-use Rattle.switch_core.proofs.NextDue.{next_due-is, next_due-least, next_due-none, next_due-unique, not_due-quiet, quiet-not_due}
+use Rattle.switch_core.specs.Switches.{IsNextDue, next_due}
+use Rattle.switch_core.proofs.NextDue.{next_due-is, next_due-least, not_due-quiet, quiet-not_due}
 use Rattle.config_checker.specs.Machine.{Machine}
 use Rattle.config_checker.specs.Run.{Source, switch, source_due, IsNotAfter, IsNothingDueBy, IsNextAlarm}
 use Rattle.config_checker.specs.NextAlarm.{next_alarm, is_due_by}

@@ -1,5 +1,5 @@
 -- An order of handlers costs no more than its event.
-use Rattle.std.proofs.Common.{◌≡◌, ℕ, ◌+◌, ◌≤◌, ◌<◌, not, List, [], ◌∷◌, length, map, filter, sum_by, refl, ap, arith}
+use Rattle.std.proofs.Common.{◌≡◌, ℕ, ◌+◌, ◌≤◌, ◌<◌, not, List, [], ◌∷◌, length, map, refl, ap, arith}
 use Rattle.std.proofs.lemmas.List.Filters.{sum_by-filter_both}
 use Rattle.std.proofs.lemmas.List.Sorted.{sum_by-IsPermutation, All-permutation}
 use Rattle.std.proofs.lemmas.List.Elements.{All-filter, All-get_or}
