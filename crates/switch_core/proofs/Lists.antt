@@ -97,9 +97,9 @@ module _ (kinds : List SwitchKind) (states : List State) (switch : SwitchId) (ki
   pub change-set : (level : Bool) (now : ℕ) → state_view new ≡ changed kind now level (state_view old) → lists_view kinds (slice_set states switch.0 new) ≡ after_change switch level now (lists_view kinds states)
   change-set level now made = set-made (λ k x. changed k now level x) made
 
-  pub change-told : (level : Bool) (now : ℕ) (taken : Bool) → state_view new ≡ changed kind now level (state_view old) → taken ≡ is_taken kind level (state_view old)
+  pub change-answer : (level : Bool) (now : ℕ) (taken : Bool) → state_view new ≡ changed kind now level (state_view old) → taken ≡ is_taken kind level (state_view old)
       → then_some taken (record { switch = switch; active = new.active }) ≡ told_by_change switch level now (lists_view kinds states)
-  change-told level now taken made test =
+  change-answer level now taken made test =
       let s = lists_view kinds states in
       let told_is = told-made (λ k x. changed k now level x) made in
       let test_is : taken ≡ is_taken (kind_at s switch) level (state_at s switch) = test ∙ sym (ap₂ (λ k x. is_taken k level x) read-kind read-state) in

@@ -59,8 +59,8 @@ impl Switches {
         Ok(Switches { kinds, states })
     }
 
-    /// The raw level of a switch of the plan changes at the moment `now`, below 2^40 ms. Tells the
-    /// new accepted level where it is accepted at once. Where the switch has this raw level already,
+    /// The raw level of a switch of the plan changes at the moment `now`, below 2^40 ms. Reports
+    /// the new accepted level where it is accepted at once. Where the switch has this raw level already,
     /// nothing happens.
     ///
     /// It is to be called only once everything that is due at or before `now` has been accepted.
@@ -97,8 +97,8 @@ impl Switches {
         next
     }
 
-    /// Accepts the raw level that is due next, which something must be: `due` tells. Tells the
-    /// new accepted level.
+    /// Accepts the raw level that is due next, which something must be, as `due` says. Reports
+    /// the new accepted level.
     pub fn fire(&mut self) -> Change
         requires { IsSome (next_due self.old) }
         ensures state { self.new ≡ after_fire self.old }
