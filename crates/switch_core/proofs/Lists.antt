@@ -10,9 +10,12 @@ use Rattle.switch_core.specs.declared.change.Change.{Change}
 use Rattle.switch_core.specs.declared.state.State.{State}
 use Rattle.switch_core.specs.SwitchStep.{SwitchState, idle, changed, is_taken, fired}
 use Rattle.switch_core.specs.StateView.{state_view}
-use Rattle.switch_core.specs.Inside.{lists_view}
 use Rattle.switch_core.specs.Switches.{SwitchesView, IsComplete, no_kind, kind_at, state_at, set_state, due_of, told, after_change, told_by_change, IsNextDue, due_as, sooner, next_due_from, next_due, accept, accept_due, after_fire}
 use Rattle.switch_core.proofs.NextDue.{next_due-more, next_due-all}
+
+-- the switches of which these are the kinds and the states
+abbrev pub lists_view : List SwitchKind → List State → SwitchesView
+lists_view kinds states = record { kinds = kinds; states = map state_view states }
 
 -- ---- what is due is one of the switches
 

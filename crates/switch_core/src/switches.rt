@@ -22,15 +22,15 @@ pub struct Switches {
 }
 
 impl Model for Switches {
+    ghost use Rattle.std.specs.Prelude.{map};
+    ghost use Rattle.switch_core.specs.StateView.{state_view};
     ghost use Rattle.switch_core.specs.Switches.{SwitchesView, IsComplete};
 
     ghost Value = { SwitchesView };
 
-    ghost use Rattle.switch_core.specs.Inside.{switches_view};
+    ghost view = { λ s. record { kinds = s.kinds.items; states = map state_view s.states.items } };
 
-    ghost view = { switches_view };
-
-    ghost invariant = { λ s. IsComplete (switches_view s) };
+    ghost invariant = { λ s. IsComplete (record { kinds = s.kinds.items; states = map state_view s.states.items }) };
 }
 
 impl Switches {

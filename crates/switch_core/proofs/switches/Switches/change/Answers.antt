@@ -1,9 +1,8 @@
 use Rattle.std.proofs.Common.{◌≡◌, ◌<◌, length, slice_set, subst, ap, ◌∙◌, arith}
 use Rattle.std.proofs.lemmas.List.{length-map}
 use Rattle.switch_core.specs.StateView.{state_view}
-use Rattle.switch_core.specs.Inside.{lists_view}
 use Rattle.switch_core.specs.Switches.{SwitchesView, after_change, told_by_change}
-use Rattle.switch_core.proofs.Lists.{change-set, change-answer}
+use Rattle.switch_core.proofs.Lists.{lists_view, change-set, change-answer}
 use Rattle.switch_core.proofs.switches.Switches.change.Goals as goal
 
 in_kinds : (c : goal.After-then_some) → c.args.switch.0 < length c.self.inside.kinds.items
