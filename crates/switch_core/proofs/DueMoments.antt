@@ -168,4 +168,3 @@ module _ (switch : SwitchId) (s : SwitchesView) where
 
     pub fire-tells : told_by_fire s ≡ Some (told (accept switch s) switch)
     fire-tells = ap (option_map (λ d. told (after_fire s) d.1)) (next_due-is s at switch next) ∙ ap (λ (t : SwitchesView). Some (told t switch)) fire-accepts
-
