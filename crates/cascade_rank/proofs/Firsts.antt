@@ -12,7 +12,8 @@ use Rattle.cascade_rank.specs.Cost.{Cost, Lines, Weight, Both, Greater, mentions
 use Rattle.cascade_rank.specs.LeadsTo.{is_open}
 use Rattle.cascade_rank.specs.Cycle.{IsFirst, next_open}
 use Rattle.cascade_rank.specs.Lowest.{lowest, IsLeft}
-use Rattle.cascade_rank.proofs.Within.{IsBelow, IsBelow-event}
+use Rattle.cascade_rank.specs.Below.{IsBelow}
+use Rattle.cascade_rank.proofs.Within.{IsBelow-event}
 use Rattle.cascade_rank.proofs.Places.{cost_at_place}
 use Rattle.cascade_rank.proofs.Leading.{event-places}
 

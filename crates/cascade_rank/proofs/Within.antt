@@ -15,13 +15,7 @@ use Rattle.mpf_plan.specs.declared.entries.Target.{Target}
 use Rattle.mpf_plan.specs.declared.entries.Target.TheVariants.{Run}
 use Rattle.mpf_plan.specs.declared.entries.Binding.{Binding}
 use Rattle.cascade_rank.specs.Cost.{Cost, Lines, Weight, Both, Greater, mentions, each_of, dearest_of, cost_of_post, cost_of_action, cost_of_list, cost_of_target, cost_of_binding, cost_of_event, cost_of_acceptance, cost_of_switch, switches_of, cost_of_stimuli}
-
--- each event whose weight is in the cost is below n
-abbrev pub IsBelow : ℕ → Cost → Type 0
-IsBelow n (Lines k) = Unit {0}
-IsBelow n (Weight e) = e < n
-IsBelow n (Both a b) = IsBelow n a × IsBelow n b
-IsBelow n (Greater a b) = IsBelow n a × IsBelow n b
+use Rattle.cascade_rank.specs.Below.{IsBelow}
 
 pub IsBelow-mentioned : (n : ℕ) (c : Cost) (e : ℕ) → IsBelow n c → mentions e c ≡ true → e < n
 IsBelow-mentioned n (Lines k) e h m = absurd (false≢true m)

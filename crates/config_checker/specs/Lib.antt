@@ -4,6 +4,8 @@ pub mod Run
 pub mod SwitchCalls
 pub mod NextAlarm
 pub mod PlanOrder
+pub mod AlarmsBy
+pub mod AlarmsEnd
 pub mod CheckedView
 pub mod GoodRun
 pub mod Accepted

@@ -13,7 +13,7 @@ use Rattle.config_checker.specs.CertificateOf.{IsTextOf}
 use Rattle.config_checker.specs.Checking.{CertificateFaultView, bad_line, other_events, short, other_bound, FaultView, limit, cycle, bound, certificate, name_of, names_in, weights_in, faults_of_rows}
 use Rattle.config_checker.specs.View.{fault_view}
 
--- the names are those of events that lead to each other: of the cycle that is told
+-- the names are those of events that lead to each other: of the cycle that is reported
 pub record IsCycleOf (plan : PlanView) (names : List (List ℕ)) : Type 0 where
   pub events : List ℕ
   pub reason : IsUnfound plan (ranks.cycle events)

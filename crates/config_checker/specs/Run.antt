@@ -25,6 +25,10 @@ IsNotAfter (switch n) (switch m) = n.0 ≤ m.0
 abbrev pub IsNothingDueBy : Machine → ℕ → Type 0
 IsNothingDueBy s at = (source : Source) (due : ℕ) → source_due s source ≡ Some due → at < due
 
+-- no alarm was due before the moment of the latest stimulus
+abbrev pub IsNothingLate : Machine → Type 0
+IsNothingLate s = (source : Source) (due : ℕ) → source_due s source ≡ Some due → s.moment ≤ due
+
 -- the alarm of the least moment, and of those the first source's
 pub record IsNextAlarm (s : Machine) (at : ℕ) (source : Source) : Type 0 where
   pub due : source_due s source ≡ Some at
@@ -40,7 +44,7 @@ pub data Stimulus : Type 0 where
 
 -- the moment at which a stimulus comes
 abbrev pub moment_of : Stimulus → ℕ
-moment_of (Change at switch level) = at
+moment_of (Change at n level) = at
 moment_of (Alarm at source) = at
 moment_of (Wait at) = at
 
@@ -52,7 +56,7 @@ pub record IsTimely (s : Machine) (at : ℕ) : Type 0 where
 
 -- what may come next
 abbrev pub IsAllowed : PlanView → Machine → Stimulus → Type 0
-IsAllowed plan s (Change at switch level) = IsTimely s at × (switch.0 < length plan.switches)
+IsAllowed plan s (Change at n level) = IsTimely s at × (n.0 < length plan.switches)
 IsAllowed plan s (Alarm at source) = IsNextAlarm s at source × (at < 2 ^ 40)
 IsAllowed plan s (Wait at) = IsTimely s at
 
@@ -66,7 +70,7 @@ fire plan (switch n) s = fire_switch plan n s
 
 -- what a stimulus does before any event step
 abbrev pub begin : PlanView → Stimulus → Machine → Machine
-begin plan (Change at switch level) s = change_switch plan at switch level (arrived at s)
+begin plan (Change at n level) s = change_switch plan at n level (arrived at s)
 begin plan (Alarm at source) s = fire plan source (arrived at s)
 begin plan (Wait at) s = arrived at s
 

@@ -117,7 +117,7 @@ module _ (switch : SwitchId) (level : Bool) (now : ℕ) (s : SwitchesView) where
   pub change-complete : IsComplete s → IsComplete (after_change switch level now s)
   change-complete = set-complete s switch (changed (kind_at s switch) now level (state_at s switch))
 
-  -- what is told of a change is told of its switch
+  -- what is reported of a change is reported of its switch
   pub change-told : (a : Change) → told_by_change switch level now s ≡ Some a → a ≡ told (after_change switch level now s) switch
   change-told a =
       cond_both (is_taken (kind_at s switch) level (state_at s switch)) (Some (told (after_change switch level now s) switch)) None (λ o. o ≡ Some a → a ≡ told (after_change switch level now s) switch)
@@ -162,10 +162,9 @@ module _ (switch : SwitchId) (s : SwitchesView) where
               ]
         ]
 
-    -- it is what a fire accepts, and tells
+    -- it is what a fire accepts and reports
     pub fire-accepts : after_fire s ≡ accept switch s
     fire-accepts = ap (λ d. accept_due d s) (next_due-is s at switch next)
 
     pub fire-tells : told_by_fire s ≡ Some (told (accept switch s) switch)
     fire-tells = ap (option_map (λ d. told (after_fire s) d.1)) (next_due-is s at switch next) ∙ ap (λ (t : SwitchesView). Some (told t switch)) fire-accepts
-

@@ -46,7 +46,8 @@ raw_changes switch raw (Change other level now ∷ calls) =
     if (other.0 == switch.0) && not (same_level level raw) then record { at = now; level = level } ∷ raw_changes switch level calls else raw_changes switch raw calls
 raw_changes switch raw (Fire now ∷ calls) = raw_changes switch raw calls
 
--- After every list of calls from `new` on, wherever nothing is due at or before a moment: each switch is active just as its raw changes say.
+-- After every list of calls from `new` on, wherever nothing is due at or before a moment: each switch is active just
+-- as its raw changes say.
 abbrev pub LevelsAreAccepted : Type 0
 LevelsAreAccepted =
     (plan : PlanView) (calls : List Call) (moment : ℕ) → AreInTime 0 (all_idle plan) calls → last_moment 0 calls ≤ moment → IsQuietUntil (after_calls calls (all_idle plan)) moment

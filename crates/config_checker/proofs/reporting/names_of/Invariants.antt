@@ -1,6 +1,6 @@
 use Rattle.std.proofs.Common.{◌≡◌, map, take}
 use Rattle.config_checker.specs.Checking.{name_of}
-use Rattle.config_checker.proofs.telling.names_of.Given as goal
+use Rattle.config_checker.proofs.reporting.names_of.Given as goal
 
 -- the names of the events so far
 abbrev pub invariant-loop-event : goal.invariant-loop-event

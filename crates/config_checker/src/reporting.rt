@@ -1,11 +1,11 @@
-//! What a report tells.
+//! What a report lists.
 
 ghost use Rattle.std.specs.Prelude.{◌≡◌, Some, IfOk, map, option_map, length};
 ghost use Rattle.std.specs.List.{All};
 ghost use Rattle.mpf_plan.specs.Valid.{IsEventWithin};
 ghost use Rattle.cascade_rank.specs.View.{rank_view, IfRank};
 ghost use Rattle.config_checker.specs.Checking.{name_of, fault_of};
-ghost use Rattle.config_checker.specs.View.{HasEvents, TellsFault, fault_view};
+ghost use Rattle.config_checker.specs.View.{HasEvents, ReportsFault, fault_view};
 
 use crate::report::{CertificateFault, Fault, Report};
 use cascade_rank::RankFault;
@@ -13,8 +13,8 @@ use mpf_plan::{EventId, Plan};
 use std::alloc::{AllocError, Global};
 
 /// The report of one fault.
-pub(crate) fn tell(alloc: Global, fault: Fault) -> Report
-    ensures { TellsFault result (fault_view fault) }
+pub(crate) fn report_of(alloc: Global, fault: Fault) -> Report
+    ensures { ReportsFault result (fault_view fault) }
 {
     let mut faults = Vec::new(alloc);
     match faults.push(fault) {

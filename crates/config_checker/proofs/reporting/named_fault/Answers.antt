@@ -7,7 +7,7 @@ use Rattle.cascade_rank.specs.View.{IfRank, rank_view}
 use Rattle.config_checker.specs.Checking.{cycle, name_of, fault_of}
 use Rattle.config_checker.specs.View.{HasEvents}
 use Rattle.config_checker.proofs.Names.{all_seen, map-seen}
-use Rattle.config_checker.proofs.telling.named_fault.Goals as goal
+use Rattle.config_checker.proofs.reporting.named_fault.Goals as goal
 
 pub names_of-requires : goal.names_of-requires
 names_of-requires c =
