@@ -5,7 +5,7 @@ use crate::shown::name_of;
 use config_checker::{Checked, Happening, Line, Report, check};
 use mpf_config::config::{Debounce, SwitchRow};
 use mpf_plan::{Plan, SwitchId};
-use pin_rig::{Input, Rig};
+use pin_rig::{Input, Rig, check_moment};
 use std::alloc::{AllocError, Global};
 use std::process::Abort;
 use std::test::Fail;
@@ -48,7 +48,7 @@ fn input_of(alloc: Global, text: &str) -> Result<Input, Fail> {
     }
 }
 
-/// What the lines tell, each with its moment: a switch with its level, or an event.
+/// What the lines say, each with its moment: a switch with its level, or an event.
 fn told(alloc: Global, plan: &Plan, lines: &[Line]) -> Result<String, Fail> {
     let mut text = String::new(alloc);
     for line in lines {
@@ -65,11 +65,11 @@ fn told(alloc: Global, plan: &Plan, lines: &[Line]) -> Result<String, Fail> {
     Ok(text)
 }
 
-/// One input: the lines that are told, or why it is refused.
+/// One input: its lines, or the number and the name of its refusal.
 fn stepped(alloc: Global, rig: &mut Rig<'_>, plan: &Plan, input: Input) -> Result<String, Fail> {
     match rig.step(input) {
         Ok(lines) => told(alloc, plan, lines),
-        Err(fault) => Ok(format!(in alloc; "{fault}; ")?),
+        Err(fault) => Ok(format!(in alloc; "{} {fault}; ", fault.number())?),
     }
 }
 
@@ -81,8 +81,8 @@ fn write_moments(text: &mut String, rig: &Rig<'_>) -> Result<(), AllocError> {
     }
 }
 
-/// A rig of `two_switches` is given the input of each row in turn. The row also has what is told
-/// then, the latest moment, and that of the alarm that is due next, if one is.
+/// A rig of `two_switches` is given the input of each row in turn. The row also has what comes of
+/// it, the latest moment, and that of the alarm that is due next, if one is.
 fn assert_steps<R: Abort + AllocGlobal>(rt: &R, rows: &str) -> Result<(), Fail> {
     let checked = two_switches(rt.alloc())?;
     let mut rig = Rig::new(rt.alloc(), &checked)?;
@@ -115,10 +115,10 @@ fn cascade_of_quick_switch_fills_the_bound(rt: HostRuntime) -> Result<(), Fail> 
 
 const REFUSED_CHANGES: &str = "\
 change 100 0 1 => 100 due 105
-change 99 2 1 => NoSuchSwitch; 100 due 105
-change 99 0 1 => Backwards; 100 due 105
-change 1099511627776 0 1 => TooLate; 100 due 105
-change 105 0 0 => AlarmPending; 100 due 105
+change 99 2 1 => 3 NoSuchSwitch; 100 due 105
+change 99 0 1 => 1 Backwards; 100 due 105
+change 1099511627776 0 1 => 2 TooLate; 100 due 105
+change 105 0 0 => 6 AlarmPending; 100 due 105
 ";
 
 #[test]
@@ -128,9 +128,9 @@ fn change_is_refused(rt: HostRuntime) -> Result<(), Fail> {
 
 const REFUSED_WAITS: &str = "\
 change 100 0 1 => 100 due 105
-wait 99 => Backwards; 100 due 105
-wait 1099511627776 => TooLate; 100 due 105
-wait 105 => AlarmPending; 100 due 105
+wait 99 => 1 Backwards; 100 due 105
+wait 1099511627776 => 2 TooLate; 100 due 105
+wait 105 => 6 AlarmPending; 100 due 105
 wait 104 => 104 due 105
 ";
 
@@ -140,9 +140,9 @@ fn wait_is_refused(rt: HostRuntime) -> Result<(), Fail> {
 }
 
 const REFUSED_ALARMS: &str = "\
-alarm => NoAlarm; 0
+alarm => 7 NoAlarm; 0
 change 1099511627775 0 1 => 1099511627775 due 1099511627780
-alarm => TooLate; 1099511627775 due 1099511627780
+alarm => 2 TooLate; 1099511627775 due 1099511627780
 ";
 
 #[test]
@@ -174,5 +174,23 @@ fn trace_of_the_latest_stimulus(rt: HostRuntime) -> Result<(), Fail> {
         quick.as_str(),
         "7 switch 1 true; 7 s_quick_active; 7 a; 7 b; 7 b; "
     );
+    Ok(())
+}
+
+/// What `check_moment` answers to a moment after the latest one.
+fn checked_moment(latest: u64, at: u64) -> &'static str {
+    match check_moment(latest, at) {
+        Ok(()) => "ok",
+        Err(fault) => fault.name(),
+    }
+}
+
+#[test]
+fn moment_goes_forward_below_the_limit(rt: HostRuntime) -> Result<(), Fail> {
+    assert_eq!(rt; checked_moment(100, 100), "ok");
+    assert_eq!(rt; checked_moment(100, 99), "Backwards");
+    assert_eq!(rt; checked_moment(0, 1_099_511_627_775), "ok");
+    assert_eq!(rt; checked_moment(0, 1_099_511_627_776), "TooLate");
+    assert_eq!(rt; checked_moment(1_099_511_627_777, 1_099_511_627_776), "Backwards");
     Ok(())
 }

@@ -1,31 +1,31 @@
 -- A rig that is held acts on an input that is not refused, and is held again.
-use Rattle.std.proofs.Common.{◌≡◌, ℕ, Ok, [], ◌∷◌, ◌++◌, length, refl, ap, sym, ◌∙◌, subst, arith}
+use Rattle.std.proofs.Common.{◌≡◌, ℕ, Ok, [], ◌++◌, List, length, refl, ap, sym, ◌∙◌, subst, arith}
+use Rattle.std.proofs.lemmas.List.{length-map}
 use Rattle.mpf_plan.specs.PlanView.{PlanView}
-use Rattle.config_checker.specs.Machine.{Machine, initial}
+use Rattle.mpf_plan.specs.declared.entries.SwitchKind.{SwitchKind}
+use Rattle.config_checker.specs.declared.line.Line.{Line}
+use Rattle.config_checker.specs.Machine.{Machine}
 use Rattle.config_checker.specs.EventStep.{EventSteps}
 use Rattle.config_checker.specs.PlanOrder.{plan_steps}
-use Rattle.config_checker.specs.Run.{Stimulus, Change, Alarm, Wait, IsAllowed, begin, IsRun}
+use Rattle.config_checker.specs.Run.{Stimulus, Change, Alarm, Wait, IsAllowed, begin, IsReached}
 use Rattle.config_checker.specs.CheckedView.{CheckedView}
 use Rattle.config_checker.specs.Accepted.{IsAccepted}
-use Rattle.config_checker.specs.GoodRun.{IsGood}
-use Rattle.config_checker.proofs.Cascade.{of_plan-run}
-use Rattle.config_checker.proofs.PlanSteps.{plan_steps-are_steps, settling-within, settled-same, settled-steps, settled-run}
+use Rattle.config_checker.proofs.Cascade.{every_run_is_good}
+use Rattle.config_checker.proofs.PlanSteps.{settled-steps}
+use Rattle.config_checker.proofs.Reached.{reached-next, reached-within, reached-same, reached-kinds, reached-complete}
 use Rattle.pin_rig.specs.declared.input.Input.{Input}
 use Rattle.pin_rig.specs.Core.{CoreView, IsPlayable, HasRoom, StaysWithin, HasSettled, after}
-use Rattle.pin_rig.specs.Rig.{RigView, stimulus_at, IsStep, IsReached}
+use Rattle.pin_rig.specs.Rig.{RigView, stimulus_at, IsStep, IsOfRun}
 use Rattle.pin_rig.specs.Inside.{IsHeld}
 use Rattle.pin_rig.proofs.Judging.{judged-allowed, judged-asks, AsksFor}
 
-pub at_rest-reached : (c : CheckedView) → IsReached (record { checked = c; machine = initial c.plan })
-at_rest-reached c = record { stimuli = []; trace = []; run = (refl, refl); settles = refl }
-
 -- what a machine is asked for its core can do
-asked-playable : (c : CheckedView) (core : CoreView) (stimulus : Stimulus) → length core.machine.switches ≡ length c.plan.switches → AsksFor (record { checked = c; machine = core.machine }) stimulus → IsPlayable core stimulus
-asked-playable c core (Change at n level) count asks = let within = asks.1 in (asks.0, omega arith)
-asked-playable c core (Alarm at n) count asks = asks
+asked-playable : (c : CheckedView) (core : CoreView) (stimulus : Stimulus) → length core.machine.switches.kinds ≡ length c.plan.switches → AsksFor (record { checked = c; machine = core.machine }) stimulus → IsPlayable core stimulus
+asked-playable c core (Change at switch level) count asks = let within = asks.1 in (asks.0, omega arith)
+asked-playable c core (Alarm at source) count asks = asks
 asked-playable c core (Wait at) count asks = tt
 
-module _ (c : CheckedView) (core : CoreView) (held : IsHeld c core) (accepted : IsAccepted c) (good : IsGood c)
+module _ (c : CheckedView) (core : CoreView) (held : IsHeld c core) (accepted : IsAccepted c)
     (input : Input) (stimulus : Stimulus) (judged : stimulus_at (record { checked = c; machine = core.machine }) input ≡ Ok stimulus) where
   abbrev pub rig : RigView
   rig = record { checked = c; machine = core.machine }
@@ -37,11 +37,11 @@ module _ (c : CheckedView) (core : CoreView) (held : IsHeld c core) (accepted : 
   allowed = judged-allowed rig input stimulus judged
 
   pub playable : IsPlayable core stimulus
-  playable = asked-playable c core stimulus held.core_is.states (judged-asks rig input stimulus judged)
+  playable = asked-playable c core stimulus held.core_is.kinds (judged-asks rig input stimulus judged)
 
   stays : StaysWithin c.plan core.room begun
   stays n =
-      let within = settling-within c good held.reached.stimuli held.reached.trace core.machine held.reached.run held.reached.settles stimulus allowed n in
+      let within = reached-within c accepted held.reached.0 core.machine held.reached.1 stimulus allowed n in
       let room = held.room in
       record { waiting = omega (arith, within, room); lines = omega (arith, within, room) }
 
@@ -51,10 +51,12 @@ module _ (c : CheckedView) (core : CoreView) (held : IsHeld c core) (accepted : 
     same =
         let there = ap (λ (v : CoreView). v.machine) settled.new_is in
         let idle = ap (λ (s : Machine). s.waiting) (sym there) ∙ settled.settles in
-        sym (settled-same c good held.reached.stimuli held.reached.trace core.machine held.reached.run held.reached.settles stimulus allowed settled.count idle) ∙ sym there
+        sym (reached-same c accepted held.reached.0 core.machine held.reached.1 stimulus allowed settled.count idle) ∙ sym there
 
     steps : (n : ℕ) × EventSteps c.plan n begun (plan_steps c.plan c.bound begun)
-    steps = let is = plan_steps-are_steps c.plan c.bound begun in (is.count, is.steps)
+    steps =
+        let run = held.reached.1 in
+        settled-steps c (every_run_is_good c accepted) run.stimuli held.reached.0 core.machine run.run run.idle stimulus allowed
 
     step : IsStep input rig (record { checked = c; machine = new.machine })
     step = record {
@@ -68,27 +70,23 @@ module _ (c : CheckedView) (core : CoreView) (held : IsHeld c core) (accepted : 
       settles = settled.settles;
     }
 
-    reached : IsReached (record { checked = c; machine = new.machine })
+    reached : IsReached c.plan (held.reached.0 ++ (plan_steps c.plan c.bound begun).lines) new.machine
     reached =
-        let run = settled-run c good held.reached.stimuli held.reached.trace core.machine held.reached.run held.reached.settles stimulus allowed in
-        let count = settled-steps c good held.reached.stimuli held.reached.trace core.machine held.reached.run held.reached.settles stimulus allowed in
-        record {
-          stimuli = held.reached.stimuli ++ (stimulus, count.0) ∷ [];
-          trace = held.reached.trace ++ (plan_steps c.plan c.bound begun).lines;
-          run = subst (IsRun c.plan (held.reached.stimuli ++ (stimulus, count.0) ∷ []) (initial c.plan) (held.reached.trace ++ (plan_steps c.plan c.bound begun).lines)) same run;
-          settles = settled.settles;
-        }
+        subst (IsReached c.plan (held.reached.0 ++ (plan_steps c.plan c.bound begun).lines)) same
+        (reached-next c accepted held.reached.0 core.machine held.reached.1 stimulus allowed)
 
     held-on : IsHeld c new
-    held-on = record {
-      core_is = record {
-        kinds = ap (λ (v : CoreView). v.kinds) settled.new_is ∙ held.core_is.kinds;
-        handlers = ap (λ (v : CoreView). v.handlers) settled.new_is ∙ held.core_is.handlers;
-        states = (of_plan-run c.plan accepted.valid reached.stimuli reached.trace new.machine reached.run).switches;
-      };
-      room = let was = held.room in let is = ap (λ (v : CoreView). v.room) settled.new_is in omega (arith, was, is);
-      reached = reached;
-    }
+    held-on =
+        let trace = held.reached.0 ++ (plan_steps c.plan c.bound begun).lines in
+        record {
+          core_is = record {
+            handlers = ap (λ (v : CoreView). v.handlers) settled.new_is ∙ held.core_is.handlers;
+            kinds = ap (λ (kinds : List SwitchKind). length kinds) (reached-kinds c.plan trace new.machine reached) ∙ length-map c.plan.switches (λ s. s.kind);
+            complete = reached-complete c.plan trace new.machine reached accepted.valid;
+          };
+          room = let was = held.room in let is = ap (λ (v : CoreView). v.room) settled.new_is in omega (arith, was, is);
+          reached = (trace, reached);
+        }
 
   -- the same, as the plan is read
   module _ (plan : PlanView) (plan_is : plan ≡ c.plan) where

@@ -1,89 +1,125 @@
 -- What an input is judged to be may come next.
-use Rattle.std.proofs.Common.{◌≡◌, ℕ, ◌<◌, ◌^◌, nat_lt, nat_le, Bool, cond, Option, Some, None, Result, Ok, Err, length, refl, sym, subst, ap, ◌∙◌}
+use Rattle.std.proofs.Common.{◌≡◌, ℕ, ◌<◌, ◌≤◌, ◌^◌, nat_lt, nat_le, Bool, true, false, cond, if◌then◌else◌, Option, Some, None, Result, Ok, Err, length, refl, sym, subst, ap, ◌∙◌}
+use Rattle.std.specs.Result.{result_and}
 use Rattle.std.proofs.lemmas.Bool.{cond_both, cond-true, cond-false, ltb-true, ltb-false, lt-ltb, le-ltb, leb-false, lt-leb}
+use Rattle.mpf_plan.specs.declared.entries.SwitchId.{SwitchId}
 use Rattle.config_checker.specs.Machine.{Machine}
-use Rattle.config_checker.specs.Run.{Stimulus, Change, Alarm, Wait, IsTimely, IsAllowed}
+use Rattle.config_checker.specs.Run.{Source, Stimulus, Change, Alarm, Wait, IsTimely, IsAllowed}
+use Rattle.config_checker.specs.NextAlarm.{next_alarm, is_due_by}
+use Rattle.config_checker.proofs.NextAlarms.{found-is_next, next-is_found, not_due-nothing, nothing-not_due}
+use Rattle.config_checker.proofs.Reached.{reached-not_late}
 use Rattle.pin_rig.specs.declared.input.Input.{Input}
 use Rattle.pin_rig.specs.declared.input.Input.TheVariants as inputs
 use Rattle.pin_rig.specs.declared.input.StepFault.{StepFault}
 use Rattle.pin_rig.specs.declared.input.StepFault.TheVariants as faults
-use Rattle.pin_rig.specs.Alarm.{next_alarm, is_due_by}
-use Rattle.pin_rig.specs.Rig.{RigView, timely, alarm_at, stimulus_at}
+use Rattle.pin_rig.specs.Refused.{is_too_late, admitted}
+use Rattle.pin_rig.specs.Rig.{RigView, timely, alarm_at, stimulus_at, IsOfRun}
 use Rattle.pin_rig.specs.Steps.{IsOfInput}
-use Rattle.pin_rig.proofs.Alarms.{alarm-is_next, next-is_alarm, not_due-quiet, quiet-not_due}
 
 ok_is : (a b : Stimulus) → ◌≡◌ {A = Result Stimulus StepFault} (Ok a) (Ok b) → a ≡ b
 ok_is a b h = cc
 
-abbrev GivesTimely : Machine → ℕ → Stimulus → Stimulus → Result Stimulus StepFault → Type 0
-GivesTimely s at stimulus given r = r ≡ Ok given → IsTimely s at × (stimulus ≡ given)
+-- ---- moments
 
-timely-is : (s : Machine) (at : ℕ) (stimulus given : Stimulus) → GivesTimely s at stimulus given (timely s at stimulus)
-timely-is s at stimulus given =
-    cond_both (nat_lt at s.moment) (Err faults.Backwards) (cond (nat_le (2 ^ 40) at) (Err faults.TooLate) (cond (is_due_by at s.switches) (Err faults.AlarmPending) (Ok stimulus))) (GivesTimely s at stimulus given)
+-- a moment that is admitted is not before that of the latest stimulus, nor too late
+pub admitted-is : (latest at : ℕ) → admitted latest at ≡ Ok tt → (latest ≤ at) × (at < 2 ^ 40)
+admitted-is latest at =
+    cond_both (nat_lt at latest) (Err faults.Backwards) (cond (nat_le (2 ^ 40) at) (Err faults.TooLate) (Ok tt)) (λ (r : Result Unit StepFault). r ≡ Ok tt → (latest ≤ at) × (at < 2 ^ 40))
     (λ t h. cc)
-    (λ t. cond_both (nat_le (2 ^ 40) at) (Err faults.TooLate) (cond (is_due_by at s.switches) (Err faults.AlarmPending) (Ok stimulus)) (GivesTimely s at stimulus given)
+    (λ t. cond_both (nat_le (2 ^ 40) at) (Err faults.TooLate) (Ok tt) (λ (r : Result Unit StepFault). r ≡ Ok tt → (latest ≤ at) × (at < 2 ^ 40))
     (λ u h. cc)
-    (λ u. cond_both (is_due_by at s.switches) (Err faults.AlarmPending) (Ok stimulus) (GivesTimely s at stimulus given)
-    (λ v h. cc)
-    (λ v h. (record { forward = ltb-false at s.moment t; early = leb-false (2 ^ 40) at u; quiet = not_due-quiet s at v }, ok_is stimulus given h))))
+    (λ u h. (ltb-false at latest t, leb-false (2 ^ 40) at u)))
+
+-- and such a moment is admitted
+pub admitted-ok : (latest at : ℕ) → latest ≤ at → at < 2 ^ 40 → admitted latest at ≡ Ok tt
+admitted-ok latest at forward early =
+    cond-false (nat_lt at latest) (Err faults.Backwards) (cond (nat_le (2 ^ 40) at) (Err faults.TooLate) (Ok tt)) (le-ltb at latest forward)
+    ∙ cond-false (nat_le (2 ^ 40) at) (Err faults.TooLate) (Ok tt) (lt-leb (2 ^ 40) at early)
+
+both_ok : (r : Result Unit StepFault) (given : Result Stimulus StepFault) (stimulus : Stimulus) → result_and r given ≡ Ok stimulus → (r ≡ Ok tt) × (given ≡ Ok stimulus)
+both_ok (Ok done) given stimulus h = (refl, h)
+both_ok (Err fault) given stimulus h = cc
+
+late_or : (late : Bool) (given : Result Stimulus StepFault) → result_and (if late then Err faults.TooLate else Ok (tt {0})) given ≡ (if late then Err faults.TooLate else given)
+late_or true given = refl
+late_or false given = refl
+
+-- no alarm is late, so that the moment of one is refused only where it is too late
+pub alarm-judged : (rig : RigView) → IsOfRun rig → (a : ℕ × Source) → next_alarm rig.machine ≡ Some a → alarm_at (next_alarm rig.machine) ≡ result_and (admitted rig.machine.moment a.0) (Ok (Alarm a.0 a.1))
+alarm-judged rig (trace, reached) a next =
+    let given : Result Stimulus StepFault = Ok (Alarm a.0 a.1) in
+    let early : Result Unit StepFault = if is_too_late a.0 then Err faults.TooLate else Ok tt in
+    let here = found-is_next rig.machine a.0 a.1 next in
+    let ahead = reached-not_late rig.checked.plan trace rig.machine reached a.1 a.0 here.due in
+    ap alarm_at next
+    ∙ sym (ap (λ (r : Result Unit StepFault). result_and r given) (cond-false (nat_lt a.0 rig.machine.moment) (Err faults.Backwards) early (le-ltb a.0 rig.machine.moment ahead)) ∙ late_or (is_too_late a.0) given)
+
+-- ---- what is taken may come
+
+timely-is : (s : Machine) (at : ℕ) (stimulus given : Stimulus) → timely s at stimulus ≡ Ok given → IsTimely s at × (stimulus ≡ given)
+timely-is s at stimulus given h =
+    let both = both_ok (admitted s.moment at) (cond (is_due_by at s) (Err faults.AlarmPending) (Ok stimulus)) given h in
+    let time = admitted-is s.moment at both.0 in
+    cond_both (is_due_by at s) (Err faults.AlarmPending) (Ok stimulus) (λ (r : Result Stimulus StepFault). r ≡ Ok given → IsTimely s at × (stimulus ≡ given))
+    (λ v k. cc)
+    (λ v k. (record { forward = time.0; early = time.1; quiet = not_due-nothing s at v }, ok_is stimulus given k)) both.1
 
 -- of an alarm
 pub record IsAlarm (s : Machine) (given : Stimulus) : Type 0 where
   pub at : ℕ
-  pub n : ℕ
-  pub given_is : Alarm at n ≡ given
-  pub next : next_alarm s.switches ≡ Some (at, n)
+  pub source : Source
+  pub given_is : Alarm at source ≡ given
+  pub next : next_alarm s ≡ Some (at, source)
   pub early : at < 2 ^ 40
 
-alarm-is : (s : Machine) (given : Stimulus) (o : Option (ℕ × ℕ)) → next_alarm s.switches ≡ o → alarm_at o ≡ Ok given → IsAlarm s given
+alarm-is : (s : Machine) (given : Stimulus) (o : Option (ℕ × Source)) → next_alarm s ≡ o → alarm_at o ≡ Ok given → IsAlarm s given
 alarm-is s given None next h = cc
 alarm-is s given (Some a) next h =
     cond_both (nat_le (2 ^ 40) a.0) (Err faults.TooLate) (Ok (Alarm a.0 a.1)) (λ (r : Result Stimulus StepFault). r ≡ Ok given → IsAlarm s given)
     (λ t k. cc)
-    (λ t k. record { at = a.0; n = a.1; given_is = ok_is (Alarm a.0 a.1) given k; next = next; early = leb-false (2 ^ 40) a.0 t }) h
+    (λ t k. record { at = a.0; source = a.1; given_is = ok_is (Alarm a.0 a.1) given k; next = next; early = leb-false (2 ^ 40) a.0 t }) h
 
 -- a change is that of a switch of the plan
-change-is : (rig : RigView) (at n : ℕ) (level : Bool) (given : Stimulus) → cond (nat_lt n (length rig.checked.plan.switches)) (timely rig.machine at (Change at n level)) (Err faults.NoSuchSwitch) ≡ Ok given
-    → IsTimely rig.machine at × (n < length rig.checked.plan.switches) × (Change at n level ≡ given)
-change-is rig at n level given =
-    cond_both (nat_lt n (length rig.checked.plan.switches)) (timely rig.machine at (Change at n level)) (Err faults.NoSuchSwitch)
-    (λ (r : Result Stimulus StepFault). r ≡ Ok given → IsTimely rig.machine at × (n < length rig.checked.plan.switches) × (Change at n level ≡ given))
-    (λ t h. let (time, is) = timely-is rig.machine at (Change at n level) given h in (time, ltb-true n (length rig.checked.plan.switches) t, is))
+change-is : (rig : RigView) (at : ℕ) (switch : SwitchId) (level : Bool) (given : Stimulus) → cond (nat_lt switch.0 (length rig.checked.plan.switches)) (timely rig.machine at (Change at switch level)) (Err faults.NoSuchSwitch) ≡ Ok given
+    → IsTimely rig.machine at × (switch.0 < length rig.checked.plan.switches) × (Change at switch level ≡ given)
+change-is rig at switch level given =
+    cond_both (nat_lt switch.0 (length rig.checked.plan.switches)) (timely rig.machine at (Change at switch level)) (Err faults.NoSuchSwitch)
+    (λ (r : Result Stimulus StepFault). r ≡ Ok given → IsTimely rig.machine at × (switch.0 < length rig.checked.plan.switches) × (Change at switch level ≡ given))
+    (λ t h. let (time, is) = timely-is rig.machine at (Change at switch level) given h in (time, ltb-true switch.0 (length rig.checked.plan.switches) t, is))
     (λ t h. cc)
 
 -- so it may come
 pub judged-allowed : (rig : RigView) (input : Input) (given : Stimulus) → stimulus_at rig input ≡ Ok given → IsAllowed rig.checked.plan rig.machine given
 judged-allowed rig (inputs.Change at switch level) given h =
-    let (time, within, is) = change-is rig at switch.0 level given h in
+    let (time, within, is) = change-is rig at switch level given h in
     subst (IsAllowed rig.checked.plan rig.machine) is (time, within)
 judged-allowed rig inputs.Alarm given h =
-    let a = alarm-is rig.machine given (next_alarm rig.machine.switches) refl h in
-    subst (IsAllowed rig.checked.plan rig.machine) a.given_is (alarm-is_next rig.machine a.at a.n a.next, a.early)
+    let a = alarm-is rig.machine given (next_alarm rig.machine) refl h in
+    subst (IsAllowed rig.checked.plan rig.machine) a.given_is (found-is_next rig.machine a.at a.source a.next, a.early)
 judged-allowed rig (inputs.Wait at) given h =
     let (time, is) = timely-is rig.machine at (Wait at) given h in
     subst (IsAllowed rig.checked.plan rig.machine) is time
 
 -- and it is the stimulus of the input
 pub judged-of_input : (rig : RigView) (input : Input) (given : Stimulus) → stimulus_at rig input ≡ Ok given → IsOfInput input given
-judged-of_input rig (inputs.Change at switch level) given h = let (time, within, is) = change-is rig at switch.0 level given h in sym is
+judged-of_input rig (inputs.Change at switch level) given h = let (time, within, is) = change-is rig at switch level given h in sym is
 judged-of_input rig inputs.Alarm given h =
-    let a = alarm-is rig.machine given (next_alarm rig.machine.switches) refl h in
-    (a.at, a.n, sym a.given_is)
+    let a = alarm-is rig.machine given (next_alarm rig.machine) refl h in
+    (a.at, a.source, sym a.given_is)
 judged-of_input rig (inputs.Wait at) given h = let (time, is) = timely-is rig.machine at (Wait at) given h in sym is
 
 -- what it asks of the switches is there
 abbrev pub AsksFor : RigView → Stimulus → Type 0
-AsksFor rig (Change at n level) = (at < 2 ^ 40) × (n < length rig.checked.plan.switches)
-AsksFor rig (Alarm at n) = next_alarm rig.machine.switches ≡ Some (at, n)
+AsksFor rig (Change at switch level) = (at < 2 ^ 40) × (switch.0 < length rig.checked.plan.switches)
+AsksFor rig (Alarm at source) = next_alarm rig.machine ≡ Some (at, source)
 AsksFor rig (Wait at) = Unit {0}
 
 pub judged-asks : (rig : RigView) (input : Input) (given : Stimulus) → stimulus_at rig input ≡ Ok given → AsksFor rig given
 judged-asks rig (inputs.Change at switch level) given h =
-    let (time, within, is) = change-is rig at switch.0 level given h in
+    let (time, within, is) = change-is rig at switch level given h in
     subst (AsksFor rig) is (time.early, within)
 judged-asks rig inputs.Alarm given h =
-    let a = alarm-is rig.machine given (next_alarm rig.machine.switches) refl h in
+    let a = alarm-is rig.machine given (next_alarm rig.machine) refl h in
     subst (AsksFor rig) a.given_is a.next
 judged-asks rig (inputs.Wait at) given h =
     let (time, is) = timely-is rig.machine at (Wait at) given h in
@@ -93,18 +129,17 @@ judged-asks rig (inputs.Wait at) given h =
 
 timely-ok : (s : Machine) (at : ℕ) (stimulus : Stimulus) → IsTimely s at → timely s at stimulus ≡ Ok stimulus
 timely-ok s at stimulus time =
-    cond-false (nat_lt at s.moment) (Err faults.Backwards) (cond (nat_le (2 ^ 40) at) (Err faults.TooLate) (cond (is_due_by at s.switches) (Err faults.AlarmPending) (Ok stimulus))) (le-ltb at s.moment time.forward)
-    ∙ cond-false (nat_le (2 ^ 40) at) (Err faults.TooLate) (cond (is_due_by at s.switches) (Err faults.AlarmPending) (Ok stimulus)) (lt-leb (2 ^ 40) at time.early)
-    ∙ cond-false (is_due_by at s.switches) (Err faults.AlarmPending) (Ok stimulus) (quiet-not_due s at time.quiet)
+    ap (λ (r : Result Unit StepFault). result_and r (cond (is_due_by at s) (Err faults.AlarmPending) (Ok stimulus))) (admitted-ok s.moment at time.forward time.early)
+    ∙ cond-false (is_due_by at s) (Err faults.AlarmPending) (Ok stimulus) (nothing-not_due s at time.quiet)
 
 pub allowed-judged : (rig : RigView) (input : Input) (given : Stimulus) → IsOfInput input given → IsAllowed rig.checked.plan rig.machine given → stimulus_at rig input ≡ Ok given
 allowed-judged rig (inputs.Change at switch level) given is allowed =
     let (time, within) = subst (IsAllowed rig.checked.plan rig.machine) is allowed in
-    cond-true (nat_lt switch.0 (length rig.checked.plan.switches)) (timely rig.machine at (Change at switch.0 level)) (Err faults.NoSuchSwitch) (lt-ltb switch.0 (length rig.checked.plan.switches) within)
-    ∙ timely-ok rig.machine at (Change at switch.0 level) time ∙ ap Ok (sym is)
-allowed-judged rig inputs.Alarm given (at, n, is) allowed =
+    cond-true (nat_lt switch.0 (length rig.checked.plan.switches)) (timely rig.machine at (Change at switch level)) (Err faults.NoSuchSwitch) (lt-ltb switch.0 (length rig.checked.plan.switches) within)
+    ∙ timely-ok rig.machine at (Change at switch level) time ∙ ap Ok (sym is)
+allowed-judged rig inputs.Alarm given (at, source, is) allowed =
     let (next, early) = subst (IsAllowed rig.checked.plan rig.machine) is allowed in
-    ap alarm_at (next-is_alarm rig.machine at n next)
-    ∙ cond-false (nat_le (2 ^ 40) at) (Err faults.TooLate) (Ok (Alarm at n)) (lt-leb (2 ^ 40) at early) ∙ ap Ok (sym is)
+    ap alarm_at (next-is_found rig.machine at source next)
+    ∙ cond-false (nat_le (2 ^ 40) at) (Err faults.TooLate) (Ok (Alarm at source)) (lt-leb (2 ^ 40) at early) ∙ ap Ok (sym is)
 allowed-judged rig (inputs.Wait at) given is allowed =
     timely-ok rig.machine at (Wait at) (subst (IsAllowed rig.checked.plan rig.machine) is allowed) ∙ ap Ok (sym is)

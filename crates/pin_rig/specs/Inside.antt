@@ -1,24 +1,28 @@
 -- What a rig holds, and what is seen of a stimulus, apart from where they lie in memory.
 use Rattle.std.specs.Prelude.{◌≡◌, ℕ, ◌≤◌, Result, Ok, Err}
 use Rattle.config_checker.specs.CheckedView.{CheckedView}
-use Rattle.config_checker.specs.Run.{Stimulus, Change, Alarm, Wait}
+use Rattle.config_checker.specs.Run.{Source, switch, Stimulus, Change, Alarm, Wait}
 use Rattle.pin_rig.specs.declared.input.StepFault.{StepFault}
+use Rattle.pin_rig.specs.declared.stimulus.Source.{Source as HeldSource}
+use Rattle.pin_rig.specs.declared.stimulus.Source.TheVariants as held_source
 use Rattle.pin_rig.specs.declared.stimulus.Stimulus.{Stimulus as HeldStimulus}
 use Rattle.pin_rig.specs.declared.stimulus.Stimulus.TheVariants as held
 use Rattle.pin_rig.specs.Core.{CoreView, IsCoreOf}
-use Rattle.pin_rig.specs.Rig.{IsReached}
+use Rattle.pin_rig.specs.Rig.{IsOfRun}
+
+abbrev pub source_view : HeldSource → Source
+source_view (held_source.Switch n) = switch n
+
+-- an alarm: its moment, and what it comes from
+abbrev pub alarm_view : ℕ × HeldSource → ℕ × Source
+alarm_view a = (a.0, source_view a.1)
 
 abbrev pub stimulus_view : HeldStimulus → Stimulus
-stimulus_view (held.Change at n level) = Change at n.0 level
-stimulus_view (held.Alarm at n) = Alarm at n.0
+stimulus_view (held.Change at n level) = Change at n level
+stimulus_view (held.Alarm at source) = Alarm at (source_view source)
 stimulus_view (held.Wait at) = Wait at
 
-abbrev pub moment_of : Stimulus → ℕ
-moment_of (Change at n level) = at
-moment_of (Alarm at n) = at
-moment_of (Wait at) = at
-
--- what stands for a stimulus, or for why there is none
+-- what is returned for a stimulus, or for why there is none
 abbrev pub GivesStimulus : Result HeldStimulus StepFault → Result Stimulus StepFault → Type 0
 GivesStimulus (Ok stimulus) given = given ≡ Ok (stimulus_view stimulus)
 GivesStimulus (Err fault) given = given ≡ Err fault
@@ -27,4 +31,4 @@ GivesStimulus (Err fault) given = given ≡ Err fault
 pub record IsHeld (checked : CheckedView) (core : CoreView) : Type 0 where
   pub core_is : IsCoreOf checked.plan core
   pub room : checked.bound ≤ core.room
-  pub reached : IsReached (record { checked = checked; machine = core.machine })
+  pub reached : IsOfRun (record { checked = checked; machine = core.machine })

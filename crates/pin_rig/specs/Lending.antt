@@ -1,4 +1,4 @@
--- What stands once the lines that a step lends are given back.
+-- What holds once the lines that a step lends are given back.
 use Rattle.std.specs.Prelude.{◌≡◌, ⊤, List, [], Result, MatchResult}
 use Rattle.std.specs.Borrow.{MutBor, Bor, Fml, follows_so}
 use mathlib.Core.Option.{none}

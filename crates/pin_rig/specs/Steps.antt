@@ -3,7 +3,7 @@ use Rattle.std.specs.Prelude.{◌≡◌, ◌↔◌, ℕ, List, [], ◌∷◌, �
 use Rattle.config_checker.specs.declared.line.Line.{Line}
 use Rattle.config_checker.specs.CheckedView.{CheckedView}
 use Rattle.config_checker.specs.Machine.{initial}
-use Rattle.config_checker.specs.Run.{Stimulus, Change, Alarm, Wait, IsAllowed, IsRun}
+use Rattle.config_checker.specs.Run.{Source, Stimulus, Change, Alarm, Wait, IsAllowed, IsRun}
 use Rattle.pin_rig.specs.declared.input.Input.{Input}
 use Rattle.pin_rig.specs.declared.input.Input.TheVariants as inputs
 use Rattle.pin_rig.specs.Rig.{RigView, stimulus_at, IsStep}
@@ -19,8 +19,8 @@ at_rest c = record { checked = c; machine = initial c.plan }
 
 -- the stimulus that an input is: which alarm comes, the run itself says
 abbrev pub IsOfInput : Input → Stimulus → Type 0
-IsOfInput (inputs.Change at switch level) stimulus = stimulus ≡ Change at switch.0 level
-IsOfInput inputs.Alarm stimulus = (at : ℕ) × (n : ℕ) × (stimulus ≡ Alarm at n)
+IsOfInput (inputs.Change at switch level) stimulus = stimulus ≡ Change at switch level
+IsOfInput inputs.Alarm stimulus = (at : ℕ) × (source : Source) × (stimulus ≡ Alarm at source)
 IsOfInput (inputs.Wait at) stimulus = stimulus ≡ Wait at
 
 -- a stimulus for each input, in their order

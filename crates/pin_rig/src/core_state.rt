@@ -1,13 +1,15 @@
 //! The state of a machine, with room for the events that wait and the lines.
 
 ghost use Rattle.std.specs.Prelude.{◌≡◌, ◌^◌, ◌<◌, Some, IfOk, IfSome, IsSome, length, option_map, slice_get};
-ghost use Rattle.event_queue.specs.PlanOrder.{in_order, at_place};
+ghost use Rattle.event_queue.specs.PlanOrder.{in_order};
 ghost use Rattle.switch_core.specs.Switches.{after_change, told_by_change, next_due, after_fire, told_by_fire};
-ghost use Rattle.config_checker.specs.Machine.{initial, write, post};
+ghost use Rattle.config_checker.specs.Machine.{initial, write, post, set_switches};
 ghost use Rattle.config_checker.specs.Run.{arrived};
-ghost use Rattle.pin_rig.specs.Alarm.{next_alarm, is_due_by, alarm_view};
-ghost use Rattle.pin_rig.specs.Core.{IsCoreOf, TakesFirst, after, switches_of, with_switches};
+ghost use Rattle.config_checker.specs.NextAlarm.{next_alarm, is_due_by};
+ghost use Rattle.pin_rig.specs.Core.{IsCoreOf, TakesFirst, after};
+ghost use Rattle.pin_rig.specs.Inside.{alarm_view};
 
+use crate::stimulus::Source;
 use config_checker::{Happening, Line};
 use event_queue::{Handlers, Posted, Queue};
 use mpf_plan::{BindingId, EventId, Owner, Plan, SwitchId};
@@ -18,34 +20,33 @@ use switch_core::{Change, Switches};
 /// The moment of the latest stimulus, the switches, the events that wait and what handles them,
 /// and the lines of the latest stimulus. Only `new` takes memory.
 #[derive(Drop)]
-pub(crate) struct Core {
+pub(crate) struct Core<'p> {
     moment: u64,
     switches: Switches,
     queue: Queue,
-    handlers: Handlers,
+    handlers: Handlers<'p>,
     lines: Vec<Line>,
 }
 
-impl Model for Core {
+impl<'p> Model for Core<'p> {
     ghost use Rattle.std.specs.Prelude.{◌≤◌, vec_capacity};
     ghost use Rattle.pin_rig.specs.Core.{CoreView};
 
     ghost Value = { CoreView };
 
     ghost view = { λ c. record {
-      kinds = c.switches.kinds;
       handlers = c.handlers;
-      machine = record { moment = c.moment; switches = c.switches.states; waiting = c.queue.waiting; lines = c.lines.items };
+      machine = record { moment = c.moment; switches = c.switches; waiting = c.queue.waiting; lines = c.lines.items };
       room = c.queue.size;
     } };
 
     ghost invariant = { λ c. c.queue.size ≤ vec_capacity c.lines };
 }
 
-impl Core {
+impl<'p> Core<'p> {
     /// The plan's machine at moment 0, with all switches inactive, and with room for so many
     /// events that wait and so many lines.
-    pub(crate) fn new(alloc: Global, plan: &Plan, room: usize) -> Result<Core, AllocError>
+    pub(crate) fn new(alloc: Global, plan: &'p Plan, room: usize) -> Result<Core<'p>, AllocError>
         ensures machine { IfOk result (λ c. c.machine ≡ initial plan.now) }
         ensures plan { IfOk result (λ c. IsCoreOf plan.now c) }
         ensures room { IfOk result (λ c. c.room ≡ room) }
@@ -73,18 +74,19 @@ impl Core {
         self.lines.as_slice()
     }
 
-    /// The alarm that comes next.
-    pub(crate) fn due(&self) -> Option<(u64, SwitchId)>
-        ensures { option_map alarm_view result ≡ next_alarm self.now.machine.switches }
+    /// The alarm that comes next: its moment, and what it comes from.
+    pub(crate) fn due(&self) -> Option<(u64, Source)>
+        ensures { option_map alarm_view result ≡ next_alarm self.now.machine }
     {
-        self.switches.due()
+        let (at, switch) = self.switches.due()?;
+        Some((at, Source::Switch(switch)))
     }
 
-    /// Whether one is due at or before the moment.
+    /// Whether an alarm is due at or before the moment.
     pub(crate) fn is_due_by(&self, at: u64) -> bool
-        ensures { result ≡ is_due_by at self.now.machine.switches }
+        ensures { result ≡ is_due_by at self.now.machine }
     {
-        let Some((due, _)) = self.switches.due() else {
+        let Some((due, _)) = self.due() else {
             return false;
         };
         due <= at
@@ -98,7 +100,7 @@ impl Core {
         self.lines.clear();
     }
 
-    /// A line comes.
+    /// A line is written.
     pub(crate) fn write(&mut self, owner: Owner, happening: Happening)
         requires { length self.old.machine.lines < self.old.room }
         ensures { self.new ≡ after (write owner happening) self.old }
@@ -129,29 +131,29 @@ impl Core {
         self.queue.take()
     }
 
-    /// The binding that handles an event as the `k`-th, counted from 0.
+    /// The place of the `k`-th handler of an event, counted from 0, in plan order.
     pub(crate) fn handler(&self, event: EventId, k: usize) -> Option<BindingId>
-        ensures handler { at_place self.now.handlers result ≡ slice_get (in_order self.now.handlers event) k }
-        ensures within { IfSome result (λ b. b.0 < length self.now.handlers.bindings) }
+        ensures handler { result ≡ slice_get (in_order self.now.handlers.plan event) k }
+        ensures within { IfSome result (λ b. b.0 < length self.now.handlers.plan.bindings) }
     {
         self.handlers.nth(event, k)
     }
 
-    /// A switch that there is has a new raw level. Tells where it is accepted at once.
+    /// A switch that there is has a new raw level. Reports where it is accepted at once.
     pub(crate) fn change(&mut self, at: u64, switch: SwitchId, level: bool) -> Option<Change>
         requires at { at < 2 ^ 40 }
-        requires switch { switch.0 < length self.old.kinds }
-        ensures changed { self.new ≡ with_switches (after_change switch level at (switches_of self.old)) self.old }
-        ensures told { result ≡ told_by_change switch level at (switches_of self.old) }
+        requires switch { switch.0 < length self.old.machine.switches.kinds }
+        ensures changed { self.new ≡ after (set_switches (after_change switch level at self.old.machine.switches)) self.old }
+        ensures told { result ≡ told_by_change switch level at self.old.machine.switches }
     {
         self.switches.change(switch, level, at)
     }
 
-    /// The raw level is accepted that is due next, which one must be.
+    /// The raw level of the switch that is due next is accepted, which one must be.
     pub(crate) fn fire(&mut self) -> Change
-        requires { IsSome (next_due (switches_of self.old)) }
-        ensures fired { self.new ≡ with_switches (after_fire (switches_of self.old)) self.old }
-        ensures told { told_by_fire (switches_of self.old) ≡ Some result }
+        requires { IsSome (next_due self.old.machine.switches) }
+        ensures fired { self.new ≡ after (set_switches (after_fire self.old.machine.switches)) self.old }
+        ensures told { told_by_fire self.old.machine.switches ≡ Some result }
     {
         self.switches.fire()
     }

@@ -2,10 +2,14 @@
 
 ghost use Rattle.std.specs.Prelude.{◌≡◌};
 ghost use Rattle.pin_rig.specs.declared.input.RigFault.TheVariants.{NoMemory};
+ghost use Rattle.pin_rig.specs.Refused.{step_fault_number, step_fault_name, admitted};
 
 use mpf_plan::SwitchId;
 use std::alloc::{AllocError, AllocFailed};
 use thiserror::Error;
+
+/// The first moment that is too late, in milliseconds.
+const TOO_LATE: u64 = 1 << 40;
 
 /// What a rig is given: moments are milliseconds.
 #[derive(Clone, Copy, Debug, PartialEq, Eq)]
@@ -26,22 +30,64 @@ pub enum Input {
 
 /// Why an input is refused: the first reason of these. Nothing has changed then.
 #[derive(Clone, Copy, Debug, PartialEq, Eq, Error)]
+#[error("{}", self.name())]
 pub enum StepFault {
     /// The plan has no switch of this number.
-    #[error("NoSuchSwitch")]
     NoSuchSwitch,
     /// No alarm is due.
-    #[error("NoAlarm")]
     NoAlarm,
     /// The moment is before that of the latest stimulus.
-    #[error("Backwards")]
     Backwards,
     /// The moment is 2^40 ms or later.
-    #[error("TooLate")]
     TooLate,
     /// An alarm is due at or before the moment.
-    #[error("AlarmPending")]
     AlarmPending,
+}
+
+impl StepFault {
+    /// The number with which the refusal is printed.
+    pub fn number(&self) -> u32
+        ensures { result ≡ step_fault_number self.now }
+    {
+        match self {
+            StepFault::Backwards => 1,
+            StepFault::TooLate => 2,
+            StepFault::NoSuchSwitch => 3,
+            StepFault::AlarmPending => 6,
+            StepFault::NoAlarm => 7,
+        }
+    }
+
+    /// The name with which it is printed.
+    pub fn name(&self) -> &'static str
+        ensures { result.now ≡ step_fault_name self.now }
+    {
+        match self {
+            StepFault::Backwards => "Backwards",
+            StepFault::TooLate => "TooLate",
+            StepFault::NoSuchSwitch => "NoSuchSwitch",
+            StepFault::AlarmPending => "AlarmPending",
+            StepFault::NoAlarm => "NoAlarm",
+        }
+    }
+}
+
+/// Whether a stimulus may come at the moment `at` after one at `latest`, in milliseconds.
+///
+/// # Errors
+///
+/// - `Backwards`: `at` is before `latest`.
+/// - `TooLate`: `at` is 2^40 ms or later.
+pub fn check_moment(latest: u64, at: u64) -> Result<(), StepFault>
+    ensures { result ≡ admitted latest at }
+{
+    if at < latest {
+        return Err(StepFault::Backwards);
+    }
+    if at >= TOO_LATE {
+        return Err(StepFault::TooLate);
+    }
+    Ok(())
 }
 
 /// Why there is no rig.

@@ -8,6 +8,6 @@ mod parts;
 pub mod rig;
 mod stimulus;
 
-pub use input::{Input, RigFault, StepFault};
+pub use input::{Input, RigFault, StepFault, check_moment};
 pub use law::steps_are_run;
 pub use rig::Rig;

@@ -3,22 +3,19 @@
 ghost use Rattle.std.specs.Prelude.{◌≡◌};
 
 use crate::core_state::Core;
-use crate::input::{Input, RigFault, StepFault};
+use crate::input::{Input, RigFault, StepFault, check_moment};
 use crate::parts::{begin, settle};
 use crate::stimulus::Stimulus;
 use config_checker::{Checked, Line};
 use std::alloc::Global;
 use std::marker::Model;
 
-/// The first moment that is too late, in milliseconds.
-const TOO_LATE: u64 = 1 << 40;
-
 /// The machine of a configuration that was accepted, between two stimuli: no event waits, and
 /// its state is one to which a run of the plan leads. Moments are milliseconds, below 2^40.
 #[derive(Drop)]
 pub struct Rig<'c> {
     checked: &'c Checked,
-    core: Core,
+    core: Core<'c>,
 }
 
 impl<'c> Model for Rig<'c> {
@@ -33,11 +30,12 @@ impl<'c> Model for Rig<'c> {
 }
 
 impl<'c> Rig<'c> {
-    ghost use Rattle.std.specs.Prelude.{◌≡◌, Err, IfOk, IsOk, MatchResult, option_map};
+    ghost use Rattle.std.specs.Prelude.{◌≡◌, Err, IfOk, IsOk, MatchResult, option_map, []};
     ghost use Rattle.std.specs.Borrow.{sem};
     ghost use Rattle.config_checker.specs.Machine.{initial};
-    ghost use Rattle.pin_rig.specs.Alarm.{next_alarm};
-    ghost use Rattle.pin_rig.specs.Rig.{timely, alarm_at, stimulus_at, IsStep, IsReached};
+    ghost use Rattle.config_checker.specs.Run.{IsReached};
+    ghost use Rattle.config_checker.specs.NextAlarm.{next_alarm};
+    ghost use Rattle.pin_rig.specs.Rig.{timely, alarm_at, stimulus_at, IsStep, IsOfRun};
     ghost use Rattle.pin_rig.specs.Inside.{stimulus_view, GivesStimulus};
     ghost use Rattle.pin_rig.specs.Lending.{LendsStep};
 
@@ -51,7 +49,7 @@ impl<'c> Rig<'c> {
     pub fn new(alloc: Global, checked: &'c Checked) -> Result<Rig<'c>, RigFault>
         ensures checked { IfOk result (λ rig. rig.checked ≡ checked.now) }
         ensures machine { IfOk result (λ rig. rig.machine ≡ initial checked.now.plan) }
-        ensures reached { IfOk result (λ rig. IsReached rig) }
+        ensures reached { IfOk result (λ rig. IsReached checked.now.plan [] rig.machine) }
     {
         let room = checked.bound() as usize;
         let core = Core::new(alloc, checked.plan(), room)?;
@@ -59,7 +57,7 @@ impl<'c> Rig<'c> {
     }
 
     /// One input: what it does itself, and then the whole cascade that it begins, handlers of one
-    /// event in plan order. Gives the lines, first come first.
+    /// event in plan order. Lends the lines, first come first.
     ///
     /// # Errors
     ///
@@ -81,15 +79,15 @@ impl<'c> Rig<'c> {
     /// The moment of the latest stimulus, in milliseconds.
     pub fn now(&self) -> u64
         ensures now { result ≡ self.now.machine.moment }
-        ensures reached { IsReached self.now }
+        ensures reached { IsOfRun self.now }
     {
         self.core.moment()
     }
 
     /// The moment of the alarm that is due next, in milliseconds, if one is.
     pub fn next_due(&self) -> Option<u64>
-        ensures due { result ≡ option_map (λ a. a.0) (next_alarm self.now.machine.switches) }
-        ensures reached { IsReached self.now }
+        ensures due { result ≡ option_map (λ a. a.0) (next_alarm self.now.machine) }
+        ensures reached { IsOfRun self.now }
     {
         let (at, _) = self.core.due()?;
         Some(at)
@@ -98,7 +96,7 @@ impl<'c> Rig<'c> {
     /// The lines of the latest stimulus, first come first.
     pub fn trace(&self) -> &[Line]
         ensures lines { result.now ≡ self.now.machine.lines }
-        ensures reached { IsReached self.now }
+        ensures reached { IsOfRun self.now }
     {
         self.core.lines()
     }
@@ -134,12 +132,7 @@ impl<'c> Rig<'c> {
     fn judge_moment(&self, at: u64, stimulus: Stimulus) -> Result<Stimulus, StepFault>
         ensures { GivesStimulus result (timely self.now.machine at (stimulus_view stimulus)) }
     {
-        if at < self.now() {
-            return Err(StepFault::Backwards);
-        }
-        if at >= TOO_LATE {
-            return Err(StepFault::TooLate);
-        }
+        check_moment(self.now(), at)?;
         if self.core.is_due_by(at) {
             return Err(StepFault::AlarmPending);
         }
@@ -148,12 +141,10 @@ impl<'c> Rig<'c> {
 
     /// The alarm that comes next, or why none does.
     fn judge_alarm(&self) -> Result<Stimulus, StepFault>
-        ensures { GivesStimulus result (alarm_at (next_alarm self.now.machine.switches)) }
+        ensures { GivesStimulus result (alarm_at (next_alarm self.now.machine)) }
     {
-        let (at, switch) = self.core.due().ok_or(StepFault::NoAlarm)?;
-        if at >= TOO_LATE {
-            return Err(StepFault::TooLate);
-        }
-        Ok(Stimulus::Alarm(at, switch))
+        let (at, source) = self.core.due().ok_or(StepFault::NoAlarm)?;
+        check_moment(self.now(), at)?;
+        Ok(Stimulus::Alarm(at, source))
     }
 }

@@ -2,20 +2,28 @@
 
 use mpf_plan::SwitchId;
 
+/// What an alarm comes from.
+#[derive(Clone, Copy)]
+pub(crate) enum Source {
+    /// The raw level of the switch, which is accepted then.
+    Switch(SwitchId),
+}
+
 /// A stimulus, at a moment in milliseconds.
 #[derive(Clone, Copy)]
 pub(crate) enum Stimulus {
     /// The switch has this raw level.
     Change(u64, SwitchId, bool),
-    /// The raw level of the switch is accepted.
-    Alarm(u64, SwitchId),
+    /// The alarm comes.
+    Alarm(u64, Source),
     /// Nothing happens up to the moment.
     Wait(u64),
 }
 
 impl Stimulus {
     ghost use Rattle.std.specs.Prelude.{◌≡◌};
-    ghost use Rattle.pin_rig.specs.Inside.{stimulus_view, moment_of};
+    ghost use Rattle.config_checker.specs.Run.{moment_of};
+    ghost use Rattle.pin_rig.specs.Inside.{stimulus_view};
 
     /// Its moment.
     pub(crate) fn moment(self) -> u64

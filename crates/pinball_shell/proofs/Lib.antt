@@ -1,4 +1,3 @@
-pub mod Writing
 pub mod Words
 pub mod FirstPlace
 pub mod TextLines

@@ -1,7 +1,6 @@
 -- Stimuli and lines of a log that are played one after another.
-use Rattle.std.proofs.Common.{◌≡◌, ℕ, zero, suc, ◌+◌, ◌-◌, ◌<◌, ◌≤◌, Bool, true, false, ◌||◌, cond, Option, Some, None, Result, Ok, Err, List, [], ◌∷◌, ◌++◌, length, map, refl, ap, sym, ◌∙◌, subst, arith, append_assoc, append-nil}
+use Rattle.std.proofs.Common.{◌≡◌, ℕ, suc, ◌+◌, ◌<◌, ◌≤◌, Bool, true, false, ◌||◌, cond, Option, Some, None, Result, Ok, Err, List, [], ◌∷◌, ◌++◌, length, map, refl, ap, sym, ◌∙◌, subst, arith, append_assoc, append-nil}
 use Rattle.std.specs.List.{flat_map, list_any}
-use Rattle.std.specs.Option.{option_map_or}
 use Rattle.std.specs.Io.KnownBytes.{Appends}
 use Rattle.std.specs.Str.Lines.{lines}
 use Rattle.std.proofs.lemmas.Grind.{flat_map-append}
@@ -9,20 +8,18 @@ use Rattle.std.proofs.lemmas.List.Folds.{flat_map-map}
 use Rattle.mpf_plan.specs.PlanView.{PlanView}
 use Rattle.config_checker.specs.declared.line.Line.{Line}
 use Rattle.config_checker.specs.Machine.{Machine}
-use Rattle.config_checker.specs.Run.{Stimulus, Alarm}
+use Rattle.config_checker.specs.Run.{IsNothingDueBy, Stimulus, Alarm, moment_of}
+use Rattle.config_checker.specs.AlarmsBy.{alarms_by, state_after}
 use Rattle.config_checker.specs.PlanOrder.{settled}
-use Rattle.config_checker.proofs.Alarms.{due_count, due_count-length, due_count-after_alarm, moment-after}
 use Rattle.config_checker.proofs.Writing.{written-nil, written-then}
 use Rattle.pinball_shell.specs.declared.fault.Verdict.{Verdict}
 use Rattle.pinball_shell.specs.declared.fault.Verdict.TheVariants as verdicts
 use Rattle.pinball_shell.specs.declared.refusal.Refusal.{Refusal}
 use Rattle.pinball_shell.specs.LogText.{said}
-use Rattle.pin_rig.specs.Alarm.{next_alarm, is_due_by}
-use Rattle.pin_rig.proofs.Alarms.{alarm-is_next}
-use Rattle.pinball_shell.specs.RunOfLog.{judged, due_by, state_after, lines_of, alarms_by, moment_of, with_alarms, Told, Traced, Refused, told_of, after_line, told_by}
-use Rattle.pinball_shell.specs.TraceText.{line_text, told_text, refused_text, is_refused, verdict_of}
+use Rattle.pinball_shell.specs.RunOfLog.{given_by_line, lines_of, all_alarms_by, with_alarms, Printed, Traced, Refused, printed_for_line, after_line, printed_for_lines}
+use Rattle.pinball_shell.specs.TraceText.{line_text, printed_text, refused_text, is_refused, log_verdict}
 use Rattle.pinball_shell.specs.Played.{worse_of, IsPlayed, text_of, IsLinePlayed, AreLinesPlayed}
-use Rattle.pinball_shell.proofs.Alarms.{ComesBy, not_due-none}
+use Rattle.pinball_shell.proofs.Alarms.{moment-settled, ComesBy, AreAll, alarms_by-none, alarms_by-some, all-next, fuel-some, alarms_by-fewer}
 
 module _ (plan : PlanView) (bound : ℕ) where
   pub state_after-append : (xs ys : List Stimulus) (s : Machine) → state_after plan bound (xs ++ ys) s ≡ state_after plan bound ys (state_after plan bound xs s)
@@ -57,108 +54,107 @@ module _ (plan : PlanView) (bound : ℕ) where
       }
 
   -- some alarms are played, and those that are left complete them
-  pub record AreAlarmsGoing (until : ℕ) (old now : Machine) (before after : Option (List ℕ)) (all : List Stimulus) : Type 0 where
+  pub record AreAlarmsGoing (until fuel : ℕ) (old now : Machine) (before after : Option (List ℕ)) (all : List Stimulus) : Type 0 where
     pub done : List Stimulus
     pub played : IsPlayed plan bound done old now before after
     pub left : ℕ
-    pub few : due_count now.switches ≤ left
+    pub few : left ≤ fuel
+    pub enough : AreAll plan bound until left now
     pub whole : done ++ alarms_by plan bound until left now ≡ all
     pub moment : now.moment ≤ until
 
-  pub alarms-start : (until n : ℕ) (s : Machine) (a : Option (List ℕ)) → length s.switches ≡ n → s.moment ≤ until → AreAlarmsGoing until s s a a (alarms_by plan bound until n s)
-  alarms-start until n s a states forward = record {
+  pub alarms-start : (until fuel : ℕ) (s : Machine) (a : Option (List ℕ)) → AreAll plan bound until fuel s → s.moment ≤ until → AreAlarmsGoing until fuel s s a a (alarms_by plan bound until fuel s)
+  alarms-start until fuel s a enough forward = record {
     done = [];
     played = played-none s a;
-    left = n;
-    few = omega (arith, states, due_count-length s.switches);
+    left = fuel;
+    few = omega arith;
+    enough = enough;
     whole = refl;
     moment = forward;
   }
 
   -- the next alarm is played
-  module _ (until : ℕ) (s t : Machine) (b c : Option (List ℕ)) (next : ComesBy s until) (played : IsPlayed plan bound (Alarm next.at next.n ∷ []) s t b c) where
-    pub alarms-fewer : due_count t.switches + 1 ≡ due_count s.switches
+  module _ (until fuel : ℕ) (s t : Machine) (b c : Option (List ℕ)) (next : ComesBy s until) (played : IsPlayed plan bound (Alarm next.at next.source ∷ []) s t b c)
+      (old : Machine) (a : Option (List ℕ)) (all : List Stimulus) (h : AreAlarmsGoing until fuel old s a b all) where
+    pub alarms-fewer : length (alarms_by plan bound until fuel t) < length (alarms_by plan bound until fuel s)
     alarms-fewer =
-        let due = alarm-is_next s next.at next.n next.next in
-        subst (λ (m : Machine). due_count m.switches + 1 ≡ due_count s.switches) (sym played.state) (due_count-after_alarm plan bound next.at next.n s due.due)
+        subst (λ (m : Machine). length (alarms_by plan bound until fuel m) < length (alarms_by plan bound until fuel s)) (sym played.state)
+        (alarms_by-fewer plan bound until h.left fuel h.few s next h.enough)
 
-    pub alarms-more : (old : Machine) (a : Option (List ℕ)) (all : List Stimulus) → AreAlarmsGoing until old s a b all → AreAlarmsGoing until old t a c all
-    alarms-more old a all h =
-        let alarm = Alarm next.at next.n in
+    pub alarms-more : AreAlarmsGoing until fuel old t a c all
+    alarms-more =
+        let alarm = Alarm next.at next.source in
+        let (k, count) = fuel-some plan bound until h.left s next h.enough in
         let few = h.few in
         let by = next.by in
-        let at : t.moment ≡ next.at = ap (λ (m : Machine). m.moment) played.state ∙ moment-after plan bound alarm s in
-        let count : h.left ≡ suc (h.left - 1) = omega (arith, few, alarms-fewer) in
-        let going : alarms_by plan bound until h.left s ≡ alarm ∷ alarms_by plan bound until (h.left - 1) t =
-        ap (λ (k : ℕ). alarms_by plan bound until k s) count
-        ∙ ap (λ (o : Option (ℕ × ℕ)). option_map_or (λ x. Alarm x.0 x.1 ∷ alarms_by plan bound until (h.left - 1) (settled plan bound (Alarm x.0 x.1) s)) o []) next.due
-        ∙ ap (λ (m : Machine). alarm ∷ alarms_by plan bound until (h.left - 1) m) (sym played.state) in
+        let at : t.moment ≡ next.at = ap (λ (m : Machine). m.moment) played.state ∙ moment-settled plan bound alarm s in
+        let going : alarms_by plan bound until h.left s ≡ alarm ∷ alarms_by plan bound until k t =
+        ap (λ (n : ℕ). alarms_by plan bound until n s) count
+        ∙ alarms_by-some plan bound until k s next
+        ∙ ap (λ (m : Machine). alarm ∷ alarms_by plan bound until k m) (sym played.state) in
         record {
           done = h.done ++ alarm ∷ [];
           played = played-then h.done (alarm ∷ []) old s t a b c h.played played;
-          left = h.left - 1;
-          few = omega (arith, few, alarms-fewer);
-          whole = append_assoc h.done (alarm ∷ []) (alarms_by plan bound until (h.left - 1) t) ∙ sym (ap (λ (xs : List Stimulus). h.done ++ xs) going) ∙ h.whole;
+          left = k;
+          few = omega (arith, few, count);
+          enough = subst (AreAll plan bound until k) (sym played.state) (all-next plan bound until k s next (subst (λ (n : ℕ). AreAll plan bound until n s) count h.enough));
+          whole = append_assoc h.done (alarm ∷ []) (alarms_by plan bound until k t) ∙ sym (ap (λ (xs : List Stimulus). h.done ++ xs) going) ∙ h.whole;
           moment = omega (arith, at, by);
         }
 
-  alarms-none : (until k : ℕ) (s : Machine) → due_by until (next_alarm s.switches) ≡ None → alarms_by plan bound until k s ≡ []
-  alarms-none until zero s none = refl
-  alarms-none until (suc k) s none =
-      ap (λ (o : Option (ℕ × ℕ)). option_map_or (λ x. Alarm x.0 x.1 ∷ alarms_by plan bound until k (settled plan bound (Alarm x.0 x.1) s)) o []) none
-
   -- no alarm is due any more
-  pub alarms-stop : (until : ℕ) (old s : Machine) (a b : Option (List ℕ)) (all : List Stimulus) → AreAlarmsGoing until old s a b all → is_due_by until s.switches ≡ false → IsPlayed plan bound all old s a b
-  alarms-stop until old s a b all h none =
-      let over = alarms-none until h.left s (not_due-none s until none) in
+  pub alarms-stop : (until fuel : ℕ) (old s : Machine) (a b : Option (List ℕ)) (all : List Stimulus) → AreAlarmsGoing until fuel old s a b all → IsNothingDueBy s until → IsPlayed plan bound all old s a b
+  alarms-stop until fuel old s a b all h none =
+      let over = alarms_by-none plan bound until h.left s none in
       let same : h.done ≡ all = sym (append-nil h.done) ∙ sym (ap (λ (xs : List Stimulus). h.done ++ xs) over) ∙ h.whole in
       subst (λ (xs : List Stimulus). IsPlayed plan bound xs old s a b) same h.played
 
   -- ---- a line
 
   traced-text : (ls : List Line) → text_of plan (map Traced ls) ≡ flat_map (line_text plan) ls
-  traced-text ls = flat_map-map (told_text plan) Traced ls
+  traced-text ls = flat_map-map (printed_text plan) Traced ls
 
   none_refused : (ls : List Line) → list_any is_refused (map Traced ls) ≡ false
   none_refused [] = refl
   none_refused (l ∷ ls) = none_refused ls
 
   module _ (number : ℕ) (line : List ℕ) (s : Machine) where
-    line-is : (given : Result (Option Stimulus) Refusal) (t : Machine) (a b : Option (List ℕ)) (v : Verdict) → judged plan s.moment (said line) ≡ given → t ≡ after_line plan bound s given → Appends a b (text_of plan (told_of plan bound number s given)) → v ≡ verdict_of (told_of plan bound number s given) → IsLinePlayed plan bound number line s t a b v
+    line-is : (given : Result (Option Stimulus) Refusal) (t : Machine) (a b : Option (List ℕ)) (v : Verdict) → given_by_line plan s.moment (said line) ≡ given → t ≡ after_line plan bound s given → Appends a b (text_of plan (printed_for_line plan bound number s given)) → v ≡ log_verdict (printed_for_line plan bound number s given) → IsLinePlayed plan bound number line s t a b v
     line-is given t a b v is state text verdict = record {
       state = subst (λ (g : Result (Option Stimulus) Refusal). t ≡ after_line plan bound s g) (sym is) state;
-      text = subst (λ (g : Result (Option Stimulus) Refusal). Appends a b (text_of plan (told_of plan bound number s g))) (sym is) text;
-      verdict_is = subst (λ (g : Result (Option Stimulus) Refusal). v ≡ verdict_of (told_of plan bound number s g)) (sym is) verdict;
+      text = subst (λ (g : Result (Option Stimulus) Refusal). Appends a b (text_of plan (printed_for_line plan bound number s g))) (sym is) text;
+      verdict_is = subst (λ (g : Result (Option Stimulus) Refusal). v ≡ log_verdict (printed_for_line plan bound number s g)) (sym is) verdict;
     }
 
-    pub line-skipped : (a : Option (List ℕ)) → judged plan s.moment (said line) ≡ Ok None → IsLinePlayed plan bound number line s s a a verdicts.Yes
+    pub line-skipped : (a : Option (List ℕ)) → given_by_line plan s.moment (said line) ≡ Ok None → IsLinePlayed plan bound number line s s a a verdicts.Yes
     line-skipped a is = line-is (Ok None) s a a verdicts.Yes is refl (written-nil a) refl
 
-    pub line-refused : (refusal : Refusal) (a b : Option (List ℕ)) → judged plan s.moment (said line) ≡ Err refusal → Appends a b (refused_text number refusal) → IsLinePlayed plan bound number line s s a b verdicts.Refused
+    pub line-refused : (refusal : Refusal) (a b : Option (List ℕ)) → given_by_line plan s.moment (said line) ≡ Err refusal → Appends a b (refused_text number refusal) → IsLinePlayed plan bound number line s s a b verdicts.Refused
     line-refused refusal a b is text =
         line-is (Err refusal) s a b verdicts.Refused is refl (subst (Appends a b) (sym (append-nil (refused_text number refusal))) text) refl
 
-    pub line-played : (stimulus : Stimulus) (until : ℕ) (t u : Machine) (a b c : Option (List ℕ)) → judged plan s.moment (said line) ≡ Ok (Some stimulus) → until ≡ moment_of stimulus
-        → IsPlayed plan bound (alarms_by plan bound until (length plan.switches) s) s t a b → IsPlayed plan bound (stimulus ∷ []) t u b c → IsLinePlayed plan bound number line s u a c verdicts.Yes
+    pub line-played : (stimulus : Stimulus) (until : ℕ) (t u : Machine) (a b c : Option (List ℕ)) → given_by_line plan s.moment (said line) ≡ Ok (Some stimulus) → until ≡ moment_of stimulus
+        → IsPlayed plan bound (all_alarms_by plan bound until s) s t a b → IsPlayed plan bound (stimulus ∷ []) t u b c → IsLinePlayed plan bound number line s u a c verdicts.Yes
     line-played stimulus until t u a b c is same alarms one =
-        let there = subst (λ (at : ℕ). IsPlayed plan bound (alarms_by plan bound at (length plan.switches) s) s t a b) same alarms in
-        let both = played-then (alarms_by plan bound (moment_of stimulus) (length plan.switches) s) (stimulus ∷ []) s t u a b c there one in
-        let told = lines_of plan bound (with_alarms plan bound stimulus s) s in
-        line-is (Ok (Some stimulus)) u a c verdicts.Yes is both.state (subst (Appends a c) (sym (traced-text told)) both.text)
-        (sym (ap (λ (b : Bool). cond b verdicts.Refused verdicts.Yes) (none_refused told)))
+        let there = subst (λ (at : ℕ). IsPlayed plan bound (all_alarms_by plan bound at s) s t a b) same alarms in
+        let both = played-then (all_alarms_by plan bound (moment_of stimulus) s) (stimulus ∷ []) s t u a b c there one in
+        let played = lines_of plan bound (with_alarms plan bound stimulus s) s in
+        line-is (Ok (Some stimulus)) u a c verdicts.Yes is both.state (subst (Appends a c) (sym (traced-text played)) both.text)
+        (sym (ap (λ (b : Bool). cond b verdicts.Refused verdicts.Yes) (none_refused played)))
 
   -- ---- the lines of a log
 
-  any-append : (xs ys : List Told) → list_any is_refused (xs ++ ys) ≡ (list_any is_refused xs || list_any is_refused ys)
+  any-append : (xs ys : List Printed) → list_any is_refused (xs ++ ys) ≡ (list_any is_refused xs || list_any is_refused ys)
   any-append [] ys = refl
   any-append (Traced l ∷ xs) ys = any-append xs ys
   any-append (Refused n r ∷ xs) ys = refl
 
   pub record AreLinesGoing (log : List ℕ) (old : Machine) (before : Option (List ℕ)) (number : ℕ) (rest : List ℕ) (now : Machine) (after : Option (List ℕ)) (verdict : Verdict) : Type 0 where
-    pub done : List Told
+    pub done : List Printed
     pub written : Appends before after (text_of plan done)
-    pub whole : done ++ told_by plan bound number (lines rest) now ≡ told_by plan bound 1 (lines log) old
-    pub verdict_is : verdict ≡ verdict_of done
+    pub whole : done ++ printed_for_lines plan bound number (lines rest) now ≡ printed_for_lines plan bound 1 (lines log) old
+    pub verdict_is : verdict ≡ log_verdict done
     pub few : number + length rest ≤ 1 + length log
 
   pub lines-start : (log : List ℕ) (old : Machine) (a : Option (List ℕ)) → AreLinesGoing log old a 1 log old a verdicts.Yes
@@ -170,31 +166,31 @@ module _ (plan : PlanView) (bound : ℕ) where
   either_refused false true = refl
   either_refused false false = refl
 
-  verdict-append : (xs ys : List Told) → worse_of (verdict_of xs) (verdict_of ys) ≡ verdict_of (xs ++ ys)
+  verdict-append : (xs ys : List Printed) → worse_of (log_verdict xs) (log_verdict ys) ≡ log_verdict (xs ++ ys)
   verdict-append xs ys =
       either_refused (list_any is_refused xs) (list_any is_refused ys) ∙ sym (ap (λ (b : Bool). cond b verdicts.Refused verdicts.Yes) (any-append xs ys))
 
   pub lines-more : (log : List ℕ) (old : Machine) (number : ℕ) (rest line left : List ℕ) (s t : Machine) (a b c : Option (List ℕ)) (v w x : Verdict) → AreLinesGoing log old a number rest s b v
       → lines rest ≡ line ∷ lines left → length left < length rest → IsLinePlayed plan bound number line s t b c x → w ≡ worse_of v x → AreLinesGoing log old a (number + 1) left t c w
   lines-more log old number rest line left s t a b c v w x h is shorter played next =
-      let told = told_of plan bound number s (judged plan s.moment (said line)) in
-      let going : told_by plan bound number (lines rest) s ≡ told ++ told_by plan bound (number + 1) (lines left) t =
-      ap (λ (ls : List (List ℕ)). told_by plan bound number ls s) is ∙ ap (λ (m : Machine). told ++ told_by plan bound (number + 1) (lines left) m) (sym played.state) in
+      let printed = printed_for_line plan bound number s (given_by_line plan s.moment (said line)) in
+      let going : printed_for_lines plan bound number (lines rest) s ≡ printed ++ printed_for_lines plan bound (number + 1) (lines left) t =
+      ap (λ (ls : List (List ℕ)). printed_for_lines plan bound number ls s) is ∙ ap (λ (m : Machine). printed ++ printed_for_lines plan bound (number + 1) (lines left) m) (sym played.state) in
       let few = h.few in
       record {
-        done = h.done ++ told;
-        written = subst (Appends a c) (sym (flat_map-append (told_text plan) h.done told)) (written-then a b c _ _ h.written played.text);
-        whole = append_assoc h.done told (told_by plan bound (number + 1) (lines left) t) ∙ sym (ap (λ (ts : List Told). h.done ++ ts) going) ∙ h.whole;
-        verdict_is = next ∙ ap (λ (y : Verdict). worse_of y x) h.verdict_is ∙ ap (worse_of (verdict_of h.done)) played.verdict_is ∙ verdict-append h.done told;
+        done = h.done ++ printed;
+        written = subst (Appends a c) (sym (flat_map-append (printed_text plan) h.done printed)) (written-then a b c _ _ h.written played.text);
+        whole = append_assoc h.done printed (printed_for_lines plan bound (number + 1) (lines left) t) ∙ sym (ap (λ (ts : List Printed). h.done ++ ts) going) ∙ h.whole;
+        verdict_is = next ∙ ap (λ (y : Verdict). worse_of y x) h.verdict_is ∙ ap (worse_of (log_verdict h.done)) played.verdict_is ∙ verdict-append h.done printed;
         few = omega (arith, few, shorter);
       }
 
   pub lines-end : (log : List ℕ) (old : Machine) (number : ℕ) (rest : List ℕ) (s : Machine) (a b : Option (List ℕ)) (v : Verdict) → AreLinesGoing log old a number rest s b v → length rest ≡ 0 → AreLinesPlayed plan bound log old a b v
   lines-end log old number rest s a b v h none =
-      let all : h.done ≡ told_by plan bound 1 (lines log) old = sym (append-nil h.done) ∙ sym (ap (λ (r : List ℕ). h.done ++ told_by plan bound number (lines r) s) (empty rest none)) ∙ h.whole in
+      let all : h.done ≡ printed_for_lines plan bound 1 (lines log) old = sym (append-nil h.done) ∙ sym (ap (λ (r : List ℕ). h.done ++ printed_for_lines plan bound number (lines r) s) (empty rest none)) ∙ h.whole in
       record {
-        text = subst (λ (ts : List Told). Appends a b (text_of plan ts)) all h.written;
-        verdict_is = h.verdict_is ∙ ap verdict_of all;
+        text = subst (λ (ts : List Printed). Appends a b (text_of plan ts)) all h.written;
+        verdict_is = h.verdict_is ∙ ap log_verdict all;
       }
     where
       empty : (xs : List ℕ) → length xs ≡ 0 → xs ≡ []

@@ -1,23 +1,23 @@
 -- The bound says only how many event steps there may be, and not what they do.
-use Rattle.std.proofs.Common.{◌≡◌, ℕ, zero, suc, ◌+◌, ◌<◌, ◌≤◌, ◌^◌, Option, Some, None, Result, Ok, Err, List, [], ◌∷◌, ◌++◌, length, map, refl, ap, sym, ◌∙◌, subst, arith}
-use Rattle.std.specs.Option.{option_map_or}
+use Rattle.std.proofs.Common.{◌≡◌, ℕ, zero, suc, ◌+◌, ◌<◌, ◌≤◌, ◌^◌, Option, Some, None, Result, Ok, Err, List, [], ◌∷◌, ◌++◌, map, inl, inr, refl, ap, sym, ◌∙◌, subst, arith}
 use Rattle.std.specs.Str.Lines.{lines}
 use Rattle.mpf_plan.specs.PlanView.{PlanView}
 use Rattle.config_checker.specs.declared.line.Line.{Line}
 use Rattle.config_checker.specs.Machine.{Machine, initial}
-use Rattle.config_checker.specs.Run.{Stimulus, Alarm, IsQuietUntil, IsAllowed}
+use Rattle.config_checker.specs.Run.{Stimulus, Alarm, moment_of, IsNothingDueBy, IsAllowed, IsReached}
+use Rattle.config_checker.specs.NextAlarm.{most_alarms}
+use Rattle.config_checker.specs.AlarmsBy.{alarms_by, state_after}
 use Rattle.config_checker.specs.CheckedView.{CheckedView}
 use Rattle.config_checker.specs.Accepted.{IsAccepted}
 use Rattle.config_checker.specs.PlanOrder.{settled}
-use Rattle.config_checker.proofs.Alarms.{due_count, due_count-length, due_count-none, due_count-after_alarm, moment-after}
+use Rattle.config_checker.proofs.AlarmsEnd.{alarms-end}
 use Rattle.config_checker.proofs.Cascade.{every_run_is_good}
 use Rattle.config_checker.proofs.PlanSteps.{settled-idle, settled-same}
-use Rattle.config_checker.proofs.Reached.{IsReached, reached-initial, reached-of_plan, reached-next}
-use Rattle.pin_rig.specs.Alarm.{next_alarm}
+use Rattle.config_checker.proofs.Reached.{reached-initial, reached-next}
 use Rattle.pinball_shell.specs.declared.refusal.Refusal.{Refusal}
 use Rattle.pinball_shell.specs.LogText.{said}
-use Rattle.pinball_shell.specs.RunOfLog.{judged, due_by, state_after, lines_of, alarms_by, moment_of, with_alarms, Told, Traced, told_of, after_line, told_by, told_in}
-use Rattle.pinball_shell.proofs.Alarms.{due_by-some, due_by-none}
+use Rattle.pinball_shell.specs.RunOfLog.{given_by_line, lines_of, all_alarms_by, with_alarms, Printed, Traced, printed_for_line, after_line, printed_for_lines, printed_for_log}
+use Rattle.pinball_shell.proofs.Alarms.{moment-settled, cases_due, alarm-allowed, AreAll, alarms_by-none, alarms_by-some, all-next}
 use Rattle.pinball_shell.proofs.Playing.{state_after-append, lines_of-append}
 use Rattle.pinball_shell.proofs.LogRuns.{IsInTime, given-in_time, in_time-early, may_come}
 
@@ -31,7 +31,7 @@ module _ (plan : PlanView) (ws vs : List ℕ) (a b : ℕ) where
   module _ (one_is : IsAccepted one) (other_is : IsAccepted other) where
     -- some run leads to the state, and no event waits in it
     abbrev Reached : Machine → Type 0
-    Reached s = (trace : List Line) × IsReached one trace s
+    Reached s = (trace : List Line) × IsReached plan trace s
 
     next-reached : (s : Machine) → Reached s → (stimulus : Stimulus) → IsAllowed plan s stimulus → Reached (settled plan a stimulus s)
     next-reached s (trace, h) stimulus allowed = (trace ++ (settled plan a stimulus s).lines, reached-next one one_is trace s h stimulus allowed)
@@ -46,56 +46,59 @@ module _ (plan : PlanView) (ws vs : List ℕ) (a b : ℕ) where
     record AreSame (s : Machine) (stimuli others : List Stimulus) : Type 0 where
       same : others ≡ stimuli
       state : state_after plan b stimuli s ≡ state_after plan a stimuli s
-      told : lines_of plan b stimuli s ≡ lines_of plan a stimuli s
+      printed : lines_of plan b stimuli s ≡ lines_of plan a stimuli s
       reached : Reached (state_after plan a stimuli s)
 
     -- and after them nothing is due by the moment
     record AreSameUntil (until : ℕ) (s : Machine) (stimuli others : List Stimulus) : Type 0 where
       are : AreSame s stimuli others
-      quiet : IsQuietUntil (state_after plan a stimuli s) until
+      quiet : IsNothingDueBy (state_after plan a stimuli s) until
       moment : (state_after plan a stimuli s).moment ≤ until
 
     same-more : (s : Machine) (first : Stimulus) (stimuli others : List Stimulus) → settled plan b first s ≡ settled plan a first s → AreSame (settled plan a first s) stimuli others → AreSame s (first ∷ stimuli) (first ∷ others)
     same-more s first stimuli others is h = record {
       same = ap (λ (xs : List Stimulus). first ∷ xs) h.same;
       state = ap (state_after plan b stimuli) is ∙ h.state;
-      told = ap (λ (m : Machine). m.lines ++ lines_of plan b stimuli m) is ∙ ap (λ (ls : List Line). (settled plan a first s).lines ++ ls) h.told;
+      printed = ap (λ (m : Machine). m.lines ++ lines_of plan b stimuli m) is ∙ ap (λ (ls : List Line). (settled plan a first s).lines ++ ls) h.printed;
       reached = h.reached;
     }
 
-    same-alarms : (until : ℕ) → until < 2 ^ 40 → (k : ℕ) (s : Machine) → Reached s → due_count s.switches ≤ k → s.moment ≤ until → AreSameUntil until s (alarms_by plan a until k s) (alarms_by plan b until k s)
-    same-alarms until early zero s reached few before = record {
-      are = record { same = refl; state = refl; told = refl; reached = reached };
-      quiet = due_count-none s (omega arith) until;
+    same-none : (until : ℕ) (s : Machine) → Reached s → IsNothingDueBy s until → s.moment ≤ until → AreSameUntil until s [] []
+    same-none until s reached nothing before = record {
+      are = record { same = refl; state = refl; printed = refl; reached = reached };
+      quiet = nothing;
       moment = before;
     }
-    same-alarms until early (suc k) s reached few before = go (due_by until (next_alarm s.switches)) refl (λ at n. same-alarms until early k (settled plan a (Alarm at n) s))
-      where
-        go : (o : Option (ℕ × ℕ)) → due_by until (next_alarm s.switches) ≡ o
-            → ((at n : ℕ) → Reached (settled plan a (Alarm at n) s) → due_count (settled plan a (Alarm at n) s).switches ≤ k → (settled plan a (Alarm at n) s).moment ≤ until
-            → AreSameUntil until (settled plan a (Alarm at n) s) (alarms_by plan a until k (settled plan a (Alarm at n) s)) (alarms_by plan b until k (settled plan a (Alarm at n) s)))
-            → AreSameUntil until s (option_map_or (λ x. Alarm x.0 x.1 ∷ alarms_by plan a until k (settled plan a (Alarm x.0 x.1) s)) o []) (option_map_or (λ x. Alarm x.0 x.1 ∷ alarms_by plan b until k (settled plan b (Alarm x.0 x.1) s)) o [])
-        go None is ih = record { are = record { same = refl; state = refl; told = refl; reached = reached }; quiet = due_by-none s until is; moment = before }
-        go (Some x) is ih =
-            let (next, by) = due_by-some s until x.0 x.1 is in
-            let alarm = Alarm x.0 x.1 in
-            let there = settled plan a alarm s in
-            let allowed : IsAllowed plan s alarm = (next, omega (arith, by, early)) in
-            let fewer = due_count-after_alarm plan a x.0 x.1 s next.due in
-            let here = moment-after plan a alarm s in
-            let rest = ih x.0 x.1 (next-reached s reached alarm allowed) (omega (arith, fewer, few)) (omega (arith, here, by)) in
-            let one_state = settled-one s reached alarm allowed in
-            let all = same-more s alarm (alarms_by plan a until k there) (alarms_by plan b until k there) one_state rest.are in
-            record {
-              are = subst (λ (m : Machine). AreSame s (alarm ∷ alarms_by plan a until k there) (alarm ∷ alarms_by plan b until k m)) (sym one_state) all;
-              quiet = rest.quiet;
-              moment = rest.moment;
-            }
+
+    same-alarms : (until : ℕ) → until < 2 ^ 40 → (fuel : ℕ) (s : Machine) → Reached s → AreAll plan a until fuel s → s.moment ≤ until → AreSameUntil until s (alarms_by plan a until fuel s) (alarms_by plan b until fuel s)
+    same-alarms until early zero s reached all before = same-none until s reached all before
+    same-alarms until early (suc k) s reached all before =
+        elim (cases_due s until) [
+          | inl nothing ↦
+              subst (λ (xs : List Stimulus). AreSameUntil until s xs (alarms_by plan b until (suc k) s)) (sym (alarms_by-none plan a until (suc k) s nothing))
+              (subst (AreSameUntil until s []) (sym (alarms_by-none plan b until (suc k) s nothing)) (same-none until s reached nothing before))
+          | inr x ↦
+              let alarm = Alarm x.at x.source in
+              let by = x.by in
+              let there = settled plan a alarm s in
+              let allowed = alarm-allowed plan s until early x in
+              let here = moment-settled plan a alarm s in
+              let rest = same-alarms until early k there (next-reached s reached alarm allowed) (all-next plan a until k s x all) (omega (arith, here, by)) in
+              let one_state = settled-one s reached alarm allowed in
+              let both = same-more s alarm (alarms_by plan a until k there) (alarms_by plan b until k there) one_state rest.are in
+              subst (λ (xs : List Stimulus). AreSameUntil until s xs (alarms_by plan b until (suc k) s)) (sym (alarms_by-some plan a until k s x))
+              (subst (AreSameUntil until s (alarm ∷ alarms_by plan a until k there)) (sym (alarms_by-some plan b until k s x))
+              (record {
+                are = subst (λ (m : Machine). AreSame s (alarm ∷ alarms_by plan a until k there) (alarm ∷ alarms_by plan b until k m)) (sym one_state) both;
+                quiet = rest.quiet;
+                moment = rest.moment;
+              }))
+        ]
 
     same-then : (s : Machine) (stimuli others : List Stimulus) → AreSame s stimuli others → (last : Stimulus) → IsAllowed plan (state_after plan a stimuli s) last → AreSame s (stimuli ++ last ∷ []) (others ++ last ∷ [])
     same-then s [] others h last allowed =
         subst (λ (xs : List Stimulus). AreSame s (last ∷ []) (xs ++ last ∷ [])) (sym h.same)
-        (same-more s last [] [] (settled-one s h.reached last allowed) (record { same = refl; state = refl; told = refl; reached = next-reached s h.reached last allowed }))
+        (same-more s last [] [] (settled-one s h.reached last allowed) (record { same = refl; state = refl; printed = refl; reached = next-reached s h.reached last allowed }))
     same-then s (first ∷ stimuli) others h last allowed =
         let all = first ∷ stimuli in
         let there = state_after plan a all s in
@@ -103,9 +106,9 @@ module _ (plan : PlanView) (ws vs : List ℕ) (a b : ℕ) where
         record {
           same = ap (λ (xs : List Stimulus). xs ++ last ∷ []) h.same;
           state = state_after-append plan b all (last ∷ []) s ∙ ap (settled plan b last) h.state ∙ ends ∙ sym (state_after-append plan a all (last ∷ []) s);
-          told =
+          printed =
               lines_of-append plan b all (last ∷ []) s
-              ∙ (λ i. h.told i ++ lines_of plan b (last ∷ []) (h.state i))
+              ∙ (λ i. h.printed i ++ lines_of plan b (last ∷ []) (h.state i))
               ∙ ap (λ (m : Machine). lines_of plan a all s ++ (m.lines ++ [])) ends
               ∙ sym (lines_of-append plan a all (last ∷ []) s);
           reached = subst Reached (sym (state_after-append plan a all (last ∷ []) s)) (next-reached there h.reached last allowed);
@@ -116,43 +119,40 @@ module _ (plan : PlanView) (ws vs : List ℕ) (a b : ℕ) where
     same-given s (trace, h) stimulus time =
         let (forward, early) = in_time-early plan s.moment stimulus time in
         let until = moment_of stimulus in
-        let n = length plan.switches in
-        let few = due_count-length s.switches in
-        let all = (reached-of_plan one one_is trace s h).switches in
-        let alarms = same-alarms until early n s (trace, h) (omega (arith, few, all)) forward in
-        same-then s (alarms_by plan a until n s) (alarms_by plan b until n s) alarms.are stimulus
-        (may_come plan s.moment (state_after plan a (alarms_by plan a until n s) s) stimulus time alarms.moment alarms.quiet)
+        let alarms = same-alarms until early (most_alarms plan until s) s (trace, h) (alarms-end plan a trace s h until) forward in
+        same-then s (all_alarms_by plan a until s) (all_alarms_by plan b until s) alarms.are stimulus
+        (may_come plan s.moment (state_after plan a (all_alarms_by plan a until s) s) stimulus time alarms.moment alarms.quiet)
 
-    -- a line is told the same, and leads to one state
+    -- the same is printed for a line, and it leads to one state
     record IsSameLine (number : ℕ) (s : Machine) (given : Result (Option Stimulus) Refusal) : Type 0 where
-      told : told_of plan b number s given ≡ told_of plan a number s given
+      printed : printed_for_line plan b number s given ≡ printed_for_line plan a number s given
       state : after_line plan b s given ≡ after_line plan a s given
       reached : Reached (after_line plan a s given)
 
     same-line : (number : ℕ) (s : Machine) → Reached s → (given : Result (Option Stimulus) Refusal) → ((stimulus : Stimulus) → given ≡ Ok (Some stimulus) → IsInTime plan s.moment stimulus) → IsSameLine number s given
-    same-line number s reached (Ok None) time = record { told = refl; state = refl; reached = reached }
-    same-line number s reached (Err refusal) time = record { told = refl; state = refl; reached = reached }
+    same-line number s reached (Ok None) time = record { printed = refl; state = refl; reached = reached }
+    same-line number s reached (Err refusal) time = record { printed = refl; state = refl; reached = reached }
     same-line number s reached (Ok (Some stimulus)) time =
         let h = same-given s reached stimulus (time stimulus refl) in
         record {
-          told = ap (map Traced) (ap (λ (xs : List Stimulus). lines_of plan b xs s) h.same ∙ h.told);
+          printed = ap (map Traced) (ap (λ (xs : List Stimulus). lines_of plan b xs s) h.same ∙ h.printed);
           state = ap (λ (xs : List Stimulus). state_after plan b xs s) h.same ∙ h.state;
           reached = h.reached;
         }
 
-    same-lines : (number : ℕ) (log : List (List ℕ)) (s : Machine) → Reached s → told_by plan b number log s ≡ told_by plan a number log s
+    same-lines : (number : ℕ) (log : List (List ℕ)) (s : Machine) → Reached s → printed_for_lines plan b number log s ≡ printed_for_lines plan a number log s
     same-lines number [] s reached = refl
     same-lines number (line ∷ more) s reached =
-        let given = judged plan s.moment (said line) in
+        let given = given_by_line plan s.moment (said line) in
         let h = same-line number s reached given (given-in_time plan s.moment (said line)) in
-        (λ i. h.told i ++ told_by plan b (number + 1) more (h.state i))
-        ∙ ap (λ (rest : List Told). told_of plan a number s given ++ rest) (same-lines (number + 1) more (after_line plan a s given) h.reached)
+        (λ i. h.printed i ++ printed_for_lines plan b (number + 1) more (h.state i))
+        ∙ ap (λ (rest : List Printed). printed_for_line plan a number s given ++ rest) (same-lines (number + 1) more (after_line plan a s given) h.reached)
 
-    same-log : (log : List ℕ) → told_in plan b log ≡ told_in plan a log
-    same-log log = same-lines 1 (lines log) (initial plan) ([], reached-initial one one_is)
+    same-log : (log : List ℕ) → printed_for_log plan b log ≡ printed_for_log plan a log
+    same-log log = same-lines 1 (lines log) (initial plan) ([], reached-initial plan)
 
-pub plays_the_same : (c d : CheckedView) → IsAccepted c → IsAccepted d → c.plan ≡ d.plan → (log : List ℕ) → told_in c.plan c.bound log ≡ told_in d.plan d.bound log
+pub plays_the_same : (c d : CheckedView) → IsAccepted c → IsAccepted d → c.plan ≡ d.plan → (log : List ℕ) → printed_for_log c.plan c.bound log ≡ printed_for_log d.plan d.bound log
 plays_the_same c d c_is d_is same log =
     let moved : CheckedView = record { plan = d.plan; weights = c.weights; bound = c.bound } in
     let moved_is : IsAccepted moved = subst (λ (p : PlanView). IsAccepted (record { plan = p; weights = c.weights; bound = c.bound })) same c_is in
-    ap (λ (p : PlanView). told_in p c.bound log) same ∙ same-log d.plan d.weights c.weights d.bound c.bound d_is moved_is log
+    ap (λ (p : PlanView). printed_for_log p c.bound log) same ∙ same-log d.plan d.weights c.weights d.bound c.bound d_is moved_is log

@@ -1,56 +1,41 @@
 -- What a line gives is taken by the rig, once no alarm is due by its moment.
-use Rattle.std.proofs.Common.{◌≡◌, ℕ, ◌<◌, ◌≤◌, ◌^◌, nat_le, Bool, false, cond, Option, Some, Result, Ok, Err, IsOk, List, [], ◌∷◌, length, refl, ap, sym, ◌∙◌, subst, arith}
-use Rattle.std.proofs.lemmas.Bool.{lt-ltb, le-ltb, lt-leb}
+use Rattle.std.proofs.Common.{◌≡◌, ℕ, ◌<◌, ◌≤◌, ◌^◌, false, Option, Some, Result, Ok, Err, IsOk, List, [], ◌∷◌, refl, ap, sym, ◌∙◌, subst, arith}
 use Rattle.mpf_plan.specs.PlanView.{PlanView}
 use Rattle.config_checker.specs.CheckedView.{CheckedView}
 use Rattle.config_checker.specs.Accepted.{IsAccepted}
 use Rattle.config_checker.specs.Machine.{Machine}
-use Rattle.config_checker.specs.Run.{Stimulus, Change, Alarm, Wait}
-use Rattle.config_checker.proofs.Reached.{reached-of_plan}
+use Rattle.config_checker.specs.Run.{Stimulus, Change, Alarm, Wait, moment_of}
+use Rattle.config_checker.specs.NextAlarm.{is_due_by, most_alarms}
+use Rattle.config_checker.proofs.NextAlarms.{not_due-nothing}
+use Rattle.config_checker.proofs.AlarmsEnd.{alarms-end}
 use Rattle.pin_rig.specs.declared.input.Input.{Input}
 use Rattle.pin_rig.specs.declared.input.Input.TheVariants as inputs
 use Rattle.pin_rig.specs.declared.input.StepFault.{StepFault}
-use Rattle.pin_rig.specs.declared.input.StepFault.TheVariants as faults
-use Rattle.pin_rig.specs.Alarm.{is_due_by}
-use Rattle.pin_rig.specs.Rig.{RigView, stimulus_at, IsReached}
-use Rattle.pin_rig.specs.Rig as rigs
+use Rattle.pin_rig.specs.Rig.{RigView, stimulus_at, IsOfRun}
+use Rattle.pin_rig.specs.Steps.{IsOfInput}
+use Rattle.pin_rig.proofs.Judging.{allowed-judged}
 use Rattle.pinball_shell.specs.declared.fault.Verdict.{Verdict}
 use Rattle.pinball_shell.specs.declared.fault.Verdict.TheVariants as verdicts
 use Rattle.pinball_shell.specs.declared.refusal.Refusal.{Refusal}
 use Rattle.pinball_shell.specs.LogText.{Said, said}
-use Rattle.pinball_shell.specs.RunOfLog.{judged, moment_of}
-use Rattle.pinball_shell.specs.Played.{input_of, GivesJudged, IsPlayed, IsRigOf, IsInputPlayed, AreAlarmsPlayed, IsLinePlayed}
-use Rattle.pinball_shell.proofs.Alarms.{ComesBy, alarm-taken}
-use Rattle.pinball_shell.proofs.LogRuns.{IsInTime, given-in_time, in_time-early}
+use Rattle.pinball_shell.specs.RunOfLog.{given_by_line}
+use Rattle.pinball_shell.specs.Played.{input_of, GivesInput, IsPlayed, IsRigOf, IsInputPlayed, AreAlarmsPlayed, IsLinePlayed}
+use Rattle.pinball_shell.proofs.Alarms.{ComesBy, alarm-taken, AreAll}
+use Rattle.pinball_shell.proofs.LogRuns.{IsInTime, given-in_time, in_time-early, may_come}
 use Rattle.pinball_shell.proofs.Playing.{line-played}
 
 -- ---- what the rig takes
 
--- each switch of the plan has its state
-pub reached-states : (plan : PlanView) (rig : RigView) → IsRigOf plan rig → IsReached rig → length rig.machine.switches ≡ length plan.switches
-reached-states plan rig h reached =
-    let states = (reached-of_plan rig.checked h.accepted reached.trace rig.machine (record { stimuli = reached.stimuli; run = reached.run; idle = reached.settles })).switches in
-    states ∙ ap (λ (p : PlanView). length p.switches) h.plan_is
+input_of-stimulus : (plan : PlanView) (now : ℕ) (stimulus : Stimulus) → IsInTime plan now stimulus → IsOfInput (input_of stimulus) stimulus
+input_of-stimulus plan now (Change at n level) time = refl
+input_of-stimulus plan now (Alarm at source) none = absurd none
+input_of-stimulus plan now (Wait at) time = refl
 
-module _ (rig : RigView) where
-  timely-taken : (at : ℕ) (stimulus : Stimulus) → rig.machine.moment ≤ at → at < 2 ^ 40 → is_due_by at rig.machine.switches ≡ false → rigs.timely rig.machine at stimulus ≡ Ok stimulus
-  timely-taken at stimulus forward early quiet =
-      let given : Result Stimulus StepFault = Ok stimulus in
-      let due : Result Stimulus StepFault = Err faults.AlarmPending in
-      let late : Result Stimulus StepFault = Err faults.TooLate in
-      let back : Result Stimulus StepFault = Err faults.Backwards in
-      ap (λ (b : Bool). cond b back (cond (nat_le (2 ^ 40) at) late (cond (is_due_by at rig.machine.switches) due given))) (le-ltb at rig.machine.moment forward)
-      ∙ ap (λ (b : Bool). cond b late (cond (is_due_by at rig.machine.switches) due given)) (lt-leb (2 ^ 40) at early)
-      ∙ ap (λ (b : Bool). cond b due given) quiet
-
-  -- what comes in time is taken
-  pub in_time-taken : (now : ℕ) (stimulus : Stimulus) → IsInTime rig.checked.plan now stimulus → rig.machine.moment ≤ moment_of stimulus → is_due_by (moment_of stimulus) rig.machine.switches ≡ false → stimulus_at rig (input_of stimulus) ≡ Ok stimulus
-  in_time-taken now (Change at n level) (forward, early, within) ahead quiet =
-      let there : Result Stimulus StepFault = rigs.timely rig.machine at (Change at n level) in
-      ap (λ (b : Bool). cond b there (Err faults.NoSuchSwitch)) (lt-ltb n (length rig.checked.plan.switches) within)
-      ∙ timely-taken at (Change at n level) ahead early quiet
-  in_time-taken now (Alarm at n) none ahead quiet = absurd none
-  in_time-taken now (Wait at) (forward, early) ahead quiet = timely-taken at (Wait at) ahead early quiet
+-- what comes in time is taken, once nothing is due by its moment
+in_time-taken : (rig : RigView) (now : ℕ) (stimulus : Stimulus) → IsInTime rig.checked.plan now stimulus → rig.machine.moment ≤ moment_of stimulus → is_due_by (moment_of stimulus) rig.machine ≡ false → stimulus_at rig (input_of stimulus) ≡ Ok stimulus
+in_time-taken rig now stimulus time ahead quiet =
+    allowed-judged rig (input_of stimulus) stimulus (input_of-stimulus rig.checked.plan now stimulus time)
+    (may_come rig.checked.plan now rig.machine stimulus time ahead (not_due-nothing rig.machine (moment_of stimulus) quiet))
 
 -- ---- on a rig of the plan
 
@@ -71,6 +56,12 @@ pub line-same : (plan : PlanView) (old now : RigView) → now.checked ≡ old.ch
     → IsLinePlayed plan now.checked.bound number line now.machine t a b v → IsLinePlayed plan old.checked.bound number line now.machine t a b v
 line-same plan old now is number line t a b v = subst (λ (c : CheckedView). IsLinePlayed plan c.bound number line now.machine t a b v) is
 
+-- all alarms that come by a moment, on a rig to which a run of its plan led
+pub rig-all : (plan : PlanView) (rig : RigView) → IsRigOf plan rig → IsOfRun rig → (until : ℕ) → AreAll plan rig.checked.bound until (most_alarms plan until rig.machine) rig.machine
+rig-all plan rig h (trace, reached) until =
+    subst (λ (p : PlanView). AreAll p rig.checked.bound until (most_alarms p until rig.machine) rig.machine) h.plan_is
+    (alarms-end rig.checked.plan rig.checked.bound trace rig.machine reached until)
+
 -- an input whose stimulus is known plays that
 pub known-played : (plan : PlanView) (bound : ℕ) (input : Input) (old new : RigView) (a b : Option (List ℕ)) (stimulus : Stimulus) → old.checked.bound ≡ bound → stimulus_at old input ≡ Ok stimulus
     → IsInputPlayed plan input old new a b → IsPlayed plan bound (stimulus ∷ []) old.machine new.machine a b
@@ -80,26 +71,26 @@ known-played plan bound input old new a b stimulus same is h =
     (subst (λ (x : Stimulus). IsPlayed plan old.checked.bound (x ∷ []) old.machine new.machine a b) the h.played)
 
 pub alarm-played : (plan : PlanView) (until : ℕ) (first now new : RigView) (a b : Option (List ℕ)) → now.checked ≡ first.checked → until < 2 ^ 40 → (next : ComesBy now.machine until)
-    → IsInputPlayed plan inputs.Alarm now new a b → IsPlayed plan first.checked.bound (Alarm next.at next.n ∷ []) now.machine new.machine a b
+    → IsInputPlayed plan inputs.Alarm now new a b → IsPlayed plan first.checked.bound (Alarm next.at next.source ∷ []) now.machine new.machine a b
 alarm-played plan until first now new a b same early next =
-    known-played plan first.checked.bound inputs.Alarm now new a b (Alarm next.at next.n) (ap (λ (c : CheckedView). c.bound) same) (alarm-taken now until early next)
+    known-played plan first.checked.bound inputs.Alarm now new a b (Alarm next.at next.source) (ap (λ (c : CheckedView). c.bound) same) (alarm-taken now until early next)
 
 -- ---- a line that gives a stimulus
 
--- what a line was judged to give
+-- what a line gives
 pub record IsGiven (plan : PlanView) (s : Machine) (line : List ℕ) (at : ℕ) (input : Input) : Type 0 where
   pub stimulus : Stimulus
-  pub given_is : judged plan s.moment (said line) ≡ Ok (Some stimulus)
+  pub given_is : given_by_line plan s.moment (said line) ≡ Ok (Some stimulus)
   pub input_is : input ≡ input_of stimulus
   pub at_is : at ≡ moment_of stimulus
 
-pub judged-given : (plan : PlanView) (r : Result (Option (ℕ × Input)) Refusal) (at : ℕ) (input : Input) (s : Machine) (line : List ℕ) (now : ℕ) (read : Said) → now ≡ s.moment → read ≡ said line → r ≡ Ok (Some (at, input))
-    → GivesJudged r (judged plan now read) → IsGiven plan s line at input
-judged-given plan r at input s line now read moment says is given =
-    let (stimulus, given_is, timed) = subst (λ (y : Result (Option (ℕ × Input)) Refusal). GivesJudged y (judged plan now read)) is given in
+pub input-given : (plan : PlanView) (r : Result (Option (ℕ × Input)) Refusal) (at : ℕ) (input : Input) (s : Machine) (line : List ℕ) (now : ℕ) (read : Said) → now ≡ s.moment → read ≡ said line → r ≡ Ok (Some (at, input))
+    → GivesInput r (given_by_line plan now read) → IsGiven plan s line at input
+input-given plan r at input s line now read moment says is given =
+    let (stimulus, given_is, timed) = subst (λ (y : Result (Option (ℕ × Input)) Refusal). GivesInput y (given_by_line plan now read)) is given in
     record {
       stimulus = stimulus;
-      given_is = ap (λ (m : ℕ). judged plan m (said line)) (sym moment) ∙ ap (judged plan now) (sym says) ∙ given_is;
+      given_is = ap (λ (m : ℕ). given_by_line plan m (said line)) (sym moment) ∙ ap (given_by_line plan now) (sym says) ∙ given_is;
       input_is = ap (λ (x : ℕ × Input). x.1) timed;
       at_is = ap (λ (x : ℕ × Input). x.0) timed;
     }
@@ -122,7 +113,7 @@ module _ (plan : PlanView) (rig : RigView) (rig_of : IsRigOf plan rig) (line : L
         let plan_is : mid.checked.plan ≡ plan = ap (λ (c : CheckedView). c.plan) alarms.checked_is ∙ rig_of.plan_is in
         ap (stimulus_at mid) given.input_is
         ∙ in_time-taken mid rig.machine.moment given.stimulus (subst (λ (p : PlanView). IsInTime p rig.machine.moment given.stimulus) (sym plan_is) given-in)
-        (subst (λ (m : ℕ). mid.machine.moment ≤ m) given.at_is alarms.moment) (subst (λ (m : ℕ). is_due_by m mid.machine.switches ≡ false) given.at_is alarms.quiet)
+        (subst (λ (m : ℕ). mid.machine.moment ≤ m) given.at_is alarms.moment) (subst (λ (m : ℕ). is_due_by m mid.machine ≡ false) given.at_is alarms.quiet)
 
     pub given-played : (number : ℕ) (new : RigView) (c : Option (List ℕ)) → IsInputPlayed plan input mid new b c → IsLinePlayed plan rig.checked.bound number line rig.machine new.machine a c verdicts.Yes
     given-played number new c h =

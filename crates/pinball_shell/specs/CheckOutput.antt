@@ -7,7 +7,7 @@ use Rattle.mpf_config.specs.NoteLine.{note_line}
 use Rattle.config_checker.specs.CheckedView.{CheckedView}
 use Rattle.config_checker.specs.CertificateText.{bound_line, certificate_text}
 use Rattle.config_checker.specs.ReportText.{report_text}
-use Rattle.pinball_shell.specs.Judged.{RefusalView, unread, unfit, Answer, Judgement, judged_at, judged_with}
+use Rattle.pinball_shell.specs.Reply.{RefusalView, unread, unfit, Answer, Reply, reply_to, reply_with}
 
 -- a line for each note, in order
 abbrev pub notes_text : List Note → List ℕ
@@ -21,7 +21,7 @@ acceptance_text c = codes "yes" ++ 10 ∷ [] ++ certificate_text c
 unfoldable pub verification_text : CheckedView → List ℕ
 verification_text c = codes "yes" ++ 10 ∷ [] ++ bound_line c.bound
 
--- the fault that was met first, or the faults that are told of the rows
+-- the fault that was met first, or the report on the rows
 abbrev pub refusal_lines : RefusalView → List ℕ
 refusal_lines (unread f) = fault_line f
 refusal_lines (unfit faults) = report_text faults
@@ -34,17 +34,17 @@ abbrev pub answer_text : (CheckedView → List ℕ) → Answer → List ℕ
 answer_text accepted (Ok c) = accepted c
 answer_text accepted (Err r) = refusal_text r
 
--- The notes stand before the answer. `accepted` says what is printed of what was accepted.
-unfoldable pub judgement_text : (CheckedView → List ℕ) → Judgement → List ℕ
-judgement_text accepted j = notes_text j.notes ++ answer_text accepted j.answer
+-- The notes come before the answer. `accepted` says what is printed of what was accepted.
+unfoldable pub reply_text : (CheckedView → List ℕ) → Reply → List ℕ
+reply_text accepted r = notes_text r.notes ++ answer_text accepted r.answer
 
 -- all that is printed where a bundle is checked
 abbrev pub check_output : List ℕ → List ℕ
-check_output bundle = judgement_text acceptance_text (judged_at bundle)
+check_output bundle = reply_text acceptance_text (reply_to bundle)
 
 -- all that is printed where a certificate is verified on a bundle
 abbrev pub verify_output : List ℕ → List ℕ → List ℕ
-verify_output certificate bundle = judgement_text verification_text (judged_with certificate bundle)
+verify_output certificate bundle = reply_text verification_text (reply_with certificate bundle)
 
 -- nothing for a yes, and a refusal as it is printed
 abbrev pub where_refused : Answer → List ℕ → List ℕ
@@ -53,4 +53,4 @@ where_refused (Err r) text = text
 
 -- all that is printed where a bundle is loaded, to be played: for a refusal, what is printed where it is checked
 abbrev pub load_output : List ℕ → List ℕ
-load_output bundle = where_refused (judged_at bundle).answer (check_output bundle)
+load_output bundle = where_refused (reply_to bundle).answer (check_output bundle)

@@ -1,12 +1,14 @@
 pub mod Status
-pub mod Judged
+pub mod Reply
 pub mod CheckOutput
 pub mod CheckVerified
 pub mod CommandLine
 pub mod LogText
-pub mod LogView
 pub mod RunOfLog
 pub mod RunGiven
 pub mod SamePlay
 pub mod TraceText
+-- what the contracts of private functions cite, and no public one
+pub mod ReplyView
+pub mod LogView
 pub mod Played

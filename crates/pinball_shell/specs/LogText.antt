@@ -9,8 +9,8 @@ use Rattle.yaml_bytes.specs.Numbers.{number_at}
 pub data Said : Type 0 where
   -- the line is empty, or a comment
   Nothing : Said
-  Waits : (at : ℕ) → Said
-  Changes : (at : ℕ) (name : List ℕ) (level : Bool) → Said
+  Wait : (at : ℕ) → Said
+  Change : (at : ℕ) (name : List ℕ) (level : Bool) → Said
   -- the line is none of these
   Unreadable : Said
 
@@ -33,10 +33,10 @@ level_in other = None
 
 abbrev pub wait : Option ℕ → Said
 wait None = Unreadable
-wait (Some at) = Waits at
+wait (Some at) = Wait at
 
 abbrev pub change : Option ℕ → List ℕ → Option Bool → Said
-change (Some at) name (Some level) = Changes at name level
+change (Some at) name (Some level) = Change at name level
 change (Some at) name None = Unreadable
 change None name level = Unreadable
 

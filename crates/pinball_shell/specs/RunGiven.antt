@@ -4,11 +4,11 @@ use Rattle.std.specs.Option.{option_map_or}
 use Rattle.std.specs.Str.Lines.{lines}
 use Rattle.mpf_plan.specs.PlanView.{PlanView}
 use Rattle.config_checker.specs.declared.line.Line.{Line}
-use Rattle.config_checker.specs.Machine.{Machine, initial}
-use Rattle.config_checker.specs.Run.{Stimulus, Change, Alarm, Wait, IsRun}
+use Rattle.config_checker.specs.Machine.{Machine}
+use Rattle.config_checker.specs.Run.{Source, Stimulus, Change, Alarm, Wait, moment_of, IsReached}
 use Rattle.pinball_shell.specs.declared.refusal.Refusal.{Refusal}
 use Rattle.pinball_shell.specs.LogText.{said}
-use Rattle.pinball_shell.specs.RunOfLog.{judged, moment_of}
+use Rattle.pinball_shell.specs.RunOfLog.{given_by_line}
 
 -- the stimulus that a line gives, if it gives one
 abbrev pub given_of : Result (Option Stimulus) Refusal → Option Stimulus
@@ -16,36 +16,34 @@ given_of (Ok given) = given
 given_of (Err refusal) = None
 
 -- The stimuli that these lines of a log give, where the latest stimulus before them came at `now`. A line that is refused leaves
--- `now` as it was; an alarm comes in front of the stimulus of a line, and not at a later moment.
-abbrev pub given_by : PlanView → ℕ → List (List ℕ) → List Stimulus
-given_by plan now [] = []
-given_by plan now (line ∷ more) =
-    let given = given_of (judged plan now (said line)) in
-    option_to_list given ++ given_by plan (option_map_or moment_of given now) more
+-- `now` as it was; an alarm comes before the stimulus of a line, and not at a later moment.
+abbrev pub given_by_lines : PlanView → ℕ → List (List ℕ) → List Stimulus
+given_by_lines plan now [] = []
+given_by_lines plan now (line ∷ more) =
+    let given = given_of (given_by_line plan now (said line)) in
+    option_to_list given ++ given_by_lines plan (option_map_or moment_of given now) more
 
 -- the stimuli that a log gives
-abbrev pub given_in : PlanView → List ℕ → List Stimulus
-given_in plan log = given_by plan 0 (lines log)
+abbrev pub given_by_log : PlanView → List ℕ → List Stimulus
+given_by_log plan log = given_by_lines plan 0 (lines log)
 
 -- the stimuli of a run without the alarms among them
 abbrev pub without_alarms : List (Stimulus × ℕ) → List Stimulus
 without_alarms [] = []
 without_alarms ((Change at switch level, n) ∷ more) = Change at switch level ∷ without_alarms more
-without_alarms ((Alarm at switch, n) ∷ more) = without_alarms more
+without_alarms ((Alarm at source, n) ∷ more) = without_alarms more
 without_alarms ((Wait at, n) ∷ more) = Wait at ∷ without_alarms more
 
 -- The lines are the trace of a run of the plan that the log gives: its changes and waits are those of the log, in order; before
 -- each have come the alarms due by its moment, as in every run; no alarm is the last; and at the end no event waits.
 pub record IsRunOfLog (plan : PlanView) (log : List ℕ) (trace : List Line) : Type 0 where
-  pub stimuli : List (Stimulus × ℕ)
   pub end : Machine
-  pub run : IsRun plan stimuli (initial plan) trace end
-  pub idle : end.waiting ≡ []
-  pub given : without_alarms stimuli ≡ given_in plan log
-  pub last : (before : List (Stimulus × ℕ)) (at switch n : ℕ) → stimuli ≢ before ++ (Alarm at switch, n) ∷ []
+  pub reached : IsReached plan trace end
+  pub given : without_alarms reached.stimuli ≡ given_by_log plan log
+  pub last : (before : List (Stimulus × ℕ)) (at : ℕ) (source : Source) (n : ℕ) → reached.stimuli ≢ before ++ (Alarm at source, n) ∷ []
 
 -- A log gives one list of stimuli: two of its runs differ at most in the order of handlers of equal priority.
 abbrev pub GivesOneList : Type 0
 GivesOneList =
     (plan : PlanView) (log : List ℕ) (trace other : List Line) (a : IsRunOfLog plan log trace) (b : IsRunOfLog plan log other)
-    → map (λ s. s.0) a.stimuli ≡ map (λ s. s.0) b.stimuli
+    → map (λ s. s.0) a.reached.stimuli ≡ map (λ s. s.0) b.reached.stimuli

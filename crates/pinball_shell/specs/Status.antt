@@ -11,7 +11,7 @@ status_of (Ok Yes) = 0
 status_of (Ok Refused) = 1
 status_of (Err fault) = 3
 
--- the name that a fault is told by
+-- the name that is printed for a fault
 abbrev pub fault_name : ShellFault → List ℕ
 fault_name NoMemory = codes "NoMemory"
 fault_name Read = codes "Read"

@@ -1,4 +1,4 @@
--- The bytes that tell of a log.
+-- What is printed for a log, as bytes.
 use Rattle.std.specs.Prelude.{ℕ, Bool, true, false, if◌then◌else◌, List, [], ◌∷◌, ◌++◌, codes}
 use Rattle.std.specs.List.{flat_map, list_any}
 use Rattle.std.specs.Fmt.{decimal}
@@ -7,12 +7,13 @@ use Rattle.mpf_plan.specs.declared.entries.Owner.{Owner}
 use Rattle.mpf_plan.specs.declared.entries.Owner.TheVariants as owners
 use Rattle.config_checker.specs.declared.line.Line.{Line}
 use Rattle.config_checker.specs.declared.line.Happening.{Happening}
-use Rattle.config_checker.specs.declared.line.Happening.TheVariants as tells
+use Rattle.config_checker.specs.declared.line.Happening.TheVariants as happenings
+use Rattle.pin_rig.specs.Refused.{step_fault_number, step_fault_name}
 use Rattle.pinball_shell.specs.declared.fault.Verdict.{Verdict}
 use Rattle.pinball_shell.specs.declared.fault.Verdict.TheVariants as verdicts
 use Rattle.pinball_shell.specs.declared.refusal.Refusal.{Refusal}
 use Rattle.pinball_shell.specs.declared.refusal.Refusal.TheVariants as refusals
-use Rattle.pinball_shell.specs.RunOfLog.{Told, Traced, Refused, told_in}
+use Rattle.pinball_shell.specs.RunOfLog.{Printed, Traced, Refused, printed_for_log}
 
 abbrev pub owner_text : Owner → List ℕ
 owner_text owners.Machine = codes "machine"
@@ -29,36 +30,38 @@ abbrev pub event_text : List ℕ → List ℕ
 event_text name = codes "event " ++ name ++ 10 ∷ []
 
 abbrev pub happening_text : PlanView → Happening → List ℕ
-happening_text plan (tells.Switch n active) = switch_text (switch_at plan n).name active
-happening_text plan (tells.Event e) = event_text (name_of_event plan e)
+happening_text plan (happenings.Switch n active) = switch_text (switch_at plan n).name active
+happening_text plan (happenings.Event e) = event_text (name_of_event plan e)
 
 -- the moment, the owner, and what happened
 abbrev pub line_text : PlanView → Line → List ℕ
 line_text plan line = decimal line.moment ++ codes " " ++ owner_text line.owner ++ codes " " ++ happening_text plan line.happening
 
--- the number of a refusal, and its name
-abbrev pub refusal_text : Refusal → List ℕ
-refusal_text refusals.Backwards = codes "1 Backwards"
-refusal_text refusals.TooLate = codes "2 TooLate"
-refusal_text refusals.NoSuchSwitch = codes "3 NoSuchSwitch"
-refusal_text refusals.BadLine = codes "8 BadLine"
+-- The number and the name of a refusal are those of the fault of the step. A line that is no line of a log has its own.
+abbrev pub refusal_number : Refusal → ℕ
+refusal_number (refusals.Step fault) = step_fault_number fault
+refusal_number refusals.BadLine = 8
+
+abbrev pub refusal_name : Refusal → List ℕ
+refusal_name (refusals.Step fault) = step_fault_name fault
+refusal_name refusals.BadLine = codes "BadLine"
 
 -- `refused LINE NUMBER NAME`, and LF
 abbrev pub refused_text : ℕ → Refusal → List ℕ
-refused_text number refusal = codes "refused " ++ decimal number ++ codes " " ++ refusal_text refusal ++ 10 ∷ []
+refused_text line refusal = codes "refused " ++ decimal line ++ codes " " ++ decimal (refusal_number refusal) ++ codes " " ++ refusal_name refusal ++ 10 ∷ []
 
-abbrev pub told_text : PlanView → Told → List ℕ
-told_text plan (Traced line) = line_text plan line
-told_text plan (Refused number refusal) = refused_text number refusal
+abbrev pub printed_text : PlanView → Printed → List ℕ
+printed_text plan (Traced line) = line_text plan line
+printed_text plan (Refused number refusal) = refused_text number refusal
 
--- what a plan, with the bound of its cascades, plays of a log
+-- what is printed where a log is played on a plan, whose cascades have this bound
 abbrev pub trace_text : PlanView → ℕ → List ℕ → List ℕ
-trace_text plan bound log = flat_map (told_text plan) (told_in plan bound log)
+trace_text plan bound log = flat_map (printed_text plan) (printed_for_log plan bound log)
 
-abbrev pub is_refused : Told → Bool
+abbrev pub is_refused : Printed → Bool
 is_refused (Traced line) = false
 is_refused (Refused number refusal) = true
 
 -- yes where no line of the log was refused
-abbrev pub verdict_of : List Told → Verdict
-verdict_of told = if list_any is_refused told then verdicts.Refused else verdicts.Yes
+abbrev pub log_verdict : List Printed → Verdict
+log_verdict printed = if list_any is_refused printed then verdicts.Refused else verdicts.Yes

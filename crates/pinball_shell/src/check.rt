@@ -1,14 +1,15 @@
-//! A bundle is read, judged and answered.
+//! A bundle is read and checked, and the reply to it is written.
 
 ghost use Rattle.std.specs.Prelude.{◌≡◌, ◌≢◌, ◌<◌, ◌≤◌, IfOk, OnOk, IfErr, IfSome, IsSome, IsErrOf, length, map, option_map, ◌⊎◌};
 ghost use Rattle.std.specs.Io.KnownBytes.{Appends, Keeps};
 ghost use Rattle.mpf_config.specs.View.{rows_view, note_view};
 ghost use Rattle.mpf_config.specs.Reading.{rows_at};
-ghost use Rattle.pinball_shell.specs.Judged.{judged, judged_at, judged_with, checked_by, answer_of, verdict_of, accepted_of, refusal_view, answer_view, judgement_view};
-ghost use Rattle.pinball_shell.specs.CheckOutput.{notes_text, refusal_lines, refusal_text, acceptance_text, verification_text, judgement_text, check_output, verify_output, load_output};
+ghost use Rattle.pinball_shell.specs.Reply.{replied, reply_to, reply_with, checked_by, answer_of, verdict_of, accepted_of};
+ghost use Rattle.pinball_shell.specs.ReplyView.{refusal_view, answer_view, reply_view};
+ghost use Rattle.pinball_shell.specs.CheckOutput.{notes_text, refusal_lines, refusal_text, acceptance_text, verification_text, reply_text, check_output, verify_output, load_output};
 
 use crate::fault::{ShellFault, Verdict};
-use crate::judgement::{BundleRefusal, Judged};
+use crate::reply::{BundleRefusal, Reply};
 use crate::text::read_all;
 use config_checker::{Checked, Report, check, check_with, write_certificate, write_report};
 use mpf_config::fault::write_fault;
@@ -22,43 +23,43 @@ pub const BUNDLE_LIMIT: usize = 8_388_608;
 /// How many bytes a certificate has at most: 1 MiB.
 pub const CERTIFICATE_LIMIT: usize = 1_048_576;
 
-/// Reads a bundle, of at most 8 MiB, and writes what `check` prints for it: a line for each note on its rows, and then
-/// `yes` and its certificate, or why it is refused and `no`. A bundle that has no rows, being
-/// refused by an `error` line, has no notes either. Nothing is written before the answer stands, so
-/// after `NoMemory`, `Read` and `TooLong` (a longer bundle) nothing has been; how much was after
-/// `Write` is not said.
+/// Reads a bundle, of at most 8 MiB, and writes what `check` prints for it: a line for each note on
+/// its rows, and then `yes` and its certificate, or why it is refused and `no`. A bundle that has
+/// no rows, being refused by an `error` line, has no notes either. Nothing is written before the
+/// answer is known, so after `NoMemory`, `Read` and `TooLong` (a longer bundle) nothing has been;
+/// how much was after `Write` is not said.
 pub fn check_text<R: Read, W: Write>(
     alloc: Global,
     reader: &mut R,
     writer: &mut W,
 ) -> Result<Verdict, ShellFault>
-    ensures verdict { IfOk result (λ v. IfSome (R.remaining reader.old) (λ bundle. v ≡ verdict_of (judged_at bundle))) }
+    ensures verdict { IfOk result (λ v. IfSome (R.remaining reader.old) (λ bundle. v ≡ verdict_of (reply_to bundle))) }
     ensures written { OnOk result (IfSome (R.remaining reader.old)
         (λ bundle. Appends (W.contents writer.old) (W.contents writer.new) (check_output bundle))) }
     ensures silent { IfErr result (λ e. e ≢ ShellFault.Write → Keeps (W.contents writer.old) (W.contents writer.new)) }
     ensures within { OnOk result (IfSome (R.remaining reader.old) (λ bundle. length bundle ≤ BUNDLE_LIMIT)) }
     ensures too_long { IsErrOf result ShellFault.TooLong → IfSome (R.remaining reader.old) (λ bundle. BUNDLE_LIMIT < length bundle) }
 {
-    let judged = read_judged(alloc, reader)?;
-    match write_judged(&judged, writer) {
-        Ok(()) => Ok(judged.verdict()),
+    let reply = check_bundle(alloc, reader)?;
+    match write_checked(&reply, writer) {
+        Ok(()) => Ok(reply.verdict()),
         Err(_) => Err(ShellFault::Write),
     }
 }
 
 /// Reads a bundle, of at most 8 MiB, and a certificate, of at most 1 MiB, and writes what `verify`
-/// prints for them: a line for each note
-/// on the bundle's rows, and then `yes` and the bound of the certificate's weights, or why they are
-/// refused and `no`. First the whole bundle is read, then the whole certificate, and only then is
-/// anything judged. Nothing is written before the answer stands, so after `NoMemory`, `Read` and
-/// `TooLong` (a longer text) nothing has been; how much was after `Write` is not said.
+/// prints for them: a line for each note on the bundle's rows, and then `yes` and the bound of the
+/// certificate's weights, or why they are refused and `no`. First the whole bundle is read, then
+/// the whole certificate, and only then is either checked. Nothing is written before the answer is
+/// known, so after `NoMemory`, `Read` and `TooLong` (a longer text) nothing has been; how much was
+/// after `Write` is not said.
 pub fn verify_text<R: Read, Q: Read, W: Write>(
     alloc: Global,
     bundle: &mut R,
     certificate: &mut Q,
     writer: &mut W,
 ) -> Result<Verdict, ShellFault>
-    ensures verdict { IfOk result (λ v. IfSome (R.remaining bundle.old) (λ text. IfSome (Q.remaining certificate.old) (λ stated. v ≡ verdict_of (judged_with stated text)))) }
+    ensures verdict { IfOk result (λ v. IfSome (R.remaining bundle.old) (λ text. IfSome (Q.remaining certificate.old) (λ stated. v ≡ verdict_of (reply_with stated text)))) }
     ensures written { OnOk result (IfSome (R.remaining bundle.old) (λ text. IfSome (Q.remaining certificate.old)
         (λ stated. Appends (W.contents writer.old) (W.contents writer.new) (verify_output stated text)))) }
     ensures silent { IfErr result (λ e. e ≢ ShellFault.Write → Keeps (W.contents writer.old) (W.contents writer.new)) }
@@ -66,22 +67,22 @@ pub fn verify_text<R: Read, Q: Read, W: Write>(
     ensures too_long { IsErrOf result ShellFault.TooLong →
         IfSome (R.remaining bundle.old) (λ text. BUNDLE_LIMIT < length text) ⊎ IfSome (Q.remaining certificate.old) (λ stated. CERTIFICATE_LIMIT < length stated) }
 {
-    let judged = read_verified(alloc, bundle, certificate)?;
-    match write_verified(&judged, writer) {
-        Ok(()) => Ok(judged.verdict()),
+    let reply = verify_bundle(alloc, bundle, certificate)?;
+    match write_verified(&reply, writer) {
+        Ok(()) => Ok(reply.verdict()),
         Err(_) => Err(ShellFault::Write),
     }
 }
 
-/// Reads a bundle, of at most 8 MiB, and checks it. Where it is refused, writes what `check` prints for it, its notes
-/// too, and answers nothing; where it is accepted, writes nothing, not even its notes. Its errors
-/// are those of `check_text`.
+/// Reads a bundle, of at most 8 MiB, and checks it. Where it is refused, writes what `check` prints
+/// for it, its notes too, and answers nothing; where it is accepted, writes nothing, not even its
+/// notes. Its errors are those of `check_text`.
 pub fn load_text<R: Read, W: Write>(
     alloc: Global,
     reader: &mut R,
     writer: &mut W,
 ) -> Result<Option<Checked>, ShellFault>
-    ensures loaded { IfOk result (λ loaded. IfSome (R.remaining reader.old) (λ bundle. loaded ≡ accepted_of (judged_at bundle))) }
+    ensures loaded { IfOk result (λ loaded. IfSome (R.remaining reader.old) (λ bundle. loaded ≡ accepted_of (reply_to bundle))) }
     ensures written { OnOk result (IfSome (R.remaining reader.old)
         (λ bundle. Appends (W.contents writer.old) (W.contents writer.new) (load_output bundle))) }
     ensures quiet { IfOk result (λ loaded. IsSome loaded → Keeps (W.contents writer.old) (W.contents writer.new)) }
@@ -89,32 +90,32 @@ pub fn load_text<R: Read, W: Write>(
     ensures within { OnOk result (IfSome (R.remaining reader.old) (λ bundle. length bundle ≤ BUNDLE_LIMIT)) }
     ensures too_long { IsErrOf result ShellFault.TooLong → IfSome (R.remaining reader.old) (λ bundle. BUNDLE_LIMIT < length bundle) }
 {
-    let found = read_judged(alloc, reader)?;
-    if found.answer.is_err() && write_judged(&found, writer).is_err() {
+    let reply = check_bundle(alloc, reader)?;
+    if reply.answer.is_err() && write_checked(&reply, writer).is_err() {
         return Err(ShellFault::Write);
     }
-    Ok(found.answer.ok())
+    Ok(reply.answer.ok())
 }
 
-/// Reads a bundle and judges it. Fails by memory and by the reader, and where it is too long.
-fn read_judged<R: Read>(alloc: Global, reader: &mut R) -> Result<Judged, ShellFault>
-    ensures exact { IfOk result (λ found. IfSome (R.remaining reader.old) (λ bundle. judged_at bundle ≡ judgement_view found)) }
+/// Reads a bundle and checks it. Fails by memory and by the reader, and where it is too long.
+fn check_bundle<R: Read>(alloc: Global, reader: &mut R) -> Result<Reply, ShellFault>
+    ensures exact { IfOk result (λ reply. IfSome (R.remaining reader.old) (λ bundle. reply_to bundle ≡ reply_view reply)) }
     ensures within { OnOk result (IfSome (R.remaining reader.old) (λ bundle. length bundle ≤ BUNDLE_LIMIT)) }
     ensures too_long { IsErrOf result ShellFault.TooLong → IfSome (R.remaining reader.old) (λ bundle. BUNDLE_LIMIT < length bundle) }
     ensures reads_only { IfErr result (λ e. e ≢ ShellFault.Write) }
 {
     let bundle = read_all(alloc, reader, BUNDLE_LIMIT)?;
-    judge(alloc, &bundle, None)
+    reply_to_text(alloc, &bundle, None)
 }
 
-/// Reads a bundle, then a certificate, and judges them. Fails by memory and by the readers, and
+/// Reads a bundle, then a certificate, and verifies it. Fails by memory and by the readers, and
 /// where one is too long.
-fn read_verified<R: Read, Q: Read>(
+fn verify_bundle<R: Read, Q: Read>(
     alloc: Global,
     bundle: &mut R,
     certificate: &mut Q,
-) -> Result<Judged, ShellFault>
-    ensures exact { IfOk result (λ found. IfSome (R.remaining bundle.old) (λ text. IfSome (Q.remaining certificate.old) (λ stated. judged_with stated text ≡ judgement_view found))) }
+) -> Result<Reply, ShellFault>
+    ensures exact { IfOk result (λ reply. IfSome (R.remaining bundle.old) (λ text. IfSome (Q.remaining certificate.old) (λ stated. reply_with stated text ≡ reply_view reply))) }
     ensures within { OnOk result (IfSome (R.remaining bundle.old) (λ text. length text ≤ BUNDLE_LIMIT) × IfSome (Q.remaining certificate.old) (λ stated. length stated ≤ CERTIFICATE_LIMIT)) }
     ensures too_long { IsErrOf result ShellFault.TooLong →
         IfSome (R.remaining bundle.old) (λ text. BUNDLE_LIMIT < length text) ⊎ IfSome (Q.remaining certificate.old) (λ stated. CERTIFICATE_LIMIT < length stated) }
@@ -122,34 +123,38 @@ fn read_verified<R: Read, Q: Read>(
 {
     let text = read_all(alloc, bundle, BUNDLE_LIMIT)?;
     let stated = read_all(alloc, certificate, CERTIFICATE_LIMIT)?;
-    judge(alloc, &text, Some(stated.as_slice()))
+    reply_to_text(alloc, &text, Some(stated.as_slice()))
 }
 
-/// What is found of a bundle, with the weights of a certificate where there is one. Fails only by
+/// The reply to a bundle, with the weights of a certificate where there is one. Fails only by
 /// memory.
-fn judge(alloc: Global, bundle: &[u8], certificate: Option<&[u8]>) -> Result<Judged, ShellFault>
-    ensures exact { IfOk result (λ found. judged (option_map (λ c. c.now) certificate.entry) (rows_at bundle.now) ≡ judgement_view found) }
+fn reply_to_text(
+    alloc: Global,
+    bundle: &[u8],
+    certificate: Option<&[u8]>,
+) -> Result<Reply, ShellFault>
+    ensures exact { IfOk result (λ reply. replied (option_map (λ c. c.now) certificate.entry) (rows_at bundle.now) ≡ reply_view reply) }
     ensures only { IfErr result (λ e. e ≡ ShellFault.NoMemory) }
 {
     let config = match read_bundle(alloc, bundle) {
         Ok(config) => config,
         Err(ConfigFault::NoMemory) => return Err(ShellFault::NoMemory),
         Err(ConfigFault::Bundle(fault)) => {
-            return Ok(Judged {
+            return Ok(Reply {
                 notes: Vec::new(alloc),
                 answer: Err(BundleRefusal::Unread(fault)),
             });
         }
     };
-    let answer = judge_rows(alloc, &config, certificate)?;
-    Ok(Judged {
+    let answer = check_rows(alloc, &config, certificate)?;
+    Ok(Reply {
         notes: config.notes,
         answer,
     })
 }
 
 /// Whether rows are accepted, or why not. Fails only by memory.
-fn judge_rows(
+fn check_rows(
     alloc: Global,
     config: &Config,
     certificate: Option<&[u8]>,
@@ -168,24 +173,23 @@ fn judge_rows(
     }
 }
 
-/// Writes what `check` prints for a bundle that was judged: the notes before the answer.
-fn write_judged<W: Write>(judged: &Judged, writer: &mut W) -> io::Result<()>
-    ensures { OnOk result (Appends (W.contents writer.old) (W.contents writer.new) (judgement_text acceptance_text (judgement_view judged.now))) }
+/// Writes what `check` prints for a bundle: the notes before the answer.
+fn write_checked<W: Write>(reply: &Reply, writer: &mut W) -> io::Result<()>
+    ensures { OnOk result (Appends (W.contents writer.old) (W.contents writer.new) (reply_text acceptance_text (reply_view reply.now))) }
 {
-    write_notes(&judged.notes, writer)?;
-    match &judged.answer {
+    write_notes(&reply.notes, writer)?;
+    match &reply.answer {
         Ok(checked) => write_acceptance(checked, writer),
         Err(refusal) => write_refusal(refusal, writer),
     }
 }
 
-/// Writes what `verify` prints for a bundle and a certificate that were judged: the notes before the
-/// answer.
-fn write_verified<W: Write>(judged: &Judged, writer: &mut W) -> io::Result<()>
-    ensures { OnOk result (Appends (W.contents writer.old) (W.contents writer.new) (judgement_text verification_text (judgement_view judged.now))) }
+/// Writes what `verify` prints for a bundle and a certificate: the notes before the answer.
+fn write_verified<W: Write>(reply: &Reply, writer: &mut W) -> io::Result<()>
+    ensures { OnOk result (Appends (W.contents writer.old) (W.contents writer.new) (reply_text verification_text (reply_view reply.now))) }
 {
-    write_notes(&judged.notes, writer)?;
-    match &judged.answer {
+    write_notes(&reply.notes, writer)?;
+    match &reply.answer {
         Ok(checked) => write_verification(checked, writer),
         Err(refusal) => write_refusal(refusal, writer),
     }

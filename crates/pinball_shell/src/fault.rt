@@ -32,7 +32,7 @@ pub enum Verdict {
 }
 
 impl ShellFault {
-    /// The name that the fault is told by.
+    /// The name that is printed for the fault.
     pub fn name(&self) -> &'static str
         ensures { result.now ≡ fault_name self.now }
     {

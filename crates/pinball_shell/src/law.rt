@@ -1,6 +1,6 @@
 //! What holds of all that is printed and played.
 
-ghost use Rattle.pinball_shell.specs.CheckVerified.{AcceptedIsJudgedAgain, AcceptedIsPrintedAgain, AcceptedIsShort};
+ghost use Rattle.pinball_shell.specs.CheckVerified.{AcceptedIsAcceptedAgain, AcceptedIsPrintedAgain, AcceptedIsShort};
 ghost use Rattle.pinball_shell.specs.RunGiven.{GivesOneList};
 ghost use Rattle.pinball_shell.specs.SamePlay.{PlaysTheSame};
 
@@ -13,16 +13,16 @@ use crate::check::CERTIFICATE_LIMIT;
 ///
 /// It does nothing: its contract is the law, over the outputs that the calls write.
 pub fn printed_certificate_is_verified()
-    ensures judged { AcceptedIsJudgedAgain }
+    ensures accepted { AcceptedIsAcceptedAgain }
     ensures printed { AcceptedIsPrintedAgain }
     ensures short { AcceptedIsShort CERTIFICATE_LIMIT }
 {}
 
 /// The law of certificates in play. Whatever weights and bound a plan was accepted with, those that
-/// were found or those of a certificate, `play_text` writes the same of every log, and gives the
-/// same verdict: both are functions of `told_in`.
+/// were found or those of a certificate, `play_text` writes the same for every log, and gives the
+/// same verdict: both are functions of `printed_for_log`.
 ///
-/// It does nothing: its contract is the law, over what is told of a log.
+/// It does nothing: its contract is the law, over what is printed for a log.
 pub fn any_certificate_plays_the_same()
     ensures { PlaysTheSame }
 {}

@@ -4,11 +4,11 @@
 pub mod check;
 pub mod command_line;
 pub mod fault;
-mod judgement;
 pub mod law;
 mod log_line;
 pub mod play;
 mod refusal;
+mod reply;
 pub mod text;
 mod trace;
 

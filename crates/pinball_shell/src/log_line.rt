@@ -15,9 +15,9 @@ pub enum Said<'a> {
     /// The line is empty, or a comment.
     Nothing,
     /// All that is due up to the moment, in milliseconds.
-    Waits(u64),
+    Wait(u64),
     /// At the moment the switch of that name has a new raw level.
-    Changes(u64, &'a [u8], bool),
+    Change(u64, &'a [u8], bool),
     /// The line is none of these.
     Unreadable,
 }
@@ -85,7 +85,7 @@ fn word_start(text: &[u8]) -> Option<usize>
     text.iter().position(|b| !is_blank(*b))
 }
 
-/// How many bytes stand before the first blank of a text.
+/// How many bytes a text has before its first blank.
 fn word_len(text: &[u8]) -> usize
     ensures { result ≡ position_or_len blank text.now }
 {
@@ -95,7 +95,7 @@ fn word_len(text: &[u8]) -> usize
     }
 }
 
-/// Where the first blank of a text stands.
+/// Where the first blank of a text is.
 fn first_blank(text: &[u8]) -> Option<usize>
     ensures { result ≡ position blank text.now }
 {
@@ -107,7 +107,7 @@ fn wait(moment: &[u8]) -> Said<'_>
 {
     match read_moment(moment) {
         None => Said::Unreadable,
-        Some(at) => Said::Waits(at),
+        Some(at) => Said::Wait(at),
     }
 }
 
@@ -115,7 +115,7 @@ fn change<'a>(moment: &[u8], name: &'a [u8], level: &[u8]) -> Said<'a>
     ensures { said_view result ≡ change_at (moment_in moment.now) name.now (level_in level.now) }
 {
     match (read_moment(moment), read_level(level)) {
-        (Some(at), Some(level)) => Said::Changes(at, name, level),
+        (Some(at), Some(level)) => Said::Change(at, name, level),
         _ => Said::Unreadable,
     }
 }

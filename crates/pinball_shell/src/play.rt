@@ -2,13 +2,14 @@
 
 ghost use Rattle.std.specs.Prelude.{◌≡◌, ◌≢◌, ◌^◌, ◌<◌, ◌≤◌, ◌⊎◌, IfOk, IfErr, IsOk, OnOk, IfSome, IsErrOf, length};
 ghost use Rattle.std.specs.Io.KnownBytes.{Appends, Keeps};
-ghost use Rattle.pin_rig.specs.Alarm.{is_due_by};
-ghost use Rattle.pin_rig.specs.Rig.{stimulus_at};
+ghost use Rattle.config_checker.specs.NextAlarm.{is_due_by};
+ghost use Rattle.pin_rig.specs.Refused.{admitted};
+ghost use Rattle.pin_rig.specs.Rig.{stimulus_at, IsOfRun};
 ghost use Rattle.pinball_shell.specs.LogView.{said_view};
-ghost use Rattle.pinball_shell.specs.RunOfLog.{judged, timely, told_in, traced};
+ghost use Rattle.pinball_shell.specs.RunOfLog.{if_admitted, given_by_line, printed_for_log, traced};
 ghost use Rattle.pinball_shell.specs.RunGiven.{IsRunOfLog};
-ghost use Rattle.pinball_shell.specs.TraceText.{trace_text, verdict_of};
-ghost use Rattle.pinball_shell.specs.Played.{worse_of, IsInputPlayed, AreAlarmsPlayed, IsLinePlayed, AreLinesPlayed, GivesJudged, IsRigOf};
+ghost use Rattle.pinball_shell.specs.TraceText.{trace_text, log_verdict};
+ghost use Rattle.pinball_shell.specs.Played.{worse_of, IsInputPlayed, AreAlarmsPlayed, IsLinePlayed, AreLinesPlayed, GivesInput, IsRigOf};
 
 use crate::fault::{ShellFault, Verdict};
 use crate::log_line::{Said, first_line, read_line};
@@ -17,20 +18,17 @@ use crate::text::read_all;
 use crate::trace::{write_lines, write_refused};
 use config_checker::Checked;
 use mpf_plan::Plan;
-use pin_rig::{Input, Rig};
+use pin_rig::{Input, Rig, StepFault, check_moment};
 use std::alloc::Global;
 use std::io::{self, Read, Write};
 
 /// How many bytes a log has at most: 16 MiB.
 pub const LOG_LIMIT: usize = 16_777_216;
 
-/// The first moment that is too late, in milliseconds.
-const TOO_LATE: u64 = 1 << 40;
-
 /// Reads a log and plays it: writes the lines of the trace as they come, and which lines of the
 /// log are refused. `Yes` where none is. The lines of the trace are those of the run of the plan
 /// that the log gives: its changes and waits in their order, before each the alarms due by its
-/// moment, and none behind the last; at the end no event waits. The log is read whole, and all
+/// moment, and none after the last; at the end no event waits. The log is read whole, and all
 /// memory taken, before anything is written, so after `NoMemory`, `Read` and `TooLong` nothing has
 /// been; how much was after `Write` is not said. After an `Ok` the log had at most 16 MiB.
 pub fn play_text<R: Read, W: Write>(
@@ -42,9 +40,9 @@ pub fn play_text<R: Read, W: Write>(
     ensures written { OnOk result (IfSome (R.remaining reader.old)
         (λ log. Appends (W.contents writer.old) (W.contents writer.new) (trace_text checked.now.plan checked.now.bound log))) }
     ensures verdict { IfOk result (λ v. IfSome (R.remaining reader.old)
-        (λ log. v ≡ verdict_of (told_in checked.now.plan checked.now.bound log))) }
+        (λ log. v ≡ log_verdict (printed_for_log checked.now.plan checked.now.bound log))) }
     ensures run { OnOk result (IfSome (R.remaining reader.old)
-        (λ log. IsRunOfLog checked.now.plan log (traced (told_in checked.now.plan checked.now.bound log)))) }
+        (λ log. IsRunOfLog checked.now.plan log (traced (printed_for_log checked.now.plan checked.now.bound log)))) }
     ensures silent { IfErr result (λ e. e ≢ ShellFault.Write → Keeps (W.contents writer.old) (W.contents writer.new)) }
     ensures within { OnOk result (IfSome (R.remaining reader.old) (λ log. length log ≤ LOG_LIMIT)) }
     ensures too_long { IsErrOf result ShellFault.TooLong → IfSome (R.remaining reader.old) (λ log. LOG_LIMIT < length log) }
@@ -62,8 +60,8 @@ fn play_log<W: Write>(
 ) -> Result<Verdict, ShellFault>
     requires { length log.now ≤ LOG_LIMIT }
     ensures written { OnOk result (Appends (W.contents writer.old) (W.contents writer.new) (trace_text checked.now.plan checked.now.bound log.now)) }
-    ensures verdict { IfOk result (λ v. v ≡ verdict_of (told_in checked.now.plan checked.now.bound log.now)) }
-    ensures run { IsRunOfLog checked.now.plan log.now (traced (told_in checked.now.plan checked.now.bound log.now)) }
+    ensures verdict { IfOk result (λ v. v ≡ log_verdict (printed_for_log checked.now.plan checked.now.bound log.now)) }
+    ensures run { IsRunOfLog checked.now.plan log.now (traced (printed_for_log checked.now.plan checked.now.bound log.now)) }
     ensures silent { IfErr result (λ e. e ≢ ShellFault.Write → Keeps (W.contents writer.old) (W.contents writer.new)) }
     ensures failed { IfErr result (λ e. (e ≡ ShellFault.NoMemory) ⊎ (e ≡ ShellFault.Write)) }
 {
@@ -120,7 +118,7 @@ fn play_line<W: Write>(
     ensures played { IfOk result (λ v. IsLinePlayed plan.now rig.old.checked.bound number line.now rig.old.machine rig.new.machine (W.contents writer.old) (W.contents writer.new) v) }
     ensures checked { OnOk result (rig.new.checked ≡ rig.old.checked) }
 {
-    match judge(plan, rig.now(), read_line(line)) {
+    match given_by(plan, rig.now(), read_line(line)) {
         Ok(None) => Ok(Verdict::Yes),
         Ok(Some((at, input))) => {
             play_alarms(plan, rig, at, writer)?;
@@ -136,31 +134,26 @@ fn play_line<W: Write>(
 
 /// What a line gives where the latest stimulus came at `now`: nothing, an input and its moment, or
 /// why it is refused.
-fn judge(plan: &Plan, now: u64, line: Said<'_>) -> Result<Option<(u64, Input)>, Refusal>
-    ensures { GivesJudged result (judged plan.now now (said_view line.entry)) }
+fn given_by(plan: &Plan, now: u64, line: Said<'_>) -> Result<Option<(u64, Input)>, Refusal>
+    ensures { GivesInput result (given_by_line plan.now now (said_view line.entry)) }
 {
     match line {
         Said::Nothing => Ok(None),
         Said::Unreadable => Err(Refusal::BadLine),
-        Said::Waits(at) => timely_one(now, at, Input::Wait { at }),
-        Said::Changes(at, name, level) => match plan.find_switch(name) {
-            None => Err(Refusal::NoSuchSwitch),
-            Some(switch) => timely_one(now, at, Input::Change { at, switch, level }),
+        Said::Wait(at) => given_at(now, at, Input::Wait { at }),
+        Said::Change(at, name, level) => match plan.find_switch(name) {
+            None => Err(Refusal::Step(StepFault::NoSuchSwitch)),
+            Some(switch) => given_at(now, at, Input::Change { at, switch, level }),
         },
     }
 }
 
-/// An input and its moment, where that does not go back and is not too late.
-fn timely_one(now: u64, at: u64, input: Input) -> Result<Option<(u64, Input)>, Refusal>
-    ensures { result ≡ timely now at (at, input) }
+/// An input and its moment, where the moment is admitted.
+fn given_at(now: u64, at: u64, input: Input) -> Result<Option<(u64, Input)>, Refusal>
+    ensures { result ≡ if_admitted (admitted now at) (at, input) }
 {
-    if at < now {
-        Err(Refusal::Backwards)
-    } else if at >= TOO_LATE {
-        Err(Refusal::TooLate)
-    } else {
-        Ok(Some((at, input)))
-    }
+    check_moment(now, at)?;
+    Ok(Some((at, input)))
 }
 
 /// Plays the alarms that come by a moment.
@@ -172,8 +165,8 @@ fn play_alarms<W: Write>(
 ) -> io::Result<()>
     requires until { until < 2 ^ 40 }
     requires forward { rig.old.machine.moment ≤ until }
-    requires states { length rig.old.machine.switches ≡ length plan.now.switches }
-    requires plan { rig.old.checked.plan ≡ plan.now }
+    requires rig { IsRigOf plan.now rig.old }
+    requires reached { IsOfRun rig.old }
     ensures { OnOk result (AreAlarmsPlayed plan.now until rig.old rig.new (W.contents writer.old) (W.contents writer.new)) }
 {
     while has_alarm_by(rig, until) {
@@ -184,7 +177,7 @@ fn play_alarms<W: Write>(
 
 /// Whether an alarm is due at or before a moment.
 fn has_alarm_by(rig: &Rig<'_>, until: u64) -> bool
-    ensures { result ≡ is_due_by until rig.now.machine.switches }
+    ensures { result ≡ is_due_by until rig.now.machine }
 {
     match rig.next_due() {
         None => false,

@@ -1,4 +1,4 @@
-//! A text is read whole before it is judged.
+//! A text is read whole before it is checked.
 
 ghost use Rattle.std.specs.Prelude.{◌≡◌, ◌≢◌, ◌<◌, ◌≤◌, IfOk, OnOk, IfErr, IfSome, IsErrOf, vec_len, length};
 ghost use Rattle.std.specs.Io.KnownBytes.{IsAtEnd};

@@ -4,7 +4,7 @@ ghost use Rattle.std.specs.Prelude.{◌≡◌, OnOk, slice_index_or};
 ghost use Rattle.std.specs.List.{flat_map};
 ghost use Rattle.std.specs.Io.KnownBytes.{Appends};
 ghost use Rattle.mpf_plan.specs.PlanView.{name_of_event, switch_at};
-ghost use Rattle.pinball_shell.specs.TraceText.{owner_text, level_text, switch_text, event_text, line_text, refusal_text, refused_text};
+ghost use Rattle.pinball_shell.specs.TraceText.{owner_text, level_text, switch_text, event_text, line_text, refused_text};
 
 use crate::refusal::Refusal;
 use config_checker::{Happening, Line};
@@ -21,23 +21,16 @@ pub fn write_lines<W: Write>(plan: &Plan, lines: &[Line], writer: &mut W) -> io:
     Ok(())
 }
 
-/// Writes that a line of the log is refused.
-pub fn write_refused<W: Write>(number: usize, refusal: Refusal, writer: &mut W) -> io::Result<()>
-    ensures { OnOk result (Appends (W.contents writer.old) (W.contents writer.new) (refused_text number refusal)) }
+/// Writes that the line of this number is refused.
+pub fn write_refused<W: Write>(line: usize, refusal: Refusal, writer: &mut W) -> io::Result<()>
+    ensures { OnOk result (Appends (W.contents writer.old) (W.contents writer.new) (refused_text line refusal)) }
 {
-    writeln!(writer, "refused {number} {}", refusal_name(refusal))
-}
-
-/// The number of a refusal, and its name.
-fn refusal_name(refusal: Refusal) -> &'static str
-    ensures { result.now ≡ refusal_text refusal }
-{
-    match refusal {
-        Refusal::Backwards => "1 Backwards",
-        Refusal::TooLate => "2 TooLate",
-        Refusal::NoSuchSwitch => "3 NoSuchSwitch",
-        Refusal::BadLine => "8 BadLine",
-    }
+    writeln!(
+        writer,
+        "refused {line} {} {}",
+        refusal.number(),
+        refusal.name()
+    )
 }
 
 fn write_line<W: Write>(plan: &Plan, line: Line, writer: &mut W) -> io::Result<()>

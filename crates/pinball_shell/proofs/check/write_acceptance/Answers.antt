@@ -1,11 +1,11 @@
-use Rattle.std.proofs.Common.{◌∷◌, [], ◌++◌, codes}
+use Rattle.std.proofs.Common.{◌∷◌, [], ◌++◌, codes, refl}
 use Rattle.config_checker.specs.CertificateText.{certificate_text}
+use Rattle.config_checker.proofs.Writing.{written-last}
 use Rattle.pinball_shell.specs.CheckOutput.{acceptance_text}
-use Rattle.pinball_shell.proofs.Writing.{joined_last}
 use Rattle.pinball_shell.proofs.check.write_acceptance.Goals as goal
 
 pub returns : goal.returns
 unfolding acceptance_text
 returns g c =
-    joined_last c.write_certificate.result _ _ _ (codes "yes" ++ 10 ∷ []) (certificate_text c.args.checked.now)
+    written-last c.write_certificate.result _ _ _ (codes "yes" ++ 10 ∷ []) (certificate_text c.args.checked.now) _ refl
     c.in_ok-write_all.ensures.bytes c.write_certificate.ensures

@@ -1,12 +1,12 @@
-use Rattle.std.proofs.Common.{◌∷◌, [], ◌++◌, codes, append_assoc}
-use Rattle.pinball_shell.specs.Judged.{refusal_view}
+use Rattle.std.proofs.Common.{◌∷◌, [], ◌++◌, codes, refl, append_assoc}
+use Rattle.config_checker.proofs.Writing.{written-last}
+use Rattle.pinball_shell.specs.ReplyView.{refusal_view}
 use Rattle.pinball_shell.specs.CheckOutput.{refusal_lines, refusal_text}
-use Rattle.pinball_shell.proofs.Writing.{joined_last}
 use Rattle.pinball_shell.proofs.check.write_refusal.Goals as goal
 
 pub returns : goal.returns
 unfolding refusal_text
 returns g c =
     rw append_assoc
-    (joined_last c.write_all.result _ _ _ (refusal_lines (refusal_view c.args.refusal.now)) (codes "no" ++ 10 ∷ [])
+    (written-last c.write_all.result _ _ _ (refusal_lines (refusal_view c.args.refusal.now)) (codes "no" ++ 10 ∷ []) _ refl
     c.in_ok-write_faults.ensures c.write_all.ensures.bytes)

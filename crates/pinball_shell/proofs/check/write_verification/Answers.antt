@@ -1,11 +1,11 @@
-use Rattle.std.proofs.Common.{◌∷◌, [], ◌++◌, codes}
+use Rattle.std.proofs.Common.{◌∷◌, [], ◌++◌, codes, refl}
 use Rattle.config_checker.specs.CertificateText.{bound_line}
+use Rattle.config_checker.proofs.Writing.{written-last}
 use Rattle.pinball_shell.specs.CheckOutput.{verification_text}
-use Rattle.pinball_shell.proofs.Writing.{joined_last}
 use Rattle.pinball_shell.proofs.check.write_verification.Goals as goal
 
 pub returns : goal.returns
 unfolding verification_text
 returns g c =
-    joined_last c.writeln.result _ _ _ (codes "yes" ++ 10 ∷ []) (bound_line c.args.checked.now.bound)
+    written-last c.writeln.result _ _ _ (codes "yes" ++ 10 ∷ []) (bound_line c.args.checked.now.bound) _ refl
     c.in_ok-write_all.ensures.bytes (rw c.bound.ensures.bound at c.writeln.ensures.bytes)

@@ -1,40 +1,42 @@
-use Rattle.std.proofs.Common.{length, refl, sym, ◌∙◌, arith}
-use Rattle.pinball_shell.specs.RunOfLog.{alarms_by}
-use Rattle.pinball_shell.proofs.Alarms.{due-comes, alarm-taken}
-use Rattle.pinball_shell.proofs.Taking.{ok_where, alarm-played}
+use Rattle.std.proofs.Common.{refl, sym, ◌∙◌}
+use Rattle.config_checker.specs.NextAlarm.{most_alarms}
+use Rattle.config_checker.proofs.NextAlarms.{not_due-nothing}
+use Rattle.pinball_shell.specs.RunOfLog.{all_alarms_by}
+use Rattle.pinball_shell.proofs.Alarms.{comes, alarm-taken}
+use Rattle.pinball_shell.proofs.Taking.{ok_where, alarm-played, rig-all}
 use Rattle.pinball_shell.proofs.Playing.{alarms-start, alarms-fewer, alarms-more, alarms-stop}
 use Rattle.pinball_shell.proofs.play.play_alarms.Goals as goal
 
 pub loop-rig-init : goal.loop-rig-init
 loop-rig-init g c = (
-  alarms-start c.args.plan.now c.args.rig.now.checked.bound c.args.until (length c.args.plan.now.switches) c.args.rig.now.machine (g.W.Write.contents c.args.writer.now)
-      c.requires.states c.requires.forward,
+  alarms-start c.args.plan.now c.args.rig.now.checked.bound c.args.until (most_alarms c.args.plan.now c.args.until c.args.rig.now.machine) c.args.rig.now.machine (g.W.Write.contents c.args.writer.now)
+      (rig-all c.args.plan.now c.args.rig.now c.requires.rig c.requires.reached c.args.until) c.requires.forward,
   refl,
 )
 
 pub play_input-requires-clause-taken : goal.play_input-requires-clause-taken
 play_input-requires-clause-taken g c =
-    let next = due-comes c.loop-rig.rig.machine c.args.until (sym c.has_alarm_by.ensures ∙ c.loop-rig-test.true) in
+    let next = comes c.loop-rig.rig.machine c.args.until (sym c.has_alarm_by.ensures ∙ c.loop-rig-test.true) in
     ok_where _ _ (alarm-taken c.loop-rig.rig c.args.until c.requires.until next)
 
 pub loop-rig-smaller : goal.loop-rig-smaller
 loop-rig-smaller g c =
-    let next = due-comes c.loop-rig.rig.machine c.args.until (sym c.has_alarm_by.ensures ∙ c.loop-rig-test.true) in
+    let next = comes c.loop-rig.rig.machine c.args.until (sym c.has_alarm_by.ensures ∙ c.loop-rig-test.true) in
     let played = alarm-played c.args.plan.now c.args.until c.args.rig.now c.loop-rig.rig c.play_input.new.rig (g.W.Write.contents c.loop-rig.writer) (g.W.Write.contents c.play_input.new.writer)
     c.loop-rig.invariant.1 c.requires.until next c.in_ok-play_input.ensures in
-    let fewer = alarms-fewer c.args.plan.now c.args.rig.now.checked.bound c.args.until c.loop-rig.rig.machine c.play_input.new.rig.machine
-    (g.W.Write.contents c.loop-rig.writer) (g.W.Write.contents c.play_input.new.writer) next played in
-    omega (arith, fewer)
+    alarms-fewer c.args.plan.now c.args.rig.now.checked.bound c.args.until (most_alarms c.args.plan.now c.args.until c.args.rig.now.machine) c.loop-rig.rig.machine c.play_input.new.rig.machine
+    (g.W.Write.contents c.loop-rig.writer) (g.W.Write.contents c.play_input.new.writer) next played
+    c.args.rig.now.machine (g.W.Write.contents c.args.writer.now) (all_alarms_by c.args.plan.now c.args.rig.now.checked.bound c.args.until c.args.rig.now.machine)
+    c.loop-rig.invariant.0
 
 pub loop-rig-preserved : goal.loop-rig-preserved
 loop-rig-preserved g c =
-    let next = due-comes c.loop-rig.rig.machine c.args.until (sym c.has_alarm_by.ensures ∙ c.loop-rig-test.true) in
+    let next = comes c.loop-rig.rig.machine c.args.until (sym c.has_alarm_by.ensures ∙ c.loop-rig-test.true) in
     let played = alarm-played c.args.plan.now c.args.until c.args.rig.now c.loop-rig.rig c.play_input.new.rig (g.W.Write.contents c.loop-rig.writer) (g.W.Write.contents c.play_input.new.writer)
     c.loop-rig.invariant.1 c.requires.until next c.in_ok-play_input.ensures in (
-      alarms-more c.args.plan.now c.args.rig.now.checked.bound c.args.until c.loop-rig.rig.machine c.play_input.new.rig.machine
+      alarms-more c.args.plan.now c.args.rig.now.checked.bound c.args.until (most_alarms c.args.plan.now c.args.until c.args.rig.now.machine) c.loop-rig.rig.machine c.play_input.new.rig.machine
           (g.W.Write.contents c.loop-rig.writer) (g.W.Write.contents c.play_input.new.writer) next played
-          c.args.rig.now.machine (g.W.Write.contents c.args.writer.now)
-          (alarms_by c.args.plan.now c.args.rig.now.checked.bound c.args.until (length c.args.plan.now.switches) c.args.rig.now.machine)
+          c.args.rig.now.machine (g.W.Write.contents c.args.writer.now) (all_alarms_by c.args.plan.now c.args.rig.now.checked.bound c.args.until c.args.rig.now.machine)
           c.loop-rig.invariant.0,
       c.in_ok-play_input.ensures.checked_is ∙ c.loop-rig.invariant.1,
     )
@@ -45,8 +47,9 @@ returns g c =
     let going = c.loop-rig.invariant.0 in
     record {
       checked_is = c.loop-rig.invariant.1;
-      played = alarms-stop c.args.plan.now c.args.rig.now.checked.bound c.args.until c.args.rig.now.machine c.loop-rig.rig.machine (g.W.Write.contents c.args.writer.now) (g.W.Write.contents c.loop-rig.writer)
-          (alarms_by c.args.plan.now c.args.rig.now.checked.bound c.args.until (length c.args.plan.now.switches) c.args.rig.now.machine) going quiet;
+      played = alarms-stop c.args.plan.now c.args.rig.now.checked.bound c.args.until (most_alarms c.args.plan.now c.args.until c.args.rig.now.machine)
+          c.args.rig.now.machine c.loop-rig.rig.machine (g.W.Write.contents c.args.writer.now) (g.W.Write.contents c.loop-rig.writer)
+          (all_alarms_by c.args.plan.now c.args.rig.now.checked.bound c.args.until c.args.rig.now.machine) going (not_due-nothing c.loop-rig.rig.machine c.args.until quiet);
       quiet = quiet;
       moment = going.moment;
     }

@@ -8,21 +8,21 @@ pub begin-requires-clause-room : goal.begin-requires-clause-room
 begin-requires-clause-room c =
     let stimulus = stimulus_view c.in_ok-stimulus.stimulus in
     let judged = subst (λ (rig : RigView). stimulus_at rig c.args.input ≡ Ok stimulus) (sym c.self.view_is) c.in_ok-stimulus.ensures in
-    begun-room c.self.inside.checked.now c.self.inside.core c.self.invariant c.plan-plan.ensures.accepted c.plan-plan.ensures.good c.args.input stimulus judged
+    begun-room c.self.inside.checked.now c.self.inside.core c.self.invariant c.plan-plan.ensures.accepted c.args.input stimulus judged
     c.plan-plan.result.now c.plan-plan.ensures.plan
 
 pub settle-requires-clause-room : goal.settle-requires-clause-room
 settle-requires-clause-room c =
     let stimulus = stimulus_view c.in_ok-stimulus.stimulus in
     let judged = subst (λ (rig : RigView). stimulus_at rig c.args.input ≡ Ok stimulus) (sym c.self.view_is) c.in_ok-stimulus.ensures in
-    begun-stays c.self.inside.checked.now c.self.inside.core c.self.invariant c.plan-plan.ensures.accepted c.plan-plan.ensures.good c.args.input stimulus judged
+    begun-stays c.self.inside.checked.now c.self.inside.core c.self.invariant c.plan-plan.ensures.accepted c.args.input stimulus judged
     c.plan-plan.result.now c.plan-plan.ensures.plan c.begin.new.core c.begin.ensures
 
 pub invariant_of-self : goal.invariant_of-self
 invariant_of-self c =
     let stimulus = stimulus_view c.in_ok-stimulus.stimulus in
     let judged = subst (λ (rig : RigView). stimulus_at rig c.args.input ≡ Ok stimulus) (sym c.self.view_is) c.in_ok-stimulus.ensures in
-    held-again c.self.inside.checked.now c.self.inside.core c.self.invariant c.plan-plan.ensures.accepted c.plan-plan.ensures.good c.args.input stimulus judged
+    held-again c.self.inside.checked.now c.self.inside.core c.self.invariant c.plan-plan.ensures.accepted c.args.input stimulus judged
     c.plan-plan.result.now c.plan-plan.ensures.plan c.begin.new.core c.begin.ensures c.settle.new.core c.settle.ensures
 
 pub returns : goal.returns
@@ -30,6 +30,6 @@ returns c =
     let stimulus = stimulus_view c.in_ok-stimulus.stimulus in
     let judged = subst (λ (rig : RigView). stimulus_at rig c.args.input ≡ Ok stimulus) (sym c.self.view_is) c.in_ok-stimulus.ensures in
     let step =
-    acts c.self.inside.checked.now c.self.inside.core c.self.invariant c.plan-plan.ensures.accepted c.plan-plan.ensures.good c.args.input stimulus judged
+    acts c.self.inside.checked.now c.self.inside.core c.self.invariant c.plan-plan.ensures.accepted c.args.input stimulus judged
     c.plan-plan.result.now c.plan-plan.ensures.plan c.begin.new.core c.begin.ensures c.settle.new.core c.settle.ensures in
     subst (λ (rig : RigView). IsStep c.args.input rig (record { checked = c.self.inside.checked.now; machine = c.settle.new.core.machine })) c.self.view_is step

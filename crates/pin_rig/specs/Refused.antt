@@ -1,0 +1,28 @@
+-- Why an input is refused.
+use Rattle.std.specs.Prelude.{ℕ, ◌^◌, Bool, nat_lt, nat_le, if◌then◌else◌, List, Result, Ok, Err, codes}
+use Rattle.pin_rig.specs.declared.input.StepFault.{StepFault}
+use Rattle.pin_rig.specs.declared.input.StepFault.TheVariants.{NoSuchSwitch, NoAlarm, Backwards, TooLate, AlarmPending}
+
+-- the number with which a refusal is printed
+abbrev pub step_fault_number : StepFault → ℕ
+step_fault_number Backwards = 1
+step_fault_number TooLate = 2
+step_fault_number NoSuchSwitch = 3
+step_fault_number AlarmPending = 6
+step_fault_number NoAlarm = 7
+
+-- the name with which it is printed
+abbrev pub step_fault_name : StepFault → List ℕ
+step_fault_name Backwards = codes "Backwards"
+step_fault_name TooLate = codes "TooLate"
+step_fault_name NoSuchSwitch = codes "NoSuchSwitch"
+step_fault_name AlarmPending = codes "AlarmPending"
+step_fault_name NoAlarm = codes "NoAlarm"
+
+-- a moment of 2^40 milliseconds or more is too late
+abbrev pub is_too_late : ℕ → Bool
+is_too_late at = nat_le (2 ^ 40) at
+
+-- a moment is admitted, unless it is before that of the latest stimulus, or too late
+abbrev pub admitted : ℕ → ℕ → Result Unit StepFault
+admitted latest at = if nat_lt at latest then Err Backwards else if is_too_late at then Err TooLate else Ok tt

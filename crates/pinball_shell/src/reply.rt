@@ -1,0 +1,39 @@
+//! The reply to a bundle.
+
+ghost use Rattle.std.specs.Prelude.{◌≡◌};
+ghost use Rattle.pinball_shell.specs.Reply.{verdict_of};
+ghost use Rattle.pinball_shell.specs.ReplyView.{reply_view};
+
+use crate::fault::Verdict;
+use config_checker::{Checked, Fault};
+use mpf_config::{Fault as RowsFault, Note};
+
+/// Why a bundle is refused.
+#[derive(Drop)]
+pub enum BundleRefusal {
+    /// It has no rows: the fault that was met first.
+    Unread(RowsFault),
+    /// Its rows are refused: the faults that the report lists.
+    Unfit(Vec<Fault>),
+}
+
+/// The reply to a bundle.
+#[derive(Drop)]
+pub struct Reply {
+    /// The notes on its rows, in the order in which they are printed; none where it has no rows.
+    pub notes: Vec<Note>,
+    /// What was accepted, or why nothing was.
+    pub answer: Result<Checked, BundleRefusal>,
+}
+
+impl Reply {
+    /// Whether the bundle is accepted.
+    pub fn verdict(&self) -> Verdict
+        ensures { result ≡ verdict_of (reply_view self.now) }
+    {
+        match self.answer {
+            Ok(_) => Verdict::Yes,
+            Err(_) => Verdict::Refused,
+        }
+    }
+}
