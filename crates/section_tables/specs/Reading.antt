@@ -78,17 +78,25 @@ name_at spot item = if is_name item.text then Ok (written_at item.line item.text
 unfoldable pub handled_in : Spot → Item → Result Handled RowsFault
 handled_in spot item = expect spot (give (handled_at item.line) (event_at item.text))
 
--- at most 1,024 of them, and as many as the bounds say
-unfoldable pub counted : {A : Type 0} → Bounds → Spot → List A → Result (List A) RowsFault
-counted bounds spot xs = if nat_lt 1024 (length xs) then refused Limit spot else (if fits bounds (length xs) then Ok xs else refused BadValue spot)
+-- a list may have so many items: at most 1,024, and as many as its bounds say
+unfoldable pub count_at : Bounds → Spot → ℕ → Result (Unit {0}) RowsFault
+count_at bounds spot n = if nat_lt 1024 n then refused Limit spot else (if fits bounds n then Ok tt else refused BadValue spot)
 
--- what f gives for each item of a list
-unfoldable pub listed_at : {B : Type 0} → (Spot → Item → Result B RowsFault) → Bounds → Spot → Node → Result (List B) RowsFault
-listed_at f bounds spot node = expect spot (list_at node) >>= λ items. counted bounds spot items >>= λ all. each_read (f spot) all
+-- the items of a list
+unfoldable pub items_at : Bounds → Spot → Node → Result (List Item) RowsFault
+items_at bounds spot node = expect spot (list_at node) >>= λ items. count_at bounds spot (length items) >>= λ _. Ok items
 
--- what f gives for each node of a YAML list
-unfoldable pub nodes_at : {B : Type 0} → (Spot → Node → Result B RowsFault) → Bounds → Spot → Node → Result (List B) RowsFault
-nodes_at f bounds spot node = expect spot (nodes_of node) >>= λ nodes. counted bounds spot nodes >>= λ all. each_read (f spot) all
+-- what f gives for each
+abbrev pub listed_at : {B : Type 0} → (Spot → Item → Result B RowsFault) → Bounds → Spot → Node → Result (List B) RowsFault
+listed_at f bounds spot node = items_at bounds spot node >>= λ items. each_read (f spot) items
+
+-- the nodes of a YAML list
+unfoldable pub list_nodes_at : Bounds → Spot → Node → Result (List Node) RowsFault
+list_nodes_at bounds spot node = expect spot (nodes_of node) >>= λ nodes. count_at bounds spot (length nodes) >>= λ _. Ok nodes
+
+-- what f gives for each
+abbrev pub nodes_at : {B : Type 0} → (Spot → Node → Result B RowsFault) → Bounds → Spot → Node → Result (List B) RowsFault
+nodes_at f bounds spot node = list_nodes_at bounds spot node >>= λ nodes. each_read (f spot) nodes
 
 -- ---- rows by a table
 

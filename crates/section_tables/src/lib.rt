@@ -5,8 +5,19 @@
 //! for a section that is one entry itself, and [`players`] for sections whose keys are events.
 #![tactic(auto)]
 
+pub mod each;
 pub mod fault;
+mod fields;
+mod handling;
+mod lists;
+mod nodes;
 pub mod rows;
+mod scalars;
+mod sections;
+mod settings;
 pub mod spot;
 pub mod table;
 pub mod tables;
+
+pub use handling::players;
+pub use sections::{entries, entry};
