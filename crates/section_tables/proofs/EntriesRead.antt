@@ -1,5 +1,5 @@
 -- The entries of a section are those that are read, and no others.
-use Rattle.std.proofs.Common.{◌≡◌, ℕ, List, Result, Ok, refl, sym, subst, inl}
+use Rattle.std.proofs.Common.{◌≡◌, ℕ, List, Ok, refl, sym, subst, inl}
 use Rattle.yaml_subset.specs.Node.{Node, Pair}
 use Rattle.mpf_values.specs.Reading.{is_name}
 use Rattle.mpf_values.proofs.NameTexts.{IsName-from_is_name, is_name-from_IsName}

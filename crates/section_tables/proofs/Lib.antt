@@ -9,3 +9,5 @@ pub mod RowsRead
 pub mod ValuesRead
 pub mod EntriesRead
 pub mod AnswersOf
+pub mod RowNames
+pub mod TableNames

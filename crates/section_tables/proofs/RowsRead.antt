@@ -1,14 +1,12 @@
 -- The row of a mapping by a table is the one that is read, and no other.
-use Rattle.std.proofs.Common.{◌≡◌, ℕ, Bool, true, false, List, [], ◌∷◌, length, map, set, Option, Some, None, Result, Ok, Err, refl, sym, ap, subst, ◌∙◌, inl, inr, arith}
-use Rattle.std.specs.List.{AllZip}
+use Rattle.std.proofs.Common.{◌≡◌, ℕ, Bool, true, false, List, [], ◌∷◌, length, map, set, Option, Some, None, Result, Ok, refl, sym, ap, subst, ◌∙◌, inl, arith}
 use Rattle.std.proofs.lemmas.List.{length-map, length-set}
 use Rattle.yaml_subset.specs.Node.{Node, Pair}
-use Rattle.section_tables.specs.declared.fault.FaultKind.TheVariants.{UnknownSetting, Missing}
+use Rattle.section_tables.specs.declared.fault.FaultKind.TheVariants.{UnknownSetting}
 use Rattle.section_tables.specs.Rows.{RowsFault}
-use Rattle.section_tables.specs.Entries.{entries_of}
 use Rattle.section_tables.specs.Tables.{found_in}
 use Rattle.section_tables.specs.EntryOf.{OverwritesAt, IsOverwritten, IsWhole}
-use Rattle.section_tables.specs.Reading.{◌>>=◌, Spot, fault_at, key_spot, put_at, overwritten_at, lacking, whole_from, row_at}
+use Rattle.section_tables.specs.Reading.{Spot, fault_at, key_spot, put_at, overwritten_at, lacking, whole_from, row_at}
 use Rattle.section_tables.proofs.Steps.{bind_ok, guard_true, ok_is}
 use Rattle.section_tables.proofs.Outcomes.{IsReadOrLong, then_read}
 

@@ -1,8 +1,7 @@
 -- What a text says is what it is read as, and nothing else.
-use Rattle.std.proofs.Common.{◌≡◌, ℕ, ◌≤◌, nat_le, ◌&&◌, Bool, true, false, List, [], ◌∷◌, Option, Some, None, refl, sym, ap, subst, ◌∙◌, ◌⊎◌, inl, inr}
+use Rattle.std.proofs.Common.{◌≡◌, ℕ, ◌≤◌, nat_le, ◌&&◌, Bool, true, false, List, [], ◌∷◌, Some, refl, sym, inl, inr}
 use Rattle.std.specs.Str.{bytes_eq}
 use Rattle.std.proofs.lemmas.Bool.{leb-true, le-leb}
-use Rattle.std.proofs.lemmas.Option.{same_Some, none-some}
 use Rattle.mpf_values.specs.Reading.{is_name, boolean_at, integer_at, time_at, power_at, event_at}
 use Rattle.mpf_values.proofs.BooleanTexts.{boolean_computes}
 use Rattle.mpf_values.proofs.IntegerTexts.{integer_computes}
@@ -14,9 +13,9 @@ use Rattle.section_tables.specs.Rows.{Plain, flag, number, time, power, word, na
 use Rattle.section_tables.specs.Kinds.{Scalar, a_flag, number_within, time_within, a_power, one_of, a_name, an_event}
 use Rattle.section_tables.specs.Entries.{written_at, handled_at}
 use Rattle.section_tables.specs.EntryOf.{within, IsOneOf, IsScalar}
-use Rattle.section_tables.specs.Reading.{give, keep, is_one_of, scalar_of}
+use Rattle.section_tables.specs.Reading.{keep, is_one_of, scalar_of}
 use Rattle.section_tables.proofs.Steps.{word_is, is_word}
-use Rattle.section_tables.proofs.Options.{gave, kept, again, chosen_some}
+use Rattle.section_tables.proofs.Options.{gave, kept, chosen_some}
 
 among_by : (xs : List (List ℕ)) (w : List ℕ) (x : List ℕ) (b : Bool) → bytes_eq x w ≡ b → is_one_of (x ∷ xs) w ≡ true → (is_one_of xs w ≡ true → IsOneOf xs w) → IsOneOf (x ∷ xs) w
 unfolding is_one_of

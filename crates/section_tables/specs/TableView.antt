@@ -1,5 +1,5 @@
 -- What contracts see of the code's tables.
-use Rattle.std.specs.Prelude.{ℕ, Bool, true, false, List, [], ◌∷◌, None, map}
+use Rattle.std.specs.Prelude.{Bool, true, false, List, [], ◌∷◌, None, map}
 use Rattle.section_tables.specs.declared.table.Scalar as scalars
 use Rattle.section_tables.specs.declared.table.Scalar.TheVariants as scalar
 use Rattle.section_tables.specs.declared.table.Bounds as bounds_of
@@ -16,7 +16,7 @@ use Rattle.section_tables.specs.declared.table.Without.TheVariants as without
 use Rattle.section_tables.specs.declared.table.Setting as settings
 use Rattle.section_tables.specs.declared.table.PlayerKinds as players
 use Rattle.section_tables.specs.Rows.{Plain, nothing, flag, number, time, power, word, name, Value, one, names, posts, events, maps}
-use Rattle.section_tables.specs.Kinds.{Scalar, a_flag, number_within, time_within, a_power, one_of, a_name, an_event, Bounds, at_least, between, Absent, required, default, Row, Field, Kind, single, name_list, post_list, event_list, step_list, map_list, keyed_maps, Setting, PlayerKinds}
+use Rattle.section_tables.specs.Kinds.{Scalar, a_flag, number_within, time_within, a_power, one_of, a_name, an_event, Bounds, at_least, between, Absent, required, default, Field, Kind, single, name_list, post_list, event_list, step_list, map_list, keyed_maps, Setting, PlayerKinds}
 use Rattle.section_tables.specs.Entries.{written_at, handled_at}
 
 abbrev pub scalar_view : scalars.Scalar → Scalar

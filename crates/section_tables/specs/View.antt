@@ -6,7 +6,7 @@ use Rattle.yaml_subset.specs.declared.tree.Key.{Key}
 use Rattle.yaml_subset.specs.declared.tree.Tree.{Tree}
 use Rattle.yaml_subset.specs.Node.{Node, Pair}
 use Rattle.yaml_subset.specs.View.{node_view, pair_view}
-use Rattle.mpf_values.specs.Events.{Condition, Event}
+use Rattle.mpf_values.specs.Events.{Condition}
 use Rattle.section_tables.specs.declared.rows.Name.{Name}
 use Rattle.section_tables.specs.declared.rows.Guard.{Guard}
 use Rattle.section_tables.specs.declared.rows.Handler.{Handler}

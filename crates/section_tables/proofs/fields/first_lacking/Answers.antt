@@ -1,4 +1,4 @@
-use Rattle.std.proofs.Common.{◌≡◌, ◌<◌, length, map, sym, ◌∙◌}
+use Rattle.std.proofs.Common.{◌<◌, length, map, sym, ◌∙◌}
 use Rattle.section_tables.specs.Tables.{field_key, field_lacks}
 use Rattle.section_tables.specs.TableView.{field_view}
 use Rattle.section_tables.specs.Reading.{lacking}

@@ -1,4 +1,4 @@
-use Rattle.std.proofs.Common.{◌≡◌, ◌<◌, length, map, sym, ◌∙◌}
+use Rattle.std.proofs.Common.{◌<◌, length, map, sym, ◌∙◌}
 use Rattle.section_tables.specs.Tables.{setting_key, setting_lacks}
 use Rattle.section_tables.specs.TableView.{setting_view}
 use Rattle.section_tables.specs.Reading.{lacking}
