@@ -1,6 +1,7 @@
 //! The rows of sections.
 
 use mpf_values::Comparison;
+use std::mem::size_of;
 
 /// A name of 1 to 64 letters, digits, `_`, `-` and `.`, with the line where it is written,
 /// counted from 1; a name that is not written but holds by default has line 0.
@@ -71,6 +72,12 @@ pub enum Value {
     Maps(Vec<Fields>),
     Keyed(Vec<Keyed>),
 }
+
+const _: () = prove!(size_of::<Plain>() <= 24);
+
+const _: () = prove!(size_of::<Value>() <= 32);
+
+const _: () = prove!(size_of::<Handler>() <= 48);
 
 /// An entry of a section: its values in the order of the section's table.
 #[derive(Debug, Drop)]

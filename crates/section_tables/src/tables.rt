@@ -35,7 +35,11 @@ pub const SWITCHES: &[Setting] = &[
     ),
     setting!(b"tags", Kind::Names(ANY), Without::NoNames),
     setting!(b"events_when_activated", Kind::Posts(ANY), Without::NoPosts),
-    setting!(b"events_when_deactivated", Kind::Posts(ANY), Without::NoPosts),
+    setting!(
+        b"events_when_deactivated",
+        Kind::Posts(ANY),
+        Without::NoPosts
+    ),
 ];
 
 /// `event_player`: an event, and what is posted where it is handled.
