@@ -1,10 +1,11 @@
 -- What an answer means whose value is what is read.
 use Rattle.std.proofs.Common.{◌≡◌, ◌≢◌, ℕ, ◌<◌, Result, Ok, Err, IfOk, IfErr, refl, sym, ◌∙◌, inl, inr}
+use Rattle.section_tables.specs.Reading.{IsReadOrLong}
 use Rattle.section_tables.specs.declared.fault.ConfigFault.{ConfigFault}
 use Rattle.section_tables.specs.declared.fault.ConfigFault.TheVariants as faults
 use Rattle.section_tables.specs.Rows.{RowsFault}
 use Rattle.section_tables.specs.View.{fault_view, GivesRows}
-use Rattle.section_tables.proofs.Outcomes.{IsReadOrLong, only_read}
+use Rattle.section_tables.proofs.Outcomes.{only_read}
 
 -- read gives what Is relates, at lists of 1,024 items
 module _ {X Y : Type 0} (view : X → Y) (read : Result Y RowsFault) (Is : ℕ → Y → Type 0) where

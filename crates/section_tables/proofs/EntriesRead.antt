@@ -9,9 +9,9 @@ use Rattle.section_tables.specs.Kinds.{Setting, PlayerKinds}
 use Rattle.section_tables.specs.Entries.{entries_of, is_ignored, written_at}
 use Rattle.section_tables.specs.Tables.{setting_key, setting_default, setting_lacks}
 use Rattle.section_tables.specs.EntryOf.{IsSetting, IsEntry, AreEntries, IsPlayer, ArePlayers}
-use Rattle.section_tables.specs.Reading.{◌>>=◌, Spot, fault_at, key_spot, expect, each_read, scalar_of, value_at, setting_at, values_at, entry_at, entries_at, player_at, players_at}
+use Rattle.section_tables.specs.Reading.{IsReadOrLong, ◌>>=◌, Spot, fault_at, key_spot, expect, each_read, scalar_of, value_at, setting_at, values_at, entry_at, entries_at, player_at, players_at}
 use Rattle.section_tables.proofs.Steps.{bind_ok, guard_true, ok_is, expected}
-use Rattle.section_tables.proofs.Outcomes.{IsReadOrLong, then_read, each_sound, each_complete}
+use Rattle.section_tables.proofs.Outcomes.{then_read, each_sound, each_complete}
 use Rattle.section_tables.proofs.ScalarTexts.{scalar_sound, scalar_complete}
 use Rattle.section_tables.proofs.RowsRead.{row_sound, row_complete}
 use Rattle.section_tables.proofs.ValuesRead.{value_sound, value_complete}

@@ -13,9 +13,9 @@ use Rattle.section_tables.specs.Rows.{Written, Handled, Plain, RowsFault}
 use Rattle.section_tables.specs.Kinds.{Scalar, Bounds, fits}
 use Rattle.section_tables.specs.Entries.{nodes_of, written_at, handled_at}
 use Rattle.section_tables.specs.EntryOf.{IsPlain, AreListed, AreNodes, IsWritten, IsHandled}
-use Rattle.section_tables.specs.Reading.{◌>>=◌, Spot, fault_at, refused, expect, give, each_read, scalar_of, plain_at, name_at, handled_in, count_at, items_at, listed_at, list_nodes_at, nodes_at}
+use Rattle.section_tables.specs.Reading.{IsReadOrLong, ◌>>=◌, Spot, fault_at, refused, expect, give, each_read, scalar_of, plain_at, name_at, handled_in, count_at, items_at, listed_at, list_nodes_at, nodes_at}
 use Rattle.section_tables.proofs.Steps.{bind_ok, guard_true, guard_false, ok_is, expected}
-use Rattle.section_tables.proofs.Outcomes.{IsReadOrLong, then_read, each_sound, each_complete}
+use Rattle.section_tables.proofs.Outcomes.{then_read, each_sound, each_complete}
 use Rattle.section_tables.proofs.Options.{gave}
 use Rattle.section_tables.proofs.ScalarTexts.{scalar_sound, scalar_complete}
 

@@ -1,14 +1,10 @@
 -- Readings that give what is said, but where a list is too long.
-use Rattle.std.proofs.Common.{◌≡◌, ℕ, ◌<◌, true, false, List, [], ◌∷◌, Result, Ok, Err, refl, sym, subst, ◌∙◌, ◌⊎◌, inl, inr}
+use Rattle.std.proofs.Common.{◌≡◌, ℕ, true, false, List, [], ◌∷◌, Result, Ok, Err, refl, sym, subst, ◌∙◌, inl, inr}
 use Rattle.std.specs.List.{AllZip}
 use Rattle.std.specs.Result.{is_ok}
 use Rattle.section_tables.specs.Rows.{RowsFault}
-use Rattle.section_tables.specs.Reading.{◌>>=◌, each_read}
+use Rattle.section_tables.specs.Reading.{IsReadOrLong, ◌>>=◌, each_read}
 use Rattle.section_tables.proofs.Steps.{bind_ok, ok_is}
-
--- it is read, or it fails where lists may have more items than the limit
-abbrev pub IsReadOrLong : {B : Type 0} → ℕ → Result B RowsFault → B → Type 0
-IsReadOrLong longest r y = (r ≡ Ok y) ⊎ ((1024 < longest) × (is_ok r ≡ false))
 
 fails_on : {A B : Type 0} (r : Result A RowsFault) (f : A → Result B RowsFault) → is_ok r ≡ false → is_ok (r >>= f) ≡ false
 fails_on (Ok x) f e = absurd cc

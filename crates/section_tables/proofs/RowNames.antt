@@ -11,7 +11,7 @@ use Rattle.section_tables.specs.Kinds.{Scalar, a_flag, number_within, time_withi
 use Rattle.section_tables.specs.Entries.{is_ignored}
 use Rattle.section_tables.specs.Tables.{behind_one, found_in, field_key, field_default, setting_key, setting_default}
 use Rattle.section_tables.specs.EntryOf.{IsScalar, IsPlain, AreListed, AreNodes, IsWritten, IsHandled, OverwritesAt, IsOverwritten, IsField, pass, AreFields, IsKeyedRow, IsKeyed, IsStep, IsValue, IsSetting, IsEntry, AreEntries, IsPlayer, ArePlayers}
-use Rattle.section_tables.specs.Named.{IsNamedPlain, AreNames, AreNamedEvents, AreNamedPlains, IsNamedKeyed, IsNamedValue, IsNamedEntry, IsNamedPlayer, AreNamedFields, IsNamedKind, IsNamedTable, IsShort, IsShortTable}
+use Rattle.section_tables.specs.Named.{IsNamedPlain, IsNamedEvent, AreNames, AreNamedEvents, AreNamedPlains, IsNamedKeyed, IsNamedValue, IsNamedEntry, IsNamedPlayer, AreNamedFields, IsNamedKind, IsNamedTable, IsEventKind, IsNamedKinds, IsShort, IsShortTable}
 
 -- ---- lists
 
@@ -164,11 +164,20 @@ entries_short longest table p es q h =
 
 -- ---- players
 
-player_named : (longest : ℕ) (kinds : PlayerKinds) → IsNamedKind kinds.value → (p : Pair) (row : Player) → IsPlayer longest kinds p row → IsNamedPlayer row
-player_named longest kinds q p row h = record { event = scalar_named kinds.key p.line p.key row.event h.key; value = value_named longest kinds.value p.value row.value q h.value }
+event_named : (kind : Scalar) (line : ℕ) (text : List ℕ) (v : Plain) → IsEventKind kind → IsScalar kind line text v → IsNamedEvent v
+event_named a_flag line text v q h = absurd q
+event_named (number_within least greatest) line text v q h = absurd q
+event_named (time_within least greatest) line text v q h = absurd q
+event_named a_power line text v q h = absurd q
+event_named (one_of words) line text v q h = absurd q
+event_named a_name line text v q h = subst IsNamedEvent (sym h.1) h.0
+event_named an_event line text v q h = subst IsNamedEvent (sym h.2) h.1.is_name
+
+player_named : (longest : ℕ) (kinds : PlayerKinds) → IsNamedKinds kinds → (p : Pair) (row : Player) → IsPlayer longest kinds p row → IsNamedPlayer row
+player_named longest kinds q p row h = record { event = event_named kinds.key p.line p.key row.event q.key h.key; value = value_named longest kinds.value p.value row.value q.value h.value }
 
 -- Each name in the entries of a player is one.
-pub players_named : (longest : ℕ) (kinds : PlayerKinds) (p : Pair) (rows : List Player) → IsNamedKind kinds.value → ArePlayers longest kinds p rows → AllByRecursion IsNamedPlayer rows
+pub players_named : (longest : ℕ) (kinds : PlayerKinds) (p : Pair) (rows : List Player) → IsNamedKinds kinds → ArePlayers longest kinds p rows → AllByRecursion IsNamedPlayer rows
 players_named longest kinds p rows q h = all_zip (IsPlayer longest kinds) IsNamedPlayer (player_named longest kinds q) h.0 rows h.2
 
 -- No list in them has more items than the limit.

@@ -6,9 +6,9 @@ use Rattle.section_tables.specs.declared.fault.FaultKind.TheVariants.{UnknownSet
 use Rattle.section_tables.specs.Rows.{RowsFault}
 use Rattle.section_tables.specs.Tables.{found_in}
 use Rattle.section_tables.specs.EntryOf.{OverwritesAt, IsOverwritten, IsWhole}
-use Rattle.section_tables.specs.Reading.{Spot, fault_at, key_spot, put_at, overwritten_at, lacking, whole_from, row_at}
+use Rattle.section_tables.specs.Reading.{IsReadOrLong, Spot, fault_at, key_spot, put_at, overwritten_at, lacking, whole_from, row_at}
 use Rattle.section_tables.proofs.Steps.{bind_ok, guard_true, ok_is}
-use Rattle.section_tables.proofs.Outcomes.{IsReadOrLong, then_read}
+use Rattle.section_tables.proofs.Outcomes.{then_read}
 
 -- ---- nothing lacks
 

@@ -10,9 +10,9 @@ use Rattle.section_tables.specs.Kinds.{Scalar, at_least, Field, Kind, single, na
 use Rattle.section_tables.specs.Entries.{entries_of, written_at}
 use Rattle.section_tables.specs.Tables.{field_key, field_default, field_lacks}
 use Rattle.section_tables.specs.EntryOf.{IsWritten, IsHandled, IsField, pass, IsFieldRow, AreFields, IsKeyedRow, IsKeyed, AreKeyed, IsStep, IsValue}
-use Rattle.section_tables.specs.Reading.{◌>>=◌, Spot, fault_at, key_spot, expect, each_read, plain_at, name_at, handled_in, listed_at, nodes_at, field_at, fields_row_at, fields_at, keyed_row_at, keyed_at, keyed_list_at, value_at}
+use Rattle.section_tables.specs.Reading.{IsReadOrLong, ◌>>=◌, Spot, fault_at, key_spot, expect, each_read, plain_at, name_at, handled_in, listed_at, nodes_at, field_at, fields_row_at, fields_at, keyed_row_at, keyed_at, keyed_list_at, value_at}
 use Rattle.section_tables.proofs.Steps.{bind_ok, guard_true, ok_is, expected}
-use Rattle.section_tables.proofs.Outcomes.{IsReadOrLong, then_read, each_sound, each_complete}
+use Rattle.section_tables.proofs.Outcomes.{then_read, each_sound, each_complete}
 use Rattle.section_tables.proofs.ListValues.{plain_sound, plain_complete, name_sound, name_complete, handled_sound, handled_complete, listed_sound, listed_complete, nodes_sound, nodes_complete}
 use Rattle.section_tables.proofs.RowsRead.{row_sound, row_complete}
 

@@ -3,7 +3,7 @@ use Rattle.std.specs.Prelude.{ℕ, ◌≤◌, List, length}
 use Rattle.std.specs.List.{AllByRecursion}
 use Rattle.mpf_values.specs.Names.{IsName}
 use Rattle.section_tables.specs.Rows.{Written, Handled, Plain, name, event, Keyed, Value, one, names, posts, events, steps, maps, keyed, Entry, Player}
-use Rattle.section_tables.specs.Kinds.{Field, Kind, map_list, keyed_maps, Setting}
+use Rattle.section_tables.specs.Kinds.{Scalar, a_name, an_event, Field, Kind, map_list, keyed_maps, Setting, PlayerKinds}
 use Rattle.section_tables.specs.Tables.{field_default, setting_default}
 
 -- ---- names
@@ -39,9 +39,15 @@ pub record IsNamedEntry (e : Entry) : Type 0 where
   pub name : IsName e.name.text
   pub values : AllByRecursion IsNamedValue e.values
 
+-- an event whose name is one
+abbrev pub IsNamedEvent : Plain → Type 0
+IsNamedEvent (name w) = IsName w.text
+IsNamedEvent (event h) = IsName h.event.name
+IsNamedEvent _ = ⊥
+
 -- each name in an entry of a player is one
 pub record IsNamedPlayer (row : Player) : Type 0 where
-  pub event : IsNamedPlain row.event
+  pub event : IsNamedEvent row.event
   pub value : IsNamedValue row.value
 
 -- what holds by default in a table is named too
@@ -55,6 +61,16 @@ IsNamedKind _ = Unit {0}
 
 abbrev pub IsNamedTable : List Setting → Type 0
 IsNamedTable = AllByRecursion (λ s. IsNamedValue (setting_default s) × IsNamedKind s.kind)
+
+-- the keys of a player are events, and what holds by default in its values is named
+abbrev pub IsEventKind : Scalar → Type 0
+IsEventKind a_name = Unit {0}
+IsEventKind an_event = Unit {0}
+IsEventKind _ = ⊥
+
+pub record IsNamedKinds (kinds : PlayerKinds) : Type 0 where
+  pub key : IsEventKind kinds.key
+  pub value : IsNamedKind kinds.value
 
 -- ---- limits
 

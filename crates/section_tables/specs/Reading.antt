@@ -1,6 +1,7 @@
 -- Reading an entry by a table, from its first setting to its last, with the first fault that is met.
-use Rattle.std.specs.Prelude.{ℕ, nat_lt, nat_le, ◌&&◌, Bool, false, if◌then◌else◌, List, [], ◌∷◌, length, map, Option, Some, None, Result, Ok, Err, set}
+use Rattle.std.specs.Prelude.{◌≡◌, ℕ, ◌<◌, nat_lt, nat_le, ◌&&◌, Bool, false, if◌then◌else◌, List, [], ◌∷◌, length, map, Option, Some, None, Result, Ok, Err, set, ◌⊎◌}
 use Rattle.std.specs.List.{list_any}
+use Rattle.std.specs.Result.{is_ok}
 use Rattle.std.specs.Str.{bytes_eq}
 use Rattle.yaml_subset.specs.Node.{Node, Pair}
 use Rattle.yaml_subset.specs.View.{line_of, text_in}
@@ -192,3 +193,9 @@ player_at text kinds p =
 -- the entries of a player
 unfoldable pub players_at : List ℕ → PlayerKinds → Pair → Result (List Player) RowsFault
 players_at text kinds p = expect (key_spot text p) (entries_of p.value) >>= λ pairs. each_read (player_at text kinds) pairs
+
+-- ---- what reading finds
+
+-- it is read, or it fails where lists may have more items than the limit
+abbrev pub IsReadOrLong : {B : Type 0} → ℕ → Result B RowsFault → B → Type 0
+IsReadOrLong longest r y = (r ≡ Ok y) ⊎ ((1024 < longest) × (is_ok r ≡ false))

@@ -10,10 +10,10 @@ ghost use Rattle.section_tables.specs.View.{plain_view, plains_view, fields_view
 
 use crate::each::each;
 use crate::fault::{ConfigFault, FaultKind};
-use crate::nodes::{nodes, pairs, spot_of};
+use crate::nodes::{nodes, pairs};
 use crate::rows::{Fields, Keyed, Plain};
 use crate::scalars::{is_name, name_of, plain};
-use crate::spot::Spot;
+use crate::spot::{Spot, spot_of};
 use crate::table::{Absent, Bounds, Field, Others, Scalar};
 use std::alloc::{AllocError, Global};
 use yaml_subset::tree::{Key, Tree};

@@ -10,10 +10,11 @@ ghost use Rattle.section_tables.specs.View.{player_view, players_view, GivesRows
 
 use crate::each::each;
 use crate::fault::{ConfigFault, FaultKind};
-use crate::nodes::{pairs, spot_of};
+use crate::nodes::pairs;
 use crate::rows::Player;
 use crate::scalars::scalar;
 use crate::settings::value;
+use crate::spot::spot_of;
 use crate::table::PlayerKinds;
 use std::alloc::Global;
 use yaml_subset::tree::{Key, Tree};

@@ -14,17 +14,6 @@ use crate::table::Bounds;
 use std::alloc::Global;
 use yaml_subset::tree::{Key, Tree};
 
-/// Where a key stands, in the text of this name.
-pub fn spot_of<'a>(text: &'a [u8], key: &'a Key) -> Spot<'a>
-    ensures { spot_view result ≡ record { text = text.now; line = key.now.line; key = key.now.text.items } }
-{
-    Spot {
-        text,
-        line: key.line,
-        key: &key.text,
-    }
-}
-
 // The pairs of a mapping; the empty text is taken for a mapping without pairs.
 #[tactic(auto, unfolding(crate::specs::Entries::entries_of))]
 fn pairs_of(tree: &Tree) -> Option<&[(Key, Tree)]>

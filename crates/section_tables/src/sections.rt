@@ -10,10 +10,11 @@ ghost use Rattle.section_tables.specs.View.{entry_view, entries_view, GivesRows}
 
 use crate::each::each;
 use crate::fault::{ConfigFault, FaultKind};
-use crate::nodes::{pairs, spot_of};
+use crate::nodes::pairs;
 use crate::rows::Entry;
 use crate::scalars::{is_name, name_of};
 use crate::settings::values;
+use crate::spot::spot_of;
 use crate::table::Setting;
 use std::alloc::Global;
 use yaml_subset::tree::{Key, Tree};

@@ -6,6 +6,7 @@ ghost use Rattle.section_tables.specs.View.{spot_view, fault_view};
 
 use crate::fault::{Fault, FaultKind};
 use std::alloc::{AllocError, Global};
+use yaml_subset::tree::Key;
 
 /// Where a fault stands: its text's name, the line in that text, counted from 1, and the key
 /// that it is about.
@@ -27,5 +28,16 @@ impl Spot<'_> {
             line: self.line,
             key: Vec::from_slice(alloc, self.key)?,
         })
+    }
+}
+
+/// Where a key stands, in the text of this name.
+pub fn spot_of<'a>(text: &'a [u8], key: &'a Key) -> Spot<'a>
+    ensures { spot_view result ≡ record { text = text.now; line = key.now.line; key = key.now.text.items } }
+{
+    Spot {
+        text,
+        line: key.line,
+        key: &key.text,
     }
 }
