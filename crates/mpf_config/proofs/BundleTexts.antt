@@ -8,8 +8,9 @@ use Rattle.yaml_bytes.specs.Scanning.{behind_blanks, trimmed}
 use Rattle.yaml_bytes.proofs.PlainTexts.{trimmed_parts, trimmed_ends, trimmed_is, is_behind_blanks, no_blanks, in_front}
 use Rattle.mpf_config.specs.BundleText.{Text, first_line, behind_first_line, name_in, pieces_of, line_ends, numbered}
 use Rattle.mpf_config.specs.RowsOf.{IsFirstLine, IsBare, IsPiece, EndsLine, AreTexts}
-use Rattle.mpf_config.specs.Reading.{◌>>=◌, each_read, text_from, text_at, texts_at}
-use Rattle.mpf_config.proofs.Steps.{bind_ok, chosen, ok_is}
+use Rattle.section_tables.specs.Reading.{◌>>=◌, each_read}
+use Rattle.mpf_config.specs.Reading.{text_from, text_at, texts_at}
+use Rattle.section_tables.proofs.Steps.{bind_ok, chosen, ok_is}
 use Rattle.mpf_config.proofs.FirstLines.{splitting, begins_is}
 use Rattle.mpf_config.proofs.Pieces.{piece_sound, none_is_empty, BeginsAt, piece_complete}
 

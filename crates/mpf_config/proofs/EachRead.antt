@@ -1,11 +1,11 @@
 -- Lists that are read element by element, up to the first fault.
 use Rattle.std.proofs.Common.{◌≡◌, List, [], ◌∷◌, ◌++◌, Result, Ok, Err, refl, sym, ap, ◌∙◌, append_assoc}
 use Rattle.std.proofs.lemmas.List.{append-nil}
-use Rattle.mpf_config.specs.declared.fault.ConfigFault.{ConfigFault}
-use Rattle.mpf_config.specs.declared.fault.ConfigFault.TheVariants as faults
+use Rattle.section_tables.specs.declared.fault.ConfigFault.{ConfigFault}
+use Rattle.section_tables.specs.declared.fault.ConfigFault.TheVariants as faults
 use Rattle.mpf_config.specs.Rows.{RowsFault}
 use Rattle.mpf_config.specs.View.{fault_view, FailsRows}
-use Rattle.mpf_config.specs.Reading.{◌>>=◌, each_read}
+use Rattle.section_tables.specs.Reading.{◌>>=◌, each_read}
 
 -- what was read before, and what is still read
 abbrev pub with_front : {B : Type 0} → List B → Result (List B) RowsFault → Result (List B) RowsFault

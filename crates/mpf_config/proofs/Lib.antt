@@ -1,12 +1,7 @@
 pub mod Writing
 pub mod EachRead
-pub mod ListedNames
 pub mod Pairs
 pub mod Kept
-pub mod Steps
-pub mod Outcomes
-pub mod NameLists
-pub mod SwitchRows
 pub mod FirstLines
 pub mod Pieces
 pub mod BundleTexts

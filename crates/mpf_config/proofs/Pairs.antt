@@ -5,7 +5,7 @@ use Rattle.std.proofs.lemmas.List.{drop_all}
 use Rattle.yaml_subset.specs.declared.tree.Key.{Key}
 use Rattle.yaml_subset.specs.declared.tree.Tree.{Tree}
 use Rattle.yaml_subset.specs.View.{pair_view}
-use Rattle.mpf_config.specs.Inside.{pairs_view}
+use Rattle.section_tables.specs.View.{pairs_view}
 
 pub pairs_at : (entries : List (Key × Tree)) (i : ℕ) (entry : Key × Tree) → i < length entries → entry ≡ get_or entries i entry
     → pairs_view (drop i entries) ≡ pair_view entry ∷ pairs_view (drop (i + 1) entries)

@@ -1,16 +1,21 @@
 -- Every name in the rows of a bundle is one.
-use Rattle.std.proofs.Common.{◌≡◌, ◌≢◌, ℕ, true, false, List, [], ◌∷◌, Ok, refl, sym, ap, ◌∙◌, subst, true≢false}
-use Rattle.std.specs.List.{All, AllZip}
+use Rattle.std.proofs.Common.{◌≡◌, ◌≢◌, ℕ, zero, suc, Bool, true, false, if◌then◌else◌, List, [], ◌∷◌, map, Option, Some, None, slice_get, Ok, refl, sym, ap, ◌∙◌, true≢false, codes}
+use Rattle.std.specs.List.{All, AllByRecursion, AllZip}
+use Rattle.std.specs.Str.{bytes_eq}
 use Rattle.std.proofs.lemmas.List.Elements.{All-nil, All-cons, All-map, All-weaker, All-from_recursion}
-use Rattle.yaml_subset.specs.Node.{Node, Pair}
+use Rattle.yaml_subset.specs.Node.{Pair}
 use Rattle.mpf_values.specs.Bytes.{is_name_byte}
 use Rattle.mpf_values.specs.Names.{IsName}
-use Rattle.mpf_values.specs.Lists.{Item}
-use Rattle.mpf_config.specs.Rows.{Written, Switch, EventPlayer, SectionRows, switches, event_player, Rows}
-use Rattle.mpf_config.specs.Entries.{written_at, bare_switch}
+use Rattle.section_tables.specs.Rows.{Plain, nothing, flag, number, time, power, word, name, event, Value, one, names, posts, events, steps, maps, keyed, Entry, Player}
+use Rattle.section_tables.specs.Named.{IsNamedValue, IsNamedEvent, IsNamedEntry}
+use Rattle.section_tables.specs.Named as tables
+use Rattle.section_tables.proofs.RowNames.{entries_named, players_named}
+use Rattle.section_tables.proofs.TableNames.{table_named, kinds_named}
+use Rattle.mpf_config.specs.Rows.{Written, Content, entries, players, SectionRows, Rows}
+use Rattle.mpf_config.specs.Typed.{names_of, posts_of, event_name, switch_of, event_player_of, entries_in, players_in, switches_in, event_players_in}
 use Rattle.mpf_config.specs.Unread.{read_of}
-use Rattle.mpf_config.specs.RowsOf.{AreNames, Overwrites, contact, debounce, tags, activated, deactivated, ignored, IsOverwritten, IsSwitch, IsEventPlayer, IsSection}
-use Rattle.mpf_config.specs.Named.{AllNames, IsNamedSwitch, IsNamedPlayer, IsNamed}
+use Rattle.mpf_config.specs.RowsOf.{IsContent, IsSection}
+use Rattle.mpf_config.specs.Named.{AllNames, IsNamedSwitch, IsNamedPlayer, IsNamedContent, IsNamed}
 use Rattle.mpf_config.specs.Reading.{rows_at}
 use Rattle.mpf_config.proofs.Theorem.{rows_sound}
 
@@ -21,43 +26,100 @@ All-from_zip R P so [] (y ∷ ys) each = absurd each
 All-from_zip R P so (x ∷ xs) [] each = absurd each
 All-from_zip R P so (x ∷ xs) (y ∷ ys) each = All-cons P y ys (so x y each.0) (All-from_zip R P so xs ys each.1)
 
-names_named : (longest : ℕ) (value : Node) (names : List Written) → AreNames longest value names → AllNames names
-names_named longest value names h =
-    subst AllNames (sym h.says) (All-map (λ (w : Written). IsName w.text) (λ (item : Item). written_at item.line item.text) h.items (All-from_recursion (λ (item : Item). IsName item.text) h.items h.each))
-
--- a setting leaves the name, and puts in names
-setting_named : (longest : ℕ) (s : Pair) (row made : Switch) → Overwrites longest s row made → IsNamedSwitch row → IsNamedSwitch made
-setting_named longest s row made (contact _ _ _ x key is) h = record { name = h.name; tags = h.tags; activated = h.activated; deactivated = h.deactivated }
-setting_named longest s row made (debounce _ _ _ x key is) h = record { name = h.name; tags = h.tags; activated = h.activated; deactivated = h.deactivated }
-setting_named longest s row made (tags _ _ _ xs key are) h =
-    record { name = h.name; tags = names_named longest s.value xs are; activated = h.activated; deactivated = h.deactivated }
-setting_named longest s row made (activated _ _ _ xs key are) h =
-    record { name = h.name; tags = h.tags; activated = names_named longest s.value xs are; deactivated = h.deactivated }
-setting_named longest s row made (deactivated _ _ _ xs key are) h =
-    record { name = h.name; tags = h.tags; activated = h.activated; deactivated = names_named longest s.value xs are }
-setting_named longest s row made (ignored _ _ _ passed) h = h
-
-settings_named : (longest : ℕ) (settings : List Pair) (row made : Switch) → IsOverwritten longest settings row made → IsNamedSwitch row → IsNamedSwitch made
-settings_named longest [] row made same h = subst IsNamedSwitch (sym same) h
-settings_named longest (s ∷ ss) row made (next, first, rest) h = settings_named longest ss next made rest (setting_named longest s row next first h)
-
-switch_named : (longest : ℕ) (entry : Pair) (row : Switch) → IsSwitch longest entry row → IsNamedSwitch row
-switch_named longest entry row h =
-    let none : AllNames [] = All-nil (λ (w : Written). IsName w.text) in
-    settings_named longest h.settings (bare_switch (written_at entry.line entry.key)) row h.overwritten (record { name = h.name; tags = none; activated = none; deactivated = none })
-
-player_named : (longest : ℕ) (entry : Pair) (row : EventPlayer) → IsEventPlayer longest entry row → IsNamedPlayer row
-player_named longest entry row h = subst IsNamedPlayer (sym h.says) (record { event = h.event; posts = names_named longest entry.value h.posts h.are_posts })
-
-section_named : (longest : ℕ) (entry : Pair) (s : SectionRows) → IsSection longest entry s → IsNamed s
-section_named longest entry (switches rows) h = All-from_zip (IsSwitch longest) IsNamedSwitch (switch_named longest) h.1.0 rows h.1.2
-section_named longest entry (event_player rows) h = All-from_zip (IsEventPlayer longest) IsNamedPlayer (player_named longest) h.1.0 rows h.1.2
+content_named : (longest : ℕ) (p : Pair) (content : Content) → IsContent longest p content → IsNamedContent content
+content_named longest p (entries es) h = All-from_recursion IsNamedEntry es (entries_named longest h.0 p es (table_named p.key h.0 h.1) h.2)
+content_named longest p (players ps) h = All-from_recursion tables.IsNamedPlayer ps (players_named longest h.0 p ps (kinds_named p.key h.0 h.1) h.2)
 
 -- Every name in the rows that are read from a bundle is one.
 pub rows_are_named : (bundle : List ℕ) (rows : Rows) → rows_at bundle ≡ Ok rows → All IsNamed rows.machine
 rows_are_named bundle rows is =
     let h = rows_sound bundle rows is in
-    All-from_zip (IsSection 1024) IsNamed (section_named 1024) (read_of h.sections) rows.machine h.each
+    All-from_zip (IsSection 1024) IsNamed (λ p s k. content_named 1024 p s.content k.content) (read_of h.sections) rows.machine h.each
+
+-- ---- by the names of settings
+
+abbrev IsNamedOption : Option Value → Type 0
+IsNamedOption None = Unit {0}
+IsNamedOption (Some v) = IsNamedValue v
+
+value_at_named : (row : List Value) (i : ℕ) → AllByRecursion IsNamedValue row → IsNamedOption (slice_get row i)
+value_at_named [] i h = tt
+value_at_named (v ∷ vs) zero h = h.0
+value_at_named (v ∷ vs) (suc i) h = value_at_named vs i h.1
+
+abbrev is_name : Written → Type 0
+is_name w = IsName w.text
+
+names_named : (o : Option Value) → IsNamedOption o → AllNames (names_of o)
+names_named None h = All-nil is_name
+names_named (Some (one x)) h = All-nil is_name
+names_named (Some (names xs)) h = All-from_recursion is_name xs h
+names_named (Some (posts xs)) h = All-nil is_name
+names_named (Some (events xs)) h = All-nil is_name
+names_named (Some (steps xs)) h = All-nil is_name
+names_named (Some (maps xs)) h = All-nil is_name
+names_named (Some (keyed xs)) h = All-nil is_name
+
+posts_named : (o : Option Value) → IsNamedOption o → AllNames (posts_of o)
+posts_named None h = All-nil is_name
+posts_named (Some (one x)) h = All-nil is_name
+posts_named (Some (names xs)) h = All-nil is_name
+posts_named (Some (posts xs)) h = All-from_recursion is_name xs h
+posts_named (Some (events xs)) h = All-nil is_name
+posts_named (Some (steps xs)) h = All-nil is_name
+posts_named (Some (maps xs)) h = All-nil is_name
+posts_named (Some (keyed xs)) h = All-nil is_name
+
+event_named : (x : Plain) → IsNamedEvent x → IsName (event_name x).text
+event_named nothing h = absurd h
+event_named (flag b) h = absurd h
+event_named (number n) h = absurd h
+event_named (time ms) h = absurd h
+event_named (power n) h = absurd h
+event_named (word w) h = absurd h
+event_named (name w) h = h
+event_named (event e) h = h
+
+switch_named : (e : Entry) → IsNamedEntry e → IsNamedSwitch (switch_of e)
+unfolding switch_of
+switch_named e h = record {
+  name = h.name;
+  tags = names_named (slice_get e.values 2) (value_at_named e.values 2 h.values);
+  activated = posts_named (slice_get e.values 3) (value_at_named e.values 3 h.values);
+  deactivated = posts_named (slice_get e.values 4) (value_at_named e.values 4 h.values);
+}
+
+event_player_named : (p : Player) → tables.IsNamedPlayer p → IsNamedPlayer (event_player_of p)
+unfolding event_player_of
+event_player_named p h = record { event = event_named p.event h.event; posts = posts_named (Some p.value) h.value }
+
+entries_in_named : (content : Content) → IsNamedContent content → All IsNamedEntry (entries_in content)
+entries_in_named (entries es) h = h
+entries_in_named (players ps) h = All-nil IsNamedEntry
+
+players_in_named : (content : Content) → IsNamedContent content → All tables.IsNamedPlayer (players_in content)
+players_in_named (entries es) h = All-nil tables.IsNamedPlayer
+players_in_named (players ps) h = h
+
+all_where : {A : Type 0} (P : A → Type 0) (b : Bool) (xs : List A) → All P xs → All P (if b then xs else [])
+all_where P true xs h = h
+all_where P false xs h = All-nil P
+
+-- The names in the switches of a section are names.
+pub switches_named : (s : SectionRows) → IsNamed s → All IsNamedSwitch (switches_in s)
+unfolding switches_in
+switches_named s h =
+    let es = entries_in s.content in
+    all_where IsNamedSwitch (bytes_eq s.name (codes "switches")) (map switch_of es)
+    (All-map IsNamedSwitch switch_of es (All-weaker IsNamedEntry (λ e. IsNamedSwitch (switch_of e)) switch_named es (entries_in_named s.content h)))
+
+-- Those in the entries of `event_player` are, too.
+pub event_players_named : (s : SectionRows) → IsNamed s → All IsNamedPlayer (event_players_in s)
+unfolding event_players_in
+event_players_named s h =
+    let ps = players_in s.content in
+    all_where IsNamedPlayer (bytes_eq s.name (codes "event_player")) (map event_player_of ps)
+    (All-map IsNamedPlayer event_player_of ps (All-weaker tables.IsNamedPlayer (λ p. IsNamedPlayer (event_player_of p)) event_player_named ps (players_in_named s.content h)))
 
 -- ---- what a name is not
 
@@ -65,7 +127,7 @@ other_byte : (other b : ℕ) → is_name_byte other ≡ false → is_name_byte b
 other_byte other b none is same = true≢false (sym is ∙ ap is_name_byte same ∙ none)
 
 -- No byte of a name is a blank or ends a line.
-pub name_bytes : (name : List ℕ) → IsName name → All (λ b. (b ≢ 32) × (b ≢ 9) × (b ≢ 10)) name
-name_bytes name h =
-    All-weaker (λ b. is_name_byte b ≡ true) (λ b. (b ≢ 32) × (b ≢ 9) × (b ≢ 10)) (λ b is. (other_byte 32 b refl is, other_byte 9 b refl is, other_byte 10 b refl is)) name
-    (All-from_recursion (λ b. is_name_byte b ≡ true) name h.bytes)
+pub name_bytes : (text : List ℕ) → IsName text → All (λ b. (b ≢ 32) × (b ≢ 9) × (b ≢ 10)) text
+name_bytes text h =
+    All-weaker (λ b. is_name_byte b ≡ true) (λ b. (b ≢ 32) × (b ≢ 9) × (b ≢ 10)) (λ b is. (other_byte 32 b refl is, other_byte 9 b refl is, other_byte 10 b refl is)) text
+    (All-from_recursion (λ b. is_name_byte b ≡ true) text h.bytes)

@@ -10,11 +10,12 @@ use Rattle.std.proofs.lemmas.List.Elements.{Decides-contains}
 use Rattle.std.proofs.lemmas.Slice.Eq.{bytes_eq-Decides}
 use Rattle.yaml_subset.specs.Keys.{is_among}
 use Rattle.mpf_config.specs.declared.texts.Text as texts
-use Rattle.mpf_config.specs.declared.fault.FaultKind.TheVariants.{Duplicate}
+use Rattle.section_tables.specs.declared.fault.FaultKind.TheVariants.{Duplicate}
 use Rattle.mpf_config.specs.BundleText.{Text, machine_name}
 use Rattle.mpf_config.specs.RowsOf.{AreNew}
-use Rattle.mpf_config.specs.Reading.{line_spot, fault_at, machine_at, new_at}
-use Rattle.mpf_config.proofs.Steps.{guard_false, chosen, ok_is}
+use Rattle.section_tables.specs.Reading.{fault_at}
+use Rattle.mpf_config.specs.Reading.{line_spot, machine_at, new_at}
+use Rattle.section_tables.proofs.Steps.{guard_false, chosen, ok_is}
 use Rattle.mpf_config.specs.Inside.{texts_view}
 
 -- which names were taken matters, and not in which order

@@ -11,20 +11,21 @@ use Rattle.yaml_subset.proofs.LineContents.{one_content}
 use Rattle.yaml_subset.proofs.Levels.{one_tree}
 use Rattle.yaml_subset.proofs.Theorem.{read_sound, is_refused as no_tree}
 use Rattle.mpf_config.specs.declared.config.Config.{Config}
-use Rattle.mpf_config.specs.declared.fault.ConfigFault.{ConfigFault}
-use Rattle.mpf_config.specs.declared.fault.ConfigFault.TheVariants as faults
-use Rattle.mpf_config.specs.declared.fault.FaultKind.TheVariants.{Version, Limit}
+use Rattle.section_tables.specs.declared.fault.ConfigFault.{ConfigFault}
+use Rattle.section_tables.specs.declared.fault.ConfigFault.TheVariants as faults
+use Rattle.section_tables.specs.declared.fault.FaultKind.TheVariants.{Version, Limit}
 use Rattle.mpf_config.specs.Rows.{SectionRows, Rows, RowsFault}
 use Rattle.mpf_config.specs.View.{rows_view, fault_view, GivesRows}
 use Rattle.mpf_config.specs.BundleText.{Text, machine_name, behind_first_line, has_version}
 use Rattle.mpf_config.specs.Unread.{skipped_notes, unlisted_notes}
 use Rattle.mpf_config.specs.RowsOf.{AreTexts, IsRowsOf, IsAbove}
-use Rattle.mpf_config.specs.Reading.{◌>>=◌, fault_at, line_spot, texts_at, machine_at, new_at, tree_from, tree_at, sections_in, sections_at, rows_at}
-use Rattle.mpf_config.proofs.Steps.{bind_ok, guard_true, guard_false, ok_is}
+use Rattle.section_tables.specs.Reading.{◌>>=◌, fault_at}
+use Rattle.mpf_config.specs.Reading.{line_spot, texts_at, machine_at, new_at, tree_from, tree_at, sections_in, sections_at, rows_at}
+use Rattle.section_tables.proofs.Steps.{bind_ok, guard_true, guard_false, ok_is}
 use Rattle.mpf_config.proofs.FirstLines.{version_sound, version_complete}
 use Rattle.mpf_config.proofs.BundleTexts.{texts_sound, texts_complete}
 use Rattle.mpf_config.proofs.TextNames.{new_sound, new_complete, machine_sound, machine_complete}
-use Rattle.mpf_config.proofs.Outcomes.{only_read}
+use Rattle.section_tables.proofs.Outcomes.{only_read}
 use Rattle.mpf_config.proofs.Meaning.{sections_sound, sections_complete, pairs_sound, pairs_complete}
 
 -- ---- the tree of a text

@@ -3,7 +3,8 @@ use Rattle.std.proofs.Common.{◌≡◌, ℕ, List, [], ◌∷◌, ◌++◌, Opt
 use Rattle.std.specs.Fmt.{decimal}
 use Rattle.std.specs.Io.KnownBytes.{Appends}
 use Rattle.mpf_config.specs.Rows.{RowsFault}
-use Rattle.mpf_config.specs.FaultLine.{number_of, kind_name, spaced, fault_line}
+use Rattle.section_tables.specs.FaultNames.{number_of, kind_name}
+use Rattle.mpf_config.specs.FaultLine.{spaced, fault_line}
 
 -- x and then y
 joins : (a b c : Option (List ℕ)) (x y : List ℕ) → Appends a b x → Appends b c y → Appends a c (x ++ y)

@@ -1,5 +1,5 @@
 pub mod Rows
-pub mod Entries
+pub mod Typed
 pub mod BundleText
 pub mod Unread
 pub mod RowsOf

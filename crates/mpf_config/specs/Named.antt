@@ -1,7 +1,9 @@
 -- What it means that every name in the rows of a section is one: 1 to 64 letters, digits, `_`, `-` and `.`.
 use Rattle.std.specs.Prelude.{List}
 use Rattle.std.specs.List.{All}
-use Rattle.mpf_config.specs.Rows.{Written, Switch, EventPlayer, SectionRows, switches, event_player}
+use Rattle.section_tables.specs.Named.{IsNamedEntry}
+use Rattle.section_tables.specs.Named as tables
+use Rattle.mpf_config.specs.Rows.{Written, Switch, EventPlayer, Content, entries, players, SectionRows}
 pub use Rattle.mpf_values.specs.Names.{IsName}
 
 -- each name in a list is one
@@ -20,7 +22,10 @@ pub record IsNamedPlayer (p : EventPlayer) : Type 0 where
   pub event : IsName p.event.text
   pub posts : AllNames p.posts
 
--- so it is in each row of the section
+-- so it is in each entry of a section, whatever its settings are
+abbrev pub IsNamedContent : Content → Type 0
+IsNamedContent (entries es) = All IsNamedEntry es
+IsNamedContent (players ps) = All tables.IsNamedPlayer ps
+
 abbrev pub IsNamed : SectionRows → Type 0
-IsNamed (switches entries) = All IsNamedSwitch entries
-IsNamed (event_player entries) = All IsNamedPlayer entries
+IsNamed s = IsNamedContent s.content

@@ -6,110 +6,30 @@ use Rattle.yaml_subset.specs.declared.fault.Fault as yaml
 use Rattle.yaml_subset.specs.Node.{Node, Pair}
 use Rattle.yaml_subset.specs.Reading.{read_at}
 use Rattle.yaml_subset.specs.Keys.{is_among}
-use Rattle.yaml_subset.specs.View.{line_of, text_in, pairs_in}
-use Rattle.mpf_config.specs.declared.fault.FaultKind.{FaultKind}
-use Rattle.mpf_config.specs.declared.fault.FaultKind.TheVariants.{Bundle, Version, Yaml, UnknownSection, UnknownSetting, BadValue, Duplicate, Limit}
-use Rattle.mpf_config.specs.declared.config.Contact.{Contact}
-use Rattle.mpf_config.specs.declared.config.Debounce.{Debounce}
-use Rattle.mpf_config.specs.Rows.{Written, Switch, EventPlayer, SectionRows, switches, event_player, Rows, RowsFault}
+use Rattle.yaml_subset.specs.View.{line_of, pairs_in}
+use Rattle.section_tables.specs.declared.fault.FaultKind.TheVariants.{Bundle, Version, Yaml, UnknownSection, Duplicate, Limit}
+use Rattle.section_tables.specs.Kinds.{Setting, PlayerKinds}
+use Rattle.section_tables.specs.SectionTables.{table_of, player_of}
+use Rattle.section_tables.specs.Reading.{Spot, refused, key_spot, expect, each_read, entries_at, players_at}
+use Rattle.mpf_config.specs.Rows.{entries, players, SectionRows, Rows, RowsFault}
 use Rattle.mpf_config.specs.FaultLine.{yaml_kind_name}
-use Rattle.mpf_config.specs.Entries.{entries_of, is_ignored, written_at, bare_switch, with_contact, with_debounce, with_tags, with_activated, with_deactivated, contact_of, debounce_of}
 use Rattle.mpf_config.specs.BundleText.{Text, machine_name, first_line, behind_first_line, name_in, pieces_of, numbered, has_version}
 use Rattle.mpf_config.specs.Unread.{read_of, skipped_notes, unlisted_notes}
-use Rattle.mpf_values.specs.Lists.{Item}
-use Rattle.mpf_values.specs.Reading.{is_name, list_at}
-
--- where a fault stands: in which text, at which line, and with which key
-pub record Spot : Type 0 where
-  pub text : List ℕ
-  pub line : ℕ
-  pub key : List ℕ
-
-abbrev pub fault_at : FaultKind → Spot → RowsFault
-fault_at kind spot = record { kind = kind; text = spot.text; line = spot.line; key = spot.key }
-
-abbrev pub refused : {A : Type 0} → FaultKind → Spot → Result A RowsFault
-refused kind spot = Err (fault_at kind spot)
-
--- what f gives for each, or the first fault
-unfoldable pub each_read : {A B : Type 0} → (A → Result B RowsFault) → List A → Result (List B) RowsFault
-each_read f [] = Ok []
-each_read f (x ∷ xs) = f x >>= λ y. each_read f xs >>= λ ys. Ok (y ∷ ys)
-
--- ---- entries
 
 -- a line of a bundle, or of a text as a whole
 abbrev pub line_spot : List ℕ → ℕ → Spot
 line_spot text line = record { text = text; line = line; key = codes "-" }
 
--- the key of an entry
-abbrev pub key_spot : List ℕ → Pair → Spot
-key_spot text entry = record { text = text; line = entry.line; key = entry.key }
-
--- the entries of a section or of an entry in it
-abbrev pub expect : {A : Type 0} → Spot → Option A → Result A RowsFault
-expect spot (Some x) = Ok x
-expect spot None = refused BadValue spot
-
-unfoldable pub entries_at : List ℕ → Pair → Result (List Pair) RowsFault
-entries_at text p = expect (key_spot text p) (entries_of p.value)
-
--- ---- lists of names
-
-unfoldable pub name_at : Spot → Item → Result Written RowsFault
-name_at spot item = if is_name item.text then Ok (written_at item.line item.text) else refused BadValue spot
-
--- the names in a list
-unfoldable pub names_at : Spot → Node → Result (List Written) RowsFault
-names_at spot value =
-    expect spot (list_at value) >>= λ items. (if nat_lt 1024 (length items) then refused Limit spot else each_read (name_at spot) items)
-
--- ---- `switches`
-
-unfoldable pub contact_at : Spot → Node → Result Contact RowsFault
-contact_at spot value = expect spot (text_in value) >>= λ word. expect spot (contact_of word)
-
-unfoldable pub debounce_at : Spot → Node → Result Debounce RowsFault
-debounce_at spot value = expect spot (text_in value) >>= λ word. expect spot (debounce_of word)
-
--- a switch, overwritten by one setting
-unfoldable pub setting_at : List ℕ → Pair → Switch → Result Switch RowsFault
-setting_at text p row =
-    if bytes_eq p.key (codes "type") then (contact_at (key_spot text p) p.value >>= λ x. Ok (with_contact x row))
-    else (if bytes_eq p.key (codes "debounce") then (debounce_at (key_spot text p) p.value >>= λ x. Ok (with_debounce x row))
-    else (if bytes_eq p.key (codes "tags") then (names_at (key_spot text p) p.value >>= λ xs. Ok (with_tags xs row))
-    else (if bytes_eq p.key (codes "events_when_activated") then (names_at (key_spot text p) p.value >>= λ xs. Ok (with_activated xs row))
-    else (if bytes_eq p.key (codes "events_when_deactivated") then (names_at (key_spot text p) p.value >>= λ xs. Ok (with_deactivated xs row))
-    else (if is_ignored p.key then Ok row else refused UnknownSetting (key_spot text p))))))
-
--- a switch, overwritten by settings, one after the other
-abbrev pub settings_at : List ℕ → List Pair → Switch → Result Switch RowsFault
-settings_at text [] row = Ok row
-settings_at text (p ∷ ps) row = setting_at text p row >>= λ next. settings_at text ps next
-
-unfoldable pub switch_at : List ℕ → Pair → Result Switch RowsFault
-switch_at text p =
-    if is_name p.key
-    then (entries_at text p >>= λ settings. settings_at text settings (bare_switch (written_at p.line p.key)))
-    else refused BadValue (key_spot text p)
-
--- ---- `event_player`
-
-unfoldable pub event_player_at : List ℕ → Pair → Result EventPlayer RowsFault
-event_player_at text p =
-    if is_name p.key
-    then (names_at (key_spot text p) p.value >>= λ posts. Ok (record { event = written_at p.line p.key; posts = posts }))
-    else refused BadValue (key_spot text p)
-
 -- ---- sections
 
+-- a section by the table of its entries, or by the kinds of a player
+abbrev pub section_from : List ℕ → Pair → Option (List Setting) → Option PlayerKinds → Result SectionRows RowsFault
+section_from text p (Some table) kinds = entries_at text table p >>= λ es. Ok (record { name = p.key; content = entries es })
+section_from text p None (Some kinds) = players_at text kinds p >>= λ ps. Ok (record { name = p.key; content = players ps })
+section_from text p None None = refused UnknownSection (key_spot text p)
+
 unfoldable pub section_at : List ℕ → Pair → Result SectionRows RowsFault
-section_at text p =
-    if bytes_eq p.key (codes "switches")
-    then (entries_at text p >>= λ entries. each_read (switch_at text) entries >>= λ rows. Ok (switches rows))
-    else (if bytes_eq p.key (codes "event_player")
-    then (entries_at text p >>= λ entries. each_read (event_player_at text) entries >>= λ rows. Ok (event_player rows))
-    else refused UnknownSection (key_spot text p))
+section_at text p = section_from text p (table_of p.key) (player_of p.key)
 
 -- the sections that a tree has
 unfoldable pub sections_in : List ℕ → Node → Result (List Pair) RowsFault

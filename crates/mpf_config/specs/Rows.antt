@@ -3,12 +3,7 @@ use Rattle.std.specs.Prelude.{ℕ, List}
 use Rattle.mpf_config.specs.declared.config.Contact.{Contact}
 use Rattle.mpf_config.specs.declared.config.Debounce.{Debounce}
 use Rattle.mpf_config.specs.declared.config.NoteKind.{NoteKind}
-use Rattle.mpf_config.specs.declared.fault.FaultKind.{FaultKind}
-
--- a name, with the line where it is written
-pub record Written : Type 0 where
-  pub line : ℕ
-  pub text : List ℕ
+pub use Rattle.section_tables.specs.Rows.{Written, Entry, Player, RowsFault}
 
 -- an entry of `switches`
 pub record Switch : Type 0 where
@@ -24,10 +19,15 @@ pub record EventPlayer : Type 0 where
   pub event : Written
   pub posts : List Written
 
--- a section, with its entries as written
-pub data SectionRows : Type 0 where
-  switches : List Switch → SectionRows
-  event_player : List EventPlayer → SectionRows
+-- what stands in a section, as written: entries by its table, or those of a player
+pub data Content : Type 0 where
+  entries : List Entry → Content
+  players : List Player → Content
+
+-- a section by its name
+pub record SectionRows : Type 0 where
+  pub name : List ℕ
+  pub content : Content
 
 -- a part of the bundle that is not read, and is no fault: in which text, at which line, and of which name
 pub record Note : Type 0 where
@@ -40,10 +40,3 @@ pub record Note : Type 0 where
 pub record Rows : Type 0 where
   pub machine : List SectionRows
   pub notes : List Note
-
--- what is wrong, in which text, at which line, and with which key
-pub record RowsFault : Type 0 where
-  pub kind : FaultKind
-  pub text : List ℕ
-  pub line : ℕ
-  pub key : List ℕ

@@ -1,19 +1,17 @@
 -- The rows of a bundle: what they are, however a bundle is read.
-use Rattle.std.specs.Prelude.{◌≡◌, ◌≢◌, ℕ, ◌<◌, ◌≤◌, ◌^◌, true, false, List, [], ◌∷◌, ◌++◌, length, map, Option, Some, ◌⊎◌, codes}
-use Rattle.std.specs.List.{Contains, AllByRecursion, AllZip}
+use Rattle.std.specs.Prelude.{◌≡◌, ◌≢◌, ℕ, ◌<◌, ◌^◌, false, List, [], ◌∷◌, ◌++◌, length, Some, ◌⊎◌}
+use Rattle.std.specs.List.{Contains, AllZip}
 use Rattle.yaml_bytes.specs.Bytes.{begins_blank}
 use Rattle.yaml_bytes.specs.Plain.{AreBlank, EndsInNoBlank}
 use Rattle.yaml_bytes.specs.Lines.{ends_line}
 use Rattle.yaml_subset.specs.Node.{Node, Pair}
-use Rattle.yaml_subset.specs.View.{text_in, pairs_in}
+use Rattle.yaml_subset.specs.View.{pairs_in}
 use Rattle.yaml_subset.specs.TreeOf.{IsTreeOf}
 use Rattle.yaml_subset.specs.TreeOf as yaml
-use Rattle.mpf_config.specs.declared.config.Contact.{Contact}
-use Rattle.mpf_config.specs.declared.config.Debounce.{Debounce}
-use Rattle.mpf_config.specs.Rows.{Written, Switch, EventPlayer, SectionRows, switches, event_player, Rows}
-use Rattle.mpf_values.specs.Names.{IsName}
-use Rattle.mpf_values.specs.Lists.{Item, IsList}
-use Rattle.mpf_config.specs.Entries.{entries_of, is_ignored, written_at, bare_switch, with_contact, with_debounce, with_tags, with_activated, with_deactivated, contact_of, debounce_of}
+use Rattle.section_tables.specs.Kinds.{Setting, PlayerKinds}
+use Rattle.section_tables.specs.SectionTables.{table_of, player_of}
+use Rattle.section_tables.specs.EntryOf.{AreEntries, ArePlayers}
+use Rattle.mpf_config.specs.Rows.{Content, entries, players, SectionRows, Rows}
 use Rattle.mpf_config.specs.BundleText.{Text, machine_name, version_line}
 use Rattle.mpf_config.specs.Unread.{read_of, skipped_notes, unlisted_notes}
 
@@ -70,56 +68,17 @@ AreNew names (t ∷ ts) = (Contains names t.name → ⊥) × AreNew (t.name ∷ 
 abbrev pub IsMachineText : List ℕ → List ℕ → Type 0
 IsMachineText bundle text = (texts : List Text) × AreTexts bundle texts × Contains texts (record { name = machine_name; text = text })
 
--- ---- values
+-- ---- sections
 
--- the names in a list of at most so many items
-pub record AreNames (longest : ℕ) (value : Node) (names : List Written) : Type 0 where
-  pub items : List Item
-  pub list : IsList value items
-  pub few : length items ≤ longest
-  pub each : AllByRecursion (λ item. IsName item.text) items
-  pub says : names ≡ map (λ item. written_at item.line item.text) items
-
--- a word that a scalar is
-abbrev pub IsWord : {A : Type 0} → (List ℕ → Option A) → Node → A → Type 0
-IsWord meaning value x = (word : List ℕ) × (text_in value ≡ Some word) × (meaning word ≡ Some x)
-
--- ---- entries of the sections
-
--- a switch, and what one setting makes of it
-pub data Overwrites : ℕ → Pair → Switch → Switch → Type 0 where
-  contact : (longest : ℕ) (s : Pair) (row : Switch) (x : Contact) → s.key ≡ codes "type" → IsWord contact_of s.value x → Overwrites longest s row (with_contact x row)
-  debounce : (longest : ℕ) (s : Pair) (row : Switch) (x : Debounce) → s.key ≡ codes "debounce" → IsWord debounce_of s.value x → Overwrites longest s row (with_debounce x row)
-  tags : (longest : ℕ) (s : Pair) (row : Switch) (xs : List Written) → s.key ≡ codes "tags" → AreNames longest s.value xs → Overwrites longest s row (with_tags xs row)
-  activated : (longest : ℕ) (s : Pair) (row : Switch) (xs : List Written) → s.key ≡ codes "events_when_activated" → AreNames longest s.value xs → Overwrites longest s row (with_activated xs row)
-  deactivated : (longest : ℕ) (s : Pair) (row : Switch) (xs : List Written) → s.key ≡ codes "events_when_deactivated" → AreNames longest s.value xs → Overwrites longest s row (with_deactivated xs row)
-  ignored : (longest : ℕ) (s : Pair) (row : Switch) → is_ignored s.key ≡ true → Overwrites longest s row row
-
--- a switch, and what settings make of it
-abbrev pub IsOverwritten : ℕ → List Pair → Switch → Switch → Type 0
-IsOverwritten longest [] row made = made ≡ row
-IsOverwritten longest (s ∷ ss) row made = (next : Switch) × Overwrites longest s row next × IsOverwritten longest ss next made
-
--- a switch: the default, overwritten by its settings
-pub record IsSwitch (longest : ℕ) (entry : Pair) (row : Switch) : Type 0 where
-  pub name : IsName entry.key
-  pub settings : List Pair
-  pub has : entries_of entry.value ≡ Some settings
-  pub overwritten : IsOverwritten longest settings (bare_switch (written_at entry.line entry.key)) row
-
--- an event, and the names in its list
-pub record IsEventPlayer (longest : ℕ) (entry : Pair) (row : EventPlayer) : Type 0 where
-  pub event : IsName entry.key
-  pub posts : List Written
-  pub are_posts : AreNames longest entry.value posts
-  pub says : row ≡ record { event = written_at entry.line entry.key; posts = posts }
+-- what stands in a section, by its name: entries by its table, or those of a player
+abbrev pub IsContent : ℕ → Pair → Content → Type 0
+IsContent longest entry (entries es) = (table : List Setting) × (table_of entry.key ≡ Some table) × AreEntries longest table entry es
+IsContent longest entry (players ps) = (kinds : PlayerKinds) × (player_of entry.key ≡ Some kinds) × ArePlayers longest kinds entry ps
 
 -- a section by its name, and a row for each of its entries
-abbrev pub IsSection : ℕ → Pair → SectionRows → Type 0
-IsSection longest entry (switches rows) =
-    (entry.key ≡ codes "switches") × ((entries : List Pair) × (entries_of entry.value ≡ Some entries) × AllZip (IsSwitch longest) entries rows)
-IsSection longest entry (event_player rows) =
-    (entry.key ≡ codes "event_player") × ((entries : List Pair) × (entries_of entry.value ≡ Some entries) × AllZip (IsEventPlayer longest) entries rows)
+pub record IsSection (longest : ℕ) (entry : Pair) (s : SectionRows) : Type 0 where
+  pub name : s.name ≡ entry.key
+  pub content : IsContent longest entry s.content
 
 -- ---- the rows
 

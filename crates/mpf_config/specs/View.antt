@@ -1,36 +1,23 @@
 -- What contracts see of the rows, and of an answer.
-use Rattle.std.specs.Prelude.{◌≡◌, map, Result, Ok, Err}
-use Rattle.mpf_config.specs.declared.config.Name.{Name}
-use Rattle.mpf_config.specs.declared.config.SwitchRow.{SwitchRow}
-use Rattle.mpf_config.specs.declared.config.Note as notes
-use Rattle.mpf_config.specs.declared.config.EventPlayerRow.{EventPlayerRow}
+use Rattle.std.specs.Prelude.{map}
+use Rattle.mpf_config.specs.declared.config.Content as contents
+use Rattle.mpf_config.specs.declared.config.Content.TheVariants as content
 use Rattle.mpf_config.specs.declared.config.Section.{Section}
-use Rattle.mpf_config.specs.declared.config.Section.TheVariants as sections
+use Rattle.mpf_config.specs.declared.config.Note as notes
 use Rattle.mpf_config.specs.declared.config.Config.{Config}
-use Rattle.mpf_config.specs.declared.fault.Fault.{Fault}
-use Rattle.mpf_config.specs.declared.fault.ConfigFault.{ConfigFault}
-use Rattle.mpf_config.specs.declared.fault.ConfigFault.TheVariants as faults
-use Rattle.mpf_config.specs.Rows.{Written, Switch, EventPlayer, SectionRows, switches, event_player, Note, Rows, RowsFault}
+use Rattle.mpf_config.specs.declared.typed.NameAt.{NameAt}
+use Rattle.mpf_config.specs.declared.typed.Switch as typed_switches
+use Rattle.mpf_config.specs.declared.typed.EventPlayer as typed_players
+use Rattle.section_tables.specs.View.{entries_view, players_view}
+use Rattle.mpf_config.specs.Rows.{Written, Switch, EventPlayer, Content, entries, players, SectionRows, Note, Rows}
+pub use Rattle.section_tables.specs.View.{name_view, fault_view, FailsRows, GivesRows}
 
-abbrev pub name_view : Name → Written
-name_view n = record { line = n.line; text = n.text.items }
-
-abbrev pub switch_view : SwitchRow → Switch
-switch_view s = record {
-  name = name_view s.name;
-  contact = s.contact;
-  debounce = s.debounce;
-  tags = map name_view s.tags.items;
-  activated = map name_view s.activated.items;
-  deactivated = map name_view s.deactivated.items;
-}
-
-abbrev pub player_view : EventPlayerRow → EventPlayer
-player_view p = record { event = name_view p.event; posts = map name_view p.posts.items }
+abbrev pub content_view : contents.Content → Content
+content_view (content.Entries es) = entries (entries_view es)
+content_view (content.Players ps) = players (players_view ps)
 
 abbrev pub section_view : Section → SectionRows
-section_view (sections.Switches rows) = switches (map switch_view rows.items)
-section_view (sections.EventPlayer rows) = event_player (map player_view rows.items)
+section_view s = record { name = s.name.items; content = content_view s.content }
 
 abbrev pub note_view : notes.Note → Note
 note_view n = record { kind = n.kind; text = n.text.items; line = n.line; name = n.name.items }
@@ -38,14 +25,20 @@ note_view n = record { kind = n.kind; text = n.text.items; line = n.line; name =
 abbrev pub rows_view : Config → Rows
 rows_view c = record { machine = map section_view c.machine.sections.items; notes = map note_view c.notes.items }
 
-abbrev pub fault_view : Fault → RowsFault
-fault_view f = record { kind = f.kind; text = f.text.items; line = f.line; key = f.key.items }
+-- ---- entries by the names of their settings
 
--- An answer, seen by view, is what reading gives, unless memory ran out.
-abbrev pub FailsRows : {Y : Type 0} → ConfigFault → Result Y RowsFault → Type 0
-FailsRows faults.NoMemory read = Unit {0}
-FailsRows (faults.Bundle f) read = read ≡ Err (fault_view f)
+abbrev pub name_at_view : NameAt → Written
+name_at_view n = record { line = n.line; text = n.text.now }
 
-abbrev pub GivesRows : {X Y : Type 0} → (X → Y) → Result X ConfigFault → Result Y RowsFault → Type 0
-GivesRows view (Ok x) read = read ≡ Ok (view x)
-GivesRows view (Err e) read = FailsRows e read
+abbrev pub switch_view : typed_switches.Switch → Switch
+switch_view s = record {
+  name = name_view s.name.now;
+  contact = s.contact;
+  debounce = s.debounce;
+  tags = map name_view s.tags.now;
+  activated = map name_view s.activated.now;
+  deactivated = map name_view s.deactivated.now;
+}
+
+abbrev pub event_player_view : typed_players.EventPlayer → EventPlayer
+event_player_view p = record { event = name_at_view p.event; posts = map name_view p.posts.now }

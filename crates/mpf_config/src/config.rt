@@ -1,12 +1,6 @@
 //! The rows of a bundle.
 
-/// A name of 1 to 64 letters, digits, `_`, `-` and `.`, with the line where it is written,
-/// counted from 1.
-#[derive(Debug, Drop)]
-pub struct Name {
-    pub line: u32,
-    pub text: Vec<u8>,
-}
+use section_tables::rows::{Entry, Player};
 
 /// How a switch's contact stands while nothing presses it.
 #[derive(Clone, Copy, Debug, PartialEq, Eq)]
@@ -28,36 +22,20 @@ pub enum Debounce {
     Normal,
 }
 
-/// An entry of `switches`.
+/// What stands in a section, as written.
 #[derive(Debug, Drop)]
-pub struct SwitchRow {
-    pub name: Name,
-    /// The setting `type`: NO by default.
-    pub contact: Contact,
-    /// Auto by default.
-    pub debounce: Debounce,
-    /// Each tag is an event's name behind `sw_`.
-    pub tags: Vec<Name>,
-    /// Posted besides when the switch becomes active: `events_when_activated`.
-    pub activated: Vec<Name>,
-    /// Posted besides when it becomes inactive: `events_when_deactivated`.
-    pub deactivated: Vec<Name>,
+pub enum Content {
+    /// Entries by the table of the section.
+    Entries(Vec<Entry>),
+    /// The entries of a player.
+    Players(Vec<Player>),
 }
 
-/// An entry of `event_player`: where the event is handled, the others are posted, in order.
+/// A section of a text, by its name.
 #[derive(Debug, Drop)]
-pub struct EventPlayerRow {
-    pub event: Name,
-    pub posts: Vec<Name>,
-}
-
-/// A section of a text, with its entries as written.
-#[derive(Debug, Drop)]
-pub enum Section {
-    /// `switches`.
-    Switches(Vec<SwitchRow>),
-    /// `event_player`.
-    EventPlayer(Vec<EventPlayerRow>),
+pub struct Section {
+    pub name: Vec<u8>,
+    pub content: Content,
 }
 
 /// The machine text: its sections as written, none twice.

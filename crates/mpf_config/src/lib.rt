@@ -3,21 +3,17 @@
 
 pub mod bundle;
 pub mod config;
-mod entry;
-mod event_player;
 pub mod fault;
 pub mod notes;
 mod sections;
 mod spot;
-mod switches;
 mod texts;
+pub mod typed;
 mod unread;
-mod values;
 
 pub use bundle::read_bundle;
-pub use config::{
-    Config, Contact, Debounce, EventPlayerRow, MachineText, Name, Note, NoteKind, Section,
-    SwitchRow,
-};
+pub use config::{Config, Contact, Content, Debounce, MachineText, Note, NoteKind, Section};
 pub use fault::{ConfigFault, Fault, FaultKind, write_fault};
 pub use notes::write_note;
+pub use section_tables::rows::{Entry, Name, Player};
+pub use typed::{EventPlayer, NameAt, Switch, as_event_player, as_switch};

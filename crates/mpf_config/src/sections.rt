@@ -1,37 +1,38 @@
 //! The sections of a text.
 
 ghost use Rattle.yaml_subset.specs.View.{node_view, pair_view};
+ghost use Rattle.section_tables.specs.View.{pairs_view, pairs_in_view};
 ghost use Rattle.mpf_config.specs.Reading.{section_at, sections_in, sections_at};
 ghost use Rattle.mpf_config.specs.View.{section_view, GivesRows};
-ghost use Rattle.mpf_config.specs.Inside.{entries_view, pairs_view, sections_view};
+ghost use Rattle.mpf_config.specs.Inside.{sections_view};
 
-use crate::config::Section;
-use crate::entry::{entries, spot_of};
-use crate::event_player::event_player_rows;
+use crate::config::{Content, Section};
 use crate::fault::{ConfigFault, FaultKind};
 use crate::spot::line_of;
-use crate::switches::switch_rows;
 use crate::unread::is_skipped;
+use section_tables::spot::spot_of;
+use section_tables::tables::{player_of, table_of};
+use section_tables::{entries, players};
 use std::alloc::Global;
 use yaml_subset::tree::{Key, Tree};
 
-const SWITCHES: &[u8] = b"switches";
-
-const EVENT_PLAYER: &[u8] = b"event_player";
-
-/// The section of a key; or UnknownSection, or the first fault in it.
+// The section of a key; or UnknownSection, or the first fault in it.
 #[tactic(auto, unfolding(crate::specs::Reading::section_at))]
 fn section(alloc: Global, text: &[u8], entry: &(Key, Tree)) -> Result<Section, ConfigFault>
     ensures { GivesRows section_view result (section_at text.now (pair_view entry.now)) }
 {
     let name = entry.0.text.as_slice();
-    if name == SWITCHES {
-        let rows = switch_rows(alloc, text, entries(alloc, text, entry)?)?;
-        return Ok(Section::Switches(rows));
+    if let Some(table) = table_of(name) {
+        let rows = entries(alloc, table, text, entry)?;
+        let name = Vec::from_slice(alloc, name)?;
+        let content = Content::Entries(rows);
+        return Ok(Section { name, content });
     }
-    if name == EVENT_PLAYER {
-        let rows = event_player_rows(alloc, text, entries(alloc, text, entry)?)?;
-        return Ok(Section::EventPlayer(rows));
+    if let Some(kinds) = player_of(name) {
+        let rows = players(alloc, kinds, text, entry)?;
+        let name = Vec::from_slice(alloc, name)?;
+        let content = Content::Players(rows);
+        return Ok(Section { name, content });
     }
     let fault = spot_of(text, &entry.0).fault(alloc, FaultKind::UnknownSection)?;
     Err(ConfigFault::Bundle(fault))
@@ -44,7 +45,7 @@ pub fn sections_in<'a>(
     text: &[u8],
     tree: &'a Tree,
 ) -> Result<&'a [(Key, Tree)], ConfigFault>
-    ensures { GivesRows entries_view result (sections_in text.now (node_view tree.now)) }
+    ensures { GivesRows pairs_in_view result (sections_in text.now (node_view tree.now)) }
 {
     let Some(sections) = tree.as_map() else {
         let fault = line_of(text, tree.line()).fault(alloc, FaultKind::BadValue)?;

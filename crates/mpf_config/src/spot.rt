@@ -1,35 +1,10 @@
-//! Where a fault stands.
+//! Lines where faults stand.
 
-ghost use Rattle.std.specs.Prelude.{◌≡◌, IfOk};
-ghost use Rattle.mpf_config.specs.Reading.{fault_at, line_spot};
-ghost use Rattle.mpf_config.specs.View.{fault_view};
-ghost use Rattle.mpf_config.specs.Inside.{spot_view};
+ghost use Rattle.std.specs.Prelude.{◌≡◌};
+ghost use Rattle.section_tables.specs.View.{spot_view};
+ghost use Rattle.mpf_config.specs.Reading.{line_spot};
 
-use crate::fault::{Fault, FaultKind};
-use std::alloc::{AllocError, Global};
-
-/// Where a fault stands: its text's name, the line in that text, counted from 1, and the key
-/// that it is about.
-#[derive(Clone, Copy)]
-pub struct Spot<'a> {
-    pub text: &'a [u8],
-    pub line: u32,
-    pub key: &'a [u8],
-}
-
-impl Spot<'_> {
-    /// A fault that stands here.
-    pub fn fault(self, alloc: Global, kind: FaultKind) -> Result<Fault, AllocError>
-        ensures { IfOk result (λ fault. fault_view fault ≡ fault_at kind (spot_view self.entry)) }
-    {
-        Ok(Fault {
-            kind,
-            text: Vec::from_slice(alloc, self.text)?,
-            line: self.line,
-            key: Vec::from_slice(alloc, self.key)?,
-        })
-    }
-}
+use section_tables::spot::Spot;
 
 /// Stands for the text or the key where a fault has none.
 pub const NONE: &[u8] = b"-";

@@ -6,9 +6,10 @@ ghost use Rattle.std.specs.List.{list_any};
 ghost use Rattle.std.specs.Str.{bytes_eq};
 ghost use Rattle.yaml_subset.specs.View.{pair_view};
 ghost use Rattle.mpf_config.specs.Unread.{is_skipped, skipped_note, unlisted_note, skipped_notes, unlisted_notes};
-ghost use Rattle.mpf_config.specs.declared.fault.ConfigFault.TheVariants.{NoMemory};
+ghost use Rattle.section_tables.specs.declared.fault.ConfigFault.TheVariants.{NoMemory};
+ghost use Rattle.section_tables.specs.View.{pairs_view};
 ghost use Rattle.mpf_config.specs.View.{note_view};
-ghost use Rattle.mpf_config.specs.Inside.{pairs_view, text_view, texts_view, notes_view};
+ghost use Rattle.mpf_config.specs.Inside.{text_view, texts_view, notes_view};
 
 use crate::config::{Note, NoteKind};
 use crate::fault::ConfigFault;

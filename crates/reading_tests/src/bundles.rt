@@ -2,8 +2,8 @@
 
 use crate::row::{cells, utf8};
 use mpf_config::{
-    Config, ConfigFault, EventPlayerRow, Name, Section, SwitchRow, read_bundle, write_fault,
-    write_note,
+    Config, ConfigFault, EventPlayer, Name, Section, Switch, as_event_player, as_switch,
+    read_bundle, write_fault, write_note,
 };
 use std::alloc::{AllocError, Global};
 use std::process::Abort;
@@ -96,33 +96,28 @@ fn show_names(out: &mut String, names: &[Name]) -> Result<(), AllocError> {
     out.push_str(";")
 }
 
-fn show_switch(out: &mut String, row: &SwitchRow) -> Result<(), AllocError> {
-    show_names(out, std::slice::from_ref(&row.name))?;
+fn show_switch(out: &mut String, row: Switch<'_>) -> Result<(), AllocError> {
+    show_names(out, std::slice::from_ref(row.name))?;
     write!(out, " {:?} {:?};", row.contact, row.debounce)?;
-    show_names(out, &row.tags)?;
-    show_names(out, &row.activated)?;
-    show_names(out, &row.deactivated)?;
+    show_names(out, row.tags)?;
+    show_names(out, row.activated)?;
+    show_names(out, row.deactivated)?;
     out.push_str("\n")
 }
 
-fn show_player(out: &mut String, row: &EventPlayerRow) -> Result<(), AllocError> {
-    show_names(out, std::slice::from_ref(&row.event))?;
-    show_names(out, &row.posts)?;
+fn show_player(out: &mut String, row: EventPlayer<'_>) -> Result<(), AllocError> {
+    write!(out, " {}@{};", utf8(row.event.text), row.event.line)?;
+    show_names(out, row.posts)?;
     out.push_str("\n")
 }
 
-fn show_switches(out: &mut String, rows: &[SwitchRow]) -> Result<(), AllocError> {
-    out.push_str("switches\n")?;
-    for row in rows {
-        show_switch(out, row)?;
+fn show_section(out: &mut String, section: &Section) -> Result<(), AllocError> {
+    writeln!(out, "{}", utf8(&section.name))?;
+    for entry in section.switches() {
+        show_switch(out, as_switch(entry))?;
     }
-    Ok(())
-}
-
-fn show_players(out: &mut String, rows: &[EventPlayerRow]) -> Result<(), AllocError> {
-    out.push_str("event_player\n")?;
-    for row in rows {
-        show_player(out, row)?;
+    for player in section.event_players() {
+        show_player(out, as_event_player(player))?;
     }
     Ok(())
 }
@@ -131,10 +126,7 @@ fn show_players(out: &mut String, rows: &[EventPlayerRow]) -> Result<(), AllocEr
 fn sections_of(alloc: Global, config: &Config) -> Result<String, AllocError> {
     let mut out = String::new(alloc);
     for section in &config.machine.sections {
-        match section {
-            Section::Switches(rows) => show_switches(&mut out, rows)?,
-            Section::EventPlayer(rows) => show_players(&mut out, rows)?,
-        }
+        show_section(&mut out, section)?;
     }
     Ok(out)
 }

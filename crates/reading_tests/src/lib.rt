@@ -1,10 +1,12 @@
-//! Tests of the readers below, over their public calls: YAML texts, values and bundles.
+//! Tests of the readers below, over their public calls: YAML texts, values, tables and bundles.
 #![tactic(auto)]
 
 #[cfg(test)]
 mod bundles;
 #[cfg(test)]
 mod row;
+#[cfg(test)]
+mod tables;
 #[cfg(test)]
 mod values;
 #[cfg(test)]

@@ -3,9 +3,11 @@ use Rattle.std.proofs.lemmas.List.{map_push}
 use Rattle.std.proofs.lemmas.Result.{err_from_is_err_and}
 use Rattle.yaml_subset.specs.View.{pair_view}
 use Rattle.mpf_config.specs.Unread.{is_skipped, read_of}
-use Rattle.mpf_config.specs.Reading.{each_read, section_at, sections_at}
+use Rattle.section_tables.specs.Reading.{each_read}
+use Rattle.mpf_config.specs.Reading.{section_at, sections_at}
 use Rattle.mpf_config.specs.View.{section_view}
-use Rattle.mpf_config.specs.Inside.{pairs_view, sections_view}
+use Rattle.section_tables.specs.View.{pairs_view}
+use Rattle.mpf_config.specs.Inside.{sections_view}
 use Rattle.mpf_config.proofs.EachRead.{goes_on, fails, is_done}
 use Rattle.mpf_config.proofs.Pairs.{pairs_at, none_behind}
 use Rattle.mpf_config.proofs.Kept.{keeps_first}

@@ -1,7 +1,9 @@
 use Rattle.std.proofs.Common.{◌≡◌, drop}
 use Rattle.mpf_config.specs.Unread.{read_of}
-use Rattle.mpf_config.specs.Reading.{each_read, section_at}
-use Rattle.mpf_config.specs.Inside.{pairs_view, sections_view}
+use Rattle.section_tables.specs.Reading.{each_read}
+use Rattle.mpf_config.specs.Reading.{section_at}
+use Rattle.section_tables.specs.View.{pairs_view}
+use Rattle.mpf_config.specs.Inside.{sections_view}
 use Rattle.mpf_config.proofs.EachRead.{with_front}
 use Rattle.mpf_config.proofs.sections.sections.Given as goal
 

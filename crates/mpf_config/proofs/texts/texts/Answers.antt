@@ -2,7 +2,8 @@ use Rattle.std.proofs.Common.{◌≡◌, ◌+◌, ◌<◌, [], ◌∷◌, ◌++�
 use Rattle.std.proofs.lemmas.List.{map_push}
 use Rattle.std.proofs.lemmas.Result.{err_from_is_err_and}
 use Rattle.mpf_config.specs.BundleText.{line_ends, pieces_of, numbered}
-use Rattle.mpf_config.specs.Reading.{each_read, text_at, texts_at}
+use Rattle.section_tables.specs.Reading.{each_read}
+use Rattle.mpf_config.specs.Reading.{text_at, texts_at}
 use Rattle.mpf_config.specs.Inside.{text_view, texts_view}
 use Rattle.mpf_config.proofs.EachRead.{goes_on, fails, is_done}
 use Rattle.mpf_config.proofs.Pieces.{none_left, next_numbered, has_bytes}

@@ -1,6 +1,7 @@
 use Rattle.std.proofs.Common.{◌≡◌, ◌≤◌, ◌+◌, length}
 use Rattle.mpf_config.specs.BundleText.{pieces_of, numbered}
-use Rattle.mpf_config.specs.Reading.{each_read, text_at}
+use Rattle.section_tables.specs.Reading.{each_read}
+use Rattle.mpf_config.specs.Reading.{text_at}
 use Rattle.mpf_config.specs.Inside.{texts_view}
 use Rattle.mpf_config.proofs.EachRead.{with_front}
 use Rattle.mpf_config.proofs.texts.texts.Given as goal

@@ -1,6 +1,7 @@
 use Rattle.std.proofs.Common.{◌≡◌, ◌++◌, drop}
 use Rattle.mpf_config.specs.Unread.{skipped_notes}
-use Rattle.mpf_config.specs.Inside.{pairs_view, notes_view}
+use Rattle.section_tables.specs.View.{pairs_view}
+use Rattle.mpf_config.specs.Inside.{notes_view}
 use Rattle.mpf_config.proofs.unread.add_skipped.Given as goal
 
 abbrev pub invariant-loop-section : goal.invariant-loop-section

@@ -1,0 +1,73 @@
+-- The entries of sections, by the names of their settings.
+use Rattle.std.specs.Prelude.{ℕ, if◌then◌else◌, List, [], map, Option, Some, slice_get, codes}
+use Rattle.std.specs.Str.{bytes_eq}
+use Rattle.mpf_config.specs.declared.config.Contact.{Contact}
+use Rattle.mpf_config.specs.declared.config.Contact.TheVariants.{NormallyOpen, NormallyClosed}
+use Rattle.mpf_config.specs.declared.config.Debounce.{Debounce}
+use Rattle.mpf_config.specs.declared.config.Debounce.TheVariants.{Auto, Quick, Normal}
+use Rattle.section_tables.specs.Rows.{Written, Plain, word, name, event, Value, one, names, posts, Entry, Player}
+use Rattle.section_tables.specs.Entries.{written_at}
+use Rattle.mpf_config.specs.Rows.{Switch, EventPlayer, Content, entries, players, SectionRows}
+
+-- ---- values, as their tables say they are; the last line of each is met by no row that is read
+
+abbrev pub names_of : Option Value → List Written
+names_of (Some (names xs)) = xs
+names_of _ = []
+
+abbrev pub posts_of : Option Value → List Written
+posts_of (Some (posts xs)) = xs
+posts_of _ = []
+
+abbrev pub word_of : Option Value → List ℕ
+word_of (Some (one (word w))) = w
+word_of _ = []
+
+-- the name of an event, with the line where it is written
+abbrev pub event_name : Plain → Written
+event_name (name w) = w
+event_name (event h) = written_at h.line h.event.name
+event_name _ = written_at 0 []
+
+-- ---- `switches`
+
+-- the contact of a word: NO or NC
+abbrev pub contact_of : List ℕ → Contact
+contact_of w = if bytes_eq w (codes "NC") then NormallyClosed else NormallyOpen
+
+-- the debounce of a word: auto, quick or normal
+abbrev pub debounce_of : List ℕ → Debounce
+debounce_of w = if bytes_eq w (codes "quick") then Quick else (if bytes_eq w (codes "normal") then Normal else Auto)
+
+unfoldable pub switch_of : Entry → Switch
+switch_of e = record {
+  name = e.name;
+  contact = contact_of (word_of (slice_get e.values 0));
+  debounce = debounce_of (word_of (slice_get e.values 1));
+  tags = names_of (slice_get e.values 2);
+  activated = posts_of (slice_get e.values 3);
+  deactivated = posts_of (slice_get e.values 4);
+}
+
+-- ---- `event_player`
+
+unfoldable pub event_player_of : Player → EventPlayer
+event_player_of p = record { event = event_name p.event; posts = posts_of (Some p.value) }
+
+-- ---- sections
+
+abbrev pub entries_in : Content → List Entry
+entries_in (entries es) = es
+entries_in (players ps) = []
+
+abbrev pub players_in : Content → List Player
+players_in (entries es) = []
+players_in (players ps) = ps
+
+-- the switches of a section: of `switches` its entries, of any other none
+unfoldable pub switches_in : SectionRows → List Switch
+switches_in s = if bytes_eq s.name (codes "switches") then map switch_of (entries_in s.content) else []
+
+-- the entries of `event_player`, as well
+unfoldable pub event_players_in : SectionRows → List EventPlayer
+event_players_in s = if bytes_eq s.name (codes "event_player") then map event_player_of (players_in s.content) else []

@@ -1,0 +1,208 @@
+//! The entries of sections, by the names of their settings.
+
+ghost use Rattle.std.specs.Prelude.{◌≡◌, map, slice_get};
+ghost use Rattle.section_tables.specs.View.{name_view, plain_view, value_view, values_view, entry_view, entries_view, player_view, players_view};
+ghost use Rattle.mpf_config.specs.Typed.{names_of, posts_of, word_of, event_name, contact_of, debounce_of, switch_of, event_player_of, entries_in, players_in, switches_in, event_players_in};
+ghost use Rattle.mpf_config.specs.View.{content_view, section_view, name_at_view, switch_view, event_player_view};
+
+use crate::config::{Contact, Content, Debounce, Section};
+use section_tables::rows::{Entry, Name, Plain, Player, Value};
+
+/// A name where it is written.
+#[derive(Clone, Copy, Debug)]
+pub struct NameAt<'a> {
+    pub line: u32,
+    pub text: &'a [u8],
+}
+
+/// An entry of `switches`.
+#[derive(Clone, Copy, Debug)]
+pub struct Switch<'a> {
+    pub name: &'a Name,
+    /// The setting `type`: NO by default.
+    pub contact: Contact,
+    /// Auto by default.
+    pub debounce: Debounce,
+    /// Each tag is an event's name behind `sw_`.
+    pub tags: &'a [Name],
+    /// Posted besides when the switch becomes active: `events_when_activated`.
+    pub activated: &'a [Name],
+    /// Posted besides when it becomes inactive: `events_when_deactivated`.
+    pub deactivated: &'a [Name],
+}
+
+/// An entry of `event_player`: where the event is handled, the others are posted, in order.
+#[derive(Clone, Copy, Debug)]
+pub struct EventPlayer<'a> {
+    pub event: NameAt<'a>,
+    pub posts: &'a [Name],
+}
+
+// ---- values
+
+// The names at a place of a row; none where there is no list of names.
+fn names(row: &[Value], at: usize) -> &[Name]
+    ensures { map name_view result.now ≡ names_of (slice_get (values_view row.now) at) }
+{
+    match row.get(at) {
+        Some(Value::Names(names)) => names,
+        _ => &[],
+    }
+}
+
+// The posted events that a value is; none where it is no list of them.
+fn posts(value: &Value) -> &[Name]
+    ensures { map name_view result.now ≡ posts_of (Some (value_view value.now)) }
+{
+    match value {
+        Value::Posts(posts) => posts,
+        _ => &[],
+    }
+}
+
+// The posted events at a place of a row.
+fn posts_at(row: &[Value], at: usize) -> &[Name]
+    ensures { map name_view result.now ≡ posts_of (slice_get (values_view row.now) at) }
+{
+    match row.get(at) {
+        Some(value) => posts(value),
+        None => &[],
+    }
+}
+
+// The word at a place of a row; the empty one where there is none.
+fn word(row: &[Value], at: usize) -> &'static [u8]
+    ensures { result.now ≡ word_of (slice_get (values_view row.now) at) }
+{
+    match row.get(at) {
+        Some(Value::One(Plain::Word(word))) => word,
+        _ => b"",
+    }
+}
+
+// The name of an event, where it is written.
+fn event_name(event: &Plain) -> NameAt<'_>
+    ensures { name_at_view result ≡ event_name (plain_view event.now) }
+{
+    match event {
+        Plain::Name(name) => NameAt {
+            line: name.line,
+            text: &name.text,
+        },
+        Plain::Event(handler) => NameAt {
+            line: handler.line,
+            text: &handler.name,
+        },
+        _ => NameAt { line: 0, text: b"" },
+    }
+}
+
+// ---- `switches`
+
+const CLOSED: &[u8] = b"NC";
+
+const QUICK: &[u8] = b"quick";
+
+const NORMAL: &[u8] = b"normal";
+
+// The contact of a word.
+fn contact_of(word: &[u8]) -> Contact
+    ensures { result ≡ contact_of word.now }
+{
+    if word == CLOSED {
+        return Contact::NormallyClosed;
+    }
+    Contact::NormallyOpen
+}
+
+// The debounce of a word.
+fn debounce_of(word: &[u8]) -> Debounce
+    ensures { result ≡ debounce_of word.now }
+{
+    if word == QUICK {
+        return Debounce::Quick;
+    }
+    if word == NORMAL {
+        return Debounce::Normal;
+    }
+    Debounce::Auto
+}
+
+/// An entry of `switches`, by the names of its settings.
+#[tactic(auto, unfolding(crate::specs::Typed::switch_of))]
+pub fn as_switch(entry: &Entry) -> Switch<'_>
+    ensures { switch_view result ≡ switch_of (entry_view entry.now) }
+{
+    let row = entry.values.as_slice();
+    Switch {
+        name: &entry.name,
+        contact: contact_of(word(row, 0)),
+        debounce: debounce_of(word(row, 1)),
+        tags: names(row, 2),
+        activated: posts_at(row, 3),
+        deactivated: posts_at(row, 4),
+    }
+}
+
+// ---- `event_player`
+
+/// An entry of `event_player`, by the names of what it has.
+#[tactic(auto, unfolding(crate::specs::Typed::event_player_of))]
+pub fn as_event_player(player: &Player) -> EventPlayer<'_>
+    ensures { event_player_view result ≡ event_player_of (player_view player.now) }
+{
+    EventPlayer {
+        event: event_name(&player.event),
+        posts: posts(&player.value),
+    }
+}
+
+// ---- sections
+
+const SWITCHES: &[u8] = b"switches";
+
+const EVENT_PLAYER: &[u8] = b"event_player";
+
+impl Content {
+    fn entries(&self) -> &[Entry]
+        ensures { map entry_view result.now ≡ entries_in (content_view self.now) }
+    {
+        match self {
+            Content::Entries(entries) => entries,
+            Content::Players(_) => &[],
+        }
+    }
+
+    fn players(&self) -> &[Player]
+        ensures { map player_view result.now ≡ players_in (content_view self.now) }
+    {
+        match self {
+            Content::Entries(_) => &[],
+            Content::Players(players) => players,
+        }
+    }
+}
+
+impl Section {
+    /// The entries of `switches`, to be seen by [`as_switch`]; none of any other section.
+    #[tactic(auto, unfolding(crate::specs::Typed::switches_in))]
+    pub fn switches(&self) -> &[Entry]
+        ensures { map switch_of (map entry_view result.now) ≡ switches_in (section_view self.now) }
+    {
+        if self.name.as_slice() == SWITCHES {
+            return self.content.entries();
+        }
+        &[]
+    }
+
+    /// The entries of `event_player`, to be seen by [`as_event_player`]; none of any other section.
+    #[tactic(auto, unfolding(crate::specs::Typed::event_players_in))]
+    pub fn event_players(&self) -> &[Player]
+        ensures { map event_player_of (map player_view result.now) ≡ event_players_in (section_view self.now) }
+    {
+        if self.name.as_slice() == EVENT_PLAYER {
+            return self.content.players();
+        }
+        &[]
+    }
+}

@@ -1,0 +1,73 @@
+-- What a call for each element gave, and what reading each element gives.
+use Rattle.std.proofs.Common.{◌≡◌, ℕ, zero, suc, ◌+◌, ◌<◌, List, [], ◌∷◌, ◌++◌, length, take, drop, get_or, map, Result, Ok, Err, refl, sym, ap, subst, ◌∙◌, inl, inr, arith}
+use Rattle.std.specs.List.{AllZip}
+use Rattle.std.specs.Borrow.{Bor}
+use Rattle.std.specs.Fn.{Shared, FnReturnsAt}
+use Rattle.std.specs.Global.{Vec}
+use Rattle.std.proofs.lemmas.List.{take_more}
+use Rattle.section_tables.specs.declared.fault.ConfigFault.{ConfigFault}
+use Rattle.section_tables.specs.declared.fault.ConfigFault.TheVariants as faults
+use Rattle.section_tables.specs.Rows.{RowsFault}
+use Rattle.section_tables.specs.Reading.{each_read}
+use Rattle.section_tables.specs.View.{FailsRows, GivesRows}
+use Rattle.section_tables.specs.GivenEach.{FailsFirst, GaveUpTo, GaveEach}
+
+pub zip_push : {A B : Type 0} (R : A → B → Type 0) (xs : List A) (ys : List B) (x : A) (y : B) → AllZip R xs ys → R x y → AllZip R (xs ++ x ∷ []) (ys ++ y ∷ [])
+zip_push R [] [] x y h r = (r, tt)
+zip_push R [] (b ∷ bs) x y h r = absurd h
+zip_push R (a ∷ rest) [] x y h r = absurd h
+zip_push R (a ∷ rest) (b ∷ bs) x y h r = (h.0, zip_push R rest bs x y h.1 r)
+
+parts : {C : Type 0} (xs : List C) (i : ℕ) (x : C) → i < length xs → x ≡ get_or xs i x → xs ≡ take i xs ++ (x ∷ drop (i + 1) xs)
+parts [] i x lt is = absurd (let no : i < 0 = lt in omega (arith, no))
+parts (c ∷ cs) zero x lt is = ap (λ z. z ∷ cs) (sym is)
+parts (c ∷ cs) (suc i) x lt is =
+    let less : i < length cs = omega (arith, lt) in
+    let one : suc i + 1 ≡ suc (i + 1) = omega arith in
+    let inner = parts cs i x less is in
+    rw one (ap (λ zs. c ∷ zs) inner)
+
+module _ {A B : Type 0} (gave : A → Result B ConfigFault → Type 0) where
+  after : (e : ConfigFault) (front rest : List A) (x : A) (ys : List B) → AllZip (λ a b. gave a (Ok b)) front ys → gave x (Err e) → FailsFirst gave e (front ++ x ∷ rest)
+  after e [] rest x ys h f = inl f
+  after e (a ∷ front) rest x [] h f = absurd h
+  after e (a ∷ front) rest x (b ∷ ys) h f = inr (b, h.0, after e front rest x ys h.1 f)
+
+  -- a call that failed, after those that did not
+  pub fails_at : (e : ConfigFault) (xs : List A) (i : ℕ) (x : A) (ys : List B) → i < length xs → x ≡ get_or xs i x → AllZip (λ a b. gave a (Ok b)) (take i xs) ys → gave x (Err e) → FailsFirst gave e xs
+  fails_at e xs i x ys lt is h f =
+      subst (FailsFirst gave e) (sym (parts xs i x lt is)) (after e (take i xs) (drop (i + 1) xs) x ys h f)
+
+  -- one more call that did not fail
+  pub more : (xs : List A) (i : ℕ) (x : A) (ys : List B) (y : B) → i < length xs → x ≡ get_or xs i x → AllZip (λ a b. gave a (Ok b)) (take i xs) ys → gave x (Ok y) → AllZip (λ a b. gave a (Ok b)) (take (i + 1) xs) (ys ++ y ∷ [])
+  more xs i x ys y lt is h g =
+      let e : take (i + 1) xs ≡ take i xs ++ x ∷ [] = take_more xs i x lt ∙ ap (λ z. take i xs ++ z ∷ []) (sym is) in
+      subst (λ zs. AllZip (λ a b. gave a (Ok b)) zs (ys ++ y ∷ [])) (sym e) (zip_push (λ a b. gave a (Ok b)) (take i xs) ys x y h g)
+
+module _ {A B X Y : Type 0} (gave : A → Result B ConfigFault → Type 0) (seen : A → X) (view : B → Y) (f : X → Result Y RowsFault) (one : (x : A) (r : Result B ConfigFault) → gave x r → GivesRows view r (f (seen x))) where
+  all_gave : (xs : List A) (ys : List B) → AllZip (λ a b. gave a (Ok b)) xs ys → each_read f (map seen xs) ≡ Ok (map view ys)
+  unfolding each_read
+  all_gave [] [] h = refl
+  all_gave [] (y ∷ ys) h = absurd h
+  all_gave (x ∷ xs) [] h = absurd h
+  all_gave (x ∷ xs) (y ∷ ys) h = rw (one x (Ok y) h.0, all_gave xs ys h.1) refl
+
+  one_failed : (e : ConfigFault) (xs : List A) → FailsFirst gave e xs → FailsRows e (each_read f (map seen xs))
+  unfolding each_read
+  one_failed faults.NoMemory xs h = tt
+  one_failed (faults.Bundle g) [] h = absurd h
+  one_failed (faults.Bundle g) (x ∷ xs) (inl h) = rw (one x (Err (faults.Bundle g)) h) refl
+  one_failed (faults.Bundle g) (x ∷ xs) (inr h) = rw (one x (Ok h.0) h.1, one_failed (faults.Bundle g) xs h.2) refl
+
+  gives_all : (xs : List A) (r : Result (Vec B) ConfigFault) → GaveUpTo gave xs r → GivesRows (λ ys. map view ys.items) r (each_read f (map seen xs))
+  gives_all xs (Ok ys) h = all_gave xs ys.items h
+  gives_all xs (Err faults.NoMemory) h = tt
+  gives_all xs (Err (faults.Bundle g)) (inl h) = absurd (let no : faults.Bundle g ≡ faults.NoMemory = h in cc)
+  gives_all xs (Err (faults.Bundle g)) (inr h) = one_failed (faults.Bundle g) xs h
+
+-- what each call of a function gave is what reading each gives
+pub gives_each : {F A B X Y : Type 0} {g : Shared F (Bor A × Unit {0}) (Result B ConfigFault)} {f : F} (seen : A → X) (view : B → Y) (read : X → Result Y RowsFault)
+    (xs : List A) (r : Result (Vec B) ConfigFault) → GaveEach (FnReturnsAt g f) xs r
+    → ((p : Bor A) (s : Result B ConfigFault) → g.post f (p, tt) s → GivesRows view s (read (seen p.now))) → GivesRows (λ ys. map view ys.items) r (each_read read (map seen xs))
+gives_each {g = g} {f = f} seen view read xs r h one =
+    gives_all (FnReturnsAt g f) seen view read (λ x s k. subst (λ z. GivesRows view s (read (seen z))) k.shows (one k.shown s k.says.met)) xs r h.up_to

@@ -1,0 +1,93 @@
+-- The entries of a section are those that are read, and no others.
+use Rattle.std.proofs.Common.{◌≡◌, ℕ, List, Ok, refl, sym, subst, inl}
+use Rattle.yaml_subset.specs.Node.{Node, Pair}
+use Rattle.mpf_values.specs.Reading.{is_name}
+use Rattle.mpf_values.proofs.NameTexts.{IsName-from_is_name, is_name-from_IsName}
+use Rattle.section_tables.specs.declared.fault.FaultKind.TheVariants.{BadValue}
+use Rattle.section_tables.specs.Rows.{Plain, Value, Entry, Player}
+use Rattle.section_tables.specs.Kinds.{Setting, PlayerKinds}
+use Rattle.section_tables.specs.Entries.{entries_of, is_ignored, written_at}
+use Rattle.section_tables.specs.Tables.{setting_key, setting_default, setting_lacks}
+use Rattle.section_tables.specs.EntryOf.{IsSetting, IsEntry, AreEntries, IsPlayer, ArePlayers}
+use Rattle.section_tables.specs.Reading.{IsReadOrLong, ◌>>=◌, Spot, fault_at, key_spot, expect, each_read, scalar_of, value_at, setting_at, values_at, entry_at, entries_at, player_at, players_at}
+use Rattle.section_tables.proofs.Steps.{bind_ok, guard_true, ok_is, expected}
+use Rattle.section_tables.proofs.Outcomes.{then_read, each_sound, each_complete}
+use Rattle.section_tables.proofs.ScalarTexts.{scalar_sound, scalar_complete}
+use Rattle.section_tables.proofs.RowsRead.{row_sound, row_complete}
+use Rattle.section_tables.proofs.ValuesRead.{value_sound, value_complete}
+
+-- ---- entries
+
+setting_sound : (s : Setting) (spot : Spot) (node : Node) (v : Value) → setting_at s spot node ≡ Ok v → IsSetting 1024 s node v
+setting_sound s spot node v e = value_sound s.kind spot node v e
+
+abbrev entry_made : Pair → List Value → Entry
+entry_made p row = record { name = written_at p.line p.key; values = row }
+
+pub entry_sound : (text : List ℕ) (table : List Setting) (p : Pair) (e : Entry) → entry_at text table p ≡ Ok e → IsEntry 1024 table p e
+unfolding entry_at
+entry_sound text table p e is =
+    let spot = key_spot text p in
+    let a = guard_true (is_name p.key) (expect spot (entries_of p.value) >>= λ pairs. values_at spot table pairs >>= λ row. Ok (entry_made p row)) (fault_at BadValue spot) e is in
+    let b = bind_ok (expect spot (entries_of p.value)) (λ pairs. values_at spot table pairs >>= λ row. Ok (entry_made p row)) e a.1 in
+    let c = bind_ok (values_at spot table b.0) (λ row. Ok (entry_made p row)) e b.2 in
+    let s = row_sound setting_key setting_at (IsSetting 1024) is_ignored setting_sound setting_default setting_lacks spot table b.0 c.0 c.1 in
+    subst (IsEntry 1024 table p) (ok_is (entry_made p c.0) e c.2)
+    (record {
+      is_name = IsName-from_is_name p.key a.0;
+      name = refl;
+      row = record { pairs = b.0; has = expected spot (entries_of p.value) b.0 b.1; overwritten = s.0; whole = s.1 };
+    })
+
+pub entry_complete : (text : List ℕ) (table : List Setting) (p : Pair) (longest : ℕ) (e : Entry) → IsEntry longest table p e → IsReadOrLong longest (entry_at text table p) e
+unfolding entry_at
+entry_complete text table p longest e h =
+    let spot = key_spot text p in
+    let row = row_complete setting_key setting_at (IsSetting longest) is_ignored longest (λ s at n v. value_complete longest s.kind at n v) setting_default setting_lacks spot table h.row.pairs e.values
+    h.row.overwritten h.row.whole in
+    rw (is_name-from_IsName p.key h.is_name, h.row.has)
+    (then_read longest (values_at spot table h.row.pairs) (λ r. Ok (entry_made p r)) e.values e row (inl (λ i. Ok (record { name = sym h.name i; values = e.values }))))
+
+pub entries_sound : (text : List ℕ) (table : List Setting) (p : Pair) (es : List Entry) → entries_at text table p ≡ Ok es → AreEntries 1024 table p es
+unfolding entries_at
+entries_sound text table p es e =
+    let a = bind_ok (expect (key_spot text p) (entries_of p.value)) (λ pairs. each_read (entry_at text table) pairs) es e in
+    (a.0, expected (key_spot text p) (entries_of p.value) a.0 a.1, each_sound (entry_at text table) (IsEntry 1024 table) (entry_sound text table) a.0 es a.2)
+
+pub entries_complete : (text : List ℕ) (table : List Setting) (p : Pair) (longest : ℕ) (es : List Entry) → AreEntries longest table p es → IsReadOrLong longest (entries_at text table p) es
+unfolding entries_at
+entries_complete text table p longest es h =
+    rw h.1 (each_complete (entry_at text table) (IsEntry longest table) longest (λ x e k. entry_complete text table x longest e k) h.0 es h.2)
+
+-- ---- players
+
+abbrev player_made : Plain → Value → Player
+player_made key value = record { event = key; value = value }
+
+player_sound : (text : List ℕ) (kinds : PlayerKinds) (p : Pair) (row : Player) → player_at text kinds p ≡ Ok row → IsPlayer 1024 kinds p row
+unfolding player_at
+player_sound text kinds p row e =
+    let spot = key_spot text p in
+    let key = scalar_of kinds.key p.line p.key in
+    let a = bind_ok (expect spot key) (λ event. value_at kinds.value spot p.value >>= λ value. Ok (player_made event value)) row e in
+    let b = bind_ok (value_at kinds.value spot p.value) (λ value. Ok (player_made a.0 value)) row a.2 in
+    subst (IsPlayer 1024 kinds p) (ok_is (player_made a.0 b.0) row b.2)
+    (record { key = scalar_sound kinds.key p.line p.key a.0 (expected spot key a.0 a.1); value = value_sound kinds.value spot p.value b.0 b.1 })
+
+player_complete : (text : List ℕ) (kinds : PlayerKinds) (p : Pair) (longest : ℕ) (row : Player) → IsPlayer longest kinds p row → IsReadOrLong longest (player_at text kinds p) row
+unfolding player_at
+player_complete text kinds p longest row h =
+    rw (scalar_complete kinds.key p.line p.key row.event h.key)
+    (then_read longest (value_at kinds.value (key_spot text p) p.value) (λ value. Ok (player_made row.event value)) row.value row
+    (value_complete longest kinds.value (key_spot text p) p.value row.value h.value) (inl refl))
+
+pub players_sound : (text : List ℕ) (kinds : PlayerKinds) (p : Pair) (rows : List Player) → players_at text kinds p ≡ Ok rows → ArePlayers 1024 kinds p rows
+unfolding players_at
+players_sound text kinds p rows e =
+    let a = bind_ok (expect (key_spot text p) (entries_of p.value)) (λ pairs. each_read (player_at text kinds) pairs) rows e in
+    (a.0, expected (key_spot text p) (entries_of p.value) a.0 a.1, each_sound (player_at text kinds) (IsPlayer 1024 kinds) (player_sound text kinds) a.0 rows a.2)
+
+pub players_complete : (text : List ℕ) (kinds : PlayerKinds) (p : Pair) (longest : ℕ) (rows : List Player) → ArePlayers longest kinds p rows → IsReadOrLong longest (players_at text kinds p) rows
+unfolding players_at
+players_complete text kinds p longest rows h =
+    rw h.1 (each_complete (player_at text kinds) (IsPlayer longest kinds) longest (λ x row k. player_complete text kinds x longest row k) h.0 rows h.2)

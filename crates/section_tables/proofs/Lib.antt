@@ -1,0 +1,13 @@
+pub mod Steps
+pub mod Outcomes
+pub mod Finding
+pub mod EachGiven
+pub mod Options
+pub mod ScalarTexts
+pub mod ListValues
+pub mod RowsRead
+pub mod ValuesRead
+pub mod EntriesRead
+pub mod AnswersOf
+pub mod RowNames
+pub mod TableNames

@@ -1,0 +1,186 @@
+-- Every name in a row is one, and no list in it is longer than its limit.
+use Rattle.std.proofs.Common.{◌≡◌, ℕ, zero, suc, ◌≤◌, Bool, true, false, List, [], ◌∷◌, length, map, set, Option, Some, None, refl, sym, ap, subst}
+use Rattle.std.specs.List.{AllByRecursion, AllZip}
+use Rattle.std.specs.Str.{bytes_eq}
+use Rattle.yaml_subset.specs.Node.{Node, Pair}
+use Rattle.yaml_subset.specs.View.{line_of, text_in}
+use Rattle.mpf_values.specs.Names.{IsName}
+use Rattle.mpf_values.specs.Lists.{Item}
+use Rattle.section_tables.specs.Rows.{Written, Handled, Plain, Keyed, Value, Entry, Player}
+use Rattle.section_tables.specs.Kinds.{Scalar, a_flag, number_within, time_within, a_power, one_of, a_name, an_event, Bounds, Field, Kind, single, name_list, post_list, event_list, step_list, map_list, keyed_maps, Setting, PlayerKinds}
+use Rattle.section_tables.specs.Entries.{is_ignored}
+use Rattle.section_tables.specs.Tables.{behind_one, found_in, field_key, field_default, setting_key, setting_default}
+use Rattle.section_tables.specs.EntryOf.{IsScalar, IsPlain, AreListed, AreNodes, IsWritten, IsHandled, OverwritesAt, IsOverwritten, IsField, pass, AreFields, IsKeyedRow, IsKeyed, IsStep, IsValue, IsSetting, IsEntry, AreEntries, IsPlayer, ArePlayers}
+use Rattle.section_tables.specs.Named.{IsNamedPlain, IsNamedEvent, AreNames, AreNamedEvents, AreNamedPlains, IsNamedKeyed, IsNamedValue, IsNamedEntry, IsNamedPlayer, AreNamedFields, IsNamedKind, IsNamedTable, IsEventKind, IsNamedKinds, IsShort, IsShortTable}
+
+-- ---- lists
+
+set_all : {V : Type 0} (P : V → Type 0) (xs : List V) (i : ℕ) (v : V) → AllByRecursion P xs → P v → AllByRecursion P (set xs i v)
+set_all P [] zero v h p = tt
+set_all P [] (suc i) v h p = tt
+set_all P (x ∷ xs) zero v h p = (p, h.1)
+set_all P (x ∷ xs) (suc i) v h p = (h.0, set_all P xs i v h.1 p)
+
+all_zip : {A B : Type 0} (R : A → B → Type 0) (P : B → Type 0) → ((x : A) (y : B) → R x y → P y) → (xs : List A) (ys : List B) → AllZip R xs ys → AllByRecursion P ys
+all_zip R P so [] [] each = tt
+all_zip R P so [] (y ∷ ys) each = absurd each
+all_zip R P so (x ∷ xs) [] each = absurd each
+all_zip R P so (x ∷ xs) (y ∷ ys) each = (so x y each.0, all_zip R P so xs ys each.1)
+
+same_length : {A B : Type 0} (R : A → B → Type 0) (xs : List A) (ys : List B) → AllZip R xs ys → length xs ≡ length ys
+same_length R [] [] each = refl
+same_length R [] (y ∷ ys) each = absurd each
+same_length R (x ∷ xs) [] each = absurd each
+same_length R (x ∷ xs) (y ∷ ys) each = ap suc (same_length R xs ys each.1)
+
+all_map : {A B : Type 0} (P : B → Type 0) (f : A → B) (xs : List A) → AllByRecursion (λ x. P (f x)) xs → AllByRecursion P (map f xs)
+all_map P f [] h = tt
+all_map P f (x ∷ xs) h = (h.0, all_map P f xs h.1)
+
+-- what holds of all rows of a table holds of the one that is found
+module _ {T : Type 0} (key_of : T → List ℕ) (Q : T → Type 0) (key : List ℕ) where
+  abbrev Holds : Option (ℕ × T) → Type 0
+  Holds None = Unit {0}
+  Holds (Some p) = Q p.1
+
+  behind : (o : Option (ℕ × T)) → Holds o → Holds (behind_one o)
+  behind None h = tt
+  behind (Some p) h = h
+
+  found_by : (s : T) (ss : List T) (b : Bool) → bytes_eq (key_of s) key ≡ b → Q s → Holds (found_in key_of key ss) → Holds (found_in key_of key (s ∷ ss))
+  found_by s ss true e q h = rw e q
+  found_by s ss false e q h = rw e (behind (found_in key_of key ss) h)
+
+  holds_found : (table : List T) → AllByRecursion Q table → Holds (found_in key_of key table)
+  holds_found [] h = tt
+  holds_found (s ∷ ss) h = found_by s ss (bytes_eq (key_of s) key) refl h.0 (holds_found ss h.1)
+
+-- ---- rows
+
+module _ {T V : Type 0} (key_of : T → List ℕ) (IsOf : T → Node → V → Type 0) (passes : List ℕ → Bool) (Q : T → Type 0) (P : V → Type 0) (so : (t : T) (node : Node) (v : V) → Q t → IsOf t node v → P v) where
+  overwrites_all : (b : Bool) (p : Pair) (row next : List V) (o : Option (ℕ × T)) → Holds key_of Q p.key o → OverwritesAt IsOf b p row next o → AllByRecursion P row → AllByRecursion P next
+  overwrites_all b p row next None q h all = subst (AllByRecursion P) (sym h.1) all
+  overwrites_all b p row next (Some found) q h all = subst (AllByRecursion P) (sym h.2) (set_all P row found.0 h.0 all (so found.1 p.value h.0 q h.1))
+
+  overwritten_all : (table : List T) (ps : List Pair) (row made : List V) → AllByRecursion Q table → IsOverwritten key_of IsOf passes table ps row made → AllByRecursion P row → AllByRecursion P made
+  overwritten_all table [] row made q h all = subst (AllByRecursion P) (sym h) all
+  overwritten_all table (p ∷ ps) row made q h all =
+      overwritten_all table ps h.0 made q h.2 (overwrites_all (passes p.key) p row h.0 (found_in key_of p.key table) (holds_found key_of Q p.key table q) h.1 all)
+
+-- ---- names in values
+
+scalar_named : (kind : Scalar) (line : ℕ) (text : List ℕ) (v : Plain) → IsScalar kind line text v → IsNamedPlain v
+scalar_named a_flag line text v h = subst IsNamedPlain (sym h.2) tt
+scalar_named (number_within least greatest) line text v h = subst IsNamedPlain (sym h.3) tt
+scalar_named (time_within least greatest) line text v h = subst IsNamedPlain (sym h.4) tt
+scalar_named a_power line text v h = subst IsNamedPlain (sym h.2) tt
+scalar_named (one_of words) line text v h = subst IsNamedPlain (sym h.1) tt
+scalar_named a_name line text v h = subst IsNamedPlain (sym h.1) h.0
+scalar_named an_event line text v h = subst IsNamedPlain (sym h.2) h.1.is_name
+
+plain_named : (kind : Scalar) (node : Node) (v : Plain) → IsPlain kind node v → IsNamedPlain v
+plain_named kind node v h = scalar_named kind (line_of node) h.0 v h.2
+
+written_named : (bounds : Bounds) (longest : ℕ) (node : Node) (xs : List Written) → AreListed IsWritten bounds longest node xs → AreNames xs
+written_named bounds longest node xs h =
+    all_zip IsWritten (λ w. IsName w.text) (λ item w k. subst (λ (x : Written). IsName x.text) (sym k.1) k.0) h.items xs h.each
+
+handled_named : (bounds : Bounds) (longest : ℕ) (node : Node) (xs : List Handled) → AreListed IsHandled bounds longest node xs → AreNamedEvents xs
+handled_named bounds longest node xs h =
+    all_zip IsHandled (λ x. IsName x.event.name) (λ item x k. subst (λ (y : Handled). IsName y.event.name) (sym k.2) k.1.is_name) h.items xs h.each
+
+row_named : (table : List Field) (others : Bool) (ps : List Pair) (row : List Plain) → AreNamedFields table → IsOverwritten field_key IsField (pass others) table ps (map field_default table) row → AreNamedPlains row
+row_named table others ps row q h =
+    overwritten_all field_key IsField (pass others) (λ f. IsNamedPlain (field_default f)) IsNamedPlain (λ f node v _ k. plain_named f.kind node v k) table ps (map field_default table) row q h
+    (all_map IsNamedPlain field_default table q)
+
+keyed_row_named : (table : List Field) (place : ℕ) (short : Scalar) (node : Node) (row : List Plain) (o : Option (List ℕ)) → AreNamedFields table → IsKeyedRow table place short node row o → AreNamedPlains row
+keyed_row_named table place short node row (Some text) q h =
+    subst AreNamedPlains (sym h.2) (set_all IsNamedPlain (map field_default table) place h.0 (all_map IsNamedPlain field_default table q) (plain_named short node h.0 h.1))
+keyed_row_named table place short node row None q h = row_named table false h.pairs row q h.overwritten
+
+keyed_named : (table : List Field) (place : ℕ) (short : Scalar) → AreNamedFields table → (p : Pair) (k : Keyed) → IsKeyed table place short p k → IsNamedKeyed k
+keyed_named table place short q p k h =
+    (subst (λ (w : Written). IsName w.text) (sym h.name) h.is_name, keyed_row_named table place short p.value k.values (text_in p.value) q h.row)
+
+value_named : (longest : ℕ) (kind : Kind) (node : Node) (v : Value) → IsNamedKind kind → IsValue longest kind node v → IsNamedValue v
+value_named longest (single kind) node v q h = subst IsNamedValue (sym h.2) (plain_named kind node h.0 h.1)
+value_named longest (name_list bounds) node v q h = subst IsNamedValue (sym h.2) (written_named bounds longest node h.0 h.1)
+value_named longest (post_list bounds) node v q h = subst IsNamedValue (sym h.2) (written_named bounds longest node h.0 h.1)
+value_named longest (event_list bounds) node v q h = subst IsNamedValue (sym h.2) (handled_named bounds longest node h.0 h.1)
+value_named longest (step_list bounds) node v q h =
+    subst IsNamedValue (sym h.2) (all_zip (IsStep longest) AreNamedEvents (handled_named _ longest) h.1.nodes h.0 h.1.each)
+value_named longest (map_list table others bounds) node v q h =
+    subst IsNamedValue (sym h.2) (all_zip (AreFields table others) (λ m. AreNamedPlains m.values) (λ n m k. row_named table others k.row.pairs m.values q k.row.overwritten) h.1.nodes h.0 h.1.each)
+value_named longest (keyed_maps table place short) node v q h =
+    subst IsNamedValue (sym h.2) (all_zip (IsKeyed table place short) IsNamedKeyed (keyed_named table place short q) h.1.0 h.0 h.1.2)
+
+-- ---- limits of values
+
+listed_short : {B : Type 0} (IsOne : Item → B → Type 0) (bounds : Bounds) (longest : ℕ) (node : Node) (xs : List B) → AreListed IsOne bounds longest node xs → length xs ≤ longest
+listed_short IsOne bounds longest node xs h = rw (sym (same_length IsOne h.items xs h.each)) h.few
+
+nodes_short : {B : Type 0} (IsOne : Node → B → Type 0) (bounds : Bounds) (longest : ℕ) (node : Node) (xs : List B) → AreNodes IsOne bounds longest node xs → length xs ≤ longest
+nodes_short IsOne bounds longest node xs h = rw (sym (same_length IsOne h.nodes xs h.each)) h.few
+
+value_short : (longest : ℕ) (kind : Kind) (node : Node) (v : Value) → IsValue longest kind node v → IsShort longest v
+value_short longest (single kind) node v h = subst (IsShort longest) (sym h.2) tt
+value_short longest (name_list bounds) node v h = subst (IsShort longest) (sym h.2) (listed_short IsWritten bounds longest node h.0 h.1)
+value_short longest (post_list bounds) node v h = subst (IsShort longest) (sym h.2) (listed_short IsWritten bounds longest node h.0 h.1)
+value_short longest (event_list bounds) node v h = subst (IsShort longest) (sym h.2) (listed_short IsHandled bounds longest node h.0 h.1)
+value_short longest (step_list bounds) node v h =
+    subst (IsShort longest) (sym h.2)
+    (nodes_short (IsStep longest) bounds longest node h.0 h.1, all_zip (IsStep longest) (λ hs. length hs ≤ longest) (listed_short IsHandled _ longest) h.1.nodes h.0 h.1.each)
+value_short longest (map_list table others bounds) node v h = subst (IsShort longest) (sym h.2) (nodes_short (AreFields table others) bounds longest node h.0 h.1)
+value_short longest (keyed_maps table place short) node v h = subst (IsShort longest) (sym h.2) tt
+
+-- ---- entries
+
+default_named : (table : List Setting) → IsNamedTable table → AllByRecursion IsNamedValue (map setting_default table)
+default_named [] q = tt
+default_named (s ∷ ss) q = (q.0.0, default_named ss q.1)
+
+-- Each name in an entry is one, where those are that hold by default.
+pub entry_named : (longest : ℕ) (table : List Setting) (p : Pair) (e : Entry) → IsNamedTable table → IsEntry longest table p e → IsNamedEntry e
+entry_named longest table p e q h = record {
+  name = subst (λ (w : Written). IsName w.text) (sym h.name) h.is_name;
+  values =
+      overwritten_all setting_key (IsSetting longest) is_ignored (λ s. IsNamedValue (setting_default s) × IsNamedKind s.kind) IsNamedValue (λ s node v k i. value_named longest s.kind node v k.1 i) table h.row.pairs
+      (map setting_default table) e.values q h.row.overwritten (default_named table q);
+}
+
+pub entries_named : (longest : ℕ) (table : List Setting) (p : Pair) (es : List Entry) → IsNamedTable table → AreEntries longest table p es → AllByRecursion IsNamedEntry es
+entries_named longest table p es q h = all_zip (IsEntry longest table) IsNamedEntry (λ x e k. entry_named longest table x e q k) h.0 es h.2
+
+-- No list in an entry has more items than the limit, where those have not that hold by default.
+pub entry_short : (longest : ℕ) (table : List Setting) (p : Pair) (e : Entry) → IsShortTable longest table → IsEntry longest table p e → AllByRecursion (IsShort longest) e.values
+entry_short longest table p e q h =
+    overwritten_all setting_key (IsSetting longest) is_ignored (λ s. IsShort longest (setting_default s)) (IsShort longest) (λ s node v _ i. value_short longest s.kind node v i) table h.row.pairs
+    (map setting_default table) e.values q h.row.overwritten (all_map (IsShort longest) setting_default table q)
+
+pub entries_short : (longest : ℕ) (table : List Setting) (p : Pair) (es : List Entry) → IsShortTable longest table → AreEntries longest table p es → AllByRecursion (λ e. AllByRecursion (IsShort longest) e.values) es
+entries_short longest table p es q h =
+    all_zip (IsEntry longest table) (λ e. AllByRecursion (IsShort longest) e.values) (λ x e k. entry_short longest table x e q k) h.0 es h.2
+
+-- ---- players
+
+event_named : (kind : Scalar) (line : ℕ) (text : List ℕ) (v : Plain) → IsEventKind kind → IsScalar kind line text v → IsNamedEvent v
+event_named a_flag line text v q h = absurd q
+event_named (number_within least greatest) line text v q h = absurd q
+event_named (time_within least greatest) line text v q h = absurd q
+event_named a_power line text v q h = absurd q
+event_named (one_of words) line text v q h = absurd q
+event_named a_name line text v q h = subst IsNamedEvent (sym h.1) h.0
+event_named an_event line text v q h = subst IsNamedEvent (sym h.2) h.1.is_name
+
+player_named : (longest : ℕ) (kinds : PlayerKinds) → IsNamedKinds kinds → (p : Pair) (row : Player) → IsPlayer longest kinds p row → IsNamedPlayer row
+player_named longest kinds q p row h = record { event = event_named kinds.key p.line p.key row.event q.key h.key; value = value_named longest kinds.value p.value row.value q.value h.value }
+
+-- Each name in the entries of a player is one.
+pub players_named : (longest : ℕ) (kinds : PlayerKinds) (p : Pair) (rows : List Player) → IsNamedKinds kinds → ArePlayers longest kinds p rows → AllByRecursion IsNamedPlayer rows
+players_named longest kinds p rows q h = all_zip (IsPlayer longest kinds) IsNamedPlayer (player_named longest kinds q) h.0 rows h.2
+
+-- No list in them has more items than the limit.
+pub players_short : (longest : ℕ) (kinds : PlayerKinds) (p : Pair) (rows : List Player) → ArePlayers longest kinds p rows → AllByRecursion (λ row. IsShort longest row.value) rows
+players_short longest kinds p rows h =
+    all_zip (IsPlayer longest kinds) (λ row. IsShort longest row.value) (λ x row k. value_short longest kinds.value x.value row.value k.value) h.0 rows h.2

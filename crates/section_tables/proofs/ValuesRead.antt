@@ -1,0 +1,154 @@
+-- The values of settings are those that are read, and no others.
+use Rattle.std.proofs.Common.{◌≡◌, ℕ, Bool, false, List, map, set, Option, Some, None, Result, Ok, refl, sym, ap, subst, inl}
+use Rattle.yaml_subset.specs.Node.{Node, Pair}
+use Rattle.yaml_subset.specs.View.{line_of, text_in}
+use Rattle.mpf_values.specs.Reading.{is_name}
+use Rattle.mpf_values.proofs.NameTexts.{IsName-from_is_name, is_name-from_IsName}
+use Rattle.section_tables.specs.declared.fault.FaultKind.TheVariants.{BadValue}
+use Rattle.section_tables.specs.Rows.{Handled, Plain, Fields, Keyed, Value, one, names, posts, events, steps, maps, keyed, RowsFault}
+use Rattle.section_tables.specs.Kinds.{Scalar, at_least, Field, Kind, single, name_list, post_list, event_list, step_list, map_list, keyed_maps}
+use Rattle.section_tables.specs.Entries.{entries_of, written_at}
+use Rattle.section_tables.specs.Tables.{field_key, field_default, field_lacks}
+use Rattle.section_tables.specs.EntryOf.{IsWritten, IsHandled, IsField, pass, IsFieldRow, AreFields, IsKeyedRow, IsKeyed, AreKeyed, IsStep, IsValue}
+use Rattle.section_tables.specs.Reading.{IsReadOrLong, ◌>>=◌, Spot, fault_at, key_spot, expect, each_read, plain_at, name_at, handled_in, listed_at, nodes_at, field_at, fields_row_at, fields_at, keyed_row_at, keyed_at, keyed_list_at, value_at}
+use Rattle.section_tables.proofs.Steps.{bind_ok, guard_true, ok_is, expected}
+use Rattle.section_tables.proofs.Outcomes.{then_read, each_sound, each_complete}
+use Rattle.section_tables.proofs.ListValues.{plain_sound, plain_complete, name_sound, name_complete, handled_sound, handled_complete, listed_sound, listed_complete, nodes_sound, nodes_complete}
+use Rattle.section_tables.proofs.RowsRead.{row_sound, row_complete}
+
+-- ---- maps
+
+field_sound : (f : Field) (spot : Spot) (node : Node) (v : Plain) → field_at f spot node ≡ Ok v → IsField f node v
+field_sound f spot node v e = plain_sound f.kind spot node v e
+
+field_row_sound : (table : List Field) (others : Bool) (spot : Spot) (node : Node) (pairs : List Pair) (row : List Plain) → entries_of node ≡ Some pairs → fields_row_at others spot table pairs ≡ Ok row → IsFieldRow table others node row
+field_row_sound table others spot node pairs row has e =
+    let s = row_sound field_key field_at IsField (pass others) field_sound field_default field_lacks spot table pairs row e in
+    record { pairs = pairs; has = has; overwritten = s.0; whole = s.1 }
+
+field_row_complete : (longest : ℕ) (table : List Field) (others : Bool) (spot : Spot) (node : Node) (row : List Plain) (h : IsFieldRow table others node row) → IsReadOrLong longest (fields_row_at others spot table h.pairs) row
+field_row_complete longest table others spot node row h =
+    row_complete field_key field_at IsField (pass others) longest (λ f s n v. plain_complete longest f.kind s n v) field_default field_lacks spot table h.pairs row h.overwritten h.whole
+
+abbrev fields_made : Node → List Plain → Fields
+fields_made node row = record { line = line_of node; values = row }
+
+fields_sound : (table : List Field) (others : Bool) (spot : Spot) (node : Node) (m : Fields) → fields_at table others spot node ≡ Ok m → AreFields table others node m
+unfolding fields_at
+fields_sound table others spot node m e =
+    let at : Spot = record { text = spot.text; line = line_of node; key = spot.key } in
+    let a = bind_ok (expect spot (entries_of node)) (λ pairs. fields_row_at others at table pairs >>= λ row. Ok (fields_made node row)) m e in
+    let b = bind_ok (fields_row_at others at table a.0) (λ row. Ok (fields_made node row)) m a.2 in
+    subst (AreFields table others node) (ok_is (fields_made node b.0) m b.2)
+    (record { line = refl; row = field_row_sound table others at node a.0 b.0 (expected spot (entries_of node) a.0 a.1) b.1 })
+
+fields_complete : (longest : ℕ) (table : List Field) (others : Bool) (spot : Spot) (node : Node) (m : Fields) → AreFields table others node m → IsReadOrLong longest (fields_at table others spot node) m
+unfolding fields_at
+fields_complete longest table others spot node m h =
+    let at : Spot = record { text = spot.text; line = line_of node; key = spot.key } in
+    rw h.row.has
+    (then_read longest (fields_row_at others at table h.row.pairs) (λ r. Ok (fields_made node r)) m.values m (field_row_complete longest table others at node m.values h.row)
+    (inl (λ i. Ok (record { line = sym h.line i; values = m.values }))))
+
+-- ---- maps of names
+
+keyed_row_sound : (table : List Field) (place : ℕ) (short : Scalar) (spot : Spot) (node : Node) (row : List Plain) (o : Option (List ℕ)) → keyed_row_at table place short spot node o ≡ Ok row → IsKeyedRow table place short node row o
+keyed_row_sound table place short spot node row (Some text) e =
+    let a = bind_ok (plain_at short spot node) (λ v. Ok (set (map field_default table) place v)) row e in
+    (a.0, plain_sound short spot node a.0 a.1, sym (ok_is (set (map field_default table) place a.0) row a.2))
+keyed_row_sound table place short spot node row None e =
+    let a = bind_ok (expect spot (entries_of node)) (λ pairs. fields_row_at false spot table pairs) row e in
+    field_row_sound table false spot node a.0 row (expected spot (entries_of node) a.0 a.1) a.2
+
+keyed_row_complete : (longest : ℕ) (table : List Field) (place : ℕ) (short : Scalar) (spot : Spot) (node : Node) (row : List Plain) (o : Option (List ℕ)) → IsKeyedRow table place short node row o
+    → IsReadOrLong longest (keyed_row_at table place short spot node o) row
+keyed_row_complete longest table place short spot node row (Some text) h =
+    then_read longest (plain_at short spot node) (λ v. Ok (set (map field_default table) place v)) h.0 row (plain_complete longest short spot node h.0 h.1) (inl (ap (λ (r : List Plain). Ok r) (sym h.2)))
+keyed_row_complete longest table place short spot node row None h = rw h.has (field_row_complete longest table false spot node row h)
+
+abbrev keyed_made : Pair → List Plain → Keyed
+keyed_made p row = record { name = written_at p.line p.key; values = row }
+
+keyed_sound : (text : List ℕ) (table : List Field) (place : ℕ) (short : Scalar) (p : Pair) (k : Keyed) → keyed_at text table place short p ≡ Ok k → IsKeyed table place short p k
+unfolding keyed_at
+keyed_sound text table place short p k e =
+    let spot = key_spot text p in
+    let row = keyed_row_at table place short spot p.value (text_in p.value) in
+    let a = guard_true (is_name p.key) (row >>= λ r. Ok (keyed_made p r)) (fault_at BadValue spot) k e in
+    let b = bind_ok row (λ r. Ok (keyed_made p r)) k a.1 in
+    subst (IsKeyed table place short p) (ok_is (keyed_made p b.0) k b.2)
+    (record { is_name = IsName-from_is_name p.key a.0; name = refl; row = keyed_row_sound table place short spot p.value b.0 (text_in p.value) b.1 })
+
+keyed_complete : (longest : ℕ) (text : List ℕ) (table : List Field) (place : ℕ) (short : Scalar) (p : Pair) (k : Keyed) → IsKeyed table place short p k → IsReadOrLong longest (keyed_at text table place short p) k
+unfolding keyed_at
+keyed_complete longest text table place short p k h =
+    let spot = key_spot text p in
+    rw (is_name-from_IsName p.key h.is_name)
+    (then_read longest (keyed_row_at table place short spot p.value (text_in p.value)) (λ r. Ok (keyed_made p r)) k.values k
+    (keyed_row_complete longest table place short spot p.value k.values (text_in p.value) h.row) (inl (λ i. Ok (record { name = sym h.name i; values = k.values }))))
+
+keyed_list_sound : (table : List Field) (place : ℕ) (short : Scalar) (spot : Spot) (node : Node) (ks : List Keyed) → keyed_list_at table place short spot node ≡ Ok ks → AreKeyed table place short node ks
+unfolding keyed_list_at
+keyed_list_sound table place short spot node ks e =
+    let a = bind_ok (expect spot (entries_of node)) (λ pairs. each_read (keyed_at spot.text table place short) pairs) ks e in
+    (a.0, expected spot (entries_of node) a.0 a.1, each_sound (keyed_at spot.text table place short) (IsKeyed table place short) (keyed_sound spot.text table place short) a.0 ks a.2)
+
+keyed_list_complete : (longest : ℕ) (table : List Field) (place : ℕ) (short : Scalar) (spot : Spot) (node : Node) (ks : List Keyed) → AreKeyed table place short node ks → IsReadOrLong longest (keyed_list_at table place short spot node) ks
+unfolding keyed_list_at
+keyed_list_complete longest table place short spot node ks h =
+    rw h.1 (each_complete (keyed_at spot.text table place short) (IsKeyed table place short) longest (keyed_complete longest spot.text table place short) h.0 ks h.2)
+
+-- ---- steps
+
+step_sound : (spot : Spot) (node : Node) (step : List Handled) → listed_at handled_in (at_least 1) spot node ≡ Ok step → IsStep 1024 node step
+step_sound spot node step e = listed_sound handled_in IsHandled handled_sound (at_least 1) spot node step e
+
+step_complete : (longest : ℕ) (spot : Spot) (node : Node) (step : List Handled) → IsStep longest node step → IsReadOrLong longest (listed_at handled_in (at_least 1) spot node) step
+step_complete longest spot node step h = listed_complete handled_in IsHandled longest (handled_complete longest) (at_least 1) spot node step h
+
+-- ---- settings
+
+-- a value that is read, and made into that of a setting
+put_in : {A : Type 0} (r : Result A RowsFault) (made : A → Value) (v : Value) → (r >>= λ x. Ok (made x)) ≡ Ok v → (x : A) × (r ≡ Ok x) × (v ≡ made x)
+put_in r made v e =
+    let a = bind_ok r (λ x. Ok (made x)) v e in
+    (a.0, a.1, sym (ok_is (made a.0) v a.2))
+
+pub value_sound : (kind : Kind) (spot : Spot) (node : Node) (v : Value) → value_at kind spot node ≡ Ok v → IsValue 1024 kind node v
+unfolding value_at
+value_sound (single kind) spot node v e = let a = put_in (plain_at kind spot node) one v e in (a.0, plain_sound kind spot node a.0 a.1, a.2)
+value_sound (name_list bounds) spot node v e =
+    let a = put_in (listed_at name_at bounds spot node) names v e in (a.0, listed_sound name_at IsWritten name_sound bounds spot node a.0 a.1, a.2)
+value_sound (post_list bounds) spot node v e =
+    let a = put_in (listed_at name_at bounds spot node) posts v e in (a.0, listed_sound name_at IsWritten name_sound bounds spot node a.0 a.1, a.2)
+value_sound (event_list bounds) spot node v e =
+    let a = put_in (listed_at handled_in bounds spot node) events v e in (a.0, listed_sound handled_in IsHandled handled_sound bounds spot node a.0 a.1, a.2)
+value_sound (step_list bounds) spot node v e =
+    let a = put_in (nodes_at (listed_at handled_in (at_least 1)) bounds spot node) steps v e in
+    (a.0, nodes_sound (listed_at handled_in (at_least 1)) (IsStep 1024) step_sound bounds spot node a.0 a.1, a.2)
+value_sound (map_list table others bounds) spot node v e =
+    let a = put_in (nodes_at (fields_at table others) bounds spot node) maps v e in
+    (a.0, nodes_sound (fields_at table others) (AreFields table others) (fields_sound table others) bounds spot node a.0 a.1, a.2)
+value_sound (keyed_maps table place short) spot node v e =
+    let a = put_in (keyed_list_at table place short spot node) keyed v e in (a.0, keyed_list_sound table place short spot node a.0 a.1, a.2)
+
+then_put : {A : Type 0} (longest : ℕ) (r : Result A RowsFault) (made : A → Value) (x : A) (v : Value) → IsReadOrLong longest r x → v ≡ made x → IsReadOrLong longest (r >>= λ y. Ok (made y)) v
+then_put longest r made x v h is = then_read longest r (λ y. Ok (made y)) x v h (inl (ap (λ (z : Value). Ok z) (sym is)))
+
+pub value_complete : (longest : ℕ) (kind : Kind) (spot : Spot) (node : Node) (v : Value) → IsValue longest kind node v → IsReadOrLong longest (value_at kind spot node) v
+unfolding value_at
+value_complete longest (single kind) spot node v h = then_put longest (plain_at kind spot node) one h.0 v (plain_complete longest kind spot node h.0 h.1) h.2
+value_complete longest (name_list bounds) spot node v h =
+    then_put longest (listed_at name_at bounds spot node) names h.0 v (listed_complete name_at IsWritten longest (name_complete longest) bounds spot node h.0 h.1) h.2
+value_complete longest (post_list bounds) spot node v h =
+    then_put longest (listed_at name_at bounds spot node) posts h.0 v (listed_complete name_at IsWritten longest (name_complete longest) bounds spot node h.0 h.1) h.2
+value_complete longest (event_list bounds) spot node v h =
+    then_put longest (listed_at handled_in bounds spot node) events h.0 v (listed_complete handled_in IsHandled longest (handled_complete longest) bounds spot node h.0 h.1) h.2
+value_complete longest (step_list bounds) spot node v h =
+    then_put longest (nodes_at (listed_at handled_in (at_least 1)) bounds spot node) steps h.0 v
+    (nodes_complete (listed_at handled_in (at_least 1)) (IsStep longest) longest (step_complete longest) bounds spot node h.0 h.1) h.2
+value_complete longest (map_list table others bounds) spot node v h =
+    then_put longest (nodes_at (fields_at table others) bounds spot node) maps h.0 v
+    (nodes_complete (fields_at table others) (AreFields table others) longest (fields_complete longest table others) bounds spot node h.0 h.1) h.2
+value_complete longest (keyed_maps table place short) spot node v h =
+    then_put longest (keyed_list_at table place short spot node) keyed h.0 v (keyed_list_complete longest table place short spot node h.0 h.1) h.2

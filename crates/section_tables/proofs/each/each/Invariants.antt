@@ -1,0 +1,7 @@
+use Rattle.std.proofs.Common.{take, Ok}
+use Rattle.std.specs.List.{AllZip}
+use Rattle.std.specs.Fn.{FnReturnsAt}
+use Rattle.section_tables.proofs.each.each.Given as goal
+
+abbrev pub invariant-loop-item : goal.invariant-loop-item
+invariant-loop-item g l = AllZip (λ x y. FnReturnsAt g.F.Fn l.read x (Ok y)) (take l.item-index l.items) l.found.items

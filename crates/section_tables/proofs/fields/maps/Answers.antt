@@ -1,0 +1,13 @@
+use Rattle.std.proofs.Common.{map}
+use Rattle.yaml_subset.specs.View.{node_view}
+use Rattle.section_tables.specs.Reading.{fields_at}
+use Rattle.section_tables.specs.TableView.{others_view, field_view}
+use Rattle.section_tables.specs.View.{fields_view, spot_view}
+use Rattle.section_tables.proofs.EachGiven.{gives_each}
+use Rattle.section_tables.proofs.fields.maps.Goals as goal
+
+pub returns : goal.returns
+returns c =
+    let read = fields_at (map field_view c.args.table.now) (others_view c.args.others) (spot_view c.args.spot) in
+    let given = gives_each node_view fields_view read c.in_ok-nodes.nodes.now c.each.result c.each.ensures (λ p s m. m) in
+    rw c.in_ok-nodes.ensures given

@@ -1,0 +1,13 @@
+use Rattle.std.proofs.Common.{◌≡◌, drop, length, map}
+use Rattle.section_tables.specs.EntryOf.{pass}
+use Rattle.section_tables.specs.Tables.{field_key}
+use Rattle.section_tables.specs.Reading.{field_at, overwritten_at}
+use Rattle.section_tables.specs.TableView.{others_view, field_view}
+use Rattle.section_tables.specs.View.{pairs_view, plains_view}
+use Rattle.section_tables.proofs.fields.overwrite.Given as goal
+
+abbrev pub invariant-loop-pair : goal.invariant-loop-pair
+invariant-loop-pair l =
+    (length l.row ≡ length l.table)
+    × (overwritten_at field_key field_at (pass (others_view l.others)) l.text (map field_view l.table) (pairs_view (drop l.pair-index l.pairs)) (plains_view l.row)
+    ≡ overwritten_at field_key field_at (pass (others_view l.others)) l.text (map field_view l.table) (pairs_view l.pairs) (plains_view l.fn.row))

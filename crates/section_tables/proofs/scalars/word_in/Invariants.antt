@@ -1,0 +1,7 @@
+use Rattle.std.proofs.Common.{◌≡◌, drop, map}
+use Rattle.std.specs.List.{list_any}
+use Rattle.std.specs.Str.{bytes_eq}
+use Rattle.section_tables.proofs.scalars.word_in.Given as goal
+
+abbrev pub invariant-loop-word : goal.invariant-loop-word
+invariant-loop-word l = list_any (λ w. bytes_eq w l.text) (map (λ w. w.now) (drop l.word-index l.words)) ≡ list_any (λ w. bytes_eq w l.text) (map (λ w. w.now) l.words)

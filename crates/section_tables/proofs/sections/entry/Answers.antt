@@ -1,0 +1,23 @@
+use Rattle.yaml_subset.specs.View.{pair_view}
+use Rattle.section_tables.specs.EntryOf.{IsEntry}
+use Rattle.section_tables.specs.Reading.{entry_at}
+use Rattle.section_tables.specs.TableView.{table_view}
+use Rattle.section_tables.specs.View.{entry_view}
+use Rattle.section_tables.proofs.AnswersOf.{is_found, is_only, is_refused}
+use Rattle.section_tables.proofs.EntriesRead.{entry_sound, entry_complete}
+use Rattle.section_tables.proofs.sections.entry.Goals as goal
+
+pub returns : goal.returns
+returns c =
+    let text = c.args.text.now in
+    let table = table_view c.args.table.now in
+    let p = pair_view c.args.pair.now in
+    let read = entry_at text table p in
+    let r = c.read_entry.result in
+    let h = c.read_entry.ensures in
+    record {
+      found = is_found entry_view read (λ n. IsEntry n table p) (entry_sound text table p) r h;
+      only = is_only entry_view read (λ n. IsEntry n table p) (entry_complete text table p) r h;
+      refused = is_refused entry_view read (λ n. IsEntry n table p) (entry_complete text table p) r h;
+      exact = h;
+    }

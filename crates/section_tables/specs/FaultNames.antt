@@ -1,0 +1,28 @@
+-- What the kinds of faults are called.
+use Rattle.std.specs.Prelude.{ℕ, List, codes}
+use Rattle.section_tables.specs.declared.fault.FaultKind.{FaultKind}
+use Rattle.section_tables.specs.declared.fault.FaultKind.TheVariants.{Bundle, Version, Yaml, UnknownSection, UnknownSetting, BadValue, Missing, Duplicate, Limit}
+
+-- the number of a kind
+abbrev pub number_of : FaultKind → ℕ
+number_of Bundle = 1
+number_of Version = 2
+number_of (Yaml kind) = 3
+number_of UnknownSection = 4
+number_of UnknownSetting = 5
+number_of BadValue = 6
+number_of Missing = 7
+number_of Duplicate = 8
+number_of Limit = 9
+
+-- the name of a kind
+abbrev pub kind_name : FaultKind → List ℕ
+kind_name Bundle = codes "Bundle"
+kind_name Version = codes "Version"
+kind_name (Yaml kind) = codes "Yaml"
+kind_name UnknownSection = codes "UnknownSection"
+kind_name UnknownSetting = codes "UnknownSetting"
+kind_name BadValue = codes "BadValue"
+kind_name Missing = codes "Missing"
+kind_name Duplicate = codes "Duplicate"
+kind_name Limit = codes "Limit"

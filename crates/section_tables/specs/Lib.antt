@@ -1,0 +1,12 @@
+pub mod FaultNames
+pub mod Rows
+pub mod Entries
+pub mod Kinds
+pub mod Tables
+pub mod SectionTables
+pub mod EntryOf
+pub mod Named
+pub mod Reading
+pub mod View
+pub mod TableView
+pub mod GivenEach

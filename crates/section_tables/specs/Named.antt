@@ -1,0 +1,89 @@
+-- What it means that every name in a row is one, and that no list in it is longer than its limit.
+use Rattle.std.specs.Prelude.{ℕ, ◌≤◌, List, length}
+use Rattle.std.specs.List.{AllByRecursion}
+use Rattle.mpf_values.specs.Names.{IsName}
+use Rattle.section_tables.specs.Rows.{Written, Handled, Plain, name, event, Keyed, Value, one, names, posts, events, steps, maps, keyed, Entry, Player}
+use Rattle.section_tables.specs.Kinds.{Scalar, a_name, an_event, Field, Kind, map_list, keyed_maps, Setting, PlayerKinds}
+use Rattle.section_tables.specs.Tables.{field_default, setting_default}
+
+-- ---- names
+
+abbrev pub IsNamedPlain : Plain → Type 0
+IsNamedPlain (name w) = IsName w.text
+IsNamedPlain (event h) = IsName h.event.name
+IsNamedPlain _ = Unit {0}
+
+abbrev pub AreNames : List Written → Type 0
+AreNames = AllByRecursion (λ w. IsName w.text)
+
+abbrev pub AreNamedEvents : List Handled → Type 0
+AreNamedEvents = AllByRecursion (λ h. IsName h.event.name)
+
+abbrev pub AreNamedPlains : List Plain → Type 0
+AreNamedPlains = AllByRecursion IsNamedPlain
+
+abbrev pub IsNamedKeyed : Keyed → Type 0
+IsNamedKeyed k = IsName k.name.text × AreNamedPlains k.values
+
+abbrev pub IsNamedValue : Value → Type 0
+IsNamedValue (one x) = IsNamedPlain x
+IsNamedValue (names xs) = AreNames xs
+IsNamedValue (posts xs) = AreNames xs
+IsNamedValue (events hs) = AreNamedEvents hs
+IsNamedValue (steps ss) = AllByRecursion AreNamedEvents ss
+IsNamedValue (maps ms) = AllByRecursion (λ m. AreNamedPlains m.values) ms
+IsNamedValue (keyed ks) = AllByRecursion IsNamedKeyed ks
+
+-- each name in an entry is one
+pub record IsNamedEntry (e : Entry) : Type 0 where
+  pub name : IsName e.name.text
+  pub values : AllByRecursion IsNamedValue e.values
+
+-- an event whose name is one
+abbrev pub IsNamedEvent : Plain → Type 0
+IsNamedEvent (name w) = IsName w.text
+IsNamedEvent (event h) = IsName h.event.name
+IsNamedEvent _ = ⊥
+
+-- each name in an entry of a player is one
+pub record IsNamedPlayer (row : Player) : Type 0 where
+  pub event : IsNamedEvent row.event
+  pub value : IsNamedValue row.value
+
+-- what holds by default in a table is named too
+abbrev pub AreNamedFields : List Field → Type 0
+AreNamedFields = AllByRecursion (λ f. IsNamedPlain (field_default f))
+
+abbrev pub IsNamedKind : Kind → Type 0
+IsNamedKind (map_list table others bounds) = AreNamedFields table
+IsNamedKind (keyed_maps table place short) = AreNamedFields table
+IsNamedKind _ = Unit {0}
+
+abbrev pub IsNamedTable : List Setting → Type 0
+IsNamedTable = AllByRecursion (λ s. IsNamedValue (setting_default s) × IsNamedKind s.kind)
+
+-- the keys of a player are events, and what holds by default in its values is named
+abbrev pub IsEventKind : Scalar → Type 0
+IsEventKind a_name = Unit {0}
+IsEventKind an_event = Unit {0}
+IsEventKind _ = ⊥
+
+pub record IsNamedKinds (kinds : PlayerKinds) : Type 0 where
+  pub key : IsEventKind kinds.key
+  pub value : IsNamedKind kinds.value
+
+-- ---- limits
+
+-- no list in a value has more items than this
+abbrev pub IsShort : ℕ → Value → Type 0
+IsShort longest (one x) = Unit {0}
+IsShort longest (names xs) = length xs ≤ longest
+IsShort longest (posts xs) = length xs ≤ longest
+IsShort longest (events hs) = length hs ≤ longest
+IsShort longest (steps ss) = (length ss ≤ longest) × AllByRecursion (λ hs. length hs ≤ longest) ss
+IsShort longest (maps ms) = length ms ≤ longest
+IsShort longest (keyed ks) = Unit {0}
+
+-- neither has what holds by default in a table
+abbrev pub IsShortTable : ℕ → List Setting → Type 0
+IsShortTable longest = AllByRecursion (λ s. IsShort longest (setting_default s))

@@ -1,0 +1,41 @@
+-- The tables of the sections: what settings each has, in the order in which their faults are found and their names numbered.
+use Rattle.std.specs.Prelude.{ℕ, if◌then◌else◌, List, [], ◌∷◌, Option, Some, None, codes}
+use Rattle.std.specs.Str.{bytes_eq}
+use Rattle.section_tables.specs.Rows.{word, one, names, posts}
+use Rattle.section_tables.specs.Kinds.{one_of, a_name, at_least, Absent, default, Row, single, name_list, post_list, Setting, PlayerKinds}
+
+abbrev row : {K V : Type 0} → List ℕ → K → Absent V → Row K V
+row key kind absent = record { key = key; kind = kind; absent = absent }
+
+-- posted events, none by default
+abbrev posting : List ℕ → Setting
+posting key = row key (post_list (at_least 0)) (default (posts []))
+
+-- one of these words, the first by default
+abbrev choice : List ℕ → List ℕ → List (List ℕ) → Setting
+choice key first others = row key (single (one_of (first ∷ others))) (default (one (word first)))
+
+-- ---- sections
+
+abbrev pub switches : List Setting
+switches =
+    choice (codes "type") (codes "NO") (codes "NC" ∷ [])
+    ∷ choice (codes "debounce") (codes "auto") (codes "quick" ∷ codes "normal" ∷ [])
+    ∷ row (codes "tags") (name_list (at_least 0)) (default (names []))
+    ∷ posting (codes "events_when_activated")
+    ∷ posting (codes "events_when_deactivated")
+    ∷ []
+
+-- an event, and what is posted where it is handled
+abbrev pub event_player : PlayerKinds
+event_player = record { key = a_name; value = post_list (at_least 0) }
+
+-- ---- by name
+
+-- the table of the entries of a section
+abbrev pub table_of : List ℕ → Option (List Setting)
+table_of section = if bytes_eq section (codes "switches") then Some switches else None
+
+-- the kinds of a player's keys and values
+abbrev pub player_of : List ℕ → Option PlayerKinds
+player_of section = if bytes_eq section (codes "event_player") then Some event_player else None

@@ -1,0 +1,134 @@
+-- What contracts see of the rows, and of an answer.
+use Rattle.std.specs.Prelude.{◌≡◌, ℕ, map, List, Option, Some, None, Result, Ok, Err}
+use Rattle.std.specs.Borrow.{Bor}
+use Rattle.std.specs.Global.{Box, Vec}
+use Rattle.yaml_subset.specs.declared.tree.Key.{Key}
+use Rattle.yaml_subset.specs.declared.tree.Tree.{Tree}
+use Rattle.yaml_subset.specs.Node.{Node, Pair}
+use Rattle.yaml_subset.specs.View.{node_view, pair_view}
+use Rattle.mpf_values.specs.Events.{Condition}
+use Rattle.section_tables.specs.declared.rows.Name.{Name}
+use Rattle.section_tables.specs.declared.rows.Guard.{Guard}
+use Rattle.section_tables.specs.declared.rows.Handler.{Handler}
+use Rattle.section_tables.specs.declared.rows.Plain as plains
+use Rattle.section_tables.specs.declared.rows.Plain.TheVariants as plain
+use Rattle.section_tables.specs.declared.rows.Fields as fields
+use Rattle.section_tables.specs.declared.rows.Keyed as keyed_rows
+use Rattle.section_tables.specs.declared.rows.Player as players
+use Rattle.section_tables.specs.declared.rows.Value as values
+use Rattle.section_tables.specs.declared.rows.Value.TheVariants as value
+use Rattle.section_tables.specs.declared.rows.Entry as entries
+use Rattle.section_tables.specs.declared.spot.Spot as spots
+use Rattle.section_tables.specs.declared.fault.Fault.{Fault}
+use Rattle.section_tables.specs.declared.fault.ConfigFault.{ConfigFault}
+use Rattle.section_tables.specs.declared.fault.ConfigFault.TheVariants as faults
+use Rattle.section_tables.specs.Rows.{Written, Handled, Plain, nothing, flag, number, time, power, word, name, event, Fields, Keyed, Value, one, names, posts, events, steps, maps, keyed, Entry, Player, RowsFault}
+use Rattle.section_tables.specs.Reading.{Spot}
+
+-- ---- values
+
+abbrev pub name_view : Name → Written
+name_view n = record { line = n.line; text = n.text.items }
+
+abbrev pub guard_view : Guard → Condition
+guard_view c = record { variable = c.variable.items; comparison = c.comparison; number = c.number }
+
+abbrev pub guard_option_view : Option (Box Guard) → Option Condition
+guard_option_view None = None
+guard_option_view (Some c) = Some (guard_view c.value)
+
+abbrev pub handler_view : Handler → Handled
+handler_view h = record { line = h.line; event = record { name = h.name.items; condition = guard_option_view h.condition } }
+
+abbrev pub plain_view : plains.Plain → Plain
+plain_view plain.Nothing = nothing
+plain_view (plain.Flag b) = flag b
+plain_view (plain.Number n) = number n
+plain_view (plain.Time ms) = time ms
+plain_view (plain.Power n) = power n
+plain_view (plain.Word w) = word w.now
+plain_view (plain.Name n) = name (name_view n.value)
+plain_view (plain.Event h) = event (handler_view h.value)
+
+abbrev pub plains_view : List plains.Plain → List Plain
+plains_view = map plain_view
+
+abbrev pub names_view : Vec Name → List Written
+names_view xs = map name_view xs.items
+
+abbrev pub handlers_view : Vec Handler → List Handled
+handlers_view xs = map handler_view xs.items
+
+abbrev pub steps_view : Vec (Vec Handler) → List (List Handled)
+steps_view xs = map handlers_view xs.items
+
+abbrev pub fields_view : fields.Fields → Fields
+fields_view m = record { line = m.line; values = plains_view m.values.items }
+
+abbrev pub maps_view : Vec fields.Fields → List Fields
+maps_view xs = map fields_view xs.items
+
+abbrev pub keyed_view : keyed_rows.Keyed → Keyed
+keyed_view k = record { name = name_view k.name; values = plains_view k.values.items }
+
+abbrev pub keyed_list_view : Vec keyed_rows.Keyed → List Keyed
+keyed_list_view xs = map keyed_view xs.items
+
+abbrev pub value_view : values.Value → Value
+value_view (value.One x) = one (plain_view x)
+value_view (value.Names xs) = names (names_view xs)
+value_view (value.Posts xs) = posts (names_view xs)
+value_view (value.Events xs) = events (handlers_view xs)
+value_view (value.Steps xs) = steps (steps_view xs)
+value_view (value.Maps xs) = maps (maps_view xs)
+value_view (value.Keyed xs) = keyed (keyed_list_view xs)
+
+abbrev pub values_view : List values.Value → List Value
+values_view = map value_view
+
+-- ---- entries
+
+abbrev pub entry_view : entries.Entry → Entry
+entry_view e = record { name = name_view e.name; values = values_view e.values.items }
+
+abbrev pub entries_view : Vec entries.Entry → List Entry
+entries_view xs = map entry_view xs.items
+
+abbrev pub player_view : players.Player → Player
+player_view p = record { event = plain_view p.event; value = value_view p.value }
+
+abbrev pub players_view : Vec players.Player → List Player
+players_view xs = map player_view xs.items
+
+-- ---- faults
+
+abbrev pub spot_view : spots.Spot → Spot
+spot_view s = record { text = s.text.now; line = s.line; key = s.key.now }
+
+abbrev pub fault_view : Fault → RowsFault
+fault_view f = record { kind = f.kind; text = f.text.items; line = f.line; key = f.key.items }
+
+-- An answer, seen by view, is what reading gives, unless memory ran out.
+abbrev pub FailsRows : {Y : Type 0} → ConfigFault → Result Y RowsFault → Type 0
+FailsRows faults.NoMemory read = Unit {0}
+FailsRows (faults.Bundle f) read = read ≡ Err (fault_view f)
+
+abbrev pub GivesRows : {X Y : Type 0} → (X → Y) → Result X ConfigFault → Result Y RowsFault → Type 0
+GivesRows view (Ok x) read = read ≡ Ok (view x)
+GivesRows view (Err e) read = FailsRows e read
+
+-- ---- nodes
+
+abbrev pub pairs_view : List (Key × Tree) → List Pair
+pairs_view = map pair_view
+
+abbrev pub pairs_in_view : Bor (List (Key × Tree)) → List Pair
+pairs_in_view pairs = pairs_view pairs.now
+
+abbrev pub nodes_in_view : Bor (List Tree) → List Node
+nodes_in_view nodes = map node_view nodes.now
+
+-- the place and the element that were found
+abbrev pub found_view : {T R : Type 0} → (T → R) → Option (ℕ × Bor T) → Option (ℕ × R)
+found_view view None = None
+found_view view (Some p) = Some (p.0, view p.1.now)

@@ -1,0 +1,106 @@
+//! Why a bundle has no rows.
+
+ghost use Rattle.std.specs.Prelude.{◌≡◌};
+ghost use Rattle.section_tables.specs.FaultNames.{number_of, kind_name};
+ghost use Rattle.section_tables.specs.declared.fault.ConfigFault.TheVariants.{NoMemory};
+
+use std::alloc::{AllocError, AllocFailed};
+use thiserror::Error;
+use yaml_subset::fault::FaultKind as YamlKind;
+
+/// What is wrong.
+#[derive(Clone, Copy, Debug, PartialEq, Eq)]
+pub enum FaultKind {
+    /// The bundle has no line `@ NAME` first, a bad `@` line, or no machine text.
+    Bundle,
+    /// The text does not begin with `#config_version=6`.
+    Version,
+    /// The text is not read as YAML.
+    Yaml(YamlKind),
+    /// No section has this name.
+    UnknownSection,
+    /// The section has no such setting.
+    UnknownSetting,
+    /// The value is not one that the setting takes.
+    BadValue,
+    /// A setting that is required is not written.
+    Missing,
+    /// The name is taken already.
+    Duplicate,
+    /// The bundle or a list is above its limit.
+    Limit,
+}
+
+impl FaultKind {
+    /// The number that the kind is printed with, 1 to 9.
+    pub fn number(&self) -> u32
+        ensures { result ≡ number_of self.now }
+    {
+        match self {
+            FaultKind::Bundle => 1,
+            FaultKind::Version => 2,
+            FaultKind::Yaml(_) => 3,
+            FaultKind::UnknownSection => 4,
+            FaultKind::UnknownSetting => 5,
+            FaultKind::BadValue => 6,
+            FaultKind::Missing => 7,
+            FaultKind::Duplicate => 8,
+            FaultKind::Limit => 9,
+        }
+    }
+
+    /// The name that the kind is printed with.
+    pub fn name(&self) -> &'static str
+        ensures { result.now ≡ kind_name self.now }
+    {
+        match self {
+            FaultKind::Bundle => "Bundle",
+            FaultKind::Version => "Version",
+            FaultKind::Yaml(_) => "Yaml",
+            FaultKind::UnknownSection => "UnknownSection",
+            FaultKind::UnknownSetting => "UnknownSetting",
+            FaultKind::BadValue => "BadValue",
+            FaultKind::Missing => "Missing",
+            FaultKind::Duplicate => "Duplicate",
+            FaultKind::Limit => "Limit",
+        }
+    }
+}
+
+/// A fault: its text's name (or `-`), the line in that text, counted from 1, and the key that
+/// it is about (or `-`). A fault of the YAML reader has the name of its kind as its key.
+#[derive(Debug, Drop, Error)]
+#[error("{} at line {}", .kind.name(), .line)]
+pub struct Fault {
+    pub kind: FaultKind,
+    pub text: Vec<u8>,
+    pub line: u32,
+    pub key: Vec<u8>,
+}
+
+/// Why a bundle was not read.
+#[derive(Debug, Drop, Error)]
+pub enum ConfigFault {
+    /// Memory ran out.
+    #[error("NoMemory")]
+    NoMemory,
+    /// The bundle has a fault: the first one.
+    #[error(transparent)]
+    Bundle(Fault),
+}
+
+impl From<AllocError> for ConfigFault {
+    ghost from_gives = { λ _ e. e ≡ NoMemory };
+
+    fn from(_e: AllocError) -> ConfigFault {
+        ConfigFault::NoMemory
+    }
+}
+
+impl<T: Drop> From<AllocFailed<T>> for ConfigFault {
+    ghost from_gives = { λ _ e. e ≡ NoMemory };
+
+    fn from(_e: AllocFailed<T>) -> ConfigFault {
+        ConfigFault::NoMemory
+    }
+}

@@ -1,0 +1,23 @@
+//! The rows of sections, each read by the table of its section.
+//!
+//! A table says for each setting its key, of which kind its value is, and what holds where it is
+//! not written. One reader serves all tables: [`entries`] for the entries of a section, [`entry`]
+//! for a section that is one entry itself, and [`players`] for sections whose keys are events.
+#![tactic(auto)]
+
+pub mod each;
+pub mod fault;
+mod fields;
+mod handling;
+mod lists;
+mod nodes;
+pub mod rows;
+mod scalars;
+mod sections;
+mod settings;
+pub mod spot;
+pub mod table;
+pub mod tables;
+
+pub use handling::players;
+pub use sections::{entries, entry};

@@ -1,0 +1,140 @@
+//! Values that are lists of texts.
+
+ghost use Rattle.std.specs.Prelude.{◌≡◌};
+ghost use Rattle.yaml_subset.specs.View.{node_view};
+ghost use Rattle.mpf_values.specs.Reading.{list_at};
+ghost use Rattle.mpf_values.specs.View.{item_view, items_view};
+ghost use Rattle.section_tables.specs.Kinds.{fits};
+ghost use Rattle.section_tables.specs.Reading.{count_at, name_at, handled_in, items_at, listed_at};
+ghost use Rattle.section_tables.specs.TableView.{bounds_view};
+ghost use Rattle.section_tables.specs.View.{name_view, names_view, handler_view, handlers_view, spot_view, GivesRows};
+
+use crate::each::each;
+use crate::fault::{ConfigFault, FaultKind};
+use crate::rows::{Handler, Name};
+use crate::scalars::{handler_of, is_name, name_of};
+use crate::spot::Spot;
+use crate::table::Bounds;
+use mpf_values::{Item, ListFault, event, list};
+use std::alloc::Global;
+use yaml_subset::tree::Tree;
+
+/// The most items of a list.
+const MAX_ITEMS: usize = 1024;
+
+impl Bounds {
+    // Whether a list may have so many items.
+    fn fits(self, count: usize) -> bool
+        ensures { result ≡ fits (bounds_view self) count }
+    {
+        match self {
+            Bounds::AtLeast(least) => least <= count,
+            Bounds::Between(least, greatest) => least <= count && count <= greatest,
+        }
+    }
+}
+
+/// A fault at the spot where a list may not have so many items: Limit above 1,024, and else
+/// BadValue.
+#[tactic(auto, unfolding(crate::specs::Reading::count_at))]
+pub fn check_count(
+    alloc: Global,
+    spot: Spot<'_>,
+    bounds: Bounds,
+    count: usize,
+) -> Result<(), ConfigFault>
+    ensures { GivesRows (λ _. tt) result (count_at (bounds_view bounds) (spot_view spot.entry) count) }
+{
+    if count > MAX_ITEMS {
+        return Err(ConfigFault::Bundle(spot.fault(alloc, FaultKind::Limit)?));
+    }
+    if !bounds.fits(count) {
+        return Err(ConfigFault::Bundle(spot.fault(alloc, FaultKind::BadValue)?));
+    }
+    Ok(())
+}
+
+// The items of a list; or BadValue at the spot where the value is none, or a fault of their number.
+#[tactic(auto, unfolding(crate::specs::Reading::items_at))]
+fn items<'a>(
+    alloc: Global,
+    spot: Spot<'_>,
+    bounds: Bounds,
+    value: &'a Tree,
+) -> Result<Vec<Item<'a>>, ConfigFault>
+    ensures { GivesRows (λ items. items_view items.items) result (items_at (bounds_view bounds) (spot_view spot.entry) (node_view value.now)) }
+{
+    let items = match list(alloc, value) {
+        Ok(items) => items,
+        Err(ListFault::NoMemory) => return Err(ConfigFault::NoMemory),
+        Err(ListFault::BadValue) => {
+            return Err(ConfigFault::Bundle(spot.fault(alloc, FaultKind::BadValue)?));
+        }
+    };
+    check_count(alloc, spot, bounds, items.len())?;
+    Ok(items)
+}
+
+// The name that an item of a list is; or BadValue at the spot.
+#[tactic(auto, unfolding(crate::specs::Reading::name_at))]
+fn item_name(alloc: Global, spot: Spot<'_>, item: Item<'_>) -> Result<Name, ConfigFault>
+    ensures { GivesRows name_view result (name_at (spot_view spot.entry) (item_view item.entry)) }
+{
+    if !is_name(item.text) {
+        return Err(ConfigFault::Bundle(spot.fault(alloc, FaultKind::BadValue)?));
+    }
+    let name = name_of(alloc, item.line, item.text)?;
+    Ok(name)
+}
+
+// The handled event that an item of a list is; or BadValue at the spot.
+#[tactic(auto, unfolding(crate::specs::Reading::handled_in))]
+fn item_handler(alloc: Global, spot: Spot<'_>, item: Item<'_>) -> Result<Handler, ConfigFault>
+    ensures { GivesRows handler_view result (handled_in (spot_view spot.entry) (item_view item.entry)) }
+{
+    let Ok(event) = event(item.text) else {
+        return Err(ConfigFault::Bundle(spot.fault(alloc, FaultKind::BadValue)?));
+    };
+    let handler = handler_of(alloc, item.line, event)?;
+    Ok(handler)
+}
+
+/// The names in a list, each with the line where it is written. A fault stands at the spot:
+/// BadValue where the value is no list, Limit above 1,024 items, BadValue where the bounds do not
+/// let the list have so many, and at an item that is no name.
+pub fn names(
+    alloc: Global,
+    spot: Spot<'_>,
+    bounds: Bounds,
+    value: &Tree,
+) -> Result<Vec<Name>, ConfigFault>
+    ensures { GivesRows names_view result (listed_at name_at (bounds_view bounds) (spot_view spot.entry) (node_view value.now)) }
+{
+    let items = items(alloc, spot, bounds, value)?;
+    each(
+        alloc,
+        &items,
+        |item|
+            ensures { GivesRows name_view result (name_at (spot_view spot.entry) (item_view item.now)) }
+        { item_name(alloc, spot, *item) },
+    )
+}
+
+/// The handled events in a list, with the faults of [`names`].
+pub fn handlers(
+    alloc: Global,
+    spot: Spot<'_>,
+    bounds: Bounds,
+    value: &Tree,
+) -> Result<Vec<Handler>, ConfigFault>
+    ensures { GivesRows handlers_view result (listed_at handled_in (bounds_view bounds) (spot_view spot.entry) (node_view value.now)) }
+{
+    let items = items(alloc, spot, bounds, value)?;
+    each(
+        alloc,
+        &items,
+        |item|
+            ensures { GivesRows handler_view result (handled_in (spot_view spot.entry) (item_view item.now)) }
+        { item_handler(alloc, spot, *item) },
+    )
+}

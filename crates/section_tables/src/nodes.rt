@@ -1,0 +1,74 @@
+//! Nodes, as the readers of sections take them.
+
+ghost use Rattle.std.specs.Prelude.{◌≡◌, map};
+ghost use Rattle.yaml_subset.specs.View.{node_view, pair_view, option_slice};
+ghost use Rattle.section_tables.specs.Entries.{entries_of, nodes_of};
+ghost use Rattle.section_tables.specs.Reading.{expect, list_nodes_at};
+ghost use Rattle.section_tables.specs.TableView.{bounds_view};
+ghost use Rattle.section_tables.specs.View.{spot_view, pairs_in_view, nodes_in_view, GivesRows};
+
+use crate::fault::{ConfigFault, FaultKind};
+use crate::lists::check_count;
+use crate::spot::Spot;
+use crate::table::Bounds;
+use std::alloc::Global;
+use yaml_subset::tree::{Key, Tree};
+
+// The pairs of a mapping; the empty text is taken for a mapping without pairs.
+#[tactic(auto, unfolding(crate::specs::Entries::entries_of))]
+fn pairs_of(tree: &Tree) -> Option<&[(Key, Tree)]>
+    ensures { option_slice (map pair_view) result ≡ entries_of (node_view tree.now) }
+{
+    if let Some(pairs) = tree.as_map() {
+        return Some(pairs);
+    }
+    match tree.as_scalar() {
+        Some([]) => Some(&[]),
+        _ => None,
+    }
+}
+
+// The nodes of a YAML list; the empty text is taken for a list without nodes.
+#[tactic(auto, unfolding(crate::specs::Entries::nodes_of))]
+fn nodes_of(tree: &Tree) -> Option<&[Tree]>
+    ensures { option_slice (map node_view) result ≡ nodes_of (node_view tree.now) }
+{
+    if let Some(nodes) = tree.as_list() {
+        return Some(nodes);
+    }
+    match tree.as_scalar() {
+        Some([]) => Some(&[]),
+        _ => None,
+    }
+}
+
+/// The pairs of a mapping; or BadValue at the spot.
+pub fn pairs<'a>(
+    alloc: Global,
+    spot: Spot<'_>,
+    tree: &'a Tree,
+) -> Result<&'a [(Key, Tree)], ConfigFault>
+    ensures { GivesRows pairs_in_view result (expect (spot_view spot.entry) (entries_of (node_view tree.now))) }
+{
+    match pairs_of(tree) {
+        Some(pairs) => Ok(pairs),
+        None => Err(ConfigFault::Bundle(spot.fault(alloc, FaultKind::BadValue)?)),
+    }
+}
+
+/// The nodes of a YAML list; or BadValue at the spot where it is none, or a fault of their number.
+#[tactic(auto, unfolding(crate::specs::Reading::list_nodes_at))]
+pub fn nodes<'a>(
+    alloc: Global,
+    spot: Spot<'_>,
+    bounds: Bounds,
+    tree: &'a Tree,
+) -> Result<&'a [Tree], ConfigFault>
+    ensures { GivesRows nodes_in_view result (list_nodes_at (bounds_view bounds) (spot_view spot.entry) (node_view tree.now)) }
+{
+    let Some(nodes) = nodes_of(tree) else {
+        return Err(ConfigFault::Bundle(spot.fault(alloc, FaultKind::BadValue)?));
+    };
+    check_count(alloc, spot, bounds, nodes.len())?;
+    Ok(nodes)
+}

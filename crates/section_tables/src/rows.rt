@@ -1,0 +1,95 @@
+//! The rows of sections.
+
+use mpf_values::Comparison;
+use std::mem::size_of;
+
+/// A name of 1 to 64 letters, digits, `_`, `-` and `.`, with the line where it is written,
+/// counted from 1; a name that is not written but holds by default has line 0.
+#[derive(Debug, Drop)]
+pub struct Name {
+    pub line: u32,
+    pub text: Vec<u8>,
+}
+
+/// That a variable of the current player compares so with a number.
+#[derive(Debug, Drop)]
+pub struct Guard {
+    pub variable: Vec<u8>,
+    pub comparison: Comparison,
+    pub number: i64,
+}
+
+/// An event that is handled, under a condition where it has one; with the line where it is
+/// written, as [`Name`] has it.
+#[derive(Debug, Drop)]
+pub struct Handler {
+    pub line: u32,
+    pub name: Vec<u8>,
+    pub condition: Option<Box<Guard>>,
+}
+
+/// What one text says. What is large stands in a box, so that a value has 24 bytes.
+#[derive(Debug, Drop)]
+pub enum Plain {
+    /// Nothing is written, and nothing holds by default.
+    Nothing,
+    Flag(bool),
+    Number(i64),
+    /// In milliseconds.
+    Time(u32),
+    /// In thousandths of full power.
+    Power(u16),
+    /// A word of the table.
+    Word(&'static [u8]),
+    Name(Box<Name>),
+    Event(Box<Handler>),
+}
+
+/// A map in a list, with the line where it begins: its values in the order of its table.
+#[derive(Debug, Drop)]
+pub struct Fields {
+    pub line: u32,
+    pub values: Vec<Plain>,
+}
+
+/// A name, and the values that belong to it in the order of their table.
+#[derive(Debug, Drop)]
+pub struct Keyed {
+    pub name: Name,
+    pub values: Vec<Plain>,
+}
+
+/// The value of a setting, of 32 bytes.
+#[derive(Debug, Drop)]
+pub enum Value {
+    One(Plain),
+    /// Names of other things than events.
+    Names(Vec<Name>),
+    /// Names of events that are posted.
+    Posts(Vec<Name>),
+    Events(Vec<Handler>),
+    Steps(Vec<Vec<Handler>>),
+    Maps(Vec<Fields>),
+    Keyed(Vec<Keyed>),
+}
+
+const _: () = prove!(size_of::<Plain>() <= 24);
+
+const _: () = prove!(size_of::<Value>() <= 32);
+
+const _: () = prove!(size_of::<Handler>() <= 48);
+
+/// An entry of a section: its values in the order of the section's table.
+#[derive(Debug, Drop)]
+pub struct Entry {
+    pub name: Name,
+    pub values: Vec<Value>,
+}
+
+/// An entry of a player: the event that its key is, by its name or as a handled event, and its
+/// value.
+#[derive(Debug, Drop)]
+pub struct Player {
+    pub event: Plain,
+    pub value: Value,
+}

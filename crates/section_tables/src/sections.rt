@@ -1,0 +1,109 @@
+//! Entries of a section, each read by the table of the section.
+
+ghost use Rattle.std.specs.Prelude.{◌≡◌, ◌≢◌, ℕ, ◌<◌, List, IfOk, IfErr};
+ghost use Rattle.yaml_subset.specs.View.{pair_view};
+ghost use Rattle.section_tables.specs.Rows.{Entry as Row};
+ghost use Rattle.section_tables.specs.EntryOf.{IsEntry, AreEntries};
+ghost use Rattle.section_tables.specs.Reading.{entry_at, entries_at};
+ghost use Rattle.section_tables.specs.TableView.{table_view};
+ghost use Rattle.section_tables.specs.View.{entry_view, entries_view, GivesRows};
+
+use crate::each::each;
+use crate::fault::{ConfigFault, FaultKind};
+use crate::nodes::pairs;
+use crate::rows::Entry;
+use crate::scalars::{is_name, name_of};
+use crate::settings::values;
+use crate::spot::spot_of;
+use crate::table::Setting;
+use std::alloc::Global;
+use yaml_subset::tree::{Key, Tree};
+
+// An entry of a section with this table; or the first fault.
+#[tactic(auto, unfolding(crate::specs::Reading::entry_at))]
+fn read_entry(
+    alloc: Global,
+    table: &[Setting],
+    text: &[u8],
+    pair: &(Key, Tree),
+) -> Result<Entry, ConfigFault>
+    ensures { GivesRows entry_view result (entry_at text.now (table_view table.now) (pair_view pair.now)) }
+{
+    let key = &pair.0;
+    let spot = spot_of(text, key);
+    if !is_name(&key.text) {
+        return Err(ConfigFault::Bundle(spot.fault(alloc, FaultKind::BadValue)?));
+    }
+    let pairs = pairs(alloc, spot, &pair.1)?;
+    let values = values(alloc, spot, table, pairs)?;
+    let name = name_of(alloc, key.line, &key.text)?;
+    Ok(Entry { name, values })
+}
+
+// The entries of a section with this table; or the first fault.
+#[tactic(auto, unfolding(crate::specs::Reading::entries_at))]
+fn read_entries(
+    alloc: Global,
+    table: &[Setting],
+    text: &[u8],
+    pair: &(Key, Tree),
+) -> Result<Vec<Entry>, ConfigFault>
+    ensures { GivesRows entries_view result (entries_at text.now (table_view table.now) (pair_view pair.now)) }
+{
+    let pairs = pairs(alloc, spot_of(text, &pair.0), &pair.1)?;
+    each(
+        alloc,
+        pairs,
+        |pair|
+            ensures { GivesRows entry_view result (entry_at text.entry.now (table_view table.entry.now) (pair_view pair.now)) }
+        { read_entry(alloc, table, text, pair) },
+    )
+}
+
+/// The entry that a pair is by this table, in the text of this name: as one of the entries of a
+/// section, or as a section that is one entry itself. Its faults are BadValue where its key is no
+/// name or its value no mapping, then those of its settings as they are written, and then Missing,
+/// with the first key of the table that has to be written and is not.
+pub fn entry(
+    alloc: Global,
+    table: &[Setting],
+    text: &[u8],
+    pair: &(Key, Tree),
+) -> Result<Entry, ConfigFault>
+    // What is answered is the entry.
+    ensures found { IfOk result (λ x. IsEntry 1024 (table_view table.now) (pair_view pair.now) (entry_view x)) }
+
+    // The pair is no other, however many items its lists may have.
+    ensures only { IfOk result (λ x. (longest : ℕ) (e : Row) → IsEntry longest (table_view table.now) (pair_view pair.now) e → e ≡ entry_view x) }
+
+    // A pair that is refused, but for want of memory, is an entry only where a list is too long.
+    ensures refused { IfErr result (λ e. e ≢ ConfigFault.NoMemory → (longest : ℕ) (row : Row) → IsEntry longest (table_view table.now) (pair_view pair.now) row → 1024 < longest) }
+
+    // Which fault it is, with its line and key, is what reading from the first setting gives.
+    ensures exact { GivesRows entry_view result (entry_at text.now (table_view table.now) (pair_view pair.now)) }
+{
+    read_entry(alloc, table, text, pair)
+}
+
+/// The entries of a section with this table, in the text of this name; or the first fault in
+/// them, as [`entry`] has it; or BadValue at the section where it is no mapping.
+pub fn entries(
+    alloc: Global,
+    table: &[Setting],
+    text: &[u8],
+    pair: &(Key, Tree),
+) -> Result<Vec<Entry>, ConfigFault>
+    // What is answered are the entries of the section.
+    ensures found { IfOk result (λ xs. AreEntries 1024 (table_view table.now) (pair_view pair.now) (entries_view xs)) }
+
+    // The section has no others, however many items its lists may have.
+    ensures only { IfOk result (λ xs. (longest : ℕ) (es : List Row) → AreEntries longest (table_view table.now) (pair_view pair.now) es → es ≡ entries_view xs) }
+
+    // A section that is refused, but for want of memory, has entries only where a list is too long.
+    ensures refused { IfErr result (λ e. e ≢ ConfigFault.NoMemory → (longest : ℕ) (es : List Row) → AreEntries longest (table_view table.now) (pair_view pair.now) es → 1024 < longest) }
+
+    // Which fault it is, with its line and key, is what reading from the first entry gives.
+    ensures exact { GivesRows entries_view result (entries_at text.now (table_view table.now) (pair_view pair.now)) }
+{
+    read_entries(alloc, table, text, pair)
+}

@@ -1,0 +1,258 @@
+//! The settings of an entry, read by the table of its section.
+
+ghost use Rattle.std.specs.Prelude.{◌≡◌, ◌<◌, List, [], ◌∷◌, length, map, None, IfOk, IfSome};
+ghost use Rattle.std.specs.List.{list_any};
+ghost use Rattle.std.specs.Str.{bytes_eq};
+ghost use Rattle.yaml_subset.specs.View.{node_view, option_slice};
+ghost use Rattle.section_tables.specs.Entries.{is_ignored, handled_at};
+ghost use Rattle.section_tables.specs.Kinds.{at_least};
+ghost use Rattle.section_tables.specs.Tables.{found_in, value_default, setting_key, setting_default, value_lacks, setting_lacks};
+ghost use Rattle.section_tables.specs.Reading.{put_at, overwritten_at, lacking, handled_in, listed_at, nodes_at, value_at, setting_at, values_at};
+ghost use Rattle.section_tables.specs.TableView.{bounds_view, kind_view, without_view, setting_view, table_view};
+ghost use Rattle.section_tables.specs.View.{handlers_view, steps_view, value_view, values_view, spot_view, pairs_view, found_view, GivesRows};
+
+use crate::each::each;
+use crate::fault::{ConfigFault, FaultKind};
+use crate::fields::{default_plain, keyed_list, lacks as plain_lacks, maps};
+use crate::lists::{handlers, names};
+use crate::nodes::nodes;
+use crate::rows::{Handler, Value};
+use crate::scalars::plain;
+use crate::spot::{Spot, spot_of};
+use crate::table::{Bounds, Kind, Setting, Without};
+use std::alloc::{AllocError, Global};
+use yaml_subset::tree::{Key, Tree};
+
+// ---- keys
+
+/// The settings that every entry takes, and at whose values nothing looks where the section's
+/// table does not have them.
+const IGNORED: [&[u8]; 11] = [
+    b"number",
+    b"tags",
+    b"label",
+    b"debug",
+    b"platform",
+    b"platform_settings",
+    b"console_log",
+    b"file_log",
+    b"x",
+    b"y",
+    b"z",
+];
+
+fn is_one_of(names: &[&[u8]], name: &[u8]) -> bool
+    ensures { result ≡ list_any (λ n. bytes_eq n.now name.now) names.now }
+{
+    names.iter().any(|n| *n == name)
+}
+
+#[tactic(auto, unfolding(crate::specs::Entries::is_ignored))]
+fn is_ignored(key: &[u8]) -> bool
+    ensures { result ≡ is_ignored key.now }
+{
+    is_one_of(&IGNORED, key)
+}
+
+// The place in a table of the setting with this key, and the setting.
+fn setting_of<'t>(table: &'t [Setting], key: &[u8]) -> Option<(usize, &'t Setting)>
+    ensures found { found_view setting_view result ≡ found_in setting_key key.now (table_view table.now) }
+    ensures within { IfSome result (λ found. found.0 < length table.now) }
+{
+    for (at, setting) in table.iter().enumerate() {
+        if setting.key == key {
+            return Some((at, setting));
+        }
+    }
+    None
+}
+
+// ---- what holds where nothing is written
+
+// The event of this name, handled always.
+fn default_event(alloc: Global, name: &[u8]) -> Result<Vec<Handler>, AllocError>
+    ensures { IfOk result (λ xs. handlers_view xs ≡ handled_at 0 (record { name = name.now; condition = None }) ∷ []) }
+{
+    let name = Vec::from_slice(alloc, name)?;
+    let handler = Handler {
+        line: 0,
+        name,
+        condition: None,
+    };
+    let mut handlers = Vec::with_capacity(alloc, 1)?;
+    handlers.push(handler)?;
+    Ok(handlers)
+}
+
+// What holds where a setting is not written.
+fn default_value(alloc: Global, without: Without) -> Result<Value, AllocError>
+    ensures { IfOk result (λ value. value_view value ≡ value_default (without_view without)) }
+{
+    match without {
+        Without::One(absent) => {
+            let value = default_plain(alloc, absent)?;
+            Ok(Value::One(value))
+        }
+        Without::NoNames => Ok(Value::Names(Vec::new(alloc))),
+        Without::NoPosts => Ok(Value::Posts(Vec::new(alloc))),
+        Without::NoEvents => Ok(Value::Events(Vec::new(alloc))),
+        Without::Event(name) => {
+            let handlers = default_event(alloc, name)?;
+            Ok(Value::Events(handlers))
+        }
+        Without::NoMaps => Ok(Value::Maps(Vec::new(alloc))),
+    }
+}
+
+// A row with nothing written in it.
+fn bare_row(alloc: Global, table: &[Setting]) -> Result<Vec<Value>, AllocError>
+    ensures row { IfOk result (λ row. values_view row.items ≡ map setting_default (table_view table.now)) }
+    ensures len { IfOk result (λ row. length row.items ≡ length table.now) }
+{
+    let mut row = Vec::with_capacity(alloc, table.len())?;
+    for setting in table {
+        let value = default_value(alloc, setting.without)?;
+        row.push(value)?;
+    }
+    Ok(row)
+}
+
+// Whether nothing is written that has to be.
+fn lacks(without: Without, value: &Value) -> bool
+    ensures { result ≡ value_lacks (without_view without) (value_view value.now) }
+{
+    match (without, value) {
+        (Without::One(absent), Value::One(value)) => plain_lacks(absent, value),
+        _ => false,
+    }
+}
+
+// The key of the first setting that has to be written and is not.
+fn first_lacking(table: &[Setting], row: &[Value]) -> Option<&'static [u8]>
+    requires { length row.now ≡ length table.now }
+    ensures { option_slice (λ key. key) result ≡ lacking setting_key setting_lacks (table_view table.now) (values_view row.now) }
+{
+    for (at, setting) in table.iter().enumerate() {
+        if lacks(setting.without, &row[at]) {
+            return Some(setting.key);
+        }
+    }
+    None
+}
+
+// ---- what is written
+
+// The steps in a list, each a list of handled events that is not empty; or the first fault.
+fn steps(
+    alloc: Global,
+    spot: Spot<'_>,
+    bounds: Bounds,
+    tree: &Tree,
+) -> Result<Vec<Vec<Handler>>, ConfigFault>
+    ensures { GivesRows steps_view result (nodes_at (listed_at handled_in (at_least 1)) (bounds_view bounds) (spot_view spot.entry) (node_view tree.now)) }
+{
+    let nodes = nodes(alloc, spot, bounds, tree)?;
+    each(
+        alloc,
+        nodes,
+        |node|
+            ensures { GivesRows handlers_view result (listed_at handled_in (at_least 1) (spot_view spot.entry) (node_view node.now)) }
+        { handlers(alloc, spot, Bounds::AtLeast(1), node) },
+    )
+}
+
+/// The value of a setting of this kind; or its first fault.
+#[tactic(auto, unfolding(crate::specs::Reading::value_at))]
+pub fn value(alloc: Global, spot: Spot<'_>, kind: Kind, tree: &Tree) -> Result<Value, ConfigFault>
+    ensures { GivesRows value_view result (value_at (kind_view kind) (spot_view spot.entry) (node_view tree.now)) }
+{
+    match kind {
+        Kind::One(scalar) => {
+            let value = plain(alloc, spot, scalar, tree)?;
+            Ok(Value::One(value))
+        }
+        Kind::Names(bounds) => {
+            let names = names(alloc, spot, bounds, tree)?;
+            Ok(Value::Names(names))
+        }
+        Kind::Posts(bounds) => {
+            let posts = names(alloc, spot, bounds, tree)?;
+            Ok(Value::Posts(posts))
+        }
+        Kind::Events(bounds) => {
+            let handlers = handlers(alloc, spot, bounds, tree)?;
+            Ok(Value::Events(handlers))
+        }
+        Kind::Steps(bounds) => {
+            let steps = steps(alloc, spot, bounds, tree)?;
+            Ok(Value::Steps(steps))
+        }
+        Kind::Maps(table, others, bounds) => {
+            let maps = maps(alloc, spot, table, others, bounds, tree)?;
+            Ok(Value::Maps(maps))
+        }
+        Kind::Keyed(table, at, short) => {
+            let keyed = keyed_list(alloc, spot, table, at, short, tree)?;
+            Ok(Value::Keyed(keyed))
+        }
+    }
+}
+
+// Puts the value of a pair into a row; or UnknownSetting, or the fault of the value.
+fn put(
+    alloc: Global,
+    spot: Spot<'_>,
+    table: &[Setting],
+    tree: &Tree,
+    row: &mut [Value],
+) -> Result<(), ConfigFault>
+    requires { length row.old ≡ length table.now }
+    ensures { GivesRows (λ _. values_view row.new) result (put_at setting_at (is_ignored spot.entry.key.now) (spot_view spot.entry) (node_view tree.now) (values_view row.old) (found_in setting_key spot.entry.key.now (table_view table.now))) }
+{
+    let Some((at, setting)) = setting_of(table, spot.key) else {
+        if is_ignored(spot.key) {
+            return Ok(());
+        }
+        return Err(ConfigFault::Bundle(spot.fault(alloc, FaultKind::UnknownSetting)?));
+    };
+    row[at] = value(alloc, spot, setting.kind, tree)?;
+    Ok(())
+}
+
+// Overwrites a row by pairs, one after the other; or the first fault.
+fn overwrite(
+    alloc: Global,
+    text: &[u8],
+    table: &[Setting],
+    pairs: &[(Key, Tree)],
+    row: &mut [Value],
+) -> Result<(), ConfigFault>
+    requires { length row.old ≡ length table.now }
+    ensures { GivesRows (λ _. values_view row.new) result (overwritten_at setting_key setting_at is_ignored text.now (table_view table.now) (pairs_view pairs.now) (values_view row.old)) }
+{
+    for pair in pairs {
+        put(alloc, spot_of(text, &pair.0), table, &pair.1, row)?;
+    }
+    Ok(())
+}
+
+/// The row of the pairs of an entry; or the first fault: those of the settings as they are
+/// written, and then Missing at the spot, with the first key of the table that is not written and
+/// has to be.
+#[tactic(auto, unfolding(crate::specs::Reading::row_at))]
+pub fn values(
+    alloc: Global,
+    spot: Spot<'_>,
+    table: &[Setting],
+    pairs: &[(Key, Tree)],
+) -> Result<Vec<Value>, ConfigFault>
+    ensures { GivesRows (λ row. values_view row.items) result (values_at (spot_view spot.entry) (table_view table.now) (pairs_view pairs.now)) }
+{
+    let mut row = bare_row(alloc, table)?;
+    overwrite(alloc, spot.text, table, pairs, &mut row)?;
+    if let Some(key) = first_lacking(table, &row) {
+        let missing = Spot { key, ..spot };
+        return Err(ConfigFault::Bundle(missing.fault(alloc, FaultKind::Missing)?));
+    }
+    Ok(row)
+}

@@ -1,0 +1,43 @@
+//! Where a fault stands.
+
+ghost use Rattle.std.specs.Prelude.{◌≡◌, IfOk};
+ghost use Rattle.section_tables.specs.Reading.{fault_at};
+ghost use Rattle.section_tables.specs.View.{spot_view, fault_view};
+
+use crate::fault::{Fault, FaultKind};
+use std::alloc::{AllocError, Global};
+use yaml_subset::tree::Key;
+
+/// Where a fault stands: its text's name, the line in that text, counted from 1, and the key
+/// that it is about.
+#[derive(Clone, Copy)]
+pub struct Spot<'a> {
+    pub text: &'a [u8],
+    pub line: u32,
+    pub key: &'a [u8],
+}
+
+impl Spot<'_> {
+    /// A fault that stands here.
+    pub fn fault(self, alloc: Global, kind: FaultKind) -> Result<Fault, AllocError>
+        ensures { IfOk result (λ fault. fault_view fault ≡ fault_at kind (spot_view self.entry)) }
+    {
+        Ok(Fault {
+            kind,
+            text: Vec::from_slice(alloc, self.text)?,
+            line: self.line,
+            key: Vec::from_slice(alloc, self.key)?,
+        })
+    }
+}
+
+/// Where a key stands, in the text of this name.
+pub fn spot_of<'a>(text: &'a [u8], key: &'a Key) -> Spot<'a>
+    ensures { spot_view result ≡ record { text = text.now; line = key.now.line; key = key.now.text.items } }
+{
+    Spot {
+        text,
+        line: key.line,
+        key: &key.text,
+    }
+}

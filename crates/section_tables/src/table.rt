@@ -1,0 +1,113 @@
+//! Tables: what settings a section has, of which kind the value of each is, and what holds
+//! without it.
+
+/// What a text is to be.
+#[derive(Clone, Copy)]
+pub enum Scalar {
+    /// A boolean.
+    Flag,
+    /// An integer from the first to the second.
+    Number(i64, i64),
+    /// A time in milliseconds from the first to the second.
+    Time(u32, u32),
+    /// A power.
+    Power,
+    /// One of these words.
+    Word(&'static [&'static [u8]]),
+    /// A name.
+    Name,
+    /// A handled event.
+    Event,
+}
+
+/// How many items a list is to have, besides the limit of 1,024.
+#[derive(Clone, Copy)]
+pub enum Bounds {
+    AtLeast(usize),
+    /// From the first to the second.
+    Between(usize, usize),
+}
+
+/// What becomes of the keys of a map that its table does not have.
+#[derive(Clone, Copy)]
+pub enum Others {
+    /// They are UnknownSetting.
+    Refused,
+    /// Nothing looks at their values.
+    Ignored,
+}
+
+/// What holds where a text is not written.
+#[derive(Clone, Copy)]
+pub enum Absent {
+    /// It has to be written.
+    Required,
+    /// Nothing holds.
+    Nothing,
+    Flag(bool),
+    Number(i64),
+    Time(u32),
+    Power(u16),
+    Word(&'static [u8]),
+    Name(&'static [u8]),
+}
+
+/// A key of the maps in a list, or of the map that belongs to a name.
+#[derive(Clone, Copy)]
+pub struct Field {
+    pub key: &'static [u8],
+    pub kind: Scalar,
+    pub absent: Absent,
+}
+
+/// What the value of a setting is to be.
+#[derive(Clone, Copy)]
+pub enum Kind {
+    /// One text.
+    One(Scalar),
+    /// A list of names.
+    Names(Bounds),
+    /// A list of posted events, which are names.
+    Posts(Bounds),
+    /// A list of handled events.
+    Events(Bounds),
+    /// A YAML list of steps, each a list of handled events that is not empty.
+    Steps(Bounds),
+    /// A YAML list of maps with these keys.
+    Maps(&'static [Field], Others, Bounds),
+    /// A map of names, each with a map with these keys, or with one text: the value of the field
+    /// at this place, where the other fields have what holds without them.
+    Keyed(&'static [Field], usize, Scalar),
+}
+
+/// What holds where a setting is not written.
+#[derive(Clone, Copy)]
+pub enum Without {
+    /// What holds where a text is not written; a list too may be `Required`.
+    One(Absent),
+    /// An empty list of names.
+    NoNames,
+    /// An empty list of posted events.
+    NoPosts,
+    /// An empty list of handled events.
+    NoEvents,
+    /// The event of this name alone, handled always.
+    Event(&'static [u8]),
+    /// An empty list of maps.
+    NoMaps,
+}
+
+/// A setting of a section.
+#[derive(Clone, Copy)]
+pub struct Setting {
+    pub key: &'static [u8],
+    pub kind: Kind,
+    pub without: Without,
+}
+
+/// Of which kind the keys of a player are, which are events, and its values.
+#[derive(Clone, Copy)]
+pub struct PlayerKinds {
+    pub key: Scalar,
+    pub value: Kind,
+}

@@ -1,0 +1,73 @@
+//! The tables of the sections: what settings each has, in the order in which their faults are
+//! found and their names numbered.
+
+ghost use Rattle.std.specs.Prelude.{◌≡◌};
+ghost use Rattle.yaml_subset.specs.View.{option_slice};
+ghost use Rattle.section_tables.specs.SectionTables.{table_of, player_of};
+ghost use Rattle.section_tables.specs.Reading.{give};
+ghost use Rattle.section_tables.specs.TableView.{table_view, player_kinds_view};
+
+use crate::table::{Absent, Bounds, Kind, PlayerKinds, Scalar, Setting, Without};
+
+macro_rules! setting {
+    ($key:expr, $kind:expr, $without:expr) => {
+        Setting {
+            key: $key,
+            kind: $kind,
+            without: $without,
+        }
+    };
+}
+
+const ANY: Bounds = Bounds::AtLeast(0);
+
+/// `switches`.
+pub const SWITCHES: &[Setting] = &[
+    setting!(
+        b"type",
+        Kind::One(Scalar::Word(&[b"NO", b"NC"])),
+        Without::One(Absent::Word(b"NO"))
+    ),
+    setting!(
+        b"debounce",
+        Kind::One(Scalar::Word(&[b"auto", b"quick", b"normal"])),
+        Without::One(Absent::Word(b"auto"))
+    ),
+    setting!(b"tags", Kind::Names(ANY), Without::NoNames),
+    setting!(b"events_when_activated", Kind::Posts(ANY), Without::NoPosts),
+    setting!(
+        b"events_when_deactivated",
+        Kind::Posts(ANY),
+        Without::NoPosts
+    ),
+];
+
+/// `event_player`: an event, and what is posted where it is handled.
+pub const EVENT_PLAYER: PlayerKinds = PlayerKinds {
+    key: Scalar::Name,
+    value: Kind::Posts(ANY),
+};
+
+const SWITCHES_NAME: &[u8] = b"switches";
+
+const EVENT_PLAYER_NAME: &[u8] = b"event_player";
+
+/// The table of the entries of a section; none where the section has no such entries.
+pub fn table_of(section: &[u8]) -> Option<&'static [Setting]>
+    ensures { option_slice table_view result ≡ table_of section.now }
+{
+    if section == SWITCHES_NAME {
+        return Some(SWITCHES);
+    }
+    None
+}
+
+/// The kinds of a player's keys and values; none where the section is no player.
+pub fn player_of(section: &[u8]) -> Option<PlayerKinds>
+    ensures { give player_kinds_view result ≡ player_of section.now }
+{
+    if section == EVENT_PLAYER_NAME {
+        return Some(EVENT_PLAYER);
+    }
+    None
+}
