@@ -144,10 +144,11 @@ module _ (names : List (List ℕ)) where
     All-map (IsEventWithin (length names)) (event_of names) (inactive_posts s) (All-right (IsKnown names) (active_posts s) (inactive_posts s) all),
   )
 
-  list_within : (p : EventPlayer) → All (IsKnown names) (player_uses p) → All (IsActionWithin (length names)) (list_of names p)
-  list_within p all =
-      All-map (IsActionWithin (length names)) (λ w. Post (event_of names w.text)) p.posts
-      (All-from_map (IsKnown names) (λ w. w.text) p.posts (All-tail (IsKnown names) p.event.text (map (λ w. w.text) p.posts) all))
+  list_within : (plan : PlanView) → plan.events ≡ names → (p : EventPlayer) → All (IsKnown names) (player_uses p) → All (IsActionWithin plan) (list_of names p)
+  list_within plan same p all =
+      All-map (IsActionWithin plan) (λ w. Post (event_of names w.text)) p.posts
+      (subst (λ ns. All (λ w. position_or_len (bytes_eq w.text) names < length ns) p.posts) (sym same)
+      (All-from_map (IsKnown names) (λ w. w.text) p.posts (All-tail (IsKnown names) p.event.text (map (λ w. w.text) p.posts) all)))
 
   bindings_within : (plan : PlanView) → plan.events ≡ names → (n : ℕ) (ps : List EventPlayer) → n + length ps ≤ length plan.lists → All (λ p. All (IsKnown names) (player_uses p)) ps → All (IsBindingWithin plan) (bindings_from names n ps)
   bindings_within plan same n [] fits all = All-none (IsBindingWithin plan)
@@ -155,7 +156,7 @@ module _ (names : List (List ℕ)) where
       let known : IsKnown names p.event.text = All-head (IsKnown names) p.event.text (map (λ w. w.text) p.posts) (All-head (λ q. All (IsKnown names) (player_uses q)) p ps all) in
       let event : position_or_len (bytes_eq p.event.text) names < length plan.events = subst (λ ns. position_or_len (bytes_eq p.event.text) names < length ns) (sym same) known in
       let list : n < length plan.lists = omega arith in
-      All-cons (IsBindingWithin plan) (binding_of names n p) (bindings_from names (n + 1) ps) (event, list)
+      All-cons (IsBindingWithin plan) (binding_of names n p) (bindings_from names (n + 1) ps) (event, tt, list)
       (bindings_within plan same (n + 1) ps (omega arith) (All-tail (λ q. All (IsKnown names) (player_uses q)) p ps all))
 
 -- each binding has the machine's priority
@@ -186,7 +187,7 @@ IsValid-plan_of rows within =
       switches = All-map (IsSwitchWithin (length names)) (switch_of names) (first_by (λ s. s.name.text) (flat_map switch_entries rows.machine))
           (All-weaker (λ s. All (IsKnown names) (switch_uses s)) (λ s. IsSwitchWithin (length names) (switch_of names s)) (switch_within names) (first_by (λ s. s.name.text) (flat_map switch_entries rows.machine))
           (All-first_by (λ s. All (IsKnown names) (switch_uses s)) (λ s. s.name.text) (flat_map switch_entries rows.machine) (switches_use (IsKnown names) rows.machine known)));
-      lists = All-map (All (IsActionWithin (length names))) (list_of names) entries (All-weaker (λ p. All (IsKnown names) (player_uses p)) (λ p. All (IsActionWithin (length names)) (list_of names p)) (list_within names) entries players);
+      lists = All-map (All (IsActionWithin (plan_of rows))) (list_of names) entries (All-weaker (λ p. All (IsKnown names) (player_uses p)) (λ p. All (IsActionWithin (plan_of rows)) (list_of names p)) (list_within names (plan_of rows) refl) entries players);
       bindings = bindings_within names (plan_of rows) refl 0 entries (omega (arith, lists)) players;
       priorities = all_priorities names 0 entries;
     }

@@ -2,6 +2,8 @@
 use Rattle.std.specs.Prelude.{ℕ, ◌≡◌, ◌<◌, ◌≤◌, ◌≢◌, length}
 use Rattle.std.specs.List.{All, AllPairs}
 use Rattle.mpf_plan.specs.declared.entries.EventId.{EventId}
+use Rattle.mpf_plan.specs.declared.entries.Owner.{Owner}
+use Rattle.mpf_plan.specs.declared.entries.Owner.TheVariants.{Machine}
 use Rattle.mpf_plan.specs.declared.entries.Action.{Action}
 use Rattle.mpf_plan.specs.declared.entries.Action.TheVariants.{Post}
 use Rattle.mpf_plan.specs.declared.entries.Target.{Target}
@@ -12,14 +14,17 @@ use Rattle.mpf_plan.specs.PlanView.{Switch, PlanView}
 abbrev pub IsEventWithin : ℕ → EventId → Type 0
 IsEventWithin events e = e.0 < events
 
-abbrev pub IsActionWithin : ℕ → Action → Type 0
-IsActionWithin events (Post e) = e.0 < events
+abbrev pub IsActionWithin : PlanView → Action → Type 0
+IsActionWithin plan (Post e) = e.0 < length plan.events
 
-abbrev pub IsTargetWithin : ℕ → Target → Type 0
-IsTargetWithin lists (Run l) = l.0 < lists
+abbrev pub IsTargetWithin : PlanView → Target → Type 0
+IsTargetWithin plan (Run l) = l.0 < length plan.lists
+
+abbrev pub IsOwnerWithin : PlanView → Owner → Type 0
+IsOwnerWithin plan Machine = Unit {0}
 
 abbrev pub IsBindingWithin : PlanView → Binding → Type 0
-IsBindingWithin plan b = (b.event.0 < length plan.events) × IsTargetWithin (length plan.lists) b.target
+IsBindingWithin plan b = (b.event.0 < length plan.events) × IsOwnerWithin plan b.owner × IsTargetWithin plan b.target
 
 abbrev pub IsSwitchWithin : ℕ → Switch → Type 0
 IsSwitchWithin events s = All (IsEventWithin events) s.active × All (IsEventWithin events) s.inactive
@@ -32,7 +37,7 @@ pub record IsValid (plan : PlanView) : Type 0 where
   pub event_names : AllPairs (λ x y. x ≢ y) plan.events
   pub switch_names : AllPairs (λ s t. s.name ≢ t.name) plan.switches
   pub switches : All (IsSwitchWithin (length plan.events)) plan.switches
-  pub lists : All (All (IsActionWithin (length plan.events))) plan.lists
+  pub lists : All (All (IsActionWithin plan)) plan.lists
   pub bindings : All (IsBindingWithin plan) plan.bindings
   -- every binding is of the machine, so that equal priorities leave the plan's own order
   pub priorities : All (λ b. b.priority ≡ 0) plan.bindings

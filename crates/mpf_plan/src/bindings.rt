@@ -112,7 +112,7 @@ fn bind_player(
     requires room { length bound.old.lists.items < 16384 }
     ensures { OnOk result (Binds (names_of events.now.keys) (lists_in bound.old) bound.old.bindings.items (player_view row.now ∷ []) bound.new) }
 {
-    let list = ListId(bound.lists.len() as u16);
+    let list = ListId(bound.lists.len() as u32);
     bound.lists.push(effect_list(alloc, events, row)?)?;
     bound.bindings.push(Binding {
         event: number_of(events, &row.event.text),

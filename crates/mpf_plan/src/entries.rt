@@ -19,9 +19,9 @@ pub struct SwitchKind {
     pub quick: bool,
 }
 
-/// An effect list, by its number: below 16,384.
+/// An effect list, by its number: below 16,384, with room for the lists of rows of devices.
 #[derive(Clone, Copy, Debug, Default, PartialEq, Eq)]
-pub struct ListId(pub u16);
+pub struct ListId(pub u32);
 
 /// A binding, by its place in plan order: below 16,384.
 #[derive(Clone, Copy, Debug, Default, PartialEq, Eq)]
