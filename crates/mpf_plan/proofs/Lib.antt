@@ -1,12 +1,5 @@
 pub mod Places
 pub mod Named
 pub mod Firsts
-pub mod Noted
-pub mod Added
-pub mod BoundSteps
-pub mod Judged
-pub mod ValidPlan
-pub mod EventNames
-pub mod Planned
 pub mod BoundTo
 pub mod Placed
