@@ -1,5 +1,17 @@
 pub mod Places
 pub mod Named
 pub mod Firsts
+pub mod FirstNames
+pub mod Steps
+pub mod Shown
+pub mod Taken
+pub mod Lacking
+pub mod Drafted
+pub mod Judged
+pub mod Found
+pub mod SoundDraft
+pub mod ValidPlan
+pub mod Planned
+pub mod EventNames
 pub mod BoundTo
 pub mod Placed

@@ -1,0 +1,60 @@
+-- What was numbered and made of the contributions of rows is their plan, or why there is none.
+use Rattle.std.proofs.Common.{◌≡◌, ◌<◌, ◌≤◌, List, length, sym, ◌∙◌, ap, subst}
+use Rattle.std.specs.Prelude.{Result, Ok, Err}
+use Rattle.std.specs.List.{All}
+use Rattle.std.proofs.lemmas.List.{length-map}
+use Rattle.std.proofs.lemmas.List.Elements.{All-weaker}
+use Rattle.mpf_config.specs.Rows.{Rows}
+use Rattle.mpf_plan.specs.declared.draft.NameSets.{NameSets}
+use Rattle.mpf_plan.specs.declared.draft.Draft.{Draft}
+use Rattle.mpf_plan.specs.declared.fault.Table.{Table}
+use Rattle.mpf_plan.specs.declared.fault.PlanFault.{PlanFault}
+use Rattle.mpf_plan.specs.declared.fault.PlanFault.TheVariants as faults
+use Rattle.mpf_plan.specs.PlanView.{PlanView}
+use Rattle.mpf_plan.specs.Valid.{IsBindingWithin, IsValid}
+use Rattle.mpf_plan.specs.Contributions.{Contribution, contributions_of}
+use Rattle.mpf_plan.specs.Uses.{lacks_name}
+use Rattle.mpf_plan.specs.Limits.{entry_count, limit_of, first_above}
+use Rattle.mpf_plan.specs.PlanOf.{drafted, plan_from, plan_of, plan_at, GivesPlan, IsExceeded}
+use Rattle.mpf_plan.specs.Inside.{names_view, draft_view}
+use Rattle.mpf_plan.specs.Numbering.{Numbered}
+use Rattle.mpf_plan.proofs.Judged.{all_within, is_first, plan_at-lacking, plan_at-within, plan_at-exceeded, plan_at-Err}
+use Rattle.mpf_plan.proofs.ValidPlan.{IsValid-plan_of}
+
+module _ (rows : Rows) (cs : List Contribution) (same : cs ≡ contributions_of rows) where
+  from_rows : plan_from cs ≡ plan_of rows
+  unfolding plan_of
+  from_rows = ap plan_from same
+
+  -- ---- no plan
+
+  refused : (d : PlanFault) → Numbered cs (Err d) → GivesPlan (Err d) (plan_at rows)
+  refused faults.NoMemory why = tt
+  refused faults.NoSuchName why = plan_at-lacking rows (ap lacks_name (sym same) ∙ why)
+  refused (faults.Limit t) why = plan_at-exceeded rows t (is_first (plan_of rows) t (ap first_above (sym from_rows) ∙ why.1))
+
+  module _ (r : Result PlanView PlanFault) (d : PlanFault) (is : r ≡ Err d) (why : Numbered cs (Err d)) where
+    pub refused_exact : GivesPlan r (plan_at rows)
+    refused_exact = subst (λ a. GivesPlan a (plan_at rows)) (sym is) (refused d why)
+
+    pub refused_limit : (t : Table) → r ≡ Err (faults.Limit t) → IsExceeded rows t
+    refused_limit t given = plan_at-Err rows t (subst (λ a. GivesPlan a (plan_at rows)) given refused_exact)
+
+  -- ---- a plan
+
+  module _ (names : NameSets) (d : Draft) (numbered : Numbered cs (Ok names)) (made : draft_view names d ≡ drafted (names_view names) cs) where
+    pub is_plan : (draft_view names d).plan ≡ plan_of rows
+    is_plan = ap (λ x. x.plan) (made ∙ ap (λ n. drafted n cs) numbered.1) ∙ from_rows
+
+    pub rows_within : (t : Table) → entry_count (plan_of rows) t ≤ limit_of t
+    rows_within = all_within (plan_of rows) (ap first_above (sym from_rows) ∙ numbered.2)
+
+    pub is_valid : IsValid (draft_view names d).plan
+    is_valid = subst IsValid (sym is_plan) (IsValid-plan_of rows rows_within)
+
+    pub is_planned : plan_at rows ≡ Ok (draft_view names d).plan
+    is_planned = plan_at-within rows rows_within ∙ ap Ok (sym is_plan)
+
+-- each binding is of an event of the plan
+pub events_bound : (plan : PlanView) → IsValid plan → All (λ b. b.event.0 < length plan.events) plan.bindings
+events_bound plan valid = All-weaker (IsBindingWithin plan) (λ b. b.event.0 < length plan.events) (λ b h. h.0) plan.bindings valid.bindings
