@@ -15,3 +15,8 @@ pub mod Planned
 pub mod EventNames
 pub mod BoundTo
 pub mod Placed
+pub mod LastList
+pub mod SameEvents
+pub mod SameBindings
+pub mod SameSwitches
+pub mod SamePlan

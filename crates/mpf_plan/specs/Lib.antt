@@ -7,3 +7,4 @@ pub mod PlanOf
 pub mod ListLimits
 pub mod Inside
 pub mod Numbering
+pub mod Today
