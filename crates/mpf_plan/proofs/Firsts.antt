@@ -7,7 +7,7 @@ use Rattle.std.proofs.lemmas.List.Folds.{list_any-append}
 use Rattle.std.proofs.lemmas.Cmp.{nat_list_eq_equiv}
 use Rattle.std.proofs.lemmas.Slice.Eq.{bytes_eq-Decides}
 use Rattle.mpf_plan.specs.Uses.{first_by, first_uses}
-use Rattle.mpf_plan.specs.Noting.{with_item, with_uses}
+use Rattle.mpf_plan.specs.Numbering.{with_name}
 
 -- a filter of what another filter kept
 filter_filter : {X : Type 0} (p q r : X → Bool) → ((x : X) → r x ≡ (p x && q x)) → (xs : List X) → filter q (filter p xs) ≡ filter r xs
@@ -33,6 +33,11 @@ neither false false = refl
 all_of : {X : Type 0} (xs : List X) → filter (λ x. true) xs ≡ xs
 all_of [] = refl
 all_of (x ∷ xs) = ap (λ ys. x ∷ ys) (all_of xs)
+
+module _ {X Y : Type 0} (name : X → List ℕ) (key : Y → List ℕ) (make : X → Y) where
+  -- what is done after one more item: an item with a new name goes last
+  abbrev pub with_item : List Y → X → List Y
+  with_item done x = cond (list_any (λ y. bytes_eq (name x) (key y)) done) done (done ++ make x ∷ [])
 
 module _ {X Y : Type 0} (name : X → List ℕ) (key : Y → List ℕ) (make : X → Y) (keyed : (x : X) → key (make x) ≡ name x) where
   abbrev has : List Y → List ℕ → Bool
@@ -78,5 +83,5 @@ module _ {X Y : Type 0} (name : X → List ℕ) (key : Y → List ℕ) (make : X
   all_items xs = with_items xs [] ∙ ap (map make) (all_of (first_by name xs))
 
 -- the names after all uses are the first uses
-pub with_uses-all : (uses : List (List ℕ)) → with_uses [] uses ≡ first_uses uses
-with_uses-all uses = all_items (λ n. n) (λ n. n) (λ n. n) (λ n. refl) uses ∙ map-id (first_uses uses)
+pub with_names-all : (uses : List (List ℕ)) → fold with_name [] uses ≡ first_uses uses
+with_names-all uses = all_items (λ n. n) (λ n. n) (λ n. n) (λ n. refl) uses ∙ map-id (first_uses uses)

@@ -1,102 +1,60 @@
--- What the passes over the rows have made is the plan of the rows, or they met the first table above its limit.
-use Rattle.std.proofs.Common.{◌≡◌, ℕ, ◌<◌, ◌≤◌, List, [], length, map, Vec, Global, refl, sym, ◌∙◌, ap, subst, arith}
-use Rattle.std.specs.Prelude.{Result, Err}
-use Rattle.std.specs.List.{flat_map}
+-- What was numbered and made of the contributions of rows is their plan, or why there is none.
+use Rattle.std.proofs.Common.{◌≡◌, ◌<◌, ◌≤◌, List, length, sym, ◌∙◌, ap, subst}
+use Rattle.std.specs.Prelude.{Result, Ok, Err}
+use Rattle.std.specs.List.{All}
 use Rattle.std.proofs.lemmas.List.{length-map}
+use Rattle.std.proofs.lemmas.List.Elements.{All-weaker}
 use Rattle.mpf_config.specs.Rows.{Rows}
-use Rattle.mpf_plan.specs.declared.bindings.Bound.{Bound}
-use Rattle.mpf_plan.specs.declared.tables.SwitchEntry.{SwitchEntry}
+use Rattle.mpf_plan.specs.declared.draft.NameSets.{NameSets}
+use Rattle.mpf_plan.specs.declared.draft.Draft.{Draft}
 use Rattle.mpf_plan.specs.declared.fault.Table.{Table}
-use Rattle.mpf_plan.specs.declared.fault.Table.TheVariants.{Events, Bindings, Switches}
 use Rattle.mpf_plan.specs.declared.fault.PlanFault.{PlanFault}
 use Rattle.mpf_plan.specs.declared.fault.PlanFault.TheVariants as faults
 use Rattle.mpf_plan.specs.PlanView.{PlanView}
-use Rattle.mpf_plan.specs.Inside.{switch_view, tables_view}
-use Rattle.mpf_plan.specs.Uses.{first_by, first_uses, event_uses, switch_entries, player_entries}
-use Rattle.mpf_plan.specs.Limits.{entry_count, limit_of, order_of}
-use Rattle.mpf_plan.specs.PlanOf.{switch_of, list_of, bindings_from, plan_of, plan_at, GivesPlan, IsExceeded}
-use Rattle.mpf_plan.specs.Noting.{names_of, GivesTable}
-use Rattle.mpf_plan.specs.Binding.{Binds}
-use Rattle.mpf_plan.proofs.BoundSteps.{length-bindings_from}
-use Rattle.mpf_plan.proofs.Judged.{by_table, plan_at-exceeded}
+use Rattle.mpf_plan.specs.Valid.{IsBindingWithin, IsValid}
+use Rattle.mpf_plan.specs.Contributions.{Contribution, contributions_of}
+use Rattle.mpf_plan.specs.Uses.{lacks_name}
+use Rattle.mpf_plan.specs.Limits.{entry_count, limit_of, first_above}
+use Rattle.mpf_plan.specs.PlanOf.{drafted, plan_from, plan_of, plan_at, GivesPlan, IsExceeded}
+use Rattle.mpf_plan.specs.Inside.{names_view, draft_view}
+use Rattle.mpf_plan.specs.Numbering.{Numbered}
+use Rattle.mpf_plan.proofs.Judged.{all_within, is_first, plan_at-lacking, plan_at-within, plan_at-exceeded, plan_at-Err}
+use Rattle.mpf_plan.proofs.ValidPlan.{IsValid-plan_of}
 
-module _ (rows : Rows) where
-  -- the tables that were made
-  pub tables-plan_of : (keys : List (Vec ℕ Global)) (es : List (Vec ℕ Global × SwitchEntry)) (bound : Bound) → names_of keys ≡ first_uses (event_uses rows)
-      → map switch_view es ≡ map (switch_of (names_of keys)) (first_by (λ s. s.name.text) (flat_map switch_entries rows.machine))
-      → Binds (names_of keys) [] [] (flat_map player_entries rows.machine) bound
-      → tables_view keys es bound.lists.items bound.bindings.items ≡ plan_of rows
+module _ (rows : Rows) (cs : List Contribution) (same : cs ≡ contributions_of rows) where
+  from_rows : plan_from cs ≡ plan_of rows
   unfolding plan_of
-  tables-plan_of keys es bound events switches binds =
-      let switches' = switches ∙ ap (λ names. map (switch_of names) (first_by (λ s. s.name.text) (flat_map switch_entries rows.machine))) events in
-      let lists' = binds.lists_then ∙ ap (λ names. map (list_of names) (flat_map player_entries rows.machine)) events in
-      let bindings' = binds.bindings_then ∙ ap (λ names. bindings_from names 0 (flat_map player_entries rows.machine)) events in
-      λ i. record { events = events i; switches = switches' i; lists = lists' i; bindings = bindings' i }
+  from_rows = ap plan_from same
 
-  count_bindings : entry_count (plan_of rows) Bindings ≡ length (flat_map player_entries rows.machine)
-  unfolding plan_of
-  count_bindings = length-bindings_from (first_uses (event_uses rows)) 0 (flat_map player_entries rows.machine)
+  -- ---- no plan
 
-  count_events : entry_count (plan_of rows) Events ≡ length (first_uses (event_uses rows))
-  unfolding plan_of
-  count_events = refl
+  refused : (d : PlanFault) → Numbered cs (Err d) → GivesPlan (Err d) (plan_at rows)
+  refused faults.NoMemory why = tt
+  refused faults.NoSuchName why = plan_at-lacking rows (ap lacks_name (sym same) ∙ why)
+  refused (faults.Limit t) why = plan_at-exceeded rows t (is_first (plan_of rows) t (ap first_above (sym from_rows) ∙ why.1))
 
-  count_switches : (names : List (List ℕ)) → entry_count (plan_of rows) Switches ≡ length (map (switch_of names) (first_by (λ s. s.name.text) (flat_map switch_entries rows.machine)))
-  unfolding plan_of
-  count_switches names =
-      let firsts = first_by (λ s. s.name.text) (flat_map switch_entries rows.machine) in
-      length-map firsts (switch_of (first_uses (event_uses rows))) ∙ sym (length-map firsts (switch_of names))
+  module _ (r : Result PlanView PlanFault) (d : PlanFault) (is : r ≡ Err d) (why : Numbered cs (Err d)) where
+    pub refused_exact : GivesPlan r (plan_at rows)
+    refused_exact = subst (λ a. GivesPlan a (plan_at rows)) (sym is) (refused d why)
 
-  -- each table is within its limit
-  pub all_within : (names : List (List ℕ)) → length (first_uses (event_uses rows)) ≤ 4096 → length (flat_map player_entries rows.machine) ≤ 16384
-      → length (map (switch_of names) (first_by (λ s. s.name.text) (flat_map switch_entries rows.machine))) ≤ 256 → (t : Table) → entry_count (plan_of rows) t ≤ limit_of t
-  all_within names events bindings switches =
-      by_table (λ t. entry_count (plan_of rows) t ≤ limit_of t)
-      (subst (λ n. n ≤ 4096) (sym count_events) events)
-      (subst (λ n. n ≤ 16384) (sym count_bindings) bindings)
-      (subst (λ n. n ≤ 256) (sym (count_switches names)) switches)
+    pub refused_limit : (t : Table) → r ≡ Err (faults.Limit t) → IsExceeded rows t
+    refused_limit t given = plan_at-Err rows t (subst (λ a. GivesPlan a (plan_at rows)) given refused_exact)
 
-  -- why there is no plan: memory ran out, or the table is the first above its limit
-  abbrev pub Explains : PlanFault → Type 0
-  Explains faults.NoMemory = Unit {0}
-  Explains (faults.Limit t) = IsExceeded rows t
+  -- ---- a plan
 
-  -- too many events
-  pub events_above : (d : PlanFault) → GivesTable {X = Unit {0}} Events 4096 (λ _. []) (first_uses (event_uses rows)) (Err d) → Explains d
-  events_above faults.NoMemory gives = tt
-  events_above (faults.Limit t) gives =
-      let above : 4096 < entry_count (plan_of rows) Events = subst (λ n. 4096 < n) (sym count_events) gives.1 in
-      subst (IsExceeded rows) (sym gives.0) (record { above = above; before = by_table (λ u. order_of u < 0 → entry_count (plan_of rows) u ≤ limit_of u) (λ h. absurd (omega arith)) (λ h. absurd (omega arith)) (λ h. absurd (omega arith)) })
+  module _ (names : NameSets) (d : Draft) (numbered : Numbered cs (Ok names)) (made : draft_view names d ≡ drafted (names_view names) cs) where
+    pub is_plan : (draft_view names d).plan ≡ plan_of rows
+    is_plan = ap (λ x. x.plan) (made ∙ ap (λ n. drafted n cs) numbered.1) ∙ from_rows
 
-  -- too many bindings, but not of events
-  pub bindings_above : length (first_uses (event_uses rows)) ≤ 4096 → (d : PlanFault) → (d ≡ faults.Limit Bindings) × (16384 < length (flat_map player_entries rows.machine)) → Explains d
-  bindings_above events d (is, more) =
-      let above : 16384 < entry_count (plan_of rows) Bindings = subst (λ n. 16384 < n) (sym count_bindings) more in
-      let within : entry_count (plan_of rows) Events ≤ 4096 = subst (λ n. n ≤ 4096) (sym count_events) events in
-      let first : IsExceeded rows Bindings = record { above = above; before = by_table (λ u. order_of u < 1 → entry_count (plan_of rows) u ≤ limit_of u) (λ _. within) (λ h. absurd (omega arith)) (λ h. absurd (omega arith)) } in
-      subst Explains (sym is) first
+    pub rows_within : (t : Table) → entry_count (plan_of rows) t ≤ limit_of t
+    rows_within = all_within (plan_of rows) (ap first_above (sym from_rows) ∙ numbered.2)
 
-  -- too many switches, but not of the others
-  pub switches_above : (names : List (List ℕ)) → length (first_uses (event_uses rows)) ≤ 4096 → length (flat_map player_entries rows.machine) ≤ 16384
-      → (d : PlanFault) → GivesTable {X = Unit {0}} Switches 256 (λ _. []) (map (switch_of names) (first_by (λ s. s.name.text) (flat_map switch_entries rows.machine))) (Err d) → Explains d
-  switches_above names events bindings faults.NoMemory gives = tt
-  switches_above names events bindings (faults.Limit t) gives =
-      let above : 256 < entry_count (plan_of rows) Switches = subst (λ n. 256 < n) (sym (count_switches names)) gives.1 in
-      let within : entry_count (plan_of rows) Events ≤ 4096 = subst (λ n. n ≤ 4096) (sym count_events) events in
-      let within' : entry_count (plan_of rows) Bindings ≤ 16384 = subst (λ n. n ≤ 16384) (sym count_bindings) bindings in
-      subst (IsExceeded rows) (sym gives.0) (record { above = above; before = by_table (λ u. order_of u < 2 → entry_count (plan_of rows) u ≤ limit_of u) (λ _. within) (λ _. within') (λ h. absurd (omega arith)) })
+    pub is_valid : IsValid (draft_view names d).plan
+    is_valid = subst IsValid (sym is_plan) (IsValid-plan_of rows rows_within)
 
-  same_fault : (d e : PlanFault) → ◌≡◌ {A = Result PlanView PlanFault} (Err d) (Err e) → d ≡ e
-  same_fault d e is = cc
+    pub is_planned : plan_at rows ≡ Ok (draft_view names d).plan
+    is_planned = plan_at-within rows rows_within ∙ ap Ok (sym is_plan)
 
-  module _ (r : Result PlanView PlanFault) (d : PlanFault) (is : r ≡ Err d) (why : Explains d) where
-    -- what an answer without a plan says
-    pub fault_exact : GivesPlan r (plan_at rows)
-    fault_exact = subst (λ a. GivesPlan a (plan_at rows)) (sym is) (by d why)
-      where
-        by : (e : PlanFault) → Explains e → GivesPlan (Err e) (plan_at rows)
-        by faults.NoMemory w = tt
-        by (faults.Limit t) w = plan_at-exceeded rows t w
-
-    pub fault_limit : (t : Table) → r ≡ Err (faults.Limit t) → IsExceeded rows t
-    fault_limit t given = subst Explains (same_fault d (faults.Limit t) (sym is ∙ given)) why
+-- each binding is of an event of the plan
+pub events_bound : (plan : PlanView) → IsValid plan → All (λ b. b.event.0 < length plan.events) plan.bindings
+events_bound plan valid = All-weaker (IsBindingWithin plan) (λ b. b.event.0 < length plan.events) (λ b h. h.0) plan.bindings valid.bindings

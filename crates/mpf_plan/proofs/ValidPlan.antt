@@ -1,196 +1,158 @@
 -- The plan of rows is valid where its tables are within their limits.
-use Rattle.std.proofs.Common.{◌≡◌, ◌≢◌, ℕ, zero, suc, ◌+◌, ◌<◌, ◌≤◌, Bool, true, false, cond, not, ◌||◌, List, [], ◌∷◌, ◌++◌, length, map, filter, Contains, refl, sym, ◌∙◌, ap, subst, true≢false, arith}
+use Rattle.std.proofs.Common.{◌≡◌, ◌≢◌, ℕ, zero, suc, ◌+◌, ◌<◌, ◌≤◌, Bool, true, false, cond, not, List, [], ◌∷◌, ◌++◌, length, map, filter, fold, set, get_or, slice_index_or, slice_set, refl, sym, ◌∙◌, ap, subst, true≢false, arith}
+use Rattle.std.specs.Prelude.{Ok}
 use Rattle.std.specs.Str.{bytes_eq}
-use Rattle.std.specs.List.{All, AllPairs, flat_map, list_any, position_or_len}
-use Rattle.std.proofs.lemmas.Cmp.{nat_list_eq_equiv}
-use Rattle.std.proofs.lemmas.List.{map-id, length-map}
-use Rattle.std.proofs.lemmas.List.Elements.{All-cons, All-head, All-tail, All-append, All-weaker, All-map, All-filter, filter_passes, All-contains_itself}
-use Rattle.std.proofs.lemmas.Map.Views.{list_any-from_Contains}
+use Rattle.std.specs.List.{All, AllPairs, flat_map}
+use Rattle.std.proofs.lemmas.List.{get_or-map, length-map}
+use Rattle.std.proofs.lemmas.List.Elements.{All-nil, All-cons, All-head, All-tail, All-append, All-push, All-weaker, All-map, All-filter, All-from_get_or, filter_passes}
 use Rattle.std.proofs.lemmas.Slice.Eq.{bytes_eq-Decides}
 use Rattle.mpf_config.specs.Rows as config
 use Rattle.mpf_config.specs.Rows.{EventPlayer, SectionRows, switches, event_player, Rows}
-use Rattle.mpf_plan.specs.declared.entries.Action.TheVariants.{Post}
+use Rattle.mpf_plan.specs.declared.contribution.Aim.TheVariants.{Run}
 use Rattle.mpf_plan.specs.declared.entries.Binding.{Binding}
 use Rattle.mpf_plan.specs.declared.fault.Table.{Table}
 use Rattle.mpf_plan.specs.declared.fault.Table.TheVariants.{Events, Bindings, Switches}
 use Rattle.mpf_plan.specs.PlanView.{PlanView, Switch}
-use Rattle.mpf_plan.specs.Valid.{IsEventWithin, IsActionWithin, IsBindingWithin, IsSwitchWithin, IsValid}
-use Rattle.mpf_plan.specs.Uses.{first_by, first_uses, active_posts, inactive_posts, switch_uses, player_uses, section_uses, event_uses, switch_entries, player_entries}
+use Rattle.mpf_plan.specs.Valid.{IsValid}
+use Rattle.mpf_plan.specs.Contributions.{Contribution, switch, active, inactive, binds, post, texts, active_posts, inactive_posts, switch_contributions, player_contributions, section_contributions, machine_place, contributions_in, contributions_of}
+use Rattle.mpf_plan.specs.Uses.{first_by, names_in, number_in, all_names}
 use Rattle.mpf_plan.specs.Limits.{entry_count, limit_of}
-use Rattle.mpf_plan.specs.PlanOf.{event_of, switch_of, list_of, binding_of, bindings_from, plan_of, plan_at}
-use Rattle.std.specs.Prelude.{Ok}
-use Rattle.mpf_plan.proofs.BoundSteps.{length-bindings_from}
+use Rattle.mpf_plan.specs.PlanOf.{DraftView, last_switch, with_contribution, blank, drafted, plan_from, plan_of, plan_at}
+use Rattle.mpf_plan.proofs.Drafted.{events-from, switches-from, count-bindings, count-lists}
 use Rattle.mpf_plan.proofs.Judged.{plan_at-Ok}
-
--- ---- lists
-
-All-none : {X : Type 0} (P : X → Type 0) → All P []
-All-none P = λ k d within. absurd (omega arith)
-
-All-left : {X : Type 0} (P : X → Type 0) (xs ys : List X) → All P (xs ++ ys) → All P xs
-All-left P [] ys all = All-none P
-All-left P (x ∷ xs) ys all = All-cons P x xs (All-head P x (xs ++ ys) all) (All-left P xs ys (All-tail P x (xs ++ ys) all))
-
-All-right : {X : Type 0} (P : X → Type 0) (xs ys : List X) → All P (xs ++ ys) → All P ys
-All-right P [] ys all = all
-All-right P (x ∷ xs) ys all = All-right P xs ys (All-tail P x (xs ++ ys) all)
-
-All-parts : {X Y : Type 0} (P : Y → Type 0) (f : X → List Y) (xs : List X) → All P (flat_map f xs) → All (λ x. All P (f x)) xs
-All-parts P f [] all = All-none (λ x. All P (f x))
-All-parts P f (x ∷ xs) all = All-cons (λ z. All P (f z)) x xs (All-left P (f x) (flat_map f xs) all) (All-parts P f xs (All-right P (f x) (flat_map f xs) all))
-
-All-from_map : {X Y : Type 0} (P : Y → Type 0) (f : X → Y) (xs : List X) → All P (map f xs) → All (λ x. P (f x)) xs
-All-from_map P f [] all = All-none (λ x. P (f x))
-All-from_map P f (x ∷ xs) all = All-cons (λ z. P (f z)) x xs (All-head P (f x) (map f xs) all) (All-from_map P f xs (All-tail P (f x) (map f xs) all))
+use Rattle.mpf_plan.proofs.SoundDraft.{sound_drafted}
 
 pub All-first_by : {X : Type 0} (P : X → Type 0) (name : X → List ℕ) (xs : List X) → All P xs → All P (first_by name xs)
-All-first_by P name [] all = All-none P
+All-first_by P name [] all = all
 All-first_by P name (x ∷ xs) all =
     All-cons P x (filter (λ y. not (bytes_eq (name x) (name y))) (first_by name xs)) (All-head P x xs all)
     (All-filter (λ y. not (bytes_eq (name x) (name y))) P (first_by name xs) (All-first_by P name xs (All-tail P x xs all)))
 
--- ---- no two first items have one name
+-- what holds of all that each item gives
+pub All-flat_map : {X Y : Type 0} (P : Y → Type 0) (f : X → List Y) (xs : List X) → All (λ x. All P (f x)) xs → All P (flat_map f xs)
+All-flat_map P f [] all = All-nil P
+All-flat_map P f (x ∷ xs) all =
+    All-append P (f x) (flat_map f xs) (All-head (λ z. All P (f z)) x xs all) (All-flat_map P f xs (All-tail (λ z. All P (f z)) x xs all))
 
-abbrev AreApart : {X : Type 0} → (X → List ℕ) → List X → Type 0
-AreApart name [] = Unit {0}
-AreApart name (x ∷ xs) = All (λ y. name x ≢ name y) xs × AreApart name xs
+-- ---- no two first uses have one name
 
-AreApart-filter : {X : Type 0} (name : X → List ℕ) (p : X → Bool) (xs : List X) → AreApart name xs → AreApart name (filter p xs)
-AreApart-filter name p [] apart = tt
-AreApart-filter {X} name p (x ∷ xs) apart = by (p x) (AreApart-filter name p xs apart.1)
+abbrev AreApart : List (List ℕ) → Type 0
+AreApart [] = Unit {0}
+AreApart (x ∷ xs) = All (λ y. x ≢ y) xs × AreApart xs
+
+AreApart-filter : (p : List ℕ → Bool) (xs : List (List ℕ)) → AreApart xs → AreApart (filter p xs)
+AreApart-filter p [] apart = tt
+AreApart-filter p (x ∷ xs) apart = by (p x) (AreApart-filter p xs apart.1)
   where
-    by : (b : Bool) → AreApart name (filter p xs) → AreApart name (cond b (x ∷ filter p xs) (filter p xs))
-    by true rest = (All-filter p (λ y. name x ≢ name y) xs apart.0, rest)
+    by : (b : Bool) → AreApart (filter p xs) → AreApart (cond b (x ∷ filter p xs) (filter p xs))
+    by true rest = (All-filter p (λ y. x ≢ y) xs apart.0, rest)
     by false rest = rest
 
 differ : (x y : List ℕ) → not (bytes_eq x y) ≡ true → x ≢ y
 differ x y passes same = true≢false (sym passes ∙ ap not ((bytes_eq-Decides x y).1 same))
 
-AreApart-first_by : {X : Type 0} (name : X → List ℕ) (xs : List X) → AreApart name (first_by name xs)
-AreApart-first_by name [] = tt
-AreApart-first_by {X} name (x ∷ xs) =
-    let other : X → Bool = λ y. not (bytes_eq (name x) (name y)) in (
-      All-weaker (λ y. other y ≡ true) (λ y. name x ≢ name y) (λ y. differ (name x) (name y)) (filter other (first_by name xs)) (filter_passes other (first_by name xs)),
-      AreApart-filter name other (first_by name xs) (AreApart-first_by name xs),
-    )
+AreApart-first_uses : (xs : List (List ℕ)) → AreApart (first_by (λ n. n) xs)
+AreApart-first_uses [] = tt
+AreApart-first_uses (x ∷ xs) =
+    let other : List ℕ → Bool = λ y. not (bytes_eq x y) in
+    let rest = first_by (λ n. n) xs in
+    (All-weaker (λ y. other y ≡ true) (λ y. x ≢ y) (λ y. differ x y) (filter other rest) (filter_passes other rest), AreApart-filter other rest (AreApart-first_uses xs))
 
-AllPairs-map : {X Y : Type 0} (key : Y → List ℕ) (make : X → Y) (xs : List X) → AreApart (λ x. key (make x)) xs → AllPairs (λ s t. key s ≢ key t) (map make xs)
-AllPairs-map key make [] apart i j d before within = absurd (omega arith)
-AllPairs-map key make (x ∷ xs) apart zero zero d before within = absurd (omega arith)
-AllPairs-map key make (x ∷ xs) apart (suc i) zero d before within = absurd (omega arith)
-AllPairs-map key make (x ∷ xs) apart zero (suc j) d before within =
-    All-map (λ t. key (make x) ≢ key t) make xs apart.0 j d (omega arith)
-AllPairs-map key make (x ∷ xs) apart (suc i) (suc j) d before within =
-    AllPairs-map key make xs apart.1 i j d (omega arith) (omega arith)
+all_apart : (xs : List (List ℕ)) → AreApart xs → AllPairs (λ x y. x ≢ y) xs
+all_apart [] apart i j d before within = absurd (omega arith)
+all_apart (x ∷ xs) apart zero zero d before within = absurd (omega arith)
+all_apart (x ∷ xs) apart (suc i) zero d before within = absurd (omega arith)
+all_apart (x ∷ xs) apart zero (suc j) d before within = apart.0 j d (omega arith)
+all_apart (x ∷ xs) apart (suc i) (suc j) d before within = all_apart xs apart.1 i j d (omega arith) (omega arith)
 
--- ---- each use is among the first uses
+-- switches whose names are apart
+switches_apart : (ss : List Switch) → AllPairs (λ x y. x ≢ y) (map (λ (s : Switch). s.name) ss) → AllPairs (λ s t. s.name ≢ t.name) ss
+switches_apart ss apart i j d before within same =
+    let name : Switch → List ℕ = λ s. s.name in
+    let first : i < length ss = omega (arith, before, within) in
+    apart i j (name d) before (omega (arith, within, length-map ss name)) (get_or-map name ss i d (name d) first ∙ same ∙ sym (get_or-map name ss j d (name d) within))
 
-abbrev IsKnown : List (List ℕ) → List ℕ → Type 0
-IsKnown names name = position_or_len (bytes_eq name) names < length names
+-- ---- priorities
 
-place_within : {X : Type 0} (p : X → Bool) (xs : List X) → list_any p xs ≡ true → position_or_len p xs < length xs
-place_within p [] e = absurd (true≢false (sym e))
-place_within p (x ∷ xs) e = by (p x) (place_within p xs) e
+-- a binding of the machine
+abbrev IsUnranked : Contribution → Type 0
+IsUnranked (switch n kind) = Unit {0}
+IsUnranked (active n) = Unit {0}
+IsUnranked (inactive n) = Unit {0}
+IsUnranked (binds n place aim) = place.priority ≡ 0
+IsUnranked (post n) = Unit {0}
+
+all_such : {X : Type 0} (make : X → Contribution) → ((x : X) → IsUnranked (make x)) → (xs : List X) → All IsUnranked (map make xs)
+all_such make such [] = All-nil IsUnranked
+all_such make such (x ∷ xs) = All-cons IsUnranked (make x) (map make xs) (such x) (all_such make such xs)
+
+unranked_switch : (s : config.Switch) → All IsUnranked (switch_contributions s)
+unfolding switch_contributions
+unranked_switch s =
+    let rest = All-append IsUnranked (map active (active_posts s)) (map inactive (inactive_posts s)) (all_such active (λ n. tt) (active_posts s)) (all_such inactive (λ n. tt) (inactive_posts s)) in
+    All-cons IsUnranked (switch s.name.text _) (map active (active_posts s) ++ map inactive (inactive_posts s)) tt rest
+
+unranked_player : (p : EventPlayer) → All IsUnranked (player_contributions machine_place p)
+unfolding player_contributions
+unranked_player p = All-cons IsUnranked (binds p.event.text machine_place Run) (map post (texts p.posts)) refl (all_such post (λ n. tt) (texts p.posts))
+
+every : {X : Type 0} (P : X → Type 0) → ((x : X) → P x) → (xs : List X) → All P xs
+every P each [] = All-nil P
+every P each (x ∷ xs) = All-cons P x xs (each x) (every P each xs)
+
+unranked_section : (s : SectionRows) → All IsUnranked (section_contributions machine_place s)
+unranked_section (switches entries) = All-flat_map IsUnranked switch_contributions entries (every (λ s. All IsUnranked (switch_contributions s)) unranked_switch entries)
+unranked_section (event_player entries) = All-flat_map IsUnranked (player_contributions machine_place) entries (every (λ p. All IsUnranked (player_contributions machine_place p)) unranked_player entries)
+
+unranked_sections : (ss : List SectionRows) → All IsUnranked (contributions_in ss)
+unranked_sections [] = All-nil IsUnranked
+unranked_sections (s ∷ ss) = All-append IsUnranked (section_contributions machine_place s) (contributions_in ss) (unranked_section s) (unranked_sections ss)
+
+abbrev AreUnranked : DraftView → Type 0
+AreUnranked d = All (λ b. b.priority ≡ 0) d.plan.bindings
+
+unranked_fold : (names : _) (cs : List Contribution) (d : DraftView) → All IsUnranked cs → AreUnranked d → AreUnranked (fold (with_contribution names) d cs)
+unranked_fold names [] d all so_far = so_far
+unranked_fold names (c ∷ cs) d all so_far = unranked_fold names cs (with_contribution names d c) (All-tail IsUnranked c cs all) (one c (All-head IsUnranked c cs all))
   where
-    by : (b : Bool) → (list_any p xs ≡ true → position_or_len p xs < length xs) → (b || list_any p xs) ≡ true → cond (not b) (1 + position_or_len p xs) 0 < suc (length xs)
-    by true rest there = omega arith
-    by false rest there = let within = rest there in omega arith
+    one : (x : Contribution) → IsUnranked x → AreUnranked (with_contribution names d x)
+    one (switch n kind) is = by (slice_index_or d.defined (number_in names.switches n) true)
+      where
+        k : ℕ
+        k = number_in names.switches n
+        by : (b : Bool) → AreUnranked (cond b (record d { last = length d.defined }) (last_switch (λ s. record s { kind = kind }) (record d { defined = slice_set d.defined k true; last = k })))
+        by true = so_far
+        by false = so_far
+    one (active n) is = so_far
+    one (inactive n) is = so_far
+    one (binds n place Run) is = All-push (λ (b : Binding). b.priority ≡ 0) d.plan.bindings _ so_far is
+    one (post n) is = so_far
 
-any_filter : (name x : List ℕ) → bytes_eq name x ≡ false → (ys : List (List ℕ)) → list_any (bytes_eq name) (filter (λ y. not (bytes_eq x y)) ys) ≡ list_any (bytes_eq name) ys
-any_filter name x other [] = refl
-any_filter name x other (y ∷ ys) = by (bytes_eq x y) refl (any_filter name x other ys)
-  where
-    by : (b : Bool) → bytes_eq x y ≡ b → list_any (bytes_eq name) (filter (λ z. not (bytes_eq x z)) ys) ≡ list_any (bytes_eq name) ys
-        → list_any (bytes_eq name) (cond (not b) (y ∷ filter (λ z. not (bytes_eq x z)) ys) (filter (λ z. not (bytes_eq x z)) ys)) ≡ (bytes_eq name y || list_any (bytes_eq name) ys)
-    by true same rest =
-        let absent = ap (bytes_eq name) (sym ((bytes_eq-Decides x y).0 same)) ∙ other in
-        rest ∙ sym (ap (λ b. b || list_any (bytes_eq name) ys) absent)
-    by false same rest = ap (λ b. bytes_eq name y || b) rest
+-- ---- the plan
 
-any_first : (name : List ℕ) (uses : List (List ℕ)) → list_any (bytes_eq name) uses ≡ true → list_any (bytes_eq name) (first_uses uses) ≡ true
-any_first name [] there = there
-any_first name (x ∷ xs) there = by (bytes_eq name x) refl (any_first name xs) there
-  where
-    by : (b : Bool) → bytes_eq name x ≡ b → (list_any (bytes_eq name) xs ≡ true → list_any (bytes_eq name) (first_uses xs) ≡ true)
-        → (b || list_any (bytes_eq name) xs) ≡ true → (b || list_any (bytes_eq name) (filter (λ y. not (bytes_eq x y)) (first_uses xs))) ≡ true
-    by true same rest t = refl
-    by false same rest t = any_filter name x same (first_uses xs) ∙ rest t
-
-uses_known : (uses : List (List ℕ)) → All (IsKnown (first_uses uses)) uses
-uses_known uses =
-    All-weaker (Contains uses) (IsKnown (first_uses uses)) (λ u there. place_within (bytes_eq u) (first_uses uses) (any_first u uses (list_any-from_Contains nat_list_eq_equiv u uses there))) uses (All-contains_itself uses)
-
--- ---- what is true of all uses is true of each entry's
-
-module _ (P : List ℕ → Type 0) where
-  switches_use : (sections : List SectionRows) → All P (flat_map section_uses sections) → All (λ s. All P (switch_uses s)) (flat_map switch_entries sections)
-  switches_use [] all = All-none (λ s. All P (switch_uses s))
-  switches_use (switches es ∷ rest) all =
-      All-append (λ s. All P (switch_uses s)) es (flat_map switch_entries rest) (All-parts P switch_uses es (All-left P (flat_map switch_uses es) (flat_map section_uses rest) all)) (switches_use rest (All-right P (flat_map switch_uses es) (flat_map section_uses rest) all))
-  switches_use (event_player es ∷ rest) all = switches_use rest (All-right P (flat_map player_uses es) (flat_map section_uses rest) all)
-
-  players_use : (sections : List SectionRows) → All P (flat_map section_uses sections) → All (λ p. All P (player_uses p)) (flat_map player_entries sections)
-  players_use [] all = All-none (λ p. All P (player_uses p))
-  players_use (switches es ∷ rest) all = players_use rest (All-right P (flat_map switch_uses es) (flat_map section_uses rest) all)
-  players_use (event_player es ∷ rest) all =
-      All-append (λ p. All P (player_uses p)) es (flat_map player_entries rest) (All-parts P player_uses es (All-left P (flat_map player_uses es) (flat_map section_uses rest) all)) (players_use rest (All-right P (flat_map player_uses es) (flat_map section_uses rest) all))
-
--- ---- each number is that of an entry
-
-module _ (names : List (List ℕ)) where
-  switch_within : (s : config.Switch) → All (IsKnown names) (switch_uses s) → IsSwitchWithin (length names) (switch_of names s)
-  switch_within s all = (
-    All-map (IsEventWithin (length names)) (event_of names) (active_posts s) (All-left (IsKnown names) (active_posts s) (inactive_posts s) all),
-    All-map (IsEventWithin (length names)) (event_of names) (inactive_posts s) (All-right (IsKnown names) (active_posts s) (inactive_posts s) all),
-  )
-
-  list_within : (plan : PlanView) → plan.events ≡ names → (p : EventPlayer) → All (IsKnown names) (player_uses p) → All (IsActionWithin plan) (list_of names p)
-  list_within plan same p all =
-      All-map (IsActionWithin plan) (λ w. Post (event_of names w.text)) p.posts
-      (subst (λ ns. All (λ w. position_or_len (bytes_eq w.text) names < length ns) p.posts) (sym same)
-      (All-from_map (IsKnown names) (λ w. w.text) p.posts (All-tail (IsKnown names) p.event.text (map (λ w. w.text) p.posts) all)))
-
-  bindings_within : (plan : PlanView) → plan.events ≡ names → (n : ℕ) (ps : List EventPlayer) → n + length ps ≤ length plan.lists → All (λ p. All (IsKnown names) (player_uses p)) ps → All (IsBindingWithin plan) (bindings_from names n ps)
-  bindings_within plan same n [] fits all = All-none (IsBindingWithin plan)
-  bindings_within plan same n (p ∷ ps) fits all =
-      let known : IsKnown names p.event.text = All-head (IsKnown names) p.event.text (map (λ w. w.text) p.posts) (All-head (λ q. All (IsKnown names) (player_uses q)) p ps all) in
-      let event : position_or_len (bytes_eq p.event.text) names < length plan.events = subst (λ ns. position_or_len (bytes_eq p.event.text) names < length ns) (sym same) known in
-      let list : n < length plan.lists = omega arith in
-      All-cons (IsBindingWithin plan) (binding_of names n p) (bindings_from names (n + 1) ps) (event, tt, list)
-      (bindings_within plan same (n + 1) ps (omega arith) (All-tail (λ q. All (IsKnown names) (player_uses q)) p ps all))
-
--- each binding has the machine's priority
-all_priorities : (names : List (List ℕ)) (n : ℕ) (ps : List EventPlayer) → All (λ b. b.priority ≡ 0) (bindings_from names n ps)
-all_priorities names n [] = All-none (λ (b : Binding). b.priority ≡ 0)
-all_priorities names n (p ∷ ps) = All-cons (λ (b : Binding). b.priority ≡ 0) (binding_of names n p) (bindings_from names (n + 1) ps) refl (all_priorities names (n + 1) ps)
-
--- ---- the plan of rows
-
--- where each table is within its limit, the plan of the rows is valid
-pub IsValid-plan_of : (rows : Rows) → ((t : Table) → entry_count (plan_of rows) t ≤ limit_of t) → IsValid (plan_of rows)
-unfolding plan_of
-IsValid-plan_of rows within =
-    let names = first_uses (event_uses rows) in
-    let known : All (IsKnown names) (event_uses rows) = uses_known (event_uses rows) in
-    let entries = flat_map player_entries rows.machine in
-    let players : All (λ p. All (IsKnown names) (player_uses p)) entries = players_use (IsKnown names) rows.machine known in
-    let lists : length (plan_of rows).lists ≡ length entries = length-map entries (list_of names) in
-    let bindings : length (plan_of rows).bindings ≡ length entries = length-bindings_from names 0 entries in
-    let limit : length (plan_of rows).bindings ≤ 16384 = within Bindings in
+-- where each table is within its limit, and no binding is ranked, the plan of contributions is valid
+IsValid-plan_from : (cs : List Contribution) → All IsUnranked cs → ((t : Table) → entry_count (plan_from cs) t ≤ limit_of t) → IsValid (plan_from cs)
+IsValid-plan_from cs unranked within =
+    let names = names_in cs in
+    let sound = sound_drafted cs in
+    let limit : length (plan_from cs).bindings ≤ 16384 = within Bindings in
     record {
       event_limit = within Events;
       binding_limit = limit;
       switch_limit = within Switches;
-      list_limit = omega (arith, lists, bindings, limit);
-      event_names = subst (AllPairs (λ x y. x ≢ y)) (map-id names) (AllPairs-map (λ n. n) (λ n. n) names (AreApart-first_by (λ n. n) (event_uses rows)));
-      switch_names = AllPairs-map (λ (s : Switch). s.name) (switch_of names) (first_by (λ s. s.name.text) (flat_map switch_entries rows.machine)) (AreApart-first_by (λ (s : config.Switch). s.name.text) (flat_map switch_entries rows.machine));
-      switches = All-map (IsSwitchWithin (length names)) (switch_of names) (first_by (λ s. s.name.text) (flat_map switch_entries rows.machine))
-          (All-weaker (λ s. All (IsKnown names) (switch_uses s)) (λ s. IsSwitchWithin (length names) (switch_of names s)) (switch_within names) (first_by (λ s. s.name.text) (flat_map switch_entries rows.machine))
-          (All-first_by (λ s. All (IsKnown names) (switch_uses s)) (λ s. s.name.text) (flat_map switch_entries rows.machine) (switches_use (IsKnown names) rows.machine known)));
-      lists = All-map (All (IsActionWithin (plan_of rows))) (list_of names) entries (All-weaker (λ p. All (IsKnown names) (player_uses p)) (λ p. All (IsActionWithin (plan_of rows)) (list_of names p)) (list_within names (plan_of rows) refl) entries players);
-      bindings = bindings_within names (plan_of rows) refl 0 entries (omega (arith, lists)) players;
-      priorities = all_priorities names 0 entries;
+      list_limit = omega (arith, limit, count-bindings cs, count-lists cs);
+      event_names = subst (AllPairs (λ x y. x ≢ y)) (sym (events-from cs)) (all_apart names.events (AreApart-first_uses _));
+      switch_names = switches_apart (plan_from cs).switches (subst (AllPairs (λ x y. x ≢ y)) (sym (switches-from cs)) (all_apart names.switches (AreApart-first_uses _)));
+      switches = sound.switches;
+      lists = sound.lists;
+      bindings = sound.bindings;
+      priorities = unranked_fold names cs (blank names) unranked (All-nil (λ (b : Binding). b.priority ≡ 0));
     }
+
+-- where each table is within its limit, the plan of the rows is valid
+pub IsValid-plan_of : (rows : Rows) → ((t : Table) → entry_count (plan_of rows) t ≤ limit_of t) → IsValid (plan_of rows)
+unfolding plan_of
+IsValid-plan_of rows within = IsValid-plan_from (contributions_of rows) (unranked_sections rows.machine) within
 
 -- a plan that planning gives is valid
 pub IsValid-plan_at : (rows : Rows) (plan : PlanView) → plan_at rows ≡ Ok plan → IsValid plan

@@ -1,29 +1,72 @@
--- What a plan's fields hold.
-use Rattle.std.specs.Prelude.{ℕ, ◌≡◌, List, length, map, Vec}
+-- What the fields of a plan hold, and those of one that is being made.
+use Rattle.std.specs.Prelude.{ℕ, ◌≡◌, ◌++◌, List, length, map, Vec, zip}
 use Rattle.std.specs.List.{range_with_len}
 use Rattle.std.specs.Global.{Global}
+use Rattle.mpf_plan.specs.declared.contribution.Parts.{Parts}
+use Rattle.mpf_plan.specs.declared.contribution.Contribution as contributions
+use Rattle.mpf_plan.specs.declared.contribution.Contribution.TheVariants as contribution
+use Rattle.mpf_plan.specs.declared.draft.NameSets.{NameSets}
+use Rattle.mpf_plan.specs.declared.draft.SwitchEntry.{SwitchEntry}
+use Rattle.mpf_plan.specs.declared.draft.Draft.{Draft}
 use Rattle.mpf_plan.specs.declared.entries.Action.{Action}
 use Rattle.mpf_plan.specs.declared.entries.Binding.{Binding}
 use Rattle.mpf_plan.specs.declared.entries.BindingId.{BindingId}
-use Rattle.mpf_plan.specs.declared.tables.SwitchEntry.{SwitchEntry}
 use Rattle.mpf_plan.specs.declared.tables.Plan.TheInside.{Inside}
+use Rattle.mpf_plan.specs.Contributions.{Contribution, switch, active, inactive, binds, post}
+use Rattle.mpf_plan.specs.Uses.{Names}
 use Rattle.mpf_plan.specs.PlanView.{Switch, PlanView, places_of}
+use Rattle.mpf_plan.specs.PlanOf.{DraftView}
+
+-- the name that the parts make
+abbrev pub parts_text : Parts → List ℕ
+parts_text p = p.front.now ++ p.end.now
+
+abbrev pub contribution_view : contributions.Contribution → Contribution
+contribution_view (contribution.Switch n kind) = switch n.now kind
+contribution_view (contribution.Active n) = active (parts_text n)
+contribution_view (contribution.Inactive n) = inactive (parts_text n)
+contribution_view (contribution.Binds n place aim) = binds n.now place aim
+contribution_view (contribution.Post n) = post (parts_text n)
+
+abbrev pub contributions_view : List contributions.Contribution → List Contribution
+contributions_view cs = map contribution_view cs
+
+-- the names in a set of them
+abbrev pub names_of : List (Vec ℕ Global) → List (List ℕ)
+names_of keys = map (λ v. v.items) keys
+
+abbrev pub names_view : NameSets → Names
+names_view n = record { events = names_of n.events.keys; switches = names_of n.switches.keys }
 
 -- a switch's name, how it is read, and its posts
 abbrev pub switch_view : Vec ℕ Global × SwitchEntry → Switch
 switch_view e = record { name = e.0.items; kind = e.1.kind; active = e.1.active.items; inactive = e.1.inactive.items }
 
+-- each switch stands at the place of its name
+abbrev pub switches_view : List (Vec ℕ Global) → List SwitchEntry → List Switch
+switches_view names entries = map switch_view (zip names entries)
+
+abbrev pub lists_view : List (Vec Action Global) → List (List Action)
+lists_view lists = map (λ v. v.items) lists
+
 -- the tables as they lie in a plan's fields
-abbrev pub tables_view : List (Vec ℕ Global) → List (Vec ℕ Global × SwitchEntry) → List (Vec Action Global) → List Binding → PlanView
-tables_view events switches lists bindings = record {
-  events = map (λ v. v.items) events;
-  switches = map switch_view switches;
-  lists = map (λ v. v.items) lists;
+abbrev pub tables_view : NameSets → List SwitchEntry → List (Vec Action Global) → List Binding → PlanView
+tables_view names switches lists bindings = record {
+  events = names_of names.events.keys;
+  switches = switches_view names.switches.keys switches;
+  lists = lists_view lists;
   bindings = bindings;
 }
 
+abbrev pub draft_view : NameSets → Draft → DraftView
+draft_view names d = record {
+  plan = tables_view names d.switches.items d.lists.items d.bindings.items;
+  defined = d.defined.items;
+  last = d.last;
+}
+
 abbrev pub plan_view : Inside → PlanView
-plan_view p = tables_view p.events.keys p.switches.entries p.lists.items p.bindings.items
+plan_view p = tables_view p.names p.switches.items p.lists.items p.bindings.items
 
 -- for each event of a plan the places of what is bound to it
 abbrev pub HasPlaces : PlanView → List (Vec BindingId Global) → Type 0

@@ -1,8 +1,10 @@
 pub mod PlanView
 pub mod Valid
-pub mod Inside
+pub mod Contributions
 pub mod Uses
 pub mod Limits
 pub mod PlanOf
-pub mod Noting
-pub mod Binding
+pub mod ListLimits
+pub mod Inside
+pub mod Numbering
+pub mod Today

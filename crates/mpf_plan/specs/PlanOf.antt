@@ -1,81 +1,122 @@
--- The plan of the rows.
-use Rattle.std.specs.Prelude.{◌≡◌, ℕ, ◌+◌, Bool, true, false, List, [], ◌∷◌, Option, None, Some, Result, Ok, Err, map}
-use Rattle.std.specs.List.{flat_map, position_or_len}
-use Rattle.std.specs.Str.{bytes_eq}
-use Rattle.mpf_config.specs.declared.config.Debounce.{Debounce}
-use Rattle.mpf_config.specs.declared.config.Debounce.TheVariants.{Auto, Quick, Normal}
-use Rattle.mpf_config.specs.Rows as config
-use Rattle.mpf_config.specs.Rows.{EventPlayer, Rows}
+-- The plan of the rows: each contribution adds its own to what is there.
+use Rattle.std.specs.Prelude.{◌≡◌, ℕ, ◌-◌, Bool, true, false, cond, List, [], ◌∷◌, ◌++◌, Option, None, Some, Result, Ok, Err, map, fold, length, slice_set, slice_index_or}
+use Rattle.mpf_config.specs.Rows.{Rows}
 use Rattle.mpf_plan.specs.declared.entries.EventId.{EventId}
 use Rattle.mpf_plan.specs.declared.entries.SwitchKind.{SwitchKind}
-use Rattle.mpf_plan.specs.declared.entries.Owner.TheVariants.{Machine}
 use Rattle.mpf_plan.specs.declared.entries.Action.{Action}
 use Rattle.mpf_plan.specs.declared.entries.Action.TheVariants.{Post}
-use Rattle.mpf_plan.specs.declared.entries.Target.TheVariants.{Run}
+use Rattle.mpf_plan.specs.declared.entries.Target.{Target}
+use Rattle.mpf_plan.specs.declared.entries.Target.TheVariants as targets
 use Rattle.mpf_plan.specs.declared.entries.Binding.{Binding}
+use Rattle.mpf_plan.specs.declared.contribution.Place.{Place}
+use Rattle.mpf_plan.specs.declared.contribution.Aim.TheVariants.{Run}
 use Rattle.mpf_plan.specs.declared.fault.Table.{Table}
 use Rattle.mpf_plan.specs.declared.fault.PlanFault.{PlanFault}
 use Rattle.mpf_plan.specs.declared.fault.PlanFault.TheVariants as faults
-use Rattle.mpf_plan.specs.PlanView.{Switch, PlanView}
-use Rattle.mpf_plan.specs.Uses.{first_by, first_uses, active_posts, inactive_posts, event_uses, switch_entries, player_entries}
+use Rattle.mpf_plan.specs.PlanView.{Switch, no_switch, PlanView}
+use Rattle.mpf_plan.specs.Contributions.{Contribution, switch, active, inactive, binds, post, contributions_of}
+use Rattle.mpf_plan.specs.Uses.{Names, names_in, number_in, lacks_name}
 use Rattle.mpf_plan.specs.Limits.{first_above, IsFirstAbove}
 
 -- an event is its name's place among the names
 abbrev pub event_of : List (List ℕ) → List ℕ → EventId
-event_of names name = record { 0 = position_or_len (bytes_eq name) names }
+event_of names name = record { 0 = number_in names name }
 
--- whether a raw level is accepted at once, and not once it has stood for 5 ms
-abbrev pub is_quick : Debounce → Bool
-is_quick Auto = false
-is_quick Quick = true
-is_quick Normal = false
+-- ---- a plan that is being made
 
--- how a switch is read
-abbrev pub kind_of : config.Switch → SwitchKind
-kind_of s = record { contact = s.contact; quick = is_quick s.debounce }
+-- the plan so far; which switches are defined; and the number of the switch that came last, where it was the first of its name
+pub record DraftView : Type 0 where
+  pub plan : PlanView
+  pub defined : List Bool
+  pub last : ℕ
 
--- a switch, with its posts by number
-abbrev pub switch_of : List (List ℕ) → config.Switch → Switch
-switch_of names s = record { name = s.name.text; kind = kind_of s; active = map (event_of names) (active_posts s); inactive = map (event_of names) (inactive_posts s) }
+-- the switch that came last, where it was the first of its name, is changed so
+abbrev pub last_switch : (Switch → Switch) → DraftView → DraftView
+last_switch change d =
+    record d { plan = record d.plan { switches = slice_set d.plan.switches d.last (change (slice_index_or d.plan.switches d.last no_switch)) } }
 
--- the effect list of an entry: it posts the entry's events in order
-abbrev pub list_of : List (List ℕ) → EventPlayer → List Action
-list_of names p = map (λ w. Post (event_of names w.text)) p.posts
+-- the switch of the number is read so, where nothing has defined it: of two entries of one name the first counts
+abbrev pub with_switch : ℕ → SwitchKind → DraftView → DraftView
+with_switch n kind d =
+    cond (slice_index_or d.defined n true)
+    (record d { last = length d.defined })
+    (last_switch (λ s. record s { kind = kind }) (record d { defined = slice_set d.defined n true; last = n }))
 
--- the binding of an entry whose effect list has the number: the machine runs the list at priority 0
-abbrev pub binding_of : List (List ℕ) → ℕ → EventPlayer → Binding
-binding_of names list p = record { event = event_of names p.event.text; owner = Machine; priority = 0; target = Run (record { 0 = list }) }
+abbrev pub with_active : EventId → DraftView → DraftView
+with_active e d = last_switch (λ s. record s { active = s.active ++ e ∷ [] }) d
 
--- the bindings of entries whose effect lists are numbered from the number on
-abbrev pub bindings_from : List (List ℕ) → ℕ → List EventPlayer → List Binding
-bindings_from names list [] = []
-bindings_from names list (p ∷ ps) = binding_of names list p ∷ bindings_from names (list + 1) ps
+abbrev pub with_inactive : EventId → DraftView → DraftView
+with_inactive e d = last_switch (λ s. record s { inactive = s.inactive ++ e ∷ [] }) d
 
--- Events are numbered in the order of their first uses, switches in that of their first entries, effect lists and
--- bindings in that of the entries that have them.
-unfoldable pub plan_of : Rows → PlanView
-plan_of rows = record {
-  events = first_uses (event_uses rows);
-  switches = map (switch_of (first_uses (event_uses rows))) (first_by (λ s. s.name.text) (flat_map switch_entries rows.machine));
-  lists = map (list_of (first_uses (event_uses rows))) (flat_map player_entries rows.machine);
-  bindings = bindings_from (first_uses (event_uses rows)) 0 (flat_map player_entries rows.machine);
+abbrev pub with_binding : Binding → DraftView → DraftView
+with_binding b d = record d { plan = record d.plan { bindings = d.plan.bindings ++ b ∷ [] } }
+
+-- the next effect list begins
+abbrev pub with_list : DraftView → DraftView
+with_list d = record d { plan = record d.plan { lists = d.plan.lists ++ [] ∷ [] } }
+
+-- the last of the lists has one action more
+abbrev pub last_with : Action → List (List Action) → List (List Action)
+last_with a lists = slice_set lists (length lists - 1) (slice_index_or lists (length lists - 1) [] ++ a ∷ [])
+
+abbrev pub with_action : Action → DraftView → DraftView
+with_action a d = record d { plan = record d.plan { lists = last_with a d.plan.lists } }
+
+-- what one contribution adds, where names have these numbers
+abbrev pub with_contribution : Names → DraftView → Contribution → DraftView
+with_contribution names d (switch n kind) = with_switch (number_in names.switches n) kind d
+with_contribution names d (active n) = with_active (event_of names.events n) d
+with_contribution names d (inactive n) = with_inactive (event_of names.events n) d
+with_contribution names d (binds n place Run) =
+    with_list (with_binding (record { event = event_of names.events n; owner = place.owner; priority = place.priority; target = targets.Run (record { 0 = length d.plan.lists }) }) d)
+with_contribution names d (post n) = with_action (Post (event_of names.events n)) d
+
+-- a switch of which the name alone is known
+abbrev pub named_switch : List ℕ → Switch
+named_switch n = record no_switch { name = n }
+
+-- before anything is added, names are there alone
+abbrev pub blank : Names → DraftView
+blank names = record {
+  plan = record { events = names.events; switches = map named_switch names.switches; lists = []; bindings = [] };
+  defined = map (λ n. false) names.switches;
+  last = length names.switches;
 }
 
--- the plan, unless a table is above its limit
-abbrev pub judged : PlanView → Option Table → Result PlanView Table
-judged plan None = Ok plan
-judged plan (Some t) = Err t
+-- all contributions, in turn
+abbrev pub drafted : Names → List Contribution → DraftView
+drafted names cs = fold (with_contribution names) (blank names) cs
 
--- the plan of the rows, or the first of its tables that is above its limit
-unfoldable pub plan_at : Rows → Result PlanView Table
-plan_at rows = judged (plan_of rows) (first_above (plan_of rows))
+-- all names are numbered in the order of their first uses, and then each contribution adds its own
+abbrev pub plan_from : List Contribution → PlanView
+plan_from cs = (drafted (names_in cs) cs).plan
+
+-- ---- the plan of rows
+
+unfoldable pub plan_of : Rows → PlanView
+plan_of rows = plan_from (contributions_of rows)
+
+-- why rows have no plan: they use a name that nothing has, or a table is above its limit
+pub data PlanRefusal : Type 0 where
+  no_such_name : PlanRefusal
+  above_limit : Table → PlanRefusal
+
+-- the plan, unless a table is above its limit
+abbrev pub limited : PlanView → Option Table → Result PlanView PlanRefusal
+limited plan None = Ok plan
+limited plan (Some t) = Err (above_limit t)
+
+-- the plan of the rows; or that they use a name that nothing has; or the first of the tables that is above its limit
+unfoldable pub plan_at : Rows → Result PlanView PlanRefusal
+plan_at rows = cond (lacks_name (contributions_of rows)) (Err no_such_name) (limited (plan_of rows) (first_above (plan_of rows)))
 
 -- the table is the first of the rows' plan that is above its limit
 abbrev pub IsExceeded : Rows → Table → Type 0
 IsExceeded rows t = IsFirstAbove (plan_of rows) t
 
 -- An answer is what planning gives, unless memory ran out.
-abbrev pub GivesPlan : Result PlanView PlanFault → Result PlanView Table → Type 0
+abbrev pub GivesPlan : Result PlanView PlanFault → Result PlanView PlanRefusal → Type 0
 GivesPlan (Ok p) plan = plan ≡ Ok p
 GivesPlan (Err faults.NoMemory) plan = Unit {0}
-GivesPlan (Err (faults.Limit t)) plan = plan ≡ Err t
+GivesPlan (Err faults.NoSuchName) plan = plan ≡ Err no_such_name
+GivesPlan (Err (faults.Limit t)) plan = plan ≡ Err (above_limit t)

@@ -1,8 +1,52 @@
--- The uses of event names in plan order: sections and entries as they are written.
-use Rattle.std.specs.Prelude.{ℕ, not, List, [], ◌∷◌, ◌++◌, map, filter, codes}
-use Rattle.std.specs.List.{flat_map}
+-- The names that contributions use and give, and their numbers.
+use Rattle.std.specs.Prelude.{ℕ, Bool, not, List, [], ◌∷◌, Option, None, Some, map, filter}
+use Rattle.std.specs.List.{flat_map, list_any, position_or_len}
 use Rattle.std.specs.Str.{bytes_eq}
-use Rattle.mpf_config.specs.Rows.{Written, Switch, EventPlayer, SectionRows, switches, event_player, Rows}
+use Rattle.mpf_plan.specs.declared.contribution.Kind.{Kind}
+use Rattle.mpf_plan.specs.declared.contribution.Kind.TheVariants as kinds
+use Rattle.mpf_plan.specs.declared.contribution.Role.{Role}
+use Rattle.mpf_plan.specs.declared.contribution.Role.TheVariants.{Uses, Gives}
+use Rattle.mpf_plan.specs.Contributions.{Contribution, switch, active, inactive, binds, post}
+
+-- ---- one contribution
+
+abbrev pub used_event : Contribution → Option (List ℕ)
+used_event (switch n kind) = None
+used_event (active n) = Some n
+used_event (inactive n) = Some n
+used_event (binds n place aim) = Some n
+used_event (post n) = Some n
+
+abbrev pub given_switch : Contribution → Option (List ℕ)
+given_switch (switch n kind) = Some n
+given_switch (active n) = None
+given_switch (inactive n) = None
+given_switch (binds n place aim) = None
+given_switch (post n) = None
+
+-- the name of a kind that a contribution uses; what gives a switch its name uses the name
+abbrev pub used : Kind → Contribution → Option (List ℕ)
+used kinds.Event c = used_event c
+used kinds.Switch c = given_switch c
+
+-- the name of a kind that a contribution gives to something; events need no giving
+abbrev pub given_name : Kind → Contribution → Option (List ℕ)
+given_name kinds.Event c = None
+given_name kinds.Switch c = given_switch c
+
+abbrev pub name_in : Role → Contribution → Option (List ℕ)
+name_in (Uses kind) c = used kind c
+name_in (Gives kind) c = given_name kind c
+
+-- ---- all of them
+
+abbrev pub as_list : {X : Type 0} → Option X → List X
+as_list None = []
+as_list (Some x) = x ∷ []
+
+-- all names that the contributions use, or give, in turn
+abbrev pub all_names : Role → List Contribution → List (List ℕ)
+all_names role cs = flat_map (λ c. as_list (name_in role c)) cs
 
 -- each item whose name no item before it has: the first item, and of the rest those of other names, each where it comes first
 abbrev pub first_by : {X : Type 0} → (X → List ℕ) → List X → List X
@@ -13,40 +57,32 @@ first_by name (x ∷ xs) = x ∷ filter (λ y. not (bytes_eq (name x) (name y)))
 abbrev pub first_uses : List (List ℕ) → List (List ℕ)
 first_uses uses = first_by (λ name. name) uses
 
--- the event of a tag
-abbrev pub tag_event : Written → List ℕ
-tag_event t = codes "sw_" ++ t.text
+-- the names of a kind in the order of their first uses
+abbrev pub names_of_kind : Kind → List Contribution → List (List ℕ)
+names_of_kind kind cs = first_uses (all_names (Uses kind) cs)
 
--- What a switch posts when it becomes active: the event of its own name, those of its tags, and those that its entry
--- names, tags and names as they are written.
-abbrev pub active_posts : Switch → List (List ℕ)
-active_posts s = (s.name.text ++ codes "_active") ∷ map tag_event s.tags ++ map (λ w. w.text) s.activated
+-- the names of each kind, at their numbers
+pub record Names : Type 0 where
+  pub events : List (List ℕ)
+  pub switches : List (List ℕ)
 
--- what a switch posts when it becomes inactive; its tags have no event then
-abbrev pub inactive_posts : Switch → List (List ℕ)
-inactive_posts s = (s.name.text ++ codes "_inactive") ∷ map (λ w. w.text) s.deactivated
+abbrev pub names_in : List Contribution → Names
+names_in cs = record { events = names_of_kind kinds.Event cs; switches = names_of_kind kinds.Switch cs }
 
--- a switch uses what it posts, whatever the order of its settings: first when it becomes active
-abbrev pub switch_uses : Switch → List (List ℕ)
-switch_uses s = active_posts s ++ inactive_posts s
+-- a name's number is its place among the names
+abbrev pub number_in : List (List ℕ) → List ℕ → ℕ
+number_in names name = position_or_len (bytes_eq name) names
 
--- an entry of `event_player` uses the event that it handles, and then those that it posts
-abbrev pub player_uses : EventPlayer → List (List ℕ)
-player_uses p = p.event.text ∷ map (λ w. w.text) p.posts
+-- ---- names that nothing has
 
-abbrev pub section_uses : SectionRows → List (List ℕ)
-section_uses (switches entries) = flat_map switch_uses entries
-section_uses (event_player entries) = flat_map player_uses entries
+-- whether a name is not among the names
+abbrev pub is_lacking : List (List ℕ) → List ℕ → Bool
+is_lacking names n = not (list_any (bytes_eq n) names)
 
-abbrev pub event_uses : Rows → List (List ℕ)
-event_uses rows = flat_map section_uses rows.machine
+-- whether a name of the kind is used that nothing has
+abbrev pub lacks : Kind → List Contribution → Bool
+lacks kind cs = list_any (is_lacking (all_names (Gives kind) cs)) (all_names (Uses kind) cs)
 
--- the entries of a section that name switches
-abbrev pub switch_entries : SectionRows → List Switch
-switch_entries (switches entries) = entries
-switch_entries (event_player entries) = []
-
--- the entries of a section that bind an effect list to an event
-abbrev pub player_entries : SectionRows → List EventPlayer
-player_entries (switches entries) = []
-player_entries (event_player entries) = entries
+-- whether a name is used that nothing has: of switches, since events need no giving
+abbrev pub lacks_name : List Contribution → Bool
+lacks_name cs = lacks kinds.Switch cs

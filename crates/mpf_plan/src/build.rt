@@ -6,11 +6,10 @@ ghost use Rattle.mpf_plan.specs.declared.fault.Table.{Table as TableValue};
 ghost use Rattle.mpf_plan.specs.Limits.{entry_count, limit_of};
 ghost use Rattle.mpf_plan.specs.PlanOf.{plan_at, plan_of, GivesPlan, IsExceeded};
 
-use crate::bindings::{bind, check_bindings};
-use crate::events::number_events;
 use crate::fault::PlanFault;
+use crate::fill::fill;
+use crate::numbering::number;
 use crate::placing::places_by_event;
-use crate::switches::number_switches;
 use crate::tables::Plan;
 use mpf_config::config::Config;
 use std::alloc::Global;
@@ -28,8 +27,8 @@ use std::alloc::Global;
 ///
 /// # Errors
 ///
-/// `Limit` where a table is above its limit: the first one, in the order of `Table`. The events
-/// are given up on at the first one too many. `NoMemory` where memory runs out.
+/// `NoSuchName` where a name is used that nothing has; no row does that yet. `Limit` where a table
+/// is above its limit: the first one, in the order of `Table`. `NoMemory` where memory runs out.
 pub fn plan(alloc: Global, config: &Config) -> Result<Plan, PlanFault>
     ensures exact { GivesPlan result (plan_at (rows_view config.now)) }
     ensures plan { IfOk result (λ p. p ≡ plan_of (rows_view config.now)) }
@@ -37,10 +36,8 @@ pub fn plan(alloc: Global, config: &Config) -> Result<Plan, PlanFault>
     ensures limit { (t : TableValue) → result ≡ Err (PlanFault.Limit t) → IsExceeded (rows_view config.now) t }
 {
     let sections = config.machine.sections.as_slice();
-    let events = number_events(alloc, sections)?;
-    check_bindings(sections)?;
-    let switches = number_switches(alloc, &events, sections)?;
-    let bound = bind(alloc, &events, sections)?;
-    let places = places_by_event(alloc, events.len(), &bound.bindings)?;
-    Ok(Plan::assemble(events, switches, bound.lists, bound.bindings, places))
+    let names = number(alloc, sections)?;
+    let draft = fill(alloc, &names, sections)?;
+    let places = places_by_event(alloc, names.events.len(), &draft.bindings)?;
+    Ok(Plan::assemble(names, draft, places))
 }

@@ -37,6 +37,9 @@ pub enum PlanFault {
     /// Memory ran out.
     #[error("NoMemory")]
     NoMemory,
+    /// A name is used that nothing has.
+    #[error("NoSuchName")]
+    NoSuchName,
     /// The table is above its limit: the first one that is.
     #[error("Limit {}", .0.name())]
     Limit(Table),

@@ -1,13 +1,15 @@
 //! The plan of a configuration: names by number, and what is bound to each event.
 #![tactic(auto)]
 
-mod bindings;
 pub mod build;
+mod collect;
+mod contribution;
+mod draft;
 pub mod entries;
-mod events;
 pub mod fault;
+mod fill;
+mod numbering;
 mod placing;
-mod switches;
 pub mod tables;
 
 pub use build::plan;

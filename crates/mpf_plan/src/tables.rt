@@ -1,23 +1,16 @@
 //! The plan, and its tables read by number and by text.
 
+use crate::draft::{Draft, NameSets, SwitchEntry};
 use crate::entries::{Action, Binding, BindingId, EventId, ListId, SwitchId, SwitchKind};
-use indexmap::{IndexMap, IndexSet};
 use std::marker::Model;
-
-/// How a switch is read, and what it posts when it becomes active, and when it becomes inactive.
-#[derive(Debug, Drop)]
-pub struct SwitchEntry {
-    pub kind: SwitchKind,
-    pub active: Vec<EventId>,
-    pub inactive: Vec<EventId>,
-}
 
 /// The plan of a configuration. Each number in it is that of an entry of its table, no two
 /// events and no two switches have one name, and each table is within its limit.
 #[derive(Drop)]
 pub struct Plan {
-    events: IndexSet<Vec<u8>>,
-    switches: IndexMap<Vec<u8>, SwitchEntry>,
+    names: NameSets,
+    /// At the places of their names.
+    switches: Vec<SwitchEntry>,
     lists: Vec<Vec<Action>>,
     bindings: Vec<Binding>,
     /// For each event the places of what is bound to it.
@@ -29,36 +22,32 @@ impl Model for Plan {
 
     ghost Value = { PlanView };
 
+    ghost use Rattle.std.specs.Prelude.{◌≡◌, length};
     ghost use Rattle.mpf_plan.specs.Inside.{plan_view, HasPlaces};
     ghost use Rattle.mpf_plan.specs.Valid.{IsValid};
 
     ghost view = { plan_view };
 
-    ghost invariant = { λ p. IsValid (plan_view p) × HasPlaces (plan_view p) p.places.items };
+    ghost invariant = { λ p. IsValid (plan_view p) × HasPlaces (plan_view p) p.places.items × (length p.switches.items ≡ length p.names.switches.keys) };
 }
 
 impl Plan {
     ghost use Rattle.std.specs.Prelude.{◌≡◌, ◌<◌, length, slice_get, Contains, IfSome, IfNone};
     ghost use Rattle.mpf_plan.specs.PlanView.{name_of_event, event_named, switch_at, switch_named, posts_of, list_at, places_of};
-    ghost use Rattle.mpf_plan.specs.Inside.{tables_view, HasPlaces};
+    ghost use Rattle.mpf_plan.specs.Inside.{draft_view, HasPlaces};
     ghost use Rattle.mpf_plan.specs.Valid.{IsValid};
 
-    pub(crate) fn assemble(
-        events: IndexSet<Vec<u8>>,
-        switches: IndexMap<Vec<u8>, SwitchEntry>,
-        lists: Vec<Vec<Action>>,
-        bindings: Vec<Binding>,
-        places: Vec<Vec<BindingId>>,
-    ) -> Plan
-        requires valid { IsValid (tables_view events.keys switches.entries lists.items bindings.items) }
-        requires places { HasPlaces (tables_view events.keys switches.entries lists.items bindings.items) places.items }
-        ensures { result ≡ tables_view events.keys switches.entries lists.items bindings.items }
+    pub(crate) fn assemble(names: NameSets, draft: Draft, places: Vec<Vec<BindingId>>) -> Plan
+        requires valid { IsValid (draft_view names draft).plan }
+        requires places { HasPlaces (draft_view names draft).plan places.items }
+        requires switches { length draft.switches.items ≡ length names.switches.keys }
+        ensures { result ≡ (draft_view names draft).plan }
     {
         Plan {
-            events,
-            switches,
-            lists,
-            bindings,
+            names,
+            switches: draft.switches,
+            lists: draft.lists,
+            bindings: draft.bindings,
             places,
         }
     }
@@ -68,7 +57,7 @@ impl Plan {
         ensures count { result ≡ length self.now.events }
         ensures valid { IsValid self.now }
     {
-        self.events.len()
+        self.names.events.len()
     }
 
     /// The name of an event of the plan.
@@ -77,7 +66,7 @@ impl Plan {
         ensures name { result.now ≡ name_of_event self.now event }
         ensures valid { IsValid self.now }
     {
-        let names = self.events.as_slice();
+        let names = self.names.events.as_slice();
         names[event.0 as usize].as_slice()
     }
 
@@ -88,7 +77,7 @@ impl Plan {
         ensures absent { IfNone result (¬ (Contains self.now.events name.now)) }
         ensures valid { IsValid self.now }
     {
-        let place = self.events.get_index_of(name)?;
+        let place = self.names.events.get_index_of(name)?;
         Some(EventId(place as u16))
     }
 
@@ -106,10 +95,8 @@ impl Plan {
         ensures name { result.now ≡ (switch_at self.now switch).name }
         ensures valid { IsValid self.now }
     {
-        let Some((name, _)) = self.switches.get_index(switch.0 as usize) else {
-            unreachable!()
-        };
-        name.as_slice()
+        let names = self.names.switches.as_slice();
+        names[switch.0 as usize].as_slice()
     }
 
     /// The switch of a name, or none where no switch has it.
@@ -119,7 +106,7 @@ impl Plan {
         ensures within { IfSome result (λ s. s.0 < length self.now.switches) }
         ensures valid { IsValid self.now }
     {
-        let place = self.switches.get_index_of(name)?;
+        let place = self.names.switches.get_index_of(name)?;
         Some(SwitchId(place as u16))
     }
 

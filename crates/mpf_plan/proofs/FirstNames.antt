@@ -1,0 +1,72 @@
+-- A table of first names, one name more.
+use Rattle.std.proofs.Common.{◌≡◌, ℕ, ◌+◌, ◌<◌, ◌≤◌, Bool, true, false, cond, ◌||◌, ◌⊎◌, inl, inr, List, [], ◌∷◌, ◌++◌, length, map, fold, Vec, Global, refl, sym, ◌∙◌, ap, subst, true≢false, arith}
+use Rattle.std.specs.Str.{bytes_eq}
+use Rattle.std.specs.List.{list_any}
+use Rattle.std.proofs.lemmas.List.{map-append, length_push, length-map}
+use Rattle.mpf_plan.specs.declared.numbering.NameTable.{NameTable}
+use Rattle.mpf_plan.specs.Inside.{names_of}
+use Rattle.mpf_plan.specs.Numbering.{with_name, IsTable}
+
+list_any-map : {X Y : Type 0} (p : Y → Bool) (f : X → Y) (xs : List X) → list_any p (map f xs) ≡ list_any (λ x. p (f x)) xs
+list_any-map p f [] = refl
+list_any-map p f (x ∷ xs) = ap (λ b. p (f x) || b) (list_any-map p f xs)
+
+pub name_grows : (all : List (List ℕ)) (n : List ℕ) → length all ≤ length (with_name all n)
+name_grows all n = by (list_any (λ y. bytes_eq n y) all)
+  where
+    by : (b : Bool) → length all ≤ length (cond b all (all ++ n ∷ []))
+    by true = omega arith
+    by false = omega (arith, length_push all n)
+
+module _ (keys : List (Vec ℕ Global)) (name : List ℕ) where
+  -- a name that is there stays where it is
+  use_there : list_any (λ k. bytes_eq name k.items) keys ≡ true → with_name (names_of keys) name ≡ names_of keys
+  use_there e = ap (λ b. cond b (names_of keys) (names_of keys ++ name ∷ [])) (list_any-map (bytes_eq name) (λ v. v.items) keys ∙ e)
+
+  -- a new one goes last
+  use_new : list_any (λ k. bytes_eq name k.items) keys ≡ false → with_name (names_of keys) name ≡ names_of keys ++ name ∷ []
+  use_new e = ap (λ b. cond b (names_of keys) (names_of keys ++ name ∷ [])) (list_any-map (bytes_eq name) (λ v. v.items) keys ∙ e)
+
+  length-use_new : list_any (λ k. bytes_eq name k.items) keys ≡ false → length (with_name (names_of keys) name) ≡ length keys + 1
+  length-use_new e = ap length (use_new e) ∙ length_push (names_of keys) name ∙ ap (λ n. n + 1) (length-map keys (λ v. v.items))
+
+  -- what an insert of the name leaves
+  pub use_inserted : (v : Vec ℕ Global) (new : List (Vec ℕ Global)) → v.items ≡ name
+      → new ≡ cond (list_any (λ k. bytes_eq v.items k.items) keys) keys (keys ++ v ∷ []) → names_of new ≡ with_name (names_of keys) name
+  use_inserted v new same e =
+      ap names_of e
+      ∙ seen (list_any (λ k. bytes_eq v.items k.items) keys)
+      ∙ ap (λ b. cond b (names_of keys) (names_of keys ++ v.items ∷ [])) (sym (list_any-map (bytes_eq v.items) (λ k. k.items) keys))
+      ∙ ap (λ n. with_name (names_of keys) n) same
+    where
+      seen : (b : Bool) → names_of (cond b keys (keys ++ v ∷ [])) ≡ cond b (names_of keys) (names_of keys ++ v.items ∷ [])
+      seen true = refl
+      seen false = map-append (λ k. k.items) keys (v ∷ [])
+
+module _ (limit : ℕ) (all : List (List ℕ)) (name : List ℕ) where
+  -- above the limit it stays so
+  pub table_above : (t : NameTable) → t.above ≡ true → IsTable limit all t → IsTable limit (with_name all name) t
+  table_above t above (inl (a, more)) = inl (a, omega (arith, more, name_grows all name))
+  table_above t above (inr (not, names, within)) = absurd (true≢false (sym above ∙ not))
+
+  module _ (t : NameTable) (not_above : t.above ≡ false) where
+    pub table_there : list_any (λ k. bytes_eq name k.items) t.set.keys ≡ true → IsTable limit all t → IsTable limit (with_name all name) t
+    table_there there (inl (a, more)) = absurd (true≢false (sym a ∙ not_above))
+    table_there there (inr (n, names, within)) =
+        let same : with_name all name ≡ all = ap (λ a. with_name a name) (sym names) ∙ use_there t.set.keys name there ∙ names in
+        inr (n, names ∙ sym same, subst (λ a. length a ≤ limit) (sym same) within)
+
+    pub table_full : (new : NameTable) → new.above ≡ true → list_any (λ k. bytes_eq name k.items) t.set.keys ≡ false → length t.set.keys ≡ limit → IsTable limit all t → IsTable limit (with_name all name) new
+    table_full new is absent full (inl (a, more)) = absurd (true≢false (sym a ∙ not_above))
+    table_full new is absent full (inr (n, names, within)) =
+        let longer : length (with_name all name) ≡ length t.set.keys + 1 = ap (λ a. length (with_name a name)) (sym names) ∙ length-use_new t.set.keys name absent in
+        inl (is, omega (arith, longer, full))
+
+    pub table_more : (new : NameTable) (v : Vec ℕ Global) → new.above ≡ false → v.items ≡ name → list_any (λ k. bytes_eq name k.items) t.set.keys ≡ false → ¬ (length t.set.keys ≡ limit)
+        → new.set.keys ≡ cond (list_any (λ k. bytes_eq v.items k.items) t.set.keys) t.set.keys (t.set.keys ++ v ∷ []) → IsTable limit all t → IsTable limit (with_name all name) new
+    table_more new v is same absent room added (inl (a, more)) = absurd (true≢false (sym a ∙ not_above))
+    table_more new v is same absent room added (inr (n, names, within)) =
+        let longer : length (with_name all name) ≡ length t.set.keys + 1 = ap (λ a. length (with_name a name)) (sym names) ∙ length-use_new t.set.keys name absent in
+        let count : length all ≡ length t.set.keys = ap length (sym names) ∙ length-map t.set.keys (λ v. v.items) in
+        inr (is, use_inserted t.set.keys name v new.set.keys same added ∙ ap (λ a. with_name a name) names, omega (arith, longer, count, within, room))
+

@@ -1,0 +1,65 @@
+-- Items changed in their places, as they are seen; and switches of which the names alone are known.
+use Rattle.std.proofs.Common.{◌≡◌, ℕ, zero, suc, ◌-◌, ◌<◌, ◌≤◌, List, [], ◌∷◌, ◌++◌, length, map, set, get_or, Vec, Global, refl, sym, ◌∙◌, ap, arith}
+use Rattle.std.specs.List.{All}
+use Rattle.std.proofs.lemmas.List.{set_past, map-set, get_or-map, length-map}
+use Rattle.std.proofs.lemmas.List.Elements.{All-head, All-tail}
+use Rattle.mpf_plan.specs.declared.entries.Action.{Action}
+use Rattle.mpf_plan.specs.declared.draft.SwitchEntry.{SwitchEntry}
+use Rattle.mpf_plan.specs.PlanView.{Switch, no_switch}
+use Rattle.mpf_plan.specs.PlanOf.{last_with, named_switch}
+use Rattle.mpf_plan.specs.Inside.{names_of, switch_view, switches_view, lists_view}
+
+-- an item changed in its place, as it is seen
+shown_at : {X Y : Type 0} (shown : X → Y) (f : Y → Y) (xs : List X) (i : ℕ) (old new : X) (d : Y) → i < length xs → old ≡ get_or xs i old → shown new ≡ f (shown old)
+    → map shown (set xs i new) ≡ set (map shown xs) i (f (get_or (map shown xs) i d))
+shown_at shown f xs i old new d within is changed =
+    map-set shown xs i new ∙ ap (set (map shown xs) i) (changed ∙ ap f (ap shown is ∙ sym (get_or-map shown xs i old d within)))
+
+-- an action pushed to the last list
+pub action_pushed : (lists : List (Vec Action Global)) (n : ℕ) (old new : Vec Action Global) (a : Action) → n ≡ length lists → 0 < n → old ≡ get_or lists (n - 1) old → new.items ≡ old.items ++ a ∷ []
+    → lists_view (set lists (n - 1) new) ≡ last_with a (lists_view lists)
+action_pushed lists n old new a count some is pushed =
+    shown_at (λ v. v.items) (λ l. l ++ a ∷ []) lists (n - 1) old new [] (omega (arith, count, some)) is pushed
+    ∙ ap (λ k. set (lists_view lists) (k - 1) (get_or (lists_view lists) (k - 1) [] ++ a ∷ [])) (count ∙ sym (length-map lists (λ (v : Vec Action Global). v.items)))
+
+-- within a list the default does not matter
+pub same_default : {X : Type 0} (xs : List X) (n : ℕ) (d e : X) → n < length xs → get_or xs n d ≡ get_or xs n e
+same_default [] n d e within = absurd (omega arith)
+same_default (x ∷ xs) zero d e within = refl
+same_default (x ∷ xs) (suc n) d e within = same_default xs n d e (omega arith)
+
+-- ---- switches
+
+-- an entry changed in its place
+pub switch_changed : (change : Switch → Switch) (old new : SwitchEntry) → ((n : Vec ℕ Global) → switch_view (n, new) ≡ change (switch_view (n, old)))
+    → (names : List (Vec ℕ Global)) (entries : List SwitchEntry) (i : ℕ) → i < length entries → old ≡ get_or entries i old
+    → switches_view names (set entries i new) ≡ set (switches_view names entries) i (change (get_or (switches_view names entries) i no_switch))
+switch_changed change old new changed [] entries i within is = refl
+switch_changed change old new changed (n ∷ ns) [] i within is = absurd (omega arith)
+switch_changed change old new changed (n ∷ ns) (e ∷ es) zero within is = ap (λ s. s ∷ switches_view ns es) (changed n ∙ ap (λ x. change (switch_view (n, x))) is)
+switch_changed change old new changed (n ∷ ns) (e ∷ es) (suc i) within is = ap (λ ss. switch_view (n, e) ∷ ss) (switch_changed change old new changed ns es i (omega arith) is)
+
+-- past the last entry nothing is changed
+pub switch_unchanged : (change : Switch → Switch) (names : List (Vec ℕ Global)) (entries : List SwitchEntry) (i : ℕ) → length entries ≤ i
+    → switches_view names entries ≡ set (switches_view names entries) i (change (get_or (switches_view names entries) i no_switch))
+switch_unchanged change names entries i past =
+    let seen = switches_view names entries in
+    sym (set_past seen i (change (get_or seen i no_switch)) (omega (arith, past, fewer names entries)))
+  where
+    fewer : (names : List (Vec ℕ Global)) (entries : List SwitchEntry) → length (switches_view names entries) ≤ length entries
+    fewer [] es = omega arith
+    fewer (n ∷ ns) [] = omega arith
+    fewer (n ∷ ns) (e ∷ es) = omega (arith, fewer ns es)
+
+-- an entry of which nothing is known
+pub record IsBlank (e : SwitchEntry) : Type 0 where
+  pub kind : e.kind ≡ no_switch.kind
+  pub active : e.active.items ≡ []
+  pub inactive : e.inactive.items ≡ []
+
+pub blank_entries : (names : List (Vec ℕ Global)) (entries : List SwitchEntry) → length entries ≡ length names → All IsBlank entries → switches_view names entries ≡ map named_switch (names_of names)
+blank_entries [] entries count all = refl
+blank_entries (n ∷ ns) [] count all = absurd (omega (arith, count))
+blank_entries (n ∷ ns) (e ∷ es) count all =
+    let first = All-head IsBlank e es all in
+    λ i. record { name = n.items; kind = first.kind i; active = first.active i; inactive = first.inactive i } ∷ blank_entries ns es (omega (arith, count)) (All-tail IsBlank e es all) i

@@ -1,0 +1,6 @@
+use Rattle.std.proofs.Common.{◌≡◌, ℕ, ◌+◌, false, List, [], ◌++◌, length, map, fold, take, drop}
+use Rattle.mpf_plan.specs.Inside.{names_of}
+use Rattle.mpf_plan.proofs.fill.no_marks.Given as goal
+
+abbrev pub invariant-loop-name : goal.invariant-loop-name
+invariant-loop-name l = l.marks.items ++ map (λ n. false) (names_of (drop l._name-index l.names)) ≡ map (λ n. false) (names_of l.names)

@@ -1,0 +1,11 @@
+use Rattle.std.proofs.Common.{◌≡◌, ℕ, ◌+◌, false, List, [], ◌++◌, length, map, fold, take, drop}
+use Rattle.mpf_config.specs.View.{section_view}
+use Rattle.mpf_plan.specs.declared.contribution.Role.TheVariants.{Uses, Gives}
+use Rattle.mpf_plan.specs.Contributions.{contributions_in}
+use Rattle.mpf_plan.specs.Uses.{all_names}
+use Rattle.mpf_plan.specs.Inside.{names_of}
+use Rattle.mpf_plan.specs.Numbering.{with_name}
+use Rattle.mpf_plan.proofs.numbering.given_names.Given as goal
+
+abbrev pub invariant-loop-section : goal.invariant-loop-section
+invariant-loop-section l = names_of l.given.keys ≡ fold with_name [] (all_names (Gives l.kind) (contributions_in (map section_view (take l.section-index l.sections))))

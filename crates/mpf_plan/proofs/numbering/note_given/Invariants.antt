@@ -1,0 +1,9 @@
+use Rattle.std.proofs.Common.{◌≡◌, ℕ, ◌+◌, false, List, [], ◌++◌, length, map, fold, take, drop}
+use Rattle.mpf_plan.specs.declared.contribution.Role.TheVariants.{Uses, Gives}
+use Rattle.mpf_plan.specs.Uses.{all_names}
+use Rattle.mpf_plan.specs.Inside.{contributions_view, names_of}
+use Rattle.mpf_plan.specs.Numbering.{with_name}
+use Rattle.mpf_plan.proofs.numbering.note_given.Given as goal
+
+abbrev pub invariant-loop-contribution : goal.invariant-loop-contribution
+invariant-loop-contribution l = names_of l.given.keys ≡ fold with_name (names_of l.initial.given.keys) (all_names (Gives l.kind) (contributions_view (take l.contribution-index l.contributions)))

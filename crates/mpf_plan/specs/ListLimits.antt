@@ -1,0 +1,25 @@
+-- How many names a list of the rows may have, and how many actions an effect list.
+use Rattle.std.specs.Prelude.{ℕ, ◌≤◌, length}
+use Rattle.std.specs.List.{All}
+use Rattle.mpf_config.specs.Rows.{Switch, EventPlayer, SectionRows, switches, event_player, Rows}
+use Rattle.mpf_plan.specs.PlanView.{PlanView}
+
+pub record AreSwitchListsWithin (s : Switch) : Type 0 where
+  pub tags : length s.tags ≤ 1024
+  pub activated : length s.activated ≤ 1024
+  pub deactivated : length s.deactivated ≤ 1024
+
+abbrev pub ArePlayerListsWithin : EventPlayer → Type 0
+ArePlayerListsWithin p = length p.posts ≤ 1024
+
+abbrev pub AreSectionListsWithin : SectionRows → Type 0
+AreSectionListsWithin (switches entries) = All AreSwitchListsWithin entries
+AreSectionListsWithin (event_player entries) = All ArePlayerListsWithin entries
+
+-- every list of names in the rows has at most 1,024 names
+abbrev pub AreListsWithin : Rows → Type 0
+AreListsWithin rows = All AreSectionListsWithin rows.machine
+
+-- no effect list has more than 1,024 actions
+abbrev pub AreActionsWithin : PlanView → Type 0
+AreActionsWithin plan = All (λ actions. length actions ≤ 1024) plan.lists

@@ -1,0 +1,36 @@
+//! A plan that is being made.
+
+ghost use Rattle.std.specs.Prelude.{◌≡◌, ◌≤◌, length};
+
+use crate::entries::{Action, Binding, EventId, SwitchKind};
+use indexmap::IndexSet;
+
+/// The names of each kind, at their numbers.
+#[derive(Drop)]
+pub(crate) struct NameSets {
+    pub(crate) events: IndexSet<Vec<u8>>,
+    pub(crate) switches: IndexSet<Vec<u8>>,
+    ghost events_fit: { length events.keys ≤ 4096 },
+    ghost switches_fit: { length switches.keys ≤ 256 },
+}
+
+/// How a switch is read, and what it posts when it becomes active, and when it becomes inactive.
+#[derive(Debug, Drop)]
+pub(crate) struct SwitchEntry {
+    pub(crate) kind: SwitchKind,
+    pub(crate) active: Vec<EventId>,
+    pub(crate) inactive: Vec<EventId>,
+}
+
+/// The tables of a plan, as far as they are made.
+#[derive(Drop)]
+pub(crate) struct Draft {
+    pub(crate) switches: Vec<SwitchEntry>,
+    pub(crate) lists: Vec<Vec<Action>>,
+    pub(crate) bindings: Vec<Binding>,
+    /// Which switches are defined.
+    pub(crate) defined: Vec<bool>,
+    /// The switch that came last, where it was the first of its name; or else one past the last.
+    pub(crate) last: usize,
+    ghost same_count: { length defined.items ≡ length switches.items },
+}

@@ -1,0 +1,257 @@
+//! The plan of contributions: each adds its own to what is there.
+
+ghost use Rattle.std.specs.Prelude.{◌≡◌, ◌<◌, ◌≤◌, ◌+◌, List, ℕ, false, length, map, fold, IfOk, OnOk};
+ghost use Rattle.mpf_config.specs.View.{section_view};
+ghost use Rattle.mpf_plan.specs.declared.draft.NameSets.{NameSets as NameSetsValue};
+ghost use Rattle.mpf_plan.specs.Contributions.{switch, active, inactive, binds, post, contributions_in};
+ghost use Rattle.mpf_plan.specs.PlanView.{no_switch};
+ghost use Rattle.mpf_plan.specs.PlanOf.{event_of, with_switch, with_active, with_inactive, last_with, with_contribution, named_switch, blank, drafted};
+ghost use Rattle.mpf_plan.specs.Inside.{parts_text, contribution_view, contributions_view, names_of, names_view, lists_view, switches_view, draft_view};
+ghost use Rattle.mpf_plan.specs.Numbering.{binding_count};
+
+use crate::collect::{collect_section, machine_place};
+use crate::contribution::{Aim, Contribution, Parts, Place, whole};
+use crate::draft::{Draft, NameSets, SwitchEntry};
+use crate::entries::{Action, Binding, EventId, ListId, SwitchKind, Target};
+use crate::numbering::number_in;
+use mpf_config::config::{Contact, Section};
+use std::alloc::{AllocError, Global};
+
+/// What the sections make, where names have these numbers.
+pub(crate) fn fill(
+    alloc: Global,
+    names: &NameSets,
+    sections: &[Section],
+) -> Result<Draft, AllocError>
+    requires { binding_count (contributions_in (map section_view sections.now)) ≤ 16384 }
+    ensures { IfOk result (λ d. draft_view names.now d ≡ drafted (names_view names.now) (contributions_in (map section_view sections.now))) }
+{
+    let mut draft = blank(alloc, names)?;
+    let mut contributions = Vec::new(alloc);
+    for section in sections {
+        contributions.clear();
+        collect_section(&mut contributions, machine_place(), section)?;
+        fill_section(alloc, names, &mut draft, &contributions)?;
+    }
+    Ok(draft)
+}
+
+fn fill_section(
+    alloc: Global,
+    names: &NameSets,
+    draft: &mut Draft,
+    contributions: &[Contribution],
+) -> Result<(), AllocError>
+    requires { length draft.old.lists.items + binding_count (contributions_view contributions.now) ≤ 16384 }
+    ensures { OnOk result (draft_view names.now draft.new ≡ fold (with_contribution (names_view names.now)) (draft_view names.now draft.old) (contributions_view contributions.now)) }
+{
+    let mut text = Vec::new(alloc);
+    for contribution in contributions {
+        add(alloc, names, &mut text, draft, contribution)?;
+    }
+    Ok(())
+}
+
+fn add(
+    alloc: Global,
+    names: &NameSets,
+    text: &mut Vec<u8>,
+    draft: &mut Draft,
+    contribution: &Contribution,
+) -> Result<(), AllocError>
+    requires { length draft.old.lists.items ≤ 16384 }
+    ensures { OnOk result (draft_view names.now draft.new ≡ with_contribution (names_view names.now) (draft_view names.now draft.old) (contribution_view contribution.now)) }
+{
+    match *contribution {
+        Contribution::Switch(name, kind) => add_switch(names, text, draft, name, kind),
+        Contribution::Active(name) => add_active(names, text, draft, name),
+        Contribution::Inactive(name) => add_inactive(names, text, draft, name),
+        Contribution::Binds(name, place, aim) => {
+            add_binding(alloc, names, text, draft, name, place, aim)
+        }
+        Contribution::Post(name) => add_post(names, text, draft, name),
+    }
+}
+
+fn event_of(names: &NameSets, text: &mut Vec<u8>, name: Parts) -> Result<EventId, AllocError>
+    ensures { IfOk result (λ e. e ≡ event_of (names_view names.now).events (parts_text name.entry)) }
+{
+    Ok(EventId(number_in(&names.events, text, name)?))
+}
+
+// ---- switches
+
+fn add_switch(
+    names: &NameSets,
+    text: &mut Vec<u8>,
+    draft: &mut Draft,
+    name: &[u8],
+    kind: SwitchKind,
+) -> Result<(), AllocError>
+    ensures { OnOk result (draft_view names.now draft.new ≡ with_contribution (names_view names.now) (draft_view names.now draft.old) (switch name.now kind)) }
+{
+    let n = number_in(&names.switches, text, whole(name))?;
+    define_switch(draft, n as usize, kind);
+    Ok(())
+}
+
+/// The switch is read so, where nothing has defined it.
+fn define_switch(draft: &mut Draft, n: usize, kind: SwitchKind)
+    ensures { (names : NameSetsValue) → draft_view names draft.new ≡ with_switch n kind (draft_view names draft.old) }
+{
+    if n >= draft.defined.len() || draft.defined[n] {
+        draft.last = draft.defined.len();
+        return;
+    }
+    draft.defined[n] = true;
+    draft.last = n;
+    draft.switches[n].kind = kind;
+}
+
+fn add_active(
+    names: &NameSets,
+    text: &mut Vec<u8>,
+    draft: &mut Draft,
+    name: Parts,
+) -> Result<(), AllocError>
+    ensures { OnOk result (draft_view names.now draft.new ≡ with_contribution (names_view names.now) (draft_view names.now draft.old) (active (parts_text name.entry))) }
+{
+    let event = event_of(names, text, name)?;
+    post_active(draft, event)?;
+    Ok(())
+}
+
+/// The switch that came last posts the event when it becomes active.
+fn post_active(draft: &mut Draft, event: EventId) -> Result<(), AllocError>
+    ensures { OnOk result ((names : NameSetsValue) → draft_view names draft.new ≡ with_active event (draft_view names draft.old)) }
+{
+    let last = draft.last;
+    if last < draft.switches.len() {
+        draft.switches[last].active.push(event)?;
+    }
+    Ok(())
+}
+
+fn add_inactive(
+    names: &NameSets,
+    text: &mut Vec<u8>,
+    draft: &mut Draft,
+    name: Parts,
+) -> Result<(), AllocError>
+    ensures { OnOk result (draft_view names.now draft.new ≡ with_contribution (names_view names.now) (draft_view names.now draft.old) (inactive (parts_text name.entry))) }
+{
+    let event = event_of(names, text, name)?;
+    post_inactive(draft, event)?;
+    Ok(())
+}
+
+/// It posts the event when it becomes inactive.
+fn post_inactive(draft: &mut Draft, event: EventId) -> Result<(), AllocError>
+    ensures { OnOk result ((names : NameSetsValue) → draft_view names draft.new ≡ with_inactive event (draft_view names draft.old)) }
+{
+    let last = draft.last;
+    if last < draft.switches.len() {
+        draft.switches[last].inactive.push(event)?;
+    }
+    Ok(())
+}
+
+// ---- bindings and effect lists
+
+/// A binding, and the effect list that it runs.
+fn add_binding(
+    alloc: Global,
+    names: &NameSets,
+    text: &mut Vec<u8>,
+    draft: &mut Draft,
+    name: &[u8],
+    place: Place,
+    aim: Aim,
+) -> Result<(), AllocError>
+    requires { length draft.old.lists.items ≤ 16384 }
+    ensures { OnOk result (draft_view names.now draft.new ≡ with_contribution (names_view names.now) (draft_view names.now draft.old) (binds name.now place aim)) }
+{
+    let event = event_of(names, text, whole(name))?;
+    let target = match aim {
+        Aim::Run => Target::Run(ListId(draft.lists.len() as u32)),
+    };
+    draft.bindings.push(Binding {
+        event,
+        owner: place.owner,
+        priority: place.priority,
+        target,
+    })?;
+    draft.lists.push(Vec::new(alloc))?;
+    Ok(())
+}
+
+fn add_post(
+    names: &NameSets,
+    text: &mut Vec<u8>,
+    draft: &mut Draft,
+    name: Parts,
+) -> Result<(), AllocError>
+    ensures { OnOk result (draft_view names.now draft.new ≡ with_contribution (names_view names.now) (draft_view names.now draft.old) (post (parts_text name.entry))) }
+{
+    let event = event_of(names, text, name)?;
+    push_action(&mut draft.lists, Action::Post(event))?;
+    Ok(())
+}
+
+/// The action goes to the effect list that began last.
+fn push_action(lists: &mut Vec<Vec<Action>>, action: Action) -> Result<(), AllocError>
+    ensures { OnOk result (lists_view lists.new.items ≡ last_with action (lists_view lists.old.items)) }
+{
+    let count = lists.len();
+    if count > 0 {
+        lists[count - 1].push(action)?;
+    }
+    Ok(())
+}
+
+// ---- before anything is added
+
+/// The names alone.
+fn blank(alloc: Global, names: &NameSets) -> Result<Draft, AllocError>
+    ensures { IfOk result (λ d. draft_view names.now d ≡ blank (names_view names.now)) }
+{
+    let switches = blank_switches(alloc, names.switches.as_slice())?;
+    let defined = no_marks(alloc, names.switches.as_slice())?;
+    Ok(Draft {
+        switches,
+        lists: Vec::new(alloc),
+        bindings: Vec::new(alloc),
+        defined,
+        last: names.switches.len(),
+    })
+}
+
+/// A switch for each of the names.
+fn blank_switches(alloc: Global, names: &[Vec<u8>]) -> Result<Vec<SwitchEntry>, AllocError>
+    ensures count { IfOk result (λ v. length v.items ≡ length names.now) }
+    ensures switches { IfOk result (λ v. switches_view names.now v.items ≡ map named_switch (names_of names.now)) }
+{
+    let mut switches = Vec::new(alloc);
+    for _name in names {
+        switches.push(SwitchEntry {
+            kind: SwitchKind {
+                contact: Contact::NormallyOpen,
+                quick: false,
+            },
+            active: Vec::new(alloc),
+            inactive: Vec::new(alloc),
+        })?;
+    }
+    Ok(switches)
+}
+
+/// Nothing has defined any of the switches.
+fn no_marks(alloc: Global, names: &[Vec<u8>]) -> Result<Vec<bool>, AllocError>
+    ensures { IfOk result (λ v. v.items ≡ map (λ n. false) (names_of names.now)) }
+{
+    let mut marks = Vec::new(alloc);
+    for _name in names {
+        marks.push(false)?;
+    }
+    Ok(marks)
+}
