@@ -22,7 +22,7 @@ event_of names name = record { 0 = number_among names name }
 
 -- ---- a plan that is being made
 
--- the plan so far; which switches are defined; and the number of the switch that came last, where it was the first of its name
+-- the plan so far; which switches are defined; and the switch that came last, where it was the first of its name
 pub record DraftView : Type 0 where
   pub plan : PlanView
   pub defined : List Bool

@@ -48,7 +48,7 @@ as_list (Some x) = x ∷ []
 abbrev pub all_names : Role → List Contribution → List (List ℕ)
 all_names role cs = flat_map (λ c. as_list (role_name role c)) cs
 
--- each item whose name no item before it has: the first item, and of the rest those of other names, each where it comes first
+-- each item whose name no item before it has: the first, and of the rest those of other names, each where it comes first
 abbrev pub first_by : {X : Type 0} → (X → List ℕ) → List X → List X
 first_by name [] = []
 first_by name (x ∷ xs) = x ∷ filter (λ y. not (bytes_eq (name x) (name y))) (first_by name xs)
