@@ -1,5 +1,5 @@
 -- What contributions make: as many bindings and effect lists as they give, and the names that were there.
-use Rattle.std.proofs.Common.{◌≡◌, ℕ, ◌+◌, ◌-◌, ◌<◌, ◌≤◌, zero, suc, take, Bool, true, false, cond, List, [], ◌∷◌, ◌++◌, length, map, fold, set, get_or, slice_index_or, slice_set, refl, sym, ◌∙◌, ap, subst, arith}
+use Rattle.std.proofs.Common.{◌≡◌, ℕ, ◌+◌, ◌-◌, ◌<◌, ◌≤◌, zero, suc, take, Bool, true, false, cond, List, [], ◌∷◌, ◌++◌, length, map, fold, get_or, slice_index_or, slice_set, refl, sym, ◌∙◌, ap, subst, arith}
 use Rattle.std.proofs.Math.Seq.{map-set_same}
 use Rattle.std.proofs.lemmas.List.{length_push, length-set, length-map}
 use Rattle.mpf_plan.specs.declared.contribution.Aim.TheVariants.{Run}
@@ -15,9 +15,9 @@ use Rattle.mpf_plan.specs.declared.entries.Binding.{Binding}
 use Rattle.mpf_plan.specs.declared.entries.Target.TheVariants as targets
 use Rattle.mpf_plan.specs.PlanView.{Switch, no_switch, PlanView}
 use Rattle.mpf_plan.specs.Contributions.{Contribution, switch, active, inactive, binds, post, section_contributions, machine_place, contributions_in}
-use Rattle.mpf_plan.specs.Uses.{Names, names_in, number_in}
+use Rattle.mpf_plan.specs.Uses.{Names, names_from, number_among}
 use Rattle.mpf_plan.specs.PlanOf.{DraftView, event_of, last_switch, with_binding, with_list, with_action, with_contribution, named_switch, blank, drafted, plan_from}
-use Rattle.mpf_plan.specs.Inside.{names_of, names_view, lists_view, draft_view, contribution_view, contributions_view}
+use Rattle.mpf_plan.specs.Inside.{names_of, name_sets_view, draft_view, contribution_view, contributions_view}
 use Rattle.mpf_plan.specs.Numbering.{bindings_given, binding_count}
 use Rattle.mpf_plan.proofs.Taken.{part_count}
 
@@ -56,10 +56,10 @@ post_counts a d =
 module _ (names : Names) where
   -- one contribution more
   counts_one : (d : DraftView) (c : Contribution) → Counts (bindings_given c) d (with_contribution names d c)
-  counts_one d (switch n kind) = by (slice_index_or d.defined (number_in names.switches n) true)
+  counts_one d (switch n kind) = by (slice_index_or d.defined (number_among names.switches n) true)
     where
       k : ℕ
-      k = number_in names.switches n
+      k = number_among names.switches n
       by : (b : Bool) → Counts 0 d (cond b (record d { last = length d.defined }) (last_switch (λ s. record s { kind = kind }) (record d { defined = slice_set d.defined k true; last = k })))
       by true = record { bindings = omega arith; lists = omega arith; events = refl; names = refl; defined = refl }
       by false = switch_counts (λ s. record s { kind = kind }) (λ s. refl) d (slice_set d.defined k true) k (length-set d.defined k true)
@@ -99,18 +99,18 @@ module _ (cs : List Contribution) where
   abbrev plan : PlanView
   plan = plan_from cs
 
-  abbrev counts : Counts (binding_count cs) (blank (names_in cs)) (drafted (names_in cs) cs)
-  counts = counts_drafted (names_in cs) cs
+  abbrev counts : Counts (binding_count cs) (blank (names_from cs)) (drafted (names_from cs) cs)
+  counts = counts_drafted (names_from cs) cs
 
   -- its events are those that are used
-  pub events-from : plan.events ≡ (names_in cs).events
+  pub events-from : plan.events ≡ (names_from cs).events
   events-from = counts.events
 
   -- and its switches
-  pub switches-from : switch_names plan ≡ (names_in cs).switches
-  switches-from = counts.names ∙ blank_names (names_in cs).switches
+  pub switches-from : switch_names plan ≡ (names_from cs).switches
+  switches-from = counts.names ∙ blank_names (names_from cs).switches
 
-  pub count-switches : length plan.switches ≡ length (names_in cs).switches
+  pub count-switches : length plan.switches ≡ length (names_from cs).switches
   count-switches = sym (length-map plan.switches (λ (s : Switch). s.name)) ∙ ap length switches-from
 
   pub count-bindings : length plan.bindings ≡ binding_count cs
@@ -130,21 +130,21 @@ taken_few (c ∷ cs) (suc i) =
 
 -- there are no more lists than the contributions give
 pub lists_fit : (names : NameSets) (old new : Draft) (cs : List contributions.Contribution) (i : ℕ) → length old.lists.items + binding_count (contributions_view cs) ≤ 16384
-    → draft_view names new ≡ fold (with_contribution (names_view names)) (draft_view names old) (contributions_view (take i cs)) → length new.lists.items ≤ 16384
+    → draft_view names new ≡ fold (with_contribution (name_sets_view names)) (draft_view names old) (contributions_view (take i cs)) → length new.lists.items ≤ 16384
 lists_fit names old new cs i room is =
-    let counts = counts_fold (names_view names) (draft_view names old) (contributions_view (take i cs)) in
+    let counts = counts_fold (name_sets_view names) (draft_view names old) (contributions_view (take i cs)) in
     omega (arith, room, ap (λ d. length d.plan.lists) is, counts.lists, taken_few cs i, length-map new.lists.items (λ v. v.items), length-map old.lists.items (λ v. v.items))
 
 -- nor than the sections give
 pub section_fits : (names : NameSets) (d : Draft) (ss : List Section) (i : ℕ) (s : Section) (now : List contributions.Contribution) → i < length ss → s ≡ get_or ss i s
-    → contributions_view now ≡ section_contributions machine_place (section_view s) → draft_view names d ≡ drafted (names_view names) (contributions_in (map section_view (take i ss)))
+    → contributions_view now ≡ section_contributions machine_place (section_view s) → draft_view names d ≡ drafted (name_sets_view names) (contributions_in (map section_view (take i ss)))
     → binding_count (contributions_in (map section_view ss)) ≤ 16384 → length d.lists.items + binding_count (contributions_view now) ≤ 16384
 section_fits names d ss i s now within at here is room =
-    let counts = counts_drafted (names_view names) (contributions_in (map section_view (take i ss))) in
+    let counts = counts_drafted (name_sets_view names) (contributions_in (map section_view (take i ss))) in
     omega (arith, room, part_count ss i s within, ap (λ x. binding_count (section_contributions machine_place (section_view x))) at, ap binding_count here, ap (λ x. length x.plan.lists) is, counts.lists, length-map d.lists.items (λ v. v.items))
 
 -- each name of a switch has an entry
-pub entries_count : (names : NameSets) (d : Draft) (cs : List Contribution) → draft_view names d ≡ drafted (names_view names) cs → length d.switches.items ≡ length names.switches.keys
+pub entries_count : (names : NameSets) (d : Draft) (cs : List Contribution) → draft_view names d ≡ drafted (name_sets_view names) cs → length d.switches.items ≡ length names.switches.keys
 entries_count names d cs is =
     let marks : length (map (λ (n : List ℕ). false) (names_of names.switches.keys)) ≡ length (names_of names.switches.keys) = length-map (names_of names.switches.keys) (λ n. false) in
-    sym d.same_count ∙ ap (λ x. length x.defined) is ∙ (counts_drafted (names_view names) cs).defined ∙ marks ∙ length-map names.switches.keys (λ v. v.items)
+    sym d.same_count ∙ ap (λ x. length x.defined) is ∙ (counts_drafted (name_sets_view names) cs).defined ∙ marks ∙ length-map names.switches.keys (λ v. v.items)

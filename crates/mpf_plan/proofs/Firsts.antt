@@ -1,12 +1,12 @@
--- Items taken in turn, each where its name comes first.
-use Rattle.std.proofs.Common.{◌≡◌, ℕ, Bool, true, false, cond, not, ◌&&◌, ◌||◌, List, [], ◌∷◌, ◌++◌, map, filter, fold, refl, sym, ◌∙◌, ap}
+-- Names noted in turn, each where it comes first.
+use Rattle.std.proofs.Common.{◌≡◌, ℕ, Bool, true, false, cond, not, ◌&&◌, ◌||◌, List, [], ◌∷◌, ◌++◌, filter, fold, refl, sym, ◌∙◌, ap}
 use Rattle.std.specs.Str.{bytes_eq}
 use Rattle.std.specs.List.{list_any}
-use Rattle.std.proofs.lemmas.List.{append_assoc, append-nil, map-id}
+use Rattle.std.proofs.lemmas.List.{append_assoc, append-nil}
 use Rattle.std.proofs.lemmas.List.Folds.{list_any-append}
 use Rattle.std.proofs.lemmas.Cmp.{nat_list_eq_equiv}
 use Rattle.std.proofs.lemmas.Slice.Eq.{bytes_eq-Decides}
-use Rattle.mpf_plan.specs.Uses.{first_by, first_uses}
+use Rattle.mpf_plan.specs.Uses.{first_uses}
 use Rattle.mpf_plan.specs.Numbering.{with_name}
 
 -- a filter of what another filter kept
@@ -34,54 +34,41 @@ all_of : {X : Type 0} (xs : List X) → filter (λ x. true) xs ≡ xs
 all_of [] = refl
 all_of (x ∷ xs) = ap (λ ys. x ∷ ys) (all_of xs)
 
-module _ {X Y : Type 0} (name : X → List ℕ) (key : Y → List ℕ) (make : X → Y) where
-  -- what is done after one more item: an item with a new name goes last
-  abbrev pub with_item : List Y → X → List Y
-  with_item done x = cond (list_any (λ y. bytes_eq (name x) (key y)) done) done (done ++ make x ∷ [])
+abbrev has : List (List ℕ) → List ℕ → Bool
+has done n = list_any (λ m. bytes_eq n m) done
 
-module _ {X Y : Type 0} (name : X → List ℕ) (key : Y → List ℕ) (make : X → Y) (keyed : (x : X) → key (make x) ≡ name x) where
-  abbrev has : List Y → List ℕ → Bool
-  has done n = list_any (λ y. bytes_eq n (key y)) done
+abbrev is_new : List (List ℕ) → List ℕ → Bool
+is_new done n = not (has done n)
 
-  abbrev is_new : List Y → X → Bool
-  is_new done x = not (has done (name x))
+abbrev is_other : List ℕ → List ℕ → Bool
+is_other n m = not (bytes_eq n m)
 
-  abbrev is_other : X → X → Bool
-  is_other x y = not (bytes_eq (name x) (name y))
+known : (done : List (List ℕ)) (n : List ℕ) → has done n ≡ true → (m : List ℕ) → is_new done m ≡ (is_other n m && is_new done m)
+known done n there m = by (bytes_eq n m) refl
+  where
+    by : (b : Bool) → bytes_eq n m ≡ b → is_new done m ≡ (not b && is_new done m)
+    by true same = ap not (ap (has done) (sym (same_bytes n m same)) ∙ there)
+    by false same = refl
 
-  known : (done : List Y) (x : X) → has done (name x) ≡ true → (y : X) → is_new done y ≡ (is_other x y && is_new done y)
-  known done x there y = by (bytes_eq (name x) (name y)) refl
-    where
-      by : (b : Bool) → bytes_eq (name x) (name y) ≡ b → is_new done y ≡ (not b && is_new done y)
-      by true same = ap not (ap (has done) (sym (same_bytes (name x) (name y) same)) ∙ there)
-      by false same = refl
+added : (done : List (List ℕ)) (n m : List ℕ) → is_new (done ++ n ∷ []) m ≡ (is_other n m && is_new done m)
+added done n m =
+    ap not (list_any-append (λ k. bytes_eq m k) done (n ∷ []))
+    ∙ neither (has done m) (bytes_eq m n)
+    ∙ ap (λ b. not b && is_new done m) (bytes_eq_symm m n)
 
-  added : (done : List Y) (x y : X) → is_new (done ++ make x ∷ []) y ≡ (is_other x y && is_new done y)
-  added done x y =
-      ap not (list_any-append (λ z. bytes_eq (name y) (key z)) done (make x ∷ []))
-      ∙ neither (has done (name y)) (bytes_eq (name y) (key (make x)))
-      ∙ ap (λ k. not (bytes_eq (name y) k) && is_new done y) (keyed x)
-      ∙ ap (λ b. not b && is_new done y) (bytes_eq_symm (name y) (name x))
+one_more : (n : List ℕ) (ns done : List (List ℕ)) → ((d : List (List ℕ)) → fold with_name d ns ≡ d ++ filter (is_new d) (first_uses ns)) → (b : Bool) → has done n ≡ b
+    → fold with_name (cond b done (done ++ n ∷ [])) ns ≡ done ++ cond (not b) (n ∷ filter (is_new done) (filter (is_other n) (first_uses ns))) (filter (is_new done) (filter (is_other n) (first_uses ns)))
+one_more n ns done rest true there = rest done ∙ ap (λ l. done ++ l) (sym (filter_filter (is_other n) (is_new done) (is_new done) (known done n there) (first_uses ns)))
+one_more n ns done rest false there =
+    rest (done ++ n ∷ [])
+    ∙ append_assoc done (n ∷ []) (filter (is_new (done ++ n ∷ [])) (first_uses ns))
+    ∙ ap (λ l. done ++ n ∷ l) (sym (filter_filter (is_other n) (is_new done) (is_new (done ++ n ∷ [])) (added done n) (first_uses ns)))
 
-  one_more : (x : X) (xs : List X) (done : List Y)
-      → ((d : List Y) → fold (with_item name key make) d xs ≡ d ++ map make (filter (is_new d) (first_by name xs)))
-      → (b : Bool) → has done (name x) ≡ b
-      → fold (with_item name key make) (cond b done (done ++ make x ∷ [])) xs ≡ done ++ map make (cond (not b) (x ∷ filter (is_new done) (filter (is_other x) (first_by name xs))) (filter (is_new done) (filter (is_other x) (first_by name xs))))
-  one_more x xs done rest true there = rest done ∙ ap (λ zs. done ++ map make zs) (sym (filter_filter (is_other x) (is_new done) (is_new done) (known done x there) (first_by name xs)))
-  one_more x xs done rest false there =
-      rest (done ++ make x ∷ [])
-      ∙ append_assoc done (make x ∷ []) (map make (filter (is_new (done ++ make x ∷ [])) (first_by name xs)))
-      ∙ ap (λ zs. done ++ (make x ∷ map make zs)) (sym (filter_filter (is_other x) (is_new done) (is_new (done ++ make x ∷ [])) (added done x) (first_by name xs)))
-
-  -- items done in turn are those that stood, and then the first items of the names that were not there
-  pub with_items : (xs : List X) (done : List Y) → fold (with_item name key make) done xs ≡ done ++ map make (filter (λ x. not (list_any (λ y. bytes_eq (name x) (key y)) done)) (first_by name xs))
-  with_items [] done = sym (append-nil done)
-  with_items (x ∷ xs) done = one_more x xs done (with_items xs) (has done (name x)) refl
-
-  -- items done in turn from nothing are the first items of each name
-  pub all_items : (xs : List X) → fold (with_item name key make) [] xs ≡ map make (first_by name xs)
-  all_items xs = with_items xs [] ∙ ap (map make) (all_of (first_by name xs))
+-- names noted in turn are those that were there, and then the first uses of the others
+with_names : (ns done : List (List ℕ)) → fold with_name done ns ≡ done ++ filter (is_new done) (first_uses ns)
+with_names [] done = sym (append-nil done)
+with_names (n ∷ ns) done = one_more n ns done (with_names ns) (has done n) refl
 
 -- the names after all uses are the first uses
 pub with_names-all : (uses : List (List ℕ)) → fold with_name [] uses ≡ first_uses uses
-with_names-all uses = all_items (λ n. n) (λ n. n) (λ n. n) (λ n. refl) uses ∙ map-id (first_uses uses)
+with_names-all uses = with_names uses [] ∙ all_of (first_uses uses)

@@ -1,19 +1,16 @@
 -- What is found in contributions gives the first table that is above its limit, or the names of a plan.
-use Rattle.std.proofs.Common.{◌≡◌, ℕ, ◌+◌, ◌<◌, ◌≤◌, ◌⊎◌, inl, inr, Bool, true, false, List, [], ◌++◌, length, map, fold, refl, sym, ◌∙◌, ap, subst, true≢false, arith}
-use Rattle.std.specs.List.{sum_by}
-use Rattle.std.proofs.lemmas.List.{length-map}
+use Rattle.std.proofs.Common.{◌≡◌, ℕ, ◌+◌, ◌<◌, ◌≤◌, inl, inr, true, false, List, [], ◌++◌, length, fold, sym, ◌∙◌, ap, subst, true≢false, arith}
 use Rattle.std.proofs.lemmas.List.Sums.{fold-append, sum_by-append}
 use Rattle.mpf_plan.specs.declared.contribution.Kind.{Kind}
 use Rattle.mpf_plan.specs.declared.contribution.Kind.TheVariants as kinds
-use Rattle.mpf_plan.specs.declared.contribution.Role.{Role}
 use Rattle.mpf_plan.specs.declared.contribution.Role.TheVariants.{Uses}
 use Rattle.mpf_plan.specs.declared.fault.Table.{Table}
 use Rattle.mpf_plan.specs.declared.fault.Table.TheVariants.{Events, Bindings, Switches}
 use Rattle.mpf_plan.specs.declared.numbering.NameTable.{NameTable}
 use Rattle.mpf_plan.specs.declared.numbering.Found.{Found}
 use Rattle.mpf_plan.specs.Contributions.{Contribution}
-use Rattle.mpf_plan.specs.Uses.{all_names, first_uses, names_of_kind}
-use Rattle.mpf_plan.specs.Limits.{entry_count, limit_of, order_of, first_above, IsFirstAbove}
+use Rattle.mpf_plan.specs.Uses.{all_names, names_of_kind}
+use Rattle.mpf_plan.specs.Limits.{entry_count, limit_of, order_of, IsFirstAbove}
 use Rattle.mpf_plan.specs.PlanOf.{plan_from}
 use Rattle.mpf_plan.specs.Inside.{names_of}
 use Rattle.mpf_plan.specs.Numbering.{with_name, IsTable, Notes, bindings_given, binding_count, IsCount, HasFound}

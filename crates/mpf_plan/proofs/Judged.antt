@@ -1,8 +1,7 @@
 -- The first table that is above its limit, and the plan where there is none.
-use Rattle.std.proofs.Common.{◌≡◌, ℕ, ◌<◌, ◌≤◌, ◌⊎◌, inl, inr, Bool, true, false, cond, ◌||◌, not, List, [], ◌∷◌, nat_lt, Some, None, refl, sym, ◌∙◌, ap, subst, arith, Contains}
+use Rattle.std.proofs.Common.{◌≡◌, ◌<◌, ◌≤◌, ◌⊎◌, inl, inr, Bool, true, false, cond, ◌||◌, not, List, [], ◌∷◌, nat_lt, Some, None, refl, sym, ◌∙◌, ap, subst, arith, Contains}
 use Rattle.std.specs.Prelude.{Result, Ok, Err}
 use Rattle.std.specs.List.{All, list_any}
-use Rattle.std.specs.Str.{bytes_eq}
 use Rattle.std.proofs.lemmas.Bool.{le-ltb, lt-ltb, cases_lt}
 use Rattle.std.proofs.lemmas.Cmp.{nat_list_eq_equiv}
 use Rattle.std.proofs.lemmas.List.Elements.{All-head, All-tail, All-weaker, All-contains_itself}
@@ -16,7 +15,7 @@ use Rattle.mpf_plan.specs.PlanView.{PlanView}
 use Rattle.mpf_plan.specs.Contributions.{Contribution, contributions_of}
 use Rattle.mpf_plan.specs.Uses.{all_names, is_lacking, lacks_name}
 use Rattle.mpf_plan.specs.Limits.{entry_count, limit_of, order_of, first_above, IsFirstAbove}
-use Rattle.mpf_plan.specs.PlanOf.{plan_of, plan_at, PlanRefusal, no_such_name, above_limit, limited, IsExceeded}
+use Rattle.mpf_plan.specs.PlanOf.{plan_of, plan_at, PlanRefusal, no_such_name, above_limit, fitting, IsExceeded}
 
 -- ---- names
 
@@ -108,22 +107,22 @@ limit-name : (t : Table) → ◌≡◌ {A = Result PlanView PlanRefusal} (Err (a
 limit-name t e = cc
 
 module _ (rows : Rows) where
-  unnamed : plan_at rows ≡ limited (plan_of rows) (first_above (plan_of rows))
+  unnamed : plan_at rows ≡ fitting (plan_of rows) (first_above (plan_of rows))
   unfolding plan_at
-  unnamed = ap (λ b. cond b (Err no_such_name) (limited (plan_of rows) (first_above (plan_of rows)))) (lacks_none (contributions_of rows))
+  unnamed = ap (λ b. cond b (Err no_such_name) (fitting (plan_of rows) (first_above (plan_of rows)))) (lacks_none (contributions_of rows))
 
   -- a name that nothing has
   pub plan_at-lacking : lacks_name (contributions_of rows) ≡ true → plan_at rows ≡ Err no_such_name
   unfolding plan_at
-  plan_at-lacking lacking = ap (λ b. cond b (Err no_such_name) (limited (plan_of rows) (first_above (plan_of rows)))) lacking
+  plan_at-lacking lacking = ap (λ b. cond b (Err no_such_name) (fitting (plan_of rows) (first_above (plan_of rows)))) lacking
 
   -- the plan, where each table is within its limit
   pub plan_at-within : ((t : Table) → entry_count (plan_of rows) t ≤ limit_of t) → plan_at rows ≡ Ok (plan_of rows)
-  plan_at-within within = unnamed ∙ ap (limited (plan_of rows)) (none_above (plan_of rows) within)
+  plan_at-within within = unnamed ∙ ap (fitting (plan_of rows)) (none_above (plan_of rows) within)
 
   -- the first table that is above its limit
   pub plan_at-exceeded : (t : Table) → IsExceeded rows t → plan_at rows ≡ Err (above_limit t)
-  plan_at-exceeded t first = unnamed ∙ ap (limited (plan_of rows)) (first_is (plan_of rows) t first)
+  plan_at-exceeded t first = unnamed ∙ ap (fitting (plan_of rows)) (first_is (plan_of rows) t first)
 
   -- An answer with a plan is the plan of the rows, and each table is within its limit.
   pub plan_at-Ok : (plan : PlanView) → plan_at rows ≡ Ok plan → (plan ≡ plan_of rows) × ((t : Table) → entry_count plan t ≤ limit_of t)

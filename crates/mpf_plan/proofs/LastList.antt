@@ -1,17 +1,17 @@
 -- The effect list that began last, and no list that is longer than those of the rows.
-use Rattle.std.proofs.Common.{◌≡◌, ℕ, ◌+◌, ◌-◌, ◌≤◌, Bool, true, false, cond, List, [], ◌∷◌, ◌++◌, length, map, fold, set, get_or, slice_index_or, slice_set, refl, sym, ◌∙◌, ap, subst, arith}
+use Rattle.std.proofs.Common.{◌≡◌, ℕ, ◌-◌, ◌≤◌, Bool, true, false, cond, List, [], ◌∷◌, ◌++◌, length, map, fold, set, get_or, slice_index_or, slice_set, refl, sym, ◌∙◌, ap, subst, arith}
 use Rattle.std.specs.List.{All, flat_map}
 use Rattle.std.proofs.lemmas.List.{append_assoc, append-nil, length_push, length-map}
 use Rattle.std.proofs.lemmas.List.Elements.{All-nil, All-push, All-head, All-tail}
 use Rattle.std.proofs.lemmas.List.Sums.{fold-append}
-use Rattle.mpf_config.specs.Rows.{Written, Switch, EventPlayer, SectionRows, switches, event_player, Rows}
+use Rattle.mpf_config.specs.Rows.{Switch, EventPlayer, SectionRows, switches, event_player, Rows}
 use Rattle.mpf_plan.specs.declared.contribution.Aim.TheVariants.{Run}
 use Rattle.mpf_plan.specs.declared.entries.Action.{Action}
 use Rattle.mpf_plan.specs.declared.entries.Action.TheVariants.{Post}
-use Rattle.mpf_plan.specs.Contributions.{Contribution, switch, active, inactive, binds, post, texts, kind_of, active_posts, inactive_posts, switch_contributions, player_contributions, section_contributions, machine_place, contributions_in, contributions_of}
-use Rattle.mpf_plan.specs.Uses.{Names, names_in, number_in}
+use Rattle.mpf_plan.specs.Contributions.{active, inactive, binds, post, texts, kind_of, active_posts, inactive_posts, switch_contributions, player_contributions, section_contributions, machine_place, contributions_in, contributions_of}
+use Rattle.mpf_plan.specs.Uses.{Names, names_from, number_among}
 use Rattle.mpf_plan.specs.PlanOf.{DraftView, event_of, with_contribution, with_switch, last_switch, last_with, blank, plan_of}
-use Rattle.mpf_plan.specs.ListLimits.{AreSwitchListsWithin, ArePlayerListsWithin, AreSectionListsWithin, AreListsWithin, AreActionsWithin}
+use Rattle.mpf_plan.specs.ListLimits.{ArePlayerListsWithin, AreSectionListsWithin, AreListsWithin, AreActionsWithin}
 
 set_push : {X : Type 0} (xs : List X) (x y : X) → set (xs ++ x ∷ []) (length xs) y ≡ xs ++ y ∷ []
 set_push [] x y = refl
@@ -78,7 +78,7 @@ module _ (names : Names) where
       (few_inactives (inactive_posts s) (fold (with_contribution names) one (map active (active_posts s))) (few_actives (active_posts s) one (by (slice_index_or d.defined k true))))
     where
       k : ℕ
-      k = number_in names.switches s.name.text
+      k = number_among names.switches s.name.text
       by : (b : Bool) → Few (cond b (record d { last = length d.defined }) (last_switch (λ x. record x { kind = kind_of s }) (record d { defined = slice_set d.defined k true; last = k })))
       by true = few
       by false = few
@@ -103,5 +103,5 @@ module _ (names : Names) where
 pub actions_within : (rows : Rows) → AreListsWithin rows → AreActionsWithin (plan_of rows)
 unfolding plan_of
 actions_within rows within =
-    let names = names_in (contributions_of rows) in
+    let names = names_from (contributions_of rows) in
     few_sections names rows.machine (blank names) within (All-nil (λ (l : List Action). length l ≤ 1024))

@@ -16,7 +16,3 @@ pub mod EventNames
 pub mod BoundTo
 pub mod Placed
 pub mod LastList
-pub mod SameEvents
-pub mod SameBindings
-pub mod SameSwitches
-pub mod SamePlan

@@ -2,7 +2,6 @@
 use Rattle.std.proofs.Common.{◌≡◌, ◌<◌, ◌≤◌, List, length, sym, ◌∙◌, ap, subst}
 use Rattle.std.specs.Prelude.{Result, Ok, Err}
 use Rattle.std.specs.List.{All}
-use Rattle.std.proofs.lemmas.List.{length-map}
 use Rattle.std.proofs.lemmas.List.Elements.{All-weaker}
 use Rattle.mpf_config.specs.Rows.{Rows}
 use Rattle.mpf_plan.specs.declared.draft.NameSets.{NameSets}
@@ -16,7 +15,7 @@ use Rattle.mpf_plan.specs.Contributions.{Contribution, contributions_of}
 use Rattle.mpf_plan.specs.Uses.{lacks_name}
 use Rattle.mpf_plan.specs.Limits.{entry_count, limit_of, first_above}
 use Rattle.mpf_plan.specs.PlanOf.{drafted, plan_from, plan_of, plan_at, GivesPlan, IsExceeded}
-use Rattle.mpf_plan.specs.Inside.{names_view, draft_view}
+use Rattle.mpf_plan.specs.Inside.{name_sets_view, draft_view}
 use Rattle.mpf_plan.specs.Numbering.{Numbered}
 use Rattle.mpf_plan.proofs.Judged.{all_within, is_first, plan_at-lacking, plan_at-within, plan_at-exceeded, plan_at-Err}
 use Rattle.mpf_plan.proofs.ValidPlan.{IsValid-plan_of}
@@ -42,7 +41,7 @@ module _ (rows : Rows) (cs : List Contribution) (same : cs ≡ contributions_of 
 
   -- ---- a plan
 
-  module _ (names : NameSets) (d : Draft) (numbered : Numbered cs (Ok names)) (made : draft_view names d ≡ drafted (names_view names) cs) where
+  module _ (names : NameSets) (d : Draft) (numbered : Numbered cs (Ok names)) (made : draft_view names d ≡ drafted (name_sets_view names) cs) where
     pub is_plan : (draft_view names d).plan ≡ plan_of rows
     is_plan = ap (λ x. x.plan) (made ∙ ap (λ n. drafted n cs) numbered.1) ∙ from_rows
 

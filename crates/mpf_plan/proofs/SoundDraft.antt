@@ -1,5 +1,5 @@
 -- Each contribution leaves a valid plan, where its names are among the names.
-use Rattle.std.proofs.Common.{◌≡◌, ℕ, zero, suc, ◌+◌, ◌-◌, ◌<◌, ◌≤◌, Bool, true, false, cond, not, ◌||◌, List, [], ◌∷◌, ◌++◌, length, map, fold, set, get_or, nat_lt, Option, None, Some, slice_index_or, slice_set, refl, sym, ◌∙◌, ap, subst, true≢false, arith}
+use Rattle.std.proofs.Common.{◌≡◌, ℕ, zero, suc, ◌+◌, ◌-◌, ◌<◌, ◌≤◌, Bool, true, false, cond, not, ◌||◌, List, [], ◌∷◌, ◌++◌, length, fold, set, get_or, nat_lt, Option, None, Some, slice_index_or, slice_set, refl, sym, ◌∙◌, ap, subst, true≢false, arith}
 use Rattle.std.specs.Str.{bytes_eq}
 use Rattle.std.specs.List.{All, list_any, position_or_len}
 use Rattle.std.proofs.lemmas.Bool.{ltb-true, ltb-false}
@@ -21,14 +21,14 @@ use Rattle.mpf_plan.specs.declared.entries.Binding.{Binding}
 use Rattle.mpf_plan.specs.PlanView.{Switch, no_switch, PlanView}
 use Rattle.mpf_plan.specs.Valid.{IsEventWithin, IsActionWithin, IsOwnerWithin, IsTargetWithin, IsBindingWithin, IsSwitchWithin}
 use Rattle.mpf_plan.specs.Contributions.{Contribution, switch, active, inactive, binds, post}
-use Rattle.mpf_plan.specs.Uses.{Names, names_in, names_of_kind, number_in, used, used_event, name_in, as_list, all_names}
+use Rattle.mpf_plan.specs.Uses.{Names, names_from, names_of_kind, number_among, used, used_event, as_list, all_names}
 use Rattle.mpf_plan.specs.PlanOf.{DraftView, event_of, last_switch, with_binding, with_list, with_action, with_contribution, named_switch, blank, drafted}
 use Rattle.mpf_plan.proofs.Lacking.{any_first}
 
 -- a name that is used is among the names
 abbrev pub IsAmong : List (List ℕ) → Option (List ℕ) → Type 0
 IsAmong names None = Unit {0}
-IsAmong names (Some n) = number_in names n < length names
+IsAmong names (Some n) = number_among names n < length names
 
 abbrev IsKnown : Names → Contribution → Type 0
 IsKnown names c = IsAmong names.events (used_event c)
@@ -71,8 +71,8 @@ machine_within : (plan : PlanView) (o : Owner) → IsOwnerWithin plan o
 machine_within plan Machine = tt
 
 module _ (names : Names) (d : DraftView) (sound : IsSound names d) where
-  event_within : (n : List ℕ) → number_in names.events n < length names.events → number_in names.events n < length d.plan.events
-  event_within n known = subst (λ es. number_in names.events n < length es) (sym sound.events) known
+  event_within : (n : List ℕ) → number_among names.events n < length names.events → number_among names.events n < length d.plan.events
+  event_within n known = subst (λ es. number_among names.events n < length es) (sym sound.events) known
 
   switch_sound : (n : ℕ) (change : Switch → Switch) (defined : List Bool) (last : ℕ) → ((s : Switch) → IsSwitchWithin (length d.plan.events) s → IsSwitchWithin (length d.plan.events) (change s))
       → IsSound names (record d { plan = record d.plan { switches = set d.plan.switches n (change (get_or d.plan.switches n no_switch)) }; defined = defined; last = last })
@@ -139,7 +139,7 @@ module _ (names : Names) (d : DraftView) (sound : IsSound names d) where
   sound_one (switch n kind) known = by (slice_index_or d.defined k true)
     where
       k : ℕ
-      k = number_in names.switches n
+      k = number_among names.switches n
       by : (b : Bool) → IsSound names (cond b (record d { last = length d.defined }) (last_switch (λ s. record s { kind = kind }) (record d { defined = slice_set d.defined k true; last = k })))
       by true = record { events = sound.events; switches = sound.switches; lists = sound.lists; bindings = sound.bindings }
       by false = switch_sound k (λ s. record s { kind = kind }) (slice_set d.defined k true) k (λ s within. within)
@@ -200,9 +200,9 @@ among_first kind cs i d within None is = tt
 among_first kind cs i d within (Some n) is =
     place_within (bytes_eq n) (names_of_kind kind cs) (any_first n (all_names (Uses kind) cs) ∙ used_there kind n cs i d within is)
 
-all_known : (cs : List Contribution) → All (IsKnown (names_in cs)) cs
-all_known cs = All-from_get_or (IsKnown (names_in cs)) cs (post []) (λ i within. among_first kinds.Event cs i (post []) within (used_event (get_or cs i (post []))) refl)
+all_known : (cs : List Contribution) → All (IsKnown (names_from cs)) cs
+all_known cs = All-from_get_or (IsKnown (names_from cs)) cs (post []) (λ i within. among_first kinds.Event cs i (post []) within (used_event (get_or cs i (post []))) refl)
 
 -- what contributions make is sound, whatever they are
-pub sound_drafted : (cs : List Contribution) → IsSound (names_in cs) (drafted (names_in cs) cs)
-sound_drafted cs = sound_fold (names_in cs) cs (blank (names_in cs)) (all_known cs) (sound_blank (names_in cs))
+pub sound_drafted : (cs : List Contribution) → IsSound (names_from cs) (drafted (names_from cs) cs)
+sound_drafted cs = sound_fold (names_from cs) cs (blank (names_from cs)) (all_known cs) (sound_blank (names_from cs))

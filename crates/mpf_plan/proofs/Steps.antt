@@ -7,7 +7,7 @@ use Rattle.mpf_plan.specs.declared.entries.Action.{Action}
 use Rattle.mpf_plan.specs.declared.draft.SwitchEntry.{SwitchEntry}
 use Rattle.mpf_plan.specs.PlanView.{Switch, no_switch}
 use Rattle.mpf_plan.specs.PlanOf.{last_with, named_switch}
-use Rattle.mpf_plan.specs.Inside.{names_of, switch_view, switches_view, lists_view}
+use Rattle.mpf_plan.specs.Inside.{names_of, switch_view, switches_view, action_lists}
 
 -- an item changed in its place, as it is seen
 shown_at : {X Y : Type 0} (shown : X → Y) (f : Y → Y) (xs : List X) (i : ℕ) (old new : X) (d : Y) → i < length xs → old ≡ get_or xs i old → shown new ≡ f (shown old)
@@ -17,10 +17,10 @@ shown_at shown f xs i old new d within is changed =
 
 -- an action pushed to the last list
 pub action_pushed : (lists : List (Vec Action Global)) (n : ℕ) (old new : Vec Action Global) (a : Action) → n ≡ length lists → 0 < n → old ≡ get_or lists (n - 1) old → new.items ≡ old.items ++ a ∷ []
-    → lists_view (set lists (n - 1) new) ≡ last_with a (lists_view lists)
+    → action_lists (set lists (n - 1) new) ≡ last_with a (action_lists lists)
 action_pushed lists n old new a count some is pushed =
     shown_at (λ v. v.items) (λ l. l ++ a ∷ []) lists (n - 1) old new [] (omega (arith, count, some)) is pushed
-    ∙ ap (λ k. set (lists_view lists) (k - 1) (get_or (lists_view lists) (k - 1) [] ++ a ∷ [])) (count ∙ sym (length-map lists (λ (v : Vec Action Global). v.items)))
+    ∙ ap (λ k. set (action_lists lists) (k - 1) (get_or (action_lists lists) (k - 1) [] ++ a ∷ [])) (count ∙ sym (length-map lists (λ (v : Vec Action Global). v.items)))
 
 -- within a list the default does not matter
 pub same_default : {X : Type 0} (xs : List X) (n : ℕ) (d e : X) → n < length xs → get_or xs n d ≡ get_or xs n e

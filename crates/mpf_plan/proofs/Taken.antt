@@ -1,6 +1,5 @@
 -- The first of the contributions, and of the sections: one more.
 use Rattle.std.proofs.Common.{◌≡◌, ℕ, ◌+◌, ◌<◌, ◌≤◌, zero, suc, List, [], ◌∷◌, ◌++◌, length, map, fold, take, get_or, Option, refl, sym, ◌∙◌, ap, arith}
-use Rattle.std.specs.List.{flat_map, sum_by}
 use Rattle.std.proofs.lemmas.List.{take_more, map-append, append_assoc, append-nil}
 use Rattle.std.proofs.lemmas.List.Sums.{fold-append, sum_by-append}
 use Rattle.mpf_config.specs.declared.config.Section.{Section}
@@ -10,28 +9,28 @@ use Rattle.mpf_plan.specs.declared.contribution.Contribution as contributions
 use Rattle.mpf_plan.specs.declared.contribution.Place.{Place}
 use Rattle.mpf_plan.specs.declared.contribution.Role.{Role}
 use Rattle.mpf_plan.specs.Contributions.{Contribution, section_contributions, machine_place, contributions_in}
-use Rattle.mpf_plan.specs.Uses.{as_list, name_in, all_names}
+use Rattle.mpf_plan.specs.Uses.{as_list, role_name, all_names}
 use Rattle.mpf_plan.specs.Inside.{contribution_view, contributions_view}
 use Rattle.mpf_plan.specs.Numbering.{with_name, bindings_given, binding_count}
 
 pub all_names-append : (role : Role) (cs ds : List Contribution) → all_names role (cs ++ ds) ≡ all_names role cs ++ all_names role ds
 all_names-append role [] ds = refl
-all_names-append role (c ∷ cs) ds = ap (λ l. as_list (name_in role c) ++ l) (all_names-append role cs ds) ∙ sym (append_assoc (as_list (name_in role c)) (all_names role cs) (all_names role ds))
+all_names-append role (c ∷ cs) ds = ap (λ l. as_list (role_name role c) ++ l) (all_names-append role cs ds) ∙ sym (append_assoc (as_list (role_name role c)) (all_names role cs) (all_names role ds))
 
 module _ (cs : List contributions.Contribution) (i : ℕ) (d : contributions.Contribution) (within : i < length cs) where
   view_more : contributions_view (take (i + 1) cs) ≡ contributions_view (take i cs) ++ contribution_view (get_or cs i d) ∷ []
   view_more = ap contributions_view (take_more cs i d within) ∙ map-append contribution_view (take i cs) (get_or cs i d ∷ [])
 
   -- all names of the first contributions
-  pub names_more : (role : Role) (o : Option (List ℕ)) → name_in role (contribution_view (get_or cs i d)) ≡ o
+  pub names_more : (role : Role) (o : Option (List ℕ)) → role_name role (contribution_view (get_or cs i d)) ≡ o
       → all_names role (contributions_view (take (i + 1) cs)) ≡ all_names role (contributions_view (take i cs)) ++ as_list o
   names_more role o is =
       ap (all_names role) view_more
       ∙ all_names-append role (contributions_view (take i cs)) (contribution_view (get_or cs i d) ∷ [])
-      ∙ ap (λ l. all_names role (contributions_view (take i cs)) ++ l) (append-nil (as_list (name_in role (contribution_view (get_or cs i d)))) ∙ ap as_list is)
+      ∙ ap (λ l. all_names role (contributions_view (take i cs)) ++ l) (append-nil (as_list (role_name role (contribution_view (get_or cs i d)))) ∙ ap as_list is)
 
   -- each of them noted
-  pub noted_more : (role : Role) (all : List (List ℕ)) (o : Option (List ℕ)) → name_in role (contribution_view (get_or cs i d)) ≡ o
+  pub noted_more : (role : Role) (all : List (List ℕ)) (o : Option (List ℕ)) → role_name role (contribution_view (get_or cs i d)) ≡ o
       → fold with_name (fold with_name all (all_names role (contributions_view (take i cs)))) (as_list o) ≡ fold with_name all (all_names role (contributions_view (take (i + 1) cs)))
   noted_more role all o is = sym (ap (fold with_name all) (names_more role o is) ∙ fold-append with_name all (all_names role (contributions_view (take i cs))) (as_list o))
 

@@ -1,10 +1,10 @@
 -- The plan of rows is valid where its tables are within their limits.
-use Rattle.std.proofs.Common.{◌≡◌, ◌≢◌, ℕ, zero, suc, ◌+◌, ◌<◌, ◌≤◌, Bool, true, false, cond, not, List, [], ◌∷◌, ◌++◌, length, map, filter, fold, set, get_or, slice_index_or, slice_set, refl, sym, ◌∙◌, ap, subst, true≢false, arith}
+use Rattle.std.proofs.Common.{◌≡◌, ◌≢◌, ℕ, zero, suc, ◌<◌, ◌≤◌, Bool, true, false, cond, not, List, [], ◌∷◌, ◌++◌, length, map, filter, fold, slice_index_or, slice_set, refl, sym, ◌∙◌, ap, subst, true≢false, arith}
 use Rattle.std.specs.Prelude.{Ok}
 use Rattle.std.specs.Str.{bytes_eq}
 use Rattle.std.specs.List.{All, AllPairs, flat_map}
 use Rattle.std.proofs.lemmas.List.{get_or-map, length-map}
-use Rattle.std.proofs.lemmas.List.Elements.{All-nil, All-cons, All-head, All-tail, All-append, All-push, All-weaker, All-map, All-filter, All-from_get_or, filter_passes}
+use Rattle.std.proofs.lemmas.List.Elements.{All-nil, All-cons, All-head, All-tail, All-append, All-push, All-weaker, All-filter, filter_passes}
 use Rattle.std.proofs.lemmas.Slice.Eq.{bytes_eq-Decides}
 use Rattle.mpf_config.specs.Rows as config
 use Rattle.mpf_config.specs.Rows.{EventPlayer, SectionRows, switches, event_player, Rows}
@@ -15,9 +15,9 @@ use Rattle.mpf_plan.specs.declared.fault.Table.TheVariants.{Events, Bindings, Sw
 use Rattle.mpf_plan.specs.PlanView.{PlanView, Switch}
 use Rattle.mpf_plan.specs.Valid.{IsValid}
 use Rattle.mpf_plan.specs.Contributions.{Contribution, switch, active, inactive, binds, post, texts, active_posts, inactive_posts, switch_contributions, player_contributions, section_contributions, machine_place, contributions_in, contributions_of}
-use Rattle.mpf_plan.specs.Uses.{first_by, names_in, number_in, all_names}
+use Rattle.mpf_plan.specs.Uses.{first_by, names_from, number_among}
 use Rattle.mpf_plan.specs.Limits.{entry_count, limit_of}
-use Rattle.mpf_plan.specs.PlanOf.{DraftView, last_switch, with_contribution, blank, drafted, plan_from, plan_of, plan_at}
+use Rattle.mpf_plan.specs.PlanOf.{DraftView, last_switch, with_contribution, blank, plan_from, plan_of, plan_at}
 use Rattle.mpf_plan.proofs.Drafted.{events-from, switches-from, count-bindings, count-lists}
 use Rattle.mpf_plan.proofs.Judged.{plan_at-Ok}
 use Rattle.mpf_plan.proofs.SoundDraft.{sound_drafted}
@@ -116,10 +116,10 @@ unranked_fold names [] d all so_far = so_far
 unranked_fold names (c ∷ cs) d all so_far = unranked_fold names cs (with_contribution names d c) (All-tail IsUnranked c cs all) (one c (All-head IsUnranked c cs all))
   where
     one : (x : Contribution) → IsUnranked x → AreUnranked (with_contribution names d x)
-    one (switch n kind) is = by (slice_index_or d.defined (number_in names.switches n) true)
+    one (switch n kind) is = by (slice_index_or d.defined (number_among names.switches n) true)
       where
         k : ℕ
-        k = number_in names.switches n
+        k = number_among names.switches n
         by : (b : Bool) → AreUnranked (cond b (record d { last = length d.defined }) (last_switch (λ s. record s { kind = kind }) (record d { defined = slice_set d.defined k true; last = k })))
         by true = so_far
         by false = so_far
@@ -133,7 +133,7 @@ unranked_fold names (c ∷ cs) d all so_far = unranked_fold names cs (with_contr
 -- where each table is within its limit, and no binding is ranked, the plan of contributions is valid
 IsValid-plan_from : (cs : List Contribution) → All IsUnranked cs → ((t : Table) → entry_count (plan_from cs) t ≤ limit_of t) → IsValid (plan_from cs)
 IsValid-plan_from cs unranked within =
-    let names = names_in cs in
+    let names = names_from cs in
     let sound = sound_drafted cs in
     let limit : length (plan_from cs).bindings ≤ 16384 = within Bindings in
     record {

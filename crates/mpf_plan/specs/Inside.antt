@@ -35,8 +35,8 @@ contributions_view cs = map contribution_view cs
 abbrev pub names_of : List (Vec ℕ Global) → List (List ℕ)
 names_of keys = map (λ v. v.items) keys
 
-abbrev pub names_view : NameSets → Names
-names_view n = record { events = names_of n.events.keys; switches = names_of n.switches.keys }
+abbrev pub name_sets_view : NameSets → Names
+name_sets_view n = record { events = names_of n.events.keys; switches = names_of n.switches.keys }
 
 -- a switch's name, how it is read, and its posts
 abbrev pub switch_view : Vec ℕ Global × SwitchEntry → Switch
@@ -46,15 +46,15 @@ switch_view e = record { name = e.0.items; kind = e.1.kind; active = e.1.active.
 abbrev pub switches_view : List (Vec ℕ Global) → List SwitchEntry → List Switch
 switches_view names entries = map switch_view (zip names entries)
 
-abbrev pub lists_view : List (Vec Action Global) → List (List Action)
-lists_view lists = map (λ v. v.items) lists
+abbrev pub action_lists : List (Vec Action Global) → List (List Action)
+action_lists lists = map (λ v. v.items) lists
 
 -- the tables as they lie in a plan's fields
 abbrev pub tables_view : NameSets → List SwitchEntry → List (Vec Action Global) → List Binding → PlanView
 tables_view names switches lists bindings = record {
   events = names_of names.events.keys;
   switches = switches_view names.switches.keys switches;
-  lists = lists_view lists;
+  lists = action_lists lists;
   bindings = bindings;
 }
 

@@ -7,4 +7,3 @@ pub mod PlanOf
 pub mod ListLimits
 pub mod Inside
 pub mod Numbering
-pub mod Today

@@ -1,5 +1,5 @@
 -- How many names a list of the rows may have, and how many actions an effect list.
-use Rattle.std.specs.Prelude.{ℕ, ◌≤◌, length}
+use Rattle.std.specs.Prelude.{◌≤◌, length}
 use Rattle.std.specs.List.{All}
 use Rattle.mpf_config.specs.Rows.{Switch, EventPlayer, SectionRows, switches, event_player, Rows}
 use Rattle.mpf_plan.specs.PlanView.{PlanView}

@@ -1,5 +1,5 @@
 -- What the pass that numbers the names has found.
-use Rattle.std.specs.Prelude.{◌≡◌, ℕ, ◌<◌, ◌≤◌, ◌⊎◌, Bool, true, false, List, [], ◌∷◌, ◌++◌, Option, None, Some, Result, Ok, Err, if◌then◌else◌, length, fold}
+use Rattle.std.specs.Prelude.{◌≡◌, ℕ, ◌<◌, ◌≤◌, ◌⊎◌, true, false, List, [], ◌∷◌, ◌++◌, None, Some, Result, Ok, Err, if◌then◌else◌, length, fold}
 use Rattle.std.specs.List.{list_any, sum_by}
 use Rattle.std.specs.Str.{bytes_eq}
 use Rattle.mpf_plan.specs.declared.contribution.Kind.TheVariants as kinds
@@ -10,10 +10,10 @@ use Rattle.mpf_plan.specs.declared.fault.PlanFault.TheVariants as faults
 use Rattle.mpf_plan.specs.declared.numbering.NameTable.{NameTable}
 use Rattle.mpf_plan.specs.declared.numbering.Found.{Found}
 use Rattle.mpf_plan.specs.Contributions.{Contribution, switch, active, inactive, binds, post}
-use Rattle.mpf_plan.specs.Uses.{all_names, names_of_kind, names_in, lacks_name}
+use Rattle.mpf_plan.specs.Uses.{all_names, names_of_kind, names_from, lacks_name}
 use Rattle.mpf_plan.specs.Limits.{first_above}
 use Rattle.mpf_plan.specs.PlanOf.{plan_from}
-use Rattle.mpf_plan.specs.Inside.{names_of, names_view}
+use Rattle.mpf_plan.specs.Inside.{names_of, name_sets_view}
 
 -- the names after one more use: a new name goes last
 abbrev pub with_name : List (List ℕ) → List ℕ → List (List ℕ)
@@ -51,7 +51,7 @@ pub record HasFound (cs : List Contribution) (found : Found) : Type 0 where
 -- the names of contributions whose plan is within all limits; or they use a name that nothing has; or the first table
 -- that is above its limit
 abbrev pub Numbered : List Contribution → Result NameSets PlanFault → Type 0
-Numbered cs (Ok n) = (lacks_name cs ≡ false) × (names_view n ≡ names_in cs) × (first_above (plan_from cs) ≡ None) × (binding_count cs ≤ 16384)
+Numbered cs (Ok n) = (lacks_name cs ≡ false) × (name_sets_view n ≡ names_from cs) × (first_above (plan_from cs) ≡ None) × (binding_count cs ≤ 16384)
 Numbered cs (Err faults.NoMemory) = Unit {0}
 Numbered cs (Err faults.NoSuchName) = lacks_name cs ≡ true
 Numbered cs (Err (faults.Limit t)) = (lacks_name cs ≡ false) × (first_above (plan_from cs) ≡ Some t)

@@ -5,26 +5,24 @@ use Rattle.mpf_plan.specs.declared.entries.EventId.{EventId}
 use Rattle.mpf_plan.specs.declared.entries.SwitchKind.{SwitchKind}
 use Rattle.mpf_plan.specs.declared.entries.Action.{Action}
 use Rattle.mpf_plan.specs.declared.entries.Action.TheVariants.{Post}
-use Rattle.mpf_plan.specs.declared.entries.Target.{Target}
 use Rattle.mpf_plan.specs.declared.entries.Target.TheVariants as targets
 use Rattle.mpf_plan.specs.declared.entries.Binding.{Binding}
-use Rattle.mpf_plan.specs.declared.contribution.Place.{Place}
 use Rattle.mpf_plan.specs.declared.contribution.Aim.TheVariants.{Run}
 use Rattle.mpf_plan.specs.declared.fault.Table.{Table}
 use Rattle.mpf_plan.specs.declared.fault.PlanFault.{PlanFault}
 use Rattle.mpf_plan.specs.declared.fault.PlanFault.TheVariants as faults
 use Rattle.mpf_plan.specs.PlanView.{Switch, no_switch, PlanView}
 use Rattle.mpf_plan.specs.Contributions.{Contribution, switch, active, inactive, binds, post, contributions_of}
-use Rattle.mpf_plan.specs.Uses.{Names, names_in, number_in, lacks_name}
+use Rattle.mpf_plan.specs.Uses.{Names, names_from, number_among, lacks_name}
 use Rattle.mpf_plan.specs.Limits.{first_above, IsFirstAbove}
 
 -- an event is its name's place among the names
 abbrev pub event_of : List (List ℕ) → List ℕ → EventId
-event_of names name = record { 0 = number_in names name }
+event_of names name = record { 0 = number_among names name }
 
 -- ---- a plan that is being made
 
--- the plan so far; which switches are defined; and the number of the switch that came last, where it was the first of its name
+-- the plan so far; which switches are defined; and the switch that came last, where it was the first of its name
 pub record DraftView : Type 0 where
   pub plan : PlanView
   pub defined : List Bool
@@ -64,7 +62,7 @@ with_action a d = record d { plan = record d.plan { lists = last_with a d.plan.l
 
 -- what one contribution adds, where names have these numbers
 abbrev pub with_contribution : Names → DraftView → Contribution → DraftView
-with_contribution names d (switch n kind) = with_switch (number_in names.switches n) kind d
+with_contribution names d (switch n kind) = with_switch (number_among names.switches n) kind d
 with_contribution names d (active n) = with_active (event_of names.events n) d
 with_contribution names d (inactive n) = with_inactive (event_of names.events n) d
 with_contribution names d (binds n place Run) =
@@ -89,7 +87,7 @@ drafted names cs = fold (with_contribution names) (blank names) cs
 
 -- all names are numbered in the order of their first uses, and then each contribution adds its own
 abbrev pub plan_from : List Contribution → PlanView
-plan_from cs = (drafted (names_in cs) cs).plan
+plan_from cs = (drafted (names_from cs) cs).plan
 
 -- ---- the plan of rows
 
@@ -102,13 +100,13 @@ pub data PlanRefusal : Type 0 where
   above_limit : Table → PlanRefusal
 
 -- the plan, unless a table is above its limit
-abbrev pub limited : PlanView → Option Table → Result PlanView PlanRefusal
-limited plan None = Ok plan
-limited plan (Some t) = Err (above_limit t)
+abbrev pub fitting : PlanView → Option Table → Result PlanView PlanRefusal
+fitting plan None = Ok plan
+fitting plan (Some t) = Err (above_limit t)
 
 -- the plan of the rows; or that they use a name that nothing has; or the first of the tables that is above its limit
 unfoldable pub plan_at : Rows → Result PlanView PlanRefusal
-plan_at rows = cond (lacks_name (contributions_of rows)) (Err no_such_name) (limited (plan_of rows) (first_above (plan_of rows)))
+plan_at rows = cond (lacks_name (contributions_of rows)) (Err no_such_name) (fitting (plan_of rows) (first_above (plan_of rows)))
 
 -- the table is the first of the rows' plan that is above its limit
 abbrev pub IsExceeded : Rows → Table → Type 0

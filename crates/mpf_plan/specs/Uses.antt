@@ -1,5 +1,5 @@
 -- The names that contributions use and give, and their numbers.
-use Rattle.std.specs.Prelude.{ℕ, Bool, not, List, [], ◌∷◌, Option, None, Some, map, filter}
+use Rattle.std.specs.Prelude.{ℕ, Bool, not, List, [], ◌∷◌, Option, None, Some, filter}
 use Rattle.std.specs.List.{flat_map, list_any, position_or_len}
 use Rattle.std.specs.Str.{bytes_eq}
 use Rattle.mpf_plan.specs.declared.contribution.Kind.{Kind}
@@ -34,9 +34,9 @@ abbrev pub given_name : Kind → Contribution → Option (List ℕ)
 given_name kinds.Event c = None
 given_name kinds.Switch c = given_switch c
 
-abbrev pub name_in : Role → Contribution → Option (List ℕ)
-name_in (Uses kind) c = used kind c
-name_in (Gives kind) c = given_name kind c
+abbrev pub role_name : Role → Contribution → Option (List ℕ)
+role_name (Uses kind) c = used kind c
+role_name (Gives kind) c = given_name kind c
 
 -- ---- all of them
 
@@ -46,9 +46,9 @@ as_list (Some x) = x ∷ []
 
 -- all names that the contributions use, or give, in turn
 abbrev pub all_names : Role → List Contribution → List (List ℕ)
-all_names role cs = flat_map (λ c. as_list (name_in role c)) cs
+all_names role cs = flat_map (λ c. as_list (role_name role c)) cs
 
--- each item whose name no item before it has: the first item, and of the rest those of other names, each where it comes first
+-- each item whose name no item before it has: the first, and of the rest those of other names, each where it comes first
 abbrev pub first_by : {X : Type 0} → (X → List ℕ) → List X → List X
 first_by name [] = []
 first_by name (x ∷ xs) = x ∷ filter (λ y. not (bytes_eq (name x) (name y))) (first_by name xs)
@@ -66,12 +66,12 @@ pub record Names : Type 0 where
   pub events : List (List ℕ)
   pub switches : List (List ℕ)
 
-abbrev pub names_in : List Contribution → Names
-names_in cs = record { events = names_of_kind kinds.Event cs; switches = names_of_kind kinds.Switch cs }
+abbrev pub names_from : List Contribution → Names
+names_from cs = record { events = names_of_kind kinds.Event cs; switches = names_of_kind kinds.Switch cs }
 
 -- a name's number is its place among the names
-abbrev pub number_in : List (List ℕ) → List ℕ → ℕ
-number_in names name = position_or_len (bytes_eq name) names
+abbrev pub number_among : List (List ℕ) → List ℕ → ℕ
+number_among names name = position_or_len (bytes_eq name) names
 
 -- ---- names that nothing has
 

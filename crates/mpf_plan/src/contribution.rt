@@ -1,7 +1,7 @@
 //! What entries give to a plan, by names.
 
 ghost use Rattle.std.specs.Prelude.{◌≡◌, ◌++◌, option_map, OnOk};
-ghost use Rattle.mpf_plan.specs.Uses.{used_event, given_switch, used, given_name, name_in};
+ghost use Rattle.mpf_plan.specs.Uses.{used_event, given_switch, used, given_name, role_name};
 ghost use Rattle.mpf_plan.specs.Inside.{parts_text, contribution_view};
 
 use crate::entries::{Owner, SwitchKind};
@@ -121,8 +121,8 @@ fn given_name<'a>(kind: Kind, contribution: &Contribution<'a>) -> Option<Parts<'
 }
 
 /// The name that a contribution uses, or gives.
-pub(crate) fn name_in<'a>(role: Role, contribution: &Contribution<'a>) -> Option<Parts<'a>>
-    ensures { option_map parts_text result ≡ name_in role (contribution_view contribution.now) }
+pub(crate) fn role_name<'a>(role: Role, contribution: &Contribution<'a>) -> Option<Parts<'a>>
+    ensures { option_map parts_text result ≡ role_name role (contribution_view contribution.now) }
 {
     match role {
         Role::Uses(kind) => used(kind, contribution),

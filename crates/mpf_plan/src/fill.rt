@@ -6,14 +6,14 @@ ghost use Rattle.mpf_plan.specs.declared.draft.NameSets.{NameSets as NameSetsVal
 ghost use Rattle.mpf_plan.specs.Contributions.{switch, active, inactive, binds, post, contributions_in};
 ghost use Rattle.mpf_plan.specs.PlanView.{no_switch};
 ghost use Rattle.mpf_plan.specs.PlanOf.{event_of, with_switch, with_active, with_inactive, last_with, with_contribution, named_switch, blank, drafted};
-ghost use Rattle.mpf_plan.specs.Inside.{parts_text, contribution_view, contributions_view, names_of, names_view, lists_view, switches_view, draft_view};
+ghost use Rattle.mpf_plan.specs.Inside.{parts_text, contribution_view, contributions_view, names_of, name_sets_view, action_lists, switches_view, draft_view};
 ghost use Rattle.mpf_plan.specs.Numbering.{binding_count};
 
 use crate::collect::{collect_section, machine_place};
 use crate::contribution::{Aim, Contribution, Parts, Place, whole};
 use crate::draft::{Draft, NameSets, SwitchEntry};
 use crate::entries::{Action, Binding, EventId, ListId, SwitchKind, Target};
-use crate::numbering::number_in;
+use crate::numbering::number_among;
 use mpf_config::config::{Contact, Section};
 use std::alloc::{AllocError, Global};
 
@@ -24,7 +24,7 @@ pub(crate) fn fill(
     sections: &[Section],
 ) -> Result<Draft, AllocError>
     requires { binding_count (contributions_in (map section_view sections.now)) ≤ 16384 }
-    ensures { IfOk result (λ d. draft_view names.now d ≡ drafted (names_view names.now) (contributions_in (map section_view sections.now))) }
+    ensures { IfOk result (λ d. draft_view names.now d ≡ drafted (name_sets_view names.now) (contributions_in (map section_view sections.now))) }
 {
     let mut draft = blank(alloc, names)?;
     let mut contributions = Vec::new(alloc);
@@ -43,7 +43,7 @@ fn fill_section(
     contributions: &[Contribution],
 ) -> Result<(), AllocError>
     requires { length draft.old.lists.items + binding_count (contributions_view contributions.now) ≤ 16384 }
-    ensures { OnOk result (draft_view names.now draft.new ≡ fold (with_contribution (names_view names.now)) (draft_view names.now draft.old) (contributions_view contributions.now)) }
+    ensures { OnOk result (draft_view names.now draft.new ≡ fold (with_contribution (name_sets_view names.now)) (draft_view names.now draft.old) (contributions_view contributions.now)) }
 {
     let mut text = Vec::new(alloc);
     for contribution in contributions {
@@ -60,7 +60,7 @@ fn add(
     contribution: &Contribution,
 ) -> Result<(), AllocError>
     requires { length draft.old.lists.items ≤ 16384 }
-    ensures { OnOk result (draft_view names.now draft.new ≡ with_contribution (names_view names.now) (draft_view names.now draft.old) (contribution_view contribution.now)) }
+    ensures { OnOk result (draft_view names.now draft.new ≡ with_contribution (name_sets_view names.now) (draft_view names.now draft.old) (contribution_view contribution.now)) }
 {
     match *contribution {
         Contribution::Switch(name, kind) => add_switch(names, text, draft, name, kind),
@@ -74,9 +74,9 @@ fn add(
 }
 
 fn event_of(names: &NameSets, text: &mut Vec<u8>, name: Parts) -> Result<EventId, AllocError>
-    ensures { IfOk result (λ e. e ≡ event_of (names_view names.now).events (parts_text name.entry)) }
+    ensures { IfOk result (λ e. e ≡ event_of (name_sets_view names.now).events (parts_text name.entry)) }
 {
-    Ok(EventId(number_in(&names.events, text, name)?))
+    Ok(EventId(number_among(&names.events, text, name)?))
 }
 
 // ---- switches
@@ -88,9 +88,9 @@ fn add_switch(
     name: &[u8],
     kind: SwitchKind,
 ) -> Result<(), AllocError>
-    ensures { OnOk result (draft_view names.now draft.new ≡ with_contribution (names_view names.now) (draft_view names.now draft.old) (switch name.now kind)) }
+    ensures { OnOk result (draft_view names.now draft.new ≡ with_contribution (name_sets_view names.now) (draft_view names.now draft.old) (switch name.now kind)) }
 {
-    let n = number_in(&names.switches, text, whole(name))?;
+    let n = number_among(&names.switches, text, whole(name))?;
     define_switch(draft, n as usize, kind);
     Ok(())
 }
@@ -114,7 +114,7 @@ fn add_active(
     draft: &mut Draft,
     name: Parts,
 ) -> Result<(), AllocError>
-    ensures { OnOk result (draft_view names.now draft.new ≡ with_contribution (names_view names.now) (draft_view names.now draft.old) (active (parts_text name.entry))) }
+    ensures { OnOk result (draft_view names.now draft.new ≡ with_contribution (name_sets_view names.now) (draft_view names.now draft.old) (active (parts_text name.entry))) }
 {
     let event = event_of(names, text, name)?;
     post_active(draft, event)?;
@@ -138,7 +138,7 @@ fn add_inactive(
     draft: &mut Draft,
     name: Parts,
 ) -> Result<(), AllocError>
-    ensures { OnOk result (draft_view names.now draft.new ≡ with_contribution (names_view names.now) (draft_view names.now draft.old) (inactive (parts_text name.entry))) }
+    ensures { OnOk result (draft_view names.now draft.new ≡ with_contribution (name_sets_view names.now) (draft_view names.now draft.old) (inactive (parts_text name.entry))) }
 {
     let event = event_of(names, text, name)?;
     post_inactive(draft, event)?;
@@ -169,7 +169,7 @@ fn add_binding(
     aim: Aim,
 ) -> Result<(), AllocError>
     requires { length draft.old.lists.items ≤ 16384 }
-    ensures { OnOk result (draft_view names.now draft.new ≡ with_contribution (names_view names.now) (draft_view names.now draft.old) (binds name.now place aim)) }
+    ensures { OnOk result (draft_view names.now draft.new ≡ with_contribution (name_sets_view names.now) (draft_view names.now draft.old) (binds name.now place aim)) }
 {
     let event = event_of(names, text, whole(name))?;
     let target = match aim {
@@ -191,7 +191,7 @@ fn add_post(
     draft: &mut Draft,
     name: Parts,
 ) -> Result<(), AllocError>
-    ensures { OnOk result (draft_view names.now draft.new ≡ with_contribution (names_view names.now) (draft_view names.now draft.old) (post (parts_text name.entry))) }
+    ensures { OnOk result (draft_view names.now draft.new ≡ with_contribution (name_sets_view names.now) (draft_view names.now draft.old) (post (parts_text name.entry))) }
 {
     let event = event_of(names, text, name)?;
     push_action(&mut draft.lists, Action::Post(event))?;
@@ -200,7 +200,7 @@ fn add_post(
 
 /// The action goes to the effect list that began last.
 fn push_action(lists: &mut Vec<Vec<Action>>, action: Action) -> Result<(), AllocError>
-    ensures { OnOk result (lists_view lists.new.items ≡ last_with action (lists_view lists.old.items)) }
+    ensures { OnOk result (action_lists lists.new.items ≡ last_with action (action_lists lists.old.items)) }
 {
     let count = lists.len();
     if count > 0 {
@@ -213,7 +213,7 @@ fn push_action(lists: &mut Vec<Vec<Action>>, action: Action) -> Result<(), Alloc
 
 /// The names alone.
 fn blank(alloc: Global, names: &NameSets) -> Result<Draft, AllocError>
-    ensures { IfOk result (λ d. draft_view names.now d ≡ blank (names_view names.now)) }
+    ensures { IfOk result (λ d. draft_view names.now d ≡ blank (name_sets_view names.now)) }
 {
     let switches = blank_switches(alloc, names.switches.as_slice())?;
     let defined = no_marks(alloc, names.switches.as_slice())?;

@@ -4,13 +4,13 @@ ghost use Rattle.std.specs.Prelude.{◌≡◌, ◌≤◌, ◌+◌, ◌++◌, ℕ
 ghost use Rattle.std.specs.List.{list_any};
 ghost use Rattle.mpf_config.specs.View.{section_view};
 ghost use Rattle.mpf_plan.specs.Contributions.{Contribution as ContributionValue, contributions_in};
-ghost use Rattle.mpf_plan.specs.Uses.{all_names, as_list, used, number_in, is_lacking, lacks};
+ghost use Rattle.mpf_plan.specs.Uses.{all_names, as_list, used, number_among, is_lacking, lacks};
 ghost use Rattle.mpf_plan.specs.Inside.{parts_text, contribution_view, contributions_view, names_of};
 ghost use Rattle.mpf_plan.specs.Numbering.{with_name, IsTable, Notes, bindings_given, binding_count, IsCount, HasFound, Numbered};
 ghost use Rattle.mpf_plan.specs.declared.contribution.Role.TheVariants.{Uses, Gives};
 
 use crate::collect::{collect_section, machine_place};
-use crate::contribution::{Contribution, Kind, Parts, Role, name_in, write_name};
+use crate::contribution::{Contribution, Kind, Parts, Role, role_name, write_name};
 use crate::draft::NameSets;
 use crate::fault::{PlanFault, Table};
 use indexmap::IndexSet;
@@ -68,13 +68,13 @@ pub(crate) fn number(alloc: Global, sections: &[Section]) -> Result<NameSets, Pl
 }
 
 /// The number of a name among these.
-pub(crate) fn number_in(
+pub(crate) fn number_among(
     names: &IndexSet<Vec<u8>>,
     text: &mut Vec<u8>,
     name: Parts,
 ) -> Result<u16, AllocError>
     requires { length names.now.keys ≤ 4096 }
-    ensures { IfOk result (λ n. n ≡ number_in (names_of names.now.keys) (parts_text name.entry)) }
+    ensures { IfOk result (λ n. n ≡ number_among (names_of names.now.keys) (parts_text name.entry)) }
 {
     write_name(text, name)?;
     let place = names.get_index_of(text.as_slice()).unwrap_or(names.len());
@@ -147,7 +147,7 @@ fn note_names(
 {
     let mut text = Vec::new(alloc);
     for contribution in contributions {
-        if let Some(name) = name_in(role, contribution) {
+        if let Some(name) = role_name(role, contribution) {
             write_name(&mut text, name)?;
             note(alloc, limit, table, &text)?;
         }
@@ -240,7 +240,7 @@ fn note_given(
     ensures { OnOk result (names_of given.new.keys ≡ fold with_name (names_of given.old.keys) (all_names (Gives kind) (contributions_view contributions.now))) }
 {
     for contribution in contributions {
-        if let Some(name) = name_in(Role::Gives(kind), contribution) {
+        if let Some(name) = role_name(Role::Gives(kind), contribution) {
             let mut text = Vec::new(alloc);
             write_name(&mut text, name)?;
             given.insert(text)?;
@@ -298,7 +298,7 @@ fn is_other(
 ) -> Result<bool, AllocError>
     ensures { IfOk result (λ b. b ≡ list_any (is_lacking (names_of given.now.keys)) (as_list (used kind (contribution_view contribution.now)))) }
 {
-    let Some(name) = name_in(Role::Uses(kind), contribution) else {
+    let Some(name) = role_name(Role::Uses(kind), contribution) else {
         return Ok(false);
     };
     write_name(text, name)?;

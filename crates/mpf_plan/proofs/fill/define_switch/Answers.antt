@@ -1,6 +1,5 @@
-use Rattle.std.proofs.Common.{◌≡◌, ◌<◌, Bool, true, false, cond, length, slice_index_or, slice_set, refl, sym, ap, ◌∙◌, arith}
-use Rattle.mpf_plan.specs.PlanView.{no_switch}
-use Rattle.mpf_plan.specs.Inside.{draft_view, switch_view}
+use Rattle.std.proofs.Common.{◌≡◌, ◌<◌, true, false, cond, length, slice_index_or, slice_set, refl, sym, ap, ◌∙◌, arith}
+use Rattle.mpf_plan.specs.Inside.{draft_view}
 use Rattle.mpf_plan.specs.PlanOf.{last_switch}
 use Rattle.mpf_plan.proofs.Steps.{switch_changed, same_default}
 use Rattle.mpf_plan.proofs.fill.define_switch.Goals as goal

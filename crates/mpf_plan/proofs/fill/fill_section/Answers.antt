@@ -1,5 +1,5 @@
 use Rattle.mpf_plan.specs.PlanOf.{with_contribution}
-use Rattle.mpf_plan.specs.Inside.{names_view, draft_view}
+use Rattle.mpf_plan.specs.Inside.{name_sets_view, draft_view}
 use Rattle.mpf_plan.proofs.Drafted.{lists_fit}
 use Rattle.mpf_plan.proofs.Taken.{added_next}
 use Rattle.mpf_plan.proofs.fill.fill_section.Goals as goal
@@ -10,5 +10,5 @@ add-requires c = lists_fit c.args.names.now c.args.draft.now c.loop-contribution
 pub loop-contribution-preserved : goal.loop-contribution-preserved
 loop-contribution-preserved c =
     let names = c.args.names.now in
-    added_next c.args.contributions.now c.loop-contribution.contribution-index _ c.loop-contribution-test.true (with_contribution (names_view names)) (draft_view names c.args.draft.now)
+    added_next c.args.contributions.now c.loop-contribution.contribution-index _ c.loop-contribution-test.true (with_contribution (name_sets_view names)) (draft_view names c.args.draft.now)
     (draft_view names c.loop-contribution.draft) (draft_view names c.add.new.draft) c.loop-contribution.invariant c.in_ok-add.ensures

@@ -1,4 +1,4 @@
-use Rattle.std.proofs.Common.{◌≡◌, ℕ, ◌+◌, false, List, [], ◌++◌, length, map, fold, take, drop}
+use Rattle.std.proofs.Common.{◌≡◌, false, ◌++◌, map, drop}
 use Rattle.mpf_plan.specs.Inside.{names_of}
 use Rattle.mpf_plan.proofs.fill.no_marks.Given as goal
 

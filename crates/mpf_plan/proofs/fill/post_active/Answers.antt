@@ -1,6 +1,4 @@
-use Rattle.std.proofs.Common.{[], ◌∷◌, ◌++◌, length, refl, sym, ap, ◌∙◌, arith}
-use Rattle.std.proofs.lemmas.List.{set_past}
-use Rattle.mpf_plan.specs.PlanView.{no_switch}
+use Rattle.std.proofs.Common.{[], ◌∷◌, ◌++◌, ap, arith}
 use Rattle.mpf_plan.specs.Inside.{draft_view, switch_view}
 use Rattle.mpf_plan.proofs.Steps.{switch_changed, switch_unchanged}
 use Rattle.mpf_plan.proofs.fill.post_active.Goals as goal

@@ -1,4 +1,4 @@
-use Rattle.std.proofs.Common.{◌≡◌, ℕ, ◌+◌, false, List, [], ◌++◌, length, map, fold, take, drop}
+use Rattle.std.proofs.Common.{ℕ, ◌+◌, take}
 use Rattle.mpf_plan.specs.Inside.{contributions_view}
 use Rattle.mpf_plan.specs.Numbering.{IsCount, binding_count}
 use Rattle.mpf_plan.proofs.numbering.count_bindings.Given as goal

@@ -1,10 +1,9 @@
-use Rattle.std.proofs.Common.{◌≡◌, ◌++◌, [], inr, map, take, refl, sym, ◌∙◌, ap, subst, arith}
+use Rattle.std.proofs.Common.{inr, map, take, refl, subst, arith}
 use Rattle.std.proofs.lemmas.List.{take_all}
 use Rattle.mpf_config.specs.View.{section_view}
-use Rattle.mpf_plan.specs.Contributions.{section_contributions, machine_place, contributions_in}
-use Rattle.mpf_plan.specs.Inside.{contributions_view}
+use Rattle.mpf_plan.specs.Contributions.{contributions_in}
 use Rattle.mpf_plan.specs.Numbering.{HasFound}
-use Rattle.mpf_plan.proofs.Taken.{sections_more, section_collected}
+use Rattle.mpf_plan.proofs.Taken.{section_collected}
 use Rattle.mpf_plan.proofs.numbering.find_names.Goals as goal
 
 pub loop-section-init : goal.loop-section-init

@@ -1,4 +1,4 @@
-use Rattle.std.proofs.Common.{◌≡◌, ℕ, ◌+◌, false, List, [], ◌++◌, length, map, fold, take, drop}
+use Rattle.std.proofs.Common.{map, take}
 use Rattle.mpf_config.specs.View.{section_view}
 use Rattle.mpf_plan.specs.Contributions.{contributions_in}
 use Rattle.mpf_plan.specs.Numbering.{HasFound}

@@ -1,6 +1,6 @@
-use Rattle.std.proofs.Common.{◌≡◌, ℕ, ◌+◌, false, List, [], ◌++◌, length, map, fold, take, drop}
+use Rattle.std.proofs.Common.{◌≡◌, [], map, fold, take}
 use Rattle.mpf_config.specs.View.{section_view}
-use Rattle.mpf_plan.specs.declared.contribution.Role.TheVariants.{Uses, Gives}
+use Rattle.mpf_plan.specs.declared.contribution.Role.TheVariants.{Gives}
 use Rattle.mpf_plan.specs.Contributions.{contributions_in}
 use Rattle.mpf_plan.specs.Uses.{all_names}
 use Rattle.mpf_plan.specs.Inside.{names_of}

@@ -15,7 +15,7 @@ pub returns : goal.returns
 returns c =
     let names = names_of c.args.given.now.keys in
     let text = c.as_slice.ensures.value ∙ c.in_ok-write_name.ensures in
-    let used_is = sym c.name_in.ensures ∙ ap (option_map parts_text) c.in-Some.is in
+    let used_is = sym c.role_name.ensures ∙ ap (option_map parts_text) c.in-Some.is in
     ap not (c.contains-there.ensures ∙ sym (any_keys c.as_slice.result.now c.args.given.now.keys) ∙ ap (λ n. list_any (bytes_eq n) names) text)
     ∙ sym (or_false (is_lacking names (parts_text c.in-Some.name)))
     ∙ sym (ap (λ o. list_any (is_lacking names) (as_list o)) used_is)

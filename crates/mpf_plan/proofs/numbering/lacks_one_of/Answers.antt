@@ -2,7 +2,7 @@ use Rattle.std.proofs.Common.{sym, ◌∙◌, ap}
 use Rattle.std.specs.List.{list_any}
 use Rattle.mpf_plan.specs.declared.contribution.Role.TheVariants.{Uses}
 use Rattle.mpf_plan.specs.Uses.{all_names, is_lacking}
-use Rattle.mpf_plan.specs.Inside.{names_of, contributions_view}
+use Rattle.mpf_plan.specs.Inside.{names_of}
 use Rattle.mpf_plan.proofs.Lacking.{lacking_section}
 use Rattle.mpf_plan.proofs.Taken.{collected}
 use Rattle.mpf_plan.proofs.numbering.lacks_one_of.Goals as goal

@@ -1,7 +1,7 @@
-use Rattle.std.proofs.Common.{◌≡◌, ℕ, ◌+◌, false, List, [], ◌++◌, length, map, fold, take, drop}
+use Rattle.std.proofs.Common.{◌≡◌, false, map, take}
 use Rattle.std.specs.List.{list_any}
 use Rattle.mpf_config.specs.View.{section_view}
-use Rattle.mpf_plan.specs.declared.contribution.Role.TheVariants.{Uses, Gives}
+use Rattle.mpf_plan.specs.declared.contribution.Role.TheVariants.{Uses}
 use Rattle.mpf_plan.specs.Contributions.{contributions_in}
 use Rattle.mpf_plan.specs.Uses.{all_names, is_lacking}
 use Rattle.mpf_plan.specs.Inside.{names_of}

@@ -13,15 +13,15 @@ loop-contribution-preserved c =
     let cs = c.args.contributions.now in
     let i = c.loop-contribution.contribution-index in
     let start = names_of c.args.given.now.keys in
-    elim c.match-name_in.branch [
+    elim c.match-role_name.branch [
       | in-Some+in_ok-write_name+in_ok-insert w ↦
           let name = parts_text w.in-Some.name in
           ap (λ s. names_of s.keys) w.given-is
           ∙ use_inserted c.loop-contribution.given.keys name w.write_name.new.text w.insert.new.self.keys w.in_ok-write_name.ensures w.in_ok-insert.ensures.keys
           ∙ ap (λ ns. with_name ns name) c.loop-contribution.invariant
-          ∙ noted_more cs i _ c.loop-contribution-test.true (Gives c.args.kind) start (Some name) (sym c.name_in.ensures ∙ ap (option_map parts_text) w.in-Some.is)
+          ∙ noted_more cs i _ c.loop-contribution-test.true (Gives c.args.kind) start (Some name) (sym c.role_name.ensures ∙ ap (option_map parts_text) w.in-Some.is)
       | in_default w ↦
           ap (λ s. names_of s.keys) w.given-is
           ∙ c.loop-contribution.invariant
-          ∙ noted_more cs i _ c.loop-contribution-test.true (Gives c.args.kind) start None (sym c.name_in.ensures ∙ ap (option_map parts_text) w.in_default.is)
+          ∙ noted_more cs i _ c.loop-contribution-test.true (Gives c.args.kind) start None (sym c.role_name.ensures ∙ ap (option_map parts_text) w.in_default.is)
     ]

@@ -1,5 +1,5 @@
-use Rattle.std.proofs.Common.{◌≡◌, ℕ, ◌+◌, false, List, [], ◌++◌, length, map, fold, take, drop}
-use Rattle.mpf_plan.specs.declared.contribution.Role.TheVariants.{Uses, Gives}
+use Rattle.std.proofs.Common.{◌≡◌, fold, take}
+use Rattle.mpf_plan.specs.declared.contribution.Role.TheVariants.{Gives}
 use Rattle.mpf_plan.specs.Uses.{all_names}
 use Rattle.mpf_plan.specs.Inside.{contributions_view, names_of}
 use Rattle.mpf_plan.specs.Numbering.{with_name}

@@ -1,4 +1,4 @@
-use Rattle.std.proofs.Common.{◌≡◌, ℕ, ◌+◌, false, List, [], ◌++◌, length, map, fold, take, drop}
+use Rattle.std.proofs.Common.{ℕ, List, fold, take}
 use Rattle.mpf_plan.specs.Uses.{all_names}
 use Rattle.mpf_plan.specs.Inside.{contributions_view}
 use Rattle.mpf_plan.specs.Numbering.{with_name, IsTable}

@@ -1,6 +1,6 @@
-use Rattle.std.proofs.Common.{◌≡◌, ℕ, ◌+◌, false, List, [], ◌++◌, length, map, fold, take, drop}
+use Rattle.std.proofs.Common.{◌≡◌, false, take}
 use Rattle.std.specs.List.{list_any}
-use Rattle.mpf_plan.specs.declared.contribution.Role.TheVariants.{Uses, Gives}
+use Rattle.mpf_plan.specs.declared.contribution.Role.TheVariants.{Uses}
 use Rattle.mpf_plan.specs.Uses.{all_names, is_lacking}
 use Rattle.mpf_plan.specs.Inside.{contributions_view, names_of}
 use Rattle.mpf_plan.proofs.numbering.uses_other.Given as goal

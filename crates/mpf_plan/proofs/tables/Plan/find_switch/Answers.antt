@@ -1,5 +1,4 @@
 use Rattle.std.proofs.Common.{◌≡◌, Some, None, sym, ap, subst, ◌∙◌}
-use Rattle.std.specs.Str.{bytes_eq}
 use Rattle.std.specs.Option.{option_map}
 use Rattle.mpf_plan.specs.PlanView.{switch_named}
 use Rattle.mpf_plan.proofs.Named.{switch_found, switch_within}

@@ -1,4 +1,4 @@
-use Rattle.std.proofs.Common.{◌≡◌, ◌<◌, length, sym, ap, subst, ◌∙◌, arith}
+use Rattle.std.proofs.Common.{length, ap, arith}
 use Rattle.mpf_plan.proofs.Shown.{length-switches}
 use Rattle.mpf_plan.proofs.tables.Plan.switch_count.Goals as goal
 

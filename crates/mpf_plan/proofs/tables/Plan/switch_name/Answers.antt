@@ -1,4 +1,4 @@
-use Rattle.std.proofs.Common.{◌≡◌, ◌<◌, Bool, true, false, length, get_or, refl, sym, ap, subst, ◌∙◌, arith}
+use Rattle.std.proofs.Common.{◌≡◌, ◌<◌, length, get_or, sym, ap, subst, ◌∙◌, arith}
 use Rattle.mpf_plan.specs.PlanView.{PlanView, switch_at}
 use Rattle.mpf_plan.proofs.Shown.{length-switches, name_shown}
 use Rattle.mpf_plan.proofs.tables.Plan.switch_name.Goals as goal

@@ -2,14 +2,14 @@ use Rattle.std.proofs.Common.{sym, ap, ◌∙◌}
 use Rattle.std.specs.Prelude.{unwrap_or}
 use Rattle.std.specs.Str.{bytes_eq}
 use Rattle.std.specs.List.{position}
-use Rattle.mpf_plan.specs.Uses.{number_in}
+use Rattle.mpf_plan.specs.Uses.{number_among}
 use Rattle.mpf_plan.specs.Inside.{names_of}
 use Rattle.mpf_plan.proofs.Places.{position_or_len-map, position-or_len}
-use Rattle.mpf_plan.proofs.numbering.number_in.Goals as goal
+use Rattle.mpf_plan.proofs.numbering.number_among.Goals as goal
 
 pub returns : goal.returns
 returns c =
     let keys = c.args.names.now.keys in
     let text = c.as_slice.ensures.value ∙ c.in_ok-write_name.ensures in
     let place = c.unwrap_or-place.ensures ∙ ap (λ o. unwrap_or o c.len.result) c.get_index_of.ensures.index ∙ ap (unwrap_or (position (λ k. bytes_eq c.as_slice.result.now k.items) keys)) c.len.ensures.len ∙ position-or_len (λ k. bytes_eq c.as_slice.result.now k.items) keys in
-    place ∙ sym (position_or_len-map (λ k. k.items) (bytes_eq c.as_slice.result.now) keys) ∙ ap (number_in (names_of keys)) text
+    place ∙ sym (position_or_len-map (λ k. k.items) (bytes_eq c.as_slice.result.now) keys) ∙ ap (number_among (names_of keys)) text
