@@ -10,7 +10,7 @@ use Rattle.mpf_config.specs.declared.typed.Switch as typed_switches
 use Rattle.mpf_config.specs.declared.typed.EventPlayer as typed_players
 use Rattle.section_tables.specs.View.{entries_view, players_view}
 use Rattle.mpf_config.specs.Rows.{Written, Switch, EventPlayer, Content, entries, players, SectionRows, Note, Rows}
-pub use Rattle.section_tables.specs.View.{name_view, fault_view, FailsRows, GivesRows}
+pub use Rattle.section_tables.specs.View.{name_view, entry_view, player_view, fault_view, FailsRows, GivesRows}
 
 abbrev pub content_view : contents.Content → Content
 content_view (content.Entries es) = entries (entries_view es)

@@ -4,7 +4,8 @@ use Rattle.std.specs.List.{All, flat_map}
 use Rattle.std.proofs.lemmas.List.{append_assoc, append-nil, length_push, length-map}
 use Rattle.std.proofs.lemmas.List.Elements.{All-nil, All-push, All-head, All-tail}
 use Rattle.std.proofs.lemmas.List.Sums.{fold-append}
-use Rattle.mpf_config.specs.Rows.{Switch, EventPlayer, SectionRows, switches, event_player, Rows}
+use Rattle.mpf_config.specs.Rows.{Switch, EventPlayer, SectionRows, Rows}
+use Rattle.mpf_config.specs.Typed.{switches_in, event_players_in}
 use Rattle.mpf_plan.specs.declared.contribution.Aim.TheVariants.{Run}
 use Rattle.mpf_plan.specs.declared.entries.Action.{Action}
 use Rattle.mpf_plan.specs.declared.entries.Action.TheVariants.{Post}
@@ -90,8 +91,12 @@ module _ (names : Names) where
       (few_switches ss (fold (with_contribution names) d (switch_contributions s)) (few_switch s d few))
 
   few_section : (s : SectionRows) (d : DraftView) → AreSectionListsWithin s → Few d → Few (fold (with_contribution names) d (section_contributions machine_place s))
-  few_section (switches entries) d within few = few_switches entries d few
-  few_section (event_player entries) d within few = few_players entries d within few
+  unfolding section_contributions
+  few_section s d within few =
+      let first = flat_map switch_contributions (switches_in s) in
+      let last = flat_map (player_contributions machine_place) (event_players_in s) in
+      subst Few (sym (fold-append (with_contribution names) d first last))
+      (few_players (event_players_in s) (fold (with_contribution names) d first) within.1 (few_switches (switches_in s) d few))
 
   few_sections : (ss : List SectionRows) (d : DraftView) → All AreSectionListsWithin ss → Few d → Few (fold (with_contribution names) d (contributions_in ss))
   few_sections [] d within few = few

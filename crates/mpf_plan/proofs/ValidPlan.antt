@@ -7,7 +7,8 @@ use Rattle.std.proofs.lemmas.List.{get_or-map, length-map}
 use Rattle.std.proofs.lemmas.List.Elements.{All-nil, All-cons, All-head, All-tail, All-append, All-push, All-weaker, All-filter, filter_passes}
 use Rattle.std.proofs.lemmas.Slice.Eq.{bytes_eq-Decides}
 use Rattle.mpf_config.specs.Rows as config
-use Rattle.mpf_config.specs.Rows.{EventPlayer, SectionRows, switches, event_player, Rows}
+use Rattle.mpf_config.specs.Rows.{EventPlayer, SectionRows, Rows}
+use Rattle.mpf_config.specs.Typed.{switches_in, event_players_in}
 use Rattle.mpf_plan.specs.declared.contribution.Aim.TheVariants.{Run}
 use Rattle.mpf_plan.specs.declared.entries.Binding.{Binding}
 use Rattle.mpf_plan.specs.declared.fault.Table.{Table}
@@ -101,8 +102,12 @@ every P each [] = All-nil P
 every P each (x ∷ xs) = All-cons P x xs (each x) (every P each xs)
 
 unranked_section : (s : SectionRows) → All IsUnranked (section_contributions machine_place s)
-unranked_section (switches entries) = All-flat_map IsUnranked switch_contributions entries (every (λ s. All IsUnranked (switch_contributions s)) unranked_switch entries)
-unranked_section (event_player entries) = All-flat_map IsUnranked (player_contributions machine_place) entries (every (λ p. All IsUnranked (player_contributions machine_place p)) unranked_player entries)
+unfolding section_contributions
+unranked_section s =
+    let player = player_contributions machine_place in
+    All-append IsUnranked (flat_map switch_contributions (switches_in s)) (flat_map player (event_players_in s))
+    (All-flat_map IsUnranked switch_contributions (switches_in s) (every (λ x. All IsUnranked (switch_contributions x)) unranked_switch (switches_in s)))
+    (All-flat_map IsUnranked player (event_players_in s) (every (λ p. All IsUnranked (player p)) unranked_player (event_players_in s)))
 
 unranked_sections : (ss : List SectionRows) → All IsUnranked (contributions_in ss)
 unranked_sections [] = All-nil IsUnranked

@@ -3,7 +3,8 @@ use Rattle.std.specs.Prelude.{ℕ, Bool, true, false, List, ◌∷◌, ◌++◌,
 use Rattle.std.specs.List.{flat_map}
 use Rattle.mpf_config.specs.declared.config.Debounce.{Debounce}
 use Rattle.mpf_config.specs.declared.config.Debounce.TheVariants.{Auto, Quick, Normal}
-use Rattle.mpf_config.specs.Rows.{Written, Switch, EventPlayer, SectionRows, switches, event_player, Rows}
+use Rattle.mpf_config.specs.Rows.{Written, Switch, EventPlayer, SectionRows, Rows}
+use Rattle.mpf_config.specs.Typed.{switches_in, event_players_in}
 use Rattle.mpf_plan.specs.declared.entries.SwitchKind.{SwitchKind}
 use Rattle.mpf_plan.specs.declared.entries.Owner.TheVariants.{Machine}
 use Rattle.mpf_plan.specs.declared.contribution.Place.{Place}
@@ -59,9 +60,9 @@ player_contributions place p = binds p.event.text place Run ∷ map post (texts 
 
 -- ---- sections
 
-abbrev pub section_contributions : Place → SectionRows → List Contribution
-section_contributions place (switches entries) = flat_map switch_contributions entries
-section_contributions place (event_player entries) = flat_map (player_contributions place) entries
+-- what a section gives; it has entries of one kind, so that all lists here but one are empty
+unfoldable pub section_contributions : Place → SectionRows → List Contribution
+section_contributions place s = flat_map switch_contributions (switches_in s) ++ flat_map (player_contributions place) (event_players_in s)
 
 -- the machine handles events, at priority 0
 abbrev pub machine_place : Place
