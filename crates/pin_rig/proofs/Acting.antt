@@ -1,9 +1,8 @@
 -- A rig that is held acts on an input that is not refused, and is held again.
-use Rattle.std.proofs.Common.{◌≡◌, ℕ, Ok, [], ◌++◌, List, length, refl, ap, sym, ◌∙◌, subst, arith}
+use Rattle.std.proofs.Common.{◌≡◌, ℕ, Ok, ◌++◌, List, length, refl, ap, sym, ◌∙◌, subst, arith}
 use Rattle.std.proofs.lemmas.List.{length-map}
 use Rattle.mpf_plan.specs.PlanView.{PlanView}
 use Rattle.mpf_plan.specs.declared.entries.SwitchKind.{SwitchKind}
-use Rattle.config_checker.specs.declared.line.Line.{Line}
 use Rattle.config_checker.specs.Machine.{Machine}
 use Rattle.config_checker.specs.EventStep.{EventSteps}
 use Rattle.config_checker.specs.PlanOrder.{plan_steps}
@@ -15,7 +14,7 @@ use Rattle.config_checker.proofs.PlanSteps.{settled-steps}
 use Rattle.config_checker.proofs.Reached.{reached-next, reached-within, reached-same, reached-kinds, reached-complete}
 use Rattle.pin_rig.specs.declared.input.Input.{Input}
 use Rattle.pin_rig.specs.Core.{CoreView, IsPlayable, HasRoom, StaysWithin, HasSettled, after}
-use Rattle.pin_rig.specs.Rig.{RigView, stimulus_at, IsStep, IsOfRun}
+use Rattle.pin_rig.specs.Rig.{RigView, stimulus_at, IsStep}
 use Rattle.pin_rig.specs.Inside.{IsHeld}
 use Rattle.pin_rig.proofs.Judging.{judged-allowed, judged-asks, AsksFor}
 

@@ -1,5 +1,5 @@
 -- The handlers of an event, one after another.
-use Rattle.std.proofs.Common.{◌≡◌, ℕ, ◌+◌, ◌≤◌, ◌<◌, Bool, Some, None, List, [], ◌∷◌, length, drop, filter, map, ap, sym, ◌∙◌, subst, arith}
+use Rattle.std.proofs.Common.{◌≡◌, ℕ, ◌+◌, ◌≤◌, ◌<◌, Bool, Some, None, List, [], ◌∷◌, length, drop, filter, ap, sym, ◌∙◌, subst, arith}
 use Rattle.std.specs.Prelude.{slice_get, ◌==◌}
 use Rattle.std.specs.List.{range_with_len}
 use Rattle.std.proofs.lemmas.Bool.{cond_both}
@@ -12,7 +12,7 @@ use Rattle.mpf_plan.specs.declared.entries.BindingId.{BindingId}
 use Rattle.mpf_plan.specs.declared.entries.EventId.{EventId}
 use Rattle.mpf_plan.specs.declared.entries.Binding.{Binding}
 use Rattle.event_queue.specs.Handlers.{HandlersView, handlers, runs_at}
-use Rattle.event_queue.specs.PlanOrder.{by_priority, in_order}
+use Rattle.event_queue.specs.PlanOrder.{in_order}
 use Rattle.event_queue.proofs.Sort.{by_priority-permutes}
 use Rattle.config_checker.specs.Machine.{all_do, do_binding, do_handler}
 use Rattle.config_checker.proofs.Growth.{handler-grows}
