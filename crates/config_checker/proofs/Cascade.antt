@@ -12,7 +12,8 @@ use Rattle.config_checker.specs.declared.line.Line.{Line}
 use Rattle.config_checker.specs.declared.line.Happening.TheVariants as lines
 use Rattle.cascade_rank.specs.Cost.{Cost, price, cost_of_acceptance}
 use Rattle.cascade_rank.specs.Weights.{IsFitting, bound_of}
-use Rattle.cascade_rank.proofs.Within.{IsBelow, IsBelow-acceptance}
+use Rattle.cascade_rank.specs.Below.{IsBelow}
+use Rattle.cascade_rank.proofs.Within.{IsBelow-acceptance}
 use Rattle.cascade_rank.proofs.Switches.{acceptance-within_bound}
 use Rattle.event_queue.specs.declared.queue.Posted.{Posted}
 use Rattle.event_queue.specs.PlanOrder.{by_priority}

@@ -12,10 +12,10 @@ use Rattle.cascade_rank.specs.Cost.{Cost, Lines, Both, Greater, price, each_of, 
 use Rattle.event_queue.specs.declared.queue.Posted.{Posted}
 use Rattle.config_checker.specs.Machine.{Machine, write, post, set_switches, all_do}
 use Rattle.config_checker.specs.GoodRun.{weigh}
-use Rattle.cascade_rank.proofs.Within.{IsBelow}
+use Rattle.cascade_rank.specs.Below.{IsBelow}
 
--- From one state to another by changes that cost at most this. A new kind of change is a new constructor here, and a line in
--- each lemma below.
+-- From one state to another by changes that cost at most this. A new kind of change is a new constructor here, and a
+-- line in each lemma below.
 pub data Does : Cost → Machine → Machine → Type 0 where
   quiet : {c : Cost} {s : Machine} → Does c s s
   wrote : (owner : Owner) (what : Happening) (s : Machine) → Does (Lines 1) s (write owner what s)

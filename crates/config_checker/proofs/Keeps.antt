@@ -5,7 +5,7 @@ use Rattle.mpf_plan.specs.Valid.{IsValid}
 use Rattle.config_checker.specs.declared.line.Line.{Line}
 use Rattle.config_checker.specs.declared.line.Happening.TheVariants as lines
 use Rattle.cascade_rank.specs.Cost.{Cost}
-use Rattle.cascade_rank.proofs.Within.{IsBelow}
+use Rattle.cascade_rank.specs.Below.{IsBelow}
 use Rattle.event_queue.specs.declared.queue.Posted.{Posted}
 use Rattle.config_checker.specs.Machine.{Machine}
 use Rattle.config_checker.specs.EventStep.{handled_in, EventStep, EventSteps}

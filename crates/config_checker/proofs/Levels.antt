@@ -1,4 +1,5 @@
--- The stimuli of a run are calls of the switches. So what is accepted after every list of calls is accepted in every run.
+-- The stimuli of a run are calls of the switches. So what is accepted after every list of calls is accepted in every
+-- run.
 use Rattle.std.proofs.Common.{◌≡◌, ℕ, ◌≤◌, ◌<◌, List, [], ◌∷◌, length, ap, sym, ◌∙◌, subst, arith}
 use Rattle.mpf_plan.specs.PlanView.{PlanView, switch_at}
 use Rattle.mpf_plan.specs.declared.entries.SwitchId.{SwitchId}

@@ -12,7 +12,8 @@ use Rattle.mpf_plan.proofs.BoundTo.{places_of-bound, places_of-within}
 use Rattle.cascade_rank.specs.Cost.{Cost, price, each_of, cost_of_binding}
 use Rattle.cascade_rank.specs.Weights.{need}
 use Rattle.cascade_rank.proofs.Prices.{price-each_sum}
-use Rattle.cascade_rank.proofs.Within.{IsBelow, each_below, IsBelow-binding}
+use Rattle.cascade_rank.specs.Below.{IsBelow}
+use Rattle.cascade_rank.proofs.Within.{each_below, IsBelow-binding}
 use Rattle.event_queue.specs.declared.queue.Posted.{Posted}
 use Rattle.event_queue.specs.Handlers.{takes_part, handlers, IsHandlerOrder}
 use Rattle.event_queue.specs.PlanOrder.{by_priority}

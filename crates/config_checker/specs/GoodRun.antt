@@ -24,7 +24,8 @@ cost_if_accepted plan (Some a) = cost_of_acceptance plan a.switch a.active
 abbrev pub cost_of_alarm : PlanView → Machine → Source → Cost
 cost_of_alarm plan s (switch n) = cost_of_acceptance plan n (told (accept n s.switches) n).active
 
--- What a stimulus costs: a change costs the acceptance of the switch where it is accepted at once, else nothing. A wait costs nothing.
+-- What a stimulus costs: a change costs the acceptance of the switch where it is accepted at once, else nothing.
+-- A wait costs nothing.
 abbrev pub cost_of_stimulus : PlanView → Machine → Stimulus → Cost
 cost_of_stimulus plan s (Change at n level) = cost_if_accepted plan (told_by_change n level at s.switches)
 cost_of_stimulus plan s (Alarm at source) = cost_of_alarm plan s source

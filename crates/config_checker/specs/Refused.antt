@@ -28,8 +28,8 @@ IsLimitFault rows (certificate fault) = ⊥
 
 -- ---- with the least weights
 
--- The fault says what is wrong with the rows: a table of their plan is above its limit, its events lead to each other, or
--- its least weights or their bound are above the limit.
+-- The fault says what is wrong with the rows: a table of their plan is above its limit, its events lead to each other,
+-- or its least weights or their bound are above the limit.
 abbrev pub IsFaultOf : Rows → FaultView → Type 0
 IsFaultOf rows (limit t) = IsExceeded rows t
 IsFaultOf rows (cycle names) = IsCycleOf (plan_of rows) names
@@ -85,7 +85,8 @@ IsFaultWith rows text (cycle names) = ⊥
 IsFaultWith rows text bound = HasTooMuch (plan_of rows) text
 IsFaultWith rows text (certificate fault) = IsCertificateFault (plan_of rows) text fault
 
--- A report lists all faults of the rows. Where they have none, it lists one fault that is there: of their plan or of the certificate.
+-- A report lists all faults of the rows. Where they have none, it lists one fault that is there: of their plan or of
+-- the certificate.
 abbrev pub IsReport : (FaultView → Type 0) → List FaultView → List FaultView → Type 0
 IsReport there [] faults = (fault : FaultView) × (faults ≡ fault ∷ []) × there fault
 IsReport there (own ∷ more) faults = faults ≡ own ∷ more

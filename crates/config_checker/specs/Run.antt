@@ -76,8 +76,9 @@ begin plan (Wait at) s = arrived at s
 
 -- ---- runs
 
--- Each stimulus comes with a number: how many event steps follow it. The next one comes only once nothing waits, so that a run
--- may stop in mid-cascade only at its end. In the trace the lines of each stimulus come after those of the one before it.
+-- Each stimulus comes with a number: how many event steps follow it. The next one comes only once nothing waits, so that
+-- a run may stop in mid-cascade only at its end. In the trace the lines of each stimulus come after those of the one
+-- before it.
 abbrev pub IsRun : PlanView → List (Stimulus × ℕ) → Machine → List Line → Machine → Type 0
 IsRun plan [] old trace new = (trace ≡ []) × (new ≡ old)
 IsRun plan ((stimulus, n) ∷ more) old trace new =
@@ -88,7 +89,8 @@ IsRun plan ((stimulus, n) ∷ more) old trace new =
 abbrev pub InEveryRun : PlanView → (List (Stimulus × ℕ) → List Line → Machine → Type 0) → Type 0
 InEveryRun plan P = (stimuli : List (Stimulus × ℕ)) (trace : List Line) (s : Machine) → IsRun plan stimuli (initial plan) trace s → P stimuli trace s
 
--- this holds after every stimulus of every run: of the state before it, the stimulus, how many event steps followed it, and the state then
+-- this holds after every stimulus of every run: of the state before it, the stimulus, how many event steps followed it,
+-- and the state then
 abbrev pub InEveryCascade : PlanView → (Machine → Stimulus → ℕ → Machine → Type 0) → Type 0
 InEveryCascade plan P =
     InEveryRun plan (λ stimuli trace s. s.waiting ≡ [] → (stimulus : Stimulus) → IsAllowed plan s stimulus →

@@ -5,8 +5,9 @@ ghost use Rattle.config_checker.specs.AlarmsEnd.{StimuliArmLater, AlarmsAreDone,
 ghost use Rattle.config_checker.specs.ReadAgain.{FoundIsReadAgain, GivenIsReadAgain, ReadIsReadAgain};
 
 /// The law of certificates, for all rows. Where `check` accepts them, and the name of every event
-/// of their plan is a word (not empty, and without blanks and line ends), `check_with` accepts them with the text that `write_certificate` writes, and gives the same weights and the
-/// same bound. And so it does where `check_with` accepted them, whatever the names.
+/// of their plan is a word (not empty, and without blanks and line ends), `check_with` accepts them
+/// with the text that `write_certificate` writes, and gives the same weights and the same bound. And
+/// so it does where `check_with` accepted them, whatever the names.
 ///
 /// Of rows that were read from a bundle nothing is asked: the names of their plan's events are
 /// words. So all such rows that `check` accepts, `check_with` accepts again.

@@ -2,7 +2,7 @@ use Rattle.std.proofs.Common.{Err, sym, ◌∙◌}
 use Rattle.std.proofs.lemmas.Bool.{cond-true, cond-false}
 use Rattle.config_checker.specs.CertificateOf.{is_heading, parts, bound_at}
 use Rattle.config_checker.proofs.CertificateLines.{no_heading, heading_first}
-use Rattle.config_checker.proofs.certificate_reader.behind_heading.Goals as goal
+use Rattle.config_checker.proofs.certificate_reader.after_heading.Goals as goal
 
 pub returns-in_err-line : goal.returns-in_err-line
 returns-in_err-line c = rw c.from_residual.ensures (no_heading c.args.text.now c.in_err-line.ensures.lines)
