@@ -13,7 +13,7 @@ use Rattle.config_checker.specs.AlarmsBy.{alarms_by, state_after}
 use Rattle.config_checker.specs.CheckedView.{CheckedView}
 use Rattle.config_checker.specs.Accepted.{IsAccepted}
 use Rattle.config_checker.specs.PlanOrder.{settled}
-use Rattle.config_checker.proofs.AlarmsEnd.{alarms-end}
+use Rattle.config_checker.proofs.AlarmsEnd.{alarms_by-none, alarms_by-more, alarms_by-all}
 use Rattle.config_checker.proofs.Cascade.{every_run_is_good}
 use Rattle.config_checker.proofs.PlanSteps.{settled-run, settled-idle, settled-steps}
 use Rattle.pin_rig.specs.declared.input.StepFault.{StepFault}
@@ -25,7 +25,7 @@ use Rattle.pinball_shell.specs.LogText as says
 use Rattle.pinball_shell.specs.RunOfLog.{if_admitted, change_of, given_by_line, lines_of, all_alarms_by, with_alarms, Printed, Traced, Refused, printed_for_line, after_line, printed_for_lines, printed_for_log, traced}
 use Rattle.pinball_shell.specs.RunGiven.{given_of, given_by_lines, without_alarms, IsRunOfLog}
 use Rattle.pinball_shell.proofs.FirstPlace.{place_some}
-use Rattle.pinball_shell.proofs.Alarms.{moment-settled, cases_due, alarm-allowed, AreAll, alarms_by-none, alarms_by-some, all-next}
+use Rattle.pinball_shell.proofs.Alarms.{moment-settled, cases_due, alarm-allowed, AreAll, all-next}
 use Rattle.pinball_shell.proofs.Playing.{state_after-append, lines_of-append}
 
 -- ---- what a line gives comes in time
@@ -206,7 +206,7 @@ module _ (c : CheckedView) (accepted : IsAccepted c) where
             let by = a.by in
             let more = run-alarms until early given k true (trace ++ next.lines) next
             (given-alarm given alarm trace s run a.at a.source (alarm-allowed c.plan s until early a)) (all-next c.plan c.bound until k s a all) (omega (arith, here, by)) in
-            subst (IsRunUntil until given trace s) (sym (alarms_by-some c.plan c.bound until k s a)) (run-more until given trace s (Alarm a.at a.source) (alarms_by c.plan c.bound until k next) more)
+            subst (IsRunUntil until given trace s) (sym (alarms_by-more c.plan c.bound until k s a.at a.source a.next a.by)) (run-more until given trace s (Alarm a.at a.source) (alarms_by c.plan c.bound until k next) more)
       ]
 
   -- a stimulus that a line gives, after the alarms due by its moment
@@ -216,7 +216,7 @@ module _ (c : CheckedView) (accepted : IsAccepted c) where
       let (forward, early) = in_time-early c.plan s.moment stimulus time in
       let until = moment_of stimulus in
       let alarms = all_alarms_by c.plan c.bound until s in
-      let all = alarms-end c.plan c.bound trace s run.reached until in
+      let all = alarms_by-all c.plan c.bound until trace s run.reached in
       let h = run-alarms until early given (most_alarms c.plan until s) false trace s run all forward in
       let there = state_after c.plan c.bound alarms s in
       let next = settled c.plan c.bound stimulus there in

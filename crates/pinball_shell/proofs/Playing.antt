@@ -1,5 +1,5 @@
 -- Stimuli and lines of a log that are played one after another.
-use Rattle.std.proofs.Common.{◌≡◌, ℕ, suc, ◌+◌, ◌<◌, ◌≤◌, Bool, true, false, ◌||◌, cond, Option, Some, None, Result, Ok, Err, List, [], ◌∷◌, ◌++◌, length, map, refl, ap, sym, ◌∙◌, subst, arith, append_assoc, append-nil}
+use Rattle.std.proofs.Common.{◌≡◌, ℕ, ◌+◌, ◌<◌, ◌≤◌, Bool, true, false, ◌||◌, cond, Option, Some, None, Result, Ok, Err, List, [], ◌∷◌, ◌++◌, length, map, refl, ap, sym, ◌∙◌, subst, arith, append_assoc, append-nil}
 use Rattle.std.specs.List.{flat_map, list_any}
 use Rattle.std.specs.Io.KnownBytes.{Appends}
 use Rattle.std.specs.Str.Lines.{lines}
@@ -8,9 +8,11 @@ use Rattle.std.proofs.lemmas.List.Folds.{flat_map-map}
 use Rattle.mpf_plan.specs.PlanView.{PlanView}
 use Rattle.config_checker.specs.declared.line.Line.{Line}
 use Rattle.config_checker.specs.Machine.{Machine}
-use Rattle.config_checker.specs.Run.{IsNothingDueBy, Stimulus, Alarm, moment_of}
-use Rattle.config_checker.specs.AlarmsBy.{alarms_by, state_after}
+use Rattle.config_checker.specs.Run.{IsNothingDueBy, Stimulus, Alarm, moment_of, IsReached}
+use Rattle.config_checker.specs.NextAlarm.{most_alarms}
+use Rattle.config_checker.specs.AlarmsBy.{state_after}
 use Rattle.config_checker.specs.PlanOrder.{settled}
+use Rattle.config_checker.proofs.AlarmsEnd.{alarms_by-none}
 use Rattle.config_checker.proofs.Writing.{written-nil, written-then}
 use Rattle.pinball_shell.specs.declared.fault.Verdict.{Verdict}
 use Rattle.pinball_shell.specs.declared.fault.Verdict.TheVariants as verdicts
@@ -19,7 +21,7 @@ use Rattle.pinball_shell.specs.LogText.{said}
 use Rattle.pinball_shell.specs.RunOfLog.{given_by_line, lines_of, all_alarms_by, with_alarms, Printed, Traced, Refused, printed_for_line, after_line, printed_for_lines}
 use Rattle.pinball_shell.specs.TraceText.{line_text, printed_text, refused_text, is_refused, log_verdict}
 use Rattle.pinball_shell.specs.Played.{worse_of, IsPlayed, text_of, IsLinePlayed, AreLinesPlayed}
-use Rattle.pinball_shell.proofs.Alarms.{moment-settled, ComesBy, AreAll, alarms_by-none, alarms_by-some, all-next, fuel-some, alarms_by-fewer}
+use Rattle.pinball_shell.proofs.Alarms.{moment-settled, ComesBy, all-first, all-fewer}
 
 module _ (plan : PlanView) (bound : ℕ) where
   pub state_after-append : (xs ys : List Stimulus) (s : Machine) → state_after plan bound (xs ++ ys) s ≡ state_after plan bound ys (state_after plan bound xs s)
@@ -54,59 +56,40 @@ module _ (plan : PlanView) (bound : ℕ) where
       }
 
   -- some alarms are played, and those that are left complete them
-  pub record AreAlarmsGoing (until fuel : ℕ) (old now : Machine) (before after : Option (List ℕ)) (all : List Stimulus) : Type 0 where
+  pub record AreAlarmsGoing (until : ℕ) (old now : Machine) (before after : Option (List ℕ)) (all : List Stimulus) : Type 0 where
     pub done : List Stimulus
     pub played : IsPlayed plan bound done old now before after
-    pub left : ℕ
-    pub few : left ≤ fuel
-    pub enough : AreAll plan bound until left now
-    pub whole : done ++ alarms_by plan bound until left now ≡ all
+    pub whole : done ++ all_alarms_by plan bound until now ≡ all
     pub moment : now.moment ≤ until
 
-  pub alarms-start : (until fuel : ℕ) (s : Machine) (a : Option (List ℕ)) → AreAll plan bound until fuel s → s.moment ≤ until → AreAlarmsGoing until fuel s s a a (alarms_by plan bound until fuel s)
-  alarms-start until fuel s a enough forward = record {
-    done = [];
-    played = played-none s a;
-    left = fuel;
-    few = omega arith;
-    enough = enough;
-    whole = refl;
-    moment = forward;
-  }
+  pub alarms-start : (until : ℕ) (s : Machine) (a : Option (List ℕ)) → s.moment ≤ until → AreAlarmsGoing until s s a a (all_alarms_by plan bound until s)
+  alarms-start until s a forward = record { done = []; played = played-none s a; whole = refl; moment = forward }
 
   -- the next alarm is played
-  module _ (until fuel : ℕ) (s t : Machine) (b c : Option (List ℕ)) (next : ComesBy s until) (played : IsPlayed plan bound (Alarm next.at next.source ∷ []) s t b c)
-      (old : Machine) (a : Option (List ℕ)) (all : List Stimulus) (h : AreAlarmsGoing until fuel old s a b all) where
-    pub alarms-fewer : length (alarms_by plan bound until fuel t) < length (alarms_by plan bound until fuel s)
+  module _ (until : ℕ) (trace : List Line) (s t : Machine) (b c : Option (List ℕ)) (reached : IsReached plan trace s) (next : ComesBy s until) (played : IsPlayed plan bound (Alarm next.at next.source ∷ []) s t b c) where
+    pub alarms-fewer : length (all_alarms_by plan bound until t) < length (all_alarms_by plan bound until s)
     alarms-fewer =
-        subst (λ (m : Machine). length (alarms_by plan bound until fuel m) < length (alarms_by plan bound until fuel s)) (sym played.state)
-        (alarms_by-fewer plan bound until h.left fuel h.few s next h.enough)
+        subst (λ (m : Machine). length (all_alarms_by plan bound until m) < length (all_alarms_by plan bound until s)) (sym played.state)
+        (all-fewer plan bound until trace s reached next)
 
-    pub alarms-more : AreAlarmsGoing until fuel old t a c all
-    alarms-more =
+    pub alarms-more : (old : Machine) (a : Option (List ℕ)) (all : List Stimulus) → AreAlarmsGoing until old s a b all → AreAlarmsGoing until old t a c all
+    alarms-more old a all h =
         let alarm = Alarm next.at next.source in
-        let (k, count) = fuel-some plan bound until h.left s next h.enough in
-        let few = h.few in
         let by = next.by in
         let at : t.moment ≡ next.at = ap (λ (m : Machine). m.moment) played.state ∙ moment-settled plan bound alarm s in
-        let going : alarms_by plan bound until h.left s ≡ alarm ∷ alarms_by plan bound until k t =
-        ap (λ (n : ℕ). alarms_by plan bound until n s) count
-        ∙ alarms_by-some plan bound until k s next
-        ∙ ap (λ (m : Machine). alarm ∷ alarms_by plan bound until k m) (sym played.state) in
+        let going : all_alarms_by plan bound until s ≡ alarm ∷ all_alarms_by plan bound until t =
+        all-first plan bound until trace s reached next ∙ ap (λ (m : Machine). alarm ∷ all_alarms_by plan bound until m) (sym played.state) in
         record {
           done = h.done ++ alarm ∷ [];
           played = played-then h.done (alarm ∷ []) old s t a b c h.played played;
-          left = k;
-          few = omega (arith, few, count);
-          enough = subst (AreAll plan bound until k) (sym played.state) (all-next plan bound until k s next (subst (λ (n : ℕ). AreAll plan bound until n s) count h.enough));
-          whole = append_assoc h.done (alarm ∷ []) (alarms_by plan bound until k t) ∙ sym (ap (λ (xs : List Stimulus). h.done ++ xs) going) ∙ h.whole;
+          whole = append_assoc h.done (alarm ∷ []) (all_alarms_by plan bound until t) ∙ sym (ap (λ (xs : List Stimulus). h.done ++ xs) going) ∙ h.whole;
           moment = omega (arith, at, by);
         }
 
   -- no alarm is due any more
-  pub alarms-stop : (until fuel : ℕ) (old s : Machine) (a b : Option (List ℕ)) (all : List Stimulus) → AreAlarmsGoing until fuel old s a b all → IsNothingDueBy s until → IsPlayed plan bound all old s a b
-  alarms-stop until fuel old s a b all h none =
-      let over = alarms_by-none plan bound until h.left s none in
+  pub alarms-stop : (until : ℕ) (old s : Machine) (a b : Option (List ℕ)) (all : List Stimulus) → AreAlarmsGoing until old s a b all → IsNothingDueBy s until → IsPlayed plan bound all old s a b
+  alarms-stop until old s a b all h nothing =
+      let over = alarms_by-none plan bound until (most_alarms plan until s) s nothing in
       let same : h.done ≡ all = sym (append-nil h.done) ∙ sym (ap (λ (xs : List Stimulus). h.done ++ xs) over) ∙ h.whole in
       subst (λ (xs : List Stimulus). IsPlayed plan bound xs old s a b) same h.played
 

@@ -10,14 +10,14 @@ use Rattle.config_checker.specs.AlarmsBy.{alarms_by, state_after}
 use Rattle.config_checker.specs.CheckedView.{CheckedView}
 use Rattle.config_checker.specs.Accepted.{IsAccepted}
 use Rattle.config_checker.specs.PlanOrder.{settled}
-use Rattle.config_checker.proofs.AlarmsEnd.{alarms-end}
+use Rattle.config_checker.proofs.AlarmsEnd.{alarms_by-none, alarms_by-more, alarms_by-all}
 use Rattle.config_checker.proofs.Cascade.{every_run_is_good}
 use Rattle.config_checker.proofs.PlanSteps.{settled-idle, settled-same}
 use Rattle.config_checker.proofs.Reached.{reached-initial, reached-next}
 use Rattle.pinball_shell.specs.declared.refusal.Refusal.{Refusal}
 use Rattle.pinball_shell.specs.LogText.{said}
 use Rattle.pinball_shell.specs.RunOfLog.{given_by_line, lines_of, all_alarms_by, with_alarms, Printed, Traced, printed_for_line, after_line, printed_for_lines, printed_for_log}
-use Rattle.pinball_shell.proofs.Alarms.{moment-settled, cases_due, alarm-allowed, AreAll, alarms_by-none, alarms_by-some, all-next}
+use Rattle.pinball_shell.proofs.Alarms.{moment-settled, cases_due, alarm-allowed, AreAll, all-next}
 use Rattle.pinball_shell.proofs.Playing.{state_after-append, lines_of-append}
 use Rattle.pinball_shell.proofs.LogRuns.{IsInTime, given-in_time, in_time-early, may_come}
 
@@ -86,8 +86,8 @@ module _ (plan : PlanView) (ws vs : List ℕ) (a b : ℕ) where
               let rest = same-alarms until early k there (next-reached s reached alarm allowed) (all-next plan a until k s x all) (omega (arith, here, by)) in
               let one_state = settled-one s reached alarm allowed in
               let both = same-more s alarm (alarms_by plan a until k there) (alarms_by plan b until k there) one_state rest.are in
-              subst (λ (xs : List Stimulus). AreSameUntil until s xs (alarms_by plan b until (suc k) s)) (sym (alarms_by-some plan a until k s x))
-              (subst (AreSameUntil until s (alarm ∷ alarms_by plan a until k there)) (sym (alarms_by-some plan b until k s x))
+              subst (λ (xs : List Stimulus). AreSameUntil until s xs (alarms_by plan b until (suc k) s)) (sym (alarms_by-more plan a until k s x.at x.source x.next x.by))
+              (subst (AreSameUntil until s (alarm ∷ alarms_by plan a until k there)) (sym (alarms_by-more plan b until k s x.at x.source x.next x.by))
               (record {
                 are = subst (λ (m : Machine). AreSame s (alarm ∷ alarms_by plan a until k there) (alarm ∷ alarms_by plan b until k m)) (sym one_state) both;
                 quiet = rest.quiet;
@@ -119,7 +119,7 @@ module _ (plan : PlanView) (ws vs : List ℕ) (a b : ℕ) where
     same-given s (trace, h) stimulus time =
         let (forward, early) = in_time-early plan s.moment stimulus time in
         let until = moment_of stimulus in
-        let alarms = same-alarms until early (most_alarms plan until s) s (trace, h) (alarms-end plan a trace s h until) forward in
+        let alarms = same-alarms until early (most_alarms plan until s) s (trace, h) (alarms_by-all plan a until trace s h) forward in
         same-then s (all_alarms_by plan a until s) (all_alarms_by plan b until s) alarms.are stimulus
         (may_come plan s.moment (state_after plan a (all_alarms_by plan a until s) s) stimulus time alarms.moment alarms.quiet)
 

@@ -4,10 +4,9 @@ use Rattle.mpf_plan.specs.PlanView.{PlanView}
 use Rattle.config_checker.specs.CheckedView.{CheckedView}
 use Rattle.config_checker.specs.Accepted.{IsAccepted}
 use Rattle.config_checker.specs.Machine.{Machine}
-use Rattle.config_checker.specs.Run.{Stimulus, Change, Alarm, Wait, moment_of}
-use Rattle.config_checker.specs.NextAlarm.{is_due_by, most_alarms}
+use Rattle.config_checker.specs.Run.{Stimulus, Change, Alarm, Wait, moment_of, IsReached}
+use Rattle.config_checker.specs.NextAlarm.{is_due_by}
 use Rattle.config_checker.proofs.NextAlarms.{not_due-nothing}
-use Rattle.config_checker.proofs.AlarmsEnd.{alarms-end}
 use Rattle.pin_rig.specs.declared.input.Input.{Input}
 use Rattle.pin_rig.specs.declared.input.Input.TheVariants as inputs
 use Rattle.pin_rig.specs.declared.input.StepFault.{StepFault}
@@ -20,7 +19,7 @@ use Rattle.pinball_shell.specs.declared.refusal.Refusal.{Refusal}
 use Rattle.pinball_shell.specs.LogText.{Said, said}
 use Rattle.pinball_shell.specs.RunOfLog.{given_by_line}
 use Rattle.pinball_shell.specs.Played.{input_of, GivesInput, IsPlayed, IsRigOf, IsInputPlayed, AreAlarmsPlayed, IsLinePlayed}
-use Rattle.pinball_shell.proofs.Alarms.{ComesBy, alarm-taken, AreAll}
+use Rattle.pinball_shell.proofs.Alarms.{ComesBy, alarm-taken}
 use Rattle.pinball_shell.proofs.LogRuns.{IsInTime, given-in_time, in_time-early, may_come}
 use Rattle.pinball_shell.proofs.Playing.{line-played}
 
@@ -56,11 +55,9 @@ pub line-same : (plan : PlanView) (old now : RigView) → now.checked ≡ old.ch
     → IsLinePlayed plan now.checked.bound number line now.machine t a b v → IsLinePlayed plan old.checked.bound number line now.machine t a b v
 line-same plan old now is number line t a b v = subst (λ (c : CheckedView). IsLinePlayed plan c.bound number line now.machine t a b v) is
 
--- all alarms that come by a moment, on a rig to which a run of its plan led
-pub rig-all : (plan : PlanView) (rig : RigView) → IsRigOf plan rig → IsOfRun rig → (until : ℕ) → AreAll plan rig.checked.bound until (most_alarms plan until rig.machine) rig.machine
-rig-all plan rig h (trace, reached) until =
-    subst (λ (p : PlanView). AreAll p rig.checked.bound until (most_alarms p until rig.machine) rig.machine) h.plan_is
-    (alarms-end rig.checked.plan rig.checked.bound trace rig.machine reached until)
+-- a run of the plan leads to a state of the rig
+pub reached-of : (plan : PlanView) (first now : RigView) → IsRigOf plan first → now.checked ≡ first.checked → (held : IsOfRun now) → IsReached plan held.0 now.machine
+reached-of plan first now h is held = subst (λ (p : PlanView). IsReached p held.0 now.machine) (ap (λ (c : CheckedView). c.plan) is ∙ h.plan_is) held.1
 
 -- an input whose stimulus is known plays that
 pub known-played : (plan : PlanView) (bound : ℕ) (input : Input) (old new : RigView) (a b : Option (List ℕ)) (stimulus : Stimulus) → old.checked.bound ≡ bound → stimulus_at old input ≡ Ok stimulus

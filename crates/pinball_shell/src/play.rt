@@ -166,7 +166,6 @@ fn play_alarms<W: Write>(
     requires until { until < 2 ^ 40 }
     requires forward { rig.old.machine.moment ≤ until }
     requires rig { IsRigOf plan.now rig.old }
-    requires reached { IsOfRun rig.old }
     ensures { OnOk result (AreAlarmsPlayed plan.now until rig.old rig.new (W.contents writer.old) (W.contents writer.new)) }
 {
     while has_alarm_by(rig, until) {
@@ -177,7 +176,8 @@ fn play_alarms<W: Write>(
 
 /// Whether an alarm is due at or before a moment.
 fn has_alarm_by(rig: &Rig<'_>, until: u64) -> bool
-    ensures { result ≡ is_due_by until rig.now.machine }
+    ensures due { result ≡ is_due_by until rig.now.machine }
+    ensures reached { IsOfRun rig.now }
 {
     match rig.next_due() {
         None => false,

@@ -1,6 +1,4 @@
 use Rattle.std.proofs.Common.{◌≡◌, length}
-use Rattle.config_checker.specs.NextAlarm.{most_alarms}
-use Rattle.config_checker.specs.AlarmsBy.{alarms_by}
 use Rattle.pinball_shell.specs.RunOfLog.{all_alarms_by}
 use Rattle.pinball_shell.proofs.Playing.{AreAlarmsGoing}
 use Rattle.pinball_shell.proofs.play.play_alarms.Given as goal
@@ -8,10 +6,10 @@ use Rattle.pinball_shell.proofs.play.play_alarms.Given as goal
 -- the alarms that are left complete those that were played
 abbrev pub invariant-loop-rig : goal.invariant-loop-rig
 invariant-loop-rig g l =
-    AreAlarmsGoing l.plan l.fn.rig.checked.bound l.until (most_alarms l.plan l.until l.fn.rig.machine) l.fn.rig.machine l.rig.machine (g.W.Write.contents l.fn.writer) (g.W.Write.contents l.writer)
+    AreAlarmsGoing l.plan l.fn.rig.checked.bound l.until l.fn.rig.machine l.rig.machine (g.W.Write.contents l.fn.writer) (g.W.Write.contents l.writer)
     (all_alarms_by l.plan l.fn.rig.checked.bound l.until l.fn.rig.machine)
     × (l.rig.checked ≡ l.fn.rig.checked)
 
 -- how many are left
 abbrev pub decreases-loop-rig : goal.decreases-loop-rig
-decreases-loop-rig g l = length (alarms_by l.plan l.fn.rig.checked.bound l.until (most_alarms l.plan l.until l.fn.rig.machine) l.rig.machine)
+decreases-loop-rig g l = length (all_alarms_by l.plan l.fn.rig.checked.bound l.until l.rig.machine)
