@@ -1,10 +1,10 @@
 //! Small configurations that are checked, from their rows to the texts.
 
-use crate::rows::{config, fan, name, names, one_switch, silent_entries, small_config, switch_row};
+use crate::rows::{SwitchRow, config, fan, name, names, one_switch, silent_entries, small_config, switch_row};
 use config_checker::{
     CertificateFault, Checked, Fault, Report, check, write_certificate, write_report,
 };
-use mpf_config::config::{Config, Contact, Debounce, SwitchRow};
+use mpf_config::config::{Config, Contact, Debounce};
 use mpf_plan::EventId;
 use std::alloc::{AllocError, Global};
 use std::io::{self, ErrorKind, Write};

@@ -1,7 +1,10 @@
 //! Small configurations, drawn at random.
 
-use crate::rows::{config_of, name, switch_row};
-use mpf_config::config::{Config, EventPlayerRow, Name, Section, SwitchRow};
+use crate::rows::{
+    PlayerRow, SwitchRow, config_of, name, player_section, switch_row, switch_section,
+};
+use mpf_config::Name;
+use mpf_config::config::{Config, Section};
 use std::alloc::{AllocError, Global};
 
 /// Numbers that look random and are the same in each run.
@@ -114,11 +117,11 @@ fn draw_player(
     draws: &mut Draws,
     shape: Shape,
     before: usize,
-) -> Result<EventPlayerRow, AllocError> {
+) -> Result<PlayerRow, AllocError> {
     let drawn = draws.next();
     let from = place_of(shape, if shape.dense { before } else { drawn });
     let count = draws.below(5).max(if shape.dense { 3 } else { 0 });
-    Ok(EventPlayerRow {
+    Ok(PlayerRow {
         event: name_at(alloc, from)?,
         posts: draw_posts(alloc, draws, shape, from, count)?,
     })
@@ -130,7 +133,7 @@ fn draw_players(alloc: Global, draws: &mut Draws, shape: Shape) -> Result<Sectio
     for before in 0..draws.below(15).max(fewest) {
         rows.push(draw_player(alloc, draws, shape, before)?)?;
     }
-    Ok(Section::EventPlayer(rows))
+    player_section(alloc, rows)
 }
 
 fn draw_switch(
@@ -153,7 +156,7 @@ fn draw_switches(alloc: Global, draws: &mut Draws, shape: Shape) -> Result<Secti
     for text in ["x", "y"].iter().take(shape.switches) {
         rows.push(draw_switch(alloc, draws, shape, text)?)?;
     }
-    Ok(Section::Switches(rows))
+    switch_section(alloc, rows)
 }
 
 /// Either section can be the first.

@@ -1,6 +1,7 @@
 //! What the rows of a configuration post, by number.
 
-use mpf_config::config::{Config, EventPlayerRow, Name, Section, SwitchRow};
+use mpf_config::config::{Config, Section};
+use mpf_config::{Name, as_event_player, as_switch};
 use mpf_plan::Plan;
 use std::alloc::{AllocError, Global};
 
@@ -46,10 +47,11 @@ fn add_posts(
 fn add_players(
     posts: &mut Vec<Post>,
     plan: &Plan,
-    rows: &[EventPlayerRow],
+    section: &Section,
 ) -> Result<(), AllocError> {
-    for row in rows {
-        add_posts(posts, plan, number_of(plan, &row.event.text), &row.posts)?;
+    for player in section.event_players() {
+        let row = as_event_player(player);
+        add_posts(posts, plan, number_of(plan, row.event.text), row.posts)?;
     }
     Ok(())
 }
@@ -77,12 +79,13 @@ fn add_switches(
     alloc: Global,
     stimuli: &mut Vec<Post>,
     plan: &Plan,
-    rows: &[SwitchRow],
+    section: &Section,
 ) -> Result<(), AllocError> {
-    for row in rows {
+    for entry in section.switches() {
+        let row = as_switch(entry);
         let text = row.name.text.as_slice();
-        add_stimulus(alloc, stimuli, plan, text, b"_active", &row.activated)?;
-        add_stimulus(alloc, stimuli, plan, text, b"_inactive", &row.deactivated)?;
+        add_stimulus(alloc, stimuli, plan, text, b"_active", row.activated)?;
+        add_stimulus(alloc, stimuli, plan, text, b"_inactive", row.deactivated)?;
     }
     Ok(())
 }
@@ -92,10 +95,8 @@ pub fn graph_of(alloc: Global, plan: &Plan, config: &Config) -> Result<Graph, Al
     let mut posts = Vec::new(alloc);
     let mut stimuli = Vec::new(alloc);
     for section in &config.machine.sections {
-        match section {
-            Section::Switches(rows) => add_switches(alloc, &mut stimuli, plan, rows)?,
-            Section::EventPlayer(rows) => add_players(&mut posts, plan, rows)?,
-        }
+        add_switches(alloc, &mut stimuli, plan, section)?;
+        add_players(&mut posts, plan, section)?;
     }
     Ok(Graph {
         events: plan.event_count(),

@@ -2,8 +2,8 @@
 
 ghost use Rattle.std.specs.Prelude.{◌≡◌, ◌<◌, ◌^◌, length, IfOk};
 
-use crate::rows::{config, name, switch_row};
-use mpf_config::config::{Contact, Debounce, SwitchRow};
+use crate::rows::{SwitchRow, config, name, switch_row};
+use mpf_config::config::{Contact, Debounce};
 use mpf_plan::{Plan, SwitchId, plan};
 use std::alloc::Global;
 use std::test::Fail;

@@ -1,11 +1,12 @@
 //! Plans of small configurations, and the limits of their tables.
 
 use crate::rows::{
-    config, config_of, name, names, numbered, numbers_in, plan_of, players, silent_entries,
-    switch_row, switch_rows,
+    PlayerRow, SwitchRow, config, config_of, name, names, numbered, numbers_in, plan_of,
+    player_section, players, silent_entries, switch_row, switch_rows, switch_section,
 };
 use crate::shown::{name_of, names_of};
-use mpf_config::config::{Config, Contact, Debounce, EventPlayerRow, Name, Section, SwitchRow};
+use mpf_config::Name;
+use mpf_config::config::{Config, Contact, Debounce};
 use mpf_plan::{
     Action, Binding, BindingId, EventId, ListId, Owner, Plan, SwitchId, SwitchKind, Target, plan,
 };
@@ -39,8 +40,8 @@ fn by_hand(alloc: Global) -> Result<Plan, Fail> {
     let entries = players(alloc, "s_left_active: a b a\nb: c")?;
     let switches = switch_rows(alloc, names(alloc, "s_left s_right")?)?;
     let mut sections = Vec::new(alloc);
-    sections.push(Section::EventPlayer(entries))?;
-    sections.push(Section::Switches(switches))?;
+    sections.push(player_section(alloc, entries)?)?;
+    sections.push(switch_section(alloc, switches)?)?;
     Ok(plan(alloc, &config_of(alloc, sections))?)
 }
 
@@ -200,7 +201,7 @@ fn sized(alloc: Global, sizes: &str) -> Result<Config, Fail> {
         return Err("not three sizes".into());
     };
     let mut rows = Vec::new(alloc);
-    rows.push(EventPlayerRow {
+    rows.push(PlayerRow {
         event: name(alloc, "e")?,
         posts: numbered(alloc, "p", *posts)?,
     })?;

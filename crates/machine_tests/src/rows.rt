@@ -1,11 +1,77 @@
 //! Rows of a configuration, and numbers, from short texts.
 
-use mpf_config::config::{
-    Config, Contact, Debounce, EventPlayerRow, MachineText, Name, Section, SwitchRow,
-};
+use mpf_config::config::{Config, Contact, Content, Debounce, MachineText, Section};
+use mpf_config::{Entry, Name, Plain, Player, Value};
 use mpf_plan::{Plan, plan};
 use std::alloc::{AllocError, Global};
 use std::test::Fail;
+
+/// An entry of `switches`, by its settings.
+#[derive(Drop)]
+pub struct SwitchRow {
+    pub name: Name,
+    pub contact: Contact,
+    pub debounce: Debounce,
+    pub tags: Vec<Name>,
+    pub activated: Vec<Name>,
+    pub deactivated: Vec<Name>,
+}
+
+/// An entry of `event_player`.
+#[derive(Drop)]
+pub struct PlayerRow {
+    pub event: Name,
+    pub posts: Vec<Name>,
+}
+
+fn word(word: &'static [u8]) -> Value {
+    Value::One(Plain::Word(word))
+}
+
+/// The section `switches` with these entries.
+pub fn switch_section(alloc: Global, rows: Vec<SwitchRow>) -> Result<Section, AllocError> {
+    let mut entries = Vec::new(alloc);
+    for row in rows {
+        let contact = match row.contact {
+            Contact::NormallyOpen => word(b"NO"),
+            Contact::NormallyClosed => word(b"NC"),
+        };
+        let debounce = match row.debounce {
+            Debounce::Auto => word(b"auto"),
+            Debounce::Quick => word(b"quick"),
+            Debounce::Normal => word(b"normal"),
+        };
+        let mut values = Vec::new(alloc);
+        values.push(contact)?;
+        values.push(debounce)?;
+        values.push(Value::Names(row.tags))?;
+        values.push(Value::Posts(row.activated))?;
+        values.push(Value::Posts(row.deactivated))?;
+        entries.push(Entry {
+            name: row.name,
+            values,
+        })?;
+    }
+    Ok(Section {
+        name: Vec::from_slice(alloc, b"switches")?,
+        content: Content::Entries(entries),
+    })
+}
+
+/// The section `event_player` with these entries.
+pub fn player_section(alloc: Global, rows: Vec<PlayerRow>) -> Result<Section, AllocError> {
+    let mut players = Vec::new(alloc);
+    for row in rows {
+        players.push(Player {
+            event: Plain::Name(Box::new(alloc, row.event)?),
+            value: Value::Posts(row.posts),
+        })?;
+    }
+    Ok(Section {
+        name: Vec::from_slice(alloc, b"event_player")?,
+        content: Content::Players(players),
+    })
+}
 
 pub fn name(alloc: Global, text: &str) -> Result<Name, AllocError> {
     Ok(Name {
@@ -34,11 +100,11 @@ pub fn numbered(alloc: Global, word: &str, count: u64) -> Result<Vec<Name>, Allo
 }
 
 /// The entries of `event_player` that a text has, one a line: an event, `:` and what it posts.
-pub fn players(alloc: Global, text: &str) -> Result<Vec<EventPlayerRow>, Fail> {
+pub fn players(alloc: Global, text: &str) -> Result<Vec<PlayerRow>, Fail> {
     let mut rows = Vec::new(alloc);
     for line in text.lines() {
         let (event, posts) = line.split_once(':').ok_or("an entry")?;
-        rows.push(EventPlayerRow {
+        rows.push(PlayerRow {
             event: name(alloc, event)?,
             posts: names(alloc, posts)?,
         })?;
@@ -52,13 +118,13 @@ pub fn fan(
     event: &str,
     post: &str,
     count: u32,
-) -> Result<Vec<EventPlayerRow>, AllocError> {
+) -> Result<Vec<PlayerRow>, AllocError> {
     let mut posts = Vec::new(alloc);
     for _ in 0..count {
         posts.push(name(alloc, post)?)?;
     }
     let mut rows = Vec::new(alloc);
-    rows.push(EventPlayerRow {
+    rows.push(PlayerRow {
         event: name(alloc, event)?,
         posts,
     })?;
@@ -70,10 +136,10 @@ pub fn silent_entries(
     alloc: Global,
     event: &str,
     count: u64,
-) -> Result<Vec<EventPlayerRow>, AllocError> {
+) -> Result<Vec<PlayerRow>, AllocError> {
     let mut rows = Vec::new(alloc);
     for _ in 0..count {
-        rows.push(EventPlayerRow {
+        rows.push(PlayerRow {
             event: name(alloc, event)?,
             posts: Vec::new(alloc),
         })?;
@@ -112,11 +178,11 @@ pub fn config_of(alloc: Global, sections: Vec<Section>) -> Config {
 pub fn config(
     alloc: Global,
     switches: Vec<SwitchRow>,
-    players: Vec<EventPlayerRow>,
+    players: Vec<PlayerRow>,
 ) -> Result<Config, AllocError> {
     let mut sections = Vec::new(alloc);
-    sections.push(Section::Switches(switches))?;
-    sections.push(Section::EventPlayer(players))?;
+    sections.push(switch_section(alloc, switches)?)?;
+    sections.push(player_section(alloc, players)?)?;
     Ok(config_of(alloc, sections))
 }
 

@@ -1,9 +1,9 @@
 //! A machine by hand, one input at a time.
 
-use crate::rows::{config, name, numbers_in, players, switch_row};
+use crate::rows::{SwitchRow, config, name, numbers_in, players, switch_row};
 use crate::shown::name_of;
 use config_checker::{Checked, Happening, Line, Report, check};
-use mpf_config::config::{Debounce, SwitchRow};
+use mpf_config::config::Debounce;
 use mpf_plan::{Plan, SwitchId};
 use pin_rig::{Input, Rig, check_moment};
 use std::alloc::{AllocError, Global};

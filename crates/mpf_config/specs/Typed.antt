@@ -1,15 +1,28 @@
 -- The entries of sections, by the names of their settings.
-use Rattle.std.specs.Prelude.{ℕ, if◌then◌else◌, List, [], map, Option, Some, slice_get, codes}
+use Rattle.std.specs.Prelude.{ℕ, if◌then◌else◌, List, [], map, Option, Some, None, slice_get, codes}
 use Rattle.std.specs.Str.{bytes_eq}
 use Rattle.mpf_config.specs.declared.config.Contact.{Contact}
 use Rattle.mpf_config.specs.declared.config.Contact.TheVariants.{NormallyOpen, NormallyClosed}
 use Rattle.mpf_config.specs.declared.config.Debounce.{Debounce}
 use Rattle.mpf_config.specs.declared.config.Debounce.TheVariants.{Auto, Quick, Normal}
 use Rattle.section_tables.specs.Rows.{Written, Plain, word, name, event, Value, one, names, posts, Entry, Player}
+use Rattle.section_tables.specs.Kinds.{Setting}
+use Rattle.section_tables.specs.Tables.{found_in, setting_key}
+use Rattle.section_tables.specs.SectionTables as tables
 use Rattle.section_tables.specs.Entries.{written_at}
 use Rattle.mpf_config.specs.Rows.{Switch, EventPlayer, Content, entries, players, SectionRows}
 
--- ---- values, as their tables say they are; the last line of each is met by no row that is read
+-- ---- values
+
+-- the value of a setting, by its key, in a row of this table
+abbrev pub value_in : Option (ℕ × Setting) → List Value → Option Value
+value_in None row = None
+value_in (Some found) row = slice_get row found.0
+
+abbrev pub setting_of : List Setting → List ℕ → List Value → Option Value
+setting_of table key row = value_in (found_in setting_key key table) row
+
+-- values of the kinds that their tables say; the last line of each is for rows that no table gives
 
 abbrev pub names_of : Option Value → List Written
 names_of (Some (names xs)) = xs
@@ -42,11 +55,11 @@ debounce_of w = if bytes_eq w (codes "quick") then Quick else (if bytes_eq w (co
 unfoldable pub switch_of : Entry → Switch
 switch_of e = record {
   name = e.name;
-  contact = contact_of (word_of (slice_get e.values 0));
-  debounce = debounce_of (word_of (slice_get e.values 1));
-  tags = names_of (slice_get e.values 2);
-  activated = posts_of (slice_get e.values 3);
-  deactivated = posts_of (slice_get e.values 4);
+  contact = contact_of (word_of (setting_of tables.switches (codes "type") e.values));
+  debounce = debounce_of (word_of (setting_of tables.switches (codes "debounce") e.values));
+  tags = names_of (setting_of tables.switches (codes "tags") e.values);
+  activated = posts_of (setting_of tables.switches (codes "events_when_activated") e.values);
+  deactivated = posts_of (setting_of tables.switches (codes "events_when_deactivated") e.values);
 }
 
 -- ---- `event_player`

@@ -99,6 +99,13 @@ fn event_name(event: &Plain) -> NameAt<'_>
 
 // ---- `switches`
 
+// The places of the settings in the section's table.
+const TYPE: usize = 0;
+const DEBOUNCE: usize = 1;
+const TAGS: usize = 2;
+const ACTIVATED: usize = 3;
+const DEACTIVATED: usize = 4;
+
 const CLOSED: &[u8] = b"NC";
 
 const QUICK: &[u8] = b"quick";
@@ -136,11 +143,11 @@ pub fn as_switch(entry: &Entry) -> Switch<'_>
     let row = entry.values.as_slice();
     Switch {
         name: &entry.name,
-        contact: contact_of(word(row, 0)),
-        debounce: debounce_of(word(row, 1)),
-        tags: names(row, 2),
-        activated: posts_at(row, 3),
-        deactivated: posts_at(row, 4),
+        contact: contact_of(word(row, TYPE)),
+        debounce: debounce_of(word(row, DEBOUNCE)),
+        tags: names(row, TAGS),
+        activated: posts_at(row, ACTIVATED),
+        deactivated: posts_at(row, DEACTIVATED),
     }
 }
 
