@@ -8,9 +8,9 @@ use Rattle.std.proofs.lemmas.Bool.{or_right, eqb-true, eq-eqb, ne_eqb, ltb-true,
 use Rattle.std.proofs.lemmas.Fmt.{decimal_nonempty, decimal_digit, first_decimal, digits_decimal, digits_value-decimal, decimal-digits_value}
 use Rattle.std.proofs.lemmas.List.Sums.{AllPass-from_list_all}
 use Rattle.std.proofs.lemmas.Option.{cond_some, option_and_then_some}
-use Rattle.yaml_bytes.specs.Numbers.{value_of_digits, AreDigits, number_at}
+use Rattle.yaml_bytes.specs.Numbers.{value_of_digits, AreDigits, IsNumber, number_at}
 use Rattle.yaml_bytes.proofs.AllBytes.{Are-from_list_all, list_all-from_Are}
-use Rattle.yaml_bytes.proofs.WrittenNumbers.{own, IsNumber, number_sound, number_complete, none_of}
+use Rattle.yaml_bytes.proofs.WrittenNumbers.{own, number_sound, number_complete, none_of}
 use Rattle.config_checker.specs.CertificateOf.{is_plain, fitting, number_in}
 
 -- ---- what a word is that says a number

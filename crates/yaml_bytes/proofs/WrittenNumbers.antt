@@ -10,7 +10,7 @@ use Rattle.std.proofs.lemmas.Fmt.{IsAscii-from_digits}
 use Rattle.std.proofs.lemmas.Option.{cond_some, none-some, same_Some}
 use Rattle.std.proofs.lemmas.Str.{IsUtf8-from_ascii}
 use Rattle.std.proofs.lemmas.Str.Parse.{IsNumeralModel, numerals_by_weight, parse_digits}
-use Rattle.yaml_bytes.specs.Numbers.{value_of_digits, AreDigits, number_at}
+use Rattle.yaml_bytes.specs.Numbers.{value_of_digits, AreDigits, IsNumber, number_at}
 use Rattle.yaml_bytes.proofs.AllBytes.{Are-from_list_all, list_all-from_Are}
 
 -- ---- digits, as `parse` has them
@@ -22,11 +22,6 @@ pub digits_are_utf8 : (text : List ℕ) → list_all is_ascii_digit text ≡ tru
 digits_are_utf8 text h = IsUtf8-from_ascii text (IsAscii-from_digits text (own.to text h))
 
 -- ---- what a text is that is a number
-
-pub record IsNumber (text : List ℕ) (n : ℕ) : Type 0 where
-  pub digits : AreDigits text
-  pub value : value_of_digits text ≡ n
-  pub fits : n < 2 ^ 64
 
 pub number_sound : (text : List ℕ) (n : ℕ) → number_at text ≡ Some n → IsNumber text n
 unfolding number_at

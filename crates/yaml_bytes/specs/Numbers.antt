@@ -1,5 +1,5 @@
 -- Numbers as they are written, in decimal digits.
-use Rattle.std.specs.Prelude.{ℕ, ◌+◌, ◌-◌, ◌*◌, ◌^◌, ◌<◌, nat_lt, Bool, ◌&&◌, if◌then◌else◌, Option, Some, None, List, [], ◌∷◌, length}
+use Rattle.std.specs.Prelude.{◌≡◌, ℕ, ◌+◌, ◌-◌, ◌*◌, ◌^◌, ◌<◌, nat_lt, Bool, ◌&&◌, if◌then◌else◌, Option, Some, None, List, [], ◌∷◌, length}
 use Rattle.std.specs.List.{list_all}
 use Rattle.std.specs.Char.{is_ascii_digit}
 use Rattle.yaml_bytes.specs.Plain.{Are}
@@ -13,6 +13,12 @@ value_of_digits (d ∷ ds) = (d - 48) * 10 ^ length ds + value_of_digits ds
 pub record AreDigits (digits : List ℕ) : Type 0 where
   pub some : 0 < length digits
   pub each : Are is_ascii_digit digits
+
+-- the text is decimal digits alone, and n is their number, which is below 2^64
+pub record IsNumber (text : List ℕ) (n : ℕ) : Type 0 where
+  pub digits : AreDigits text
+  pub value : value_of_digits text ≡ n
+  pub fits : n < 2 ^ 64
 
 -- whether a text is one digit or more and nothing else, with a number below 2^64
 abbrev pub is_number : List ℕ → Bool
