@@ -1,5 +1,5 @@
--- Events that lead to each other: none of them is grounded, and with them no weights fit. From an event that is not grounded
--- one comes to some.
+-- Events that lead to each other: none of them is grounded, and with them no weights fit. From an event that is not
+-- grounded one comes to some.
 use Rattle.std.proofs.Common.{◌≡◌, ℕ, zero, suc, ◌+◌, ◌-◌, ◌<◌, ◌≤◌, ◌⊎◌, Bool, true, false, not, eqb, List, [], ◌∷◌, length, take, slice_index, All, refl, sym, ◌∙◌, ap, subst, inl, inr, arith, length-take}
 use Rattle.std.specs.List.{IsDistinct, position_or_len}
 use Rattle.std.proofs.lemmas.Bool.{cases_lt, eqb-true, false_from_ne_true, false≢true}
@@ -11,7 +11,8 @@ use Rattle.std.proofs.lemmas.Map.Keys.{IsDistinct-cons}
 use Rattle.std.proofs.lemmas.Map.Steps.{length-le_from_distinct_below}
 use Rattle.mpf_plan.specs.PlanView.{PlanView, bound_to}
 use Rattle.mpf_plan.specs.Valid.{IsValid}
-use Rattle.cascade_rank.specs.Cost.{each_of, cost_of_binding, cost_of_event}
+use Rattle.mpf_plan.specs.declared.entries.EventId.{EventId}
+use Rattle.cascade_rank.specs.Cost.{Both, each_of, cost_of_binding, cost_of_work, cost_of_event}
 use Rattle.cascade_rank.specs.Weights.{IsFitting}
 use Rattle.cascade_rank.specs.LeadsTo.{leads, grounded_in, grounded, is_open, IsCycle, HasNoFit}
 use Rattle.cascade_rank.proofs.Prices.{price-mentioned}
@@ -45,7 +46,8 @@ module _ (plan : PlanView) (events : List ℕ) (c : IsCycle plan events) where
     lead_falls : (i f : ℕ) → i < length events → leads plan (slice_index events i) f ≡ true → v f < v (slice_index events i)
     lead_falls i f l m =
         let fits = fit (slice_index events i) (All-get_or (λ e. e < length plan.events) events i 0 l c.within) in
-        let cost = price-mentioned v (each_of (cost_of_binding plan) (bound_to plan (record { 0 = slice_index events i }))) f m in
+        let e : EventId = record { 0 = slice_index events i } in
+        let cost = price-mentioned v (Both (each_of (cost_of_binding plan) (bound_to plan e)) (cost_of_work plan e)) f m in
         omega (arith, fits, cost)
 
     cycle_falls : (i : ℕ) → i < length events → v (slice_index events i) + i ≤ v (slice_index events 0)
@@ -64,7 +66,7 @@ module _ (plan : PlanView) (events : List ℕ) (c : IsCycle plan events) where
 
 -- ---- the way from an event that is not grounded
 
--- events from e on, each of which leads to the next, k of them behind it, and none comes twice
+-- events from e on, each of which leads to the next, k of them after e, and none comes twice
 pub record IsTrail (plan : PlanView) (e k : ℕ) (trail : List ℕ) : Type 0 where
   pub count : length trail ≡ k + 1
   pub begins : slice_index trail 0 ≡ e
@@ -84,7 +86,7 @@ module _ (plan : PlanView) where
   }
 
   module _ (e f k : ℕ) (trail : List ℕ) (t : IsTrail plan f k trail) (leads_there : leads plan e f ≡ true) where
-    -- e leads to the trail, and stands on it: the part of the trail up to there is a cycle
+    -- e leads to the trail, and is on it: the part of the trail up to there is a cycle
     module _ (n : ℕ) (within : n < length trail) (here : slice_index trail n ≡ e) where
       at_start : (i : ℕ) → i < n + 1 → slice_index (take (n + 1) trail) i ≡ slice_index trail i
       at_start i l = get_or-take (n + 1) trail i 0 l

@@ -12,7 +12,8 @@ use Rattle.cascade_rank.specs.Cost.{Cost, Lines, Weight, Both, Greater, mentions
 use Rattle.cascade_rank.specs.LeadsTo.{is_open}
 use Rattle.cascade_rank.specs.Cycle.{IsFirst, next_open}
 use Rattle.cascade_rank.specs.Lowest.{lowest, IsLeft}
-use Rattle.cascade_rank.proofs.Within.{IsBelow, IsBelow-event}
+use Rattle.cascade_rank.specs.Below.{IsBelow}
+use Rattle.cascade_rank.proofs.Within.{IsBelow-event}
 use Rattle.cascade_rank.proofs.Places.{cost_at_place}
 use Rattle.cascade_rank.proofs.Leading.{event-places}
 
@@ -144,7 +145,7 @@ is_left n = elim (cases_eq n 0) [
   | inr other ↦ lt-ltb 0 n (omega (arith, other)) ∙ sym (ap not (ne_eqb n 0 other))
 ]
 
--- the lowest of those that stand at the places of what is bound to it
+-- the lowest of those that are at the places of what is bound to it
 pub next_is : (plan : PlanView) → IsValid plan → (left : List ℕ) → IsLeft plan left → (e : EventId) (places : List BindingId) (i found : ℕ) → places ≡ places_of plan e → length places ≤ i →
     found ≡ lowest (length left) (λ f. nat_lt 0 (slice_index left f)) (each_of (cost_at_place plan) (take i places)) → found ≡ next_open plan e.0
 next_is plan valid left l e places i found are whole is =
@@ -153,6 +154,6 @@ next_is plan valid left l e places i found are whole is =
     let below = subst (IsBelow (length plan.events)) cost (IsBelow-event plan valid e.0) in
     let first = lowest-first_number (length plan.events) (λ f. nat_lt 0 (slice_index left f)) (is_open plan) (cost_of_event plan e.0) (IsBelow-event plan valid e.0) (λ f k. is_left (slice_index left f) ∙ ap not (sym (l.grounded_is f k))) in
     let whole_cost = ap (lowest (length plan.events) (λ f. nat_lt 0 (slice_index left f))) cost in
-    let most = lowest-at_most (length plan.events) (λ f. nat_lt 0 (slice_index left f)) (each_of (cost_at_place plan) (take i places)) below.1 in
+    let most = lowest-at_most (length plan.events) (λ f. nat_lt 0 (slice_index left f)) (each_of (cost_at_place plan) (take i places)) below.1.0 in
     let count = ap (λ (m : ℕ). lowest m (λ f. nat_lt 0 (slice_index left f)) (each_of (cost_at_place plan) (take i places))) l.count in
     omega (arith, first, whole_cost, most, count, is)

@@ -1,5 +1,5 @@
 -- Events are noted as leading to what they post: one post, a list of them, an event, all events.
-use Rattle.std.proofs.Common.{◌≡◌, ◌≢◌, ℕ, zero, suc, ◌+◌, ◌<◌, ◌≤◌, Bool, true, false, cond, ◌==◌, nat_lt, List, [], ◌∷◌, ◌++◌, length, map, take, drop, take_at, set, replicate, get_or, Some, refl, sym, ◌∙◌, ap, subst, inl, inr, arith, length-set, take_all, get_or-set_same, get_or-set_other}
+use Rattle.std.proofs.Common.{◌≡◌, ◌≢◌, ℕ, zero, suc, ◌+◌, ◌<◌, ◌≤◌, Bool, true, false, cond, ◌==◌, nat_lt, List, [], ◌∷◌, ◌++◌, length, take, drop, take_at, set, replicate, get_or, Some, refl, sym, ◌∙◌, ap, subst, inl, inr, arith, length-set, take_all, get_or-set_same, get_or-set_other}
 use Rattle.std.specs.List.{slice_get}
 use Rattle.std.proofs.lemmas.Option.{get_or_from_slice_get}
 use Rattle.std.proofs.lemmas.Bool.{cases_lt, cases_eq, eq-eqb, ne_eqb, lt-ltb, le-ltb}
@@ -9,12 +9,12 @@ use Rattle.mpf_plan.specs.PlanView.{PlanView, no_binding, binding_at, places_of}
 use Rattle.mpf_plan.specs.declared.entries.EventId.{EventId}
 use Rattle.mpf_plan.specs.declared.entries.BindingId.{BindingId}
 use Rattle.mpf_plan.specs.declared.entries.Binding.{Binding}
-use Rattle.cascade_rank.specs.Cost.{Cost, Lines, Weight, Both, each_of, cost_of_binding, cost_of_event}
+use Rattle.cascade_rank.specs.Cost.{Cost, Lines, Weight, Both, each_of, cost_of_binding, cost_of_work, cost_of_event}
 use Rattle.cascade_rank.specs.Order.{unmet, occurrences, times, no_event, event_at, IsOrdering, IsMeeting}
 use Rattle.cascade_rank.specs.Leaders.{leaders_to, AddsLeader, HasLeaders}
 use Rattle.mpf_plan.proofs.BoundTo.{places_of-bound}
 use Rattle.cascade_rank.proofs.Ordering.{counted}
-use Rattle.cascade_rank.proofs.Places.{cost_at_place}
+use Rattle.cascade_rank.proofs.Places.{each_of-map, cost_at_place}
 
 -- ---- one more of a list
 
@@ -90,21 +90,17 @@ adds-one leader f old l = record {
 
 -- ---- an event
 
-each_of-map : {X Y : Type 0} (f : Y → Cost) (g : X → Y) (xs : List X) → each_of (λ x. f (g x)) xs ≡ each_of f (map g xs)
-each_of-map f g [] = refl
-each_of-map f g (x ∷ xs) = ap (Both (f (g x))) (each_of-map f g xs)
-
 module _ (plan : PlanView) (places : List BindingId) (i : ℕ) where
-  -- what stands at the next place costs what the binding there costs
+  -- what is at the next place costs what the binding there costs
   pub place-cost : (b : Binding) → slice_get plan.bindings (get_or places i (record { 0 = 0 })).0 ≡ Some b → cost_at_place plan (get_or places i (record { 0 = 0 })) ≡ cost_of_binding plan b
   place-cost b at = ap (cost_of_binding plan) (get_or_from_slice_get plan.bindings (get_or places i (record { 0 = 0 })).0 b no_binding at)
 
-  -- an event costs what stands at the places of what is bound to it costs
-  pub event-places : (e : EventId) → places ≡ places_of plan e → length places ≤ i → cost_of_event plan e.0 ≡ Both (Lines 1) (each_of (cost_at_place plan) (take i places))
+  -- an event costs its line, what is at the places of what is bound to it, and the machine's work
+  pub event-places : (e : EventId) → places ≡ places_of plan e → length places ≤ i → cost_of_event plan e.0 ≡ Both (Lines 1) (Both (each_of (cost_at_place plan) (take i places)) (cost_of_work plan e))
   event-places e are whole =
       let taken : take i places ≡ places_of plan e = take_all i places whole ∙ are in
       let bound = each_of-map (cost_of_binding plan) (λ (p : BindingId). binding_at plan p.0) (places_of plan e) ∙ ap (each_of (cost_of_binding plan)) (places_of-bound plan e) in
-      sym (ap (Both (Lines 1)) (ap (each_of (cost_at_place plan)) taken ∙ bound))
+      sym (ap (λ (c : Cost). Both (Lines 1) (Both c (cost_of_work plan e))) (ap (each_of (cost_at_place plan)) taken ∙ bound))
 
   -- the event leads to what one place more posts
   pub adds-place : (leader : ℕ) (b : Binding) (old mid new : List (List EventId)) → i < length places → slice_get plan.bindings (get_or places i (record { 0 = 0 })).0 ≡ Some b →
@@ -119,12 +115,12 @@ module _ (plan : PlanView) (places : List BindingId) (i : ℕ) where
   pub adds-event : (e : EventId) (old new : List (List EventId)) → places ≡ places_of plan e → length places ≤ i →
       AddsLeader e.0 (each_of (cost_at_place plan) (take i places)) old new → AddsLeader e.0 (cost_of_event plan e.0) old new
   adds-event e old new are whole adds = subst (λ (c : Cost). AddsLeader e.0 c old new) (sym (event-places e are whole))
-      (adds-both e.0 (Lines 1) (each_of (cost_at_place plan) (take i places)) (Both (Lines 1) (each_of (cost_at_place plan) (take i places))) old old new (λ f. refl) (adds-none e.0 (Lines 1) old (λ f. refl)) adds)
+      (adds-both e.0 (Lines 1) (each_of (cost_at_place plan) (take i places)) (Both (Lines 1) (Both (each_of (cost_at_place plan) (take i places)) (cost_of_work plan e))) old old new (λ f. omega arith) (adds-none e.0 (Lines 1) old (λ f. refl)) adds)
 
   pub unmet-event : (p : ℕ → Bool) (e : EventId) → places ≡ places_of plan e → length places ≤ i → unmet p (each_of (cost_at_place plan) (take i places)) ≡ unmet p (cost_of_event plan e.0)
   unmet-event p e are whole = zero-plus (unmet p (each_of (cost_at_place plan) (take i places))) ∙ sym (ap (unmet p) (event-places e are whole))
     where
-      zero-plus : (n : ℕ) → n ≡ 0 + n
+      zero-plus : (n : ℕ) → n ≡ 0 + (n + 0)
       zero-plus n = omega arith
 
 -- ---- all events

@@ -1,5 +1,6 @@
 pub mod Prices
 pub mod Within
+pub mod Switches
 pub mod Places
 pub mod LeastFitting
 pub mod FirstEvent

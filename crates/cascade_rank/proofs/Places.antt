@@ -1,4 +1,4 @@
--- What is bound to an event costs what stands at its places costs.
+-- What is bound to an event costs as much as what is at its places.
 use Rattle.std.proofs.Common.{◌≡◌, ℕ, ◌+◌, ◌<◌, ◌≤◌, ◌==◌, List, [], ◌∷◌, length, map, take, get_or, Some, refl, sym, ap, ◌∙◌, subst, arith}
 use Rattle.std.specs.List.{All, slice_get}
 use Rattle.std.proofs.lemmas.Option.{get_or_from_slice_get, slice_get_within}
@@ -14,7 +14,7 @@ use Rattle.mpf_plan.proofs.BoundTo.{places_of-bound, places_of-within}
 use Rattle.cascade_rank.specs.Cost.{Cost, Both, price, each_of, cost_of_binding, cost_of_event}
 use Rattle.cascade_rank.proofs.Prices.{price-each_more}
 
-each_of-map : {X Y : Type 0} (f : Y → Cost) (g : X → Y) (xs : List X) → each_of (λ x. f (g x)) xs ≡ each_of f (map g xs)
+pub each_of-map : {X Y : Type 0} (f : Y → Cost) (g : X → Y) (xs : List X) → each_of (λ x. f (g x)) xs ≡ each_of f (map g xs)
 each_of-map f g [] = refl
 each_of-map f g (x ∷ xs) = ap (Both (f (g x))) (each_of-map f g xs)
 
@@ -28,7 +28,7 @@ module _ (plan : PlanView) where
   abbrev pub cost_at_place : BindingId → Cost
   cost_at_place p = cost_of_binding plan (binding_at plan p.0)
 
-  -- a line and what stands at the first places costs, and at one place more
+  -- the price of a line and of what is at the first places, and at one place more
   pub price-places_more : (w : ℕ → ℕ) (places : List BindingId) (i : ℕ) (b : Binding) (total cost : ℕ) → i < length places
       → slice_get plan.bindings (get_or places i (record { 0 = 0 })).0 ≡ Some b → cost ≡ price w (cost_of_binding plan b)
       → total ≡ 1 + price w (each_of cost_at_place (take i places)) → total + cost ≡ 1 + price w (each_of cost_at_place (take (i + 1) places))
@@ -57,4 +57,5 @@ module _ (plan : PlanView) where
     price-places_all w i total whole so_far =
         let taken : take i places ≡ places_of plan e = take_all i places whole ∙ are in
         let bound = each_of-map (cost_of_binding plan) (λ (p : BindingId). binding_at plan p.0) (places_of plan e) ∙ ap (each_of (cost_of_binding plan)) (places_of-bound plan e) in
-        so_far ∙ ap (λ (c : Cost). 1 + price w c) (ap (each_of cost_at_place) taken ∙ bound)
+        let each = ap (price w) (ap (each_of cost_at_place) taken ∙ bound) in
+        omega (arith, so_far, each)

@@ -11,7 +11,7 @@ use Rattle.mpf_plan.specs.Valid.{IsValid}
 use Rattle.mpf_plan.specs.declared.entries.EventId.{EventId}
 use Rattle.cascade_rank.specs.Cost.{cost_of_event}
 use Rattle.cascade_rank.specs.LeadsTo.{leads, grounded, is_open, IsCycle}
-use Rattle.cascade_rank.specs.Cycle.{IsFirst, GoesOn, IsWalk, IsToldCycle, next_open, from_first, cycle_from, cycle_of}
+use Rattle.cascade_rank.specs.Cycle.{IsFirst, GoesOn, IsWalk, IsReportedCycle, next_open, from_first, cycle_from, cycle_of}
 use Rattle.cascade_rank.specs.Lowest.{LeadsOn}
 use Rattle.cascade_rank.proofs.Mentioned.{all_mentioned-fails}
 use Rattle.cascade_rank.proofs.Ranking.{mentioned_below}
@@ -55,7 +55,7 @@ has-push path x e = list_any-append (λ d. d == e) path (x ∷ []) ∙ ap (λ (b
     by true = refl
     by false = refl
 
--- it has this path behind it, of which the events are marked, and comes to `at`
+-- it has passed this path, of which the events are marked, and comes to `at`
 pub record WalkAt (plan : PlanView) (start : ℕ) (passed : List Bool) (path : List ℕ) (at : ℕ) : Type 0 where
   pub count : length passed ≡ length plan.events
   pub walk : IsWalk plan path
@@ -208,8 +208,8 @@ module _ (plan : PlanView) (path : List ℕ) (at : ℕ) (walk : IsWalk plan path
   at_place : slice_index path (position_or_len (λ d. d == at) path) ≡ at
   at_place = eqb-true (slice_index path (position_or_len (λ d. d == at) path)) at (passes_at_first (λ d. d == at) path 0 within)
 
-  pub told : IsToldCycle plan (from_first at path)
-  told = record {
+  pub reported : IsReportedCycle plan (from_first at path)
+  reported = record {
     path = path;
     walk = walk;
     place = position_or_len (λ d. d == at) path;

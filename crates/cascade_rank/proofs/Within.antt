@@ -1,9 +1,10 @@
 -- The costs of a valid plan mention only events of the plan.
 use Rattle.std.proofs.Common.{◌≡◌, ℕ, ◌<◌, Bool, true, false, ◌==◌, List, [], ◌∷◌, length, sym, subst, inl, inr}
 use Rattle.std.specs.List.{All, AllByRecursion}
-use Rattle.std.proofs.lemmas.Bool.{or_cases, eqb-true, false≢true}
+use Rattle.std.proofs.lemmas.Bool.{cases_lt, or_cases, eqb-true, false≢true}
 use Rattle.std.proofs.lemmas.List.Elements.{recursion_from_All, All-get_or, All-weaker, All-nil, All-filter}
-use Rattle.mpf_plan.specs.PlanView.{PlanView, Switch, no_switch, list_at, posts_of, bound_to}
+use Rattle.std.proofs.lemmas.List.{get_or_past}
+use Rattle.mpf_plan.specs.PlanView.{PlanView, no_switch, switch_at, list_at, posts_of, bound_to}
 use Rattle.mpf_plan.specs.Valid.{IsValid, IsEventWithin, IsActionWithin, IsTargetWithin, IsBindingWithin, IsSwitchWithin}
 use Rattle.mpf_plan.specs.declared.entries.EventId.{EventId}
 use Rattle.mpf_plan.specs.declared.entries.SwitchId.{SwitchId}
@@ -13,14 +14,8 @@ use Rattle.mpf_plan.specs.declared.entries.Action.TheVariants.{Post}
 use Rattle.mpf_plan.specs.declared.entries.Target.{Target}
 use Rattle.mpf_plan.specs.declared.entries.Target.TheVariants.{Run}
 use Rattle.mpf_plan.specs.declared.entries.Binding.{Binding}
-use Rattle.cascade_rank.specs.Cost.{Cost, Lines, Weight, Both, Greater, mentions, each_of, dearest_of, cost_of_post, cost_of_action, cost_of_list, cost_of_target, cost_of_binding, cost_of_event, cost_of_acceptance, cost_of_switch, cost_of_stimuli}
-
--- each event whose weight stands in the cost is below n
-abbrev pub IsBelow : ℕ → Cost → Type 0
-IsBelow n (Lines k) = Unit {0}
-IsBelow n (Weight e) = e < n
-IsBelow n (Both a b) = IsBelow n a × IsBelow n b
-IsBelow n (Greater a b) = IsBelow n a × IsBelow n b
+use Rattle.cascade_rank.specs.Cost.{Cost, Lines, Weight, Both, Greater, mentions, each_of, dearest_of, cost_of_post, cost_of_action, cost_of_list, cost_of_target, cost_of_binding, cost_of_event, cost_of_acceptance, cost_of_switch, switches_of, cost_of_stimuli}
+use Rattle.cascade_rank.specs.Below.{IsBelow}
 
 pub IsBelow-mentioned : (n : ℕ) (c : Cost) (e : ℕ) → IsBelow n c → mentions e c ≡ true → e < n
 IsBelow-mentioned n (Lines k) e h m = absurd (false≢true m)
@@ -40,61 +35,61 @@ pub IsBelow-each_of : {X : Type 0} (n : ℕ) (f : X → Cost) (xs : List X) → 
 IsBelow-each_of n f [] h = tt
 IsBelow-each_of n f (x ∷ xs) h = (h.0, IsBelow-each_of n f xs h.1)
 
-pub IsBelow-dearest_of : {X : Type 0} (n : ℕ) (f : X → Cost) (xs : List X) → AllByRecursion (λ x. IsBelow n (f x)) xs → IsBelow n (dearest_of f xs)
-IsBelow-dearest_of n f [] h = tt
-IsBelow-dearest_of n f (x ∷ xs) h = (h.0, IsBelow-dearest_of n f xs h.1)
-
 -- where each of a list is within, all that they cost is below
 pub each_below : {X : Type 0} (n : ℕ) (f : X → Cost) (P : X → Type 0) → ((x : X) → P x → IsBelow n (f x)) → (xs : List X) → All P xs → IsBelow n (each_of f xs)
 each_below n f P each xs h =
     IsBelow-each_of n f xs (recursion_from_All (λ x. IsBelow n (f x)) xs (All-weaker P (λ x. IsBelow n (f x)) each xs h))
 
-pub dearest_below : {X : Type 0} (n : ℕ) (f : X → Cost) (P : X → Type 0) → ((x : X) → P x → IsBelow n (f x)) → (xs : List X) → All P xs → IsBelow n (dearest_of f xs)
-dearest_below n f P each xs h =
-    IsBelow-dearest_of n f xs (recursion_from_All (λ x. IsBelow n (f x)) xs (All-weaker P (λ x. IsBelow n (f x)) each xs h))
+pub dearest_below : {X : Type 0} (n : ℕ) (f : X → Cost) → ((x : X) → IsBelow n (f x)) → (xs : List X) → IsBelow n (dearest_of f xs)
+dearest_below n f each [] = tt
+dearest_below n f each (x ∷ xs) = (each x, dearest_below n f each xs)
 
-pub IsBelow-action : (n : ℕ) (a : Action) → IsActionWithin n a → IsBelow n (cost_of_action a)
-IsBelow-action n (Post e) h = h
-
-pub IsBelow-posts : (n : ℕ) (es : List EventId) → All (IsEventWithin n) es → IsBelow n (each_of cost_of_post es)
-IsBelow-posts n es h = each_below n cost_of_post (IsEventWithin n) (λ e k. k) es h
-
-pub IsBelow-acceptance : (n : ℕ) (active : Bool) (s : Switch) → IsSwitchWithin n s → IsBelow n (cost_of_acceptance active s)
-IsBelow-acceptance n true s h = (tt, IsBelow-posts n s.active h.0)
-IsBelow-acceptance n false s h = (tt, IsBelow-posts n s.inactive h.1)
-
-pub IsBelow-switch : (n : ℕ) (s : Switch) → IsSwitchWithin n s → IsBelow n (cost_of_switch s)
-IsBelow-switch n s h = (IsBelow-acceptance n true s h, IsBelow-acceptance n false s h)
-
-pub no_switch-within : (n : ℕ) → IsSwitchWithin n no_switch
-no_switch-within n = (All-nil (IsEventWithin n), All-nil (IsEventWithin n))
+pub IsBelow-action : (plan : PlanView) (a : Action) → IsActionWithin plan a → IsBelow (length plan.events) (cost_of_action plan a)
+IsBelow-action plan (Post e) h = h
 
 module _ (plan : PlanView) (valid : IsValid plan) where
   pub IsBelow-list : (l : ListId) → l.0 < length plan.lists → IsBelow (length plan.events) (cost_of_list plan l)
   IsBelow-list l h =
-      each_below (length plan.events) cost_of_action (IsActionWithin (length plan.events)) (IsBelow-action (length plan.events)) (list_at plan l)
-      (All-get_or (All (IsActionWithin (length plan.events))) plan.lists l.0 [] h valid.lists)
+      each_below (length plan.events) (cost_of_action plan) (IsActionWithin plan) (IsBelow-action plan) (list_at plan l)
+      (All-get_or (All (IsActionWithin plan)) plan.lists l.0 [] h valid.lists)
 
-  pub IsBelow-target : (t : Target) → IsTargetWithin (length plan.lists) t → IsBelow (length plan.events) (cost_of_target plan t)
+  pub IsBelow-target : (t : Target) → IsTargetWithin plan t → IsBelow (length plan.events) (cost_of_target plan t)
   IsBelow-target (Run l) h = IsBelow-list l h
 
   pub IsBelow-binding : (b : Binding) → IsBindingWithin plan b → IsBelow (length plan.events) (cost_of_binding plan b)
-  IsBelow-binding b h = IsBelow-target b.target h.1
+  IsBelow-binding b h = IsBelow-target b.target h.2
 
   pub IsBelow-event : (e : ℕ) → IsBelow (length plan.events) (cost_of_event plan e)
   IsBelow-event e = (
     tt,
-    each_below (length plan.events) (cost_of_binding plan) (IsBindingWithin plan) IsBelow-binding (bound_to plan (record { 0 = e }))
-        (All-filter (λ b. b.event.0 == e) (IsBindingWithin plan) plan.bindings valid.bindings),
+    (
+      each_below (length plan.events) (cost_of_binding plan) (IsBindingWithin plan) IsBelow-binding (bound_to plan (record { 0 = e }))
+          (All-filter (λ b. b.event.0 == e) (IsBindingWithin plan) plan.bindings valid.bindings),
+      tt,
+    ),
   )
 
-  pub IsBelow-stimuli : IsBelow (length plan.events) (cost_of_stimuli plan)
-  IsBelow-stimuli =
-      dearest_below (length plan.events) cost_of_switch (IsSwitchWithin (length plan.events)) (IsBelow-switch (length plan.events)) plan.switches valid.switches
+  -- a switch posts events of the plan; where there is none of its number, it posts nothing
+  pub posts-below : (s : SwitchId) (active : Bool) → All (IsEventWithin (length plan.events)) (posts_of plan s active)
+  posts-below s active = by active (elim (cases_lt s.0 (length plan.switches)) [
+    | inl within ↦ All-get_or (IsSwitchWithin (length plan.events)) plan.switches s.0 no_switch within valid.switches
+    | inr past ↦ subst (IsSwitchWithin (length plan.events)) (sym (get_or_past plan.switches s.0 no_switch past)) (All-nil (IsEventWithin (length plan.events)), All-nil (IsEventWithin (length plan.events)))
+  ])
+    where
+      by : (a : Bool) → IsSwitchWithin (length plan.events) (switch_at plan s) → All (IsEventWithin (length plan.events)) (posts_of plan s a)
+      by true h = h.0
+      by false h = h.1
 
--- a switch of a valid plan posts events of the plan
-pub posts-within : (plan : PlanView) → IsValid plan → (s : SwitchId) (active : Bool) (n : ℕ) (es : List EventId) → s.0 < length plan.switches → n ≡ length plan.events → es ≡ posts_of plan s active → All (IsEventWithin n) es
-posts-within plan valid s active n es h count is =
-    let within = All-get_or (IsSwitchWithin (length plan.events)) plan.switches s.0 no_switch h valid.switches in
-    let all : All (IsEventWithin (length plan.events)) (posts_of plan s active) = elim active as (λ a. All (IsEventWithin (length plan.events)) (posts_of plan s a)) [ true ↦ within.0 | false ↦ within.1 ] in
-    subst (λ (xs : List EventId). All (IsEventWithin n) xs) (sym is) (subst (λ (m : ℕ). All (IsEventWithin m) (posts_of plan s active)) (sym count) all)
+  pub IsBelow-acceptance : (s : SwitchId) (active : Bool) → IsBelow (length plan.events) (cost_of_acceptance plan s active)
+  IsBelow-acceptance s active = (tt, each_below (length plan.events) cost_of_post (IsEventWithin (length plan.events)) (λ e k. k) (posts_of plan s active) (posts-below s active))
+
+  pub IsBelow-switch : (s : SwitchId) → IsBelow (length plan.events) (cost_of_switch plan s)
+  IsBelow-switch s = (IsBelow-acceptance s true, IsBelow-acceptance s false)
+
+  pub IsBelow-stimuli : IsBelow (length plan.events) (cost_of_stimuli plan)
+  IsBelow-stimuli = dearest_below (length plan.events) (cost_of_switch plan) IsBelow-switch (switches_of plan)
+
+-- the same of as many events as the plan has
+pub posts-within : (plan : PlanView) → IsValid plan → (s : SwitchId) (active : Bool) (n : ℕ) (es : List EventId) → n ≡ length plan.events → es ≡ posts_of plan s active → All (IsEventWithin n) es
+posts-within plan valid s active n es count is =
+    subst (λ (m : ℕ). All (IsEventWithin m) es) (sym count) (subst (All (IsEventWithin (length plan.events))) (sym is) (posts-below plan valid s active))

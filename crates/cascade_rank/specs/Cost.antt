@@ -1,7 +1,9 @@
 -- What a thing costs: the lines that it prints and the weights of the events that it posts, added up or compared.
-use Rattle.std.specs.Prelude.{ℕ, ◌+◌, max, Bool, true, false, ◌&&◌, ◌||◌, ◌==◌, List, [], ◌∷◌}
-use Rattle.mpf_plan.specs.PlanView.{PlanView, Switch, switch_posts, list_at, bound_to}
+use Rattle.std.specs.Prelude.{ℕ, ◌+◌, max, Bool, true, false, ◌&&◌, ◌||◌, ◌==◌, List, [], ◌∷◌, length, map}
+use Rattle.std.specs.List.{range_with_len}
+use Rattle.mpf_plan.specs.PlanView.{PlanView, posts_of, list_at, bound_to}
 use Rattle.mpf_plan.specs.declared.entries.EventId.{EventId}
+use Rattle.mpf_plan.specs.declared.entries.SwitchId.{SwitchId}
 use Rattle.mpf_plan.specs.declared.entries.ListId.{ListId}
 use Rattle.mpf_plan.specs.declared.entries.Action.{Action}
 use Rattle.mpf_plan.specs.declared.entries.Action.TheVariants.{Post}
@@ -22,14 +24,14 @@ price w (Weight e) = w e
 price w (Both a b) = price w a + price w b
 price w (Greater a b) = max (price w a) (price w b)
 
--- whether the weight of e stands in the cost
+-- whether the weight of e is in the cost
 abbrev pub mentions : ℕ → Cost → Bool
 mentions e (Lines n) = false
 mentions e (Weight f) = e == f
 mentions e (Both a b) = mentions e a || mentions e b
 mentions e (Greater a b) = mentions e a || mentions e b
 
--- whether p holds of each event whose weight stands in the cost
+-- whether p holds of each event whose weight is in the cost
 abbrev pub all_mentioned : (ℕ → Bool) → Cost → Bool
 all_mentioned p (Lines n) = true
 all_mentioned p (Weight e) = p e
@@ -50,12 +52,12 @@ dearest_of cost (x ∷ xs) = Greater (cost x) (dearest_of cost xs)
 abbrev pub cost_of_post : EventId → Cost
 cost_of_post e = Weight e.0
 
-abbrev pub cost_of_action : Action → Cost
-cost_of_action (Post e) = cost_of_post e
+abbrev pub cost_of_action : PlanView → Action → Cost
+cost_of_action plan (Post e) = cost_of_post e
 
 -- the actions of an effect list
 abbrev pub cost_of_list : PlanView → ListId → Cost
-cost_of_list plan l = each_of cost_of_action (list_at plan l)
+cost_of_list plan l = each_of (cost_of_action plan) (list_at plan l)
 
 abbrev pub cost_of_target : PlanView → Target → Cost
 cost_of_target plan (Run l) = cost_of_list plan l
@@ -64,18 +66,27 @@ cost_of_target plan (Run l) = cost_of_list plan l
 abbrev pub cost_of_binding : PlanView → Binding → Cost
 cost_of_binding plan b = cost_of_target plan b.target
 
--- an event costs its line and all that is bound to it
+-- what the machine itself does at an event, before and after its handlers: nothing yet
+abbrev pub cost_of_work : PlanView → EventId → Cost
+cost_of_work plan e = Lines 0
+
+-- an event costs its line, all that is bound to it, and the machine's work
 abbrev pub cost_of_event : PlanView → ℕ → Cost
-cost_of_event plan e = Both (Lines 1) (each_of (cost_of_binding plan) (bound_to plan (record { 0 = e })))
+cost_of_event plan e =
+    Both (Lines 1) (Both (each_of (cost_of_binding plan) (bound_to plan (record { 0 = e }))) (cost_of_work plan (record { 0 = e })))
 
 -- to accept a switch as active or inactive costs its line and its posts
-abbrev pub cost_of_acceptance : Bool → Switch → Cost
-cost_of_acceptance active s = Both (Lines 1) (each_of cost_of_post (switch_posts active s))
+abbrev pub cost_of_acceptance : PlanView → SwitchId → Bool → Cost
+cost_of_acceptance plan switch active = Both (Lines 1) (each_of cost_of_post (posts_of plan switch active))
 
 -- the dearer of the two
-abbrev pub cost_of_switch : Switch → Cost
-cost_of_switch s = Greater (cost_of_acceptance true s) (cost_of_acceptance false s)
+abbrev pub cost_of_switch : PlanView → SwitchId → Cost
+cost_of_switch plan switch = Greater (cost_of_acceptance plan switch true) (cost_of_acceptance plan switch false)
+
+-- the switches of a plan, by number
+abbrev pub switches_of : PlanView → List SwitchId
+switches_of plan = map (λ n. record { 0 = n }) (range_with_len 0 (length plan.switches))
 
 -- the dearest stimulus
 abbrev pub cost_of_stimuli : PlanView → Cost
-cost_of_stimuli plan = dearest_of cost_of_switch plan.switches
+cost_of_stimuli plan = dearest_of (cost_of_switch plan) (switches_of plan)

@@ -1,4 +1,4 @@
--- Which cycle is told of a plan that has more than one: the one in which a fixed walk ends.
+-- Which cycle is reported of a plan that has more than one: the one in which a fixed walk ends.
 use Rattle.std.specs.Prelude.{◌≡◌, ◌≢◌, ℕ, zero, suc, ◌+◌, ◌-◌, ◌<◌, Bool, true, false, ◌&&◌, ◌==◌, if◌then◌else◌, List, [], ◌∷◌, ◌++◌, length, drop, slice_index, Option, position}
 use Rattle.std.specs.List.{list_any, position_or_len, range_with_len}
 use Rattle.mpf_plan.specs.PlanView.{PlanView}
@@ -15,14 +15,15 @@ pub record IsFirst (p : ℕ → Bool) (e : ℕ) : Type 0 where
 abbrev pub GoesOn : PlanView → ℕ → ℕ → Type 0
 GoesOn plan e f = IsFirst (λ g. leads plan e g && is_open plan g) f
 
--- a walk begins at the open event with the lowest number, goes on step by step, and has not come back to one of its events
+-- a walk begins at the open event with the lowest number, goes on step by step, and has not come back to one of its
+-- events
 pub record IsWalk (plan : PlanView) (path : List ℕ) : Type 0 where
   pub first : 0 < length path → IsFirst (is_open plan) (slice_index path 0)
   pub next : (i : ℕ) → i + 1 < length path → GoesOn plan (slice_index path i) (slice_index path (i + 1))
   pub apart : (i j : ℕ) → i < j → j < length path → slice_index path i ≢ slice_index path j
 
 -- a walk whose next step comes back to one of its events: the cycle is the walk from that event on
-pub record IsToldCycle (plan : PlanView) (cycle : List ℕ) : Type 0 where
+pub record IsReportedCycle (plan : PlanView) (cycle : List ℕ) : Type 0 where
   pub path : List ℕ
   pub walk : IsWalk plan path
   pub place : ℕ
@@ -43,13 +44,13 @@ first_open plan = first_event plan (is_open plan)
 abbrev pub next_open : PlanView → ℕ → ℕ
 next_open plan e = position_or_len (λ f. leads plan e f && is_open plan f) (range_with_len 0 (length plan.events))
 
--- the list without what stands before the first e, and empty where there is no e
+-- the list without what comes before the first e, and empty where there is no e
 abbrev pub from_first : ℕ → List ℕ → List ℕ
 from_first e [] = []
 from_first e (d ∷ ds) = if d == e then d ∷ ds else from_first e ds
 
--- The walk has passed this path and comes to e, and ends where it passed e before. From an open event on that is so after no
--- more steps than the plan has events: the number, which is there for the definition to end, is never used up.
+-- The walk has passed this path and comes to e, and ends where it passed e before. From an open event on that is so
+-- after no more steps than the plan has events: the number, which is there for the definition to end, is never used up.
 abbrev pub cycle_from : PlanView → ℕ → List ℕ → ℕ → List ℕ
 cycle_from plan zero path e = []
 cycle_from plan (suc k) path e = if list_any (λ d. d == e) path then from_first e path else cycle_from plan k (path ++ e ∷ []) (next_open plan e)

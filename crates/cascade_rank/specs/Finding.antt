@@ -25,7 +25,7 @@ is_within_limit plan weights = list_all (λ w. nat_le w greatest) weights && nat
 abbrev pub limited : PlanView → List ℕ → Result (List ℕ) RankView
 limited plan weights = if is_within_limit plan weights then Ok weights else Err bound_too_large
 
--- an event that is not grounded is told before a weight above the limit
+-- an event that is not grounded is reported before a weight above the limit
 abbrev pub found_past : PlanView → Option ℕ → Result (List ℕ) RankView
 found_past plan (Some e) = Err (cycle (cycle_of plan e))
 found_past plan None = limited plan (ranks plan)
@@ -41,7 +41,7 @@ is_short plan weights e = nat_lt (slice_index weights e) (need plan (slice_index
 abbrev pub bounded : PlanView → List ℕ → Result ℕ RankView
 bounded plan weights = if is_within_limit plan weights then Ok (bound_of plan (slice_index weights)) else Err bound_too_large
 
--- the first event that weighs too little is told before a weight above the limit
+-- the first event that weighs too little is reported before a weight above the limit
 abbrev pub verified_past : PlanView → List ℕ → Option ℕ → Result ℕ RankView
 verified_past plan weights (Some e) = Err (short e (need plan (slice_index weights) e))
 verified_past plan weights None = bounded plan weights

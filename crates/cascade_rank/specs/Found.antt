@@ -3,7 +3,7 @@ use Rattle.std.specs.Prelude.{ℕ, List}
 use Rattle.mpf_plan.specs.PlanView.{PlanView}
 use Rattle.cascade_rank.specs.Weights.{IsLeastFitting, IsWithinLimit}
 use Rattle.cascade_rank.specs.LeadsTo.{IsCycle, HasNoFit}
-use Rattle.cascade_rank.specs.Cycle.{IsToldCycle}
+use Rattle.cascade_rank.specs.Cycle.{IsReportedCycle}
 use Rattle.cascade_rank.specs.Finding.{RankView, cycle, bound_too_large, short, wrong_events}
 
 -- there are least fitting weights, and they or their bound are above the limit
@@ -12,9 +12,10 @@ pub record IsTooDear (plan : PlanView) : Type 0 where
   pub least : IsLeastFitting plan weights
   pub above : ¬ (IsWithinLimit plan weights)
 
--- The events of a cycle are one, the one that is told, and no weights fit. Nothing else is a reason but weights above the limit.
+-- The events of a cycle are one, the one that is to be reported, and no weights fit. Nothing else is a reason but
+-- weights above the limit.
 abbrev pub IsUnfound : PlanView → RankView → Type 0
-IsUnfound plan (cycle events) = IsCycle plan events × IsToldCycle plan events × HasNoFit plan
+IsUnfound plan (cycle events) = IsCycle plan events × IsReportedCycle plan events × HasNoFit plan
 IsUnfound plan bound_too_large = IsTooDear plan
 IsUnfound plan (short event needed) = ⊥
 IsUnfound plan wrong_events = ⊥

@@ -9,12 +9,12 @@ use Rattle.cascade_rank.specs.Order.{unmet, occurrences, times}
 abbrev pub leaders_to : List (List EventId) → ℕ → List EventId
 leaders_to leaders f = slice_index_or leaders f []
 
--- one event leads to each as often more as its weight stands in the cost
+-- one event leads to each more often than before, by as often as its weight is in the cost
 pub record AddsLeader (leader : ℕ) (c : Cost) (old new : List (List EventId)) : Type 0 where
   pub count : length new ≡ length old
   pub more : (f e : ℕ) → f < length old → times (leaders_to new f) e ≡ times (leaders_to old f) e + (if leader == e then occurrences f c else 0)
 
--- the events below n lead to each event as often as its weight stands in what they cost, and `left` counts their posts
+-- the events below n lead to each event as often as its weight is in what they cost, and `left` counts their posts
 pub record HasLeaders (plan : PlanView) (n : ℕ) (leaders : List (List EventId)) (left : List ℕ) : Type 0 where
   pub count : length leaders ≡ length plan.events
   pub left_count : length left ≡ n

@@ -5,7 +5,7 @@ use Rattle.mpf_plan.specs.PlanView.{PlanView}
 use Rattle.cascade_rank.specs.Cost.{mentions, all_mentioned, cost_of_event}
 use Rattle.cascade_rank.specs.Weights.{IsFitting}
 
--- e leads to f where the weight of f stands in what e costs
+-- e leads to f where the weight of f is in what e costs
 abbrev pub leads : PlanView → ℕ → ℕ → Bool
 leads plan e f = mentions f (cost_of_event plan e)
 
@@ -14,7 +14,8 @@ abbrev pub grounded_in : PlanView → ℕ → ℕ → Bool
 grounded_in plan zero e = false
 grounded_in plan (suc k) e = all_mentioned (grounded_in plan k) (cost_of_event plan e)
 
--- whether each such chain ends: in a valid plan, one of more events than the plan has comes back to one of them, and so can go round for ever
+-- whether each such chain ends: in a valid plan, one of more events than the plan has comes back to one of them, and so
+-- can go round for ever
 abbrev pub grounded : PlanView → ℕ → Bool
 grounded plan e = grounded_in plan (length plan.events) e
 

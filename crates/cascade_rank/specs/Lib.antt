@@ -8,6 +8,8 @@ pub mod View
 pub mod Found
 pub mod CycleOrWeights
 pub mod Verified
+-- No promise rests on these: contracts of private functions cite them, and proofs, here and in the crates above.
+pub mod Below
 pub mod Order
 pub mod Lowest
 pub mod Leaders

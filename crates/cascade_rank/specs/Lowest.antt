@@ -1,4 +1,4 @@
--- The lowest-numbered event of those whose weight stands in a cost.
+-- The lowest-numbered event of those whose weight is in a cost.
 use Rattle.std.specs.Prelude.{◌≡◌, ℕ, ◌<◌, ◌==◌, true, false, min, Bool, if◌then◌else◌, List, length, slice_index}
 use Rattle.mpf_plan.specs.PlanView.{PlanView}
 use Rattle.cascade_rank.specs.Cost.{Cost, Lines, Weight, Both, Greater, all_mentioned, cost_of_event}

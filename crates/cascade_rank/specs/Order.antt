@@ -6,14 +6,14 @@ use Rattle.mpf_plan.specs.declared.entries.EventId.{EventId}
 use Rattle.cascade_rank.specs.Ranks.{rank}
 use Rattle.cascade_rank.specs.Cost.{Cost, Lines, Weight, Both, Greater, all_mentioned, cost_of_event}
 
--- how often a weight of which p does not hold stands in the cost
+-- how often a weight of which p does not hold is in the cost
 abbrev pub unmet : (ℕ → Bool) → Cost → ℕ
 unmet p (Lines n) = 0
 unmet p (Weight e) = if p e then 0 else 1
 unmet p (Both a b) = unmet p a + unmet p b
 unmet p (Greater a b) = unmet p a + unmet p b
 
--- how often the weight of e stands in the cost
+-- how often the weight of e is in the cost
 abbrev pub occurrences : ℕ → Cost → ℕ
 occurrences e (Lines n) = 0
 occurrences e (Weight f) = if e == f then 1 else 0
@@ -39,8 +39,8 @@ event_at events i = (slice_index_or events i no_event).0
 abbrev pub EachAfter : (List EventId → ℕ → Type 0) → List EventId → Type 0
 EachAfter P events = (i : ℕ) → i < length events → P (take i events) (event_at events i)
 
--- So many events of the order are gone through, and of those that lead to the next one `done`. Of each event `left` counts
--- the posts that were not met by these, and the order has the events of which none is left.
+-- So many events of the order are gone through, and of those that lead to the next one `done`. Of each event `left`
+-- counts the posts that were not met by these, and the order has the events of which none is left.
 pub record IsOrdering (plan : PlanView) (taken : ℕ) (done : List EventId) (left : List ℕ) (order : List EventId) : Type 0 where
   pub length_is : length left ≡ length plan.events
   pub within : taken ≤ length order
@@ -64,7 +64,7 @@ CanMeet leaders left order = (plan : PlanView) × (taken : ℕ) × IsMeeting pla
 abbrev pub Meets : List EventId → List EventId → List ℕ → List EventId → List ℕ → List EventId → Type 0
 Meets leaders done left order left_then order_then = (plan : PlanView) (taken : ℕ) → IsMeeting plan taken leaders [] left order → IsMeeting plan taken leaders done left_then order_then
 
--- all events of the plan, each behind those to which it leads
+-- all events of the plan, each after those to which it leads
 pub record IsWholeOrder (plan : PlanView) (order : List EventId) : Type 0 where
   pub below : EachAfter (λ before e. e < length plan.events) order
   pub grounds : EachAfter (λ before e. all_mentioned (is_in before) (cost_of_event plan e) ≡ true) order

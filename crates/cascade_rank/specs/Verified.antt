@@ -18,7 +18,8 @@ pub record IsFirstShort (plan : PlanView) (weights : List ℕ) (event needed : �
   pub short_is : slice_index weights event < needed
   pub first : (e : ℕ) → e < event → need plan (slice_index weights) e ≤ slice_index weights e
 
--- another number of weights than of events is told before an event that weighs too little, and that before the limit
+-- another number of weights than of events is reported before an event that weighs too little, and that before the
+-- limit
 abbrev pub IsUnverified : PlanView → List ℕ → RankView → Type 0
 IsUnverified plan weights (cycle events) = ⊥
 IsUnverified plan weights bound_too_large = (length weights ≡ length plan.events) × IsFitting plan (slice_index weights) × (¬ (IsWithinLimit plan weights))

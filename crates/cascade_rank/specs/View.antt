@@ -5,7 +5,7 @@ use Rattle.cascade_rank.specs.declared.fault.RankFault.TheVariants as faults
 use Rattle.cascade_rank.specs.declared.verdict.Bound.{Bound}
 use Rattle.cascade_rank.specs.Finding.{RankView, cycle, bound_too_large, short, wrong_events}
 
--- a fault that tells of the plan or the weights, and not of memory
+-- what a fault reports of the plan or the weights: a fault of memory reports nothing
 abbrev pub rank_view : RankFault → Option RankView
 rank_view faults.NoMemory = None
 rank_view (faults.Cycle events) = Some (cycle (map (λ e. e.0) events.items))
@@ -13,20 +13,20 @@ rank_view faults.BoundTooLarge = Some bound_too_large
 rank_view (faults.Short event needed) = Some (short event.0 needed)
 rank_view faults.WrongEvents = Some wrong_events
 
-abbrev pub IfTold : Option RankView → (RankView → Type 0) → Type 0
-IfTold None P = Unit {0}
-IfTold (Some fault) P = P fault
+abbrev pub IfReported : Option RankView → (RankView → Type 0) → Type 0
+IfReported None P = Unit {0}
+IfReported (Some fault) P = P fault
 
--- P holds of what the fault tells, unless memory ran out
+-- P holds of what the fault reports, unless memory ran out
 abbrev pub IfRank : RankFault → (RankView → Type 0) → Type 0
-IfRank fault P = IfTold (rank_view fault) P
+IfRank fault P = IfReported (rank_view fault) P
 
 -- The answer is what finding gives, unless memory ran out.
 abbrev pub GivesFound : Result (List ℕ) RankFault → Result (List ℕ) RankView → Type 0
 GivesFound (Ok weights) found = found ≡ Ok weights
-GivesFound (Err fault) found = IfRank fault (λ told. found ≡ Err told)
+GivesFound (Err fault) found = IfRank fault (λ reported. found ≡ Err reported)
 
 -- The answer is what verifying gives. That takes no memory.
 abbrev pub GivesBound : Result Bound RankFault → Result ℕ RankView → Type 0
 GivesBound (Ok bound) verified = verified ≡ Ok bound.0
-GivesBound (Err fault) verified = (told : RankView) × (rank_view fault ≡ Some told) × (verified ≡ Err told)
+GivesBound (Err fault) verified = (reported : RankView) × (rank_view fault ≡ Some reported) × (verified ≡ Err reported)

@@ -1,4 +1,4 @@
-//! The order in which events can be weighed: each behind those to which it leads.
+//! The order in which events can be weighed: each after those to which it leads.
 
 ghost use Rattle.std.specs.Prelude.{◌≡◌, ℕ, ◌<◌, false, [], length, slice_index, IfOk};
 ghost use Rattle.mpf_plan.specs.Valid.{IsValid};
@@ -12,7 +12,7 @@ use std::alloc::{AllocError, Global};
 /// The events from which one cannot go on without end, and what is left of each event.
 #[derive(Drop)]
 pub(crate) struct Grounding {
-    /// Each event behind those to which it leads.
+    /// Each event after those to which it leads.
     pub(crate) order: Vec<EventId>,
     /// How many posts of each event are of events that are not in the order.
     pub(crate) left: Vec<u128>,

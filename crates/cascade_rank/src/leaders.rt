@@ -94,39 +94,47 @@ fn add_target(
     event: EventId,
     target: Target,
 ) -> Result<u128, AllocError>
-    requires target { IsTargetWithin (length plan.now.lists) target }
+    requires target { IsTargetWithin plan.now target }
     requires leaders { length leaders.old ≡ length plan.now.events }
     ensures leaders { IfOk result (λ _. AddsLeader event.0 (cost_of_target plan.now target) leaders.old leaders.new) }
     ensures posts { IfOk result (λ posts. posts ≡ unmet (λ _. false) (cost_of_target plan.now target)) }
     ensures small { IfOk result (λ posts. posts < 2 ^ 64) }
 {
     match target {
-        Target::Run(list) => add_actions(leaders, event, plan.list(list)),
+        Target::Run(list) => add_actions(leaders, plan, event, plan.list(list)),
     }
 }
 
 fn add_actions(
     leaders: &mut Leaders,
+    plan: &Plan,
     event: EventId,
     actions: &[Action],
 ) -> Result<u128, AllocError>
-    requires { All (IsActionWithin (length leaders.old)) actions.now }
-    ensures leaders { IfOk result (λ _. AddsLeader event.0 (each_of cost_of_action actions.now) leaders.old leaders.new) }
-    ensures posts { IfOk result (λ posts. posts ≡ unmet (λ _. false) (each_of cost_of_action actions.now)) }
+    requires actions { All (IsActionWithin plan.now) actions.now }
+    requires leaders { length leaders.old ≡ length plan.now.events }
+    ensures leaders { IfOk result (λ _. AddsLeader event.0 (each_of (cost_of_action plan.now) actions.now) leaders.old leaders.new) }
+    ensures posts { IfOk result (λ posts. posts ≡ unmet (λ _. false) (each_of (cost_of_action plan.now) actions.now)) }
     ensures small { IfOk result (λ posts. posts < 2 ^ 64) }
 {
     let mut posts = 0u128;
     for action in actions {
-        let more = add_action(leaders, event, *action)?;
+        let more = add_action(leaders, plan, event, *action)?;
         posts += more;
     }
     Ok(posts)
 }
 
-fn add_action(leaders: &mut Leaders, event: EventId, action: Action) -> Result<u128, AllocError>
-    requires { IsActionWithin (length leaders.old) action }
-    ensures leaders { IfOk result (λ _. AddsLeader event.0 (cost_of_action action) leaders.old leaders.new) }
-    ensures posts { IfOk result (λ posts. posts ≡ unmet (λ _. false) (cost_of_action action)) }
+fn add_action(
+    leaders: &mut Leaders,
+    plan: &Plan,
+    event: EventId,
+    action: Action,
+) -> Result<u128, AllocError>
+    requires action { IsActionWithin plan.now action }
+    requires leaders { length leaders.old ≡ length plan.now.events }
+    ensures leaders { IfOk result (λ _. AddsLeader event.0 (cost_of_action plan.now action) leaders.old leaders.new) }
+    ensures posts { IfOk result (λ posts. posts ≡ unmet (λ _. false) (cost_of_action plan.now action)) }
     ensures small { IfOk result (λ posts. posts ≤ 1) }
 {
     match action {

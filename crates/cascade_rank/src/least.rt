@@ -16,7 +16,7 @@ use crate::weights::Weights;
 use mpf_plan::{EventId, Plan};
 use std::alloc::{AllocError, Global};
 
-/// What weighs more is not told apart from this: one more than the greatest weight.
+/// Whatever weighs more counts as this: one more than the greatest weight.
 const TOO_MUCH: u32 = 10_001;
 
 /// The least weights that fit the plan.

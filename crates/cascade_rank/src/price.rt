@@ -5,7 +5,6 @@
 
 ghost use Rattle.std.specs.Prelude.{◌≡◌, ◌^◌, ◌<◌, length, slice_index};
 ghost use Rattle.std.specs.List.{All};
-ghost use Rattle.mpf_plan.specs.PlanView.{switch_at};
 ghost use Rattle.mpf_plan.specs.Valid.{IsActionWithin, IsTargetWithin, IsBindingWithin, IsEventWithin};
 ghost use Rattle.cascade_rank.specs.Cost.{price, each_of, cost_of_post, cost_of_action, cost_of_list, cost_of_target, cost_of_binding, cost_of_event, cost_of_switch, cost_of_stimuli};
 
@@ -36,7 +35,7 @@ fn price_of_binding(plan: &Plan, weights: &[u32], binding: Binding) -> u128
 }
 
 fn price_of_target(plan: &Plan, weights: &[u32], target: Target) -> u128
-    requires target { IsTargetWithin (length plan.now.lists) target }
+    requires target { IsTargetWithin plan.now target }
     requires weights { length weights.now ≡ length plan.now.events }
     ensures price { result ≡ price (slice_index weights.now) (cost_of_target plan.now target) }
     ensures small { result < 2 ^ 96 }
@@ -52,24 +51,26 @@ fn price_of_list(plan: &Plan, weights: &[u32], list: ListId) -> u128
     ensures price { result ≡ price (slice_index weights.now) (cost_of_list plan.now list) }
     ensures small { result < 2 ^ 96 }
 {
-    price_of_actions(weights, plan.list(list))
+    price_of_actions(plan, weights, plan.list(list))
 }
 
-fn price_of_actions(weights: &[u32], actions: &[Action]) -> u128
-    requires { All (IsActionWithin (length weights.now)) actions.now }
-    ensures price { result ≡ price (slice_index weights.now) (each_of cost_of_action actions.now) }
+fn price_of_actions(plan: &Plan, weights: &[u32], actions: &[Action]) -> u128
+    requires actions { All (IsActionWithin plan.now) actions.now }
+    requires weights { length weights.now ≡ length plan.now.events }
+    ensures price { result ≡ price (slice_index weights.now) (each_of (cost_of_action plan.now) actions.now) }
     ensures small { result < 2 ^ 96 }
 {
     let mut total = 0u128;
     for action in actions {
-        total += price_of_action(weights, *action);
+        total += price_of_action(plan, weights, *action);
     }
     total
 }
 
-fn price_of_action(weights: &[u32], action: Action) -> u128
-    requires { IsActionWithin (length weights.now) action }
-    ensures price { result ≡ price (slice_index weights.now) (cost_of_action action) }
+fn price_of_action(plan: &Plan, weights: &[u32], action: Action) -> u128
+    requires action { IsActionWithin plan.now action }
+    requires weights { length weights.now ≡ length plan.now.events }
+    ensures price { result ≡ price (slice_index weights.now) (cost_of_action plan.now action) }
     ensures small { result < 2 ^ 32 }
 {
     match action {
@@ -101,7 +102,7 @@ pub(crate) fn bound_of(plan: &Plan, weights: &[u32]) -> u128
 fn price_of_switch(plan: &Plan, weights: &[u32], switch: SwitchId) -> u128
     requires switch { switch.0 < length plan.now.switches }
     requires weights { length weights.now ≡ length plan.now.events }
-    ensures { result ≡ price (slice_index weights.now) (cost_of_switch (switch_at plan.now switch)) }
+    ensures { result ≡ price (slice_index weights.now) (cost_of_switch plan.now switch) }
 {
     let active = price_of_posts(weights, plan.posts(switch, true));
     let inactive = price_of_posts(weights, plan.posts(switch, false));

@@ -5,7 +5,7 @@ ghost use Rattle.std.specs.List.{All};
 ghost use Rattle.mpf_plan.specs.Valid.{IsActionWithin, IsTargetWithin};
 ghost use Rattle.cascade_rank.specs.Cost.{each_of, cost_of_action, cost_of_target};
 ghost use Rattle.cascade_rank.specs.LeadsTo.{is_open, IsCycle};
-ghost use Rattle.cascade_rank.specs.Cycle.{IsFirst, IsToldCycle, next_open, from_first, cycle_of};
+ghost use Rattle.cascade_rank.specs.Cycle.{IsFirst, IsReportedCycle, next_open, from_first, cycle_of};
 ghost use Rattle.cascade_rank.specs.Lowest.{lowest, IsLeft};
 
 use mpf_plan::{Action, EventId, Plan, Target};
@@ -30,7 +30,7 @@ pub(crate) fn walk(
     requires within { start.0 < length plan.now.events }
     requires first { IsFirst (is_open plan.now) start.0 }
     ensures cycle { IfOk result (λ cycle. map (λ e. e.0) cycle.items ≡ cycle_of plan.now start.0) }
-    ensures told { IfOk result (λ cycle. IsToldCycle plan.now (map (λ e. e.0) cycle.items)) }
+    ensures reported { IfOk result (λ cycle. IsReportedCycle plan.now (map (λ e. e.0) cycle.items)) }
     ensures is_one { IfOk result (λ cycle. IsCycle plan.now (map (λ e. e.0) cycle.items)) }
 {
     let mut passed = vec![in alloc; false; plan.event_count()]?;
@@ -75,32 +75,34 @@ fn next(plan: &Plan, left: &[u128], event: EventId) -> EventId
 
 /// The lowest of those that the target posts, or the number of events where there is none.
 fn lowest_of_target(plan: &Plan, left: &[u128], target: Target) -> u16
-    requires target { IsTargetWithin (length plan.now.lists) target }
+    requires target { IsTargetWithin plan.now target }
     requires left { length left.now ≡ length plan.now.events }
     requires small { length left.now < 65536 }
     ensures { result ≡ lowest (length left.now) (λ e. nat_lt 0 (slice_index left.now e)) (cost_of_target plan.now target) }
 {
     match target {
-        Target::Run(list) => lowest_of_actions(left, plan.list(list)),
+        Target::Run(list) => lowest_of_actions(plan, left, plan.list(list)),
     }
 }
 
-fn lowest_of_actions(left: &[u128], actions: &[Action]) -> u16
-    requires actions { All (IsActionWithin (length left.now)) actions.now }
+fn lowest_of_actions(plan: &Plan, left: &[u128], actions: &[Action]) -> u16
+    requires actions { All (IsActionWithin plan.now) actions.now }
+    requires left { length left.now ≡ length plan.now.events }
     requires small { length left.now < 65536 }
-    ensures { result ≡ lowest (length left.now) (λ e. nat_lt 0 (slice_index left.now e)) (each_of cost_of_action actions.now) }
+    ensures { result ≡ lowest (length left.now) (λ e. nat_lt 0 (slice_index left.now e)) (each_of (cost_of_action plan.now) actions.now) }
 {
     let mut lowest = left.len() as u16;
     for action in actions {
-        lowest = lowest.min(lowest_of_action(left, *action));
+        lowest = lowest.min(lowest_of_action(plan, left, *action));
     }
     lowest
 }
 
-fn lowest_of_action(left: &[u128], action: Action) -> u16
-    requires action { IsActionWithin (length left.now) action }
+fn lowest_of_action(plan: &Plan, left: &[u128], action: Action) -> u16
+    requires action { IsActionWithin plan.now action }
+    requires left { length left.now ≡ length plan.now.events }
     requires small { length left.now < 65536 }
-    ensures { result ≡ lowest (length left.now) (λ e. nat_lt 0 (slice_index left.now e)) (cost_of_action action) }
+    ensures { result ≡ lowest (length left.now) (λ e. nat_lt 0 (slice_index left.now e)) (cost_of_action plan.now action) }
 {
     match action {
         Action::Post(event) if left[event.0 as usize] > 0 => event.0,

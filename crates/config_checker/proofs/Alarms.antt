@@ -1,8 +1,11 @@
--- Which alarms are due: only changes and alarms of switches alter that, each alarm by one.
-use Rattle.std.proofs.Common.{◌≡◌, ℕ, zero, suc, ◌+◌, ◌≤◌, ◌<◌, Bool, true, false, is_some, if◌then◌else◌, Option, Some, None, List, [], ◌∷◌, length, slice_index_or, slice_set, refl, ap, sym, ◌∙◌, subst, inl, inr, ◌⊎◌, arith}
-use Rattle.std.proofs.lemmas.Bool.{cases_lt, cases_eq, cond_both}
-use Rattle.std.proofs.lemmas.List.{get_or-set_same, get_or-set_other, get_or_past, set_past}
-use Rattle.mpf_plan.specs.PlanView.{PlanView, switch_posts, list_at}
+-- What is due: only a stimulus alters that, and no alarm comes late.
+use Rattle.std.proofs.Common.{◌≡◌, ℕ, zero, suc, ◌≤◌, ◌<◌, ◌⊎◌, Bool, Option, Some, None, List, [], ◌∷◌, length, refl, ap, sym, ◌∙◌, subst, inl, inr, arith}
+use Rattle.std.proofs.lemmas.Option.{none-some}
+use Rattle.std.proofs.lemmas.List.{length-map}
+use Rattle.mpf_plan.specs.PlanView.{PlanView, posts_of, list_at, binding_at}
+use Rattle.mpf_plan.specs.Valid.{IsValid}
+use Rattle.mpf_plan.specs.declared.entries.SwitchId.{SwitchId}
+use Rattle.mpf_plan.specs.declared.entries.BindingId.{BindingId}
 use Rattle.mpf_plan.specs.declared.entries.Owner.{Owner}
 use Rattle.mpf_plan.specs.declared.entries.Owner.TheVariants as owners
 use Rattle.mpf_plan.specs.declared.entries.Action.{Action}
@@ -10,17 +13,17 @@ use Rattle.mpf_plan.specs.declared.entries.Action.TheVariants.{Post}
 use Rattle.mpf_plan.specs.declared.entries.Target.{Target}
 use Rattle.mpf_plan.specs.declared.entries.Target.TheVariants.{Run}
 use Rattle.mpf_plan.specs.declared.entries.Binding.{Binding}
-use Rattle.mpf_plan.specs.declared.entries.SwitchKind.{SwitchKind}
-use Rattle.switch_core.specs.SwitchStep.{SwitchState, same_level, is_active, accepted, awaited, changed, is_taken, fired}
+use Rattle.switch_core.specs.declared.change.Change.{Change as Acceptance}
+use Rattle.switch_core.specs.SwitchStep.{idle}
+use Rattle.switch_core.specs.Switches.{SwitchesView, IsComplete, due_of, all_idle, after_change, told_by_change, accept, told}
+use Rattle.switch_core.proofs.DueMoments.{changes_arm_later, accept-due, accept-done, idle-nothing_due}
 use Rattle.config_checker.specs.declared.line.Line.{Line}
-use Rattle.config_checker.specs.declared.line.Happening.TheVariants as tells
-use Rattle.config_checker.specs.Machine.{Machine, write, post, set_switch, all_do, do_action, do_target, do_binding, initial, planned, kind_at, idle_switch, switch_at, level_of, tell_switch, set_changed}
-use Rattle.config_checker.specs.EventStep.{EventStep, EventSteps, taken}
-use Rattle.config_checker.specs.PlanOrder.{plan_steps}
-use Rattle.config_checker.specs.Run.{Stimulus, Change, Alarm, Wait, due_of, IsQuietUntil, IsNextAlarm, IsAllowed, arrived, begin, IsRun}
-use Rattle.config_checker.proofs.Does.{moment-does}
-use Rattle.config_checker.proofs.Parts.{does-event, does-begin, moment_of}
-use Rattle.config_checker.proofs.PlanSteps.{plan_steps-are_steps}
+use Rattle.config_checker.specs.declared.line.Happening.TheVariants as lines
+use Rattle.config_checker.specs.Machine.{Machine, write, post, set_switches, all_do, do_action, do_target, do_binding, do_handler, do_accepted, do_if_accepted, initial}
+use Rattle.config_checker.specs.EventStep.{EventStep, EventSteps, handled_in}
+use Rattle.config_checker.specs.Run.{Source, switch, source_due, IsNothingLate, Stimulus, Change, Alarm, Wait, moment_of, IsAllowed, arrived, begin, IsRun}
+use Rattle.config_checker.proofs.Does.{moment-does, kinds-does, states-does}
+use Rattle.config_checker.proofs.Parts.{does-event, does-begin}
 
 -- ---- event steps change neither a switch nor the moment
 
@@ -28,26 +31,26 @@ switches-all_do : {X : Type 0} (f : X → Machine → Machine) → ((x : X) (s :
 switches-all_do f each [] s = refl
 switches-all_do f each (x ∷ xs) s = switches-all_do f each xs (f x s) ∙ each x s
 
-switches-action : (owner : Owner) (a : Action) (s : Machine) → (do_action owner a s).switches ≡ s.switches
-switches-action owner (Post e) s = refl
-
 module _ (plan : PlanView) where
+  switches-action : (owner : Owner) (a : Action) (s : Machine) → (do_action plan owner a s).switches ≡ s.switches
+  switches-action owner (Post e) s = refl
+
   switches-target : (owner : Owner) (t : Target) (s : Machine) → (do_target plan owner t s).switches ≡ s.switches
-  switches-target owner (Run l) s = switches-all_do (do_action owner) (switches-action owner) (list_at plan l) s
+  switches-target owner (Run l) s = switches-all_do (do_action plan owner) (switches-action owner) (list_at plan l) s
 
   switches-binding : (b : Binding) (s : Machine) → (do_binding plan b s).switches ≡ s.switches
   switches-binding b s = switches-target b.owner b.target s
 
+  switches-handler : (place : BindingId) (s : Machine) → (do_handler plan place s).switches ≡ s.switches
+  switches-handler place s = switches-binding (binding_at plan place.0) s
+
   pub switches-step : (s t : Machine) → EventStep plan s t → t.switches ≡ s.switches
   switches-step s t st =
-      ap (λ (m : Machine). m.switches) st.new_is ∙ switches-all_do (do_binding plan) switches-binding st.order (taken st.first st.rest s)
+      ap (λ (m : Machine). m.switches) st.new_is ∙ switches-all_do (do_handler plan) switches-handler st.order (handled_in plan st.first st.rest s)
 
   pub switches-steps : (n : ℕ) (s t : Machine) → EventSteps plan n s t → t.switches ≡ s.switches
   switches-steps zero s t is = ap (λ (m : Machine). m.switches) is
   switches-steps (suc n) s t (mid, step, more) = switches-steps n mid t more ∙ switches-step s mid step
-
-  pub switches-plan_steps : (n : ℕ) (s : Machine) → (plan_steps plan n s).switches ≡ s.switches
-  switches-plan_steps n s = let is = plan_steps-are_steps plan n s in switches-steps is.count s (plan_steps plan n s) is.steps
 
   pub moment-step : (s t : Machine) → EventStep plan s t → t.moment ≡ s.moment
   moment-step s t st = ap (λ (m : Machine). m.moment) st.new_is ∙ moment-does (does-event plan st.first st.rest st.order s)
@@ -56,187 +59,124 @@ module _ (plan : PlanView) where
   moment-steps zero s t is = ap (λ (m : Machine). m.moment) is
   moment-steps (suc n) s t (mid, step, more) = moment-steps n mid t more ∙ moment-step s mid step
 
-  pub moment-plan_steps : (n : ℕ) (s : Machine) → (plan_steps plan n s).moment ≡ s.moment
-  moment-plan_steps n s = let is = plan_steps-are_steps plan n s in moment-steps is.count s (plan_steps plan n s) is.steps
-
   -- a stimulus comes at its moment
   pub moment-begin : (stimulus : Stimulus) (s : Machine) → (begin plan stimulus s).moment ≡ moment_of stimulus
   moment-begin stimulus s = moment-does (does-begin plan stimulus s)
 
-  -- that an acceptance is told alters no switch
-  switches-tell : (n : ℕ) (active : Bool) (s : Machine) → (tell_switch plan n active s).switches ≡ s.switches
-  switches-tell n active s = switches-all_do (post owners.Machine) (λ e t. refl) (switch_posts active (planned plan n)) (write owners.Machine (tells.Switch (record { 0 = n }) active) s)
+  -- and after any number of event steps it is still that moment
+  pub moment-after : (stimulus : Stimulus) (s : Machine) (n : ℕ) (t : Machine) → EventSteps plan n (begin plan stimulus s) t → t.moment ≡ moment_of stimulus
+  moment-after stimulus s n t steps = moment-steps n (begin plan stimulus s) t steps ∙ moment-begin stimulus s
 
-  -- an alarm and a change alter their own switch alone
-  pub switches-alarm : (at n : ℕ) (s : Machine) → (begin plan (Alarm at n) s).switches ≡ slice_set s.switches n (fired (kind_at plan n) (switch_at s n))
-  switches-alarm at n s = switches-tell n (level_of plan n (switch_at s n).raw) (set_switch n (fired (kind_at plan n) (switch_at s n)) (arrived at s))
+  -- ---- what stimuli do with the switches
 
-  pub switches-change : (at n : ℕ) (level : Bool) (s : Machine) → (begin plan (Change at n level) s).switches ≡ slice_set s.switches n (changed (kind_at plan n) at level (switch_at s n))
-  switches-change at n level s =
-      let next = set_changed plan at n level (arrived at s) in
-      cond_both (is_taken (kind_at plan n) level (switch_at s n)) (tell_switch plan n (level_of plan n level) next) next (λ (m : Machine). m.switches ≡ next.switches) (λ _. switches-tell n (level_of plan n level) next) (λ _. refl)
+  -- an acceptance alters none
+  switches-accepted : (a : Acceptance) (s : Machine) → (do_accepted plan a s).switches ≡ s.switches
+  switches-accepted a s = switches-all_do (post owners.Machine) (λ e t. refl) (posts_of plan a.switch a.active) (write owners.Machine (lines.Switch a.switch a.active) s)
 
--- ---- the due moments
+  switches-if_accepted : (o : Option Acceptance) (s : Machine) → (do_if_accepted plan o s).switches ≡ s.switches
+  switches-if_accepted None s = refl
+  switches-if_accepted (Some a) s = switches-accepted a s
 
-abbrev pub due_at : List SwitchState → ℕ → Option ℕ
-due_at switches n = (slice_index_or switches n idle_switch).due
+  pub switches-change : (at : ℕ) (n : SwitchId) (level : Bool) (s : Machine) → (begin plan (Change at n level) s).switches ≡ after_change n level at s.switches
+  switches-change at n level s = switches-if_accepted (told_by_change n level at s.switches) (set_switches (after_change n level at s.switches) (arrived at s))
 
-none-some : {A : Type 0} (o : Option ℕ) (at : ℕ) → o ≡ None → o ≡ Some at → A
-none-some o at none is = absurd (apart (sym none ∙ is))
-  where
-    apart : None ≡ Some at → ⊥
-    apart e = cc
+  pub switches-alarm : (at : ℕ) (n : SwitchId) (s : Machine) → (begin plan (Alarm at (switch n)) s).switches ≡ accept n s.switches
+  switches-alarm at n s = switches-accepted (told (accept n s.switches) n) (set_switches (accept n s.switches) (arrived at s))
 
--- a due moment after one switch was set is an old one, or that of the new state
-pub due_at-set : (switches : List SwitchState) (n m at : ℕ) (switch : SwitchState) → due_at (slice_set switches n switch) m ≡ Some at → (due_at switches m ≡ Some at) ⊎ ((m ≡ n) × (switch.due ≡ Some at))
-due_at-set switches n m at switch is =
-    elim (cases_eq m n) [
-      | inr other ↦ inl (sym (ap (λ (x : SwitchState). x.due) (get_or-set_other switches n m switch idle_switch other)) ∙ is)
-      | inl same ↦
-          elim (cases_lt n (length switches)) [
-            | inl there ↦ inr (same, sym (ap (λ (x : SwitchState). x.due) (get_or-set_same switches n switch idle_switch there)) ∙ (ap (due_at (slice_set switches n switch)) (sym same) ∙ is))
-            | inr past ↦ inl (ap (λ (xs : List SwitchState). due_at xs m) (sym (set_past switches n switch past)) ∙ is)
-          ]
-    ]
+  -- so they do the same with the same switches
+  pub switches-same : (stimulus : Stimulus) (s t : Machine) → s.switches ≡ t.switches → (begin plan stimulus s).switches ≡ (begin plan stimulus t).switches
+  switches-same (Change at n level) s t e = switches-change at n level s ∙ ap (after_change n level at) e ∙ sym (switches-change at n level t)
+  switches-same (Alarm at (switch n)) s t e = switches-alarm at n s ∙ ap (accept n) e ∙ sym (switches-alarm at n t)
+  switches-same (Wait at) s t e = e
 
-due_at-none : (switches : List SwitchState) (n : ℕ) (switch : SwitchState) → switch.due ≡ None → due_at (slice_set switches n switch) n ≡ None
-due_at-none switches n switch none =
-    elim (cases_lt n (length switches)) [
-      | inl there ↦ ap (λ (x : SwitchState). x.due) (get_or-set_same switches n switch idle_switch there) ∙ none
-      | inr past ↦ ap (λ (xs : List SwitchState). due_at xs n) (set_past switches n switch past) ∙ ap (λ (x : SwitchState). x.due) (get_or_past switches n idle_switch past)
-    ]
+-- ---- what stimuli leave due
 
--- how many switches have one
-abbrev pub due_count : List SwitchState → ℕ
-due_count [] = 0
-due_count (x ∷ xs) = (if is_some x.due then 1 else 0) + due_count xs
-
-pub due_count-length : (switches : List SwitchState) → due_count switches ≤ length switches
-due_count-length [] = omega arith
-due_count-length (x ∷ xs) =
-    let one : (if is_some x.due then 1 else 0) ≤ 1 = cond_both (is_some x.due) 1 0 (λ n. n ≤ 1) (λ _. omega arith) (λ _. omega arith) in
-    omega (arith, one, due_count-length xs)
-
--- where one is due the count is above 0
-pub due-counted : (switches : List SwitchState) (n at : ℕ) → due_at switches n ≡ Some at → 0 < due_count switches
-due-counted [] n at is = none-some None at refl is
-due-counted (x ∷ xs) zero at is =
-    let here : is_some x.due ≡ true = ap is_some is in
-    rw here (omega arith)
-due-counted (x ∷ xs) (suc n) at is = omega (arith, due-counted xs n at is)
-
--- one fewer is due once a switch that was has no due moment any more
-pub due_count-fewer : (switches : List SwitchState) (n at : ℕ) (switch : SwitchState) → switch.due ≡ None → due_at switches n ≡ Some at → due_count (slice_set switches n switch) + 1 ≡ due_count switches
-due_count-fewer [] n at switch none is = none-some None at refl is
-due_count-fewer (x ∷ xs) zero at switch none is =
-    let here : is_some x.due ≡ true = ap is_some is in
-    let gone : is_some switch.due ≡ false = ap is_some none in
-    rw here (rw gone (omega arith))
-due_count-fewer (x ∷ xs) (suc n) at switch none is = omega (arith, due_count-fewer xs n at switch none is)
-
--- where none is counted no alarm is due at all
-pub due_count-none : (s : Machine) → due_count s.switches ≡ 0 → (at : ℕ) → IsQuietUntil s at
-due_count-none s none at n due is =
-    let some = due-counted s.switches n due is in
-    absurd (omega arith)
-
--- there is one next alarm at most
-pub next_alarm-unique : (s : Machine) (at n other m : ℕ) → IsNextAlarm s at n → IsNextAlarm s other m → (at ≡ other) × (n ≡ m)
-next_alarm-unique s at n other m a b =
-    elim (a.least m other b.due) [
-      | inl before ↦ elim (b.least n at a.due) [ inl after ↦ absurd (omega arith) | inr same ↦ let is = same.0 in absurd (omega arith) ]
-      | inr same ↦
-          elim (b.least n at a.due) [
-            | inl after ↦ let is = same.0 in absurd (omega arith)
-            | inr again ↦ let lower = same.1 in let upper = again.1 in (same.0, omega arith)
-          ]
-    ]
-
--- ---- after a stimulus and event steps in plan order
-
-module _ (plan : PlanView) (k : ℕ) where
-  pub moment-after : (stimulus : Stimulus) (s : Machine) → (plan_steps plan k (begin plan stimulus s)).moment ≡ moment_of stimulus
-  moment-after stimulus s = moment-plan_steps plan k (begin plan stimulus s) ∙ moment-begin plan stimulus s
-
-  pub switches-after_alarm : (at n : ℕ) (s : Machine) → (plan_steps plan k (begin plan (Alarm at n) s)).switches ≡ slice_set s.switches n (fired (kind_at plan n) (switch_at s n))
-  switches-after_alarm at n s = switches-plan_steps plan k (begin plan (Alarm at n) s) ∙ switches-alarm plan at n s
-
-  pub switches-after_change : (at n : ℕ) (level : Bool) (s : Machine) → (plan_steps plan k (begin plan (Change at n level) s)).switches ≡ slice_set s.switches n (changed (kind_at plan n) at level (switch_at s n))
-  switches-after_change at n level s = switches-plan_steps plan k (begin plan (Change at n level) s) ∙ switches-change plan at n level s
-
-  pub switches-after_wait : (at : ℕ) (s : Machine) → (plan_steps plan k (begin plan (Wait at) s)).switches ≡ s.switches
-  switches-after_wait at s = switches-plan_steps plan k (begin plan (Wait at) s)
-
-  -- after an alarm nothing is due that was not before
-  pub due-after_alarm : (at n : ℕ) (s : Machine) (m due : ℕ) → due_of (plan_steps plan k (begin plan (Alarm at n) s)) m ≡ Some due → due_of s m ≡ Some due
-  due-after_alarm at n s m due is =
-      let set : due_at (slice_set s.switches n (fired (kind_at plan n) (switch_at s n))) m ≡ Some due = ap (λ (xs : List SwitchState). due_at xs m) (sym (switches-after_alarm at n s)) ∙ is in
-      elim (due_at-set s.switches n m due (fired (kind_at plan n) (switch_at s n)) set) [
-        | inl old ↦ old
-        | inr new ↦ none-some None due refl new.1
-      ]
-
-  -- its own switch has no due moment any more, and one switch fewer is due
-  pub alarm-done : (at n : ℕ) (s : Machine) → due_of (plan_steps plan k (begin plan (Alarm at n) s)) n ≡ None
-  alarm-done at n s = ap (λ (xs : List SwitchState). due_at xs n) (switches-after_alarm at n s) ∙ due_at-none s.switches n (fired (kind_at plan n) (switch_at s n)) refl
-
-  pub due_count-after_alarm : (at n : ℕ) (s : Machine) → due_of s n ≡ Some at → due_count (plan_steps plan k (begin plan (Alarm at n) s)).switches + 1 ≡ due_count s.switches
-  due_count-after_alarm at n s is =
-      ap (λ (xs : List SwitchState). due_count xs + 1) (switches-after_alarm at n s) ∙ due_count-fewer s.switches n at (fired (kind_at plan n) (switch_at s n)) refl is
-
--- ---- no alarm is late
-
--- no due moment is before that of the latest stimulus
-abbrev pub IsAhead : Machine → Type 0
-IsAhead s = (n due : ℕ) → due_of s n ≡ Some due → s.moment ≤ due
-
-changed_due : (kind : SwitchKind) (at due : ℕ) (level : Bool) (switch : SwitchState) → ((old : ℕ) → switch.due ≡ Some old → at ≤ old) → (changed kind at level switch).due ≡ Some due → at ≤ due
-changed_due kind at due level switch ahead =
-    cond_both (same_level level switch.raw) switch (if kind.quick then accepted kind level else awaited kind at level switch) (λ x. x.due ≡ Some due → at ≤ due)
-    (λ _ is. ahead due is)
-    (λ _. cond_both kind.quick (accepted kind level) (awaited kind at level switch) (λ x. x.due ≡ Some due → at ≤ due)
-    (λ _ is. none-some None due refl is)
-    (λ _. cond_both (same_level (is_active kind.contact level) switch.active) None (Some (at + 5)) (λ o. o ≡ Some due → at ≤ due) (λ _ is. none-some None due refl is) (λ _ is. later is)))
-  where
-    later : Some (at + 5) ≡ Some due → at ≤ due
-    later is = let e : at + 5 ≡ due = cc in omega arith
+-- what is due is a matter of the switches
+pub source_due-same : (s t : Machine) → s.switches ≡ t.switches → (source : Source) → source_due s source ≡ source_due t source
+source_due-same s t e (switch n) = ap (λ (v : SwitchesView). due_of v n) e
 
 module _ (plan : PlanView) where
-  pub ahead-begin : (stimulus : Stimulus) (s : Machine) → IsAllowed plan s stimulus → IsAhead (begin plan stimulus s)
-  ahead-begin (Change at n level) s allowed m due is =
-      let quiet = allowed.0.quiet in
-      let here = moment-begin plan (Change at n level) s in
-      let set : due_at (slice_set s.switches n (changed (kind_at plan n) at level (switch_at s n))) m ≡ Some due = ap (λ (xs : List SwitchState). due_at xs m) (sym (switches-change plan at n level s)) ∙ is in
-      elim (due_at-set s.switches n m due (changed (kind_at plan n) at level (switch_at s n)) set) [
-        | inl old ↦ let after = quiet m due old in omega (arith, here)
-        | inr new ↦ let after = changed_due (kind_at plan n) at due level (switch_at s n) (λ old was. let after = quiet n old was in omega arith) new.1 in omega (arith, here)
-      ]
-  ahead-begin (Alarm at n) s allowed m due is =
-      let here = moment-begin plan (Alarm at n) s in
-      elim (allowed.0.least m due (due-after_alarm plan 0 at n s m due is)) [
-        | inl after ↦ omega (arith, here)
-        | inr same ↦ let too = same.0 in omega (arith, here, too)
-      ]
-  ahead-begin (Wait at) s allowed m due is =
-      let after = allowed.quiet m due is in
-      omega arith
+  -- what a stimulus leaves due was due before it, or is due after its moment
+  begin-arms_later : (stimulus : Stimulus) (s : Machine) (source : Source) (due : ℕ) → source_due (begin plan stimulus s) source ≡ Some due → (source_due s source ≡ Some due) ⊎ (moment_of stimulus < due)
+  begin-arms_later (Change at n level) s (switch m) due is =
+      changes_arm_later n level at s.switches m due (ap (λ (v : SwitchesView). due_of v m) (sym (switches-change plan at n level s)) ∙ is)
+  begin-arms_later (Alarm at (switch n)) s (switch m) due is =
+      inl (accept-due n s.switches m due (ap (λ (v : SwitchesView). due_of v m) (sym (switches-alarm plan at n s)) ∙ is))
+  begin-arms_later (Wait at) s (switch m) due is = inl is
 
-  pub ahead-steps : (n : ℕ) (s t : Machine) → EventSteps plan n s t → IsAhead s → IsAhead t
-  ahead-steps n s t steps ahead m due is =
-      let was : due_of s m ≡ Some due = ap (λ (xs : List SwitchState). due_at xs m) (sym (switches-steps plan n s t steps)) ∙ is in
-      omega (arith, ahead m due was, moment-steps plan n s t steps)
+  -- and so do its event steps
+  pub arms_later : (stimulus : Stimulus) (s : Machine) (n : ℕ) (t : Machine) → EventSteps plan n (begin plan stimulus s) t
+      → (source : Source) (due : ℕ) → source_due t source ≡ Some due → (source_due s source ≡ Some due) ⊎ (moment_of stimulus < due)
+  arms_later stimulus s n t steps source due is =
+      begin-arms_later stimulus s source due (sym (source_due-same t (begin plan stimulus s) (switches-steps plan n (begin plan stimulus s) t steps) source) ∙ is)
 
-  pub ahead-initial : IsAhead (initial plan)
-  ahead-initial n due is = omega arith
+  begin-done : (at : ℕ) (source : Source) (s : Machine) (due : ℕ) → source_due (begin plan (Alarm at source) s) source ≡ Some due → at < due
+  begin-done at (switch n) s due is =
+      absurd (none-some due (sym (accept-done n s.switches) ∙ ap (λ (v : SwitchesView). due_of v n) (sym (switches-alarm plan at n s)) ∙ is))
+
+  -- an alarm that came is not due any more at its moment
+  pub alarm-done : (at : ℕ) (source : Source) (s : Machine) (n : ℕ) (t : Machine) → EventSteps plan n (begin plan (Alarm at source) s) t → (due : ℕ) → source_due t source ≡ Some due → at < due
+  alarm-done at source s n t steps due is =
+      begin-done at source s due (sym (source_due-same t (begin plan (Alarm at source) s) (switches-steps plan n (begin plan (Alarm at source) s) t steps) source) ∙ is)
+
+  -- ---- no alarm is late
+
+  -- after a stimulus that was allowed
+  pub not_late-after : (stimulus : Stimulus) (s : Machine) (n : ℕ) (t : Machine) → IsAllowed plan s stimulus → EventSteps plan n (begin plan stimulus s) t → IsNothingLate t
+  not_late-after stimulus s n t allowed steps source due is =
+      elim (arms_later stimulus s n t steps source due is) [
+        | inl old ↦ omega (arith, was stimulus s allowed source due old, moment-after plan stimulus s n t steps)
+        | inr later ↦ omega (arith, moment-after plan stimulus s n t steps)
+      ]
+    where
+      was : (stimulus : Stimulus) (s : Machine) → IsAllowed plan s stimulus → (source : Source) (due : ℕ) → source_due s source ≡ Some due → moment_of stimulus ≤ due
+      was (Change at n level) s allowed source due is = let after = allowed.0.quiet source due is in omega arith
+      was (Alarm at first) s allowed source due is =
+          elim (allowed.0.least source due is) [
+            | inl after ↦ omega arith
+            | inr same ↦ let e = same.0 in omega arith
+          ]
+      was (Wait at) s allowed source due is = let after = allowed.quiet source due is in omega arith
+
+  pub not_late-initial : IsNothingLate (initial plan)
+  not_late-initial (switch n) due is = absurd (none-some due (sym (idle-nothing_due plan n) ∙ is))
 
   -- in every run
-  pub ahead-run : (stimuli : List (Stimulus × ℕ)) (s : Machine) (trace : List Line) (t : Machine) → IsRun plan stimuli s trace t → IsAhead s → IsAhead t
-  ahead-run [] s trace t (none, is) ahead = subst IsAhead (sym is) ahead
-  ahead-run ((stimulus, n) ∷ more) s trace t (empty, allowed, (mid, rest, steps, run, lines)) ahead =
-      ahead-run more mid rest t run (ahead-steps n (begin plan stimulus s) mid steps (ahead-begin stimulus s allowed))
+  pub not_late-run : (stimuli : List (Stimulus × ℕ)) (s : Machine) (trace : List Line) (t : Machine) → IsRun plan stimuli s trace t → IsNothingLate s → IsNothingLate t
+  not_late-run [] s trace t (none, is) h = subst IsNothingLate (sym is) h
+  not_late-run ((stimulus, n) ∷ more) s trace t (empty, allowed, (mid, rest, steps, run, lines)) h =
+      not_late-run more mid rest t run (not_late-after stimulus s n mid allowed steps)
 
   -- so no stimulus goes backwards
-  pub forward : (stimulus : Stimulus) (s : Machine) → IsAhead s → IsAllowed plan s stimulus → s.moment ≤ moment_of stimulus
-  forward (Change at n level) s ahead allowed = allowed.0.forward
-  forward (Alarm at n) s ahead allowed = ahead n at allowed.0.due
-  forward (Wait at) s ahead allowed = allowed.forward
+  pub forward : (stimulus : Stimulus) (s : Machine) → IsNothingLate s → IsAllowed plan s stimulus → s.moment ≤ moment_of stimulus
+  forward (Change at n level) s h allowed = allowed.0.forward
+  forward (Alarm at source) s h allowed = h source at allowed.0.due
+  forward (Wait at) s h allowed = allowed.forward
+
+  -- ---- every switch has a state
+
+  pub record HasSwitches (s : Machine) : Type 0 where
+    pub kinds : s.switches.kinds ≡ (all_idle plan).kinds
+    pub states : length s.switches.states ≡ length plan.switches
+
+  pub has_switches-after : (stimulus : Stimulus) (s : Machine) (n : ℕ) (t : Machine) → EventSteps plan n (begin plan stimulus s) t → HasSwitches s → HasSwitches t
+  has_switches-after stimulus s n t steps h =
+      let same = switches-steps plan n (begin plan stimulus s) t steps in
+      record {
+        kinds = ap (λ (v : SwitchesView). v.kinds) same ∙ kinds-does (does-begin plan stimulus s) ∙ h.kinds;
+        states = ap (λ (v : SwitchesView). length v.states) same ∙ states-does (does-begin plan stimulus s) ∙ h.states;
+      }
+
+  pub has_switches-run : (stimuli : List (Stimulus × ℕ)) (s : Machine) (trace : List Line) (t : Machine) → IsRun plan stimuli s trace t → HasSwitches s → HasSwitches t
+  has_switches-run [] s trace t (none, is) h = subst HasSwitches (sym is) h
+  has_switches-run ((stimulus, n) ∷ more) s trace t (empty, allowed, (mid, rest, steps, run, lines)) h =
+      has_switches-run more mid rest t run (has_switches-after stimulus s n mid steps h)
+
+  pub has_switches-initial : HasSwitches (initial plan)
+  has_switches-initial = record { kinds = refl; states = length-map plan.switches (λ s. idle s.kind) }
+
+  pub complete : (s : Machine) → IsValid plan → HasSwitches s → IsComplete s.switches
+  complete s valid h =
+      let kinds = ap (λ (ks : List _). length ks) h.kinds in
+      let count = length-map plan.switches (λ s. s.kind) in
+      record { states = omega (arith, kinds, count, h.states); limit = omega (arith, kinds, count, valid.switch_limit) }

@@ -141,9 +141,9 @@ zip-push [] (w ∷ ws) name weight e = absurd (omega arith)
 zip-push (x ∷ xs) [] name weight e = absurd (omega arith)
 zip-push (x ∷ xs) (w ∷ ws) name weight e = ap (λ (es : List (List ℕ × ℕ)). (x, w) ∷ es) (zip-push xs ws name weight (omega arith))
 
-pub read_none : (text rest behind_heading : List ℕ) (bound : ℕ) → certificate_at text ≡ bound_at (parts 10 behind_heading) → bound_at (parts 10 behind_heading) ≡ with_bound (Some bound) (events_at 3 (parts 10 rest))
+pub read_none : (text rest after_heading : List ℕ) (bound : ℕ) → certificate_at text ≡ bound_at (parts 10 after_heading) → bound_at (parts 10 after_heading) ≡ with_bound (Some bound) (events_at 3 (parts 10 rest))
     → IsReadTo text bound [] [] 3 rest
-read_none text rest behind_heading bound h b = record { paired = refl; whole = h ∙ b ∙ ap (with_bound (Some bound)) (sym (behind_none (events_at 3 (parts 10 rest)))) }
+read_none text rest after_heading bound h b = record { paired = refl; whole = h ∙ b ∙ ap (with_bound (Some bound)) (sym (behind_none (events_at 3 (parts 10 rest)))) }
   where
     behind_none : (r : Result (List (List ℕ × ℕ)) ℕ) → behind [] r ≡ r
     behind_none (Ok more) = refl

@@ -22,7 +22,7 @@ some_event e = Some e
 word_is : (word other : List ℕ) → bytes_eq word other ≡ true → word ≡ other
 word_is word other e = (bytes_eq-Decides word other).0 e
 
--- what stands before the line end
+-- what is before the line end
 abbrev event_words : List ℕ × ℕ → List ℕ
 event_words e = codes "event " ++ e.0 ++ codes " " ++ decimal e.1
 

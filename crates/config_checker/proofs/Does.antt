@@ -4,21 +4,23 @@ use Rattle.std.specs.List.{AllByRecursion}
 use Rattle.std.proofs.lemmas.List.{length-set}
 use Rattle.mpf_plan.specs.declared.entries.EventId.{EventId}
 use Rattle.mpf_plan.specs.declared.entries.Owner.{Owner}
+use Rattle.mpf_plan.specs.declared.entries.SwitchId.{SwitchId}
 use Rattle.switch_core.specs.SwitchStep.{SwitchState}
+use Rattle.switch_core.specs.Switches.{set_state}
 use Rattle.config_checker.specs.declared.line.Happening.{Happening}
 use Rattle.cascade_rank.specs.Cost.{Cost, Lines, Both, Greater, price, each_of, dearest_of, cost_of_post}
 use Rattle.event_queue.specs.declared.queue.Posted.{Posted}
-use Rattle.config_checker.specs.Machine.{Machine, write, post, set_switch, all_do}
+use Rattle.config_checker.specs.Machine.{Machine, write, post, set_switches, all_do}
 use Rattle.config_checker.specs.GoodRun.{weigh}
-use Rattle.cascade_rank.proofs.Within.{IsBelow}
+use Rattle.cascade_rank.specs.Below.{IsBelow}
 
--- From one state to another by changes that cost at most this. A new kind of change is a new constructor here, and a line in
--- each lemma below.
+-- From one state to another by changes that cost at most this. A new kind of change is a new constructor here, and a
+-- line in each lemma below.
 pub data Does : Cost → Machine → Machine → Type 0 where
   quiet : {c : Cost} {s : Machine} → Does c s s
   wrote : (owner : Owner) (what : Happening) (s : Machine) → Does (Lines 1) s (write owner what s)
   posted : (owner : Owner) (e : EventId) (s : Machine) → Does (cost_of_post e) s (post owner e s)
-  switched : {c : Cost} {t : Machine} (n : ℕ) (switch : SwitchState) (s : Machine) → Does c (set_switch n switch s) t → Does c s t
+  switched : {c : Cost} {t : Machine} (n : SwitchId) (switch : SwitchState) (s : Machine) → Does c (set_switches (set_state n switch s.switches) s) t → Does c s t
   both : {a b : Cost} {s m t : Machine} → Does a s m → Does b m t → Does (Both a b) s t
   left : {a b : Cost} {s t : Machine} → Does a s t → Does (Greater a b) s t
   right : {a b : Cost} {s t : Machine} → Does b s t → Does (Greater a b) s t
@@ -58,15 +60,25 @@ WaitsBelow-does n (both a b) m h = WaitsBelow-does n b m.1 (WaitsBelow-does n a 
 WaitsBelow-does n (left a) m h = WaitsBelow-does n a m.0 h
 WaitsBelow-does n (right b) m h = WaitsBelow-does n b m.1 h
 
--- no switch comes or goes
-pub switch_count-does : {c : Cost} {s t : Machine} → Does c s t → length t.switches ≡ length s.switches
-switch_count-does quiet = refl
-switch_count-does (wrote owner what s) = refl
-switch_count-does (posted owner e s) = refl
-switch_count-does (switched n switch s d) = switch_count-does d ∙ length-set s.switches n switch
-switch_count-does (both a b) = switch_count-does b ∙ switch_count-does a
-switch_count-does (left a) = switch_count-does a
-switch_count-does (right b) = switch_count-does b
+-- how the switches are read stays
+pub kinds-does : {c : Cost} {s t : Machine} → Does c s t → t.switches.kinds ≡ s.switches.kinds
+kinds-does quiet = refl
+kinds-does (wrote owner what s) = refl
+kinds-does (posted owner e s) = refl
+kinds-does (switched n switch s d) = kinds-does d
+kinds-does (both a b) = kinds-does b ∙ kinds-does a
+kinds-does (left a) = kinds-does a
+kinds-does (right b) = kinds-does b
+
+-- and no state comes or goes
+pub states-does : {c : Cost} {s t : Machine} → Does c s t → length t.switches.states ≡ length s.switches.states
+states-does quiet = refl
+states-does (wrote owner what s) = refl
+states-does (posted owner e s) = refl
+states-does (switched n switch s d) = states-does d ∙ length-set s.switches.states n.0 switch
+states-does (both a b) = states-does b ∙ states-does a
+states-does (left a) = states-does a
+states-does (right b) = states-does b
 
 -- the moment stays
 pub moment-does : {c : Cost} {s t : Machine} → Does c s t → t.moment ≡ s.moment

@@ -10,7 +10,7 @@ use Rattle.mpf_plan.proofs.Judged.{plan_at-Ok, plan_at-exceeded}
 use Rattle.cascade_rank.specs.Weights.{bound_of}
 use Rattle.cascade_rank.specs.Finding.{RankView, found_at, verified_at}
 use Rattle.cascade_rank.specs.Finding as ranks
-use Rattle.cascade_rank.specs.View.{IfTold}
+use Rattle.cascade_rank.specs.View.{IfReported}
 use Rattle.cascade_rank.specs.Found.{IsUnfound}
 use Rattle.cascade_rank.specs.Verified.{IsVerified, IsUnverified}
 use Rattle.config_checker.specs.declared.report.Report.{Report}
@@ -18,30 +18,30 @@ use Rattle.config_checker.specs.declared.report.Report.TheVariants.{NoMemory, Fa
 use Rattle.config_checker.specs.CheckedView.{CheckedView}
 use Rattle.config_checker.specs.CertificateText.{Certificate, text_of, certificate_text}
 use Rattle.config_checker.specs.CertificateOf.{IsTextOf, certificate_at}
-use Rattle.config_checker.specs.Checking.{FaultView, limit, cycle, bound, certificate, bad_line, other_events, other_bound, name_of, fault_of, weighed, judged, same_names, names_in, weights_in, bounded, certified, judged_with, alone, checked, checked_at, checked_with_at}
-use Rattle.config_checker.specs.View.{GivesChecked, TellsFault}
-use Rattle.config_checker.specs.Refused.{IsLimitFault, IsFaultOf, IsNoCertificate, IsCertificateOf, HasOtherEvents, HasOtherBound, HasTooMuch, IsShort, IsFaultWith, TellsOne}
+use Rattle.config_checker.specs.Checking.{FaultView, limit, cycle, bound, certificate, bad_line, other_events, other_bound, name_of, fault_of, weighed, weighed_plan, same_names, names_in, weights_in, bounded, certified, certified_plan, alone, checked, checked_at, checked_with_at}
+use Rattle.config_checker.specs.View.{GivesChecked, ReportsFault}
+use Rattle.config_checker.specs.Refused.{IsLimitFault, IsFaultOf, IsNoCertificate, IsCertificateOf, HasOtherEvents, HasOtherBound, HasTooMuch, IsShort, IsFaultWith, Reports}
 use Rattle.config_checker.proofs.Certificates.{read-is_text, text-is_read}
 use Rattle.config_checker.proofs.Names.{same_names-is, same_names-self, zip-parts, parts-length}
 
--- ---- what a report tells
+-- ---- what a report lists
 
-pub tells-there : (there : FaultView → Type 0) (report : Report) (fault : FaultView) → TellsFault report fault → there fault → TellsOne there report
-tells-there there NoMemory fault h is = tt
-tells-there there (Faults faults) fault h is = (fault, h, is)
+pub reports-there : (rows : Rows) (there : FaultView → Type 0) (report : Report) (fault : FaultView) → ReportsFault report fault → there fault → Reports there rows report
+reports-there rows there NoMemory fault h is = tt
+reports-there rows there (Faults faults) fault h is = (fault, h, is)
 
-pub tells-weaker : (P Q : FaultView → Type 0) (report : Report) → TellsOne P report → ((fault : FaultView) → P fault → Q fault) → TellsOne Q report
-tells-weaker P Q NoMemory h weaker = tt
-tells-weaker P Q (Faults faults) (fault, told, there) weaker = (fault, told, weaker fault there)
+pub reports-weaker : (rows : Rows) (P Q : FaultView → Type 0) (report : Report) → Reports P rows report → ((fault : FaultView) → P fault → Q fault) → Reports Q rows report
+reports-weaker rows P Q NoMemory h weaker = tt
+reports-weaker rows P Q (Faults faults) (fault, listed, there) weaker = (fault, listed, weaker fault there)
 
--- the answer is what is told
-pub tells-gives : (report : Report) (fault : FaultView) (answer : Result CheckedView (List FaultView)) → TellsFault report fault → answer ≡ Err (fault ∷ []) → GivesChecked (Err report) answer
-tells-gives NoMemory fault answer h is = tt
-tells-gives (Faults faults) fault answer h is = is ∙ ap Err (sym h)
+-- the answer is what is reported
+pub reports-gives : (report : Report) (fault : FaultView) (answer : Result CheckedView (List FaultView)) → ReportsFault report fault → answer ≡ Err (fault ∷ []) → GivesChecked (Err report) answer
+reports-gives NoMemory fault answer h is = tt
+reports-gives (Faults faults) fault answer h is = is ∙ ap Err (sym h)
 
-pub one-gives : (P : FaultView → Type 0) (report : Report) (answer : Result CheckedView (List FaultView)) → TellsOne P report → ((fault : FaultView) → P fault → answer ≡ Err (fault ∷ [])) → GivesChecked (Err report) answer
-one-gives P NoMemory answer h gives = tt
-one-gives P (Faults faults) answer (fault, told, there) gives = gives fault there ∙ ap Err (sym told)
+pub one-gives : (rows : Rows) (P : FaultView → Type 0) (report : Report) (answer : Result CheckedView (List FaultView)) → Reports P rows report → ((fault : FaultView) → P fault → answer ≡ Err (fault ∷ [])) → GivesChecked (Err report) answer
+one-gives rows P NoMemory answer h gives = tt
+one-gives rows P (Faults faults) answer (fault, listed, there) gives = gives fault there ∙ ap Err (sym listed)
 
 some_same : (x y : FaultView) → Some x ≡ Some y → x ≡ y
 some_same x y e = cc
@@ -63,11 +63,11 @@ module _ (rows : Rows) where
 
   pub limit-found : (fault : FaultView) → IsLimitFault rows fault → checked_at rows ≡ Err (fault ∷ [])
   unfolding checked_at
-  limit-found fault h = limit-checked judged fault h
+  limit-found fault h = limit-checked weighed_plan fault h
 
   pub limit-given : (text : List ℕ) (fault : FaultView) → IsLimitFault rows fault → checked_with_at rows text ≡ Err (fault ∷ [])
   unfolding checked_with_at
-  limit-given text fault h = limit-checked (judged_with text) fault h
+  limit-given text fault h = limit-checked (certified_plan text) fault h
 
   pub limit-fault : (fault : FaultView) → IsLimitFault rows fault → IsFaultOf rows fault
   limit-fault (limit t) h = h
@@ -97,26 +97,26 @@ module _ (rows : Rows) (plan : PlanView) (made : plan_at rows ≡ Ok plan) where
 
   -- ---- the least weights
 
-  found-checked : (answer : Result CheckedView FaultView) → judged plan ≡ answer → checked_at rows ≡ alone answer
+  found-checked : (answer : Result CheckedView FaultView) → weighed_plan plan ≡ answer → checked_at rows ≡ alone answer
   unfolding checked_at
-  found-checked answer is = ap (checked judged) made ∙ ap alone is
+  found-checked answer is = ap (checked weighed_plan) made ∙ ap alone is
 
   pub found-accepted : (ws : List ℕ) (b : ℕ) → found_at plan ≡ Ok ws → b ≡ bound_of plan (slice_index ws) → checked_at rows ≡ Ok (record { plan = plan; weights = ws; bound = b })
-  unfolding judged
+  unfolding weighed_plan
   found-accepted ws b found is =
       found-checked (Ok (record { plan = plan; weights = ws; bound = b })) (ap (weighed plan) found ∙ ap (λ (n : ℕ). Ok (record { plan = plan; weights = ws; bound = n })) (sym is))
 
-  pub unfound-checked : (view : Option RankView) (fault : FaultView) → option_map (fault_of plan) view ≡ Some fault → IfTold view (λ told. found_at plan ≡ Err told) → checked_at rows ≡ Err (fault ∷ [])
-  unfolding judged
+  pub unfound-checked : (view : Option RankView) (fault : FaultView) → option_map (fault_of plan) view ≡ Some fault → IfReported view (λ reported. found_at plan ≡ Err reported) → checked_at rows ≡ Err (fault ∷ [])
+  unfolding weighed_plan
   unfound-checked None fault named h = none-some fault named
-  unfound-checked (Some told) fault named h = found-checked (Err fault) (ap (weighed plan) h ∙ ap Err (some_same (fault_of plan told) fault named))
+  unfound-checked (Some reported) fault named h = found-checked (Err fault) (ap (weighed plan) h ∙ ap Err (some_same (fault_of plan reported) fault named))
 
-  pub unfound-fault : (view : Option RankView) (fault : FaultView) → option_map (fault_of plan) view ≡ Some fault → IfTold view (IsUnfound plan) → IsFaultOf rows fault
+  pub unfound-fault : (view : Option RankView) (fault : FaultView) → option_map (fault_of plan) view ≡ Some fault → IfReported view (IsUnfound plan) → IsFaultOf rows fault
   unfound-fault None fault named h = none-some fault named
-  unfound-fault (Some told) fault named h =
-      subst (IsFaultOf rows) (some_same (fault_of plan told) fault named) (subst (λ (p : PlanView). IsUnfound p told → IsFaultOf rows (fault_of p told)) (sym of_rows) (by told) h)
+  unfound-fault (Some reported) fault named h =
+      subst (IsFaultOf rows) (some_same (fault_of plan reported) fault named) (subst (λ (p : PlanView). IsUnfound p reported → IsFaultOf rows (fault_of p reported)) (sym of_rows) (by reported) h)
     where
-      by : (told : RankView) → IsUnfound (plan_of rows) told → IsFaultOf rows (fault_of (plan_of rows) told)
+      by : (reported : RankView) → IsUnfound (plan_of rows) reported → IsFaultOf rows (fault_of (plan_of rows) reported)
       by (ranks.cycle events) h = record { events = events; reason = h; names_are = refl }
       by ranks.bound_too_large h = h
       by (ranks.short event needed) h = absurd h
@@ -125,12 +125,12 @@ module _ (rows : Rows) (plan : PlanView) (made : plan_at rows ≡ Ok plan) where
   -- ---- a certificate
 
   module _ (text : List ℕ) where
-    given-checked : (answer : Result CheckedView FaultView) → judged_with text plan ≡ answer → checked_with_at rows text ≡ alone answer
+    given-checked : (answer : Result CheckedView FaultView) → certified_plan text plan ≡ answer → checked_with_at rows text ≡ alone answer
     unfolding checked_with_at
-    given-checked answer is = ap (checked (judged_with text)) made ∙ ap alone is
+    given-checked answer is = ap (checked (certified_plan text)) made ∙ ap alone is
 
     pub misread-checked : (n : ℕ) → certificate_at text ≡ Err n → checked_with_at rows text ≡ Err (certificate (bad_line n) ∷ [])
-    unfolding judged_with
+    unfolding certified_plan
     misread-checked n misread = given-checked (Err (certificate (bad_line n))) (ap (certified plan) misread)
 
     pub misread-fault : (n : ℕ) → certificate_at text ≡ Err n → IsNoCertificate text
@@ -144,7 +144,7 @@ module _ (rows : Rows) (plan : PlanView) (made : plan_at rows ≡ Ok plan) where
       text_is = read-is_text text c reading.read
 
       pub other_events-checked : same_names plan.events names ≡ false → checked_with_at rows text ≡ Err (certificate other_events ∷ [])
-      unfolding judged_with
+      unfolding certified_plan
       other_events-checked other =
           given-checked (Err (certificate other_events)) (ap (certified plan) reading.read ∙ cond-false _ _ _ (ap (same_names plan.events) reading.names_are ∙ other))
 
@@ -161,22 +161,22 @@ module _ (rows : Rows) (plan : PlanView) (made : plan_at rows ≡ Ok plan) where
         of_plan : IsCertificateOf plan text c
         of_plan = record { text_is = text_is; events = reading.names_are ∙ sym (same_names-is plan.events names named) }
 
-        judged-bounded : (verified : Result ℕ RankView) → verified_at plan ws ≡ verified → judged_with text plan ≡ bounded plan c verified
-        unfolding judged_with
-        judged-bounded verified is =
+        certified-bounded : (verified : Result ℕ RankView) → verified_at plan ws ≡ verified → certified_plan text plan ≡ bounded plan c verified
+        unfolding certified_plan
+        certified-bounded verified is =
             ap (certified plan) reading.read ∙ cond-true _ _ _ (ap (same_names plan.events) reading.names_are ∙ named) ∙ ap (bounded plan c) (ap (verified_at plan) reading.weights_are ∙ is)
 
-        pub unverified-checked : (told : RankView) (view : Option RankView) (fault : FaultView) → view ≡ Some told → option_map (fault_of plan) view ≡ Some fault → verified_at plan ws ≡ Err told → checked_with_at rows text ≡ Err (fault ∷ [])
-        unverified-checked told view fault seen is verified =
-            let same : fault_of plan told ≡ fault = some_same (fault_of plan told) fault (ap (option_map (fault_of plan)) (sym seen) ∙ is) in
-            given-checked (Err fault) (judged-bounded (Err told) verified ∙ ap Err same)
+        pub unverified-checked : (reported : RankView) (view : Option RankView) (fault : FaultView) → view ≡ Some reported → option_map (fault_of plan) view ≡ Some fault → verified_at plan ws ≡ Err reported → checked_with_at rows text ≡ Err (fault ∷ [])
+        unverified-checked reported view fault seen is verified =
+            let same : fault_of plan reported ≡ fault = some_same (fault_of plan reported) fault (ap (option_map (fault_of plan)) (sym seen) ∙ is) in
+            given-checked (Err fault) (certified-bounded (Err reported) verified ∙ ap Err same)
 
-        pub unverified-fault : (view : Option RankView) (fault : FaultView) → option_map (fault_of plan) view ≡ Some fault → IfTold view (IsUnverified plan ws) → IsFaultWith rows text fault
+        pub unverified-fault : (view : Option RankView) (fault : FaultView) → option_map (fault_of plan) view ≡ Some fault → IfReported view (IsUnverified plan ws) → IsFaultWith rows text fault
         unverified-fault None fault is h = none-some fault is
-        unverified-fault (Some told) fault is h =
-            subst (IsFaultWith rows text) (some_same (fault_of plan told) fault is) (by told (subst (λ (v : List ℕ). IsUnverified plan v told) (sym reading.weights_are) h))
+        unverified-fault (Some reported) fault is h =
+            subst (IsFaultWith rows text) (some_same (fault_of plan reported) fault is) (by reported (subst (λ (v : List ℕ). IsUnverified plan v reported) (sym reading.weights_are) h))
           where
-            by : (told : RankView) → IsUnverified plan (weights_in c) told → IsFaultWith rows text (fault_of plan told)
+            by : (reported : RankView) → IsUnverified plan (weights_in c) reported → IsFaultWith rows text (fault_of plan reported)
             by (ranks.cycle events) h = absurd h
             by ranks.bound_too_large h = subst (λ (p : PlanView). HasTooMuch p text) of_rows (record { certificate = c; of_plan = of_plan; above = h })
             by (ranks.short event needed) h =
@@ -186,10 +186,10 @@ module _ (rows : Rows) (plan : PlanView) (made : plan_at rows ≡ Ok plan) where
         pub verified-checked : (b : ℕ) → verified_at plan ws ≡ Ok b → b ≡ c.bound → checked_with_at rows text ≡ Ok (record { plan = plan; weights = ws; bound = b })
         verified-checked b verified is =
             given-checked (Ok (record { plan = plan; weights = ws; bound = b }))
-            (judged-bounded (Ok b) verified ∙ cond-true _ _ _ (eq-eqb b c.bound is) ∙ ap (λ (v : List ℕ). Ok (record { plan = plan; weights = v; bound = b })) reading.weights_are)
+            (certified-bounded (Ok b) verified ∙ cond-true _ _ _ (eq-eqb b c.bound is) ∙ ap (λ (v : List ℕ). Ok (record { plan = plan; weights = v; bound = b })) reading.weights_are)
 
         pub other_bound-checked : (b : ℕ) → verified_at plan ws ≡ Ok b → b ≢ c.bound → checked_with_at rows text ≡ Err (certificate (other_bound b) ∷ [])
-        other_bound-checked b verified other = given-checked (Err (certificate (other_bound b))) (judged-bounded (Ok b) verified ∙ cond-false _ _ _ (ne_eqb b c.bound other))
+        other_bound-checked b verified other = given-checked (Err (certificate (other_bound b))) (certified-bounded (Ok b) verified ∙ cond-false _ _ _ (ne_eqb b c.bound other))
 
         pub other_bound-fault : (b : ℕ) → IsVerified plan ws b → b ≢ c.bound → HasOtherBound (plan_of rows) text b
         other_bound-fault b verified other =

@@ -3,12 +3,12 @@ use Rattle.std.proofs.Common.{◌≡◌, ℕ, zero, suc, List, [], ◌∷◌, le
 use Rattle.mpf_plan.specs.PlanView.{PlanView}
 use Rattle.mpf_plan.specs.Valid.{IsValid}
 use Rattle.config_checker.specs.declared.line.Line.{Line}
-use Rattle.config_checker.specs.declared.line.Happening.TheVariants as tells
+use Rattle.config_checker.specs.declared.line.Happening.TheVariants as lines
 use Rattle.cascade_rank.specs.Cost.{Cost}
-use Rattle.cascade_rank.proofs.Within.{IsBelow}
+use Rattle.cascade_rank.specs.Below.{IsBelow}
 use Rattle.event_queue.specs.declared.queue.Posted.{Posted}
 use Rattle.config_checker.specs.Machine.{Machine}
-use Rattle.config_checker.specs.EventStep.{EventStep, EventSteps}
+use Rattle.config_checker.specs.EventStep.{handled_in, EventStep, EventSteps}
 use Rattle.config_checker.specs.Run.{Stimulus, IsAllowed, begin, IsRun}
 use Rattle.config_checker.proofs.Does.{Does, wrote}
 use Rattle.config_checker.proofs.Parts.{does-event}
@@ -24,8 +24,8 @@ module _ (plan : PlanView) (valid : IsValid plan) (Inv : Machine → Type 0)
   pub step-keeps : (s t : Machine) → EventStep plan s t → Inv s → Inv t
   step-keeps s t st h =
       let gone = drops st.first st.rest s st.waiting h in
-      let told = moves _ _ _ (wrote st.first.owner (tells.Event st.first.event) (dropped st.rest s)) tt gone in
-      let handled = moves _ _ _ (does-event plan st.first st.rest st.order s) (order_below plan valid s st.first.event st.order st.in_order) told in
+      let written = moves _ _ _ (wrote st.first.owner (lines.Event st.first.event) (dropped st.rest s)) tt gone in
+      let handled = moves _ _ _ (does-event plan st.first st.rest st.order s) (order_below plan valid (handled_in plan st.first st.rest s) st.first.event st.order st.in_order) written in
       subst Inv (sym st.new_is) handled
 
   pub steps-keep : (n : ℕ) (s t : Machine) → EventSteps plan n s t → Inv s → Inv t

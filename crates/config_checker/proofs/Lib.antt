@@ -1,13 +1,16 @@
 pub mod Does
 pub mod Parts
+pub mod Growth
 pub mod Order
 pub mod Keeps
 pub mod Cascade
 pub mod Writing
 pub mod PlanSteps
 pub mod Alarms
+pub mod NextAlarms
 pub mod Levels
 pub mod Reached
+pub mod AlarmsEnd
 pub mod Numerals
 pub mod Certificates
 pub mod CertificateLines

@@ -25,7 +25,7 @@ use Rattle.config_checker.specs.CheckedView.{CheckedView}
 use Rattle.config_checker.specs.Accepted.{IsAccepted}
 use Rattle.config_checker.specs.CertificateText.{Certificate, certificate_of, certificate_text}
 use Rattle.config_checker.specs.CertificateOf.{IsWord, IsWritable, certificate_at}
-use Rattle.config_checker.specs.Checking.{FaultView, same_names, names_in, weights_in, weighed, judged, bounded, certified, judged_with, alone, checked, checked_at, checked_with_at}
+use Rattle.config_checker.specs.Checking.{FaultView, same_names, names_in, weights_in, weighed, weighed_plan, bounded, certified, certified_plan, alone, checked, checked_at, checked_with_at}
 use Rattle.config_checker.specs.ReadAgain.{IsReadAgain}
 use Rattle.config_checker.proofs.Certificates.{text-is_read}
 use Rattle.config_checker.proofs.Names.{same_names-self, all_seen}
@@ -83,9 +83,9 @@ module _ (rows : Rows) where
   alone_same (Ok x) c is = ap Ok (ok_same x c is)
   alone_same (Err e) c is = absurd (err_not_ok _ c is)
 
-  judged_plan : (judge : PlanView → Result CheckedView FaultView) (planned : Result PlanView Table) (c : CheckedView) → checked judge planned ≡ Ok c → (plan : PlanView) × (planned ≡ Ok plan) × (judge plan ≡ Ok c)
-  judged_plan judge (Ok plan) c is = (plan, refl, alone_same (judge plan) c is)
-  judged_plan judge (Err t) c is = absurd (err_not_ok _ c is)
+  checked-plan : (judge : PlanView → Result CheckedView FaultView) (planned : Result PlanView Table) (c : CheckedView) → checked judge planned ≡ Ok c → (plan : PlanView) × (planned ≡ Ok plan) × (judge plan ≡ Ok c)
+  checked-plan judge (Ok plan) c is = (plan, refl, alone_same (judge plan) c is)
+  checked-plan judge (Err t) c is = absurd (err_not_ok _ c is)
 
   -- what was accepted has the plan of the rows, and weights that serve
   weighed-accepted : (plan : PlanView) (found : Result (List ℕ) RankView) (c : CheckedView) → plan_at rows ≡ Ok plan → found_at plan ≡ found → weighed plan found ≡ Ok c → (plan_at rows ≡ Ok c.plan) × IsAccepted c
@@ -96,9 +96,9 @@ module _ (rows : Rows) where
   weighed-accepted plan (Err fault) c made found is = absurd (err_not_ok _ c is)
 
   pub found_is_accepted : (c : CheckedView) → checked_at rows ≡ Ok c → (plan_at rows ≡ Ok c.plan) × IsAccepted c
-  unfolding checked_at judged
+  unfolding checked_at weighed_plan
   found_is_accepted c is =
-      let from = judged_plan judged (plan_at rows) c is in
+      let from = checked-plan weighed_plan (plan_at rows) c is in
       weighed-accepted from.0 (found_at from.0) c from.1 refl from.2
 
   pub found-again : (c : CheckedView) → checked_at rows ≡ Ok c → All IsWord c.plan.events → IsReadAgain rows c
@@ -133,9 +133,9 @@ module _ (rows : Rows) where
 
   -- what was accepted with a text has that text
   pub given-text : (text : List ℕ) (c : CheckedView) → checked_with_at rows text ≡ Ok c → certificate_text c ≡ text
-  unfolding checked_with_at judged_with
+  unfolding checked_with_at certified_plan
   given-text text c is =
-      let from = judged_plan (judged_with text) (plan_at rows) c is in
+      let from = checked-plan (certified_plan text) (plan_at rows) c is in
       certified-text text c from.0 from.1 (certificate_at text) refl from.2
 
   pub given-again : (text : List ℕ) (c : CheckedView) → checked_with_at rows text ≡ Ok c → IsReadAgain rows c

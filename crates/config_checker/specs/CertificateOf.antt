@@ -29,7 +29,7 @@ IsTextOf c text = IsWritable c × (text ≡ text_of c)
 
 -- ---- how it is computed
 
--- no 0 stands before another digit
+-- no 0 is before another digit
 abbrev pub is_plain : List ℕ → Bool
 is_plain word = length word == 1 || not (slice_index word 0 == 48)
 
@@ -45,7 +45,7 @@ number_in word = if is_plain word then option_and_then fitting (number_at word) 
 abbrev pub parts : ℕ → List ℕ → List (List ℕ)
 parts end text = slice_split (λ b. b == end) text
 
--- what stands before each line end of a text, and what stands behind the last one
+-- what is before each line end of a text, and what is after the last one
 abbrev pub lines : List ℕ → List (List ℕ)
 lines text = parts 10 text
 
@@ -76,7 +76,7 @@ event_by other = None
 abbrev pub event_in : List ℕ → Option (List ℕ × ℕ)
 event_in line = event_by (words line)
 
--- What stands behind the last line end is a bad line, unless it is empty. Each function below gives the number of the first
+-- What is after the last line end is a bad line, unless it is empty. Each function below gives the number of the first
 -- bad line, where there is one.
 
 abbrev pub with_event : Option (List ℕ × ℕ) → ℕ → Result (List (List ℕ × ℕ)) ℕ → Result (List (List ℕ × ℕ)) ℕ

@@ -46,8 +46,8 @@ abbrev pub weighed : PlanView → Result (List ℕ) RankView → Result CheckedV
 weighed plan (Ok weights) = Ok (record { plan = plan; weights = weights; bound = bound_of plan (slice_index weights) })
 weighed plan (Err fault) = Err (fault_of plan fault)
 
-unfoldable pub judged : PlanView → Result CheckedView FaultView
-judged plan = weighed plan (found_at plan)
+unfoldable pub weighed_plan : PlanView → Result CheckedView FaultView
+weighed_plan plan = weighed plan (found_at plan)
 
 -- ---- with the weights of a certificate
 
@@ -72,24 +72,33 @@ abbrev pub certified : PlanView → Result Certificate ℕ → Result CheckedVie
 certified plan (Ok c) = if same_names plan.events (names_in c) then bounded plan c (verified_at plan (weights_in c)) else Err (certificate other_events)
 certified plan (Err number) = Err (certificate (bad_line number))
 
-unfoldable pub judged_with : List ℕ → PlanView → Result CheckedView FaultView
-judged_with text plan = certified plan (certificate_at text)
+unfoldable pub certified_plan : List ℕ → PlanView → Result CheckedView FaultView
+certified_plan text plan = certified plan (certificate_at text)
 
 -- ---- rows
 
--- a fault is told alone
+-- the faults of the rows themselves, in the order in which a report lists them: there are none yet
+abbrev pub faults_of_rows : Rows → List FaultView
+faults_of_rows rows = []
+
+-- A report lists them all. Only where there are none, it says what is wrong with the plan.
+abbrev pub reported : {X : Type 0} → List FaultView → Result X (List FaultView) → Result X (List FaultView)
+reported [] answer = answer
+reported (fault ∷ faults) answer = Err (fault ∷ faults)
+
+-- a fault of a plan, or of a certificate for it, is reported alone
 abbrev pub alone : {X Y : Type 0} → Result X Y → Result X (List Y)
 alone (Ok x) = Ok x
 alone (Err y) = Err (y ∷ [])
 
--- a table above its limit is told before all others
+-- a table above its limit is reported before a fault of the plan
 abbrev pub checked : (PlanView → Result CheckedView FaultView) → Result PlanView Table → Result CheckedView (List FaultView)
 checked judge (Ok plan) = alone (judge plan)
 checked judge (Err t) = Err (limit t ∷ [])
 
 unfoldable pub checked_at : Rows → Result CheckedView (List FaultView)
-checked_at rows = checked judged (plan_at rows)
+checked_at rows = reported (faults_of_rows rows) (checked weighed_plan (plan_at rows))
 
 -- the certificate's weights are taken as they are
 unfoldable pub checked_with_at : Rows → List ℕ → Result CheckedView (List FaultView)
-checked_with_at rows text = checked (judged_with text) (plan_at rows)
+checked_with_at rows text = reported (faults_of_rows rows) (checked (certified_plan text) (plan_at rows))

@@ -1,33 +1,43 @@
 -- One event is taken from the queue and handled.
-use Rattle.std.specs.Prelude.{◌≡◌, ℕ, zero, suc, Bool, true, List, ◌∷◌}
+use Rattle.std.specs.Prelude.{◌≡◌, ℕ, zero, suc, List, ◌∷◌}
 use Rattle.mpf_plan.specs.PlanView.{PlanView}
-use Rattle.mpf_plan.specs.declared.entries.Owner.{Owner}
-use Rattle.mpf_plan.specs.declared.entries.Owner.TheVariants as owners
-use Rattle.mpf_plan.specs.declared.entries.Binding.{Binding}
-use Rattle.config_checker.specs.declared.line.Happening.TheVariants as tells
+use Rattle.mpf_plan.specs.declared.entries.EventId.{EventId}
+use Rattle.mpf_plan.specs.declared.entries.BindingId.{BindingId}
+use Rattle.config_checker.specs.declared.line.Happening.TheVariants as lines
 use Rattle.event_queue.specs.declared.queue.Posted.{Posted}
-use Rattle.event_queue.specs.Handlers.{IsHandlerOrder}
-use Rattle.config_checker.specs.Machine.{Machine, write, all_do, do_binding}
+use Rattle.event_queue.specs.Handlers.{handlers, IsHandlerOrder}
+use Rattle.config_checker.specs.Machine.{Machine, write, all_do, do_handler}
 
--- whether the owner's bindings run: the machine's always do
-abbrev pub takes_part : Machine → Owner → Bool
-takes_part s owners.Machine = true
-
--- the first waiting event is taken, and its line comes
+-- the first waiting event is taken, and its line is written
 abbrev pub taken : Posted → List Posted → Machine → Machine
-taken first rest s = write first.owner (tells.Event first.event) (record s { waiting = rest })
+taken first rest s = write first.owner (lines.Event first.event) (record s { waiting = rest })
 
--- then its handlers run, in this order
-abbrev pub after_event : PlanView → Posted → List Posted → List Binding → Machine → Machine
-after_event plan first rest order s = all_do (do_binding plan) order (taken first rest s)
+-- what the machine itself does at an event, before its handlers run and after: nothing yet
+abbrev pub work_before : PlanView → EventId → Machine → Machine
+work_before plan e s = s
 
--- The first waiting event is taken and handled, in some order of its handlers.
+abbrev pub work_after : PlanView → EventId → Machine → Machine
+work_after plan e s = s
+
+-- the state in which the handlers of the event are chosen
+abbrev pub handled_in : PlanView → Posted → List Posted → Machine → Machine
+handled_in plan first rest s = work_before plan first.event (taken first rest s)
+
+-- the event is taken, the work before its handlers is done, they run in this order, and the work after them is done
+abbrev pub after_event : PlanView → Posted → List Posted → List BindingId → Machine → Machine
+after_event plan first rest order s = work_after plan first.event (all_do (do_handler plan) order (handled_in plan first rest s))
+
+-- the handlers of an event in a state of the machine
+abbrev pub handlers_in : PlanView → Machine → EventId → List BindingId
+handlers_in plan s e = handlers plan e
+
+-- The first waiting event is taken and handled, in some order of its handlers that is descending in priority.
 pub record EventStep (plan : PlanView) (old new : Machine) : Type 0 where
   pub first : Posted
   pub rest : List Posted
   pub waiting : old.waiting ≡ first ∷ rest
-  pub order : List Binding
-  pub in_order : IsHandlerOrder plan.bindings (takes_part old) first.event order
+  pub order : List BindingId
+  pub in_order : IsHandlerOrder plan (handlers_in plan (handled_in plan first rest old) first.event) order
   pub new_is : new ≡ after_event plan first rest order old
 
 -- so many event steps

@@ -1,8 +1,11 @@
 pub mod Machine
 pub mod EventStep
 pub mod Run
-pub mod RawChanges
+pub mod SwitchCalls
+pub mod NextAlarm
 pub mod PlanOrder
+pub mod AlarmsBy
+pub mod AlarmsEnd
 pub mod CheckedView
 pub mod GoodRun
 pub mod Accepted

@@ -1,9 +1,10 @@
 -- The machine's state, and what each thing does to it.
-use Rattle.std.specs.Prelude.{ℕ, Bool, if◌then◌else◌, List, [], ◌∷◌, ◌++◌, map, slice_index_or, slice_set}
-use Rattle.mpf_plan.specs.PlanView.{PlanView, Switch, switch_posts, no_switch, list_at}
-use Rattle.mpf_plan.specs.declared.entries.SwitchKind.{SwitchKind}
+use Rattle.std.specs.Prelude.{ℕ, Bool, Option, Some, None, List, [], ◌∷◌, ◌++◌}
+use Rattle.mpf_plan.specs.PlanView.{PlanView, posts_of, list_at, binding_at}
 use Rattle.mpf_plan.specs.declared.entries.EventId.{EventId}
+use Rattle.mpf_plan.specs.declared.entries.SwitchId.{SwitchId}
 use Rattle.mpf_plan.specs.declared.entries.ListId.{ListId}
+use Rattle.mpf_plan.specs.declared.entries.BindingId.{BindingId}
 use Rattle.mpf_plan.specs.declared.entries.Owner.{Owner}
 use Rattle.mpf_plan.specs.declared.entries.Owner.TheVariants as owners
 use Rattle.mpf_plan.specs.declared.entries.Action.{Action}
@@ -11,17 +12,18 @@ use Rattle.mpf_plan.specs.declared.entries.Action.TheVariants.{Post}
 use Rattle.mpf_plan.specs.declared.entries.Target.{Target}
 use Rattle.mpf_plan.specs.declared.entries.Target.TheVariants.{Run}
 use Rattle.mpf_plan.specs.declared.entries.Binding.{Binding}
-use Rattle.switch_core.specs.SwitchStep.{SwitchState, is_active, idle, changed, is_taken, fired}
+use Rattle.switch_core.specs.declared.change.Change.{Change as Acceptance}
+use Rattle.switch_core.specs.Switches.{SwitchesView, all_idle, after_change, told_by_change, accept, told}
 use Rattle.config_checker.specs.declared.line.Line.{Line}
 use Rattle.config_checker.specs.declared.line.Happening.{Happening}
-use Rattle.config_checker.specs.declared.line.Happening.TheVariants as tells
+use Rattle.config_checker.specs.declared.line.Happening.TheVariants as lines
 use Rattle.event_queue.specs.declared.queue.Posted.{Posted}
 
 pub record Machine : Type 0 where
   -- the moment of the latest stimulus, in milliseconds
   pub moment : ℕ
-  -- a state for each switch
-  pub switches : List SwitchState
+  -- how each switch is read, and its state
+  pub switches : SwitchesView
   -- the events that wait, first posted first
   pub waiting : List Posted
   -- the lines since the latest stimulus began
@@ -29,7 +31,7 @@ pub record Machine : Type 0 where
 
 -- At the beginning it is moment 0, all switches are inactive, and nothing waits.
 abbrev pub initial : PlanView → Machine
-initial plan = record { moment = 0; switches = map (λ s. idle s.kind) plan.switches; waiting = []; lines = [] }
+initial plan = record { moment = 0; switches = all_idle plan; waiting = []; lines = [] }
 
 -- ---- one change each
 
@@ -39,8 +41,8 @@ write owner what s = record s { lines = s.lines ++ record { moment = s.moment; o
 abbrev pub post : Owner → EventId → Machine → Machine
 post owner e s = record s { waiting = s.waiting ++ record { event = e; owner = owner } ∷ [] }
 
-abbrev pub set_switch : ℕ → SwitchState → Machine → Machine
-set_switch n switch s = record s { switches = slice_set s.switches n switch }
+abbrev pub set_switches : SwitchesView → Machine → Machine
+set_switches switches s = record s { switches = switches }
 
 -- one after another
 abbrev pub all_do : {X : Type 0} → (X → Machine → Machine) → List X → Machine → Machine
@@ -49,11 +51,11 @@ all_do does (x ∷ xs) s = all_do does xs (does x s)
 
 -- ---- effect lists
 
-abbrev pub do_action : Owner → Action → Machine → Machine
-do_action owner (Post e) s = post owner e s
+abbrev pub do_action : PlanView → Owner → Action → Machine → Machine
+do_action plan owner (Post e) s = post owner e s
 
 abbrev pub do_list : PlanView → Owner → ListId → Machine → Machine
-do_list plan owner l s = all_do (do_action owner) (list_at plan l) s
+do_list plan owner l s = all_do (do_action plan owner) (list_at plan l) s
 
 abbrev pub do_target : PlanView → Owner → Target → Machine → Machine
 do_target plan owner (Run l) s = do_list plan owner l s
@@ -61,42 +63,24 @@ do_target plan owner (Run l) s = do_list plan owner l s
 abbrev pub do_binding : PlanView → Binding → Machine → Machine
 do_binding plan b s = do_target plan b.owner b.target s
 
+-- the handler at a place runs
+abbrev pub do_handler : PlanView → BindingId → Machine → Machine
+do_handler plan place s = do_binding plan (binding_at plan place.0) s
+
 -- ---- switches
 
--- a switch of the plan
-abbrev pub planned : PlanView → ℕ → Switch
-planned plan n = slice_index_or plan.switches n no_switch
+-- A switch was accepted as active or inactive: its line is written, and then its events are posted.
+abbrev pub do_accepted : PlanView → Acceptance → Machine → Machine
+do_accepted plan a s = all_do (post owners.Machine) (posts_of plan a.switch a.active) (write owners.Machine (lines.Switch a.switch a.active) s)
 
-abbrev pub kind_at : PlanView → ℕ → SwitchKind
-kind_at plan n = (planned plan n).kind
+abbrev pub do_if_accepted : PlanView → Option Acceptance → Machine → Machine
+do_if_accepted plan None s = s
+do_if_accepted plan (Some a) s = do_accepted plan a s
 
--- in place of the state of a switch where there is none
-abbrev pub idle_switch : SwitchState
-idle_switch = idle no_switch.kind
+-- The raw level of a switch changes, which a quick switch accepts at once.
+abbrev pub change_switch : PlanView → ℕ → SwitchId → Bool → Machine → Machine
+change_switch plan at switch raw s = do_if_accepted plan (told_by_change switch raw at s.switches) (set_switches (after_change switch raw at s.switches) s)
 
-abbrev pub switch_at : Machine → ℕ → SwitchState
-switch_at s n = slice_index_or s.switches n idle_switch
-
--- whether a raw level of the switch is active
-abbrev pub level_of : PlanView → ℕ → Bool → Bool
-level_of plan n raw = is_active (kind_at plan n).contact raw
-
--- A switch was accepted as active or inactive: the line comes, and then the posts.
-abbrev pub tell_switch : PlanView → ℕ → Bool → Machine → Machine
-tell_switch plan n active s =
-    all_do (post owners.Machine) (switch_posts active (planned plan n)) (write owners.Machine (tells.Switch (record { 0 = n }) active) s)
-
--- the switch as a change to the raw level leaves it
-abbrev pub set_changed : PlanView → ℕ → ℕ → Bool → Machine → Machine
-set_changed plan at n raw s = set_switch n (changed (kind_at plan n) at raw (switch_at s n)) s
-
--- The raw level of a switch changes. Where it is accepted at once, that is told.
-abbrev pub change_switch : PlanView → ℕ → ℕ → Bool → Machine → Machine
-change_switch plan at n raw s =
-    if is_taken (kind_at plan n) raw (switch_at s n)
-    then tell_switch plan n (level_of plan n raw) (set_changed plan at n raw s)
-    else set_changed plan at n raw s
-
--- The raw level that was due is accepted.
-abbrev pub fire_switch : PlanView → ℕ → Machine → Machine
-fire_switch plan n s = tell_switch plan n (level_of plan n (switch_at s n).raw) (set_switch n (fired (kind_at plan n) (switch_at s n)) s)
+-- The raw level of a switch, which was due, is accepted.
+abbrev pub fire_switch : PlanView → SwitchId → Machine → Machine
+fire_switch plan switch s = do_accepted plan (told (accept switch s.switches) switch) (set_switches (accept switch s.switches) s)

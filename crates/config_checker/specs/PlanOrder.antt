@@ -1,17 +1,17 @@
--- The event steps that the controller takes: handlers of higher priority first, equal ones in plan order.
+-- The event steps that the controller takes: each event's handlers run in plan order.
 use Rattle.std.specs.Prelude.{ℕ, zero, suc, List, [], ◌∷◌}
 use Rattle.mpf_plan.specs.PlanView.{PlanView}
 use Rattle.event_queue.specs.declared.queue.Posted.{Posted}
-use Rattle.event_queue.specs.Handlers.{handlers}
 use Rattle.event_queue.specs.PlanOrder.{by_priority}
 use Rattle.config_checker.specs.Machine.{Machine}
-use Rattle.config_checker.specs.EventStep.{takes_part, after_event}
+use Rattle.config_checker.specs.EventStep.{handled_in, handlers_in, after_event}
 use Rattle.config_checker.specs.Run.{Stimulus, begin}
 
--- the event step with this order; nothing where no event waits
+-- the event step in plan order; nothing where no event waits
 abbrev pub plan_step_from : PlanView → List Posted → Machine → Machine
 plan_step_from plan [] s = s
-plan_step_from plan (first ∷ rest) s = after_event plan first rest (by_priority (handlers plan.bindings (takes_part s) first.event)) s
+plan_step_from plan (first ∷ rest) s =
+    after_event plan first rest (by_priority plan (handlers_in plan (handled_in plan first rest s) first.event)) s
 
 abbrev pub plan_step : PlanView → Machine → Machine
 plan_step plan s = plan_step_from plan s.waiting s

@@ -10,10 +10,10 @@ use Rattle.config_checker.specs.declared.report.Report.{Report}
 use Rattle.config_checker.specs.declared.report.Report.TheVariants as reports
 use Rattle.config_checker.specs.CertificateText.{Certificate}
 use Rattle.config_checker.specs.CertificateOf.{IsTextOf}
-use Rattle.config_checker.specs.Checking.{CertificateFaultView, bad_line, other_events, short, other_bound, FaultView, limit, cycle, bound, certificate, name_of, names_in, weights_in}
+use Rattle.config_checker.specs.Checking.{CertificateFaultView, bad_line, other_events, short, other_bound, FaultView, limit, cycle, bound, certificate, name_of, names_in, weights_in, faults_of_rows}
 use Rattle.config_checker.specs.View.{fault_view}
 
--- the names are those of events that lead to each other: of the cycle that is told
+-- the names are those of events that lead to each other: of the cycle that is reported
 pub record IsCycleOf (plan : PlanView) (names : List (List ℕ)) : Type 0 where
   pub events : List ℕ
   pub reason : IsUnfound plan (ranks.cycle events)
@@ -28,8 +28,8 @@ IsLimitFault rows (certificate fault) = ⊥
 
 -- ---- with the least weights
 
--- The fault says what is wrong with the rows: a table of their plan is above its limit, its events lead to each other, or
--- its least weights or their bound are above the limit.
+-- The fault says what is wrong with the rows: a table of their plan is above its limit, its events lead to each other,
+-- or its least weights or their bound are above the limit.
 abbrev pub IsFaultOf : Rows → FaultView → Type 0
 IsFaultOf rows (limit t) = IsExceeded rows t
 IsFaultOf rows (cycle names) = IsCycleOf (plan_of rows) names
@@ -85,7 +85,13 @@ IsFaultWith rows text (cycle names) = ⊥
 IsFaultWith rows text bound = HasTooMuch (plan_of rows) text
 IsFaultWith rows text (certificate fault) = IsCertificateFault (plan_of rows) text fault
 
--- A report tells one fault, and one that is there, unless memory ran out.
-abbrev pub TellsOne : (FaultView → Type 0) → Report → Type 0
-TellsOne there reports.NoMemory = Unit {0}
-TellsOne there (reports.Faults faults) = (fault : FaultView) × (map fault_view faults.items ≡ fault ∷ []) × there fault
+-- A report lists all faults of the rows. Where they have none, it lists one fault that is there: of their plan or of
+-- the certificate.
+abbrev pub IsReport : (FaultView → Type 0) → List FaultView → List FaultView → Type 0
+IsReport there [] faults = (fault : FaultView) × (faults ≡ fault ∷ []) × there fault
+IsReport there (own ∷ more) faults = faults ≡ own ∷ more
+
+-- so it is of rows, unless memory ran out
+abbrev pub Reports : (FaultView → Type 0) → Rows → Report → Type 0
+Reports there rows reports.NoMemory = Unit {0}
+Reports there rows (reports.Faults faults) = IsReport there (faults_of_rows rows) (map fault_view faults.items)

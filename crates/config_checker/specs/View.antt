@@ -31,12 +31,12 @@ GivesChecked (Ok c) checked = checked ≡ Ok c
 GivesChecked (Err reports.NoMemory) checked = Unit {0}
 GivesChecked (Err (reports.Faults faults)) checked = checked ≡ Err (map fault_view faults.items)
 
--- A report tells the fault alone, unless memory ran out.
-abbrev pub TellsFault : Report → FaultView → Type 0
-TellsFault reports.NoMemory fault = Unit {0}
-TellsFault (reports.Faults faults) fault = map fault_view faults.items ≡ fault ∷ []
+-- A report lists the fault alone, unless memory ran out.
+abbrev pub ReportsFault : Report → FaultView → Type 0
+ReportsFault reports.NoMemory fault = Unit {0}
+ReportsFault (reports.Faults faults) fault = map fault_view faults.items ≡ fault ∷ []
 
--- the events that are told of are the plan's
+-- the events of the fault are the plan's
 abbrev pub HasEvents : PlanView → RankView → Type 0
 HasEvents plan (ranks.cycle events) = All (λ e. e < length plan.events) events
 HasEvents plan ranks.bound_too_large = Unit {0}

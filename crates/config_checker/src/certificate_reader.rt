@@ -59,7 +59,7 @@ pub(crate) fn read_certificate<'a>(
     ensures exact { GivesCertificate result (certificate_at text.now) }
     ensures count { IfOk result (λ lines. length lines.weights.items ≡ length lines.names.items) }
 {
-    let rest = behind_heading(text).ok_or(ReadFault::Line(1))?;
+    let rest = after_heading(text).ok_or(ReadFault::Line(1))?;
     let (bound, mut rest) = next_bound(rest).ok_or(ReadFault::Line(2))?;
     let mut names = Vec::new(alloc);
     let mut weights = Vec::new(alloc);
@@ -77,15 +77,15 @@ pub(crate) fn read_certificate<'a>(
     })
 }
 
-/// The text behind the first line, if that is the heading.
-fn behind_heading(text: &[u8]) -> Option<&[u8]>
+/// The text after the first line, if that is the heading.
+fn after_heading(text: &[u8]) -> Option<&[u8]>
     ensures { MatchOption result (certificate_at text.now ≡ Err 1) (λ rest. certificate_at text.now ≡ bound_at (lines rest.now)) }
 {
     let (line, rest) = first_line(text)?;
     if line == HEADING { Some(rest) } else { None }
 }
 
-/// The bound that the first line states, and the text behind that line.
+/// The bound that the first line states, and the text after that line.
 fn next_bound(text: &[u8]) -> Option<(u32, &[u8])>
     ensures { MatchOption result (bound_at (lines text.now) ≡ Err 2) (λ x. bound_at (lines text.now) ≡ with_bound (Some x.0) (events_at 3 (lines x.1.now))) }
 {
@@ -94,7 +94,7 @@ fn next_bound(text: &[u8]) -> Option<(u32, &[u8])>
     Some((bound, rest))
 }
 
-/// The event that the first line states, and the text behind that line.
+/// The event that the first line states, and the text after that line.
 fn next_event(text: &[u8]) -> Option<(Event<'_>, &[u8])>
     requires { 0 < length text.now }
     ensures event { (n : ℕ) → MatchOption result (events_at n (lines text.now) ≡ Err n) (λ x. events_at n (lines text.now) ≡ with_event (Some (event_view x.0)) n (events_at (n + 1) (lines x.1.now))) }
@@ -130,7 +130,7 @@ fn read_event(line: &[u8]) -> Option<Event<'_>>
     Some(Event { name, weight })
 }
 
-/// The first line of a text and what stands behind its line end, if it has one.
+/// The first line of a text and what is after its line end, if it has one.
 fn first_line(text: &[u8]) -> Option<(&[u8], &[u8])>
     ensures lines { MatchOption result (lines text.now ≡ text.now ∷ []) (λ x. lines text.now ≡ x.0.now ∷ lines x.1.now) }
     ensures shorter { IfSome result (λ x. length x.1.now < length text.now) }
@@ -138,14 +138,14 @@ fn first_line(text: &[u8]) -> Option<(&[u8], &[u8])>
     cut(text, b'\n')
 }
 
-/// The first word of a line and what stands behind its blank, if one follows.
+/// The first word of a line and what is after its blank, if one follows.
 fn first_word(line: &[u8]) -> Option<(&[u8], &[u8])>
     ensures { MatchOption result (words line.now ≡ line.now ∷ []) (λ x. words line.now ≡ x.0.now ∷ words x.1.now) }
 {
     cut(line, b' ')
 }
 
-/// What stands before the first of these bytes and what stands behind it, if there is one.
+/// What is before the first of these bytes and what is after it, if there is one.
 fn cut(text: &[u8], end: u8) -> Option<(&[u8], &[u8])>
     ensures parts { MatchOption result (parts end text.now ≡ text.now ∷ []) (λ x. parts end text.now ≡ x.0.now ∷ parts end x.1.now) }
     ensures shorter { IfSome result (λ x. length x.1.now < length text.now) }
@@ -154,7 +154,7 @@ fn cut(text: &[u8], end: u8) -> Option<(&[u8], &[u8])>
     Some((&text[..place], &text[place + 1..]))
 }
 
-/// Where the first of these bytes stands.
+/// Where the first of these bytes is.
 fn place_of(text: &[u8], byte: u8) -> Option<usize>
     ensures { result ≡ position (λ b. b == byte) text.now }
 {
@@ -191,7 +191,7 @@ fn read_number(word: &[u8]) -> Option<u32>
     u32::try_from(number(word)?).ok()
 }
 
-/// Whether a 0 stands before another byte.
+/// Whether a 0 is before another byte.
 fn has_leading_zero(word: &[u8]) -> bool
     ensures { result ≡ not (is_plain word.now) }
 {

@@ -9,12 +9,12 @@ ghost use Rattle.config_checker.specs.GoodRun.{IsGood};
 ghost use Rattle.config_checker.specs.CertificateText.{certificate_text};
 ghost use Rattle.config_checker.specs.View.{GivesChecked};
 ghost use Rattle.config_checker.specs.Checking.{same_names, checked_at, checked_with_at};
-ghost use Rattle.config_checker.specs.Refused.{IsLimitFault, IsFaultOf, IsFaultWith, TellsOne};
+ghost use Rattle.config_checker.specs.Refused.{IsLimitFault, IsFaultOf, IsFaultWith, Reports};
 
 use crate::certificate_reader::{CertificateLines, ReadFault, read_certificate};
 use crate::checked::Checked;
 use crate::report::{CertificateFault, Fault, Report};
-use crate::telling::{named_fault, tell};
+use crate::reporting::{named_fault, report_of};
 use cascade_rank::{Weights, find, verify};
 use mpf_config::config::Config;
 use mpf_plan::{EventId, Plan, PlanFault};
@@ -24,7 +24,7 @@ use std::alloc::Global;
 ///
 /// # Errors
 ///
-/// The report tells one fault: `Limit` of the first table that is above its limit; else `Cycle`
+/// The report lists one fault: `Limit` of the first table that is above its limit; else `Cycle`
 /// where events lead to each other without end, so that no weights fit; else `Bound` where one
 /// of the least weights or their bound is above 10,000. `NoMemory` says that memory ran out.
 pub fn check(alloc: Global, config: &Config) -> Result<Checked, Report>
@@ -33,12 +33,12 @@ pub fn check(alloc: Global, config: &Config) -> Result<Checked, Report>
     ensures accepted { IfOk result (λ c. IsAccepted c) }
     ensures least { IfOk result (λ c. IsLeastFitting c.plan c.weights) }
     ensures good { IfOk result (λ c. IsGood c) }
-    ensures refused { IfErr result (λ report. TellsOne (IsFaultOf (rows_view config.now)) report) }
+    ensures refused { IfErr result (λ report. Reports (IsFaultOf (rows_view config.now)) (rows_view config.now) report) }
 {
     let plan = plan_of(alloc, config)?;
     let weights = match find(alloc, &plan) {
         Ok(weights) => weights,
-        Err(fault) => return Err(tell(alloc, named_fault(alloc, &plan, fault)?)),
+        Err(fault) => return Err(report_of(alloc, named_fault(alloc, &plan, fault)?)),
     };
     let Ok(bound) = verify(&plan, &weights) else {
         unreachable!()
@@ -51,7 +51,7 @@ pub fn check(alloc: Global, config: &Config) -> Result<Checked, Report>
 ///
 /// # Errors
 ///
-/// The report tells one fault, the first one in this order: `Limit` of the first table that is
+/// The report lists one fault, the first one in this order: `Limit` of the first table that is
 /// above its limit; of the certificate `Line` where the text is none, `Events` where its events
 /// are not the plan's, and `Short` where an event weighs less than it needs; `Bound` where a
 /// weight or the bound is above 10,000; and of the certificate `Bound` where it states another
@@ -62,7 +62,7 @@ pub fn check_with(alloc: Global, config: &Config, certificate: &[u8]) -> Result<
     ensures accepted { IfOk result (λ c. IsAccepted c) }
     ensures text { IfOk result (λ c. certificate_text c ≡ certificate.now) }
     ensures good { IfOk result (λ c. IsGood c) }
-    ensures refused { IfErr result (λ report. TellsOne (IsFaultWith (rows_view config.now) certificate.now) report) }
+    ensures refused { IfErr result (λ report. Reports (IsFaultWith (rows_view config.now) certificate.now) (rows_view config.now) report) }
 {
     let plan = plan_of(alloc, config)?;
     let CertificateLines {
@@ -73,29 +73,29 @@ pub fn check_with(alloc: Global, config: &Config, certificate: &[u8]) -> Result<
         Ok(lines) => lines,
         Err(ReadFault::NoMemory) => return Err(Report::NoMemory),
         Err(ReadFault::Line(number)) => {
-            return Err(tell(alloc, Fault::Certificate(CertificateFault::Line(number))));
+            return Err(report_of(alloc, Fault::Certificate(CertificateFault::Line(number))));
         }
     };
     if !are_events(&plan, &names) {
-        return Err(tell(alloc, Fault::Certificate(CertificateFault::Events)));
+        return Err(report_of(alloc, Fault::Certificate(CertificateFault::Events)));
     }
     let weights = Weights::of(weights);
     match verify(&plan, &weights) {
         Ok(bound) if bound.0 == stated => Ok(Checked::new(plan, weights, bound.0)),
-        Ok(bound) => Err(tell(alloc, Fault::Certificate(CertificateFault::Bound(bound.0)))),
-        Err(fault) => Err(tell(alloc, named_fault(alloc, &plan, fault)?)),
+        Ok(bound) => Err(report_of(alloc, Fault::Certificate(CertificateFault::Bound(bound.0)))),
+        Err(fault) => Err(report_of(alloc, named_fault(alloc, &plan, fault)?)),
     }
 }
 
 /// The plan of a configuration, or the report of the table that is above its limit.
 fn plan_of(alloc: Global, config: &Config) -> Result<Plan, Report>
     ensures plan { IfOk result (λ plan. plan_at (rows_view config.now) ≡ Ok plan) }
-    ensures limit { IfErr result (λ report. TellsOne (IsLimitFault (rows_view config.now)) report) }
+    ensures limit { IfErr result (λ report. Reports (IsLimitFault (rows_view config.now)) (rows_view config.now) report) }
 {
     match mpf_plan::plan(alloc, config) {
         Ok(plan) => Ok(plan),
         Err(PlanFault::NoMemory) => Err(Report::NoMemory),
-        Err(PlanFault::Limit(table)) => Err(tell(alloc, Fault::Limit(table))),
+        Err(PlanFault::Limit(table)) => Err(report_of(alloc, Fault::Limit(table))),
     }
 }
 

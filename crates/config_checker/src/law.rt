@@ -1,11 +1,13 @@
 //! What holds of every certificate that is written, and of all that is accepted.
 
 ghost use Rattle.config_checker.specs.AcceptedRuns.{AcceptedIsGood};
+ghost use Rattle.config_checker.specs.AlarmsEnd.{StimuliArmLater, AlarmsAreDone, AlarmsEnd};
 ghost use Rattle.config_checker.specs.ReadAgain.{FoundIsReadAgain, GivenIsReadAgain, ReadIsReadAgain};
 
 /// The law of certificates, for all rows. Where `check` accepts them, and the name of every event
-/// of their plan is a word (not empty, and without blanks and line ends), `check_with` accepts them with the text that `write_certificate` writes, and gives the same weights and the
-/// same bound. And so it does where `check_with` accepted them, whatever the names.
+/// of their plan is a word (not empty, and without blanks and line ends), `check_with` accepts them
+/// with the text that `write_certificate` writes, and gives the same weights and the same bound. And
+/// so it does where `check_with` accepted them, whatever the names.
 ///
 /// Of rows that were read from a bundle nothing is asked: the names of their plan's events are
 /// words. So all such rows that `check` accepts, `check_with` accepts again.
@@ -30,4 +32,18 @@ pub fn certificate_is_read_again()
 /// It does nothing: its contract is the law, over all runs of the written machine.
 pub fn accepted_is_good()
     ensures { AcceptedIsGood }
+{}
+
+/// The law of alarms, for every plan. A stimulus and its event steps arm nothing for the moment at
+/// which it comes, or an earlier one: what is due after them was due before, or is due later
+/// (`arms_later`). The source of an alarm is due after it, if at all, later than the alarm came
+/// (`done`). So each source comes at most once at each moment, and alarms come to an end: in a run
+/// of the plan, after as many alarms as `most_alarms` says, or fewer, none is due by the moment
+/// (`end`).
+///
+/// It does nothing: its contract is the law, over the written machine.
+pub fn alarms_end()
+    ensures arms_later { StimuliArmLater }
+    ensures done { AlarmsAreDone }
+    ensures end { AlarmsEnd }
 {}

@@ -9,12 +9,12 @@ pub mod law;
 pub mod line;
 pub mod report;
 pub mod report_text;
-mod telling;
+mod reporting;
 
 pub use certificate::write_certificate;
 pub use checked::Checked;
 pub use checker::{check, check_with};
-pub use law::{accepted_is_good, certificate_is_read_again};
+pub use law::{accepted_is_good, alarms_end, certificate_is_read_again};
 pub use line::{Happening, Line};
 pub use report::{CertificateFault, Fault, Report};
 pub use report_text::write_report;

@@ -2,7 +2,7 @@
 
 use mpf_plan::entries::{EventId, Owner, SwitchId};
 
-/// What a line tells.
+/// What a line says.
 #[derive(Clone, Copy, Debug, PartialEq, Eq)]
 pub enum Happening {
     /// The switch was accepted as active (`true`) or inactive.

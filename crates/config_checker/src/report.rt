@@ -49,7 +49,7 @@ pub enum Report {
     /// Memory ran out.
     #[error("NoMemory")]
     NoMemory,
-    /// The faults, in the order in which they are told.
+    /// The faults, in the order in which they are reported.
     #[error("refused")]
     Faults(Vec<Fault>),
 }

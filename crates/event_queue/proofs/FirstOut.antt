@@ -1,4 +1,4 @@
--- What waited, and behind it what is accepted, is what is given, and behind it what waits.
+-- What waited, and after it what is accepted, is what is given, and after it what waits.
 use Rattle.std.proofs.Common.{◌≡◌, ◌≤◌, List, [], ◌∷◌, ◌++◌, length, Some, None, Ok, Err, ap, sym, ◌∙◌, append-nil, append_assoc, length-append, arith}
 use Rattle.event_queue.specs.declared.queue.Posted.{Posted}
 use Rattle.event_queue.specs.Queue.{QueueView, empty}

@@ -1,5 +1,5 @@
 pub mod Sort
+pub mod PlanOrder
 mod FirstOut
 mod Counted
-mod Chosen
-mod OfPlan
+mod OfEvent

@@ -33,7 +33,7 @@ given (Push event answer ∷ calls) = given calls
 given (Take None ∷ calls) = given calls
 given (Take (Some first) ∷ calls) = first ∷ given calls
 
--- After every list of calls on a new queue: what was given, and behind it what waits, is what was accepted.
+-- After every list of calls on a new queue: what was given, and after it what waits, is what was accepted.
 abbrev pub IsFirstInFirstOut : Type 0
 IsFirstInFirstOut = (size : ℕ) (calls : List Call) (queue : QueueView) → AreCalls calls (empty size) queue → given calls ++ queue.waiting ≡ accepted calls
 

@@ -1,24 +1,43 @@
--- The order that the controller takes: higher priorities first, equal ones in plan order.
-use Rattle.std.specs.Prelude.{nat_lt, if◌then◌else◌, Option, option_and_then, List, [], ◌∷◌, slice_get}
+-- Plan order: higher priorities first, and of equal priorities the lower place.
+use Rattle.std.specs.Prelude.{◌≡◌, ◌<◌, nat_lt, if◌then◌else◌, ◌⊎◌, List, [], ◌∷◌}
+use Rattle.std.specs.List.{AllPairs}
+use Rattle.std.specs.List.Sorted.{IsPermutation}
 use Rattle.mpf_plan.specs.declared.entries.EventId.{EventId}
 use Rattle.mpf_plan.specs.declared.entries.BindingId.{BindingId}
-use Rattle.mpf_plan.specs.declared.entries.Binding.{Binding}
-use Rattle.event_queue.specs.Handlers.{HandlersView, takes_part, handlers}
+use Rattle.mpf_plan.specs.PlanView.{PlanView}
+use Rattle.event_queue.specs.Handlers.{handlers, priority_at, IsHandlerOrder}
 
--- a binding put before the first one of no greater priority
-abbrev pub insert_binding : Binding → List Binding → List Binding
-insert_binding b [] = b ∷ []
-insert_binding b (c ∷ cs) = if nat_lt b.priority c.priority then c ∷ insert_binding b cs else b ∷ c ∷ cs
+-- ---- what it is
 
--- bindings by priority, highest first, equal ones as they stand
-abbrev pub by_priority : List Binding → List Binding
-by_priority [] = []
-by_priority (b ∷ bs) = insert_binding b (by_priority bs)
+-- the binding at p runs before the one at q
+abbrev pub RunsBefore : PlanView → BindingId → BindingId → Type 0
+RunsBefore plan p q = (priority_at plan q < priority_at plan p) ⊎ ((priority_at plan p ≡ priority_at plan q) × (p.0 < q.0))
 
--- an event's handlers in the order in which they run
-abbrev pub in_order : HandlersView → EventId → List Binding
-in_order h e = by_priority (handlers h.bindings (takes_part h) e)
+-- the order of these places in which each runs before all after it
+pub record IsPlanOrder (plan : PlanView) (places order : List BindingId) : Type 0 where
+  pub permutation : IsPermutation places order
+  pub ordered : AllPairs (RunsBefore plan) order
 
--- the binding at a place, where there is one
-abbrev pub at_place : HandlersView → Option BindingId → Option Binding
-at_place h place = option_and_then (λ p. slice_get h.bindings p.0) place
+-- ---- how it is computed
+
+-- a place put before the first one of no greater priority
+abbrev pub insert_place : PlanView → BindingId → List BindingId → List BindingId
+insert_place plan p [] = p ∷ []
+insert_place plan p (q ∷ qs) = if nat_lt (priority_at plan p) (priority_at plan q) then q ∷ insert_place plan p qs else p ∷ q ∷ qs
+
+-- places by priority, highest first, equal ones as they stand
+abbrev pub by_priority : PlanView → List BindingId → List BindingId
+by_priority plan [] = []
+by_priority plan (p ∷ ps) = insert_place plan p (by_priority plan ps)
+
+-- an event's handlers in plan order
+abbrev pub in_order : PlanView → EventId → List BindingId
+in_order plan e = by_priority plan (handlers plan e)
+
+-- ---- the law
+
+-- That is plan order, and no other order of the handlers is. It is one of the orders in which handlers may run.
+pub record HandlersAreInPlanOrder : Type 0 where
+  pub is : (plan : PlanView) (e : EventId) → IsPlanOrder plan (handlers plan e) (in_order plan e)
+  pub only : (plan : PlanView) (e : EventId) (order : List BindingId) → IsPlanOrder plan (handlers plan e) order → order ≡ in_order plan e
+  pub descends : (plan : PlanView) (e : EventId) → IsHandlerOrder plan (handlers plan e) (in_order plan e)

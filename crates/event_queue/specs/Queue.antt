@@ -12,7 +12,7 @@ pub record QueueView : Type 0 where
 abbrev pub empty : ℕ → QueueView
 empty size = record { size = size; waiting = [] }
 
--- an event is added behind all others, unless as many wait as may
+-- an event is added after all others, unless as many wait as may
 abbrev pub IsPushed : Posted → Result Unit Full → QueueView → QueueView → Type 0
 IsPushed event (Ok done) old new = (length old.waiting < old.size) × (new ≡ record { size = old.size; waiting = old.waiting ++ event ∷ [] })
 IsPushed event (Err full) old new = (length old.waiting ≡ old.size) × (new ≡ old)

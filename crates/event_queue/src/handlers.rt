@@ -1,54 +1,49 @@
 //! What handles an event, in the order in which it runs.
 
-ghost use Rattle.std.specs.Prelude.{IfOk};
-ghost use Rattle.mpf_plan.specs.Inside.{HasPlaces};
+ghost use Rattle.std.specs.Prelude.{◌≡◌};
+ghost use Rattle.event_queue.specs.Handlers.{takes_part};
 
-use mpf_plan::{Binding, BindingId, EventId, Owner, Plan};
+use mpf_plan::{BindingId, EventId, Owner, Plan};
 use std::alloc::{AllocError, Global};
 use std::marker::Model;
 
-/// The bindings of a plan, as handlers of its events.
+/// The bindings of a plan, as handlers of its events. A handler is a place: two equal bindings of
+/// an event are two handlers.
 #[derive(Drop)]
-pub struct Handlers {
-    bindings: Vec<Binding>,
-    /// For each event the places of what is bound to it, in plan order.
-    places: Vec<Vec<BindingId>>,
+pub struct Handlers<'p> {
+    plan: &'p Plan,
 }
 
-impl Model for Handlers {
-    ghost use Rattle.event_queue.specs.Handlers.{HandlersView, AreOfPlan};
+impl<'p> Model for Handlers<'p> {
+    ghost use Rattle.event_queue.specs.Handlers.{HandlersView};
 
     ghost Value = { HandlersView };
 
-    ghost view = { λ h. record { bindings = h.bindings.items } };
-
-    ghost invariant = { λ h. AreOfPlan h.bindings.items h.places.items };
+    ghost view = { λ h. record { plan = h.plan.now } };
 }
 
-impl Handlers {
-    ghost use Rattle.std.specs.Prelude.{◌≡◌, ◌<◌, ◌==◌, length, map, filter, slice_get, slice_index_or, IfSome};
+impl<'p> Handlers<'p> {
+    ghost use Rattle.std.specs.Prelude.{◌≡◌, ◌<◌, length, slice_get, IfOk, IfSome};
     ghost use Rattle.std.specs.List.{All};
-    ghost use Rattle.mpf_plan.specs.PlanView.{no_binding};
-    ghost use Rattle.event_queue.specs.Handlers.{takes_part, runs_at};
-    ghost use Rattle.event_queue.specs.PlanOrder.{in_order, at_place};
+    ghost use Rattle.mpf_plan.specs.PlanView.{places_of};
+    ghost use Rattle.mpf_plan.specs.Valid.{IsValid};
+    ghost use Rattle.event_queue.specs.Handlers.{runs_at};
+    ghost use Rattle.event_queue.specs.PlanOrder.{in_order};
 
     /// The handlers of a plan. Fails only by memory.
-    pub fn new(alloc: Global, plan: &Plan) -> Result<Handlers, AllocError>
-        ensures { IfOk result (λ h. h ≡ record { bindings = plan.now.bindings }) }
+    pub fn new(_alloc: Global, plan: &'p Plan) -> Result<Handlers<'p>, AllocError>
+        ensures { IfOk result (λ h. h ≡ record { plan = plan.now }) }
     {
-        Ok(Handlers {
-            bindings: Vec::from_slice(alloc, plan.bindings())?,
-            places: places_by_event(alloc, plan)?,
-        })
+        Ok(Handlers { plan })
     }
 
-    /// The `k`-th handler of an event, counted from 0, in the order in which they run: higher
-    /// priorities first, equal ones in plan order. None where there are not so many.
+    /// The place of the `k`-th handler of an event, counted from 0, in plan order: higher
+    /// priorities first, and of equal ones the lower place. None where there are not so many.
     pub fn nth(&self, event: EventId, k: usize) -> Option<BindingId>
-        ensures handler { at_place self.now result ≡ slice_get (in_order self.now event) k }
-        ensures within { IfSome result (λ b. b.0 < length self.now.bindings) }
+        ensures handler { result ≡ slice_get (in_order self.now.plan event) k }
+        ensures within { IfSome result (λ b. b.0 < length self.now.plan.bindings) }
     {
-        // All priorities are 0 today, so that handlers run in plan order.
+        // All priorities are 0 today, so that plan order is the order of places.
         let mut left = k;
         for place in self.places_of(event) {
             if self.runs(*place) {
@@ -61,46 +56,33 @@ impl Handlers {
         None
     }
 
-    /// The places of what is bound to an event, in plan order: none where the plan has no such
-    /// event.
+    /// The places of what is bound to an event: none where the plan has no such event.
     fn places_of(&self, event: EventId) -> &[BindingId]
-        ensures priorities { All (λ b. b.priority ≡ 0) self.now.bindings }
-        ensures within { All (λ p. p.0 < length self.now.bindings) result.now }
-        ensures bound { map (λ p. slice_index_or self.now.bindings p.0 no_binding) result.now ≡ filter (λ b. b.event.0 == event.0) self.now.bindings }
+        ensures places { result.now ≡ places_of self.now.plan event }
+        ensures within { All (λ p. p.0 < length self.now.plan.bindings) result.now }
+        ensures valid { IsValid self.now.plan }
     {
-        match self.places.get(event.0 as usize) {
-            Some(places) => places.as_slice(),
-            None => &[],
+        if (event.0 as usize) < self.plan.event_count() {
+            self.plan.bindings_of(event)
+        } else {
+            &[]
         }
     }
 
     /// Whether the owner of the binding at a place takes part.
     fn runs(&self, place: BindingId) -> bool
-        requires { place.0 < length self.now.bindings }
-        ensures { result ≡ runs_at self.now place }
+        requires { place.0 < length self.now.plan.bindings }
+        ensures { result ≡ runs_at self.now.plan place }
     {
-        self.takes_part(self.bindings[place.0 as usize].owner)
-    }
-
-    /// Whether the owner's bindings run.
-    fn takes_part(&self, owner: Owner) -> bool
-        ensures { result ≡ takes_part self.now owner }
-    {
-        match owner {
-            Owner::Machine => true,
-        }
+        takes_part(self.plan.binding(place).owner)
     }
 }
 
-/// For each event of a plan the places of what is bound to it, in plan order.
-fn places_by_event(alloc: Global, plan: &Plan) -> Result<Vec<Vec<BindingId>>, AllocError>
-    ensures { IfOk result (λ places. HasPlaces plan.now places.items) }
+/// Whether the bindings of an owner run.
+fn takes_part(owner: Owner) -> bool
+    ensures { result ≡ takes_part owner }
 {
-    let count = plan.event_count();
-    let mut places = Vec::with_capacity(alloc, count)?;
-    for event in 0..count {
-        let bound = plan.bindings_of(EventId(event as u16));
-        places.push(Vec::from_slice(alloc, bound)?)?;
+    match owner {
+        Owner::Machine => true,
     }
-    Ok(places)
 }

@@ -6,5 +6,5 @@ pub mod law;
 pub mod queue;
 
 pub use handlers::Handlers;
-pub use law::first_in_first_out;
+pub use law::{first_in_first_out, handlers_are_in_plan_order};
 pub use queue::{Full, Posted, Queue};

@@ -52,7 +52,7 @@ impl Queue {
         })
     }
 
-    /// Adds an event behind all others. `Full` exactly where as many wait as may: nothing changes
+    /// Adds an event after all others. `Full` exactly where as many wait as may: nothing changes
     /// then.
     pub fn push(&mut self, event: Posted) -> Result<(), Full>
         ensures { IsPushed event result self.old self.new }

@@ -39,7 +39,7 @@ fn three(alloc: Global) -> Result<Switches, Fail>
     Ok(Switches::new(alloc, &plan)?)
 }
 
-/// Changes a switch, which tells nothing.
+/// Changes a switch, which reports nothing.
 fn change_unheard(switches: &mut Switches, switch: SwitchId, level: bool, now: u64) -> bool
     requires switch { switch.0 < length switches.old.kinds }
     requires now { now < 2 ^ 40 }
@@ -48,7 +48,7 @@ fn change_unheard(switches: &mut Switches, switch: SwitchId, level: bool, now: u
     switches.change(switch, level, now).is_none()
 }
 
-/// Whether this is what is due next, accepts it, and whether that is told.
+/// Whether this is what is due next, accepts it, and whether that is reported.
 fn accept(switches: &mut Switches, moment: u64, switch: SwitchId, active: bool) -> bool
     ensures { switches.new.kinds ≡ switches.old.kinds }
 {

@@ -59,3 +59,22 @@ fn event_without_handlers(rt: HostRuntime) -> Result<(), Fail> {
     assert_eq!(rt; handlers.nth(x, 0), None);
     Ok(())
 }
+
+#[test]
+fn equal_entries_are_two_handlers(rt: HostRuntime) -> Result<(), Fail> {
+    let plan = plan_of(rt.alloc(), "", "b: x\na: x\na: x")?;
+    let handlers = Handlers::new(rt.alloc(), &plan)?;
+    let a = plan.find_event(b"a").ok_or("a")?;
+    assert_eq!(rt; handlers.nth(a, 0), Some(BindingId(1)));
+    assert_eq!(rt; handlers.nth(a, 1), Some(BindingId(2)));
+    assert_eq!(rt; handlers.nth(a, 2), None);
+    Ok(())
+}
+
+#[test]
+fn event_of_no_plan_has_no_handlers(rt: HostRuntime) -> Result<(), Fail> {
+    let plan = three_entries(rt.alloc())?;
+    let handlers = Handlers::new(rt.alloc(), &plan)?;
+    assert_eq!(rt; handlers.nth(EventId(u16::MAX), 0), None);
+    Ok(())
+}

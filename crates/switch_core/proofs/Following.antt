@@ -51,7 +51,7 @@ module _ (kind : SwitchKind) (past : List RawChange) (x : SwitchState) (moment n
     ahead = λ other is. absurd (none-some other is);
   }
 
--- a raw change that waits is foretold, where s says whether it tells nothing new
+-- a raw change that waits is foretold, where s says whether it says nothing new
 awaited-level : (kind : SwitchKind) (now later : ℕ) (level : Bool) (x : SwitchState) (s : Bool) → (s ≡ true → is_active kind.contact level ≡ x.active)
     → cond (nat_le (now + 5) later) (is_active kind.contact level) x.active ≡ level_by kind (awaited kind now level x) later (cond s None (Some (now + 5)))
 awaited-level kind now later level x true same = cond-same (nat_le (now + 5) later) (is_active kind.contact level) x.active (same refl)

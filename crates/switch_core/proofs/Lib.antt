@@ -1,4 +1,5 @@
 pub mod Levels
 pub mod NextDue
+pub mod DueMoments
 pub mod Following
 pub mod Lists

@@ -10,9 +10,12 @@ use Rattle.switch_core.specs.declared.change.Change.{Change}
 use Rattle.switch_core.specs.declared.state.State.{State}
 use Rattle.switch_core.specs.SwitchStep.{SwitchState, idle, changed, is_taken, fired}
 use Rattle.switch_core.specs.StateView.{state_view}
-use Rattle.switch_core.specs.Inside.{lists_view}
 use Rattle.switch_core.specs.Switches.{SwitchesView, IsComplete, no_kind, kind_at, state_at, set_state, due_of, told, after_change, told_by_change, IsNextDue, due_as, sooner, next_due_from, next_due, accept, accept_due, after_fire}
 use Rattle.switch_core.proofs.NextDue.{next_due-more, next_due-all}
+
+-- the switches of which these are the kinds and the states
+abbrev pub lists_view : List SwitchKind → List State → SwitchesView
+lists_view kinds states = record { kinds = kinds; states = map state_view states }
 
 -- ---- what is due is one of the switches
 
@@ -97,9 +100,9 @@ module _ (kinds : List SwitchKind) (states : List State) (switch : SwitchId) (ki
   pub change-set : (level : Bool) (now : ℕ) → state_view new ≡ changed kind now level (state_view old) → lists_view kinds (slice_set states switch.0 new) ≡ after_change switch level now (lists_view kinds states)
   change-set level now made = set-made (λ k x. changed k now level x) made
 
-  pub change-told : (level : Bool) (now : ℕ) (taken : Bool) → state_view new ≡ changed kind now level (state_view old) → taken ≡ is_taken kind level (state_view old)
+  pub change-answer : (level : Bool) (now : ℕ) (taken : Bool) → state_view new ≡ changed kind now level (state_view old) → taken ≡ is_taken kind level (state_view old)
       → then_some taken (record { switch = switch; active = new.active }) ≡ told_by_change switch level now (lists_view kinds states)
-  change-told level now taken made test =
+  change-answer level now taken made test =
       let s = lists_view kinds states in
       let told_is = told-made (λ k x. changed k now level x) made in
       let test_is : taken ≡ is_taken (kind_at s switch) level (state_at s switch) = test ∙ sym (ap₂ (λ k x. is_taken k level x) read-kind read-state) in

@@ -1,11 +1,12 @@
 -- What is due next is what has the least moment, and of equal moments the least number.
-use Rattle.std.proofs.Common.{◌≡◌, ℕ, zero, suc, ◌+◌, ◌<◌, ◌≤◌, ◌⊎◌, cond, Option, Some, None, option_map, MatchOption, IfSome, IfNone, List, [], ◌∷◌, length, drop, nat_le, slice_index_or, refl, ap, ap₂, sym, subst, ◌∙◌, inl, inr, arith}
-use Rattle.std.proofs.lemmas.Bool.{cases_Bool, cases_lt, cond_both, leb-true, leb-false}
+use Rattle.std.proofs.Common.{◌≡◌, ℕ, zero, suc, ◌+◌, ◌<◌, ◌≤◌, ◌⊎◌, false, cond, Option, Some, None, option_map, MatchOption, IfSome, IfNone, List, [], ◌∷◌, length, drop, nat_le, slice_index_or, refl, ap, ap₂, sym, subst, ◌∙◌, inl, inr, arith}
+use Rattle.std.specs.Option.{option_map_or}
+use Rattle.std.proofs.lemmas.Bool.{cases_Bool, cases_lt, cond_both, leb-true, leb-false, lt-leb}
 use Rattle.std.proofs.lemmas.Option.{none-some, same_Some}
 use Rattle.std.proofs.lemmas.List.{drop_more, drop_all}
 use Rattle.mpf_plan.specs.declared.entries.SwitchId.{SwitchId}
 use Rattle.switch_core.specs.SwitchStep.{SwitchState, idle}
-use Rattle.switch_core.specs.Switches.{SwitchesView, no_kind, due_of, IsNextDue, IsNothingDue, sooner, due_as, next_due_from, next_due}
+use Rattle.switch_core.specs.Switches.{SwitchesView, no_kind, due_of, IsNextDue, IsNothingDue, IsQuietUntil, sooner, due_as, next_due_from, next_due}
 
 -- ---- the sooner of three
 
@@ -144,7 +145,7 @@ answer-none s o is = none_of s o (subst (IsDueIn s) (sym is) (next_due-is_due s)
 
 -- ---- there is one at most
 
-next_due-unique : (s : SwitchesView) (at other : ℕ) (n m : SwitchId) → IsNextDue s at n → IsNextDue s other m → (at ≡ other) × (n.0 ≡ m.0)
+pub next_due-unique : (s : SwitchesView) (at other : ℕ) (n m : SwitchId) → IsNextDue s at n → IsNextDue s other m → (at ≡ other) × (n.0 ≡ m.0)
 next_due-unique s at other n m a b =
     elim (a.least m other b.due) [
       | inl before ↦ elim (b.least n at a.due) [ inl after ↦ absurd (omega arith) | inr same ↦ let is = same.0 in absurd (omega arith) ]
@@ -163,3 +164,38 @@ is_next s at n (Some d) b a =
 
 pub next_due-is : (s : SwitchesView) (at : ℕ) (n : SwitchId) → IsNextDue s at n → next_due s ≡ Some (at, n)
 next_due-is s at n a = is_next s at n (next_due s) (next_due-is_due s) a
+
+-- ---- and the other way round
+
+pub next_due-least : (s : SwitchesView) (at : ℕ) (n : SwitchId) → next_due s ≡ Some (at, n) → IsNextDue s at n
+next_due-least s at n is = subst (IsDueIn s) is (next_due-is_due s)
+
+pub next_due-none : (s : SwitchesView) → next_due s ≡ None → IsNothingDue s
+next_due-none s is = subst (IsDueIn s) is (next_due-is_due s)
+
+-- ---- nothing is due at or before a moment
+
+pub nothing_due-quiet : (s : SwitchesView) (moment : ℕ) → IsNothingDue s → IsQuietUntil s moment
+nothing_due-quiet s moment none n due is = absurd_due (due_of s n) due (none n) is
+
+pub next_due-quiet : (s : SwitchesView) (moment at : ℕ) (n : SwitchId) → IsNextDue s at n → moment < at → IsQuietUntil s moment
+next_due-quiet s moment at n next before other due is =
+    elim (next.least other due is) [
+      | inl later ↦ omega arith
+      | inr same ↦ let e = same.0 in omega arith
+    ]
+
+quiet-where : (s : SwitchesView) (moment : ℕ) (o : Option (ℕ × SwitchId)) → IsDueIn s o → option_map_or (λ d. nat_le d.0 moment) o false ≡ false → IsQuietUntil s moment
+quiet-where s moment None none later = nothing_due-quiet s moment none
+quiet-where s moment (Some d) next later = next_due-quiet s moment d.0 d.1 next (leb-false d.0 moment later)
+
+not_due-where : (s : SwitchesView) (moment : ℕ) (o : Option (ℕ × SwitchId)) → IsDueIn s o → IsQuietUntil s moment → option_map_or (λ d. nat_le d.0 moment) o false ≡ false
+not_due-where s moment None none quiet = refl
+not_due-where s moment (Some d) next quiet = lt-leb d.0 moment (quiet d.1 d.0 next.due)
+
+-- as what is due next says it
+pub not_due-quiet : (s : SwitchesView) (moment : ℕ) → option_map_or (λ d. nat_le d.0 moment) (next_due s) false ≡ false → IsQuietUntil s moment
+not_due-quiet s moment = quiet-where s moment (next_due s) (next_due-is_due s)
+
+pub quiet-not_due : (s : SwitchesView) (moment : ℕ) → IsQuietUntil s moment → option_map_or (λ d. nat_le d.0 moment) (next_due s) false ≡ false
+quiet-not_due s moment = not_due-where s moment (next_due s) (next_due-is_due s)

@@ -28,6 +28,7 @@ abbrev pub active_after : Contact → Option RawChange → Bool
 active_after contact None = false
 active_after contact (Some c) = is_active contact c.level
 
--- Whether a switch is active at a moment: by the last of its raw changes that stand and whose delay is over, and without one not.
+-- Whether a switch is active at a moment: by the last of its raw changes that stand and whose delay is over, and
+-- without one not.
 abbrev pub accepted_level : SwitchKind → ℕ → List RawChange → Bool
 accepted_level kind moment changes = active_after kind.contact (last_or None (filter (is_over (delay_of kind) moment) (standing (delay_of kind) changes)))

@@ -1,5 +1,5 @@
 -- Lists of calls, and the law that they keep.
-use Rattle.std.specs.Prelude.{◌≡◌, ℕ, ◌<◌, ◌≤◌, ◌==◌, Bool, not, ◌&&◌, if◌then◌else◌, Some, List, [], ◌∷◌, length}
+use Rattle.std.specs.Prelude.{◌≡◌, ℕ, ◌<◌, ◌≤◌, ◌==◌, ◌⊎◌, Bool, not, ◌&&◌, if◌then◌else◌, Some, List, [], ◌∷◌, length}
 use Rattle.mpf_plan.specs.declared.entries.SwitchId.{SwitchId}
 use Rattle.mpf_plan.specs.PlanView.{PlanView, switch_at}
 use Rattle.switch_core.specs.SwitchStep.{same_level, raw_at_rest}
@@ -11,9 +11,9 @@ pub data Call : Type 0 where
   Change : (switch : SwitchId) (level : Bool) (now : ℕ) → Call
   Fire : (now : ℕ) → Call
 
-abbrev pub moment_of : Call → ℕ
-moment_of (Change switch level now) = now
-moment_of (Fire now) = now
+abbrev pub call_moment : Call → ℕ
+call_moment (Change switch level now) = now
+call_moment (Fire now) = now
 
 abbrev pub after_call : Call → SwitchesView → SwitchesView
 after_call (Change switch level now) s = after_change switch level now s
@@ -27,7 +27,7 @@ after_calls (call ∷ calls) s = after_calls calls (after_call call s)
 -- the moment of the last call, or without one this moment
 abbrev pub last_moment : ℕ → List Call → ℕ
 last_moment moment [] = moment
-last_moment moment (call ∷ calls) = last_moment (moment_of call) calls
+last_moment moment (call ∷ calls) = last_moment (call_moment call) calls
 
 -- A change comes where nothing is due at or before its moment; what is due next is accepted at its moment.
 abbrev pub IsInTime : SwitchesView → Call → Type 0
@@ -37,7 +37,7 @@ IsInTime s (Fire now) = (switch : SwitchId) × IsNextDue s now switch
 -- Each call is in time, and their moments do not go back, from this one on.
 abbrev pub AreInTime : ℕ → SwitchesView → List Call → Type 0
 AreInTime moment s [] = Unit {0}
-AreInTime moment s (call ∷ calls) = (moment ≤ moment_of call) × IsInTime s call × AreInTime (moment_of call) (after_call call s) calls
+AreInTime moment s (call ∷ calls) = (moment ≤ call_moment call) × IsInTime s call × AreInTime (call_moment call) (after_call call s) calls
 
 -- a switch's raw changes among calls, where its raw level before them is this
 abbrev pub raw_changes : SwitchId → Bool → List Call → List RawChange
@@ -46,7 +46,8 @@ raw_changes switch raw (Change other level now ∷ calls) =
     if (other.0 == switch.0) && not (same_level level raw) then record { at = now; level = level } ∷ raw_changes switch level calls else raw_changes switch raw calls
 raw_changes switch raw (Fire now ∷ calls) = raw_changes switch raw calls
 
--- After every list of calls from `new` on, wherever nothing is due at or before a moment: each switch is active just as its raw changes say.
+-- After every list of calls from `new` on, wherever nothing is due at or before a moment: each switch is active just
+-- as its raw changes say.
 abbrev pub LevelsAreAccepted : Type 0
 LevelsAreAccepted =
     (plan : PlanView) (calls : List Call) (moment : ℕ) → AreInTime 0 (all_idle plan) calls → last_moment 0 calls ≤ moment → IsQuietUntil (after_calls calls (all_idle plan)) moment
@@ -58,3 +59,9 @@ abbrev pub NothingIsLate : Type 0
 NothingIsLate =
     (plan : PlanView) (calls : List Call) → AreInTime 0 (all_idle plan) calls
     → (switch : SwitchId) (due : ℕ) → switch.0 < length plan.switches → due_of (after_calls calls (all_idle plan)) switch ≡ Some due → last_moment 0 calls ≤ due
+
+-- What a change leaves to be accepted was due already, or is due after the moment of the change.
+abbrev pub ChangesArmLater : Type 0
+ChangesArmLater =
+    (switch : SwitchId) (level : Bool) (now : ℕ) (s : SwitchesView) (other : SwitchId) (due : ℕ)
+    → due_of (after_change switch level now s) other ≡ Some due → (due_of s other ≡ Some due) ⊎ (now < due)

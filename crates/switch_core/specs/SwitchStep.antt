@@ -4,7 +4,8 @@ use Rattle.mpf_config.specs.declared.config.Contact.{Contact}
 use Rattle.mpf_config.specs.declared.config.Contact.TheVariants.{NormallyOpen, NormallyClosed}
 use Rattle.mpf_plan.specs.declared.entries.SwitchKind.{SwitchKind}
 
--- a switch: its raw level, whether it is active by the level that was accepted last, and the moment at which the raw level is to be accepted
+-- a switch: its raw level, whether it is active by the level that was accepted last, and the moment at which the raw
+-- level is to be accepted
 pub record SwitchState : Type 0 where
   pub raw : Bool
   pub active : Bool

@@ -39,7 +39,7 @@ active_at s switch = (state_at s switch).active
 abbrev pub due_of : SwitchesView → SwitchId → Option ℕ
 due_of s switch = (state_at s switch).due
 
--- what is told of a switch whose raw level was accepted
+-- what is reported of a switch whose raw level was accepted
 abbrev pub told : SwitchesView → SwitchId → Change
 told s switch = record { switch = switch; active = active_at s switch }
 
@@ -55,7 +55,7 @@ all_idle plan = record { kinds = map (λ s. s.kind) plan.switches; states = map 
 abbrev pub after_change : SwitchId → Bool → ℕ → SwitchesView → SwitchesView
 after_change switch level now s = set_state switch (changed (kind_at s switch) now level (state_at s switch)) s
 
--- The change is told where it is accepted at once.
+-- The change is reported where it is accepted at once.
 abbrev pub told_by_change : SwitchId → Bool → ℕ → SwitchesView → Option Change
 told_by_change switch level now s =
     if is_taken (kind_at s switch) level (state_at s switch) then Some (told (after_change switch level now s) switch) else None
@@ -108,6 +108,6 @@ accept_due (Some d) s = accept d.1 s
 abbrev pub after_fire : SwitchesView → SwitchesView
 after_fire s = accept_due (next_due s) s
 
--- It is told.
+-- It is reported.
 abbrev pub told_by_fire : SwitchesView → Option Change
 told_by_fire s = option_map (λ d. told (after_fire s) d.1) (next_due s)

@@ -1,4 +1,4 @@
-//! What is told of a switch.
+//! What is reported of a switch.
 
 use mpf_plan::entries::SwitchId;
 

@@ -70,16 +70,16 @@ impl State {
         }
     }
 
-    /// The state after a change to another raw level, which waits where it tells something new.
+    /// The state after a change to another raw level, which waits where it says something new.
     fn awaited(self, kind: SwitchKind, level: bool, now: u64) -> State
         requires { now < 2 ^ 40 }
         ensures { state_view result ≡ awaited kind now level (state_view self) }
     {
-        let tells_new = is_active(kind.contact, level) != self.active;
+        let says_new = is_active(kind.contact, level) != self.active;
         State {
             raw: level,
             active: self.active,
-            due: tells_new.then_some(now + DELAY),
+            due: says_new.then_some(now + DELAY),
         }
     }
 }

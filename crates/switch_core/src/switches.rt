@@ -22,15 +22,15 @@ pub struct Switches {
 }
 
 impl Model for Switches {
+    ghost use Rattle.std.specs.Prelude.{map};
+    ghost use Rattle.switch_core.specs.StateView.{state_view};
     ghost use Rattle.switch_core.specs.Switches.{SwitchesView, IsComplete};
 
     ghost Value = { SwitchesView };
 
-    ghost use Rattle.switch_core.specs.Inside.{switches_view};
+    ghost view = { λ s. record { kinds = s.kinds.items; states = map state_view s.states.items } };
 
-    ghost view = { switches_view };
-
-    ghost invariant = { λ s. IsComplete (switches_view s) };
+    ghost invariant = { λ s. IsComplete (record { kinds = s.kinds.items; states = map state_view s.states.items }) };
 }
 
 impl Switches {
@@ -59,8 +59,8 @@ impl Switches {
         Ok(Switches { kinds, states })
     }
 
-    /// The raw level of a switch of the plan changes at the moment `now`, below 2^40 ms. Tells the
-    /// new accepted level where it is accepted at once. Where the switch has this raw level already,
+    /// The raw level of a switch of the plan changes at the moment `now`, below 2^40 ms. Reports
+    /// the new accepted level where it is accepted at once. Where the switch has this raw level already,
     /// nothing happens.
     ///
     /// It is to be called only once everything that is due at or before `now` has been accepted.
@@ -97,8 +97,8 @@ impl Switches {
         next
     }
 
-    /// Accepts the raw level that is due next, which something must be: `due` tells. Tells the
-    /// new accepted level.
+    /// Accepts the raw level that is due next, which something must be, as `due` says. Reports
+    /// the new accepted level.
     pub fn fire(&mut self) -> Change
         requires { IsSome (next_due self.old) }
         ensures state { self.new ≡ after_fire self.old }

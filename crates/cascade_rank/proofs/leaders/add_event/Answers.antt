@@ -17,7 +17,7 @@ binding-target-requires c =
 
 pub add_target-requires-clause-target : goal.add_target-requires-clause-target
 add_target-requires-clause-target c =
-    (binding-within c.args.plan.now c.binding-target.ensures.valid _ c.binding-target.result c.binding-target.ensures.binding).1
+    (binding-within c.args.plan.now c.binding-target.ensures.valid _ c.binding-target.result c.binding-target.ensures.binding).2
 
 pub overflow_add-posts : goal.overflow_add-posts
 overflow_add-posts c =

@@ -5,7 +5,7 @@ use Rattle.cascade_rank.specs.Leaders.{AddsLeader}
 use Rattle.cascade_rank.proofs.Places.{cost_at_place}
 use Rattle.cascade_rank.proofs.leaders.add_event.Given as goal
 
--- the event leads to what stands at the places so far, each fewer than 2^64 posts
+-- the event leads to what is at the places so far, each fewer than 2^64 posts
 abbrev pub invariant-loop-place : goal.invariant-loop-place
 invariant-loop-place l = record {
   adds : AddsLeader l.event.0 (each_of (cost_at_place l.plan) (take l.place-index l.place-items)) l.fn.leaders l.leaders;

@@ -3,7 +3,7 @@ use Rattle.cascade_rank.specs.Cost.{price, each_of}
 use Rattle.cascade_rank.proofs.Places.{cost_at_place}
 use Rattle.cascade_rank.proofs.price.need.Given as goal
 
--- a line, and the price of what stands at the places so far, at each of which it is below 2^96
+-- a line, and the price of what is at the places so far, at each of which it is below 2^96
 abbrev pub invariant-loop-place : goal.invariant-loop-place
 invariant-loop-place l = record {
   price : l.total ≡ 1 + price (slice_index l.weights) (each_of (cost_at_place l.plan) (take l.place-index l.place-items));

@@ -5,6 +5,6 @@ use Rattle.cascade_rank.proofs.price.price_of_actions.Given as goal
 -- the price of the actions so far, each of which is below 2^32
 abbrev pub invariant-loop-action : goal.invariant-loop-action
 invariant-loop-action l = record {
-  price : l.total ≡ price (slice_index l.weights) (each_of cost_of_action (take l.action-index l.actions));
+  price : l.total ≡ price (slice_index l.weights) (each_of (cost_of_action l.plan) (take l.action-index l.actions));
   small : l.total ≤ l.action-index * 2 ^ 32;
 }

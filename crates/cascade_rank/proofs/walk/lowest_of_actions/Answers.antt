@@ -7,5 +7,5 @@ use Rattle.cascade_rank.proofs.walk.lowest_of_actions.Goals as goal
 pub loop-action-preserved : goal.loop-action-preserved
 loop-action-preserved c =
     let left = c.args.left.now in
-    let more = lowest-each_more (length left) (λ e. nat_lt 0 (slice_index left e)) cost_of_action c.args.actions.now c.loop-action.action-index (Post (record { 0 = 0 })) c.loop-action-test.true in
+    let more = lowest-each_more (length left) (λ e. nat_lt 0 (slice_index left e)) (cost_of_action c.args.plan.now) c.args.actions.now c.loop-action.action-index (Post (record { 0 = 0 })) c.loop-action-test.true in
     omega (arith, more)

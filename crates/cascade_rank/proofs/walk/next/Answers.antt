@@ -12,7 +12,7 @@ binding-target-requires c =
 
 pub lowest_of_target-requires-clause-target : goal.lowest_of_target-requires-clause-target
 lowest_of_target-requires-clause-target c =
-    (binding-within c.args.plan.now c.binding-target.ensures.valid _ c.binding-target.result c.binding-target.ensures.binding).1
+    (binding-within c.args.plan.now c.binding-target.ensures.valid _ c.binding-target.result c.binding-target.ensures.binding).2
 
 pub loop-place-preserved : goal.loop-place-preserved
 loop-place-preserved c =

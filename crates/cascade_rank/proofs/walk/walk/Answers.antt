@@ -3,8 +3,8 @@ use Rattle.std.proofs.lemmas.Result.{IfOk-weaker}
 use Rattle.std.proofs.lemmas.List.{map_push, get_or_read}
 use Rattle.mpf_plan.specs.declared.entries.EventId.{EventId}
 use Rattle.cascade_rank.specs.LeadsTo.{IsCycle}
-use Rattle.cascade_rank.specs.Cycle.{IsToldCycle, from_first}
-use Rattle.cascade_rank.proofs.Walking.{WalkAt, walk_goes, comes_again, cycle_is, told, cycle}
+use Rattle.cascade_rank.specs.Cycle.{IsReportedCycle, from_first}
+use Rattle.cascade_rank.proofs.Walking.{WalkAt, walk_goes, comes_again, cycle_is, reported, cycle}
 use Rattle.cascade_rank.proofs.walk.walk.Goals as goal
 
 pub loop-passed-preserved : goal.loop-passed-preserved
@@ -31,8 +31,8 @@ returns-clause-cycle c =
     let same = ap (λ (es : List EventId). from_first c.loop-passed.at.0 (map (λ (e : EventId). e.0) es)) c.deref.ensures.value in
     IfOk-weaker c.part_from.result _ _ (λ part is. is ∙ same ∙ cycle_is c.args.plan.now c.args.start.0 c.requires.first passed path at w again) c.part_from.ensures
 
-pub returns-clause-told : goal.returns-clause-told
-returns-clause-told c =
+pub returns-clause-reported : goal.returns-clause-reported
+returns-clause-reported c =
     let path = map (λ (e : EventId). e.0) c.loop-passed.path.items in
     let passed = c.loop-passed.passed.items in
     let at = c.loop-passed.at.0 in
@@ -41,7 +41,7 @@ returns-clause-told c =
     let again : slice_index_or passed at false ≡ true = sym (get_or_read passed at c.index.result.now inside c.index.ensures false) ∙ c.loop-passed-test.false in
     let same = ap (λ (es : List EventId). from_first c.loop-passed.at.0 (map (λ (e : EventId). e.0) es)) c.deref.ensures.value in
     let there = comes_again c.args.plan.now c.args.start.0 c.requires.first passed path at w again in
-    IfOk-weaker c.part_from.result _ _ (λ part is. subst (IsToldCycle c.args.plan.now) (sym (is ∙ same)) (told c.args.plan.now path at w.walk w.all_below w.goes there)) c.part_from.ensures
+    IfOk-weaker c.part_from.result _ _ (λ part is. subst (IsReportedCycle c.args.plan.now) (sym (is ∙ same)) (reported c.args.plan.now path at w.walk w.all_below w.goes there)) c.part_from.ensures
 
 pub returns-clause-is_one : goal.returns-clause-is_one
 returns-clause-is_one c =

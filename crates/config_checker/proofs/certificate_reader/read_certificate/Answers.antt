@@ -5,7 +5,7 @@ use Rattle.config_checker.proofs.certificate_reader.read_certificate.Goals as go
 
 pub loop-rest-init : goal.loop-rest-init
 loop-rest-init c =
-    let h = rw c.in_ok-rest.ensures.ok_part at c.behind_heading.ensures in
+    let h = rw c.in_ok-rest.ensures.ok_part at c.after_heading.ensures in
     let b = rw c.in_ok-bound.ensures.ok_part at c.next_bound.ensures in
     rw (c.new-names.ensures.items, c.new-weights.ensures.items) (read_none c.args.text.now c.in_ok-bound.rest.now c.in_ok-rest.rest.now c.in_ok-bound.bound h b)
 

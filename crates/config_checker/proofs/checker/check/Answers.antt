@@ -10,27 +10,27 @@ use Rattle.config_checker.specs.View.{GivesChecked, fault_view}
 use Rattle.config_checker.specs.Checking.{checked_at}
 use Rattle.config_checker.specs.Refused.{IsLimitFault, IsFaultOf}
 use Rattle.config_checker.proofs.Cascade.{every_run_is_good}
-use Rattle.config_checker.proofs.Judging.{one-gives, tells-gives, tells-there, limit-found, unfound-checked, unfound-fault, found-accepted}
+use Rattle.config_checker.proofs.Judging.{one-gives, reports-gives, reports-there, limit-found, unfound-checked, unfound-fault, found-accepted}
 use Rattle.config_checker.proofs.checker.check.Goals as goal
 
 pub returns-in_err-plan-clause-exact : goal.returns-in_err-plan-clause-exact
 returns-in_err-plan-clause-exact c =
     let rows = rows_view c.args.config.now in
     let p = err_from_is_err_and c.from_residual.result c.from_residual.ensures.1 in
-    subst (λ (r : Result CheckedView Report). GivesChecked r (checked_at rows)) (sym (p.1 ∙ ap Err p.2)) (one-gives (IsLimitFault rows) c.in_err-plan.field-0.0 (checked_at rows) c.in_err-plan.ensures.limit (limit-found rows))
+    subst (λ (r : Result CheckedView Report). GivesChecked r (checked_at rows)) (sym (p.1 ∙ ap Err p.2)) (one-gives rows (IsLimitFault rows) c.in_err-plan.field-0.0 (checked_at rows) c.in_err-plan.ensures.limit (limit-found rows))
 
 -- ---- no weights were found
 
 pub returns-in-Err-clause-exact : goal.returns-in-Err-clause-exact
 returns-in-Err-clause-exact c =
     let rows = rows_view c.args.config.now in
-    tells-gives c.tell.result (fault_view c.in_ok-named_fault-in-Err.field-0) (checked_at rows) c.tell.ensures
+    reports-gives c.report_of.result (fault_view c.in_ok-named_fault-in-Err.field-0) (checked_at rows) c.report_of.ensures
     (unfound-checked rows c.in_ok-plan.plan c.in_ok-plan.ensures.plan (rank_view c.in-Err.fault) (fault_view c.in_ok-named_fault-in-Err.field-0) c.in_ok-named_fault-in-Err.ensures c.in-Err.ensures.exact)
 
 pub returns-in-Err-clause-refused : goal.returns-in-Err-clause-refused
 returns-in-Err-clause-refused c =
     let rows = rows_view c.args.config.now in
-    tells-there (IsFaultOf rows) c.tell.result (fault_view c.in_ok-named_fault-in-Err.field-0) c.tell.ensures
+    reports-there rows (IsFaultOf rows) c.report_of.result (fault_view c.in_ok-named_fault-in-Err.field-0) c.report_of.ensures
     (unfound-fault rows c.in_ok-plan.plan c.in_ok-plan.ensures.plan (rank_view c.in-Err.fault) (fault_view c.in_ok-named_fault-in-Err.field-0) c.in_ok-named_fault-in-Err.ensures c.in-Err.ensures.refused)
 
 -- ---- accepted

@@ -12,7 +12,7 @@ use Rattle.config_checker.specs.View.{GivesChecked, fault_view}
 use Rattle.config_checker.specs.Checking.{certificate, bad_line, other_events, other_bound, same_names, checked_with_at}
 use Rattle.config_checker.specs.Refused.{IsLimitFault, IsFaultWith}
 use Rattle.config_checker.proofs.Cascade.{every_run_is_good}
-use Rattle.config_checker.proofs.Judging.{one-gives, tells-gives, tells-there, limit-given, misread-checked, misread-fault, read-as, other_events-checked, other_events-fault, unverified-checked, unverified-fault, verified-checked, verified-text, other_bound-checked, other_bound-fault}
+use Rattle.config_checker.proofs.Judging.{one-gives, reports-gives, reports-there, limit-given, misread-checked, misread-fault, read-as, other_events-checked, other_events-fault, unverified-checked, unverified-fault, verified-checked, verified-text, other_bound-checked, other_bound-fault}
 use Rattle.config_checker.proofs.checker.check_with.Goals as goal
 
 pub returns-in_err-plan-clause-exact : goal.returns-in_err-plan-clause-exact
@@ -21,7 +21,7 @@ returns-in_err-plan-clause-exact c =
     let text = c.args.certificate.now in
     let p = err_from_is_err_and c.from_residual.result c.from_residual.ensures.1 in
     subst (λ (r : Result CheckedView Report). GivesChecked r (checked_with_at rows text)) (sym (p.1 ∙ ap Err p.2))
-    (one-gives (IsLimitFault rows) c.in_err-plan.field-0.0 (checked_with_at rows text) c.in_err-plan.ensures.limit (limit-given rows text))
+    (one-gives rows (IsLimitFault rows) c.in_err-plan.field-0.0 (checked_with_at rows text) c.in_err-plan.ensures.limit (limit-given rows text))
 
 -- ---- the text is no certificate
 
@@ -30,14 +30,14 @@ returns-in-Err-Line-clause-exact c =
     let rows = rows_view c.args.config.now in
     let text = c.args.certificate.now in
     let misread = rw c.in-Err-Line.field-0-is at c.in-Err-Line.ensures.exact in
-    tells-gives c.tell.result (certificate (bad_line c.in-Err-Line.number)) (checked_with_at rows text) c.tell.ensures (misread-checked rows c.in_ok-plan.plan c.in_ok-plan.ensures.plan text c.in-Err-Line.number misread)
+    reports-gives c.report_of.result (certificate (bad_line c.in-Err-Line.number)) (checked_with_at rows text) c.report_of.ensures (misread-checked rows c.in_ok-plan.plan c.in_ok-plan.ensures.plan text c.in-Err-Line.number misread)
 
 pub returns-in-Err-Line-clause-refused : goal.returns-in-Err-Line-clause-refused
 returns-in-Err-Line-clause-refused c =
     let rows = rows_view c.args.config.now in
     let text = c.args.certificate.now in
     let misread = rw c.in-Err-Line.field-0-is at c.in-Err-Line.ensures.exact in
-    tells-there (IsFaultWith rows text) c.tell.result (certificate (bad_line c.in-Err-Line.number)) c.tell.ensures (misread-fault rows c.in_ok-plan.plan c.in_ok-plan.ensures.plan text c.in-Err-Line.number misread)
+    reports-there rows (IsFaultWith rows text) c.report_of.result (certificate (bad_line c.in-Err-Line.number)) c.report_of.ensures (misread-fault rows c.in_ok-plan.plan c.in_ok-plan.ensures.plan text c.in-Err-Line.number misread)
 
 -- ---- its events are not the plan's
 
@@ -49,7 +49,7 @@ returns-then-not-are_events-clause-exact c =
     let names = map (λ n. n.now) c.in-Ok.lines.names.items in
     let reading = read-as text c.in-Ok.lines.bound names c.in-Ok.lines.weights.items c.in-Ok.lines.weights.items (c.in-Ok.ensures.count ∙ sym (length-map c.in-Ok.lines.names.items (λ n. n.now))) c.in-Ok.ensures.exact refl in
     let other : same_names plan.events names ≡ false = ap (λ ns. same_names plan.events (map (λ n. n.now) ns)) (sym c.deref.ensures.value) ∙ sym c.are_events.ensures ∙ c.if-not-are_events.true in
-    tells-gives c.tell-then-not-are_events.result (certificate other_events) (checked_with_at rows text) c.tell-then-not-are_events.ensures
+    reports-gives c.report_of-then-not-are_events.result (certificate other_events) (checked_with_at rows text) c.report_of-then-not-are_events.ensures
     (other_events-checked rows plan c.in_ok-plan.ensures.plan text _ names c.in-Ok.lines.weights.items reading other)
 
 pub returns-then-not-are_events-clause-refused : goal.returns-then-not-are_events-clause-refused
@@ -60,7 +60,7 @@ returns-then-not-are_events-clause-refused c =
     let names = map (λ n. n.now) c.in-Ok.lines.names.items in
     let reading = read-as text c.in-Ok.lines.bound names c.in-Ok.lines.weights.items c.in-Ok.lines.weights.items (c.in-Ok.ensures.count ∙ sym (length-map c.in-Ok.lines.names.items (λ n. n.now))) c.in-Ok.ensures.exact refl in
     let other : same_names plan.events names ≡ false = ap (λ ns. same_names plan.events (map (λ n. n.now) ns)) (sym c.deref.ensures.value) ∙ sym c.are_events.ensures ∙ c.if-not-are_events.true in
-    tells-there (IsFaultWith rows text) c.tell-then-not-are_events.result (certificate other_events) c.tell-then-not-are_events.ensures
+    reports-there rows (IsFaultWith rows text) c.report_of-then-not-are_events.result (certificate other_events) c.report_of-then-not-are_events.ensures
     (other_events-fault rows plan c.in_ok-plan.ensures.plan text _ names c.in-Ok.lines.weights.items reading other)
 
 -- ---- its weights do not serve
@@ -74,9 +74,9 @@ returns-in_ok-named_fault-in-Err-clause-exact c =
     let ws = c.of-weights.result in
     let reading = read-as text c.in-Ok.lines.bound names c.in-Ok.lines.weights.items ws (c.in-Ok.ensures.count ∙ sym (length-map c.in-Ok.lines.names.items (λ n. n.now))) c.in-Ok.ensures.exact c.of-weights.ensures in
     let same : same_names plan.events names ≡ true = ap (λ ns. same_names plan.events (map (λ n. n.now) ns)) (sym c.deref.ensures.value) ∙ sym c.are_events.ensures ∙ c.if-not-are_events.false in
-    let told = c.in-Err.ensures.exact in
-    tells-gives c.tell-in-Err.result (fault_view c.in_ok-named_fault-in-Err.field-0) (checked_with_at rows text) c.tell-in-Err.ensures
-    (unverified-checked rows plan c.in_ok-plan.ensures.plan text _ names ws reading same told.0 (rank_view c.in-Err.fault) (fault_view c.in_ok-named_fault-in-Err.field-0) told.1 c.in_ok-named_fault-in-Err.ensures told.2)
+    let found = c.in-Err.ensures.exact in
+    reports-gives c.report_of-in-Err.result (fault_view c.in_ok-named_fault-in-Err.field-0) (checked_with_at rows text) c.report_of-in-Err.ensures
+    (unverified-checked rows plan c.in_ok-plan.ensures.plan text _ names ws reading same found.0 (rank_view c.in-Err.fault) (fault_view c.in_ok-named_fault-in-Err.field-0) found.1 c.in_ok-named_fault-in-Err.ensures found.2)
 
 pub returns-in_ok-named_fault-in-Err-clause-refused : goal.returns-in_ok-named_fault-in-Err-clause-refused
 returns-in_ok-named_fault-in-Err-clause-refused c =
@@ -87,7 +87,7 @@ returns-in_ok-named_fault-in-Err-clause-refused c =
     let ws = c.of-weights.result in
     let reading = read-as text c.in-Ok.lines.bound names c.in-Ok.lines.weights.items ws (c.in-Ok.ensures.count ∙ sym (length-map c.in-Ok.lines.names.items (λ n. n.now))) c.in-Ok.ensures.exact c.of-weights.ensures in
     let same : same_names plan.events names ≡ true = ap (λ ns. same_names plan.events (map (λ n. n.now) ns)) (sym c.deref.ensures.value) ∙ sym c.are_events.ensures ∙ c.if-not-are_events.false in
-    tells-there (IsFaultWith rows text) c.tell-in-Err.result (fault_view c.in_ok-named_fault-in-Err.field-0) c.tell-in-Err.ensures
+    reports-there rows (IsFaultWith rows text) c.report_of-in-Err.result (fault_view c.in_ok-named_fault-in-Err.field-0) c.report_of-in-Err.ensures
     (unverified-fault rows plan c.in_ok-plan.ensures.plan text _ names ws reading same (rank_view c.in-Err.fault) (fault_view c.in_ok-named_fault-in-Err.field-0) c.in_ok-named_fault-in-Err.ensures c.in-Err.ensures.refused)
 
 pub returns-in-Ok-2-clause-exact : goal.returns-in-Ok-2-clause-exact
@@ -99,7 +99,7 @@ returns-in-Ok-2-clause-exact c =
     let ws = c.of-weights.result in
     let reading = read-as text c.in-Ok.lines.bound names c.in-Ok.lines.weights.items ws (c.in-Ok.ensures.count ∙ sym (length-map c.in-Ok.lines.names.items (λ n. n.now))) c.in-Ok.ensures.exact c.of-weights.ensures in
     let same : same_names plan.events names ≡ true = ap (λ ns. same_names plan.events (map (λ n. n.now) ns)) (sym c.deref.ensures.value) ∙ sym c.are_events.ensures ∙ c.if-not-are_events.false in
-    tells-gives c.tell-in-Ok-2.result (certificate (other_bound c.in-Ok-verify.bound.0)) (checked_with_at rows text) c.tell-in-Ok-2.ensures
+    reports-gives c.report_of-in-Ok-2.result (certificate (other_bound c.in-Ok-verify.bound.0)) (checked_with_at rows text) c.report_of-in-Ok-2.ensures
     (other_bound-checked rows plan c.in_ok-plan.ensures.plan text _ names ws reading same c.in-Ok-verify.bound.0 c.in-Ok-verify.ensures.exact c.if-bound-stated.false)
 
 pub returns-in-Ok-2-clause-refused : goal.returns-in-Ok-2-clause-refused
@@ -111,7 +111,7 @@ returns-in-Ok-2-clause-refused c =
     let ws = c.of-weights.result in
     let reading = read-as text c.in-Ok.lines.bound names c.in-Ok.lines.weights.items ws (c.in-Ok.ensures.count ∙ sym (length-map c.in-Ok.lines.names.items (λ n. n.now))) c.in-Ok.ensures.exact c.of-weights.ensures in
     let same : same_names plan.events names ≡ true = ap (λ ns. same_names plan.events (map (λ n. n.now) ns)) (sym c.deref.ensures.value) ∙ sym c.are_events.ensures ∙ c.if-not-are_events.false in
-    tells-there (IsFaultWith rows text) c.tell-in-Ok-2.result (certificate (other_bound c.in-Ok-verify.bound.0)) c.tell-in-Ok-2.ensures
+    reports-there rows (IsFaultWith rows text) c.report_of-in-Ok-2.result (certificate (other_bound c.in-Ok-verify.bound.0)) c.report_of-in-Ok-2.ensures
     (other_bound-fault rows plan c.in_ok-plan.ensures.plan text _ names ws reading same c.in-Ok-verify.bound.0 c.in-Ok-verify.ensures.verified c.if-bound-stated.false)
 
 -- ---- accepted

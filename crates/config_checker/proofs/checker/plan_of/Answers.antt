@@ -2,10 +2,10 @@ use Rattle.mpf_config.specs.View.{rows_view}
 use Rattle.mpf_plan.proofs.Judged.{plan_at-Err}
 use Rattle.config_checker.specs.Checking.{limit}
 use Rattle.config_checker.specs.Refused.{IsLimitFault}
-use Rattle.config_checker.proofs.Judging.{tells-there}
+use Rattle.config_checker.proofs.Judging.{reports-there}
 use Rattle.config_checker.proofs.checker.plan_of.Goals as goal
 
 pub returns-in-Err-Limit-clause-limit : goal.returns-in-Err-Limit-clause-limit
 returns-in-Err-Limit-clause-limit c =
     let rows = rows_view c.args.config.now in
-    tells-there (IsLimitFault rows) c.tell.result (limit c.in-Err-Limit.table) c.tell.ensures (plan_at-Err rows c.in-Err-Limit.table (rw c.in-Err-Limit.field-0-is at c.in-Err-Limit.ensures.exact))
+    reports-there rows (IsLimitFault rows) c.report_of.result (limit c.in-Err-Limit.table) c.report_of.ensures (plan_at-Err rows c.in-Err-Limit.table (rw c.in-Err-Limit.field-0-is at c.in-Err-Limit.ensures.exact))

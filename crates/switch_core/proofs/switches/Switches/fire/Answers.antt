@@ -1,9 +1,8 @@
 use Rattle.std.proofs.Common.{◌≡◌, ◌<◌, Some, length, slice_set, subst, sym, ap, arith}
 use Rattle.std.proofs.lemmas.List.{length-map}
 use Rattle.switch_core.specs.StateView.{state_view}
-use Rattle.switch_core.specs.Inside.{lists_view}
 use Rattle.switch_core.specs.Switches.{SwitchesView, next_due, after_fire}
-use Rattle.switch_core.proofs.Lists.{fire-set}
+use Rattle.switch_core.proofs.Lists.{lists_view, fire-set}
 use Rattle.switch_core.proofs.switches.Switches.fire.Goals as goal
 
 in_kinds : (c : goal.After-self-1) → c.in-Some.switch.0 < length c.self.inside.kinds.items

@@ -1,0 +1,53 @@
+//! What a report lists.
+
+ghost use Rattle.std.specs.Prelude.{◌≡◌, Some, IfOk, map, option_map, length};
+ghost use Rattle.std.specs.List.{All};
+ghost use Rattle.mpf_plan.specs.Valid.{IsEventWithin};
+ghost use Rattle.cascade_rank.specs.View.{rank_view, IfRank};
+ghost use Rattle.config_checker.specs.Checking.{name_of, fault_of};
+ghost use Rattle.config_checker.specs.View.{HasEvents, ReportsFault, fault_view};
+
+use crate::report::{CertificateFault, Fault, Report};
+use cascade_rank::RankFault;
+use mpf_plan::{EventId, Plan};
+use std::alloc::{AllocError, Global};
+
+/// The report of one fault.
+pub(crate) fn report_of(alloc: Global, fault: Fault) -> Report
+    ensures { ReportsFault result (fault_view fault) }
+{
+    let mut faults = Vec::new(alloc);
+    match faults.push(fault) {
+        Ok(()) => Report::Faults(faults),
+        Err(_) => Report::NoMemory,
+    }
+}
+
+/// What is wrong with weights, by the names of the events.
+pub(crate) fn named_fault(alloc: Global, plan: &Plan, fault: RankFault) -> Result<Fault, AllocError>
+    requires { IfRank fault (HasEvents plan.now) }
+    ensures { IfOk result (λ named. option_map (fault_of plan.now) (rank_view fault) ≡ Some (fault_view named)) }
+{
+    match fault {
+        RankFault::NoMemory => Err(AllocError),
+        RankFault::Cycle(events) => Ok(Fault::Cycle(names_of(alloc, plan, &events)?)),
+        RankFault::BoundTooLarge => Ok(Fault::Bound),
+        RankFault::Short(event, needed) => {
+            let name = plan.event_name(event).to_vec(alloc)?;
+            Ok(Fault::Certificate(CertificateFault::Short(name, needed)))
+        }
+        RankFault::WrongEvents => Ok(Fault::Certificate(CertificateFault::Events)),
+    }
+}
+
+/// The names of events of the plan.
+fn names_of(alloc: Global, plan: &Plan, events: &[EventId]) -> Result<Vec<Vec<u8>>, AllocError>
+    requires { All (IsEventWithin (length plan.now.events)) events.now }
+    ensures { IfOk result (λ names. map (λ v. v.items) names.items ≡ map (λ e. name_of plan.now e.0) events.now) }
+{
+    let mut names = Vec::new(alloc);
+    for event in events {
+        names.push(plan.event_name(*event).to_vec(alloc)?)?;
+    }
+    Ok(names)
+}

@@ -1,0 +1,170 @@
+-- What each call does with the due moments: a change arms its own switch alone, and later than its moment; what is accepted is not due any more.
+use Rattle.std.proofs.Common.{◌≡◌, ◌≢◌, ℕ, ◌+◌, ◌<◌, ◌≤◌, ◌⊎◌, Bool, if◌then◌else◌, Some, None, option_map, List, length, slice_set, slice_index_or, refl, ap, sym, subst, ◌∙◌, inl, inr, arith}
+use Rattle.std.proofs.lemmas.Bool.{cases_lt, cases_eq, cond_both}
+use Rattle.std.proofs.Math.ListN.{get_or-map}
+use Rattle.std.proofs.lemmas.Option.{none-some, same_Some}
+use Rattle.std.proofs.lemmas.List.{length-set, length-map, get_or-set_same, get_or-set_other, get_or_past, set_past}
+use Rattle.mpf_plan.specs.declared.entries.SwitchId.{SwitchId}
+use Rattle.mpf_plan.specs.declared.entries.SwitchKind.{SwitchKind}
+use Rattle.mpf_plan.specs.PlanView.{PlanView, Switch, no_switch, switch_at}
+use Rattle.switch_core.specs.declared.change.Change.{Change}
+use Rattle.switch_core.specs.SwitchStep.{SwitchState, same_level, is_active, idle, accepted, awaited, changed, is_taken, fired}
+use Rattle.switch_core.specs.Switches.{SwitchesView, IsComplete, no_kind, kind_at, state_at, set_state, due_of, told, all_idle, after_change, told_by_change, IsNextDue, IsNothingDue, IsQuietUntil, accept, accept_due, after_fire, told_by_fire}
+use Rattle.switch_core.specs.Calls.{ChangesArmLater}
+use Rattle.switch_core.proofs.NextDue.{next_due-is}
+
+-- ---- the state of a switch is set
+
+module _ (s : SwitchesView) (set : SwitchId) (x : SwitchState) where
+  -- the other switches stay as they were
+  pub state-other : (n : SwitchId) → n.0 ≢ set.0 → state_at (set_state set x s) n ≡ state_at s n
+  state-other n other = get_or-set_other s.states set.0 n.0 x (idle no_kind) other
+
+  pub due-other : (n : SwitchId) → n.0 ≢ set.0 → due_of (set_state set x s) n ≡ due_of s n
+  due-other n other = ap (λ (y : SwitchState). y.due) (state-other n other)
+
+  pub state-same : set.0 < length s.states → state_at (set_state set x s) set ≡ x
+  state-same within = get_or-set_same s.states set.0 x (idle no_kind) within
+
+  -- a number that no switch has changes nothing
+  pub set-past : length s.states ≤ set.0 → set_state set x s ≡ s
+  set-past past = ap with_states (set_past s.states set.0 x past)
+    where
+      with_states : List SwitchState → SwitchesView
+      with_states states = record { kinds = s.kinds; states = states }
+
+  -- a due moment is an old one, or that of the new state
+  pub due-set : (n : SwitchId) (at : ℕ) → due_of (set_state set x s) n ≡ Some at → (due_of s n ≡ Some at) ⊎ ((n.0 ≡ set.0) × (x.due ≡ Some at))
+  due-set n at is =
+      elim (cases_eq n.0 set.0) [
+        | inr other ↦ inl (sym (due-other n other) ∙ is)
+        | inl same ↦
+            elim (cases_lt set.0 (length s.states)) [
+              | inl there ↦
+                  let here : due_of (set_state set x s) set ≡ Some at = subst (λ (k : ℕ). (slice_index_or (slice_set s.states set.0 x) k (idle no_kind)).due ≡ Some at) same is in
+                  inr (same, sym (ap (λ (y : SwitchState). y.due) (state-same there)) ∙ here)
+              | inr past ↦ inl (sym (ap (λ (t : SwitchesView). due_of t n) (set-past past)) ∙ is)
+            ]
+      ]
+
+  -- it is not due where the new state is not
+  pub due-none : x.due ≡ None → due_of (set_state set x s) set ≡ None
+  due-none none =
+      elim (cases_lt set.0 (length s.states)) [
+        | inl there ↦ ap (λ (y : SwitchState). y.due) (state-same there) ∙ none
+        | inr past ↦
+            ap (λ (t : SwitchesView). due_of t set) (set-past past) ∙ ap (λ (y : SwitchState). y.due) (get_or_past s.states set.0 (idle no_kind) past)
+      ]
+
+  pub set-count : length (set_state set x s).states ≡ length s.states
+  set-count = length-set s.states set.0 x
+
+  pub set-complete : IsComplete s → IsComplete (set_state set x s)
+  set-complete complete = record { states = set-count ∙ complete.states; limit = complete.limit }
+
+pub idle-complete : (plan : PlanView) → length plan.switches ≤ 256 → IsComplete (all_idle plan)
+idle-complete plan limit =
+    let kinds = length-map plan.switches (λ (s : Switch). s.kind) in
+    record { states = length-map plan.switches (λ (s : Switch). idle s.kind) ∙ sym kinds; limit = omega arith }
+
+pub idle-kind : (plan : PlanView) (n : SwitchId) → kind_at (all_idle plan) n ≡ (switch_at plan n).kind
+idle-kind plan n = get_or-map (λ (s : Switch). s.kind) plan.switches n.0 no_switch
+
+pub idle-state : (plan : PlanView) (n : SwitchId) → state_at (all_idle plan) n ≡ idle (switch_at plan n).kind
+idle-state plan n = get_or-map (λ (s : Switch). idle s.kind) plan.switches n.0 no_switch
+
+pub idle-nothing_due : (plan : PlanView) → IsNothingDue (all_idle plan)
+idle-nothing_due plan n = ap (λ (x : SwitchState). x.due) (idle-state plan n)
+
+-- ---- a change
+
+changed-due : (kind : SwitchKind) (now due : ℕ) (level : Bool) (x : SwitchState) → (changed kind now level x).due ≡ Some due → (x.due ≡ Some due) ⊎ (now < due)
+changed-due kind now due level x =
+    cond_both (same_level level x.raw) x (if kind.quick then accepted kind level else awaited kind now level x) (λ y. y.due ≡ Some due → (x.due ≡ Some due) ⊎ (now < due))
+    (λ _ is. inl is)
+    (λ _. cond_both kind.quick (accepted kind level) (awaited kind now level x) (λ y. y.due ≡ Some due → (x.due ≡ Some due) ⊎ (now < due))
+    (λ _ is. absurd (none-some due is))
+    (λ _. cond_both (same_level (is_active kind.contact level) x.active) None (Some (now + 5)) (λ o. o ≡ Some due → (x.due ≡ Some due) ⊎ (now < due))
+    (λ _ is. absurd (none-some due is))
+    (λ _ is. let e = same_Some (now + 5) due is in inr (omega arith))))
+
+pub changes_arm_later : ChangesArmLater
+changes_arm_later switch level now s other due is =
+    elim (due-set s switch (changed (kind_at s switch) now level (state_at s switch)) other due is) [
+      | inl old ↦ inl old
+      | inr new ↦
+          elim (changed-due (kind_at s switch) now due level (state_at s switch) new.1) [
+            | inl old ↦ inl (subst (λ (n : ℕ). (slice_index_or s.states n (idle no_kind)).due ≡ Some due) (sym new.0) old)
+            | inr later ↦ inr later
+          ]
+    ]
+
+module _ (switch : SwitchId) (level : Bool) (now : ℕ) (s : SwitchesView) where
+  pub change-other : (n : SwitchId) → n.0 ≢ switch.0 → due_of (after_change switch level now s) n ≡ due_of s n
+  change-other n = due-other s switch (changed (kind_at s switch) now level (state_at s switch)) n
+
+  -- nothing is armed for its own moment
+  pub change-quiet : IsQuietUntil s now → IsQuietUntil (after_change switch level now s) now
+  change-quiet quiet n due is =
+      elim (changes_arm_later switch level now s n due is) [
+        | inl old ↦ quiet n due old
+        | inr later ↦ later
+      ]
+
+  pub change-count : length (after_change switch level now s).states ≡ length s.states
+  change-count = set-count s switch (changed (kind_at s switch) now level (state_at s switch))
+
+  pub change-complete : IsComplete s → IsComplete (after_change switch level now s)
+  change-complete = set-complete s switch (changed (kind_at s switch) now level (state_at s switch))
+
+  -- what is reported of a change is reported of its switch
+  pub change-told : (a : Change) → told_by_change switch level now s ≡ Some a → a ≡ told (after_change switch level now s) switch
+  change-told a =
+      cond_both (is_taken (kind_at s switch) level (state_at s switch)) (Some (told (after_change switch level now s) switch)) None (λ o. o ≡ Some a → a ≡ told (after_change switch level now s) switch)
+      (λ _ is. sym (same_Some (told (after_change switch level now s) switch) a is))
+      (λ _ is. absurd (none-some a is))
+
+-- ---- what is due is accepted
+
+module _ (switch : SwitchId) (s : SwitchesView) where
+  pub accept-other : (n : SwitchId) → n.0 ≢ switch.0 → due_of (accept switch s) n ≡ due_of s n
+  accept-other n = due-other s switch (fired (kind_at s switch) (state_at s switch)) n
+
+  pub accept-done : due_of (accept switch s) switch ≡ None
+  accept-done = due-none s switch (fired (kind_at s switch) (state_at s switch)) refl
+
+  -- nothing is due then that was not before
+  pub accept-due : (n : SwitchId) (due : ℕ) → due_of (accept switch s) n ≡ Some due → due_of s n ≡ Some due
+  accept-due n due is =
+      elim (due-set s switch (fired (kind_at s switch) (state_at s switch)) n due is) [
+        | inl old ↦ old
+        | inr new ↦ absurd (none-some due new.1)
+      ]
+
+  pub accept-count : length (accept switch s).states ≡ length s.states
+  accept-count = set-count s switch (fired (kind_at s switch) (state_at s switch))
+
+  pub accept-complete : IsComplete s → IsComplete (accept switch s)
+  accept-complete = set-complete s switch (fired (kind_at s switch) (state_at s switch))
+
+  module _ (at : ℕ) (next : IsNextDue s at switch) where
+    -- what is due then comes later, or at the same moment with a greater number
+    pub accept-later : (n : SwitchId) (due : ℕ) → due_of (accept switch s) n ≡ Some due → (at < due) ⊎ ((at ≡ due) × (switch.0 < n.0))
+    accept-later n due is =
+        elim (next.least n due (accept-due n due is)) [
+          | inl later ↦ inl later
+          | inr same ↦
+              elim (cases_eq n.0 switch.0) [
+                | inr other ↦ let above = same.1 in inr (same.0, omega arith)
+                | inl own ↦
+                    let here : due_of (accept switch s) switch ≡ Some due = subst (λ (k : ℕ). (slice_index_or (accept switch s).states k (idle no_kind)).due ≡ Some due) own is in
+                    absurd (none-some due (sym accept-done ∙ here))
+              ]
+        ]
+
+    -- it is what a fire accepts and reports
+    pub fire-accepts : after_fire s ≡ accept switch s
+    fire-accepts = ap (λ d. accept_due d s) (next_due-is s at switch next)
+
+    pub fire-tells : told_by_fire s ≡ Some (told (accept switch s) switch)
+    fire-tells = ap (option_map (λ d. told (after_fire s) d.1)) (next_due-is s at switch next) ∙ ap (λ (t : SwitchesView). Some (told t switch)) fire-accepts
