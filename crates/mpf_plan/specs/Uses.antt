@@ -48,6 +48,10 @@ as_list (Some x) = x ∷ []
 abbrev pub all_names : Role → List Contribution → List (List ℕ)
 all_names role cs = flat_map (λ c. as_list (role_name role c)) cs
 
+-- all names of events that they use
+abbrev pub event_uses : List Contribution → List (List ℕ)
+event_uses cs = all_names (Uses kinds.Event) cs
+
 -- each item whose name no item before it has: the first, and of the rest those of other names, each where it comes first
 abbrev pub first_by : {X : Type 0} → (X → List ℕ) → List X → List X
 first_by name [] = []

@@ -76,7 +76,8 @@ fn add(
 fn event_of(names: &NameSets, text: &mut Vec<u8>, name: Parts) -> Result<EventId, AllocError>
     ensures { IfOk result (λ e. e ≡ event_of (name_sets_view names.now).events (parts_text name.entry)) }
 {
-    Ok(EventId(number_among(&names.events, text, name)?))
+    let number = number_among(&names.events, text, name)?;
+    Ok(EventId(number as u16))
 }
 
 // ---- switches
@@ -91,7 +92,7 @@ fn add_switch(
     ensures { OnOk result (draft_view names.now draft.new ≡ with_contribution (name_sets_view names.now) (draft_view names.now draft.old) (switch name.now kind)) }
 {
     let n = number_among(&names.switches, text, whole(name))?;
-    define_switch(draft, n as usize, kind);
+    define_switch(draft, n, kind);
     Ok(())
 }
 

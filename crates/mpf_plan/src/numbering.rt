@@ -72,13 +72,13 @@ pub(crate) fn number_among(
     names: &IndexSet<Vec<u8>>,
     text: &mut Vec<u8>,
     name: Parts,
-) -> Result<u16, AllocError>
-    requires { length names.now.keys ≤ 4096 }
-    ensures { IfOk result (λ n. n ≡ number_among (names_of names.now.keys) (parts_text name.entry)) }
+) -> Result<usize, AllocError>
+    ensures number { IfOk result (λ n. n ≡ number_among (names_of names.now.keys) (parts_text name.entry)) }
+    ensures within { IfOk result (λ n. n ≤ length names.now.keys) }
 {
     write_name(text, name)?;
     let place = names.get_index_of(text.as_slice()).unwrap_or(names.len());
-    Ok(place as u16)
+    Ok(place)
 }
 
 // ---- first uses
