@@ -3,6 +3,7 @@ use Rattle.std.proofs.Common.{◌≡◌, ℕ, List, [], ◌∷◌, ◌++◌, map
 use Rattle.std.specs.List.{All, flat_map}
 use Rattle.std.proofs.lemmas.List.Elements.{All-nil, All-head, All-tail, All-append}
 use Rattle.mpf_config.specs.Rows.{Switch, EventPlayer, SectionRows, Rows}
+use Rattle.mpf_config.specs.Typed.{switches_in, event_players_in}
 use Rattle.mpf_plan.specs.declared.contribution.Kind.TheVariants as kinds
 use Rattle.mpf_plan.specs.declared.contribution.Place.{Place}
 use Rattle.mpf_plan.specs.declared.contribution.Role.TheVariants.{Uses}
@@ -38,6 +39,13 @@ events_of_switch s =
 pub events_of_player : (place : Place) (p : EventPlayer) → event_uses (player_contributions place p) ≡ p.event.text ∷ texts p.posts
 unfolding player_contributions
 events_of_player place p = ap (λ l. p.event.text ∷ l) (events_post (texts p.posts))
+
+-- a section uses those of its entries
+pub events_of_section : (place : Place) (s : SectionRows)
+    → event_uses (section_contributions place s) ≡ event_uses (flat_map switch_contributions (switches_in s)) ++ event_uses (flat_map (player_contributions place) (event_players_in s))
+unfolding section_contributions
+events_of_section place s =
+    all_names-append (Uses kinds.Event) (flat_map switch_contributions (switches_in s)) (flat_map (player_contributions place) (event_players_in s))
 
 -- ---- the events of a plan
 
