@@ -1,5 +1,5 @@
 -- The names of a plan's events are words of few bytes, where its rows are those of a bundle.
-use Rattle.std.proofs.Common.{◌≡◌, ◌≢◌, ℕ, ◌+◌, ◌<◌, ◌≤◌, true, ◌||◌, eqb, List, ◌++◌, length, map, Ok, refl, ap, arith, length-append, codes}
+use Rattle.std.proofs.Common.{◌≡◌, ◌≢◌, ℕ, ◌+◌, ◌<◌, ◌≤◌, true, ◌||◌, eqb, List, ◌++◌, length, map, Ok, refl, sym, ap, subst, arith, length-append, codes}
 use Rattle.std.specs.List.{All}
 use Rattle.std.proofs.lemmas.Bool.{ne_eqb, or_from, not_from_false}
 use Rattle.std.proofs.lemmas.List.Elements.{All-cons, All-append, All-map, All-weaker}
@@ -9,9 +9,10 @@ use Rattle.mpf_config.specs.Rows.{Written, Switch, EventPlayer, SectionRows, swi
 use Rattle.mpf_config.specs.Named.{IsName, AllNames, IsNamedSwitch, IsNamedPlayer, IsNamed}
 use Rattle.mpf_config.specs.Reading.{rows_at}
 use Rattle.mpf_config.proofs.RowNames.{rows_are_named, name_bytes}
-use Rattle.mpf_plan.specs.Uses.{tag_event, active_posts, inactive_posts, switch_uses, player_uses, section_uses}
+use Rattle.mpf_plan.specs.Contributions.{tag_event, texts, active_posts, inactive_posts, switch_contributions, player_contributions, section_contributions, machine_place}
+use Rattle.mpf_plan.specs.Uses.{event_uses}
 use Rattle.mpf_plan.specs.PlanOf.{plan_of}
-use Rattle.mpf_plan.proofs.EventNames.{All-flat_map, all_uses, all_events}
+use Rattle.mpf_plan.proofs.EventNames.{events_of_switch, events_of_player, all_uses, all_events}
 use Rattle.config_checker.specs.CertificateOf.{is_in_word, IsWord}
 
 -- ---- names are words
@@ -68,27 +69,29 @@ tags-words tags h = All-map IsEventWord tag_event tags (All-weaker (λ (w : Writ
 
 -- ---- the uses of event names
 
-switch-words : (s : Switch) → IsNamedSwitch s → All IsEventWord (switch_uses s)
+switch-words : (s : Switch) → IsNamedSwitch s → All IsEventWord (event_uses (switch_contributions s))
 switch-words s h =
     let named = λ (ws : List Written). map (λ (w : Written). w.text) ws in
     let listed = All-append IsEventWord (map tag_event s.tags) (named s.activated) (tags-words s.tags h.tags) (names-words s.activated h.activated) in
     let active = All-cons IsEventWord (s.name.text ++ codes "_active") (map tag_event s.tags ++ named s.activated) (active-word s.name.text h.name) listed in
     let inactive = All-cons IsEventWord (s.name.text ++ codes "_inactive") (named s.deactivated) (inactive-word s.name.text h.name) (names-words s.deactivated h.deactivated) in
-    All-append IsEventWord (active_posts s) (inactive_posts s) active inactive
+    subst (All IsEventWord) (sym (events_of_switch s)) (All-append IsEventWord (active_posts s) (inactive_posts s) active inactive)
 
-player-words : (p : EventPlayer) → IsNamedPlayer p → All IsEventWord (player_uses p)
-player-words p h = All-cons IsEventWord p.event.text (map (λ (w : Written). w.text) p.posts) (name-word p.event.text h.event) (names-words p.posts h.posts)
+player-words : (p : EventPlayer) → IsNamedPlayer p → All IsEventWord (event_uses (player_contributions machine_place p))
+player-words p h =
+    subst (All IsEventWord) (sym (events_of_player machine_place p)) (All-cons IsEventWord p.event.text (texts p.posts) (name-word p.event.text h.event) (names-words p.posts h.posts))
 
-section-words : (s : SectionRows) → IsNamed s → All IsEventWord (section_uses s)
-section-words (switches entries) h = All-flat_map IsEventWord switch_uses entries (All-weaker IsNamedSwitch (λ s. All IsEventWord (switch_uses s)) switch-words entries h)
-section-words (event_player entries) h = All-flat_map IsEventWord player_uses entries (All-weaker IsNamedPlayer (λ p. All IsEventWord (player_uses p)) player-words entries h)
+section-words : (s : SectionRows) → IsNamed s → All IsEventWord (event_uses (section_contributions machine_place s))
+section-words (switches entries) h = all_uses IsEventWord switch_contributions entries (All-weaker IsNamedSwitch (λ s. All IsEventWord (event_uses (switch_contributions s))) switch-words entries h)
+section-words (event_player entries) h =
+    all_uses IsEventWord (player_contributions machine_place) entries (All-weaker IsNamedPlayer (λ p. All IsEventWord (event_uses (player_contributions machine_place p))) player-words entries h)
 
 -- ---- the events of the plan
 
 module _ (bundle : List ℕ) (rows : Rows) (read : rows_at bundle ≡ Ok rows) where
   events_are_named : All IsEventWord (plan_of rows).events
   events_are_named =
-      all_events IsEventWord rows (all_uses IsEventWord rows (All-weaker IsNamed (λ s. All IsEventWord (section_uses s)) section-words rows.machine (rows_are_named bundle rows read)))
+      all_events IsEventWord rows (All-weaker IsNamed (λ s. All IsEventWord (event_uses (section_contributions machine_place s))) section-words rows.machine (rows_are_named bundle rows read))
 
   pub events_are_words : All IsWord (plan_of rows).events
   events_are_words = All-weaker IsEventWord IsWord (λ name h. h.word) (plan_of rows).events events_are_named

@@ -6,9 +6,8 @@ use Rattle.std.proofs.lemmas.List.Elements.{All-weaker}
 use Rattle.std.proofs.lemmas.Slice.Zip.{firsts-zip, seconds-zip}
 use Rattle.mpf_config.specs.Rows.{Rows}
 use Rattle.mpf_config.specs.Reading.{rows_at}
-use Rattle.mpf_plan.specs.declared.fault.Table.{Table}
 use Rattle.mpf_plan.specs.PlanView.{PlanView}
-use Rattle.mpf_plan.specs.PlanOf.{plan_at, plan_of}
+use Rattle.mpf_plan.specs.PlanOf.{plan_at, plan_of, PlanRefusal, no_such_name, above_limit}
 use Rattle.mpf_plan.specs.Valid.{IsValid}
 use Rattle.mpf_plan.proofs.Judged.{plan_at-Ok}
 use Rattle.mpf_plan.proofs.ValidPlan.{IsValid-plan_at}
@@ -83,9 +82,10 @@ module _ (rows : Rows) where
   alone_same (Ok x) c is = ap Ok (ok_same x c is)
   alone_same (Err e) c is = absurd (err_not_ok _ c is)
 
-  checked-plan : (judge : PlanView → Result CheckedView FaultView) (planned : Result PlanView Table) (c : CheckedView) → checked judge planned ≡ Ok c → (plan : PlanView) × (planned ≡ Ok plan) × (judge plan ≡ Ok c)
+  checked-plan : (judge : PlanView → Result CheckedView FaultView) (planned : Result PlanView PlanRefusal) (c : CheckedView) → checked judge planned ≡ Ok c → (plan : PlanView) × (planned ≡ Ok plan) × (judge plan ≡ Ok c)
   checked-plan judge (Ok plan) c is = (plan, refl, alone_same (judge plan) c is)
-  checked-plan judge (Err t) c is = absurd (err_not_ok _ c is)
+  checked-plan judge (Err no_such_name) c is = absurd (err_not_ok _ c is)
+  checked-plan judge (Err (above_limit t)) c is = absurd (err_not_ok _ c is)
 
   -- what was accepted has the plan of the rows, and weights that serve
   weighed-accepted : (plan : PlanView) (found : Result (List ℕ) RankView) (c : CheckedView) → plan_at rows ≡ Ok plan → found_at plan ≡ found → weighed plan found ≡ Ok c → (plan_at rows ≡ Ok c.plan) × IsAccepted c

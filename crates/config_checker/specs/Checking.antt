@@ -4,7 +4,7 @@ use Rattle.std.specs.Str.{bytes_eq}
 use Rattle.mpf_config.specs.Rows.{Rows}
 use Rattle.mpf_plan.specs.declared.fault.Table.{Table}
 use Rattle.mpf_plan.specs.PlanView.{PlanView}
-use Rattle.mpf_plan.specs.PlanOf.{plan_at}
+use Rattle.mpf_plan.specs.PlanOf.{plan_at, PlanRefusal, no_such_name, above_limit}
 use Rattle.cascade_rank.specs.Weights.{bound_of}
 use Rattle.cascade_rank.specs.Finding.{RankView, found_at, verified_at}
 use Rattle.cascade_rank.specs.Finding as ranks
@@ -91,10 +91,11 @@ abbrev pub alone : {X Y : Type 0} → Result X Y → Result X (List Y)
 alone (Ok x) = Ok x
 alone (Err y) = Err (y ∷ [])
 
--- a table above its limit is reported before a fault of the plan
-abbrev pub checked : (PlanView → Result CheckedView FaultView) → Result PlanView Table → Result CheckedView (List FaultView)
+-- A table above its limit is reported before a fault of the plan. No row lacks a name yet.
+abbrev pub checked : (PlanView → Result CheckedView FaultView) → Result PlanView PlanRefusal → Result CheckedView (List FaultView)
 checked judge (Ok plan) = alone (judge plan)
-checked judge (Err t) = Err (limit t ∷ [])
+checked judge (Err no_such_name) = Err []
+checked judge (Err (above_limit t)) = Err (limit t ∷ [])
 
 unfoldable pub checked_at : Rows → Result CheckedView (List FaultView)
 checked_at rows = reported (faults_of_rows rows) (checked weighed_plan (plan_at rows))

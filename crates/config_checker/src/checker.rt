@@ -95,6 +95,7 @@ fn plan_of(alloc: Global, config: &Config) -> Result<Plan, Report>
     match mpf_plan::plan(alloc, config) {
         Ok(plan) => Ok(plan),
         Err(PlanFault::NoMemory) => Err(Report::NoMemory),
+        Err(PlanFault::NoSuchName) => unreachable!(),
         Err(PlanFault::Limit(table)) => Err(report_of(alloc, Fault::Limit(table))),
     }
 }
