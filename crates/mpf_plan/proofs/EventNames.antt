@@ -2,7 +2,7 @@
 use Rattle.std.proofs.Common.{◌≡◌, ℕ, List, [], ◌∷◌, ◌++◌, map, refl, sym, ◌∙◌, ap, subst}
 use Rattle.std.specs.List.{All, flat_map}
 use Rattle.std.proofs.lemmas.List.Elements.{All-nil, All-head, All-tail, All-append}
-use Rattle.mpf_config.specs.Rows.{Switch, EventPlayer, SectionRows, Rows}
+use Rattle.mpf_config.specs.Rows.{Switch, EventPlayer, Rows}
 use Rattle.mpf_plan.specs.declared.contribution.Kind.TheVariants as kinds
 use Rattle.mpf_plan.specs.declared.contribution.Place.{Place}
 use Rattle.mpf_plan.specs.declared.contribution.Role.TheVariants.{Uses}
