@@ -60,6 +60,7 @@ module _ (names : Names) where
     where
       k : ℕ
       k = number_among names.switches n
+
       by : (b : Bool) → Counts 0 d (cond b (record d { last = length d.defined }) (last_switch (λ s. record s { kind = kind }) (record d { defined = slice_set d.defined k true; last = k })))
       by true = record { bindings = omega arith; lists = omega arith; events = refl; names = refl; defined = refl }
       by false = switch_counts (λ s. record s { kind = kind }) (λ s. refl) d (slice_set d.defined k true) k (length-set d.defined k true)

@@ -69,4 +69,3 @@ module _ (limit : ℕ) (all : List (List ℕ)) (name : List ℕ) where
         let longer : length (with_name all name) ≡ length t.set.keys + 1 = ap (λ a. length (with_name a name)) (sym names) ∙ length-use_new t.set.keys name absent in
         let count : length all ≡ length t.set.keys = ap length (sym names) ∙ length-map t.set.keys (λ v. v.items) in
         inr (is, use_inserted t.set.keys name v new.set.keys same added ∙ ap (λ a. with_name a name) names, omega (arith, longer, count, within, room))
-

@@ -80,6 +80,7 @@ module _ (names : Names) where
     where
       k : ℕ
       k = number_among names.switches s.name.text
+
       by : (b : Bool) → Few (cond b (record d { last = length d.defined }) (last_switch (λ x. record x { kind = kind_of s }) (record d { defined = slice_set d.defined k true; last = k })))
       by true = few
       by false = few

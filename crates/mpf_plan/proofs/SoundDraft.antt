@@ -85,10 +85,13 @@ module _ (names : Names) (d : DraftView) (sound : IsSound names d) where
     where
       changed : Switch
       changed = change (get_or d.plan.switches n no_switch)
+
       new : PlanView
       new = record d.plan { switches = set d.plan.switches n changed }
+
       grows : Grows d.plan new
       grows = record { events = refl; lists = omega arith }
+
       by : (b : Bool) → nat_lt n (length d.plan.switches) ≡ b → All (IsSwitchWithin (length d.plan.events)) (set d.plan.switches n changed)
       by true is =
           All-set (IsSwitchWithin (length d.plan.events)) d.plan.switches n changed
@@ -106,10 +109,13 @@ module _ (names : Names) (d : DraftView) (sound : IsSound names d) where
     where
       new : PlanView
       new = record d.plan { lists = d.plan.lists ++ [] ∷ []; bindings = d.plan.bindings ++ b ∷ [] }
+
       longer : length new.lists ≡ length d.plan.lists + 1
       longer = length_push d.plan.lists []
+
       grows : Grows d.plan new
       grows = record { events = refl; lists = omega (arith, longer) }
+
       here : length d.plan.lists < length new.lists
       here = omega (arith, longer)
 
@@ -123,12 +129,16 @@ module _ (names : Names) (d : DraftView) (sound : IsSound names d) where
     where
       last : ℕ
       last = length d.plan.lists - 1
+
       more : List Action
       more = get_or d.plan.lists last [] ++ a ∷ []
+
       new : PlanView
       new = record d.plan { lists = set d.plan.lists last more }
+
       grows : Grows d.plan new
       grows = record { events = refl; lists = omega (arith, length-set d.plan.lists last more) }
+
       by : (b : Bool) → nat_lt last (length d.plan.lists) ≡ b → All (All (IsActionWithin d.plan)) (set d.plan.lists last more)
       by true is =
           All-set (All (IsActionWithin d.plan)) d.plan.lists last more
@@ -140,6 +150,7 @@ module _ (names : Names) (d : DraftView) (sound : IsSound names d) where
     where
       k : ℕ
       k = number_among names.switches n
+
       by : (b : Bool) → IsSound names (cond b (record d { last = length d.defined }) (last_switch (λ s. record s { kind = kind }) (record d { defined = slice_set d.defined k true; last = k })))
       by true = record { events = sound.events; switches = sound.switches; lists = sound.lists; bindings = sound.bindings }
       by false = switch_sound k (λ s. record s { kind = kind }) (slice_set d.defined k true) k (λ s within. within)

@@ -125,6 +125,7 @@ unranked_fold names (c ∷ cs) d all so_far = unranked_fold names cs (with_contr
       where
         k : ℕ
         k = number_among names.switches n
+
         by : (b : Bool) → AreUnranked (cond b (record d { last = length d.defined }) (last_switch (λ s. record s { kind = kind }) (record d { defined = slice_set d.defined k true; last = k })))
         by true = so_far
         by false = so_far

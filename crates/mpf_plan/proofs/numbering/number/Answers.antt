@@ -26,8 +26,7 @@ pub returns : goal.returns
 returns c =
     let cs = contributions_in (map section_view c.args.sections.now) in
     let found = c.in_ok-found.found in
-    let has = c.in_ok-found.ensures in
-    (
+    let has = c.in_ok-found.ensures in (
       sym c.in_ok-lacking.ensures ∙ c.if-lacking.false,
       (λ i. record { events = events_kept cs found has c.if-found.false i; switches = switches_kept cs found has c.if-found-2.false i }),
       none_above (plan_from cs) (found_within cs found has c.if-found.false c.if-found-gt-MAX_BINDINGS.false c.if-found-2.false),
