@@ -7,7 +7,7 @@ use Rattle.mpf_plan.specs.PlanView.{PlanView, switch_named}
 use Rattle.mpf_plan.specs.declared.entries.SwitchId.{SwitchId}
 use Rattle.config_checker.specs.declared.line.Line.{Line}
 use Rattle.config_checker.specs.Machine.{Machine, initial}
-use Rattle.config_checker.specs.Run.{Source, Stimulus, Change, Alarm, Wait, moment_of, IsNothingDueBy, IsAllowed, IsRun, IsReached}
+use Rattle.config_checker.specs.Run.{Source, Stimulus, Change, Alarm, Wait, moment_of, IsNothingDueBy, IsAllowed, IsReached}
 use Rattle.config_checker.specs.NextAlarm.{most_alarms}
 use Rattle.config_checker.specs.AlarmsBy.{alarms_by, state_after}
 use Rattle.config_checker.specs.CheckedView.{CheckedView}
