@@ -21,9 +21,11 @@ use Rattle.config_checker.specs.declared.line.Line.{Line}
 use Rattle.config_checker.specs.declared.line.Happening.TheVariants as lines
 use Rattle.config_checker.specs.Machine.{Machine, write, post, set_switches, all_do, do_action, do_target, do_binding, do_handler, do_accepted, do_if_accepted, initial}
 use Rattle.config_checker.specs.EventStep.{EventStep, EventSteps, handled_in}
+use Rattle.config_checker.specs.PlanOrder.{settled}
 use Rattle.config_checker.specs.Run.{Source, switch, source_due, IsNothingLate, Stimulus, Change, Alarm, Wait, moment_of, IsAllowed, arrived, begin, IsRun}
 use Rattle.config_checker.proofs.Does.{moment-does, kinds-does, states-does}
 use Rattle.config_checker.proofs.Parts.{does-event, does-begin}
+use Rattle.config_checker.proofs.PlanSteps.{plan_steps-event_steps}
 
 -- ---- event steps change neither a switch nor the moment
 
@@ -66,6 +68,11 @@ module _ (plan : PlanView) where
   -- and after any number of event steps it is still that moment
   pub moment-after : (stimulus : Stimulus) (s : Machine) (n : ℕ) (t : Machine) → EventSteps plan n (begin plan stimulus s) t → t.moment ≡ moment_of stimulus
   moment-after stimulus s n t steps = moment-steps n (begin plan stimulus s) t steps ∙ moment-begin stimulus s
+
+  pub settled-moment : (bound : ℕ) (stimulus : Stimulus) (s : Machine) → (settled plan bound stimulus s).moment ≡ moment_of stimulus
+  settled-moment bound stimulus s =
+      let (count, steps) = plan_steps-event_steps plan bound (begin plan stimulus s) in
+      moment-after stimulus s count (settled plan bound stimulus s) steps
 
   -- ---- what stimuli do with the switches
 

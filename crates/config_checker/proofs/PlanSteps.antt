@@ -63,6 +63,9 @@ module _ (plan : PlanView) where
             }
       ]
 
+  pub plan_steps-event_steps : (n : ℕ) (s : Machine) → (count : ℕ) × EventSteps plan count s (plan_steps plan n s)
+  plan_steps-event_steps n s = let is = plan_steps-are_steps n s in (is.count, is.steps)
+
   -- one after another
   pub plan_steps-add : (n m : ℕ) (s : Machine) → plan_steps plan (n + m) s ≡ plan_steps plan m (plan_steps plan n s)
   plan_steps-add zero m s =
@@ -109,7 +112,7 @@ module _ (c : CheckedView) (good : IsGood c) (stimuli : List (Stimulus × ℕ)) 
   settled = plan_steps c.plan c.bound begun
 
   pub settled-steps : (n : ℕ) × EventSteps c.plan n begun settled
-  settled-steps = let is = plan_steps-are_steps c.plan c.bound begun in (is.count, is.steps)
+  settled-steps = plan_steps-event_steps c.plan c.bound begun
 
   pub settled-run : IsRun c.plan (stimuli ++ (stimulus, settled-steps.0) ∷ []) (initial c.plan) (trace ++ settled.lines) settled
   settled-run = IsRun-push c.plan stimuli (initial c.plan) trace s stimulus settled-steps.0 settled run empty allowed settled-steps.1

@@ -9,8 +9,7 @@ use Rattle.config_checker.specs.PlanOrder.{plan_steps}
 use Rattle.config_checker.specs.Run.{Stimulus, Change, Alarm, Wait, IsAllowed, begin, IsReached}
 use Rattle.config_checker.specs.CheckedView.{CheckedView}
 use Rattle.config_checker.specs.Accepted.{IsAccepted}
-use Rattle.config_checker.proofs.Cascade.{every_run_is_good}
-use Rattle.config_checker.proofs.PlanSteps.{settled-steps}
+use Rattle.config_checker.proofs.PlanSteps.{plan_steps-event_steps}
 use Rattle.config_checker.proofs.Reached.{reached-next, reached-within, reached-same, reached-kinds, reached-complete}
 use Rattle.pin_rig.specs.declared.input.Input.{Input}
 use Rattle.pin_rig.specs.Core.{CoreView, IsPlayable, HasRoom, StaysWithin, HasSettled, after}
@@ -53,9 +52,7 @@ module _ (c : CheckedView) (core : CoreView) (held : IsHeld c core) (accepted : 
         sym (reached-same c accepted held.reached.0 core.machine held.reached.1 stimulus allowed settled.count idle) ∙ sym there
 
     steps : (n : ℕ) × EventSteps c.plan n begun (plan_steps c.plan c.bound begun)
-    steps =
-        let run = held.reached.1 in
-        settled-steps c (every_run_is_good c accepted) run.stimuli held.reached.0 core.machine run.run run.idle stimulus allowed
+    steps = plan_steps-event_steps c.plan c.bound begun
 
     step : IsStep input rig (record { checked = c; machine = new.machine })
     step = record {
