@@ -13,6 +13,7 @@ use Rattle.config_checker.specs.AlarmsBy.{alarms_by, state_after}
 use Rattle.config_checker.specs.CheckedView.{CheckedView}
 use Rattle.config_checker.specs.Accepted.{IsAccepted}
 use Rattle.config_checker.specs.PlanOrder.{settled}
+use Rattle.config_checker.proofs.Alarms.{settled-moment}
 use Rattle.config_checker.proofs.AlarmsEnd.{alarms_by-none, alarms_by-more, alarms_by-all}
 use Rattle.config_checker.proofs.Cascade.{every_run_is_good}
 use Rattle.config_checker.proofs.PlanSteps.{settled-run, settled-idle, settled-steps}
@@ -25,7 +26,7 @@ use Rattle.pinball_shell.specs.LogText as says
 use Rattle.pinball_shell.specs.RunOfLog.{if_admitted, change_of, given_by_line, lines_of, all_alarms_by, with_alarms, Printed, Traced, Refused, printed_for_line, after_line, printed_for_lines, printed_for_log, traced}
 use Rattle.pinball_shell.specs.RunGiven.{given_of, given_by_lines, without_alarms, IsRunOfLog}
 use Rattle.pinball_shell.proofs.FirstPlace.{place_some}
-use Rattle.pinball_shell.proofs.Alarms.{moment-settled, cases_due, alarm-allowed, AreAll, all-next}
+use Rattle.pinball_shell.proofs.Alarms.{cases_due, alarm-allowed, AreAll, all-next}
 use Rattle.pinball_shell.proofs.Playing.{state_after-append, lines_of-append}
 
 -- ---- what a line gives comes in time
@@ -202,7 +203,7 @@ module _ (c : CheckedView) (accepted : IsAccepted c) where
             subst (IsRunUntil until given trace s) (sym (alarms_by-none c.plan c.bound until (suc k) s nothing)) (run-none until given alarm trace s run before nothing)
         | inr a ↦
             let next = settled c.plan c.bound (Alarm a.at a.source) s in
-            let here = moment-settled c.plan c.bound (Alarm a.at a.source) s in
+            let here = settled-moment c.plan c.bound (Alarm a.at a.source) s in
             let by = a.by in
             let more = run-alarms until early given k true (trace ++ next.lines) next
             (given-alarm given alarm trace s run a.at a.source (alarm-allowed c.plan s until early a)) (all-next c.plan c.bound until k s a all) (omega (arith, here, by)) in
@@ -249,7 +250,7 @@ module _ (c : CheckedView) (accepted : IsAccepted c) where
   latest-given s (Err refusal) = refl
   latest-given s (Ok (Some stimulus)) =
       let alarms = all_alarms_by c.plan c.bound (moment_of stimulus) s in
-      ap (λ (m : Machine). m.moment) (state_after-append c.plan c.bound alarms (stimulus ∷ []) s) ∙ moment-settled c.plan c.bound stimulus (state_after c.plan c.bound alarms s)
+      ap (λ (m : Machine). m.moment) (state_after-append c.plan c.bound alarms (stimulus ∷ []) s) ∙ settled-moment c.plan c.bound stimulus (state_after c.plan c.bound alarms s)
 
   run-lines : (number : ℕ) (log : List (List ℕ)) (given : List Stimulus) (trace : List Line) (s : Machine) → IsGiven given false trace s
       → (t : Machine) × IsGiven (given ++ given_by_lines c.plan s.moment log) false (trace ++ traced (printed_for_lines c.plan c.bound number log s)) t

@@ -12,6 +12,7 @@ use Rattle.config_checker.specs.Run.{IsNothingDueBy, Stimulus, Alarm, moment_of,
 use Rattle.config_checker.specs.NextAlarm.{most_alarms}
 use Rattle.config_checker.specs.AlarmsBy.{state_after}
 use Rattle.config_checker.specs.PlanOrder.{settled}
+use Rattle.config_checker.proofs.Alarms.{settled-moment}
 use Rattle.config_checker.proofs.AlarmsEnd.{alarms_by-none}
 use Rattle.config_checker.proofs.Writing.{written-nil, written-then}
 use Rattle.pinball_shell.specs.declared.fault.Verdict.{Verdict}
@@ -21,7 +22,7 @@ use Rattle.pinball_shell.specs.LogText.{said}
 use Rattle.pinball_shell.specs.RunOfLog.{given_by_line, lines_of, all_alarms_by, with_alarms, Printed, Traced, Refused, printed_for_line, after_line, printed_for_lines}
 use Rattle.pinball_shell.specs.TraceText.{line_text, printed_text, refused_text, is_refused, log_verdict}
 use Rattle.pinball_shell.specs.Played.{worse_of, IsPlayed, text_of, IsLinePlayed, AreLinesPlayed}
-use Rattle.pinball_shell.proofs.Alarms.{moment-settled, ComesBy, all-first, all-fewer}
+use Rattle.pinball_shell.proofs.Alarms.{ComesBy, all-first, all-fewer}
 
 module _ (plan : PlanView) (bound : ℕ) where
   pub state_after-append : (xs ys : List Stimulus) (s : Machine) → state_after plan bound (xs ++ ys) s ≡ state_after plan bound ys (state_after plan bound xs s)
@@ -76,7 +77,7 @@ module _ (plan : PlanView) (bound : ℕ) where
     alarms-more old a all h =
         let alarm = Alarm next.at next.source in
         let by = next.by in
-        let at : t.moment ≡ next.at = ap (λ (m : Machine). m.moment) played.state ∙ moment-settled plan bound alarm s in
+        let at : t.moment ≡ next.at = ap (λ (m : Machine). m.moment) played.state ∙ settled-moment plan bound alarm s in
         let going : all_alarms_by plan bound until s ≡ alarm ∷ all_alarms_by plan bound until t =
         all-first plan bound until trace s reached next ∙ ap (λ (m : Machine). alarm ∷ all_alarms_by plan bound until m) (sym played.state) in
         record {
