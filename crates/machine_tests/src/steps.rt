@@ -191,6 +191,9 @@ fn moment_goes_forward_below_the_limit(rt: HostRuntime) -> Result<(), Fail> {
     assert_eq!(rt; checked_moment(100, 99), "Backwards");
     assert_eq!(rt; checked_moment(0, 1_099_511_627_775), "ok");
     assert_eq!(rt; checked_moment(0, 1_099_511_627_776), "TooLate");
-    assert_eq!(rt; checked_moment(1_099_511_627_777, 1_099_511_627_776), "Backwards");
+    assert_eq!(rt;
+        checked_moment(1_099_511_627_777, 1_099_511_627_776),
+        "Backwards"
+    );
     Ok(())
 }

@@ -1,7 +1,7 @@
 pub mod Refused
 pub mod Rig
 pub mod Steps
--- what the contracts of private functions say, and no public one but that of `step`, which cites Lending
+-- What the contracts of private functions cite; `step` cites Lending, for the lines that it lends.
 pub mod Lending
 pub mod Core
 pub mod Inside

@@ -20,7 +20,7 @@ use Rattle.pinball_shell.specs.LogText.{said}
 use Rattle.pinball_shell.specs.RunOfLog.{given_by_line, lines_of, all_alarms_by, with_alarms, Printed, Traced, printed_for_line, after_line, printed_for_lines, printed_for_log}
 use Rattle.pinball_shell.proofs.Alarms.{cases_due, alarm-allowed, AreAll, all-next}
 use Rattle.pinball_shell.proofs.Playing.{state_after-append, lines_of-append}
-use Rattle.pinball_shell.proofs.LogRuns.{IsInTime, given-in_time, in_time-early, may_come}
+use Rattle.pinball_shell.proofs.LogRuns.{IsGivenInTime, given-in_time, in_time-early, may_come}
 
 module _ (plan : PlanView) (ws vs : List ℕ) (a b : ℕ) where
   abbrev one : CheckedView
@@ -116,7 +116,7 @@ module _ (plan : PlanView) (ws vs : List ℕ) (a b : ℕ) where
         }
 
     -- a stimulus that a line gives, after the alarms due by its moment
-    same-given : (s : Machine) → Reached s → (stimulus : Stimulus) → IsInTime plan s.moment stimulus → AreSame s (with_alarms plan a stimulus s) (with_alarms plan b stimulus s)
+    same-given : (s : Machine) → Reached s → (stimulus : Stimulus) → IsGivenInTime plan s.moment stimulus → AreSame s (with_alarms plan a stimulus s) (with_alarms plan b stimulus s)
     same-given s (trace, h) stimulus time =
         let (forward, early) = in_time-early plan s.moment stimulus time in
         let until = moment_of stimulus in
@@ -130,7 +130,7 @@ module _ (plan : PlanView) (ws vs : List ℕ) (a b : ℕ) where
       state : after_line plan b s given ≡ after_line plan a s given
       reached : Reached (after_line plan a s given)
 
-    same-line : (number : ℕ) (s : Machine) → Reached s → (given : Result (Option Stimulus) Refusal) → ((stimulus : Stimulus) → given ≡ Ok (Some stimulus) → IsInTime plan s.moment stimulus) → IsSameLine number s given
+    same-line : (number : ℕ) (s : Machine) → Reached s → (given : Result (Option Stimulus) Refusal) → ((stimulus : Stimulus) → given ≡ Ok (Some stimulus) → IsGivenInTime plan s.moment stimulus) → IsSameLine number s given
     same-line number s reached (Ok None) time = record { printed = refl; state = refl; reached = reached }
     same-line number s reached (Err refusal) time = record { printed = refl; state = refl; reached = reached }
     same-line number s reached (Ok (Some stimulus)) time =
