@@ -3,24 +3,16 @@ use Rattle.std.proofs.Common.{◌≡◌, ℕ, suc, ◌<◌, ◌≤◌, ◌^◌, 
 use Rattle.mpf_plan.specs.PlanView.{PlanView}
 use Rattle.config_checker.specs.declared.line.Line.{Line}
 use Rattle.config_checker.specs.Machine.{Machine}
-use Rattle.config_checker.specs.Run.{Source, IsNothingDueBy, IsNextAlarm, Stimulus, Alarm, moment_of, IsAllowed, begin, IsReached}
+use Rattle.config_checker.specs.Run.{Source, IsNothingDueBy, IsNextAlarm, Stimulus, Alarm, IsAllowed, IsReached}
 use Rattle.config_checker.specs.NextAlarm.{is_due_by}
 use Rattle.config_checker.specs.AlarmsBy.{alarms_by, state_after}
 use Rattle.config_checker.specs.PlanOrder.{settled}
-use Rattle.config_checker.proofs.PlanSteps.{plan_steps-are_steps}
-use Rattle.config_checker.proofs.Alarms.{moment-after}
 use Rattle.config_checker.proofs.NextAlarms.{due-comes, not_due-nothing}
 use Rattle.config_checker.proofs.AlarmsEnd.{alarms_by-more, alarms_by-next}
 use Rattle.pin_rig.specs.declared.input.Input.TheVariants as inputs
 use Rattle.pin_rig.specs.Rig.{RigView, stimulus_at}
 use Rattle.pin_rig.proofs.Judging.{allowed-judged}
 use Rattle.pinball_shell.specs.RunOfLog.{all_alarms_by}
-
--- the moment of the state is that of the latest stimulus
-pub moment-settled : (plan : PlanView) (bound : ℕ) (stimulus : Stimulus) (s : Machine) → (settled plan bound stimulus s).moment ≡ moment_of stimulus
-moment-settled plan bound stimulus s =
-    let is = plan_steps-are_steps plan bound (begin plan stimulus s) in
-    moment-after plan stimulus s is.count (settled plan bound stimulus s) is.steps
 
 -- ---- one alarm
 

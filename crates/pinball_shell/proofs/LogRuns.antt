@@ -7,12 +7,13 @@ use Rattle.mpf_plan.specs.PlanView.{PlanView, switch_named}
 use Rattle.mpf_plan.specs.declared.entries.SwitchId.{SwitchId}
 use Rattle.config_checker.specs.declared.line.Line.{Line}
 use Rattle.config_checker.specs.Machine.{Machine, initial}
-use Rattle.config_checker.specs.Run.{Source, Stimulus, Change, Alarm, Wait, moment_of, IsNothingDueBy, IsAllowed, IsRun, IsReached}
+use Rattle.config_checker.specs.Run.{Source, Stimulus, Change, Alarm, Wait, moment_of, IsNothingDueBy, IsAllowed, IsReached}
 use Rattle.config_checker.specs.NextAlarm.{most_alarms}
 use Rattle.config_checker.specs.AlarmsBy.{alarms_by, state_after}
 use Rattle.config_checker.specs.CheckedView.{CheckedView}
 use Rattle.config_checker.specs.Accepted.{IsAccepted}
 use Rattle.config_checker.specs.PlanOrder.{settled}
+use Rattle.config_checker.proofs.Alarms.{settled-moment}
 use Rattle.config_checker.proofs.AlarmsEnd.{alarms_by-none, alarms_by-more, alarms_by-all}
 use Rattle.config_checker.proofs.Cascade.{every_run_is_good}
 use Rattle.config_checker.proofs.PlanSteps.{settled-run, settled-idle, settled-steps}
@@ -25,16 +26,16 @@ use Rattle.pinball_shell.specs.LogText as says
 use Rattle.pinball_shell.specs.RunOfLog.{if_admitted, change_of, given_by_line, lines_of, all_alarms_by, with_alarms, Printed, Traced, Refused, printed_for_line, after_line, printed_for_lines, printed_for_log, traced}
 use Rattle.pinball_shell.specs.RunGiven.{given_of, given_by_lines, without_alarms, IsRunOfLog}
 use Rattle.pinball_shell.proofs.FirstPlace.{place_some}
-use Rattle.pinball_shell.proofs.Alarms.{moment-settled, cases_due, alarm-allowed, AreAll, all-next}
+use Rattle.pinball_shell.proofs.Alarms.{cases_due, alarm-allowed, AreAll, all-next}
 use Rattle.pinball_shell.proofs.Playing.{state_after-append, lines_of-append}
 
 -- ---- what a line gives comes in time
 
 -- a change of a switch of the plan, or a wait, at a moment that does not go back and is not too late
-abbrev pub IsInTime : PlanView → ℕ → Stimulus → Type 0
-IsInTime plan now (Change at n level) = (now ≤ at) × (at < 2 ^ 40) × (n.0 < length plan.switches)
-IsInTime plan now (Alarm at source) = ⊥
-IsInTime plan now (Wait at) = (now ≤ at) × (at < 2 ^ 40)
+abbrev pub IsGivenInTime : PlanView → ℕ → Stimulus → Type 0
+IsGivenInTime plan now (Change at n level) = (now ≤ at) × (at < 2 ^ 40) × (n.0 < length plan.switches)
+IsGivenInTime plan now (Alarm at source) = ⊥
+IsGivenInTime plan now (Wait at) = (now ≤ at) × (at < 2 ^ 40)
 
 given_is : (a b : Stimulus) → ◌≡◌ {A = Result (Option Stimulus) Refusal} (Ok (Some a)) (Ok (Some b)) → a ≡ b
 given_is a b h = cc
@@ -58,27 +59,27 @@ named_within plan name switch h = go (position (λ s. bytes_eq name s.name) plan
         omega (arith, at, within, same)
 
 module _ (plan : PlanView) (now : ℕ) where
-  given-change : (at : ℕ) (o : Option SwitchId) (level : Bool) (stimulus : Stimulus) → ((switch : SwitchId) → o ≡ Some switch → switch.0 < length plan.switches) → change_of now at o level ≡ Ok (Some stimulus) → IsInTime plan now stimulus
+  given-change : (at : ℕ) (o : Option SwitchId) (level : Bool) (stimulus : Stimulus) → ((switch : SwitchId) → o ≡ Some switch → switch.0 < length plan.switches) → change_of now at o level ≡ Ok (Some stimulus) → IsGivenInTime plan now stimulus
   given-change at None level stimulus within h = cc
   given-change at (Some switch) level stimulus within h =
       let (forward, early, is) = in_time now at (Change at switch level) stimulus h in
-      subst (IsInTime plan now) is (forward, early, within switch refl)
+      subst (IsGivenInTime plan now) is (forward, early, within switch refl)
 
-  pub given-in_time : (line : Said) (stimulus : Stimulus) → given_by_line plan now line ≡ Ok (Some stimulus) → IsInTime plan now stimulus
+  pub given-in_time : (line : Said) (stimulus : Stimulus) → given_by_line plan now line ≡ Ok (Some stimulus) → IsGivenInTime plan now stimulus
   given-in_time Nothing stimulus h = cc
   given-in_time Unreadable stimulus h = cc
   given-in_time (says.Wait at) stimulus h =
       let (forward, early, is) = in_time now at (Wait at) stimulus h in
-      subst (IsInTime plan now) is (forward, early)
+      subst (IsGivenInTime plan now) is (forward, early)
   given-in_time (says.Change at name level) stimulus h = given-change at (switch_named plan name) level stimulus (named_within plan name) h
 
 -- in time, and nothing is due any more: it may come
-pub may_come : (plan : PlanView) (now : ℕ) (s : Machine) (stimulus : Stimulus) → IsInTime plan now stimulus → s.moment ≤ moment_of stimulus → IsNothingDueBy s (moment_of stimulus) → IsAllowed plan s stimulus
+pub may_come : (plan : PlanView) (now : ℕ) (s : Machine) (stimulus : Stimulus) → IsGivenInTime plan now stimulus → s.moment ≤ moment_of stimulus → IsNothingDueBy s (moment_of stimulus) → IsAllowed plan s stimulus
 may_come plan now s (Change at n level) (forward, early, within) ahead quiet = (record { forward = ahead; early = early; quiet = quiet }, within)
 may_come plan now s (Alarm at source) none ahead quiet = absurd none
 may_come plan now s (Wait at) (forward, early) ahead quiet = record { forward = ahead; early = early; quiet = quiet }
 
-pub in_time-early : (plan : PlanView) (now : ℕ) (stimulus : Stimulus) → IsInTime plan now stimulus → (now ≤ moment_of stimulus) × (moment_of stimulus < 2 ^ 40)
+pub in_time-early : (plan : PlanView) (now : ℕ) (stimulus : Stimulus) → IsGivenInTime plan now stimulus → (now ≤ moment_of stimulus) × (moment_of stimulus < 2 ^ 40)
 in_time-early plan now (Change at n level) (forward, early, within) = (forward, early)
 in_time-early plan now (Alarm at source) none = absurd none
 in_time-early plan now (Wait at) (forward, early) = (forward, early)
@@ -122,12 +123,12 @@ no_alarm_last stimuli none before at source k is = differ (sym none ∙ ap (ends
     differ e = cc
 
 -- what comes in time is no alarm
-in_time-given : (plan : PlanView) (now : ℕ) (stimulus : Stimulus) (k : ℕ) → IsInTime plan now stimulus → without_alarms ((stimulus, k) ∷ []) ≡ stimulus ∷ []
+in_time-given : (plan : PlanView) (now : ℕ) (stimulus : Stimulus) (k : ℕ) → IsGivenInTime plan now stimulus → without_alarms ((stimulus, k) ∷ []) ≡ stimulus ∷ []
 in_time-given plan now (Change at n level) k time = refl
 in_time-given plan now (Alarm at source) k none = absurd none
 in_time-given plan now (Wait at) k time = refl
 
-in_time-no_alarm : (plan : PlanView) (now : ℕ) (stimulus : Stimulus) → IsInTime plan now stimulus → is_alarm stimulus ≡ false
+in_time-no_alarm : (plan : PlanView) (now : ℕ) (stimulus : Stimulus) → IsGivenInTime plan now stimulus → is_alarm stimulus ≡ false
 in_time-no_alarm plan now (Change at n level) time = refl
 in_time-no_alarm plan now (Alarm at source) none = absurd none
 in_time-no_alarm plan now (Wait at) time = refl
@@ -135,17 +136,17 @@ in_time-no_alarm plan now (Wait at) time = refl
 module _ (c : CheckedView) (accepted : IsAccepted c) where
   -- Some run was given these stimuli, and alarms, and whether one of those came last; it has this trace and leads to this state,
   -- where no event waits.
-  record IsGiven (given : List Stimulus) (alarm : Bool) (trace : List Line) (s : Machine) : Type 0 where
+  record IsRunGiven (given : List Stimulus) (alarm : Bool) (trace : List Line) (s : Machine) : Type 0 where
     reached : IsReached c.plan trace s
     given_is : without_alarms reached.stimuli ≡ given
     last : ends_with_alarm false reached.stimuli ≡ alarm
 
-  given-initial : IsGiven [] false [] (initial c.plan)
+  given-initial : IsRunGiven [] false [] (initial c.plan)
   given-initial = record { reached = record { stimuli = []; run = (refl, refl); idle = refl }; given_is = refl; last = refl }
 
   -- one stimulus more
-  given-next : (given : List Stimulus) (alarm : Bool) (trace : List Line) (s : Machine) → IsGiven given alarm trace s → (stimulus : Stimulus) → IsAllowed c.plan s stimulus
-      → (more : List Stimulus) → ((k : ℕ) → without_alarms ((stimulus, k) ∷ []) ≡ more) → IsGiven (given ++ more) (is_alarm stimulus) (trace ++ (settled c.plan c.bound stimulus s).lines) (settled c.plan c.bound stimulus s)
+  given-next : (given : List Stimulus) (alarm : Bool) (trace : List Line) (s : Machine) → IsRunGiven given alarm trace s → (stimulus : Stimulus) → IsAllowed c.plan s stimulus
+      → (more : List Stimulus) → ((k : ℕ) → without_alarms ((stimulus, k) ∷ []) ≡ more) → IsRunGiven (given ++ more) (is_alarm stimulus) (trace ++ (settled c.plan c.bound stimulus s).lines) (settled c.plan c.bound stimulus s)
   given-next given alarm trace s h stimulus allowed more is =
       let good = every_run_is_good c accepted in
       let r = h.reached in
@@ -163,14 +164,14 @@ module _ (c : CheckedView) (accepted : IsAccepted c) where
   -- these alarms come, and after them nothing is due by the moment
   record IsRunUntil (until : ℕ) (given : List Stimulus) (trace : List Line) (s : Machine) (stimuli : List Stimulus) : Type 0 where
     alarm : Bool
-    run : IsGiven given alarm (trace ++ lines_of c.plan c.bound stimuli s) (state_after c.plan c.bound stimuli s)
+    run : IsRunGiven given alarm (trace ++ lines_of c.plan c.bound stimuli s) (state_after c.plan c.bound stimuli s)
     quiet : IsNothingDueBy (state_after c.plan c.bound stimuli s) until
     moment : (state_after c.plan c.bound stimuli s).moment ≤ until
 
-  run-none : (until : ℕ) (given : List Stimulus) (alarm : Bool) (trace : List Line) (s : Machine) → IsGiven given alarm trace s → s.moment ≤ until → IsNothingDueBy s until → IsRunUntil until given trace s []
+  run-none : (until : ℕ) (given : List Stimulus) (alarm : Bool) (trace : List Line) (s : Machine) → IsRunGiven given alarm trace s → s.moment ≤ until → IsNothingDueBy s until → IsRunUntil until given trace s []
   run-none until given alarm trace s run early quiet = record {
     alarm = alarm;
-    run = subst (λ (ls : List Line). IsGiven given alarm ls s) (sym (append-nil trace)) run;
+    run = subst (λ (ls : List Line). IsRunGiven given alarm ls s) (sym (append-nil trace)) run;
     quiet = quiet;
     moment = early;
   }
@@ -180,20 +181,20 @@ module _ (c : CheckedView) (accepted : IsAccepted c) where
       let next = settled c.plan c.bound alarm s in
       record {
         alarm = h.alarm;
-        run = subst (λ (ls : List Line). IsGiven given h.alarm ls (state_after c.plan c.bound more next)) (append_assoc trace next.lines (lines_of c.plan c.bound more next)) h.run;
+        run = subst (λ (ls : List Line). IsRunGiven given h.alarm ls (state_after c.plan c.bound more next)) (append_assoc trace next.lines (lines_of c.plan c.bound more next)) h.run;
         quiet = h.quiet;
         moment = h.moment;
       }
 
   -- an alarm changes nothing of what was given
-  given-alarm : (given : List Stimulus) (alarm : Bool) (trace : List Line) (s : Machine) → IsGiven given alarm trace s → (at : ℕ) (source : Source) → IsAllowed c.plan s (Alarm at source)
-      → IsGiven given true (trace ++ (settled c.plan c.bound (Alarm at source) s).lines) (settled c.plan c.bound (Alarm at source) s)
+  given-alarm : (given : List Stimulus) (alarm : Bool) (trace : List Line) (s : Machine) → IsRunGiven given alarm trace s → (at : ℕ) (source : Source) → IsAllowed c.plan s (Alarm at source)
+      → IsRunGiven given true (trace ++ (settled c.plan c.bound (Alarm at source) s).lines) (settled c.plan c.bound (Alarm at source) s)
   given-alarm given alarm trace s h at source allowed =
       let next = settled c.plan c.bound (Alarm at source) s in
-      subst (λ (gs : List Stimulus). IsGiven gs true (trace ++ next.lines) next) (append-nil given) (given-next given alarm trace s h (Alarm at source) allowed [] (λ k. refl))
+      subst (λ (gs : List Stimulus). IsRunGiven gs true (trace ++ next.lines) next) (append-nil given) (given-next given alarm trace s h (Alarm at source) allowed [] (λ k. refl))
 
   -- the alarms due by the moment, where so much fuel is enough for all
-  run-alarms : (until : ℕ) → until < 2 ^ 40 → (given : List Stimulus) (fuel : ℕ) (alarm : Bool) (trace : List Line) (s : Machine) → IsGiven given alarm trace s → AreAll c.plan c.bound until fuel s → s.moment ≤ until
+  run-alarms : (until : ℕ) → until < 2 ^ 40 → (given : List Stimulus) (fuel : ℕ) (alarm : Bool) (trace : List Line) (s : Machine) → IsRunGiven given alarm trace s → AreAll c.plan c.bound until fuel s → s.moment ≤ until
       → IsRunUntil until given trace s (alarms_by c.plan c.bound until fuel s)
   run-alarms until early given zero alarm trace s run all before = run-none until given alarm trace s run before all
   run-alarms until early given (suc k) alarm trace s run all before =
@@ -202,7 +203,7 @@ module _ (c : CheckedView) (accepted : IsAccepted c) where
             subst (IsRunUntil until given trace s) (sym (alarms_by-none c.plan c.bound until (suc k) s nothing)) (run-none until given alarm trace s run before nothing)
         | inr a ↦
             let next = settled c.plan c.bound (Alarm a.at a.source) s in
-            let here = moment-settled c.plan c.bound (Alarm a.at a.source) s in
+            let here = settled-moment c.plan c.bound (Alarm a.at a.source) s in
             let by = a.by in
             let more = run-alarms until early given k true (trace ++ next.lines) next
             (given-alarm given alarm trace s run a.at a.source (alarm-allowed c.plan s until early a)) (all-next c.plan c.bound until k s a all) (omega (arith, here, by)) in
@@ -210,8 +211,8 @@ module _ (c : CheckedView) (accepted : IsAccepted c) where
       ]
 
   -- a stimulus that a line gives, after the alarms due by its moment
-  run-given : (given : List Stimulus) (trace : List Line) (s : Machine) (stimulus : Stimulus) → IsGiven given false trace s → IsInTime c.plan s.moment stimulus
-      → IsGiven (given ++ stimulus ∷ []) false (trace ++ lines_of c.plan c.bound (with_alarms c.plan c.bound stimulus s) s) (state_after c.plan c.bound (with_alarms c.plan c.bound stimulus s) s)
+  run-given : (given : List Stimulus) (trace : List Line) (s : Machine) (stimulus : Stimulus) → IsRunGiven given false trace s → IsGivenInTime c.plan s.moment stimulus
+      → IsRunGiven (given ++ stimulus ∷ []) false (trace ++ lines_of c.plan c.bound (with_alarms c.plan c.bound stimulus s) s) (state_after c.plan c.bound (with_alarms c.plan c.bound stimulus s) s)
   run-given given trace s stimulus run time =
       let (forward, early) = in_time-early c.plan s.moment stimulus time in
       let until = moment_of stimulus in
@@ -225,22 +226,22 @@ module _ (c : CheckedView) (accepted : IsAccepted c) where
       let played : lines_of c.plan c.bound (with_alarms c.plan c.bound stimulus s) s ≡ lines_of c.plan c.bound alarms s ++ next.lines =
       lines_of-append c.plan c.bound alarms (stimulus ∷ []) s ∙ ap (λ (ls : List Line). lines_of c.plan c.bound alarms s ++ ls) (append-nil next.lines) in
       let all_given = given ++ stimulus ∷ [] in
-      subst (λ (m : Machine). IsGiven all_given false (trace ++ lines_of c.plan c.bound (with_alarms c.plan c.bound stimulus s) s) m) (sym (state_after-append c.plan c.bound alarms (stimulus ∷ []) s))
-      (subst (λ (ls : List Line). IsGiven all_given false ls next) (append_assoc trace (lines_of c.plan c.bound alarms s) next.lines ∙ ap (λ (ls : List Line). trace ++ ls) (sym played))
-      (subst (λ (b : Bool). IsGiven all_given b ((trace ++ lines_of c.plan c.bound alarms s) ++ next.lines) next) (in_time-no_alarm c.plan s.moment stimulus time) last))
+      subst (λ (m : Machine). IsRunGiven all_given false (trace ++ lines_of c.plan c.bound (with_alarms c.plan c.bound stimulus s) s) m) (sym (state_after-append c.plan c.bound alarms (stimulus ∷ []) s))
+      (subst (λ (ls : List Line). IsRunGiven all_given false ls next) (append_assoc trace (lines_of c.plan c.bound alarms s) next.lines ∙ ap (λ (ls : List Line). trace ++ ls) (sym played))
+      (subst (λ (b : Bool). IsRunGiven all_given b ((trace ++ lines_of c.plan c.bound alarms s) ++ next.lines) next) (in_time-no_alarm c.plan s.moment stimulus time) last))
 
   -- where nothing is given, the run goes on as it was
-  run-nothing : (given : List Stimulus) (trace : List Line) (s : Machine) → IsGiven given false trace s → IsGiven (given ++ []) false (trace ++ []) s
+  run-nothing : (given : List Stimulus) (trace : List Line) (s : Machine) → IsRunGiven given false trace s → IsRunGiven (given ++ []) false (trace ++ []) s
   run-nothing given trace s run =
-      subst (λ (gs : List Stimulus). IsGiven gs false (trace ++ []) s) (sym (append-nil given)) (subst (λ (ls : List Line). IsGiven given false ls s) (sym (append-nil trace)) run)
+      subst (λ (gs : List Stimulus). IsRunGiven gs false (trace ++ []) s) (sym (append-nil given)) (subst (λ (ls : List Line). IsRunGiven given false ls s) (sym (append-nil trace)) run)
 
-  run-line : (number : ℕ) (given : List Stimulus) (trace : List Line) (s : Machine) (line : Said) → IsGiven given false trace s → (is : Result (Option Stimulus) Refusal) → given_by_line c.plan s.moment line ≡ is
-      → IsGiven (given ++ option_to_list (given_of is)) false (trace ++ traced (printed_for_line c.plan c.bound number s is)) (after_line c.plan c.bound s is)
+  run-line : (number : ℕ) (given : List Stimulus) (trace : List Line) (s : Machine) (line : Said) → IsRunGiven given false trace s → (is : Result (Option Stimulus) Refusal) → given_by_line c.plan s.moment line ≡ is
+      → IsRunGiven (given ++ option_to_list (given_of is)) false (trace ++ traced (printed_for_line c.plan c.bound number s is)) (after_line c.plan c.bound s is)
   run-line number given trace s line run (Ok None) is = run-nothing given trace s run
   run-line number given trace s line run (Err refusal) is = run-nothing given trace s run
   run-line number given trace s line run (Ok (Some stimulus)) is =
       let played = lines_of c.plan c.bound (with_alarms c.plan c.bound stimulus s) s in
-      subst (λ (ls : List Line). IsGiven (given ++ stimulus ∷ []) false (trace ++ ls) (state_after c.plan c.bound (with_alarms c.plan c.bound stimulus s) s)) (sym (traced-lines played))
+      subst (λ (ls : List Line). IsRunGiven (given ++ stimulus ∷ []) false (trace ++ ls) (state_after c.plan c.bound (with_alarms c.plan c.bound stimulus s) s)) (sym (traced-lines played))
       (run-given given trace s stimulus run (given-in_time c.plan s.moment line stimulus is))
 
   -- the latest moment is that of the latest stimulus that was given
@@ -249,10 +250,10 @@ module _ (c : CheckedView) (accepted : IsAccepted c) where
   latest-given s (Err refusal) = refl
   latest-given s (Ok (Some stimulus)) =
       let alarms = all_alarms_by c.plan c.bound (moment_of stimulus) s in
-      ap (λ (m : Machine). m.moment) (state_after-append c.plan c.bound alarms (stimulus ∷ []) s) ∙ moment-settled c.plan c.bound stimulus (state_after c.plan c.bound alarms s)
+      ap (λ (m : Machine). m.moment) (state_after-append c.plan c.bound alarms (stimulus ∷ []) s) ∙ settled-moment c.plan c.bound stimulus (state_after c.plan c.bound alarms s)
 
-  run-lines : (number : ℕ) (log : List (List ℕ)) (given : List Stimulus) (trace : List Line) (s : Machine) → IsGiven given false trace s
-      → (t : Machine) × IsGiven (given ++ given_by_lines c.plan s.moment log) false (trace ++ traced (printed_for_lines c.plan c.bound number log s)) t
+  run-lines : (number : ℕ) (log : List (List ℕ)) (given : List Stimulus) (trace : List Line) (s : Machine) → IsRunGiven given false trace s
+      → (t : Machine) × IsRunGiven (given ++ given_by_lines c.plan s.moment log) false (trace ++ traced (printed_for_lines c.plan c.bound number log s)) t
   run-lines number [] given trace s run = (s, run-nothing given trace s run)
   run-lines number (line ∷ more) given trace s run =
       let is = given_by_line c.plan s.moment (said line) in
@@ -266,8 +267,8 @@ module _ (c : CheckedView) (accepted : IsAccepted c) where
       let traces : (trace ++ traced printed) ++ traced rest ≡ trace ++ traced (printed ++ rest) =
       append_assoc trace (traced printed) (traced rest) ∙ ap (λ (ls : List Line). trace ++ ls) (sym (traced-append printed rest)) in (
         t,
-        subst (λ (gs : List Stimulus). IsGiven gs false (trace ++ traced (printed ++ rest)) t) stimuli
-            (subst (λ (ls : List Line). IsGiven ((given ++ here) ++ given_by_lines c.plan next.moment more) false ls t) traces last),
+        subst (λ (gs : List Stimulus). IsRunGiven gs false (trace ++ traced (printed ++ rest)) t) stimuli
+            (subst (λ (ls : List Line). IsRunGiven ((given ++ here) ++ given_by_lines c.plan next.moment more) false ls t) traces last),
       )
 
   -- the lines that a log leads to are the trace of the run that it gives

@@ -1,10 +1,10 @@
 -- A log gives one list of stimuli.
-use Rattle.std.proofs.Common.{◌≡◌, ◌≢◌, ℕ, ◌<◌, ◌≤◌, Some, List, [], ◌∷◌, ◌++◌, map, refl, ap, sym, ◌∙◌, subst, arith}
+use Rattle.std.proofs.Common.{◌≡◌, ◌≢◌, ℕ, ◌≤◌, List, [], ◌∷◌, ◌++◌, map, refl, ap, sym, ◌∙◌, arith}
 use Rattle.mpf_plan.specs.PlanView.{PlanView}
 use Rattle.config_checker.specs.declared.line.Line.{Line}
 use Rattle.config_checker.specs.Machine.{Machine, initial}
 use Rattle.config_checker.specs.EventStep.{EventSteps}
-use Rattle.config_checker.specs.Run.{Source, source_due, IsNothingDueBy, IsNothingLate, IsNextAlarm, Stimulus, Change, Alarm, Wait, moment_of, IsAllowed, begin, IsRun}
+use Rattle.config_checker.specs.Run.{Source, IsNothingDueBy, IsNothingLate, IsNextAlarm, Stimulus, Change, Alarm, Wait, moment_of, IsAllowed, begin, IsRun}
 use Rattle.config_checker.proofs.Alarms.{moment-after, switches-steps, switches-same, source_due-same, not_late-after}
 use Rattle.config_checker.proofs.NextAlarms.{next-unique}
 use Rattle.pinball_shell.specs.RunGiven.{without_alarms, IsRunOfLog}

@@ -12,6 +12,7 @@ use Rattle.config_checker.specs.Run.{IsNothingDueBy, Stimulus, Alarm, moment_of,
 use Rattle.config_checker.specs.NextAlarm.{most_alarms}
 use Rattle.config_checker.specs.AlarmsBy.{state_after}
 use Rattle.config_checker.specs.PlanOrder.{settled}
+use Rattle.config_checker.proofs.Alarms.{settled-moment}
 use Rattle.config_checker.proofs.AlarmsEnd.{alarms_by-none}
 use Rattle.config_checker.proofs.Writing.{written-nil, written-then}
 use Rattle.pinball_shell.specs.declared.fault.Verdict.{Verdict}
@@ -20,8 +21,8 @@ use Rattle.pinball_shell.specs.declared.refusal.Refusal.{Refusal}
 use Rattle.pinball_shell.specs.LogText.{said}
 use Rattle.pinball_shell.specs.RunOfLog.{given_by_line, lines_of, all_alarms_by, with_alarms, Printed, Traced, Refused, printed_for_line, after_line, printed_for_lines}
 use Rattle.pinball_shell.specs.TraceText.{line_text, printed_text, refused_text, is_refused, log_verdict}
-use Rattle.pinball_shell.specs.Played.{worse_of, IsPlayed, text_of, IsLinePlayed, AreLinesPlayed}
-use Rattle.pinball_shell.proofs.Alarms.{moment-settled, ComesBy, all-first, all-fewer}
+use Rattle.pinball_shell.specs.Played.{worse_of, IsPlayed, printed_texts, IsLinePlayed, AreLinesPlayed}
+use Rattle.pinball_shell.proofs.Alarms.{ComesBy, all-first, all-fewer}
 
 module _ (plan : PlanView) (bound : ℕ) where
   pub state_after-append : (xs ys : List Stimulus) (s : Machine) → state_after plan bound (xs ++ ys) s ≡ state_after plan bound ys (state_after plan bound xs s)
@@ -76,7 +77,7 @@ module _ (plan : PlanView) (bound : ℕ) where
     alarms-more old a all h =
         let alarm = Alarm next.at next.source in
         let by = next.by in
-        let at : t.moment ≡ next.at = ap (λ (m : Machine). m.moment) played.state ∙ moment-settled plan bound alarm s in
+        let at : t.moment ≡ next.at = ap (λ (m : Machine). m.moment) played.state ∙ settled-moment plan bound alarm s in
         let going : all_alarms_by plan bound until s ≡ alarm ∷ all_alarms_by plan bound until t =
         all-first plan bound until trace s reached next ∙ ap (λ (m : Machine). alarm ∷ all_alarms_by plan bound until m) (sym played.state) in
         record {
@@ -95,7 +96,7 @@ module _ (plan : PlanView) (bound : ℕ) where
 
   -- ---- a line
 
-  traced-text : (ls : List Line) → text_of plan (map Traced ls) ≡ flat_map (line_text plan) ls
+  traced-text : (ls : List Line) → printed_texts plan (map Traced ls) ≡ flat_map (line_text plan) ls
   traced-text ls = flat_map-map (printed_text plan) Traced ls
 
   none_refused : (ls : List Line) → list_any is_refused (map Traced ls) ≡ false
@@ -103,10 +104,10 @@ module _ (plan : PlanView) (bound : ℕ) where
   none_refused (l ∷ ls) = none_refused ls
 
   module _ (number : ℕ) (line : List ℕ) (s : Machine) where
-    line-is : (given : Result (Option Stimulus) Refusal) (t : Machine) (a b : Option (List ℕ)) (v : Verdict) → given_by_line plan s.moment (said line) ≡ given → t ≡ after_line plan bound s given → Appends a b (text_of plan (printed_for_line plan bound number s given)) → v ≡ log_verdict (printed_for_line plan bound number s given) → IsLinePlayed plan bound number line s t a b v
+    line-is : (given : Result (Option Stimulus) Refusal) (t : Machine) (a b : Option (List ℕ)) (v : Verdict) → given_by_line plan s.moment (said line) ≡ given → t ≡ after_line plan bound s given → Appends a b (printed_texts plan (printed_for_line plan bound number s given)) → v ≡ log_verdict (printed_for_line plan bound number s given) → IsLinePlayed plan bound number line s t a b v
     line-is given t a b v is state text verdict = record {
       state = subst (λ (g : Result (Option Stimulus) Refusal). t ≡ after_line plan bound s g) (sym is) state;
-      text = subst (λ (g : Result (Option Stimulus) Refusal). Appends a b (text_of plan (printed_for_line plan bound number s g))) (sym is) text;
+      text = subst (λ (g : Result (Option Stimulus) Refusal). Appends a b (printed_texts plan (printed_for_line plan bound number s g))) (sym is) text;
       verdict_is = subst (λ (g : Result (Option Stimulus) Refusal). v ≡ log_verdict (printed_for_line plan bound number s g)) (sym is) verdict;
     }
 
@@ -135,7 +136,7 @@ module _ (plan : PlanView) (bound : ℕ) where
 
   pub record AreLinesGoing (log : List ℕ) (old : Machine) (before : Option (List ℕ)) (number : ℕ) (rest : List ℕ) (now : Machine) (after : Option (List ℕ)) (verdict : Verdict) : Type 0 where
     pub done : List Printed
-    pub written : Appends before after (text_of plan done)
+    pub written : Appends before after (printed_texts plan done)
     pub whole : done ++ printed_for_lines plan bound number (lines rest) now ≡ printed_for_lines plan bound 1 (lines log) old
     pub verdict_is : verdict ≡ log_verdict done
     pub few : number + length rest ≤ 1 + length log
@@ -172,7 +173,7 @@ module _ (plan : PlanView) (bound : ℕ) where
   lines-end log old number rest s a b v h none =
       let all : h.done ≡ printed_for_lines plan bound 1 (lines log) old = sym (append-nil h.done) ∙ sym (ap (λ (r : List ℕ). h.done ++ printed_for_lines plan bound number (lines r) s) (empty rest none)) ∙ h.whole in
       record {
-        text = subst (λ (ts : List Printed). Appends a b (text_of plan ts)) all h.written;
+        text = subst (λ (ts : List Printed). Appends a b (printed_texts plan ts)) all h.written;
         verdict_is = h.verdict_is ∙ ap log_verdict all;
       }
     where

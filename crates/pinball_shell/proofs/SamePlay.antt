@@ -10,6 +10,7 @@ use Rattle.config_checker.specs.AlarmsBy.{alarms_by, state_after}
 use Rattle.config_checker.specs.CheckedView.{CheckedView}
 use Rattle.config_checker.specs.Accepted.{IsAccepted}
 use Rattle.config_checker.specs.PlanOrder.{settled}
+use Rattle.config_checker.proofs.Alarms.{settled-moment}
 use Rattle.config_checker.proofs.AlarmsEnd.{alarms_by-none, alarms_by-more, alarms_by-all}
 use Rattle.config_checker.proofs.Cascade.{every_run_is_good}
 use Rattle.config_checker.proofs.PlanSteps.{settled-idle, settled-same}
@@ -17,9 +18,9 @@ use Rattle.config_checker.proofs.Reached.{reached-initial, reached-next}
 use Rattle.pinball_shell.specs.declared.refusal.Refusal.{Refusal}
 use Rattle.pinball_shell.specs.LogText.{said}
 use Rattle.pinball_shell.specs.RunOfLog.{given_by_line, lines_of, all_alarms_by, with_alarms, Printed, Traced, printed_for_line, after_line, printed_for_lines, printed_for_log}
-use Rattle.pinball_shell.proofs.Alarms.{moment-settled, cases_due, alarm-allowed, AreAll, all-next}
+use Rattle.pinball_shell.proofs.Alarms.{cases_due, alarm-allowed, AreAll, all-next}
 use Rattle.pinball_shell.proofs.Playing.{state_after-append, lines_of-append}
-use Rattle.pinball_shell.proofs.LogRuns.{IsInTime, given-in_time, in_time-early, may_come}
+use Rattle.pinball_shell.proofs.LogRuns.{IsGivenInTime, given-in_time, in_time-early, may_come}
 
 module _ (plan : PlanView) (ws vs : List ℕ) (a b : ℕ) where
   abbrev one : CheckedView
@@ -82,7 +83,7 @@ module _ (plan : PlanView) (ws vs : List ℕ) (a b : ℕ) where
               let by = x.by in
               let there = settled plan a alarm s in
               let allowed = alarm-allowed plan s until early x in
-              let here = moment-settled plan a alarm s in
+              let here = settled-moment plan a alarm s in
               let rest = same-alarms until early k there (next-reached s reached alarm allowed) (all-next plan a until k s x all) (omega (arith, here, by)) in
               let one_state = settled-one s reached alarm allowed in
               let both = same-more s alarm (alarms_by plan a until k there) (alarms_by plan b until k there) one_state rest.are in
@@ -115,7 +116,7 @@ module _ (plan : PlanView) (ws vs : List ℕ) (a b : ℕ) where
         }
 
     -- a stimulus that a line gives, after the alarms due by its moment
-    same-given : (s : Machine) → Reached s → (stimulus : Stimulus) → IsInTime plan s.moment stimulus → AreSame s (with_alarms plan a stimulus s) (with_alarms plan b stimulus s)
+    same-given : (s : Machine) → Reached s → (stimulus : Stimulus) → IsGivenInTime plan s.moment stimulus → AreSame s (with_alarms plan a stimulus s) (with_alarms plan b stimulus s)
     same-given s (trace, h) stimulus time =
         let (forward, early) = in_time-early plan s.moment stimulus time in
         let until = moment_of stimulus in
@@ -129,7 +130,7 @@ module _ (plan : PlanView) (ws vs : List ℕ) (a b : ℕ) where
       state : after_line plan b s given ≡ after_line plan a s given
       reached : Reached (after_line plan a s given)
 
-    same-line : (number : ℕ) (s : Machine) → Reached s → (given : Result (Option Stimulus) Refusal) → ((stimulus : Stimulus) → given ≡ Ok (Some stimulus) → IsInTime plan s.moment stimulus) → IsSameLine number s given
+    same-line : (number : ℕ) (s : Machine) → Reached s → (given : Result (Option Stimulus) Refusal) → ((stimulus : Stimulus) → given ≡ Ok (Some stimulus) → IsGivenInTime plan s.moment stimulus) → IsSameLine number s given
     same-line number s reached (Ok None) time = record { printed = refl; state = refl; reached = reached }
     same-line number s reached (Err refusal) time = record { printed = refl; state = refl; reached = reached }
     same-line number s reached (Ok (Some stimulus)) time =

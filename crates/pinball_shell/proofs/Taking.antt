@@ -20,18 +20,18 @@ use Rattle.pinball_shell.specs.LogText.{Said, said}
 use Rattle.pinball_shell.specs.RunOfLog.{given_by_line}
 use Rattle.pinball_shell.specs.Played.{input_of, GivesInput, IsPlayed, IsRigOf, IsInputPlayed, AreAlarmsPlayed, IsLinePlayed}
 use Rattle.pinball_shell.proofs.Alarms.{ComesBy, alarm-taken}
-use Rattle.pinball_shell.proofs.LogRuns.{IsInTime, given-in_time, in_time-early, may_come}
+use Rattle.pinball_shell.proofs.LogRuns.{IsGivenInTime, given-in_time, in_time-early, may_come}
 use Rattle.pinball_shell.proofs.Playing.{line-played}
 
 -- ---- what the rig takes
 
-input_of-stimulus : (plan : PlanView) (now : ℕ) (stimulus : Stimulus) → IsInTime plan now stimulus → IsOfInput (input_of stimulus) stimulus
+input_of-stimulus : (plan : PlanView) (now : ℕ) (stimulus : Stimulus) → IsGivenInTime plan now stimulus → IsOfInput (input_of stimulus) stimulus
 input_of-stimulus plan now (Change at n level) time = refl
 input_of-stimulus plan now (Alarm at source) none = absurd none
 input_of-stimulus plan now (Wait at) time = refl
 
 -- what comes in time is taken, once nothing is due by its moment
-in_time-taken : (rig : RigView) (now : ℕ) (stimulus : Stimulus) → IsInTime rig.checked.plan now stimulus → rig.machine.moment ≤ moment_of stimulus → is_due_by (moment_of stimulus) rig.machine ≡ false → stimulus_at rig (input_of stimulus) ≡ Ok stimulus
+in_time-taken : (rig : RigView) (now : ℕ) (stimulus : Stimulus) → IsGivenInTime rig.checked.plan now stimulus → rig.machine.moment ≤ moment_of stimulus → is_due_by (moment_of stimulus) rig.machine ≡ false → stimulus_at rig (input_of stimulus) ≡ Ok stimulus
 in_time-taken rig now stimulus time ahead quiet =
     allowed-judged rig (input_of stimulus) stimulus (input_of-stimulus rig.checked.plan now stimulus time)
     (may_come rig.checked.plan now rig.machine stimulus time ahead (not_due-nothing rig.machine (moment_of stimulus) quiet))
@@ -93,7 +93,7 @@ input-given plan r at input s line now read moment says is given =
     }
 
 module _ (plan : PlanView) (rig : RigView) (rig_of : IsRigOf plan rig) (line : List ℕ) (at : ℕ) (input : Input) (given : IsGiven plan rig.machine line at input) where
-  given-in : IsInTime plan rig.machine.moment given.stimulus
+  given-in : IsGivenInTime plan rig.machine.moment given.stimulus
   given-in = given-in_time plan rig.machine.moment (said line) given.stimulus given.given_is
 
   -- its moment is that of an alarm that is not too late
@@ -109,7 +109,7 @@ module _ (plan : PlanView) (rig : RigView) (rig_of : IsRigOf plan rig) (line : L
     given-taken =
         let plan_is : mid.checked.plan ≡ plan = ap (λ (c : CheckedView). c.plan) alarms.checked_is ∙ rig_of.plan_is in
         ap (stimulus_at mid) given.input_is
-        ∙ in_time-taken mid rig.machine.moment given.stimulus (subst (λ (p : PlanView). IsInTime p rig.machine.moment given.stimulus) (sym plan_is) given-in)
+        ∙ in_time-taken mid rig.machine.moment given.stimulus (subst (λ (p : PlanView). IsGivenInTime p rig.machine.moment given.stimulus) (sym plan_is) given-in)
         (subst (λ (m : ℕ). mid.machine.moment ≤ m) given.at_is alarms.moment) (subst (λ (m : ℕ). is_due_by m mid.machine ≡ false) given.at_is alarms.quiet)
 
     pub given-played : (number : ℕ) (new : RigView) (c : Option (List ℕ)) → IsInputPlayed plan input mid new b c → IsLinePlayed plan rig.checked.bound number line rig.machine new.machine a c verdicts.Yes

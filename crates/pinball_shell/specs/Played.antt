@@ -56,8 +56,8 @@ pub record AreAlarmsPlayed (plan : PlanView) (until : ℕ) (old new : RigView) (
   pub moment : new.machine.moment ≤ until
 
 -- what is printed, as bytes
-abbrev pub text_of : PlanView → List Printed → List ℕ
-text_of plan printed = flat_map (printed_text plan) printed
+abbrev pub printed_texts : PlanView → List Printed → List ℕ
+printed_texts plan printed = flat_map (printed_text plan) printed
 
 -- refused where either is
 abbrev pub worse_of : Verdict → Verdict → Verdict
@@ -67,10 +67,10 @@ worse_of before verdicts.Refused = verdicts.Refused
 -- a line of a log was played, or refused
 pub record IsLinePlayed (plan : PlanView) (bound number : ℕ) (line : List ℕ) (old new : Machine) (before after : Option (List ℕ)) (verdict : Verdict) : Type 0 where
   pub state : new ≡ after_line plan bound old (given_by_line plan old.moment (said line))
-  pub text : Appends before after (text_of plan (printed_for_line plan bound number old (given_by_line plan old.moment (said line))))
+  pub text : Appends before after (printed_texts plan (printed_for_line plan bound number old (given_by_line plan old.moment (said line))))
   pub verdict_is : verdict ≡ log_verdict (printed_for_line plan bound number old (given_by_line plan old.moment (said line)))
 
 -- the lines of a text were played
 pub record AreLinesPlayed (plan : PlanView) (bound : ℕ) (log : List ℕ) (old : Machine) (before after : Option (List ℕ)) (verdict : Verdict) : Type 0 where
-  pub text : Appends before after (text_of plan (printed_for_lines plan bound 1 (lines log) old))
+  pub text : Appends before after (printed_texts plan (printed_for_lines plan bound 1 (lines log) old))
   pub verdict_is : verdict ≡ log_verdict (printed_for_lines plan bound 1 (lines log) old)
