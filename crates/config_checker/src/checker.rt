@@ -1,6 +1,6 @@
 //! The checker.
 
-ghost use Rattle.std.specs.Prelude.{◌≡◌, Ok, IfOk, IfErr, map};
+ghost use Rattle.std.specs.Prelude.{◌≡◌, ◌==◌, Ok, IfOk, IfErr, map};
 ghost use Rattle.mpf_config.specs.View.{rows_view};
 ghost use Rattle.mpf_plan.specs.PlanOf.{plan_at};
 ghost use Rattle.cascade_rank.specs.Weights.{IsLeastFitting};
@@ -15,7 +15,7 @@ use crate::certificate_reader::{CertificateLines, ReadFault, read_certificate};
 use crate::checked::Checked;
 use crate::report::{CertificateFault, Fault, Report};
 use crate::reporting::{named_fault, report_of};
-use cascade_rank::{Weights, find, verify};
+use cascade_rank::{Bound, Weights, find, verify};
 use mpf_config::config::Config;
 use mpf_plan::{EventId, Plan, PlanFault};
 use std::alloc::Global;
@@ -81,7 +81,7 @@ pub fn check_with(alloc: Global, config: &Config, certificate: &[u8]) -> Result<
     }
     let weights = Weights::of(weights);
     match verify(&plan, &weights) {
-        Ok(bound) if bound.0 == stated => Ok(Checked::new(plan, weights, bound.0)),
+        Ok(bound) if is_stated(bound, stated) => Ok(Checked::new(plan, weights, bound.0)),
         Ok(bound) => Err(report_of(alloc, Fault::Certificate(CertificateFault::Bound(bound.0)))),
         Err(fault) => Err(report_of(alloc, named_fault(alloc, &plan, fault)?)),
     }
@@ -112,4 +112,11 @@ fn are_events(plan: &Plan, names: &[&[u8]]) -> bool
         }
     }
     true
+}
+
+/// Whether the bound that weights have is the one that is stated.
+fn is_stated(bound: Bound, stated: u32) -> bool
+    ensures { result ≡ (bound.0 == stated) }
+{
+    bound.0 == stated
 }

@@ -1,4 +1,5 @@
 use Rattle.std.proofs.Common.{◌≡◌, true, false, map, Err, Ok, Result, refl, sym, ap, ◌∙◌, subst}
+use Rattle.std.proofs.lemmas.Bool.{eqb-true, eqb-false}
 use Rattle.std.proofs.lemmas.Result.{err_from_is_err_and}
 use Rattle.std.proofs.lemmas.List.{length-map}
 use Rattle.mpf_config.specs.View.{rows_view}
@@ -100,7 +101,7 @@ returns-in-Ok-2-clause-exact c =
     let reading = read-as text c.in-Ok.lines.bound names c.in-Ok.lines.weights.items ws (c.in-Ok.ensures.count ∙ sym (length-map c.in-Ok.lines.names.items (λ n. n.now))) c.in-Ok.ensures.exact c.of-weights.ensures in
     let same : same_names plan.events names ≡ true = ap (λ ns. same_names plan.events (map (λ n. n.now) ns)) (sym c.deref.ensures.value) ∙ sym c.are_events.ensures ∙ c.if-not-are_events.false in
     reports-gives c.report_of-in-Ok-2.result (certificate (other_bound c.in-Ok-verify.bound.0)) (checked_with_at rows text) c.report_of-in-Ok-2.ensures
-    (other_bound-checked rows plan c.in_ok-plan.ensures.plan text _ names ws reading same c.in-Ok-verify.bound.0 c.in-Ok-verify.ensures.exact c.if-bound-stated.false)
+    (other_bound-checked rows plan c.in_ok-plan.ensures.plan text _ names ws reading same c.in-Ok-verify.bound.0 c.in-Ok-verify.ensures.exact (eqb-false c.in-Ok-verify.bound.0 c.in-Ok.lines.bound (sym c.is_stated.ensures ∙ c.if-is_stated.false)))
 
 pub returns-in-Ok-2-clause-refused : goal.returns-in-Ok-2-clause-refused
 returns-in-Ok-2-clause-refused c =
@@ -112,7 +113,7 @@ returns-in-Ok-2-clause-refused c =
     let reading = read-as text c.in-Ok.lines.bound names c.in-Ok.lines.weights.items ws (c.in-Ok.ensures.count ∙ sym (length-map c.in-Ok.lines.names.items (λ n. n.now))) c.in-Ok.ensures.exact c.of-weights.ensures in
     let same : same_names plan.events names ≡ true = ap (λ ns. same_names plan.events (map (λ n. n.now) ns)) (sym c.deref.ensures.value) ∙ sym c.are_events.ensures ∙ c.if-not-are_events.false in
     reports-there rows (IsFaultWith rows text) c.report_of-in-Ok-2.result (certificate (other_bound c.in-Ok-verify.bound.0)) c.report_of-in-Ok-2.ensures
-    (other_bound-fault rows plan c.in_ok-plan.ensures.plan text _ names ws reading same c.in-Ok-verify.bound.0 c.in-Ok-verify.ensures.verified c.if-bound-stated.false)
+    (other_bound-fault rows plan c.in_ok-plan.ensures.plan text _ names ws reading same c.in-Ok-verify.bound.0 c.in-Ok-verify.ensures.verified (eqb-false c.in-Ok-verify.bound.0 c.in-Ok.lines.bound (sym c.is_stated.ensures ∙ c.if-is_stated.false)))
 
 -- ---- accepted
 
@@ -128,7 +129,7 @@ returns-in-Ok-verify-clause-exact c =
     let ws = c.of-weights.result in
     let reading = read-as text c.in-Ok.lines.bound names c.in-Ok.lines.weights.items ws (c.in-Ok.ensures.count ∙ sym (length-map c.in-Ok.lines.names.items (λ n. n.now))) c.in-Ok.ensures.exact c.of-weights.ensures in
     let same : same_names plan.events names ≡ true = ap (λ ns. same_names plan.events (map (λ n. n.now) ns)) (sym c.deref.ensures.value) ∙ sym c.are_events.ensures ∙ c.if-not-are_events.false in
-    verified-checked rows plan c.in_ok-plan.ensures.plan text _ names ws reading same c.in-Ok-verify.bound.0 c.in-Ok-verify.ensures.exact c.if-bound-stated.true ∙ ap Ok (sym c.new.ensures)
+    verified-checked rows plan c.in_ok-plan.ensures.plan text _ names ws reading same c.in-Ok-verify.bound.0 c.in-Ok-verify.ensures.exact (eqb-true c.in-Ok-verify.bound.0 c.in-Ok.lines.bound (sym c.is_stated.ensures ∙ c.if-is_stated.true)) ∙ ap Ok (sym c.new.ensures)
 
 pub returns-in-Ok-verify-clause-text : goal.returns-in-Ok-verify-clause-text
 returns-in-Ok-verify-clause-text c =
@@ -139,7 +140,7 @@ returns-in-Ok-verify-clause-text c =
     let ws = c.of-weights.result in
     let reading = read-as text c.in-Ok.lines.bound names c.in-Ok.lines.weights.items ws (c.in-Ok.ensures.count ∙ sym (length-map c.in-Ok.lines.names.items (λ n. n.now))) c.in-Ok.ensures.exact c.of-weights.ensures in
     let same : same_names plan.events names ≡ true = ap (λ ns. same_names plan.events (map (λ n. n.now) ns)) (sym c.deref.ensures.value) ∙ sym c.are_events.ensures ∙ c.if-not-are_events.false in
-    ap certificate_text c.new.ensures ∙ verified-text rows plan c.in_ok-plan.ensures.plan text _ names ws reading same c.in-Ok-verify.bound.0 c.if-bound-stated.true
+    ap certificate_text c.new.ensures ∙ verified-text rows plan c.in_ok-plan.ensures.plan text _ names ws reading same c.in-Ok-verify.bound.0 (eqb-true c.in-Ok-verify.bound.0 c.in-Ok.lines.bound (sym c.is_stated.ensures ∙ c.if-is_stated.true))
 
 pub returns-in-Ok-verify-clause-good : goal.returns-in-Ok-verify-clause-good
 returns-in-Ok-verify-clause-good c =
