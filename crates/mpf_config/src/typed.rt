@@ -89,6 +89,7 @@ fn event_name(event: &Plain) -> NameAt<'_>
             line: name.line,
             text: &name.text,
         },
+        Plain::DefaultName(text) => NameAt { line: 0, text },
         Plain::Event(handler) => NameAt {
             line: handler.line,
             text: &handler.name,

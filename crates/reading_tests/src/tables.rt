@@ -250,6 +250,7 @@ fn show_plain(out: &mut String, value: &Plain) -> Result<(), AllocError> {
         Plain::Power(n) => write!(out, "{n}"),
         Plain::Word(word) => out.push_str(utf8(word)),
         Plain::Name(name) => show_name(out, name),
+        Plain::DefaultName(text) => write!(out, "{}@0", utf8(text)),
         Plain::Event(handler) => show_handler(out, handler),
     }
 }

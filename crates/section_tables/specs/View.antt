@@ -23,6 +23,7 @@ use Rattle.section_tables.specs.declared.fault.Fault.{Fault}
 use Rattle.section_tables.specs.declared.fault.ConfigFault.{ConfigFault}
 use Rattle.section_tables.specs.declared.fault.ConfigFault.TheVariants as faults
 use Rattle.section_tables.specs.Rows.{Written, Handled, Plain, nothing, flag, number, time, power, word, name, event, Fields, Keyed, Value, one, names, posts, events, steps, maps, keyed, Entry, Player, RowsFault}
+use Rattle.section_tables.specs.Entries.{written_at}
 use Rattle.section_tables.specs.Reading.{Spot}
 
 -- ---- values
@@ -48,6 +49,7 @@ plain_view (plain.Time ms) = time ms
 plain_view (plain.Power n) = power n
 plain_view (plain.Word w) = word w.now
 plain_view (plain.Name n) = name (name_view n.value)
+plain_view (plain.DefaultName w) = name (written_at 0 w.now)
 plain_view (plain.Event h) = event (handler_view h.value)
 
 abbrev pub plains_view : List plains.Plain → List Plain

@@ -21,21 +21,18 @@ use yaml_subset::tree::{Key, Tree};
 // ---- rows of fields
 
 /// What holds where a text is not written.
-pub fn default_plain(alloc: Global, absent: Absent) -> Result<Plain, AllocError>
-    ensures { IfOk result (λ value. plain_view value ≡ plain_default (absent_view absent)) }
+pub fn default_plain(absent: Absent) -> Plain
+    ensures { plain_view result ≡ plain_default (absent_view absent) }
 {
     match absent {
-        Absent::Required => Ok(Plain::Nothing),
-        Absent::Nothing => Ok(Plain::Nothing),
-        Absent::Flag(b) => Ok(Plain::Flag(b)),
-        Absent::Number(n) => Ok(Plain::Number(n)),
-        Absent::Time(ms) => Ok(Plain::Time(ms)),
-        Absent::Power(n) => Ok(Plain::Power(n)),
-        Absent::Word(word) => Ok(Plain::Word(word)),
-        Absent::Name(name) => {
-            let name = name_of(alloc, 0, name)?;
-            Ok(Plain::Name(Box::new(alloc, name)?))
-        }
+        Absent::Required => Plain::Nothing,
+        Absent::Nothing => Plain::Nothing,
+        Absent::Flag(b) => Plain::Flag(b),
+        Absent::Number(n) => Plain::Number(n),
+        Absent::Time(ms) => Plain::Time(ms),
+        Absent::Power(n) => Plain::Power(n),
+        Absent::Word(word) => Plain::Word(word),
+        Absent::Name(name) => Plain::DefaultName(name),
     }
 }
 
@@ -59,8 +56,7 @@ fn bare_row(alloc: Global, table: &[Field]) -> Result<Vec<Plain>, AllocError>
 {
     let mut row = Vec::with_capacity(alloc, table.len())?;
     for field in table {
-        let value = default_plain(alloc, field.absent)?;
-        row.push(value)?;
+        row.push(default_plain(field.absent))?;
     }
     Ok(row)
 }

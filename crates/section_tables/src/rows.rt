@@ -4,7 +4,7 @@ use mpf_values::Comparison;
 use std::mem::size_of;
 
 /// A name of 1 to 64 letters, digits, `_`, `-` and `.`, with the line where it is written,
-/// counted from 1; a name that is not written but holds by default has line 0.
+/// counted from 1.
 #[derive(Debug, Drop)]
 pub struct Name {
     pub line: u32,
@@ -20,7 +20,7 @@ pub struct Guard {
 }
 
 /// An event that is handled, under a condition where it has one; with the line where it is
-/// written, as [`Name`] has it.
+/// written, or 0 where it is not written but holds by default.
 #[derive(Debug, Drop)]
 pub struct Handler {
     pub line: u32,
@@ -42,6 +42,8 @@ pub enum Plain {
     /// A word of the table.
     Word(&'static [u8]),
     Name(Box<Name>),
+    /// A name that is not written but holds by default.
+    DefaultName(&'static [u8]),
     Event(Box<Handler>),
 }
 

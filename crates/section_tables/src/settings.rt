@@ -89,10 +89,7 @@ fn default_value(alloc: Global, without: Without) -> Result<Value, AllocError>
     ensures { IfOk result (λ value. value_view value ≡ value_default (without_view without)) }
 {
     match without {
-        Without::One(absent) => {
-            let value = default_plain(alloc, absent)?;
-            Ok(Value::One(value))
-        }
+        Without::One(absent) => Ok(Value::One(default_plain(absent))),
         Without::NoNames => Ok(Value::Names(Vec::new(alloc))),
         Without::NoPosts => Ok(Value::Posts(Vec::new(alloc))),
         Without::NoEvents => Ok(Value::Events(Vec::new(alloc))),
