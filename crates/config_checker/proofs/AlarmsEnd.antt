@@ -231,6 +231,7 @@ module _ (plan : PlanView) (bound : ℕ) where
       where
         more : (n moments left : ℕ) → left ≡ suc moments → moments * (n + 1) + n ≤ left * (n + 1)
         more n moments left is = rw is (omega arith)
+
         enough : (n until moment : ℕ) → moment ≤ until → (until - moment) * (n + 1) + n ≤ (until + 1 - moment) * (n + 1)
         enough n until moment h = more n (until - moment) (until + 1 - moment) (omega (arith, h))
 

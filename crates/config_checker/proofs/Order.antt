@@ -49,11 +49,13 @@ module _ (plan : PlanView) where
   -- the handlers of an order are bindings of the plan, so they post only events of the plan
   pub order_below : IsValid plan → (s : Machine) (e : EventId) (order : List BindingId) → IsHandlerOrder plan (handlers_in plan s e) order → IsBelow (length plan.events) (cost_of_handling plan e order)
   order_below valid s e order h =
-      let count = length plan.bindings in
-      (each_below (length plan.events) (cost_of_handler plan) (λ p. p.0 < count)
-      (λ p l. IsBelow-binding plan valid (binding_at plan p.0) (All-get_or (IsBindingWithin plan) plan.bindings p.0 no_binding l valid.bindings)) order
-      (All-permutation (λ p. p.0 < count) (handlers plan e) order h.permutation
-      (All-filter (λ p. takes_part (binding_at plan p.0).owner) (λ p. p.0 < count) (places_of plan e) (places_of-within plan e))), tt)
+      let count = length plan.bindings in (
+        each_below (length plan.events) (cost_of_handler plan) (λ p. p.0 < count)
+            (λ p l. IsBelow-binding plan valid (binding_at plan p.0) (All-get_or (IsBindingWithin plan) plan.bindings p.0 no_binding l valid.bindings)) order
+            (All-permutation (λ p. p.0 < count) (handlers plan e) order h.permutation
+            (All-filter (λ p. takes_part (binding_at plan p.0).owner) (λ p. p.0 < count) (places_of plan e) (places_of-within plan e))),
+        tt,
+      )
 
   -- so an event step is there where an event waits
   pub plan_order-step : (s : Machine) (first : Posted) (rest : List Posted) → s.waiting ≡ first ∷ rest

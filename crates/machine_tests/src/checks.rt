@@ -1,6 +1,8 @@
 //! Small configurations that are checked, from their rows to the texts.
 
-use crate::rows::{SwitchRow, config, fan, name, names, one_switch, silent_entries, small_config, switch_row};
+use crate::rows::{
+    SwitchRow, config, fan, name, names, one_switch, silent_entries, small_config, switch_row,
+};
 use config_checker::{
     CertificateFault, Checked, Fault, Report, check, write_certificate, write_report,
 };

@@ -44,11 +44,7 @@ fn add_posts(
     Ok(())
 }
 
-fn add_players(
-    posts: &mut Vec<Post>,
-    plan: &Plan,
-    section: &Section,
-) -> Result<(), AllocError> {
+fn add_players(posts: &mut Vec<Post>, plan: &Plan, section: &Section) -> Result<(), AllocError> {
     for player in section.event_players() {
         let row = as_event_player(player);
         add_posts(posts, plan, number_of(plan, row.event.text), row.posts)?;

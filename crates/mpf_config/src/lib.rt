@@ -15,7 +15,5 @@ pub use bundle::read_bundle;
 pub use config::{Config, Contact, Content, Debounce, MachineText, Note, NoteKind, Section};
 pub use fault::{ConfigFault, Fault, FaultKind, write_fault};
 pub use notes::write_note;
-pub use section_tables::rows::{
-    Entry, Fields, Guard, Handler, Keyed, Name, Plain, Player, Value,
-};
+pub use section_tables::rows::{Entry, Fields, Guard, Handler, Keyed, Name, Plain, Player, Value};
 pub use typed::{EventPlayer, NameAt, Switch, as_event_player, as_switch};

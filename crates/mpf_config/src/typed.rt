@@ -102,9 +102,13 @@ fn event_name(event: &Plain) -> NameAt<'_>
 
 // The places of the settings in the section's table.
 const TYPE: usize = 0;
+
 const DEBOUNCE: usize = 1;
+
 const TAGS: usize = 2;
+
 const ACTIVATED: usize = 3;
+
 const DEACTIVATED: usize = 4;
 
 const CLOSED: &[u8] = b"NC";
