@@ -1,17 +1,21 @@
 -- A line has no blemish where it is UTF-8 without a forbidden character.
 use Rattle.std.proofs.Common.{◌≡◌, ℕ, zero, suc, ◌+◌, ◌-◌, ◌≤◌, ◌<◌, ltb, Bool, true, false, cond, List, [], ◌∷◌, length, take, drop, get_or, Option, Some, None, refl, sym, ap, subst, ◌∙◌, inl, inr, arith, length-take-le}
 use Rattle.std.specs.Char.{len_utf8}
-use Rattle.std.specs.List.{AllByRecursion}
+use Rattle.std.specs.Prelude.{nat_le, ◌==◌, ◌&&◌}
+use Rattle.std.specs.List.{All, AllByRecursion, list_all}
 use Rattle.std.specs.Str.{IsUtf8, is_utf8, chars, encode_utf8_all}
 use Rattle.std.specs.Str.Lossy.{utf8_valid_len, valid_len_up_to}
 use Rattle.std.proofs.Math.Seq.{take-length}
-use Rattle.std.proofs.lemmas.Bool.{cases_Bool, le-ltb, ltb-false}
+use Rattle.std.proofs.lemmas.Bool.{cases_Bool, or_cases, and_parts, le-ltb, ltb-false, leb-true, lt-leb, eqb-true, ne_eqb}
+use Rattle.std.proofs.lemmas.List.Elements.{All-nil, All-cons}
 use Rattle.std.proofs.lemmas.List.{length-append, at_drop_more}
-use Rattle.std.proofs.lemmas.Str.{IsUtf8-nil, IsUtf8-from_is_utf8, utf8_valid_len_le, utf8_valid_len-IsUtf8, encodes-chars, length-encode, len_utf8_bounds}
+use Rattle.std.proofs.lemmas.Str.Ascii.{IsAscii-from_all}
+use Rattle.std.proofs.lemmas.Str.{chars-IsAscii, IsUtf8-from_ascii, IsUtf8-nil, IsUtf8-from_is_utf8, utf8_valid_len_le, utf8_valid_len-IsUtf8, encodes-chars, length-encode, len_utf8_bounds}
 use Rattle.yaml_subset.specs.declared.place.PlacedFault.{PlacedFault}
 use Rattle.yaml_subset.specs.declared.fault.FaultKind.TheVariants.{NotInSubset, NotUtf8}
 use Rattle.yaml_bytes.specs.Bytes.{is_forbidden}
 use Rattle.yaml_subset.specs.Reading.{forbidden_left, utf8_front, blemish_at}
+use Rattle.yaml_subset.specs.Inside.{is_plain_byte}
 
 -- no character of a text is forbidden
 abbrev pub AreAllowed : List ℕ → Type 0
@@ -112,3 +116,34 @@ unfolding blemish_at
 clean_complete n raw u h =
     let no : ltb (length raw) (length raw) ≡ false = le-ltb (length raw) (length raw) (omega arith) in
     rw (whole_front raw u, allowed_left (chars raw) h, no) refl
+
+-- ---- lines of plain bytes
+
+printed_allowed : (b : ℕ) → 32 ≤ b → b ≤ 126 → is_forbidden b ≡ false
+printed_allowed b least greatest =
+    rw (le-ltb b 32 least, lt-leb 127 b (omega arith), ne_eqb b 65279 (λ e. omega arith), ne_eqb b 65534 (λ e. omega arith), ne_eqb b 65535 (λ e. omega arith)) refl
+
+plain_allowed : (b : ℕ) → is_plain_byte b ≡ true → (b < 128) × (is_forbidden b ≡ false)
+plain_allowed b h =
+    elim (or_cases (nat_le 32 b && nat_le b 126) (b == 9) h) [
+      | inl printed ↦
+          let p = and_parts (nat_le 32 b) (nat_le b 126) printed in
+          let least = leb-true 32 b p.0 in
+          let greatest = leb-true b 126 p.1 in
+          (omega arith, printed_allowed b least greatest)
+      | inr tab ↦ let is = eqb-true b 9 tab in subst (λ x. (x < 128) × (is_forbidden x ≡ false)) (sym is) (omega arith, refl)
+    ]
+
+plain_lines : (raw : List ℕ) → list_all is_plain_byte raw ≡ true → All (λ b. b < 128) raw × AreAllowed raw
+plain_lines [] h = (All-nil (λ b. b < 128), tt)
+plain_lines (b ∷ bs) h =
+    let p = and_parts (is_plain_byte b) (list_all is_plain_byte bs) h in
+    let here = plain_allowed b p.0 in
+    let rest = plain_lines bs p.1 in
+    (All-cons (λ x. x < 128) b bs here.0 rest.0, (here.1, rest.1))
+
+pub plain_clean : (n : ℕ) (raw : List ℕ) → list_all is_plain_byte raw ≡ true → blemish_at n raw ≡ None
+plain_clean n raw h =
+    let plain = plain_lines raw h in
+    let ascii = IsAscii-from_all raw plain.0 in
+    clean_complete n raw (IsUtf8-from_ascii raw ascii) (subst AreAllowed (sym (chars-IsAscii raw ascii)) plain.1)

@@ -1,5 +1,5 @@
 -- What the reader's own contracts see of the values that it passes on.
-use Rattle.std.specs.Prelude.{◌≡◌, ℕ, List, map, drop, Option, Some, None, Result, Ok, Err}
+use Rattle.std.specs.Prelude.{◌≡◌, ℕ, nat_le, ◌==◌, Bool, ◌&&◌, ◌||◌, List, map, drop, Option, Some, None, Result, Ok, Err}
 use Rattle.std.specs.Borrow.{Bor}
 use Rattle.std.specs.BTreeSet.{BTreeSet}
 use Rattle.std.specs.Global.{Vec}
@@ -57,3 +57,7 @@ flow_view r = (node_view r.0, r.1.now)
 
 abbrev pub flow_pair_view : (Key × Tree) × Bor (List ℕ) → Pair × List ℕ
 flow_pair_view r = (pair_view r.0, r.1.now)
+
+-- an ASCII character that every line may have: one that is printed, or a tab
+abbrev pub is_plain_byte : ℕ → Bool
+is_plain_byte b = (nat_le 32 b && nat_le b 126) || (b == 9)

@@ -1,11 +1,12 @@
 //! The lines of a text that have content.
 
 ghost use Rattle.std.specs.Prelude.{◌≡◌, ◌++◌, ◌≤◌, ◌^◌, length, IfOk};
+ghost use Rattle.std.specs.List.{list_all};
 ghost use Rattle.std.specs.Option.{option_to_list};
 ghost use Rattle.std.specs.Str.{chars};
 ghost use Rattle.yaml_bytes.specs.Lines.{lines_of};
 ghost use Rattle.yaml_subset.specs.Reading.{utf8_front, forbidden_left, blemish_at, content_at, contents_from};
-ghost use Rattle.yaml_subset.specs.Inside.{lines_view, line_option_view, GivesOrFaults};
+ghost use Rattle.yaml_subset.specs.Inside.{is_plain_byte, lines_view, line_option_view, GivesOrFaults};
 
 use crate::fault::FaultKind;
 use crate::line::Line;
@@ -44,11 +45,28 @@ fn forbidden_left(text: &str) -> usize
     0
 }
 
+// Whether a byte is an ASCII character that every line may have.
+fn is_plain_byte(b: u8) -> bool
+    ensures { result ≡ is_plain_byte b }
+{
+    (b >= b' ' && b <= b'~') || b == b'\t'
+}
+
+// Whether a line has no other bytes than these, as nearly all lines have.
+fn is_plain(raw: &[u8]) -> bool
+    ensures { result ≡ list_all is_plain_byte raw.now }
+{
+    raw.iter().all(|b| is_plain_byte(*b))
+}
+
 // The first character of a line that none may have, or its first bytes that are not UTF-8.
 #[tactic(auto, unfolding(crate::specs::Reading::blemish_at))]
 fn blemish(number: u32, raw: &[u8]) -> Option<PlacedFault>
     ensures { result ≡ blemish_at number raw.now }
 {
+    if is_plain(raw) {
+        return None;
+    }
     let front = utf8_front(raw);
     let behind = raw.len() - front.len();
     let left = forbidden_left(front);
