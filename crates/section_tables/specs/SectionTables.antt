@@ -1,4 +1,4 @@
--- The tables of the sections: what settings each has, in the order in which their faults are found and their names numbered.
+-- The tables of the sections: what settings each has. The order decides which of several missing settings is reported.
 use Rattle.std.specs.Prelude.{ℕ, if◌then◌else◌, List, [], ◌∷◌, Option, Some, None, codes}
 use Rattle.std.specs.Str.{bytes_eq}
 use Rattle.section_tables.specs.Rows.{word, one, names, posts}

@@ -5,7 +5,7 @@
 //! for a section that is one entry itself, and [`players`] for sections whose keys are events.
 #![tactic(auto)]
 
-pub mod each;
+mod each;
 pub mod fault;
 mod fields;
 mod handling;

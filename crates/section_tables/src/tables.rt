@@ -1,5 +1,5 @@
-//! The tables of the sections: what settings each has, in the order in which their faults are
-//! found and their names numbered.
+//! The tables of the sections: what settings each has. The order decides which of several missing
+//! settings is reported.
 
 ghost use Rattle.std.specs.Prelude.{◌≡◌};
 ghost use Rattle.yaml_subset.specs.View.{option_slice};
