@@ -13,26 +13,26 @@ use Rattle.mpf_plan.specs.declared.entries.Binding.{Binding}
 
 pub data Cost : Type 0 where
   Lines : (n : ℕ) → Cost
-  Weight : (e : ℕ) → Cost
+  Weight : (e : EventId) → Cost
   Both : (a b : Cost) → Cost
   Greater : (a b : Cost) → Cost
 
 -- the price of a cost where the event e weighs w e: a line is 1
-abbrev pub price : (ℕ → ℕ) → Cost → ℕ
+abbrev pub price : (EventId → ℕ) → Cost → ℕ
 price w (Lines n) = n
 price w (Weight e) = w e
 price w (Both a b) = price w a + price w b
 price w (Greater a b) = max (price w a) (price w b)
 
 -- whether the weight of e is in the cost
-abbrev pub mentions : ℕ → Cost → Bool
+abbrev pub mentions : EventId → Cost → Bool
 mentions e (Lines n) = false
-mentions e (Weight f) = e == f
+mentions e (Weight f) = e.0 == f.0
 mentions e (Both a b) = mentions e a || mentions e b
 mentions e (Greater a b) = mentions e a || mentions e b
 
 -- whether p holds of each event whose weight is in the cost
-abbrev pub all_mentioned : (ℕ → Bool) → Cost → Bool
+abbrev pub all_mentioned : (EventId → Bool) → Cost → Bool
 all_mentioned p (Lines n) = true
 all_mentioned p (Weight e) = p e
 all_mentioned p (Both a b) = all_mentioned p a && all_mentioned p b
@@ -50,7 +50,7 @@ dearest_of cost (x ∷ xs) = Greater (cost x) (dearest_of cost xs)
 
 -- a post costs the weight of its event
 abbrev pub cost_of_post : EventId → Cost
-cost_of_post e = Weight e.0
+cost_of_post e = Weight e
 
 abbrev pub cost_of_action : PlanView → Action → Cost
 cost_of_action plan (Post e) = cost_of_post e
@@ -71,9 +71,8 @@ abbrev pub cost_of_work : PlanView → EventId → Cost
 cost_of_work plan e = Lines 0
 
 -- an event costs its line, all that is bound to it, and the machine's work
-abbrev pub cost_of_event : PlanView → ℕ → Cost
-cost_of_event plan e =
-    Both (Lines 1) (Both (each_of (cost_of_binding plan) (bound_to plan (record { 0 = e }))) (cost_of_work plan (record { 0 = e })))
+abbrev pub cost_of_event : PlanView → EventId → Cost
+cost_of_event plan e = Both (Lines 1) (Both (each_of (cost_of_binding plan) (bound_to plan e)) (cost_of_work plan e))
 
 -- to accept a switch as active or inactive costs its line and its posts
 abbrev pub cost_of_acceptance : PlanView → SwitchId → Bool → Cost

@@ -1,24 +1,25 @@
 -- Which plans have weights at all: those in which no events lead to each other.
-use Rattle.std.specs.Prelude.{◌≡◌, ℕ, ◌<◌, true, false, List, length}
+use Rattle.std.specs.Prelude.{◌≡◌, ◌<◌, true, false, List, length}
 use Rattle.std.specs.List.{All}
 use Rattle.mpf_plan.specs.PlanView.{PlanView}
 use Rattle.mpf_plan.specs.Valid.{IsValid}
+use Rattle.mpf_plan.specs.declared.entries.EventId.{EventId}
 use Rattle.cascade_rank.specs.Weights.{IsLeastFitting}
 use Rattle.cascade_rank.specs.LeadsTo.{is_open, IsCycle, HasNoFit}
 use Rattle.cascade_rank.specs.Ranks.{ranks}
 
 -- where events lead to each other, no weights fit
 abbrev pub CycleHasNoFit : Type 0
-CycleHasNoFit = (plan : PlanView) (events : List ℕ) → IsCycle plan events → HasNoFit plan
+CycleHasNoFit = (plan : PlanView) (events : List EventId) → IsCycle plan events → HasNoFit plan
 
 -- where an event of the plan is not grounded, there are events that lead to each other
 abbrev pub OpenHasCycle : Type 0
-OpenHasCycle = (plan : PlanView) → IsValid plan → (e : ℕ) → e < length plan.events → is_open plan e ≡ true → (events : List ℕ) × IsCycle plan events
+OpenHasCycle = (plan : PlanView) → IsValid plan → (e : EventId) → e.0 < length plan.events → is_open plan e ≡ true → (events : List EventId) × IsCycle plan events
 
 -- and of events that lead to each other none is grounded
 abbrev pub CycleIsOpen : Type 0
-CycleIsOpen = (plan : PlanView) (events : List ℕ) → IsCycle plan events → All (λ e. is_open plan e ≡ true) events
+CycleIsOpen = (plan : PlanView) (events : List EventId) → IsCycle plan events → All (λ e. is_open plan e ≡ true) events
 
 -- where all are grounded, the ranks are the least weights that fit
 abbrev pub GroundedHasLeast : Type 0
-GroundedHasLeast = (plan : PlanView) → IsValid plan → ((e : ℕ) → e < length plan.events → is_open plan e ≡ false) → IsLeastFitting plan (ranks plan)
+GroundedHasLeast = (plan : PlanView) → IsValid plan → ((e : EventId) → e.0 < length plan.events → is_open plan e ≡ false) → IsLeastFitting plan (ranks plan)

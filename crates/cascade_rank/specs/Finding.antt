@@ -1,7 +1,9 @@
 -- What is found of a plan, and of weights.
-use Rattle.std.specs.Prelude.{ℕ, ◌==◌, nat_lt, nat_le, Bool, ◌&&◌, if◌then◌else◌, Option, Some, None, List, length, slice_index, Result, Ok, Err}
+use Rattle.std.specs.Prelude.{ℕ, ◌==◌, nat_lt, nat_le, Bool, ◌&&◌, if◌then◌else◌, Option, Some, None, List, length, Result, Ok, Err}
 use Rattle.std.specs.List.{list_all}
 use Rattle.mpf_plan.specs.PlanView.{PlanView}
+use Rattle.mpf_plan.specs.declared.entries.EventId.{EventId}
+use Rattle.cascade_rank.specs.Events.{weight_of}
 use Rattle.cascade_rank.specs.Weights.{need, bound_of, greatest}
 use Rattle.cascade_rank.specs.Ranks.{ranks}
 use Rattle.cascade_rank.specs.Cycle.{first_event, first_open, cycle_of}
@@ -9,16 +11,16 @@ use Rattle.cascade_rank.specs.Cycle.{first_event, first_open, cycle_of}
 -- why there are no weights, or why these do not serve
 pub data RankView : Type 0 where
   -- these events lead to each other
-  cycle : (events : List ℕ) → RankView
+  cycle : (events : List EventId) → RankView
   -- a weight or the bound is above the limit
   bound_too_large : RankView
   -- the event weighs less than it needs
-  short : (event needed : ℕ) → RankView
+  short : (event : EventId) (needed : ℕ) → RankView
   -- there are not as many weights as events
   wrong_events : RankView
 
 abbrev pub is_within_limit : PlanView → List ℕ → Bool
-is_within_limit plan weights = list_all (λ w. nat_le w greatest) weights && nat_le (bound_of plan (slice_index weights)) greatest
+is_within_limit plan weights = list_all (λ w. nat_le w greatest) weights && nat_le (bound_of plan (weight_of weights)) greatest
 
 -- ---- the least weights
 
@@ -26,7 +28,7 @@ abbrev pub limited : PlanView → List ℕ → Result (List ℕ) RankView
 limited plan weights = if is_within_limit plan weights then Ok weights else Err bound_too_large
 
 -- an event that is not grounded is reported before a weight above the limit
-abbrev pub found_past : PlanView → Option ℕ → Result (List ℕ) RankView
+abbrev pub found_past : PlanView → Option EventId → Result (List ℕ) RankView
 found_past plan (Some e) = Err (cycle (cycle_of plan e))
 found_past plan None = limited plan (ranks plan)
 
@@ -35,16 +37,16 @@ found_at plan = found_past plan (first_open plan)
 
 -- ---- the bound of weights
 
-abbrev pub is_short : PlanView → List ℕ → ℕ → Bool
-is_short plan weights e = nat_lt (slice_index weights e) (need plan (slice_index weights) e)
+abbrev pub is_short : PlanView → List ℕ → EventId → Bool
+is_short plan weights e = nat_lt (weight_of weights e) (need plan (weight_of weights) e)
 
-abbrev pub bounded : PlanView → List ℕ → Result ℕ RankView
-bounded plan weights = if is_within_limit plan weights then Ok (bound_of plan (slice_index weights)) else Err bound_too_large
+abbrev pub limited_bound : PlanView → List ℕ → Result ℕ RankView
+limited_bound plan weights = if is_within_limit plan weights then Ok (bound_of plan (weight_of weights)) else Err bound_too_large
 
 -- the first event that weighs too little is reported before a weight above the limit
-abbrev pub verified_past : PlanView → List ℕ → Option ℕ → Result ℕ RankView
-verified_past plan weights (Some e) = Err (short e (need plan (slice_index weights) e))
-verified_past plan weights None = bounded plan weights
+abbrev pub verified_past : PlanView → List ℕ → Option EventId → Result ℕ RankView
+verified_past plan weights (Some e) = Err (short e (need plan (weight_of weights) e))
+verified_past plan weights None = limited_bound plan weights
 
 unfoldable pub verified_at : PlanView → List ℕ → Result ℕ RankView
 verified_at plan weights = if length weights == length plan.events then verified_past plan weights (first_event plan (is_short plan weights)) else Err wrong_events

@@ -1,35 +1,37 @@
 -- Which events an event leads to, and events that lead to each other without end.
-use Rattle.std.specs.Prelude.{◌≡◌, ℕ, zero, suc, ◌+◌, ◌-◌, ◌<◌, Bool, true, false, not, List, length, slice_index}
+use Rattle.std.specs.Prelude.{◌≡◌, ℕ, zero, suc, ◌+◌, ◌-◌, ◌<◌, Bool, true, false, not, List, length}
 use Rattle.std.specs.List.{All}
 use Rattle.mpf_plan.specs.PlanView.{PlanView}
+use Rattle.mpf_plan.specs.declared.entries.EventId.{EventId}
+use Rattle.cascade_rank.specs.Events.{event_at}
 use Rattle.cascade_rank.specs.Cost.{mentions, all_mentioned, cost_of_event}
 use Rattle.cascade_rank.specs.Weights.{IsFitting}
 
 -- e leads to f where the weight of f is in what e costs
-abbrev pub leads : PlanView → ℕ → ℕ → Bool
+abbrev pub leads : PlanView → EventId → EventId → Bool
 leads plan e f = mentions f (cost_of_event plan e)
 
 -- whether each chain of events that begins with e, each leading to the next, has at most k events
-abbrev pub grounded_in : PlanView → ℕ → ℕ → Bool
+abbrev pub grounded_in : PlanView → ℕ → EventId → Bool
 grounded_in plan zero e = false
 grounded_in plan (suc k) e = all_mentioned (grounded_in plan k) (cost_of_event plan e)
 
 -- whether each such chain ends: in a valid plan, one of more events than the plan has comes back to one of them, and so
 -- can go round for ever
-abbrev pub grounded : PlanView → ℕ → Bool
+abbrev pub grounded : PlanView → EventId → Bool
 grounded plan e = grounded_in plan (length plan.events) e
 
 -- whether one can go on from e without end
-abbrev pub is_open : PlanView → ℕ → Bool
+abbrev pub is_open : PlanView → EventId → Bool
 is_open plan e = not (grounded plan e)
 
 -- events that lead to each other in a ring, in this order
-pub record IsCycle (plan : PlanView) (events : List ℕ) : Type 0 where
+pub record IsCycle (plan : PlanView) (events : List EventId) : Type 0 where
   pub some : 0 < length events
-  pub within : All (λ e. e < length plan.events) events
-  pub next : (i : ℕ) → i + 1 < length events → leads plan (slice_index events i) (slice_index events (i + 1)) ≡ true
-  pub back : leads plan (slice_index events (length events - 1)) (slice_index events 0) ≡ true
+  pub within : All (λ e. e.0 < length plan.events) events
+  pub next : (i : ℕ) → i + 1 < length events → leads plan (event_at events i) (event_at events (i + 1)) ≡ true
+  pub back : leads plan (event_at events (length events - 1)) (event_at events 0) ≡ true
 
 -- no weights fit
 abbrev pub HasNoFit : PlanView → Type 0
-HasNoFit plan = (w : ℕ → ℕ) → ¬ (IsFitting plan w)
+HasNoFit plan = (w : EventId → ℕ) → ¬ (IsFitting plan w)

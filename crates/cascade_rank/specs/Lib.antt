@@ -1,4 +1,5 @@
 pub mod Cost
+pub mod Events
 pub mod Weights
 pub mod LeadsTo
 pub mod Ranks

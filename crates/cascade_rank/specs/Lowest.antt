@@ -1,22 +1,24 @@
 -- The lowest-numbered event of those whose weight is in a cost.
-use Rattle.std.specs.Prelude.{◌≡◌, ℕ, ◌<◌, ◌==◌, true, false, min, Bool, if◌then◌else◌, List, length, slice_index}
+use Rattle.std.specs.Prelude.{◌≡◌, ℕ, ◌<◌, ◌==◌, true, false, min, Bool, if◌then◌else◌, List, length}
 use Rattle.mpf_plan.specs.PlanView.{PlanView}
+use Rattle.mpf_plan.specs.declared.entries.EventId.{EventId}
 use Rattle.cascade_rank.specs.Cost.{Cost, Lines, Weight, Both, Greater, all_mentioned, cost_of_event}
 use Rattle.cascade_rank.specs.LeadsTo.{grounded, is_open}
+use Rattle.cascade_rank.specs.Order.{left_of}
 
--- of those of which p holds, or n where there is none
-abbrev pub lowest : ℕ → (ℕ → Bool) → Cost → ℕ
+-- the least number of those of which p holds, or n where there is none
+abbrev pub lowest : ℕ → (EventId → Bool) → Cost → ℕ
 lowest n p (Lines k) = n
-lowest n p (Weight e) = if p e then e else n
+lowest n p (Weight e) = if p e then e.0 else n
 lowest n p (Both a b) = min (lowest n p a) (lowest n p b)
 lowest n p (Greater a b) = min (lowest n p a) (lowest n p b)
 
 -- each event that is not grounded leads to one
 abbrev pub LeadsOn : PlanView → Type 0
-LeadsOn plan = (e : ℕ) → e < length plan.events → is_open plan e ≡ true → all_mentioned (grounded plan) (cost_of_event plan e) ≡ false
+LeadsOn plan = (e : EventId) → e.0 < length plan.events → is_open plan e ≡ true → all_mentioned (grounded plan) (cost_of_event plan e) ≡ false
 
 -- something is left of the events that are not grounded, and each leads to one
 pub record IsLeft (plan : PlanView) (left : List ℕ) : Type 0 where
   pub count : length left ≡ length plan.events
-  pub grounded_is : (e : ℕ) → e < length plan.events → grounded plan e ≡ (slice_index left e == 0)
+  pub grounded_is : (e : EventId) → e.0 < length plan.events → grounded plan e ≡ (left_of left e == 0)
   pub leads_on : LeadsOn plan

@@ -1,42 +1,44 @@
 -- An order in which each event leads only to events before it.
-use Rattle.std.specs.Prelude.{◌≡◌, ℕ, ◌+◌, ◌<◌, ◌≤◌, Bool, true, false, ◌==◌, nat_lt, if◌then◌else◌, min, List, [], length, take, slice_index, slice_index_or, count_by}
+use Rattle.std.specs.Prelude.{◌≡◌, ℕ, ◌+◌, ◌<◌, ◌≤◌, Bool, true, false, ◌==◌, nat_lt, if◌then◌else◌, min, List, [], length, take, slice_index, count_by}
 use Rattle.std.specs.List.{list_any}
 use Rattle.mpf_plan.specs.PlanView.{PlanView}
 use Rattle.mpf_plan.specs.declared.entries.EventId.{EventId}
+use Rattle.cascade_rank.specs.Events.{event_at, weight_of}
 use Rattle.cascade_rank.specs.Ranks.{rank}
 use Rattle.cascade_rank.specs.Cost.{Cost, Lines, Weight, Both, Greater, all_mentioned, cost_of_event}
 
 -- how often a weight of which p does not hold is in the cost
-abbrev pub unmet : (ℕ → Bool) → Cost → ℕ
+abbrev pub unmet : (EventId → Bool) → Cost → ℕ
 unmet p (Lines n) = 0
 unmet p (Weight e) = if p e then 0 else 1
 unmet p (Both a b) = unmet p a + unmet p b
 unmet p (Greater a b) = unmet p a + unmet p b
 
 -- how often the weight of e is in the cost
-abbrev pub occurrences : ℕ → Cost → ℕ
+abbrev pub occurrences : EventId → Cost → ℕ
 occurrences e (Lines n) = 0
-occurrences e (Weight f) = if e == f then 1 else 0
+occurrences e (Weight f) = if e.0 == f.0 then 1 else 0
 occurrences e (Both a b) = occurrences e a + occurrences e b
 occurrences e (Greater a b) = occurrences e a + occurrences e b
 
 -- whether e is one of these
-abbrev pub is_in : List EventId → ℕ → Bool
-is_in events e = list_any (λ d. d.0 == e) events
+abbrev pub is_in : List EventId → EventId → Bool
+is_in events e = list_any (λ d. d.0 == e.0) events
 
 -- how often e is among these
-abbrev pub times : List EventId → ℕ → ℕ
-times events e = count_by (λ d. d.0 == e) events
+abbrev pub times : List EventId → EventId → ℕ
+times events e = count_by (λ d. d.0 == e.0) events
 
--- in place of an event where there is none
-abbrev pub no_event : EventId
-no_event = record { 0 = 0 }
+-- how many posts are left of an event, where the counts are in the order of the events' numbers
+abbrev pub left_of : List ℕ → EventId → ℕ
+left_of left e = slice_index left e.0
 
-abbrev pub event_at : List EventId → ℕ → ℕ
-event_at events i = (slice_index_or events i no_event).0
+-- each of these counts is how many posts an event leads to
+abbrev pub CountsPosts : PlanView → List ℕ → Type 0
+CountsPosts plan left = (e : EventId) → e.0 < length plan.events → left_of left e ≡ unmet (λ _. false) (cost_of_event plan e)
 
 -- P holds of those before each of these events, and of that event
-abbrev pub EachAfter : (List EventId → ℕ → Type 0) → List EventId → Type 0
+abbrev pub EachAfter : (List EventId → EventId → Type 0) → List EventId → Type 0
 EachAfter P events = (i : ℕ) → i < length events → P (take i events) (event_at events i)
 
 -- So many events of the order are gone through, and of those that lead to the next one `done`. Of each event `left`
@@ -44,17 +46,17 @@ EachAfter P events = (i : ℕ) → i < length events → P (take i events) (even
 pub record IsOrdering (plan : PlanView) (taken : ℕ) (done : List EventId) (left : List ℕ) (order : List EventId) : Type 0 where
   pub length_is : length left ≡ length plan.events
   pub within : taken ≤ length order
-  pub below : EachAfter (λ before e. e < length plan.events) order
+  pub below : EachAfter (λ before e. e.0 < length plan.events) order
   pub apart : EachAfter (λ before e. is_in before e ≡ false) order
   pub grounds : EachAfter (λ before e. all_mentioned (is_in before) (cost_of_event plan e) ≡ true) order
-  pub left_is : (e : ℕ) → e < length plan.events → slice_index left e + times done e ≡ unmet (is_in (take taken order)) (cost_of_event plan e)
-  pub listed : (e : ℕ) → e < length plan.events → is_in order e ≡ (slice_index left e == 0)
+  pub left_is : (e : EventId) → e.0 < length plan.events → left_of left e + times done e ≡ unmet (is_in (take taken order)) (cost_of_event plan e)
+  pub listed : (e : EventId) → e.0 < length plan.events → is_in order e ≡ (left_of left e == 0)
   pub room : count_by (λ n. nat_lt 0 n) left + length order ≡ length plan.events
 
 -- `leaders` are those that lead to the next event of the order, each as often as it does
 pub record IsMeeting (plan : PlanView) (taken : ℕ) (leaders done : List EventId) (left : List ℕ) (order : List EventId) : Type 0 where
   pub turn : taken < length order
-  pub leaders_are : (e : ℕ) → times leaders e ≡ (if nat_lt e (length plan.events) then occurrences (event_at order taken) (cost_of_event plan e) else 0)
+  pub leaders_are : (e : EventId) → times leaders e ≡ (if nat_lt e.0 (length plan.events) then occurrences (event_at order taken) (cost_of_event plan e) else 0)
   pub ordering : IsOrdering plan taken done left order
 
 abbrev pub CanMeet : List EventId → List ℕ → List EventId → Type 0
@@ -66,12 +68,12 @@ Meets leaders done left order left_then order_then = (plan : PlanView) (taken : 
 
 -- all events of the plan, each after those to which it leads
 pub record IsWholeOrder (plan : PlanView) (order : List EventId) : Type 0 where
-  pub below : EachAfter (λ before e. e < length plan.events) order
+  pub below : EachAfter (λ before e. e.0 < length plan.events) order
   pub grounds : EachAfter (λ before e. all_mentioned (is_in before) (cost_of_event plan e) ≡ true) order
   pub short : length order ≤ length plan.events
-  pub whole : (e : ℕ) → e < length plan.events → is_in order e ≡ true
+  pub whole : (e : EventId) → e.0 < length plan.events → is_in order e ≡ true
 
 -- each event weighs its rank, or 10,001 where that is more
 pub record AreRanks (plan : PlanView) (weights : List ℕ) : Type 0 where
   pub count : length weights ≡ length plan.events
-  pub each : (e : ℕ) → e < length plan.events → slice_index weights e ≡ min 10001 (rank plan e)
+  pub each : (e : EventId) → e.0 < length plan.events → weight_of weights e ≡ min 10001 (rank plan e)

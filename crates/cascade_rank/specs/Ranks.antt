@@ -1,18 +1,19 @@
 -- The least weights, where every event is grounded.
 use Rattle.std.specs.Prelude.{ℕ, zero, suc, List, length, map}
-use Rattle.std.specs.List.{range_with_len}
 use Rattle.mpf_plan.specs.PlanView.{PlanView}
+use Rattle.mpf_plan.specs.declared.entries.EventId.{EventId}
+use Rattle.cascade_rank.specs.Events.{events_of}
 use Rattle.cascade_rank.specs.Weights.{need}
 
 -- nothing at first, and in each later round what the event costs at the weights of the round before
-abbrev pub rank_in : PlanView → ℕ → ℕ → ℕ
+abbrev pub rank_in : PlanView → ℕ → EventId → ℕ
 rank_in plan zero e = 0
 rank_in plan (suc k) e = need plan (rank_in plan k) e
 
 -- after as many rounds as there are events
-abbrev pub rank : PlanView → ℕ → ℕ
+abbrev pub rank : PlanView → EventId → ℕ
 rank plan e = rank_in plan (length plan.events) e
 
 -- the rank of each event, in the order of their numbers
 abbrev pub ranks : PlanView → List ℕ
-ranks plan = map (rank plan) (range_with_len 0 (length plan.events))
+ranks plan = map (rank plan) (events_of plan)

@@ -1,27 +1,29 @@
 -- What it means that weights serve, or do not.
-use Rattle.std.specs.Prelude.{◌≡◌, ◌≢◌, ℕ, ◌<◌, ◌≤◌, List, length, slice_index}
+use Rattle.std.specs.Prelude.{◌≡◌, ◌≢◌, ℕ, ◌<◌, ◌≤◌, List, length}
 use Rattle.mpf_plan.specs.PlanView.{PlanView}
+use Rattle.mpf_plan.specs.declared.entries.EventId.{EventId}
+use Rattle.cascade_rank.specs.Events.{weight_of}
 use Rattle.cascade_rank.specs.Weights.{need, IsFitting, bound_of, IsWithinLimit}
 use Rattle.cascade_rank.specs.Finding.{RankView, cycle, bound_too_large, short, wrong_events}
 
 -- there is a weight for each event, they fit, they are within the limit, and the bound is theirs
 pub record IsVerified (plan : PlanView) (weights : List ℕ) (bound : ℕ) : Type 0 where
   pub count : length weights ≡ length plan.events
-  pub fits : IsFitting plan (slice_index weights)
+  pub fits : IsFitting plan (weight_of weights)
   pub limit : IsWithinLimit plan weights
-  pub bound_is : bound ≡ bound_of plan (slice_index weights)
+  pub bound_is : bound ≡ bound_of plan (weight_of weights)
 
 -- the lowest-numbered event that weighs less than it needs, and what it needs
-pub record IsFirstShort (plan : PlanView) (weights : List ℕ) (event needed : ℕ) : Type 0 where
-  pub within : event < length plan.events
-  pub needed_is : needed ≡ need plan (slice_index weights) event
-  pub short_is : slice_index weights event < needed
-  pub first : (e : ℕ) → e < event → need plan (slice_index weights) e ≤ slice_index weights e
+pub record IsFirstShort (plan : PlanView) (weights : List ℕ) (event : EventId) (needed : ℕ) : Type 0 where
+  pub within : event.0 < length plan.events
+  pub needed_is : needed ≡ need plan (weight_of weights) event
+  pub short_is : weight_of weights event < needed
+  pub first : (e : EventId) → e.0 < event.0 → need plan (weight_of weights) e ≤ weight_of weights e
 
 -- another number of weights than of events is reported before an event that weighs too little, and that before the
 -- limit
 abbrev pub IsUnverified : PlanView → List ℕ → RankView → Type 0
 IsUnverified plan weights (cycle events) = ⊥
-IsUnverified plan weights bound_too_large = (length weights ≡ length plan.events) × IsFitting plan (slice_index weights) × (¬ (IsWithinLimit plan weights))
+IsUnverified plan weights bound_too_large = (length weights ≡ length plan.events) × IsFitting plan (weight_of weights) × (¬ (IsWithinLimit plan weights))
 IsUnverified plan weights (short event needed) = (length weights ≡ length plan.events) × IsFirstShort plan weights event needed
 IsUnverified plan weights wrong_events = length weights ≢ length plan.events

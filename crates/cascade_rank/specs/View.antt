@@ -1,5 +1,5 @@
 -- What contracts see of an answer.
-use Rattle.std.specs.Prelude.{◌≡◌, ℕ, List, map, Option, Some, None, Result, Ok, Err}
+use Rattle.std.specs.Prelude.{◌≡◌, ℕ, List, Option, Some, None, Result, Ok, Err}
 use Rattle.cascade_rank.specs.declared.fault.RankFault.{RankFault}
 use Rattle.cascade_rank.specs.declared.fault.RankFault.TheVariants as faults
 use Rattle.cascade_rank.specs.declared.verdict.Bound.{Bound}
@@ -8,9 +8,9 @@ use Rattle.cascade_rank.specs.Finding.{RankView, cycle, bound_too_large, short, 
 -- what a fault reports of the plan or the weights: a fault of memory reports nothing
 abbrev pub rank_view : RankFault → Option RankView
 rank_view faults.NoMemory = None
-rank_view (faults.Cycle events) = Some (cycle (map (λ e. e.0) events.items))
+rank_view (faults.Cycle events) = Some (cycle events.items)
 rank_view faults.BoundTooLarge = Some bound_too_large
-rank_view (faults.Short event needed) = Some (short event.0 needed)
+rank_view (faults.Short event needed) = Some (short event needed)
 rank_view faults.WrongEvents = Some wrong_events
 
 abbrev pub IfReported : Option RankView → (RankView → Type 0) → Type 0

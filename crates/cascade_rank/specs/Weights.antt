@@ -1,7 +1,9 @@
 -- Weights that bound what each event leads to.
-use Rattle.std.specs.Prelude.{◌≡◌, ℕ, ◌<◌, ◌≤◌, List, length, slice_index}
+use Rattle.std.specs.Prelude.{◌≡◌, ℕ, ◌<◌, ◌≤◌, List, length}
 use Rattle.std.specs.List.{All}
 use Rattle.mpf_plan.specs.PlanView.{PlanView}
+use Rattle.mpf_plan.specs.declared.entries.EventId.{EventId}
+use Rattle.cascade_rank.specs.Events.{weight_of}
 use Rattle.cascade_rank.specs.Cost.{price, cost_of_event, cost_of_stimuli}
 
 -- the greatest weight and the greatest bound that are accepted
@@ -9,24 +11,24 @@ abbrev pub greatest : ℕ
 greatest = 10000
 
 -- what the event e costs at these weights
-abbrev pub need : PlanView → (ℕ → ℕ) → ℕ → ℕ
+abbrev pub need : PlanView → (EventId → ℕ) → EventId → ℕ
 need plan w e = price w (cost_of_event plan e)
 
 -- each event weighs at least what it costs
-abbrev pub IsFitting : PlanView → (ℕ → ℕ) → Type 0
-IsFitting plan w = (e : ℕ) → e < length plan.events → need plan w e ≤ w e
+abbrev pub IsFitting : PlanView → (EventId → ℕ) → Type 0
+IsFitting plan w = (e : EventId) → e.0 < length plan.events → need plan w e ≤ w e
 
 -- the least fitting weights, in the order of the events' numbers
 pub record IsLeastFitting (plan : PlanView) (weights : List ℕ) : Type 0 where
   pub count : length weights ≡ length plan.events
-  pub fits : IsFitting plan (slice_index weights)
-  pub least : (v : ℕ → ℕ) → IsFitting plan v → (e : ℕ) → e < length plan.events → slice_index weights e ≤ v e
+  pub fits : IsFitting plan (weight_of weights)
+  pub least : (v : EventId → ℕ) → IsFitting plan v → (e : EventId) → e.0 < length plan.events → weight_of weights e ≤ v e
 
 -- the price of the dearest stimulus
-abbrev pub bound_of : PlanView → (ℕ → ℕ) → ℕ
+abbrev pub bound_of : PlanView → (EventId → ℕ) → ℕ
 bound_of plan w = price w (cost_of_stimuli plan)
 
 -- no weight and no stimulus is above the limit
 pub record IsWithinLimit (plan : PlanView) (weights : List ℕ) : Type 0 where
   pub weights_within : All (λ w. w ≤ greatest) weights
-  pub bound_within : bound_of plan (slice_index weights) ≤ greatest
+  pub bound_within : bound_of plan (weight_of weights) ≤ greatest

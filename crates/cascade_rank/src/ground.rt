@@ -1,9 +1,8 @@
 //! The order in which events can be weighed: each after those to which it leads.
 
-ghost use Rattle.std.specs.Prelude.{◌≡◌, ℕ, ◌<◌, false, [], length, slice_index, IfOk};
+ghost use Rattle.std.specs.Prelude.{◌≡◌, [], length, IfOk};
 ghost use Rattle.mpf_plan.specs.Valid.{IsValid};
-ghost use Rattle.cascade_rank.specs.Cost.{cost_of_event};
-ghost use Rattle.cascade_rank.specs.Order.{unmet, IsOrdering, CanMeet, Meets};
+ghost use Rattle.cascade_rank.specs.Order.{CountsPosts, IsOrdering, CanMeet, Meets};
 
 use crate::leaders::count_posts;
 use mpf_plan::{EventId, Plan};
@@ -37,7 +36,7 @@ pub(crate) fn ground(alloc: Global, plan: &Plan) -> Result<Grounding, AllocError
 /// The events that lead to none, in the order of their numbers.
 fn first_grounded(alloc: Global, plan: &Plan, left: &[u128]) -> Result<Vec<EventId>, AllocError>
     requires count { length left.now ≡ length plan.now.events }
-    requires left { (e : ℕ) → e < length plan.now.events → slice_index left.now e ≡ unmet (λ _. false) (cost_of_event plan.now e) }
+    requires left { CountsPosts plan.now left.now }
     ensures order { IfOk result (λ order. IsOrdering plan.now 0 [] left.now order.items) }
     ensures valid { IfOk result (λ _. IsValid plan.now) }
 {

@@ -44,7 +44,7 @@ impl Leaders {
     /// One more time `leader` leads to the event.
     fn add(&mut self, event: EventId, leader: EventId) -> Result<(), AllocError>
         requires { event.0 < length self.old }
-        ensures { OnOk result (self.new ≡ slice_set self.old event.0 (leaders_to self.old event.0 ++ leader ∷ [])) }
+        ensures { OnOk result (self.new ≡ slice_set self.old event.0 (leaders_to self.old event ++ leader ∷ [])) }
     {
         self.lists[event.0 as usize].push(leader)?;
         Ok(())
@@ -53,7 +53,7 @@ impl Leaders {
     /// The events that lead to the event.
     pub(crate) fn of(&self, event: EventId) -> &[EventId]
         requires { event.0 < length self.now }
-        ensures { result.now ≡ leaders_to self.now event.0 }
+        ensures { result.now ≡ leaders_to self.now event }
     {
         self.lists[event.0 as usize].as_slice()
     }
@@ -76,8 +76,8 @@ pub(crate) fn count_posts(alloc: Global, plan: &Plan) -> Result<(Leaders, Vec<u1
 fn add_event(leaders: &mut Leaders, plan: &Plan, event: EventId) -> Result<u128, AllocError>
     requires event { event.0 < length plan.now.events }
     requires leaders { length leaders.old ≡ length plan.now.events }
-    ensures leaders { IfOk result (λ _. AddsLeader event.0 (cost_of_event plan.now event.0) leaders.old leaders.new) }
-    ensures posts { IfOk result (λ posts. posts ≡ unmet (λ _. false) (cost_of_event plan.now event.0)) }
+    ensures leaders { IfOk result (λ _. AddsLeader event (cost_of_event plan.now event) leaders.old leaders.new) }
+    ensures posts { IfOk result (λ posts. posts ≡ unmet (λ _. false) (cost_of_event plan.now event)) }
 {
     let mut posts = 0u128;
     for place in plan.bindings_of(event) {
@@ -96,7 +96,7 @@ fn add_target(
 ) -> Result<u128, AllocError>
     requires target { IsTargetWithin plan.now target }
     requires leaders { length leaders.old ≡ length plan.now.events }
-    ensures leaders { IfOk result (λ _. AddsLeader event.0 (cost_of_target plan.now target) leaders.old leaders.new) }
+    ensures leaders { IfOk result (λ _. AddsLeader event (cost_of_target plan.now target) leaders.old leaders.new) }
     ensures posts { IfOk result (λ posts. posts ≡ unmet (λ _. false) (cost_of_target plan.now target)) }
     ensures small { IfOk result (λ posts. posts < 2 ^ 64) }
 {
@@ -113,7 +113,7 @@ fn add_actions(
 ) -> Result<u128, AllocError>
     requires actions { All (IsActionWithin plan.now) actions.now }
     requires leaders { length leaders.old ≡ length plan.now.events }
-    ensures leaders { IfOk result (λ _. AddsLeader event.0 (each_of (cost_of_action plan.now) actions.now) leaders.old leaders.new) }
+    ensures leaders { IfOk result (λ _. AddsLeader event (each_of (cost_of_action plan.now) actions.now) leaders.old leaders.new) }
     ensures posts { IfOk result (λ posts. posts ≡ unmet (λ _. false) (each_of (cost_of_action plan.now) actions.now)) }
     ensures small { IfOk result (λ posts. posts < 2 ^ 64) }
 {
@@ -133,7 +133,7 @@ fn add_action(
 ) -> Result<u128, AllocError>
     requires action { IsActionWithin plan.now action }
     requires leaders { length leaders.old ≡ length plan.now.events }
-    ensures leaders { IfOk result (λ _. AddsLeader event.0 (cost_of_action plan.now action) leaders.old leaders.new) }
+    ensures leaders { IfOk result (λ _. AddsLeader event (cost_of_action plan.now action) leaders.old leaders.new) }
     ensures posts { IfOk result (λ posts. posts ≡ unmet (λ _. false) (cost_of_action plan.now action)) }
     ensures small { IfOk result (λ posts. posts ≤ 1) }
 {

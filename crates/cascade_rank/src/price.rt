@@ -3,9 +3,10 @@
 //! Nothing is cut off: a weight is below 2^32, and a plan has too few bindings for a sum of
 //! their prices to reach 2^111.
 
-ghost use Rattle.std.specs.Prelude.{◌≡◌, ◌^◌, ◌<◌, length, slice_index};
+ghost use Rattle.std.specs.Prelude.{◌≡◌, ◌^◌, ◌<◌, length};
 ghost use Rattle.std.specs.List.{All};
 ghost use Rattle.mpf_plan.specs.Valid.{IsActionWithin, IsTargetWithin, IsBindingWithin, IsEventWithin};
+ghost use Rattle.cascade_rank.specs.Events.{weight_of};
 ghost use Rattle.cascade_rank.specs.Cost.{price, each_of, cost_of_post, cost_of_action, cost_of_list, cost_of_target, cost_of_binding, cost_of_event, cost_of_switch, cost_of_stimuli};
 
 use mpf_plan::{Action, Binding, EventId, ListId, Plan, SwitchId, Target};
@@ -14,7 +15,7 @@ use mpf_plan::{Action, Binding, EventId, ListId, Plan, SwitchId, Target};
 pub(crate) fn need(plan: &Plan, weights: &[u32], event: EventId) -> u128
     requires event { event.0 < length plan.now.events }
     requires weights { length weights.now ≡ length plan.now.events }
-    ensures price { result ≡ price (slice_index weights.now) (cost_of_event plan.now event.0) }
+    ensures price { result ≡ price (weight_of weights.now) (cost_of_event plan.now event) }
     ensures small { result < 2 ^ 111 }
 {
     let mut total = 1u128;
@@ -28,7 +29,7 @@ pub(crate) fn need(plan: &Plan, weights: &[u32], event: EventId) -> u128
 fn price_of_binding(plan: &Plan, weights: &[u32], binding: Binding) -> u128
     requires binding { IsBindingWithin plan.now binding }
     requires weights { length weights.now ≡ length plan.now.events }
-    ensures price { result ≡ price (slice_index weights.now) (cost_of_binding plan.now binding) }
+    ensures price { result ≡ price (weight_of weights.now) (cost_of_binding plan.now binding) }
     ensures small { result < 2 ^ 96 }
 {
     price_of_target(plan, weights, binding.target)
@@ -37,7 +38,7 @@ fn price_of_binding(plan: &Plan, weights: &[u32], binding: Binding) -> u128
 fn price_of_target(plan: &Plan, weights: &[u32], target: Target) -> u128
     requires target { IsTargetWithin plan.now target }
     requires weights { length weights.now ≡ length plan.now.events }
-    ensures price { result ≡ price (slice_index weights.now) (cost_of_target plan.now target) }
+    ensures price { result ≡ price (weight_of weights.now) (cost_of_target plan.now target) }
     ensures small { result < 2 ^ 96 }
 {
     match target {
@@ -48,7 +49,7 @@ fn price_of_target(plan: &Plan, weights: &[u32], target: Target) -> u128
 fn price_of_list(plan: &Plan, weights: &[u32], list: ListId) -> u128
     requires list { list.0 < length plan.now.lists }
     requires weights { length weights.now ≡ length plan.now.events }
-    ensures price { result ≡ price (slice_index weights.now) (cost_of_list plan.now list) }
+    ensures price { result ≡ price (weight_of weights.now) (cost_of_list plan.now list) }
     ensures small { result < 2 ^ 96 }
 {
     price_of_actions(plan, weights, plan.list(list))
@@ -57,7 +58,7 @@ fn price_of_list(plan: &Plan, weights: &[u32], list: ListId) -> u128
 fn price_of_actions(plan: &Plan, weights: &[u32], actions: &[Action]) -> u128
     requires actions { All (IsActionWithin plan.now) actions.now }
     requires weights { length weights.now ≡ length plan.now.events }
-    ensures price { result ≡ price (slice_index weights.now) (each_of (cost_of_action plan.now) actions.now) }
+    ensures price { result ≡ price (weight_of weights.now) (each_of (cost_of_action plan.now) actions.now) }
     ensures small { result < 2 ^ 96 }
 {
     let mut total = 0u128;
@@ -70,7 +71,7 @@ fn price_of_actions(plan: &Plan, weights: &[u32], actions: &[Action]) -> u128
 fn price_of_action(plan: &Plan, weights: &[u32], action: Action) -> u128
     requires action { IsActionWithin plan.now action }
     requires weights { length weights.now ≡ length plan.now.events }
-    ensures price { result ≡ price (slice_index weights.now) (cost_of_action plan.now action) }
+    ensures price { result ≡ price (weight_of weights.now) (cost_of_action plan.now action) }
     ensures small { result < 2 ^ 32 }
 {
     match action {
@@ -80,7 +81,7 @@ fn price_of_action(plan: &Plan, weights: &[u32], action: Action) -> u128
 
 fn price_of_post(weights: &[u32], event: EventId) -> u128
     requires { IsEventWithin (length weights.now) event }
-    ensures price { result ≡ price (slice_index weights.now) (cost_of_post event) }
+    ensures price { result ≡ price (weight_of weights.now) (cost_of_post event) }
     ensures small { result < 2 ^ 32 }
 {
     u128::from(weights[event.0 as usize])
@@ -89,7 +90,7 @@ fn price_of_post(weights: &[u32], event: EventId) -> u128
 /// What the dearest stimulus costs.
 pub(crate) fn bound_of(plan: &Plan, weights: &[u32]) -> u128
     requires { length weights.now ≡ length plan.now.events }
-    ensures { result ≡ price (slice_index weights.now) (cost_of_stimuli plan.now) }
+    ensures { result ≡ price (weight_of weights.now) (cost_of_stimuli plan.now) }
 {
     let mut bound = 0u128;
     for number in 0..plan.switch_count() {
@@ -102,7 +103,7 @@ pub(crate) fn bound_of(plan: &Plan, weights: &[u32]) -> u128
 fn price_of_switch(plan: &Plan, weights: &[u32], switch: SwitchId) -> u128
     requires switch { switch.0 < length plan.now.switches }
     requires weights { length weights.now ≡ length plan.now.events }
-    ensures { result ≡ price (slice_index weights.now) (cost_of_switch plan.now switch) }
+    ensures { result ≡ price (weight_of weights.now) (cost_of_switch plan.now switch) }
 {
     let active = price_of_posts(weights, plan.posts(switch, true));
     let inactive = price_of_posts(weights, plan.posts(switch, false));
@@ -111,7 +112,7 @@ fn price_of_switch(plan: &Plan, weights: &[u32], switch: SwitchId) -> u128
 
 fn price_of_posts(weights: &[u32], posts: &[EventId]) -> u128
     requires { All (IsEventWithin (length weights.now)) posts.now }
-    ensures price { result ≡ price (slice_index weights.now) (each_of cost_of_post posts.now) }
+    ensures price { result ≡ price (weight_of weights.now) (each_of cost_of_post posts.now) }
     ensures small { result < 2 ^ 96 }
 {
     let mut total = 0u128;

@@ -1,7 +1,8 @@
 //! Whether weights bound what each event leads to.
 
-ghost use Rattle.std.specs.Prelude.{◌≡◌, nat_le, length, slice_index, IfOk, IfErr, IfSome, IfNone};
+ghost use Rattle.std.specs.Prelude.{◌≡◌, nat_le, length, IfOk, IfErr, IfSome, IfNone};
 ghost use Rattle.std.specs.List.{list_all};
+ghost use Rattle.cascade_rank.specs.Events.{weight_of};
 ghost use Rattle.cascade_rank.specs.Weights.{IsFitting, bound_of, IsWithinLimit, greatest};
 ghost use Rattle.cascade_rank.specs.Finding.{verified_at};
 ghost use Rattle.cascade_rank.specs.View.{GivesBound, IfRank};
@@ -44,8 +45,8 @@ pub fn verify(plan: &Plan, weights: &Weights) -> Result<Bound, RankFault>
 /// The lowest-numbered event that weighs less than it needs, and what it needs, if there is one.
 fn first_short(plan: &Plan, weights: &[u32]) -> Option<(EventId, u128)>
     requires { length weights.now ≡ length plan.now.events }
-    ensures short { IfSome result (λ found. IsFirstShort plan.now weights.now found.0.0 found.1) }
-    ensures fits { IfNone result (IsFitting plan.now (slice_index weights.now)) }
+    ensures short { IfSome result (λ found. IsFirstShort plan.now weights.now found.0 found.1) }
+    ensures fits { IfNone result (IsFitting plan.now (weight_of weights.now)) }
 {
     for number in 0..plan.event_count() {
         let event = EventId(number as u16);
@@ -60,7 +61,7 @@ fn first_short(plan: &Plan, weights: &[u32]) -> Option<(EventId, u128)>
 /// The bound of weights, or none where it or a weight is above the limit.
 pub(crate) fn limited_bound(plan: &Plan, weights: &[u32]) -> Option<Bound>
     requires { length weights.now ≡ length plan.now.events }
-    ensures within { IfSome result (λ bound. IsWithinLimit plan.now weights.now × (bound.0 ≡ bound_of plan.now (slice_index weights.now))) }
+    ensures within { IfSome result (λ bound. IsWithinLimit plan.now weights.now × (bound.0 ≡ bound_of plan.now (weight_of weights.now))) }
     ensures above { IfNone result (¬ (IsWithinLimit plan.now weights.now)) }
 {
     let bound = bound_of(plan, weights);

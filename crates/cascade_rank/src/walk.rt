@@ -1,12 +1,13 @@
 //! The walk along events that are not grounded.
 
-ghost use Rattle.std.specs.Prelude.{◌≡◌, ℕ, ◌<◌, ◌==◌, true, not, nat_lt, length, map, position, option_map, slice_index, IfOk};
+ghost use Rattle.std.specs.Prelude.{◌≡◌, ◌<◌, ◌==◌, nat_lt, length, position, IfOk};
 ghost use Rattle.std.specs.List.{All};
 ghost use Rattle.mpf_plan.specs.Valid.{IsActionWithin, IsTargetWithin};
 ghost use Rattle.cascade_rank.specs.Cost.{each_of, cost_of_action, cost_of_target};
 ghost use Rattle.cascade_rank.specs.LeadsTo.{is_open, IsCycle};
 ghost use Rattle.cascade_rank.specs.Cycle.{IsFirst, IsReportedCycle, next_open, from_first, cycle_of};
 ghost use Rattle.cascade_rank.specs.Lowest.{lowest, IsLeft};
+ghost use Rattle.cascade_rank.specs.Order.{left_of};
 
 use mpf_plan::{Action, EventId, Plan, Target};
 use std::alloc::{AllocError, Global};
@@ -28,10 +29,10 @@ pub(crate) fn walk(
 ) -> Result<Vec<EventId>, AllocError>
     requires left { IsLeft plan.now left.now }
     requires within { start.0 < length plan.now.events }
-    requires first { IsFirst (is_open plan.now) start.0 }
-    ensures cycle { IfOk result (λ cycle. map (λ e. e.0) cycle.items ≡ cycle_of plan.now start.0) }
-    ensures reported { IfOk result (λ cycle. IsReportedCycle plan.now (map (λ e. e.0) cycle.items)) }
-    ensures is_one { IfOk result (λ cycle. IsCycle plan.now (map (λ e. e.0) cycle.items)) }
+    requires first { IsFirst (is_open plan.now) start }
+    ensures cycle { IfOk result (λ cycle. cycle.items ≡ cycle_of plan.now start) }
+    ensures reported { IfOk result (λ cycle. IsReportedCycle plan.now cycle.items) }
+    ensures is_one { IfOk result (λ cycle. IsCycle plan.now cycle.items) }
 {
     let mut passed = vec![in alloc; false; plan.event_count()]?;
     let mut path = Vec::new(alloc);
@@ -46,7 +47,7 @@ pub(crate) fn walk(
 
 /// The path from the first coming of the event on.
 fn part_from(alloc: Global, path: &[EventId], event: EventId) -> Result<Vec<EventId>, AllocError>
-    ensures { IfOk result (λ part. map (λ e. e.0) part.items ≡ from_first event.0 (map (λ e. e.0) path.now)) }
+    ensures { IfOk result (λ part. part.items ≡ from_first event path.now) }
 {
     let place = place_of(path, event).unwrap_or(path.len());
     Vec::from_slice(alloc, &path[place..])
@@ -63,7 +64,7 @@ fn place_of(path: &[EventId], event: EventId) -> Option<usize>
 fn next(plan: &Plan, left: &[u128], event: EventId) -> EventId
     requires left { IsLeft plan.now left.now }
     requires within { event.0 < length plan.now.events }
-    ensures { result.0 ≡ next_open plan.now event.0 }
+    ensures { result ≡ next_open plan.now event }
 {
     let mut lowest = plan.event_count() as u16;
     for place in plan.bindings_of(event) {
@@ -78,7 +79,7 @@ fn lowest_of_target(plan: &Plan, left: &[u128], target: Target) -> u16
     requires target { IsTargetWithin plan.now target }
     requires left { length left.now ≡ length plan.now.events }
     requires small { length left.now < 65536 }
-    ensures { result ≡ lowest (length left.now) (λ e. nat_lt 0 (slice_index left.now e)) (cost_of_target plan.now target) }
+    ensures { result ≡ lowest (length left.now) (λ e. nat_lt 0 (left_of left.now e)) (cost_of_target plan.now target) }
 {
     match target {
         Target::Run(list) => lowest_of_actions(plan, left, plan.list(list)),
@@ -89,7 +90,7 @@ fn lowest_of_actions(plan: &Plan, left: &[u128], actions: &[Action]) -> u16
     requires actions { All (IsActionWithin plan.now) actions.now }
     requires left { length left.now ≡ length plan.now.events }
     requires small { length left.now < 65536 }
-    ensures { result ≡ lowest (length left.now) (λ e. nat_lt 0 (slice_index left.now e)) (each_of (cost_of_action plan.now) actions.now) }
+    ensures { result ≡ lowest (length left.now) (λ e. nat_lt 0 (left_of left.now e)) (each_of (cost_of_action plan.now) actions.now) }
 {
     let mut lowest = left.len() as u16;
     for action in actions {
@@ -102,7 +103,7 @@ fn lowest_of_action(plan: &Plan, left: &[u128], action: Action) -> u16
     requires action { IsActionWithin plan.now action }
     requires left { length left.now ≡ length plan.now.events }
     requires small { length left.now < 65536 }
-    ensures { result ≡ lowest (length left.now) (λ e. nat_lt 0 (slice_index left.now e)) (cost_of_action plan.now action) }
+    ensures { result ≡ lowest (length left.now) (λ e. nat_lt 0 (left_of left.now e)) (cost_of_action plan.now action) }
 {
     match action {
         Action::Post(event) if left[event.0 as usize] > 0 => event.0,

@@ -20,7 +20,7 @@ use Rattle.switch_core.proofs.DueMoments.{changes_arm_later, accept-due, accept-
 use Rattle.config_checker.specs.declared.line.Line.{Line}
 use Rattle.config_checker.specs.declared.line.Happening.TheVariants as lines
 use Rattle.config_checker.specs.Machine.{Machine, write, post, set_switches, all_do, do_action, do_target, do_binding, do_handler, do_accepted, do_if_accepted, initial}
-use Rattle.config_checker.specs.EventStep.{EventStep, EventSteps, handled_in}
+use Rattle.config_checker.specs.EventStep.{EventStep, EventSteps, before_handlers}
 use Rattle.config_checker.specs.PlanOrder.{settled}
 use Rattle.config_checker.specs.Run.{Source, switch, source_due, IsNothingLate, Stimulus, Change, Alarm, Wait, moment_of, IsAllowed, arrived, begin, IsRun}
 use Rattle.config_checker.proofs.Does.{moment-does, kinds-does, states-does}
@@ -48,7 +48,7 @@ module _ (plan : PlanView) where
 
   pub switches-step : (s t : Machine) → EventStep plan s t → t.switches ≡ s.switches
   switches-step s t st =
-      ap (λ (m : Machine). m.switches) st.new_is ∙ switches-all_do (do_handler plan) switches-handler st.order (handled_in plan st.first st.rest s)
+      ap (λ (m : Machine). m.switches) st.new_is ∙ switches-all_do (do_handler plan) switches-handler st.order (before_handlers plan st.first st.rest s)
 
   pub switches-steps : (n : ℕ) (s t : Machine) → EventSteps plan n s t → t.switches ≡ s.switches
   switches-steps zero s t is = ap (λ (m : Machine). m.switches) is

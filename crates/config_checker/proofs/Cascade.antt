@@ -18,7 +18,7 @@ use Rattle.cascade_rank.proofs.Switches.{acceptance-within_bound}
 use Rattle.event_queue.specs.declared.queue.Posted.{Posted}
 use Rattle.event_queue.specs.PlanOrder.{by_priority}
 use Rattle.config_checker.specs.Machine.{Machine, initial}
-use Rattle.config_checker.specs.EventStep.{handled_in, handlers_in, EventStep, EventSteps, after_event}
+use Rattle.config_checker.specs.EventStep.{before_handlers, handlers_in, EventStep, EventSteps, after_event}
 use Rattle.config_checker.specs.Run.{switch, Stimulus, Change, Alarm, Wait, IsAllowed, begin, IsRun, InEveryRun}
 use Rattle.config_checker.specs.GoodRun.{cost_if_accepted, cost_of_stimulus, weigh, IsGood}
 use Rattle.config_checker.specs.CheckedView.{CheckedView}
@@ -100,7 +100,7 @@ module _ (plan : PlanView) (valid : IsValid plan) (w : ℕ → ℕ) (fits : IsFi
       let front : AllByRecursion (λ p. p.event.0 < length plan.events) (st.first ∷ st.rest) = subst (AllByRecursion (λ p. p.event.0 < length plan.events)) st.waiting h in
       let fit = fits st.first.event.0 front.0 in
       let grown = potential-does w (does-event plan st.first st.rest st.order s) in
-      let paid = order_cost plan w (handled_in plan st.first st.rest s) st.first.event st.order st.in_order in
+      let paid = order_cost plan w (before_handlers plan st.first st.rest s) st.first.event st.order st.in_order in
       let line = length-append s.lines (record { moment = s.moment; owner = st.first.owner; happening = lines.Event st.first.event } ∷ []) in
       let weighs = ap (weigh w) st.waiting in
       let is = ap (potential w) st.new_is in
@@ -158,7 +158,7 @@ fitting-is_good c valid fits bound =
           let heavy = waiting-weigh plan valid w fits s.waiting here in
           omega (arith, most, heavy, bound);
       goes_on = λ stimuli trace s run first rest is.
-          (after_event plan first rest (by_priority plan (handlers_in plan (handled_in plan first rest s) first.event)) s, plan_order-step plan s first rest is);
+          (after_event plan first rest (by_priority plan (handlers_in plan (before_handlers plan first rest s) first.event)) s, plan_order-step plan s first rest is);
       ends = λ stimuli trace s run empty stimulus allowed n t steps.
           let here = waits-run plan valid stimuli trace s run in
           let switches = has_switches-run plan stimuli (initial plan) trace s run (has_switches-initial plan) in

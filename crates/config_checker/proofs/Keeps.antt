@@ -8,7 +8,7 @@ use Rattle.cascade_rank.specs.Cost.{Cost}
 use Rattle.cascade_rank.specs.Below.{IsBelow}
 use Rattle.event_queue.specs.declared.queue.Posted.{Posted}
 use Rattle.config_checker.specs.Machine.{Machine}
-use Rattle.config_checker.specs.EventStep.{handled_in, EventStep, EventSteps}
+use Rattle.config_checker.specs.EventStep.{before_handlers, EventStep, EventSteps}
 use Rattle.config_checker.specs.Run.{Stimulus, IsAllowed, begin, IsRun}
 use Rattle.config_checker.proofs.Does.{Does, wrote}
 use Rattle.config_checker.proofs.Parts.{does-event}
@@ -25,7 +25,7 @@ module _ (plan : PlanView) (valid : IsValid plan) (Inv : Machine → Type 0)
   step-keeps s t st h =
       let gone = drops st.first st.rest s st.waiting h in
       let written = moves _ _ _ (wrote st.first.owner (lines.Event st.first.event) (dropped st.rest s)) tt gone in
-      let handled = moves _ _ _ (does-event plan st.first st.rest st.order s) (order_below plan valid (handled_in plan st.first st.rest s) st.first.event st.order st.in_order) written in
+      let handled = moves _ _ _ (does-event plan st.first st.rest st.order s) (order_below plan valid (before_handlers plan st.first st.rest s) st.first.event st.order st.in_order) written in
       subst Inv (sym st.new_is) handled
 
   pub steps-keep : (n : ℕ) (s t : Machine) → EventSteps plan n s t → Inv s → Inv t

@@ -19,7 +19,7 @@ use Rattle.event_queue.specs.Handlers.{takes_part, handlers, IsHandlerOrder}
 use Rattle.event_queue.specs.PlanOrder.{by_priority}
 use Rattle.event_queue.proofs.Sort.{by_priority-is_order}
 use Rattle.config_checker.specs.Machine.{Machine}
-use Rattle.config_checker.specs.EventStep.{handled_in, handlers_in, EventStep, after_event}
+use Rattle.config_checker.specs.EventStep.{before_handlers, handlers_in, EventStep, after_event}
 use Rattle.config_checker.proofs.Parts.{cost_of_handler, cost_of_handling}
 
 each_of-map : {X Y : Type 0} (f : Y → Cost) (g : X → Y) (xs : List X) (w : ℕ → ℕ) → price w (each_of f (map g xs)) ≡ price w (each_of (λ x. f (g x)) xs)
@@ -59,12 +59,12 @@ module _ (plan : PlanView) where
 
   -- so an event step is there where an event waits
   pub plan_order-step : (s : Machine) (first : Posted) (rest : List Posted) → s.waiting ≡ first ∷ rest
-      → EventStep plan s (after_event plan first rest (by_priority plan (handlers_in plan (handled_in plan first rest s) first.event)) s)
+      → EventStep plan s (after_event plan first rest (by_priority plan (handlers_in plan (before_handlers plan first rest s) first.event)) s)
   plan_order-step s first rest waits = record {
     first = first;
     rest = rest;
     waiting = waits;
-    order = by_priority plan (handlers_in plan (handled_in plan first rest s) first.event);
-    in_order = by_priority-is_order plan (handlers_in plan (handled_in plan first rest s) first.event);
+    order = by_priority plan (handlers_in plan (before_handlers plan first rest s) first.event);
+    in_order = by_priority-is_order plan (handlers_in plan (before_handlers plan first rest s) first.event);
     new_is = refl;
   }

@@ -19,7 +19,7 @@ use Rattle.config_checker.specs.declared.line.Happening.TheVariants as lines
 use Rattle.cascade_rank.specs.Cost.{Cost, Both, each_of, cost_of_post, cost_of_action, cost_of_list, cost_of_target, cost_of_binding, cost_of_work, cost_of_acceptance}
 use Rattle.event_queue.specs.declared.queue.Posted.{Posted}
 use Rattle.config_checker.specs.Machine.{Machine, write, post, set_switches, all_do, do_action, do_list, do_target, do_binding, do_handler, do_accepted, do_if_accepted, change_switch}
-use Rattle.config_checker.specs.EventStep.{taken, work_after, handled_in, after_event}
+use Rattle.config_checker.specs.EventStep.{taken, work_after, before_handlers, after_event}
 use Rattle.config_checker.specs.Run.{Source, switch, Stimulus, Change, Alarm, Wait, moment_of, arrived, fire, begin}
 use Rattle.config_checker.specs.GoodRun.{cost_if_accepted, cost_of_alarm, cost_of_stimulus}
 use Rattle.config_checker.proofs.Does.{Does, quiet, wrote, posted, switched, both, all_do-does}
@@ -59,7 +59,7 @@ module _ (plan : PlanView) where
   cost_of_handling e order = Both (each_of cost_of_handler order) (cost_of_work plan e)
 
   pub does-event : (first : Posted) (rest : List Posted) (order : List BindingId) (s : Machine) → Does (cost_of_handling first.event order) (taken first rest s) (after_event plan first rest order s)
-  does-event first rest order s = both (does-handlers order (handled_in plan first rest s)) (does-work first.event _)
+  does-event first rest order s = both (does-handlers order (before_handlers plan first rest s)) (does-work first.event _)
 
   -- ---- switches
 

@@ -7,7 +7,7 @@ use Rattle.config_checker.specs.declared.line.Line.{Line}
 use Rattle.event_queue.specs.declared.queue.Posted.{Posted}
 use Rattle.event_queue.specs.PlanOrder.{by_priority}
 use Rattle.config_checker.specs.Machine.{Machine, initial}
-use Rattle.config_checker.specs.EventStep.{handled_in, handlers_in, EventStep, EventSteps, after_event}
+use Rattle.config_checker.specs.EventStep.{before_handlers, handlers_in, EventStep, EventSteps, after_event}
 use Rattle.config_checker.specs.PlanOrder.{plan_step_from, plan_step, plan_steps}
 use Rattle.config_checker.specs.Run.{Stimulus, IsAllowed, begin, IsRun}
 use Rattle.config_checker.specs.GoodRun.{IsGood}
@@ -24,7 +24,7 @@ module _ (plan : PlanView) where
   plan_steps-idle (suc n) s empty = ap (plan_steps plan n) (plan_step-idle s empty) ∙ plan_steps-idle n s empty
 
   -- where one waits, its step is taken in plan order
-  pub plan_step-taken : (s : Machine) (first : Posted) (rest : List Posted) → s.waiting ≡ first ∷ rest → plan_step plan s ≡ after_event plan first rest (by_priority plan (handlers_in plan (handled_in plan first rest s) first.event)) s
+  pub plan_step-taken : (s : Machine) (first : Posted) (rest : List Posted) → s.waiting ≡ first ∷ rest → plan_step plan s ≡ after_event plan first rest (by_priority plan (handlers_in plan (before_handlers plan first rest s) first.event)) s
   plan_step-taken s first rest waits = ap (λ (ps : List Posted). plan_step_from plan ps s) waits
 
   pub plan_step-is_step : (s : Machine) (first : Posted) (rest : List Posted) → s.waiting ≡ first ∷ rest → EventStep plan s (plan_step plan s)

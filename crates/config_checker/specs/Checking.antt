@@ -1,10 +1,11 @@
 -- What the checker answers.
-use Rattle.std.specs.Prelude.{ℕ, ◌==◌, ◌&&◌, Bool, true, false, if◌then◌else◌, List, [], ◌∷◌, map, slice_index, slice_index_or, Result, Ok, Err}
+use Rattle.std.specs.Prelude.{ℕ, ◌==◌, ◌&&◌, Bool, true, false, if◌then◌else◌, List, [], ◌∷◌, map, Result, Ok, Err}
 use Rattle.std.specs.Str.{bytes_eq}
 use Rattle.mpf_config.specs.Rows.{Rows}
 use Rattle.mpf_plan.specs.declared.fault.Table.{Table}
-use Rattle.mpf_plan.specs.PlanView.{PlanView}
+use Rattle.mpf_plan.specs.PlanView.{PlanView, name_of_event}
 use Rattle.mpf_plan.specs.PlanOf.{plan_at, PlanRefusal, no_such_name, above_limit}
+use Rattle.cascade_rank.specs.Events.{weight_of}
 use Rattle.cascade_rank.specs.Weights.{bound_of}
 use Rattle.cascade_rank.specs.Finding.{RankView, found_at, verified_at}
 use Rattle.cascade_rank.specs.Finding as ranks
@@ -30,20 +31,17 @@ pub data FaultView : Type 0 where
   bound : FaultView
   certificate : CertificateFaultView → FaultView
 
-abbrev pub name_of : PlanView → ℕ → List ℕ
-name_of plan e = slice_index_or plan.events e []
-
 -- what is wrong, by the names of the events
 abbrev pub fault_of : PlanView → RankView → FaultView
-fault_of plan (ranks.cycle events) = cycle (map (name_of plan) events)
+fault_of plan (ranks.cycle events) = cycle (map (name_of_event plan) events)
 fault_of plan ranks.bound_too_large = bound
-fault_of plan (ranks.short event needed) = certificate (short (name_of plan event) needed)
+fault_of plan (ranks.short event needed) = certificate (short (name_of_event plan event) needed)
 fault_of plan ranks.wrong_events = certificate other_events
 
 -- ---- with the least weights
 
 abbrev pub weighed : PlanView → Result (List ℕ) RankView → Result CheckedView FaultView
-weighed plan (Ok weights) = Ok (record { plan = plan; weights = weights; bound = bound_of plan (slice_index weights) })
+weighed plan (Ok weights) = Ok (record { plan = plan; weights = weights; bound = bound_of plan (weight_of weights) })
 weighed plan (Err fault) = Err (fault_of plan fault)
 
 unfoldable pub weighed_plan : PlanView → Result CheckedView FaultView

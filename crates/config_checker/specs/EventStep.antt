@@ -19,13 +19,13 @@ work_before plan e s = s
 abbrev pub work_after : PlanView → EventId → Machine → Machine
 work_after plan e s = s
 
--- the state in which the handlers of the event are chosen
-abbrev pub handled_in : PlanView → Posted → List Posted → Machine → Machine
-handled_in plan first rest s = work_before plan first.event (taken first rest s)
+-- the state before the handlers of the event run, in which they are chosen
+abbrev pub before_handlers : PlanView → Posted → List Posted → Machine → Machine
+before_handlers plan first rest s = work_before plan first.event (taken first rest s)
 
 -- the event is taken, the work before its handlers is done, they run in this order, and the work after them is done
 abbrev pub after_event : PlanView → Posted → List Posted → List BindingId → Machine → Machine
-after_event plan first rest order s = work_after plan first.event (all_do (do_handler plan) order (handled_in plan first rest s))
+after_event plan first rest order s = work_after plan first.event (all_do (do_handler plan) order (before_handlers plan first rest s))
 
 -- the handlers of an event in a state of the machine
 abbrev pub handlers_in : PlanView → Machine → EventId → List BindingId
@@ -37,7 +37,7 @@ pub record EventStep (plan : PlanView) (old new : Machine) : Type 0 where
   pub rest : List Posted
   pub waiting : old.waiting ≡ first ∷ rest
   pub order : List BindingId
-  pub in_order : IsHandlerOrder plan (handlers_in plan (handled_in plan first rest old) first.event) order
+  pub in_order : IsHandlerOrder plan (handlers_in plan (before_handlers plan first rest old) first.event) order
   pub new_is : new ≡ after_event plan first rest order old
 
 -- so many event steps

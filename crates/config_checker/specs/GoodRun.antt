@@ -1,6 +1,7 @@
 -- What is promised of every run.
-use Rattle.std.specs.Prelude.{◌≡◌, ℕ, ◌+◌, ◌<◌, ◌≤◌, Option, Some, None, List, [], ◌∷◌, length, slice_index}
+use Rattle.std.specs.Prelude.{◌≡◌, ℕ, ◌+◌, ◌<◌, ◌≤◌, Option, Some, None, List, [], ◌∷◌, length}
 use Rattle.mpf_plan.specs.PlanView.{PlanView, switch_at}
+use Rattle.mpf_plan.specs.declared.entries.EventId.{EventId}
 use Rattle.mpf_plan.specs.declared.entries.SwitchId.{SwitchId}
 use Rattle.switch_core.specs.declared.change.Change.{Change as Acceptance}
 use Rattle.switch_core.specs.SwitchStep.{raw_at_rest}
@@ -8,6 +9,7 @@ use Rattle.switch_core.specs.Switches.{active_at, accept, told, told_by_change}
 use Rattle.switch_core.specs.AcceptedLevel.{accepted_level}
 use Rattle.switch_core.specs.Calls.{raw_changes}
 use Rattle.cascade_rank.specs.Cost.{Cost, Lines, price, cost_of_acceptance}
+use Rattle.cascade_rank.specs.Events.{weight_of}
 use Rattle.event_queue.specs.declared.queue.Posted.{Posted}
 use Rattle.config_checker.specs.Machine.{Machine}
 use Rattle.config_checker.specs.EventStep.{EventStep}
@@ -32,15 +34,15 @@ cost_of_stimulus plan s (Alarm at source) = cost_of_alarm plan s source
 cost_of_stimulus plan s (Wait at) = Lines 0
 
 -- the weights of the events that wait
-abbrev pub weigh : (ℕ → ℕ) → List Posted → ℕ
+abbrev pub weigh : (EventId → ℕ) → List Posted → ℕ
 weigh w [] = 0
-weigh w (p ∷ ps) = w p.event.0 + weigh w ps
+weigh w (p ∷ ps) = w p.event + weigh w ps
 
 -- Every run of the plan is good.
 pub record IsGood (c : CheckedView) : Type 0 where
   -- After each event step the lines since the stimulus and the weights of the waiting events are at most its cost.
   pub cascade : InEveryCascade c.plan (λ s stimulus n t.
-      length t.lines + weigh (slice_index c.weights) t.waiting ≤ price (slice_index c.weights) (cost_of_stimulus c.plan s stimulus))
+      length t.lines + weigh (weight_of c.weights) t.waiting ≤ price (weight_of c.weights) (cost_of_stimulus c.plan s stimulus))
   -- Counted together, lines since the latest stimulus and events that wait are never more than the bound.
   pub within : InEveryRun c.plan (λ stimuli trace s. length s.lines + length s.waiting ≤ c.bound)
   -- As long as an event waits, some event step can come.

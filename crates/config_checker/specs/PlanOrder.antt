@@ -4,14 +4,14 @@ use Rattle.mpf_plan.specs.PlanView.{PlanView}
 use Rattle.event_queue.specs.declared.queue.Posted.{Posted}
 use Rattle.event_queue.specs.PlanOrder.{by_priority}
 use Rattle.config_checker.specs.Machine.{Machine}
-use Rattle.config_checker.specs.EventStep.{handled_in, handlers_in, after_event}
+use Rattle.config_checker.specs.EventStep.{before_handlers, handlers_in, after_event}
 use Rattle.config_checker.specs.Run.{Stimulus, begin}
 
 -- the event step in plan order; nothing where no event waits
 abbrev pub plan_step_from : PlanView → List Posted → Machine → Machine
 plan_step_from plan [] s = s
 plan_step_from plan (first ∷ rest) s =
-    after_event plan first rest (by_priority plan (handlers_in plan (handled_in plan first rest s) first.event)) s
+    after_event plan first rest (by_priority plan (handlers_in plan (before_handlers plan first rest s) first.event)) s
 
 abbrev pub plan_step : PlanView → Machine → Machine
 plan_step plan s = plan_step_from plan s.waiting s

@@ -1,7 +1,8 @@
 -- Why a configuration or a certificate is refused.
 use Rattle.std.specs.Prelude.{◌≡◌, ◌≢◌, ℕ, List, [], ◌∷◌, map}
 use Rattle.mpf_config.specs.Rows.{Rows}
-use Rattle.mpf_plan.specs.PlanView.{PlanView}
+use Rattle.mpf_plan.specs.PlanView.{PlanView, name_of_event}
+use Rattle.mpf_plan.specs.declared.entries.EventId.{EventId}
 use Rattle.mpf_plan.specs.PlanOf.{plan_of, IsExceeded}
 use Rattle.cascade_rank.specs.Finding as ranks
 use Rattle.cascade_rank.specs.Found.{IsUnfound}
@@ -10,14 +11,14 @@ use Rattle.config_checker.specs.declared.report.Report.{Report}
 use Rattle.config_checker.specs.declared.report.Report.TheVariants as reports
 use Rattle.config_checker.specs.CertificateText.{Certificate}
 use Rattle.config_checker.specs.CertificateOf.{IsTextOf}
-use Rattle.config_checker.specs.Checking.{CertificateFaultView, bad_line, other_events, short, other_bound, FaultView, limit, cycle, bound, certificate, name_of, names_in, weights_in, faults_of_rows}
+use Rattle.config_checker.specs.Checking.{CertificateFaultView, bad_line, other_events, short, other_bound, FaultView, limit, cycle, bound, certificate, names_in, weights_in, faults_of_rows}
 use Rattle.config_checker.specs.View.{fault_view}
 
 -- the names are those of events that lead to each other: of the cycle that is reported
 pub record IsCycleOf (plan : PlanView) (names : List (List ℕ)) : Type 0 where
-  pub events : List ℕ
+  pub events : List EventId
   pub reason : IsUnfound plan (ranks.cycle events)
-  pub names_are : names ≡ map (name_of plan) events
+  pub names_are : names ≡ map (name_of_event plan) events
 
 -- the table is the first that is above its limit
 abbrev pub IsLimitFault : Rows → FaultView → Type 0
@@ -55,9 +56,9 @@ pub record HasOtherEvents (plan : PlanView) (text : List ℕ) : Type 0 where
 pub record IsShort (plan : PlanView) (text name : List ℕ) (needed : ℕ) : Type 0 where
   pub certificate : Certificate
   pub of_plan : IsCertificateOf plan text certificate
-  pub event : ℕ
+  pub event : EventId
   pub first : IsFirstShort plan (weights_in certificate) event needed
-  pub name_is : name ≡ name_of plan event
+  pub name_is : name ≡ name_of_event plan event
 
 -- the weights serve, and have another bound
 pub record HasOtherBound (plan : PlanView) (text : List ℕ) (right : ℕ) : Type 0 where

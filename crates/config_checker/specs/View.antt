@@ -38,7 +38,7 @@ ReportsFault (reports.Faults faults) fault = map fault_view faults.items ≡ fau
 
 -- the events of the fault are the plan's
 abbrev pub HasEvents : PlanView → RankView → Type 0
-HasEvents plan (ranks.cycle events) = All (λ e. e < length plan.events) events
+HasEvents plan (ranks.cycle events) = All (λ e. e.0 < length plan.events) events
 HasEvents plan ranks.bound_too_large = Unit {0}
-HasEvents plan (ranks.short event needed) = event < length plan.events
+HasEvents plan (ranks.short event needed) = event.0 < length plan.events
 HasEvents plan ranks.wrong_events = Unit {0}

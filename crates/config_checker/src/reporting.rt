@@ -2,9 +2,10 @@
 
 ghost use Rattle.std.specs.Prelude.{◌≡◌, Some, IfOk, map, option_map, length};
 ghost use Rattle.std.specs.List.{All};
+ghost use Rattle.mpf_plan.specs.PlanView.{name_of_event};
 ghost use Rattle.mpf_plan.specs.Valid.{IsEventWithin};
 ghost use Rattle.cascade_rank.specs.View.{rank_view, IfRank};
-ghost use Rattle.config_checker.specs.Checking.{name_of, fault_of};
+ghost use Rattle.config_checker.specs.Checking.{fault_of};
 ghost use Rattle.config_checker.specs.View.{HasEvents, ReportsFault, fault_view};
 
 use crate::report::{CertificateFault, Fault, Report};
@@ -43,7 +44,7 @@ pub(crate) fn named_fault(alloc: Global, plan: &Plan, fault: RankFault) -> Resul
 /// The names of events of the plan.
 fn names_of(alloc: Global, plan: &Plan, events: &[EventId]) -> Result<Vec<Vec<u8>>, AllocError>
     requires { All (IsEventWithin (length plan.now.events)) events.now }
-    ensures { IfOk result (λ names. map (λ v. v.items) names.items ≡ map (λ e. name_of plan.now e.0) events.now) }
+    ensures { IfOk result (λ names. map (λ v. v.items) names.items ≡ map (name_of_event plan.now) events.now) }
 {
     let mut names = Vec::new(alloc);
     for event in events {

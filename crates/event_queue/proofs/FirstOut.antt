@@ -1,26 +1,26 @@
--- What waited, and after it what is accepted, is what is given, and after it what waits.
+-- What waited, and after it what is pushed, is what is given, and after it what waits.
 use Rattle.std.proofs.Common.{◌≡◌, ◌≤◌, List, [], ◌∷◌, ◌++◌, length, Some, None, Ok, Err, ap, sym, ◌∙◌, append-nil, append_assoc, length-append, arith}
 use Rattle.event_queue.specs.declared.queue.Posted.{Posted}
 use Rattle.event_queue.specs.Queue.{QueueView, empty}
-use Rattle.event_queue.specs.Calls.{Call, Push, Take, AreCalls, accepted, given, IsFirstInFirstOut, IsWithinSize}
+use Rattle.event_queue.specs.Calls.{Call, Push, Take, AreCalls, pushed, given, IsFirstInFirstOut, IsWithinSize}
 
-first_out : (calls : List Call) (old new : QueueView) → AreCalls calls old new → given calls ++ new.waiting ≡ old.waiting ++ accepted calls
+first_out : (calls : List Call) (old new : QueueView) → AreCalls calls old new → given calls ++ new.waiting ≡ old.waiting ++ pushed calls
 first_out [] old new same = ap (λ (q : QueueView). q.waiting) same ∙ sym (append-nil old.waiting)
-first_out (Push event (Ok done) ∷ calls) old new (mid, (less, pushed), more) =
-    first_out calls mid new more ∙ ap (λ (q : QueueView). q.waiting ++ accepted calls) pushed ∙ append_assoc old.waiting (event ∷ []) (accepted calls)
-first_out (Push event (Err full) ∷ calls) old new (mid, (all, same), more) = first_out calls mid new more ∙ ap (λ (q : QueueView). q.waiting ++ accepted calls) same
-first_out (Take None ∷ calls) old new (mid, (none, same), more) = first_out calls mid new more ∙ ap (λ (q : QueueView). q.waiting ++ accepted calls) same
+first_out (Push event (Ok done) ∷ calls) old new (mid, (less, added), more) =
+    first_out calls mid new more ∙ ap (λ (q : QueueView). q.waiting ++ pushed calls) added ∙ append_assoc old.waiting (event ∷ []) (pushed calls)
+first_out (Push event (Err full) ∷ calls) old new (mid, (all, same), more) = first_out calls mid new more ∙ ap (λ (q : QueueView). q.waiting ++ pushed calls) same
+first_out (Take None ∷ calls) old new (mid, (none, same), more) = first_out calls mid new more ∙ ap (λ (q : QueueView). q.waiting ++ pushed calls) same
 first_out (Take (Some first) ∷ calls) old new (mid, (front, size), more) =
-    ap (λ (events : List Posted). first ∷ events) (first_out calls mid new more) ∙ sym (ap (λ (events : List Posted). events ++ accepted calls) front)
+    ap (λ (events : List Posted). first ∷ events) (first_out calls mid new more) ∙ sym (ap (λ (events : List Posted). events ++ pushed calls) front)
 
 pub first_in_first_out : IsFirstInFirstOut
 first_in_first_out size calls queue are = first_out calls (empty size) queue are
 
 within : (calls : List Call) (old new : QueueView) → AreCalls calls old new → length old.waiting ≤ old.size → (new.size ≡ old.size) × (length new.waiting ≤ old.size)
 within [] old new same fits = let size = ap (λ (q : QueueView). q.size) same in let waiting = ap (λ (q : QueueView). length q.waiting) same in (size, omega arith)
-within (Push event (Ok done) ∷ calls) old new (mid, (less, pushed), more) fits =
-    let size = ap (λ (q : QueueView). q.size) pushed in
-    let waiting = ap (λ (q : QueueView). length q.waiting) pushed in
+within (Push event (Ok done) ∷ calls) old new (mid, (less, added), more) fits =
+    let size = ap (λ (q : QueueView). q.size) added in
+    let waiting = ap (λ (q : QueueView). length q.waiting) added in
     let longer = length-append old.waiting (event ∷ []) in
     let rest = within calls mid new more (omega arith) in
     (rest.0 ∙ size, omega (arith, rest.1))

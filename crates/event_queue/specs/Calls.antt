@@ -19,12 +19,12 @@ abbrev pub AreCalls : List Call → QueueView → QueueView → Type 0
 AreCalls [] old new = new ≡ old
 AreCalls (call ∷ calls) old new = (mid : QueueView) × IsCall call old mid × AreCalls calls mid new
 
--- what `push` accepted, in order
-abbrev pub accepted : List Call → List Posted
-accepted [] = []
-accepted (Push event (Ok done) ∷ calls) = event ∷ accepted calls
-accepted (Push event (Err full) ∷ calls) = accepted calls
-accepted (Take answer ∷ calls) = accepted calls
+-- what was pushed, in order: the calls that found room
+abbrev pub pushed : List Call → List Posted
+pushed [] = []
+pushed (Push event (Ok done) ∷ calls) = event ∷ pushed calls
+pushed (Push event (Err full) ∷ calls) = pushed calls
+pushed (Take answer ∷ calls) = pushed calls
 
 -- what `take` gave, in order
 abbrev pub given : List Call → List Posted
@@ -33,9 +33,9 @@ given (Push event answer ∷ calls) = given calls
 given (Take None ∷ calls) = given calls
 given (Take (Some first) ∷ calls) = first ∷ given calls
 
--- After every list of calls on a new queue: what was given, and after it what waits, is what was accepted.
+-- After every list of calls on a new queue: what was given, and after it what waits, is what was pushed.
 abbrev pub IsFirstInFirstOut : Type 0
-IsFirstInFirstOut = (size : ℕ) (calls : List Call) (queue : QueueView) → AreCalls calls (empty size) queue → given calls ++ queue.waiting ≡ accepted calls
+IsFirstInFirstOut = (size : ℕ) (calls : List Call) (queue : QueueView) → AreCalls calls (empty size) queue → given calls ++ queue.waiting ≡ pushed calls
 
 -- It keeps its size, and no more events wait than that.
 abbrev pub IsWithinSize : Type 0

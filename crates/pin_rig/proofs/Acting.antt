@@ -13,7 +13,7 @@ use Rattle.config_checker.proofs.PlanSteps.{plan_steps-event_steps}
 use Rattle.config_checker.proofs.Reached.{reached-next, reached-within, reached-same, reached-kinds, reached-complete}
 use Rattle.pin_rig.specs.declared.input.Input.{Input}
 use Rattle.pin_rig.specs.Core.{CoreView, IsPlayable, HasRoom, StaysWithin, HasSettled, after}
-use Rattle.pin_rig.specs.Rig.{RigView, stimulus_at, IsStep}
+use Rattle.pin_rig.specs.Rig.{RigView, stimulus_at, RigStep}
 use Rattle.pin_rig.specs.Inside.{IsHeld}
 use Rattle.pin_rig.proofs.Judging.{judged-allowed, judged-asks, AsksFor}
 
@@ -54,7 +54,7 @@ module _ (c : CheckedView) (core : CoreView) (held : IsHeld c core) (accepted : 
     steps : (n : ℕ) × EventSteps c.plan n begun (plan_steps c.plan c.bound begun)
     steps = plan_steps-event_steps c.plan c.bound begun
 
-    step : IsStep input rig (record { checked = c; machine = new.machine })
+    step : RigStep input rig (record { checked = c; machine = new.machine })
     step = record {
       stimulus = stimulus;
       stimulus_is = judged;
@@ -101,7 +101,7 @@ module _ (c : CheckedView) (core : CoreView) (held : IsHeld c core) (accepted : 
             subst (λ (p : PlanView). HasSettled p (after (begin p stimulus) core) new) plan_is
             (subst (λ (v : CoreView). HasSettled plan v new) begun_is settled)
 
-        pub acts : IsStep input rig (record { checked = c; machine = new.machine })
+        pub acts : RigStep input rig (record { checked = c; machine = new.machine })
         acts = step new settled-here
 
         pub held-again : IsHeld c new

@@ -39,7 +39,7 @@ stimulus_at rig (inputs.Wait at) = timely rig.machine at (Wait at)
 -- ---- steps
 
 -- The input is a stimulus that is allowed, and the state after it is that after its event steps in plan order, at whose end no event waits.
-pub record IsStep (input : Input) (old new : RigView) : Type 0 where
+pub record RigStep (input : Input) (old new : RigView) : Type 0 where
   pub stimulus : Stimulus
   pub stimulus_is : stimulus_at old input ≡ Ok stimulus
   pub allowed : IsAllowed old.checked.plan old.machine stimulus

@@ -6,12 +6,12 @@ use Rattle.config_checker.specs.Machine.{initial}
 use Rattle.config_checker.specs.Run.{Source, Stimulus, Change, Alarm, Wait, IsAllowed, IsRun}
 use Rattle.pin_rig.specs.declared.input.Input.{Input}
 use Rattle.pin_rig.specs.declared.input.Input.TheVariants as inputs
-use Rattle.pin_rig.specs.Rig.{RigView, stimulus_at, IsStep}
+use Rattle.pin_rig.specs.Rig.{RigView, stimulus_at, RigStep}
 
 -- each input is a step, and the trace is the lines of all, step by step
 abbrev pub AreSteps : List Input → RigView → List Line → RigView → Type 0
 AreSteps [] old trace new = (trace ≡ []) × (new ≡ old)
-AreSteps (input ∷ more) old trace new = (mid : RigView) × (rest : List Line) × IsStep input old mid × AreSteps more mid rest new × (trace ≡ mid.machine.lines ++ rest)
+AreSteps (input ∷ more) old trace new = (mid : RigView) × (rest : List Line) × RigStep input old mid × AreSteps more mid rest new × (trace ≡ mid.machine.lines ++ rest)
 
 -- a new rig
 abbrev pub at_rest : CheckedView → RigView

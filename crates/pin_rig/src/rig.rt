@@ -35,7 +35,7 @@ impl<'c> Rig<'c> {
     ghost use Rattle.config_checker.specs.Machine.{initial};
     ghost use Rattle.config_checker.specs.Run.{IsReached};
     ghost use Rattle.config_checker.specs.NextAlarm.{next_alarm};
-    ghost use Rattle.pin_rig.specs.Rig.{timely, alarm_at, stimulus_at, IsStep, IsOfRun};
+    ghost use Rattle.pin_rig.specs.Rig.{timely, alarm_at, stimulus_at, RigStep, IsOfRun};
     ghost use Rattle.pin_rig.specs.Inside.{stimulus_view, GivesStimulus};
     ghost use Rattle.pin_rig.specs.Lending.{LendsStep};
 
@@ -103,7 +103,7 @@ impl<'c> Rig<'c> {
 
     /// One input, if it is not refused.
     fn act(&mut self, input: Input) -> Result<(), StepFault>
-        ensures { MatchResult result (λ _. IsStep input self.old self.new) (λ fault. (stimulus_at self.old input ≡ Err fault) × (self.new ≡ self.old)) }
+        ensures { MatchResult result (λ _. RigStep input self.old self.new) (λ fault. (stimulus_at self.old input ≡ Err fault) × (self.new ≡ self.old)) }
     {
         let stimulus = self.judge(input)?;
         let plan = self.checked.plan();

@@ -23,11 +23,11 @@ use Rattle.pin_rig.proofs.Judging.{admitted-is}
 use Rattle.pinball_shell.specs.declared.refusal.Refusal.{Refusal}
 use Rattle.pinball_shell.specs.LogText.{Said, Nothing, Unreadable, said}
 use Rattle.pinball_shell.specs.LogText as says
-use Rattle.pinball_shell.specs.RunOfLog.{if_admitted, change_of, given_by_line, lines_of, all_alarms_by, with_alarms, Printed, Traced, Refused, printed_for_line, after_line, printed_for_lines, printed_for_log, traced}
+use Rattle.pinball_shell.specs.RunOfLog.{if_admitted, change_of, given_by_line, trace_of, all_alarms_by, with_alarms, Printed, Traced, Refused, printed_for_line, after_line, printed_for_lines, printed_for_log, traced}
 use Rattle.pinball_shell.specs.RunGiven.{given_of, given_by_lines, without_alarms, IsRunOfLog}
 use Rattle.pinball_shell.proofs.FirstPlace.{place_some}
 use Rattle.pinball_shell.proofs.Alarms.{cases_due, alarm-allowed, AreAll, all-next}
-use Rattle.pinball_shell.proofs.Playing.{state_after-append, lines_of-append}
+use Rattle.pinball_shell.proofs.Playing.{state_after-append, trace_of-append}
 
 -- ---- what a line gives comes in time
 
@@ -164,7 +164,7 @@ module _ (c : CheckedView) (accepted : IsAccepted c) where
   -- these alarms come, and after them nothing is due by the moment
   record IsRunUntil (until : ℕ) (given : List Stimulus) (trace : List Line) (s : Machine) (stimuli : List Stimulus) : Type 0 where
     alarm : Bool
-    run : IsRunGiven given alarm (trace ++ lines_of c.plan c.bound stimuli s) (state_after c.plan c.bound stimuli s)
+    run : IsRunGiven given alarm (trace ++ trace_of c.plan c.bound stimuli s) (state_after c.plan c.bound stimuli s)
     quiet : IsNothingDueBy (state_after c.plan c.bound stimuli s) until
     moment : (state_after c.plan c.bound stimuli s).moment ≤ until
 
@@ -181,7 +181,7 @@ module _ (c : CheckedView) (accepted : IsAccepted c) where
       let next = settled c.plan c.bound alarm s in
       record {
         alarm = h.alarm;
-        run = subst (λ (ls : List Line). IsRunGiven given h.alarm ls (state_after c.plan c.bound more next)) (append_assoc trace next.lines (lines_of c.plan c.bound more next)) h.run;
+        run = subst (λ (ls : List Line). IsRunGiven given h.alarm ls (state_after c.plan c.bound more next)) (append_assoc trace next.lines (trace_of c.plan c.bound more next)) h.run;
         quiet = h.quiet;
         moment = h.moment;
       }
@@ -212,7 +212,7 @@ module _ (c : CheckedView) (accepted : IsAccepted c) where
 
   -- a stimulus that a line gives, after the alarms due by its moment
   run-given : (given : List Stimulus) (trace : List Line) (s : Machine) (stimulus : Stimulus) → IsRunGiven given false trace s → IsGivenInTime c.plan s.moment stimulus
-      → IsRunGiven (given ++ stimulus ∷ []) false (trace ++ lines_of c.plan c.bound (with_alarms c.plan c.bound stimulus s) s) (state_after c.plan c.bound (with_alarms c.plan c.bound stimulus s) s)
+      → IsRunGiven (given ++ stimulus ∷ []) false (trace ++ trace_of c.plan c.bound (with_alarms c.plan c.bound stimulus s) s) (state_after c.plan c.bound (with_alarms c.plan c.bound stimulus s) s)
   run-given given trace s stimulus run time =
       let (forward, early) = in_time-early c.plan s.moment stimulus time in
       let until = moment_of stimulus in
@@ -221,14 +221,14 @@ module _ (c : CheckedView) (accepted : IsAccepted c) where
       let h = run-alarms until early given (most_alarms c.plan until s) false trace s run all forward in
       let there = state_after c.plan c.bound alarms s in
       let next = settled c.plan c.bound stimulus there in
-      let last = given-next given h.alarm (trace ++ lines_of c.plan c.bound alarms s) there h.run stimulus (may_come c.plan s.moment there stimulus time h.moment h.quiet)
+      let last = given-next given h.alarm (trace ++ trace_of c.plan c.bound alarms s) there h.run stimulus (may_come c.plan s.moment there stimulus time h.moment h.quiet)
       (stimulus ∷ []) (λ k. in_time-given c.plan s.moment stimulus k time) in
-      let played : lines_of c.plan c.bound (with_alarms c.plan c.bound stimulus s) s ≡ lines_of c.plan c.bound alarms s ++ next.lines =
-      lines_of-append c.plan c.bound alarms (stimulus ∷ []) s ∙ ap (λ (ls : List Line). lines_of c.plan c.bound alarms s ++ ls) (append-nil next.lines) in
+      let played : trace_of c.plan c.bound (with_alarms c.plan c.bound stimulus s) s ≡ trace_of c.plan c.bound alarms s ++ next.lines =
+      trace_of-append c.plan c.bound alarms (stimulus ∷ []) s ∙ ap (λ (ls : List Line). trace_of c.plan c.bound alarms s ++ ls) (append-nil next.lines) in
       let all_given = given ++ stimulus ∷ [] in
-      subst (λ (m : Machine). IsRunGiven all_given false (trace ++ lines_of c.plan c.bound (with_alarms c.plan c.bound stimulus s) s) m) (sym (state_after-append c.plan c.bound alarms (stimulus ∷ []) s))
-      (subst (λ (ls : List Line). IsRunGiven all_given false ls next) (append_assoc trace (lines_of c.plan c.bound alarms s) next.lines ∙ ap (λ (ls : List Line). trace ++ ls) (sym played))
-      (subst (λ (b : Bool). IsRunGiven all_given b ((trace ++ lines_of c.plan c.bound alarms s) ++ next.lines) next) (in_time-no_alarm c.plan s.moment stimulus time) last))
+      subst (λ (m : Machine). IsRunGiven all_given false (trace ++ trace_of c.plan c.bound (with_alarms c.plan c.bound stimulus s) s) m) (sym (state_after-append c.plan c.bound alarms (stimulus ∷ []) s))
+      (subst (λ (ls : List Line). IsRunGiven all_given false ls next) (append_assoc trace (trace_of c.plan c.bound alarms s) next.lines ∙ ap (λ (ls : List Line). trace ++ ls) (sym played))
+      (subst (λ (b : Bool). IsRunGiven all_given b ((trace ++ trace_of c.plan c.bound alarms s) ++ next.lines) next) (in_time-no_alarm c.plan s.moment stimulus time) last))
 
   -- where nothing is given, the run goes on as it was
   run-nothing : (given : List Stimulus) (trace : List Line) (s : Machine) → IsRunGiven given false trace s → IsRunGiven (given ++ []) false (trace ++ []) s
@@ -240,7 +240,7 @@ module _ (c : CheckedView) (accepted : IsAccepted c) where
   run-line number given trace s line run (Ok None) is = run-nothing given trace s run
   run-line number given trace s line run (Err refusal) is = run-nothing given trace s run
   run-line number given trace s line run (Ok (Some stimulus)) is =
-      let played = lines_of c.plan c.bound (with_alarms c.plan c.bound stimulus s) s in
+      let played = trace_of c.plan c.bound (with_alarms c.plan c.bound stimulus s) s in
       subst (λ (ls : List Line). IsRunGiven (given ++ stimulus ∷ []) false (trace ++ ls) (state_after c.plan c.bound (with_alarms c.plan c.bound stimulus s) s)) (sym (traced-lines played))
       (run-given given trace s stimulus run (given-in_time c.plan s.moment line stimulus is))
 

@@ -19,7 +19,7 @@ use Rattle.pinball_shell.specs.declared.fault.Verdict.{Verdict}
 use Rattle.pinball_shell.specs.declared.fault.Verdict.TheVariants as verdicts
 use Rattle.pinball_shell.specs.declared.refusal.Refusal.{Refusal}
 use Rattle.pinball_shell.specs.LogText.{said}
-use Rattle.pinball_shell.specs.RunOfLog.{given_by_line, lines_of, all_alarms_by, with_alarms, Printed, Traced, Refused, printed_for_line, after_line, printed_for_lines}
+use Rattle.pinball_shell.specs.RunOfLog.{given_by_line, trace_of, all_alarms_by, with_alarms, Printed, Traced, Refused, printed_for_line, after_line, printed_for_lines}
 use Rattle.pinball_shell.specs.TraceText.{line_text, printed_text, refused_text, is_refused, log_verdict}
 use Rattle.pinball_shell.specs.Played.{worse_of, IsPlayed, printed_texts, IsLinePlayed, AreLinesPlayed}
 use Rattle.pinball_shell.proofs.Alarms.{ComesBy, all-first, all-fewer}
@@ -29,12 +29,12 @@ module _ (plan : PlanView) (bound : ℕ) where
   state_after-append [] ys s = refl
   state_after-append (x ∷ xs) ys s = state_after-append xs ys (settled plan bound x s)
 
-  pub lines_of-append : (xs ys : List Stimulus) (s : Machine) → lines_of plan bound (xs ++ ys) s ≡ lines_of plan bound xs s ++ lines_of plan bound ys (state_after plan bound xs s)
-  lines_of-append [] ys s = refl
-  lines_of-append (x ∷ xs) ys s =
+  pub trace_of-append : (xs ys : List Stimulus) (s : Machine) → trace_of plan bound (xs ++ ys) s ≡ trace_of plan bound xs s ++ trace_of plan bound ys (state_after plan bound xs s)
+  trace_of-append [] ys s = refl
+  trace_of-append (x ∷ xs) ys s =
       let next = settled plan bound x s in
-      ap (λ (ls : List Line). next.lines ++ ls) (lines_of-append xs ys next)
-      ∙ sym (append_assoc next.lines (lines_of plan bound xs next) (lines_of plan bound ys (state_after plan bound xs next)))
+      ap (λ (ls : List Line). next.lines ++ ls) (trace_of-append xs ys next)
+      ∙ sym (append_assoc next.lines (trace_of plan bound xs next) (trace_of plan bound ys (state_after plan bound xs next)))
 
   pub played-none : (s : Machine) (a : Option (List ℕ)) → IsPlayed plan bound [] s s a a
   played-none s a = record { state = refl; text = written-nil a }
@@ -48,9 +48,9 @@ module _ (plan : PlanView) (bound : ℕ) where
   pub played-then : (xs ys : List Stimulus) (s t u : Machine) (a b c : Option (List ℕ)) → IsPlayed plan bound xs s t a b → IsPlayed plan bound ys t u b c → IsPlayed plan bound (xs ++ ys) s u a c
   played-then xs ys s t u a b c h k =
       let middle = state_after plan bound xs s in
-      let texts : flat_map (line_text plan) (lines_of plan bound (xs ++ ys) s) ≡ flat_map (line_text plan) (lines_of plan bound xs s) ++ flat_map (line_text plan) (lines_of plan bound ys t) =
-      ap (flat_map (line_text plan)) (lines_of-append xs ys s) ∙ flat_map-append (line_text plan) (lines_of plan bound xs s) (lines_of plan bound ys middle)
-      ∙ ap (λ (m : Machine). flat_map (line_text plan) (lines_of plan bound xs s) ++ flat_map (line_text plan) (lines_of plan bound ys m)) (sym h.state) in
+      let texts : flat_map (line_text plan) (trace_of plan bound (xs ++ ys) s) ≡ flat_map (line_text plan) (trace_of plan bound xs s) ++ flat_map (line_text plan) (trace_of plan bound ys t) =
+      ap (flat_map (line_text plan)) (trace_of-append xs ys s) ∙ flat_map-append (line_text plan) (trace_of plan bound xs s) (trace_of plan bound ys middle)
+      ∙ ap (λ (m : Machine). flat_map (line_text plan) (trace_of plan bound xs s) ++ flat_map (line_text plan) (trace_of plan bound ys m)) (sym h.state) in
       record {
         state = k.state ∙ ap (state_after plan bound ys) h.state ∙ sym (state_after-append xs ys s);
         text = subst (Appends a c) (sym texts) (written-then a b c _ _ h.text k.text);
@@ -123,7 +123,7 @@ module _ (plan : PlanView) (bound : ℕ) where
     line-played stimulus until t u a b c is same alarms one =
         let there = subst (λ (at : ℕ). IsPlayed plan bound (all_alarms_by plan bound at s) s t a b) same alarms in
         let both = played-then (all_alarms_by plan bound (moment_of stimulus) s) (stimulus ∷ []) s t u a b c there one in
-        let played = lines_of plan bound (with_alarms plan bound stimulus s) s in
+        let played = trace_of plan bound (with_alarms plan bound stimulus s) s in
         line-is (Ok (Some stimulus)) u a c verdicts.Yes is both.state (subst (Appends a c) (sym (traced-text played)) both.text)
         (sym (ap (λ (b : Bool). cond b verdicts.Refused verdicts.Yes) (none_refused played)))
 

@@ -17,9 +17,9 @@ use Rattle.config_checker.proofs.PlanSteps.{settled-idle, settled-same}
 use Rattle.config_checker.proofs.Reached.{reached-initial, reached-next}
 use Rattle.pinball_shell.specs.declared.refusal.Refusal.{Refusal}
 use Rattle.pinball_shell.specs.LogText.{said}
-use Rattle.pinball_shell.specs.RunOfLog.{given_by_line, lines_of, all_alarms_by, with_alarms, Printed, Traced, printed_for_line, after_line, printed_for_lines, printed_for_log}
+use Rattle.pinball_shell.specs.RunOfLog.{given_by_line, trace_of, all_alarms_by, with_alarms, Printed, Traced, printed_for_line, after_line, printed_for_lines, printed_for_log}
 use Rattle.pinball_shell.proofs.Alarms.{cases_due, alarm-allowed, AreAll, all-next}
-use Rattle.pinball_shell.proofs.Playing.{state_after-append, lines_of-append}
+use Rattle.pinball_shell.proofs.Playing.{state_after-append, trace_of-append}
 use Rattle.pinball_shell.proofs.LogRuns.{IsGivenInTime, given-in_time, in_time-early, may_come}
 
 module _ (plan : PlanView) (ws vs : List ℕ) (a b : ℕ) where
@@ -47,7 +47,7 @@ module _ (plan : PlanView) (ws vs : List ℕ) (a b : ℕ) where
     record AreSame (s : Machine) (stimuli others : List Stimulus) : Type 0 where
       same : others ≡ stimuli
       state : state_after plan b stimuli s ≡ state_after plan a stimuli s
-      printed : lines_of plan b stimuli s ≡ lines_of plan a stimuli s
+      printed : trace_of plan b stimuli s ≡ trace_of plan a stimuli s
       reached : Reached (state_after plan a stimuli s)
 
     -- and after them nothing is due by the moment
@@ -60,7 +60,7 @@ module _ (plan : PlanView) (ws vs : List ℕ) (a b : ℕ) where
     same-more s first stimuli others is h = record {
       same = ap (λ (xs : List Stimulus). first ∷ xs) h.same;
       state = ap (state_after plan b stimuli) is ∙ h.state;
-      printed = ap (λ (m : Machine). m.lines ++ lines_of plan b stimuli m) is ∙ ap (λ (ls : List Line). (settled plan a first s).lines ++ ls) h.printed;
+      printed = ap (λ (m : Machine). m.lines ++ trace_of plan b stimuli m) is ∙ ap (λ (ls : List Line). (settled plan a first s).lines ++ ls) h.printed;
       reached = h.reached;
     }
 
@@ -108,10 +108,10 @@ module _ (plan : PlanView) (ws vs : List ℕ) (a b : ℕ) where
           same = ap (λ (xs : List Stimulus). xs ++ last ∷ []) h.same;
           state = state_after-append plan b all (last ∷ []) s ∙ ap (settled plan b last) h.state ∙ ends ∙ sym (state_after-append plan a all (last ∷ []) s);
           printed =
-              lines_of-append plan b all (last ∷ []) s
-              ∙ (λ i. h.printed i ++ lines_of plan b (last ∷ []) (h.state i))
-              ∙ ap (λ (m : Machine). lines_of plan a all s ++ (m.lines ++ [])) ends
-              ∙ sym (lines_of-append plan a all (last ∷ []) s);
+              trace_of-append plan b all (last ∷ []) s
+              ∙ (λ i. h.printed i ++ trace_of plan b (last ∷ []) (h.state i))
+              ∙ ap (λ (m : Machine). trace_of plan a all s ++ (m.lines ++ [])) ends
+              ∙ sym (trace_of-append plan a all (last ∷ []) s);
           reached = subst Reached (sym (state_after-append plan a all (last ∷ []) s)) (next-reached there h.reached last allowed);
         }
 
@@ -136,7 +136,7 @@ module _ (plan : PlanView) (ws vs : List ℕ) (a b : ℕ) where
     same-line number s reached (Ok (Some stimulus)) time =
         let h = same-given s reached stimulus (time stimulus refl) in
         record {
-          printed = ap (map Traced) (ap (λ (xs : List Stimulus). lines_of plan b xs s) h.same ∙ h.printed);
+          printed = ap (map Traced) (ap (λ (xs : List Stimulus). trace_of plan b xs s) h.same ∙ h.printed);
           state = ap (λ (xs : List Stimulus). state_after plan b xs s) h.same ∙ h.state;
           reached = h.reached;
         }

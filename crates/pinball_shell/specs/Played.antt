@@ -16,7 +16,7 @@ use Rattle.pinball_shell.specs.declared.fault.Verdict.{Verdict}
 use Rattle.pinball_shell.specs.declared.fault.Verdict.TheVariants as verdicts
 use Rattle.pinball_shell.specs.declared.refusal.Refusal.{Refusal}
 use Rattle.pinball_shell.specs.LogText.{said}
-use Rattle.pinball_shell.specs.RunOfLog.{given_by_line, lines_of, all_alarms_by, Printed, printed_for_line, after_line, printed_for_lines}
+use Rattle.pinball_shell.specs.RunOfLog.{given_by_line, trace_of, all_alarms_by, Printed, printed_for_line, after_line, printed_for_lines}
 use Rattle.pinball_shell.specs.TraceText.{line_text, printed_text, log_verdict}
 
 -- what a rig is given for a stimulus: which alarm comes, it says itself
@@ -34,7 +34,7 @@ GivesInput (Err refusal) given = given ≡ Err refusal
 -- these stimuli were played, and their lines written
 pub record IsPlayed (plan : PlanView) (bound : ℕ) (stimuli : List Stimulus) (old new : Machine) (before after : Option (List ℕ)) : Type 0 where
   pub state : new ≡ state_after plan bound stimuli old
-  pub text : Appends before after (flat_map (line_text plan) (lines_of plan bound stimuli old))
+  pub text : Appends before after (flat_map (line_text plan) (trace_of plan bound stimuli old))
 
 -- the rig is one of the plan, which was accepted
 pub record IsRigOf (plan : PlanView) (rig : RigView) : Type 0 where

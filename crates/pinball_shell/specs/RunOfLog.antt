@@ -39,9 +39,9 @@ given_by_line plan now (says.Change at name level) = change_of now at (switch_na
 -- ---- stimuli and their lines
 
 -- the lines of these stimuli
-abbrev pub lines_of : PlanView → ℕ → List Stimulus → Machine → List Line
-lines_of plan bound [] s = []
-lines_of plan bound (stimulus ∷ more) s = let next = settled plan bound stimulus s in next.lines ++ lines_of plan bound more next
+abbrev pub trace_of : PlanView → ℕ → List Stimulus → Machine → List Line
+trace_of plan bound [] s = []
+trace_of plan bound (stimulus ∷ more) s = let next = settled plan bound stimulus s in next.lines ++ trace_of plan bound more next
 
 -- all alarms that come by the moment
 abbrev pub all_alarms_by : PlanView → ℕ → ℕ → Machine → List Stimulus
@@ -61,7 +61,7 @@ pub data Printed : Type 0 where
 -- what is printed for a line that has this number
 abbrev pub printed_for_line : PlanView → ℕ → ℕ → Machine → Result (Option Stimulus) Refusal → List Printed
 printed_for_line plan bound number s (Ok None) = []
-printed_for_line plan bound number s (Ok (Some stimulus)) = map Traced (lines_of plan bound (with_alarms plan bound stimulus s) s)
+printed_for_line plan bound number s (Ok (Some stimulus)) = map Traced (trace_of plan bound (with_alarms plan bound stimulus s) s)
 printed_for_line plan bound number s (Err refusal) = Refused number refusal ∷ []
 
 -- the state after a line

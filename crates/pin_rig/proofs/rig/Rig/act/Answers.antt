@@ -1,5 +1,5 @@
 use Rattle.std.proofs.Common.{◌≡◌, Ok, sym, subst}
-use Rattle.pin_rig.specs.Rig.{RigView, stimulus_at, IsStep}
+use Rattle.pin_rig.specs.Rig.{RigView, stimulus_at, RigStep}
 use Rattle.pin_rig.specs.Inside.{stimulus_view}
 use Rattle.pin_rig.proofs.Acting.{begun-room, begun-stays, acts, held-again}
 use Rattle.pin_rig.proofs.rig.Rig.act.Goals as goal
@@ -32,4 +32,4 @@ returns c =
     let step =
     acts c.self.inside.checked.now c.self.inside.core c.self.invariant c.plan-plan.ensures.accepted c.args.input stimulus judged
     c.plan-plan.result.now c.plan-plan.ensures.plan c.begin.new.core c.begin.ensures c.settle.new.core c.settle.ensures in
-    subst (λ (rig : RigView). IsStep c.args.input rig (record { checked = c.self.inside.checked.now; machine = c.settle.new.core.machine })) c.self.view_is step
+    subst (λ (rig : RigView). RigStep c.args.input rig (record { checked = c.self.inside.checked.now; machine = c.settle.new.core.machine })) c.self.view_is step
