@@ -1,19 +1,22 @@
 -- What finding answers, case by case.
-use Rattle.std.proofs.Common.{◌≡◌, ℕ, ◌<◌, true, false, not, nat_lt, List, [], length, slice_index, Option, Some, None, position, Ok, Err, sym, ◌∙◌, ap, subst, arith}
+use Rattle.std.proofs.Common.{◌≡◌, ℕ, ◌<◌, true, false, not, nat_lt, List, [], length, Option, Some, None, position, Ok, Err, sym, ◌∙◌, ap, subst, arith}
+use Rattle.std.specs.Option.{option_map}
 use Rattle.std.proofs.lemmas.Bool.{not-false, cond-true, cond-false, both_ways}
 use Rattle.mpf_plan.specs.PlanView.{PlanView}
 use Rattle.mpf_plan.specs.Valid.{IsValid}
 use Rattle.mpf_plan.specs.declared.entries.EventId.{EventId}
+use Rattle.cascade_rank.specs.Events.{weight_of}
 use Rattle.cascade_rank.specs.Weights.{IsLeastFitting, IsWithinLimit}
 use Rattle.cascade_rank.specs.LeadsTo.{grounded, is_open}
 use Rattle.cascade_rank.specs.Ranks.{rank, ranks}
 use Rattle.cascade_rank.specs.Cycle.{IsFirst, first_open}
 use Rattle.cascade_rank.specs.Finding.{bound_too_large, is_within_limit, found_past, found_at}
 use Rattle.cascade_rank.specs.Found.{IsTooDear}
-use Rattle.cascade_rank.specs.Order.{IsOrdering, IsWholeOrder, AreRanks}
+use Rattle.cascade_rank.specs.Order.{left_of, IsOrdering, IsWholeOrder, AreRanks}
 use Rattle.cascade_rank.specs.Lowest.{IsLeft}
+use Rattle.cascade_rank.proofs.Events.{event}
 use Rattle.cascade_rank.proofs.LeastFitting.{need-agrees}
-use Rattle.cascade_rank.proofs.FirstEvent.{first_event-Some, first_event-None}
+use Rattle.cascade_rank.proofs.FirstEvent.{first_event-place, first_event-Some, first_event-None}
 use Rattle.cascade_rank.proofs.Verifying.{is_within_limit-true, is_within_limit-false}
 use Rattle.cascade_rank.proofs.Ranking.{rank-least, rank-fits}
 use Rattle.cascade_rank.proofs.Grounding.{grounded_is, open-leads, length_ranks, rank_at, limit_same, limit_ranks}
@@ -27,22 +30,23 @@ module _ (plan : PlanView) (valid : IsValid plan) (left : List ℕ) (order : Lis
     leads_on = open-leads plan valid left order o;
   }
 
-  pub first_open_is : first_open plan ≡ position (λ n. nat_lt 0 n) left
+  pub first_open_is : first_open plan ≡ option_map event (position (λ n. nat_lt 0 n) left)
   first_open_is =
-      first_place (is_open plan) (λ n. nat_lt 0 n) left 0 (length plan.events) o.length_is
-      (λ e l. ap not (grounded_is plan valid left order o e l) ∙ sym (is_left (slice_index left e)))
+      first_event-place plan (is_open plan)
+      ∙ ap (option_map event) (first_place plan (is_open plan) (λ n. nat_lt 0 n) left 0 o.length_is
+      (λ n l. ap not (grounded_is plan valid left order o (event n) l) ∙ sym (is_left (left_of left (event n)))))
 
   module _ (found : Option ℕ) (is : found ≡ position (λ n. nat_lt 0 n) left) where
-    pub found_past_is : found_at plan ≡ found_past plan found
+    pub found_past_is : found_at plan ≡ found_past plan (option_map event found)
     unfolding found_at
-    found_past_is = ap (found_past plan) (first_open_is ∙ sym is)
+    found_past_is = ap (found_past plan) (first_open_is ∙ sym (ap (option_map event) is))
 
-    pub first_is_open : (e : ℕ) → found ≡ Some e → (e < length plan.events) × IsFirst (is_open plan) e
-    first_is_open e some = first_event-Some plan (is_open plan) e (first_open_is ∙ sym is ∙ some)
+    pub first_is_open : (n : ℕ) → found ≡ Some n → (n < length plan.events) × IsFirst (is_open plan) (event n)
+    first_is_open n some = first_event-Some plan (is_open plan) (event n) (first_open_is ∙ ap (option_map event) (sym is ∙ some))
 
     module _ (none : found ≡ None) where
-      pub all_grounded : (e : ℕ) → e < length plan.events → grounded plan e ≡ true
-      all_grounded e l = not-false (grounded plan e) (first_event-None plan (is_open plan) (first_open_is ∙ sym is ∙ none) e l)
+      pub all_grounded : (e : EventId) → e.0 < length plan.events → grounded plan e ≡ true
+      all_grounded e l = not-false (grounded plan e) (first_event-None plan (is_open plan) (first_open_is ∙ ap (option_map event) (sym is ∙ none)) e l)
 
       pub whole_order : IsWholeOrder plan order
       whole_order = record {
@@ -54,12 +58,12 @@ module _ (plan : PlanView) (valid : IsValid plan) (left : List ℕ) (order : Lis
 
 -- ---- where every event is grounded
 
-module _ (plan : PlanView) (valid : IsValid plan) (all : (e : ℕ) → e < length plan.events → grounded plan e ≡ true) where
+module _ (plan : PlanView) (valid : IsValid plan) (all : (e : EventId) → e.0 < length plan.events → grounded plan e ≡ true) where
   pub ranks_least : IsLeastFitting plan (ranks plan)
   ranks_least = record {
     count = length_ranks plan;
     fits = λ e l.
-        let agree = need-agrees plan valid (slice_index (ranks plan)) (rank plan) (rank_at plan) e in
+        let agree = need-agrees plan valid (weight_of (ranks plan)) (rank plan) (rank_at plan) e in
         let fits = rank-fits plan valid all e l in
         omega (arith, agree, fits, rank_at plan e l);
     least = λ v fit e l.
@@ -90,5 +94,5 @@ module _ (plan : PlanView) (valid : IsValid plan) (all : (e : ℕ) → e < lengt
     }
 
 -- the same, where none is open
-pub not_open-least : (plan : PlanView) → IsValid plan → ((e : ℕ) → e < length plan.events → is_open plan e ≡ false) → IsLeastFitting plan (ranks plan)
+pub not_open-least : (plan : PlanView) → IsValid plan → ((e : EventId) → e.0 < length plan.events → is_open plan e ≡ false) → IsLeastFitting plan (ranks plan)
 not_open-least plan valid none = ranks_least plan valid (λ e l. not-false (grounded plan e) (none e l))

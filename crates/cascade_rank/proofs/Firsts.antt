@@ -1,29 +1,31 @@
 -- The first event that passes a test.
-use Rattle.std.proofs.Common.{◌≡◌, ℕ, zero, suc, ◌+◌, ◌<◌, ◌≤◌, min, Bool, true, false, not, cond, ◌&&◌, ◌||◌, ◌==◌, nat_lt, List, [], ◌∷◌, length, take, slice_index, get_or, Some, None, position, refl, sym, ◌∙◌, ap, subst, inl, inr, arith}
-use Rattle.std.specs.List.{range_with_len, position_or_len}
+use Rattle.std.proofs.Common.{◌≡◌, ℕ, zero, suc, ◌+◌, ◌<◌, ◌≤◌, min, Bool, true, false, not, cond, ◌&&◌, ◌||◌, ◌==◌, nat_lt, List, [], ◌∷◌, length, take, get_or, Some, None, position, refl, sym, ◌∙◌, ap, subst, inl, inr, arith}
+use Rattle.std.specs.List.{position_or_len}
 use Rattle.std.proofs.lemmas.Bool.{cases_lt, cases_eq, cases_Bool, lt-ltb, le-ltb, ne_eqb, and_from, and_left, and_right, or_cases, eqb-true, eq-eqb, false≢true}
-use Rattle.std.proofs.lemmas.List.FromFn.{length-range_with_len, get_or-range_with_len}
 use Rattle.std.proofs.lemmas.List.Sums.{position_or_len_is, fails_before_first, passes_at_first, prefix_len-le-length}
 use Rattle.mpf_plan.specs.PlanView.{PlanView, places_of}
 use Rattle.mpf_plan.specs.Valid.{IsValid}
 use Rattle.mpf_plan.specs.declared.entries.EventId.{EventId}
 use Rattle.mpf_plan.specs.declared.entries.BindingId.{BindingId}
 use Rattle.cascade_rank.specs.Cost.{Cost, Lines, Weight, Both, Greater, mentions, each_of, cost_of_event}
+use Rattle.cascade_rank.specs.Events.{events_of, no_event}
 use Rattle.cascade_rank.specs.LeadsTo.{is_open}
 use Rattle.cascade_rank.specs.Cycle.{IsFirst, next_open}
 use Rattle.cascade_rank.specs.Lowest.{lowest, IsLeft}
+use Rattle.cascade_rank.specs.Order.{left_of}
 use Rattle.cascade_rank.specs.Below.{IsBelow}
+use Rattle.cascade_rank.proofs.Events.{event, same_event, tested_event, length-events, event_number}
 use Rattle.cascade_rank.proofs.Within.{IsBelow-event}
 use Rattle.cascade_rank.proofs.Places.{cost_at_place}
 use Rattle.cascade_rank.proofs.Leading.{event-places}
 
 -- ---- the lowest event of a cost
 
-pub lowest-at_most : (n : ℕ) (p : ℕ → Bool) (c : Cost) → IsBelow n c → lowest n p c ≤ n
+pub lowest-at_most : (n : ℕ) (p : EventId → Bool) (c : Cost) → IsBelow n c → lowest n p c ≤ n
 lowest-at_most n p (Lines k) h = omega arith
 lowest-at_most n p (Weight e) h = by (p e)
   where
-    by : (b : Bool) → cond b e n ≤ n
+    by : (b : Bool) → cond b e.0 n ≤ n
     by true = omega (arith, h)
     by false = omega arith
 lowest-at_most n p (Both a b) h = omega (arith, lowest-at_most n p a h.0)
@@ -39,12 +41,12 @@ of_right true false q h = absurd (false≢true h)
 of_right false y q h = h
 
 -- it is one of them
-pub lowest-holds : (n : ℕ) (p : ℕ → Bool) (c : Cost) (k : ℕ) → k ≡ lowest n p c → k < n → (mentions k c && p k) ≡ true
+pub lowest-holds : (n : ℕ) (p : EventId → Bool) (c : Cost) (k : EventId) → k.0 ≡ lowest n p c → k.0 < n → (mentions k c && p k) ≡ true
 lowest-holds n p (Lines m) k is l = absurd (omega (arith, is, l))
 lowest-holds n p (Weight e) k is l = by (p e) refl is
   where
-    by : (b : Bool) → p e ≡ b → k ≡ cond b e n → (k == e && p k) ≡ true
-    by true passes here = and_from (k == e) (p k) (eq-eqb k e here) (ap p here ∙ passes)
+    by : (b : Bool) → p e ≡ b → k.0 ≡ cond b e.0 n → (k.0 == e.0 && p k) ≡ true
+    by true passes here = and_from (k.0 == e.0) (p k) (eq-eqb k.0 e.0 here) (ap p (same_event k e here) ∙ passes)
     by false fails here = absurd (omega (arith, here, l))
 lowest-holds n p (Both a b) k is l = elim (cases_lt (lowest n p a) (lowest n p b)) [
   | inl less ↦ of_left (mentions k a) (mentions k b) (p k) (lowest-holds n p a k (omega (arith, is, less)) l)
@@ -56,12 +58,12 @@ lowest-holds n p (Greater a b) k is l = elim (cases_lt (lowest n p a) (lowest n 
 ]
 
 -- none of them is lower
-pub lowest-first : (n : ℕ) (p : ℕ → Bool) (c : Cost) (k : ℕ) → k < lowest n p c → mentions k c ≡ true → p k ≡ false
+pub lowest-first : (n : ℕ) (p : EventId → Bool) (c : Cost) (k : EventId) → k.0 < lowest n p c → mentions k c ≡ true → p k ≡ false
 lowest-first n p (Lines m) k l h = absurd (false≢true h)
-lowest-first n p (Weight e) k l h = ap p (eqb-true k e h) ∙ by (p e) l
+lowest-first n p (Weight e) k l h = ap p (tested_event k e h) ∙ by (p e) l
   where
-    by : (b : Bool) → k < cond b e n → b ≡ false
-    by true less = absurd (omega (arith, less, eqb-true k e h))
+    by : (b : Bool) → k.0 < cond b e.0 n → b ≡ false
+    by true less = absurd (omega (arith, less, eqb-true k.0 e.0 h))
     by false less = refl
 lowest-first n p (Both a b) k l h = elim (or_cases (mentions k a) (mentions k b) h) [
   | inl m ↦ lowest-first n p a k (omega (arith, l)) m
@@ -73,7 +75,7 @@ lowest-first n p (Greater a b) k l h = elim (or_cases (mentions k a) (mentions k
 ]
 
 -- of one more of a list
-pub lowest-each_more : {X : Type 0} (n : ℕ) (p : ℕ → Bool) (f : X → Cost) (xs : List X) (i : ℕ) (d : X) → i < length xs → lowest n p (each_of f (take (i + 1) xs)) ≡ min (lowest n p (each_of f (take i xs))) (lowest n p (f (get_or xs i d)))
+pub lowest-each_more : {X : Type 0} (n : ℕ) (p : EventId → Bool) (f : X → Cost) (xs : List X) (i : ℕ) (d : X) → i < length xs → lowest n p (each_of f (take (i + 1) xs)) ≡ min (lowest n p (each_of f (take i xs))) (lowest n p (f (get_or xs i d)))
 lowest-each_more n p f [] i d h = absurd (omega (arith, h))
 lowest-each_more n p f (x ∷ xs) zero d h = omega arith
 lowest-each_more n p f (x ∷ xs) (suc i) d h =
@@ -81,61 +83,62 @@ lowest-each_more n p f (x ∷ xs) (suc i) d h =
     let r = lowest-each_more n p f xs i d (omega (arith, h)) in
     rw e (omega (arith, r))
 
--- ---- the first of the numbers
+-- ---- the first of the plan's events
 
-number_at : (n k : ℕ) → k < n → get_or (range_with_len 0 n) k 0 ≡ k
-number_at n k l = omega (arith, get_or-range_with_len 0 n k 0 l)
+module _ (plan : PlanView) where
+  -- the first place of a list that passes is that of the first event that does
+  pub first_place : {X : Type 0} (p : EventId → Bool) (q : X → Bool) (xs : List X) (d : X) → length xs ≡ length plan.events →
+      ((i : ℕ) → i < length plan.events → p (event i) ≡ q (get_or xs i d)) → position p (events_of plan) ≡ position q xs
+  first_place p q xs d count same =
+      let numbers = length-events plan in
+      let within = prefix_len-le-length (λ x. not (q x)) xs in
+      let place : position_or_len p (events_of plan) ≡ position_or_len q xs =
+      position_or_len_is p (events_of plan) (position_or_len q xs) no_event (omega (arith, numbers, count, within))
+      (λ k l.
+      let below : k < length plan.events = omega (arith, l, within, count) in
+      ap p (event_number plan k below) ∙ same k below ∙ fails_before_first q xs k d l)
+      (λ l.
+      let below : position_or_len q xs < length plan.events = omega (arith, l, numbers) in
+      ap p (event_number plan (position_or_len q xs) below) ∙ same (position_or_len q xs) below ∙ passes_at_first q xs d (omega (arith, below, count)))
+      in
+      λ i. cond (nat_lt (place i) ((numbers ∙ sym count) i)) (Some (place i)) None
 
--- the first place of a list that passes is the first number that does
-pub first_place : {X : Type 0} (p : ℕ → Bool) (q : X → Bool) (xs : List X) (d : X) (n : ℕ) → length xs ≡ n → ((i : ℕ) → i < n → p i ≡ q (get_or xs i d)) → position p (range_with_len 0 n) ≡ position q xs
-first_place p q xs d n count same =
-    let numbers = length-range_with_len 0 n in
-    let within = prefix_len-le-length (λ x. not (q x)) xs in
-    let place : position_or_len p (range_with_len 0 n) ≡ position_or_len q xs =
-    position_or_len_is p (range_with_len 0 n) (position_or_len q xs) 0 (omega (arith, numbers, count, within))
-    (λ k l.
-    let below : k < n = omega (arith, l, within, count) in
-    ap p (number_at n k below) ∙ same k below ∙ fails_before_first q xs k d l)
-    (λ l.
-    let below : position_or_len q xs < n = omega (arith, l, numbers) in
-    ap p (number_at n (position_or_len q xs) below) ∙ same (position_or_len q xs) below ∙ passes_at_first q xs d (omega (arith, below, count)))
-    in
-    λ i. cond (nat_lt (place i) ((numbers ∙ sym count) i)) (Some (place i)) None
+  -- the lowest number of a cost is that of the first event that is mentioned and passes
+  pub lowest-first_event : (p q : EventId → Bool) (c : Cost) → IsBelow (length plan.events) c → ((e : EventId) → e.0 < length plan.events → p e ≡ q e) →
+      position_or_len (λ e. mentions e c && q e) (events_of plan) ≡ lowest (length plan.events) p c
+  lowest-first_event p q c below same =
+      let numbers = length-events plan in
+      let most = lowest-at_most (length plan.events) p c below in
+      position_or_len_is (λ e. mentions e c && q e) (events_of plan) (lowest (length plan.events) p c) no_event (omega (arith, numbers, most))
+      (λ k l.
+      let small : k < length plan.events = omega (arith, l, most) in
+      ap (λ e. mentions e c && q e) (event_number plan k small) ∙ none (event k) l small)
+      (λ l.
+      let small : lowest (length plan.events) p c < length plan.events = omega (arith, l, numbers) in
+      let first = event (lowest (length plan.events) p c) in
+      ap (λ e. mentions e c && q e) (event_number plan (lowest (length plan.events) p c) small) ∙ ap (λ (b : Bool). mentions first c && b) (sym (same first small)) ∙ lowest-holds (length plan.events) p c first refl small)
+    where
+      none : (k : EventId) → k.0 < lowest (length plan.events) p c → k.0 < length plan.events → (mentions k c && q k) ≡ false
+      none k l small = elim (cases_Bool (mentions k c)) [
+        | inl m ↦ and_right (mentions k c) (q k) (sym (same k small) ∙ lowest-first (length plan.events) p c k l m)
+        | inr m ↦ and_left (mentions k c) (q k) m
+      ]
 
--- the lowest event of a cost is the first number that is mentioned and passes
-pub lowest-first_number : (n : ℕ) (p q : ℕ → Bool) (c : Cost) → IsBelow n c → ((e : ℕ) → e < n → p e ≡ q e) → position_or_len (λ e. mentions e c && q e) (range_with_len 0 n) ≡ lowest n p c
-lowest-first_number n p q c below same =
-    let numbers = length-range_with_len 0 n in
-    let most = lowest-at_most n p c below in
-    position_or_len_is (λ e. mentions e c && q e) (range_with_len 0 n) (lowest n p c) 0 (omega (arith, numbers, most))
-    (λ k l.
-    let small : k < n = omega (arith, l, most) in
-    ap (λ e. mentions e c && q e) (number_at n k small) ∙ none k l small)
-    (λ l.
-    let small : lowest n p c < n = omega (arith, l, numbers) in
-    ap (λ e. mentions e c && q e) (number_at n (lowest n p c) small) ∙ ap (λ (b : Bool). mentions (lowest n p c) c && b) (sym (same (lowest n p c) small)) ∙ lowest-holds n p c (lowest n p c) refl small)
-  where
-    none : (k : ℕ) → k < lowest n p c → k < n → (mentions k c && q k) ≡ false
-    none k l small = elim (cases_Bool (mentions k c)) [
-      | inl m ↦ and_right (mentions k c) (q k) (sym (same k small) ∙ lowest-first n p c k l m)
-      | inr m ↦ and_left (mentions k c) (q k) m
-    ]
+  -- what the first event that passes is
+  pub first_is : (p : EventId → Bool) (e : EventId) → position_or_len p (events_of plan) ≡ e.0 → e.0 < length plan.events → IsFirst p e
+  first_is p e is l =
+      let numbers = length-events plan in
+      record {
+        holds = sym (ap p (event_number plan e.0 l)) ∙ ap (λ (k : ℕ). p (get_or (events_of plan) k no_event)) (sym is) ∙ passes_at_first p (events_of plan) no_event (omega (arith, numbers, is, l));
+        least = λ d less. sym (ap p (event_number plan d.0 (omega (arith, less, l)))) ∙ fails_before_first p (events_of plan) d.0 no_event (omega (arith, less, is));
+      }
 
--- what the first number that passes is
-pub first_is : (n : ℕ) (p : ℕ → Bool) (e : ℕ) → position_or_len p (range_with_len 0 n) ≡ e → e < n → IsFirst p e
-first_is n p e is l =
-    let numbers = length-range_with_len 0 n in
-    record {
-      holds = sym (ap p (number_at n e l)) ∙ ap (λ (k : ℕ). p (get_or (range_with_len 0 n) k 0)) (sym is) ∙ passes_at_first p (range_with_len 0 n) 0 (omega (arith, numbers, is, l));
-      least = λ d less. sym (ap p (number_at n d (omega (arith, less, l)))) ∙ fails_before_first p (range_with_len 0 n) d 0 (omega (arith, less, is));
-    }
-
--- there is one where a number passes
-pub first_below : (n : ℕ) (p : ℕ → Bool) (k : ℕ) → k < n → p k ≡ true → position_or_len p (range_with_len 0 n) < n
-first_below n p k l h = elim (cases_lt (position_or_len p (range_with_len 0 n)) n) [
-  | inl less ↦ less
-  | inr more ↦ absurd (false≢true (sym (fails_before_first p (range_with_len 0 n) k 0 (omega (arith, more, l))) ∙ ap p (number_at n k l) ∙ h))
-]
+  -- there is one where an event passes
+  pub first_below : (p : EventId → Bool) (k : EventId) → k.0 < length plan.events → p k ≡ true → position_or_len p (events_of plan) < length plan.events
+  first_below p k l h = elim (cases_lt (position_or_len p (events_of plan)) (length plan.events)) [
+    | inl less ↦ less
+    | inr more ↦ absurd (false≢true (sym (fails_before_first p (events_of plan) k.0 no_event (omega (arith, more, l))) ∙ ap p (event_number plan k.0 l) ∙ h))
+  ]
 
 -- ---- where an event goes on to
 
@@ -147,13 +150,13 @@ is_left n = elim (cases_eq n 0) [
 
 -- the lowest of those that are at the places of what is bound to it
 pub next_is : (plan : PlanView) → IsValid plan → (left : List ℕ) → IsLeft plan left → (e : EventId) (places : List BindingId) (i found : ℕ) → places ≡ places_of plan e → length places ≤ i →
-    found ≡ lowest (length left) (λ f. nat_lt 0 (slice_index left f)) (each_of (cost_at_place plan) (take i places)) → found ≡ next_open plan e.0
+    found ≡ lowest (length left) (λ f. nat_lt 0 (left_of left f)) (each_of (cost_at_place plan) (take i places)) → event found ≡ next_open plan e
 next_is plan valid left l e places i found are whole is =
     let n = length plan.events in
     let cost = event-places plan places i e are whole in
-    let below = subst (IsBelow (length plan.events)) cost (IsBelow-event plan valid e.0) in
-    let first = lowest-first_number (length plan.events) (λ f. nat_lt 0 (slice_index left f)) (is_open plan) (cost_of_event plan e.0) (IsBelow-event plan valid e.0) (λ f k. is_left (slice_index left f) ∙ ap not (sym (l.grounded_is f k))) in
-    let whole_cost = ap (lowest (length plan.events) (λ f. nat_lt 0 (slice_index left f))) cost in
-    let most = lowest-at_most (length plan.events) (λ f. nat_lt 0 (slice_index left f)) (each_of (cost_at_place plan) (take i places)) below.1.0 in
-    let count = ap (λ (m : ℕ). lowest m (λ f. nat_lt 0 (slice_index left f)) (each_of (cost_at_place plan) (take i places))) l.count in
-    omega (arith, first, whole_cost, most, count, is)
+    let below = subst (IsBelow (length plan.events)) cost (IsBelow-event plan valid e) in
+    let first = lowest-first_event plan (λ f. nat_lt 0 (left_of left f)) (is_open plan) (cost_of_event plan e) (IsBelow-event plan valid e) (λ f k. is_left (left_of left f) ∙ ap not (sym (l.grounded_is f k))) in
+    let whole_cost = ap (lowest (length plan.events) (λ f. nat_lt 0 (left_of left f))) cost in
+    let most = lowest-at_most (length plan.events) (λ f. nat_lt 0 (left_of left f)) (each_of (cost_at_place plan) (take i places)) below.1.0 in
+    let count = ap (λ (m : ℕ). lowest m (λ f. nat_lt 0 (left_of left f)) (each_of (cost_at_place plan) (take i places))) l.count in
+    same_event (event found) (next_open plan e) (omega (arith, first, whole_cost, most, count, is))

@@ -1,19 +1,21 @@
 -- The whole order has exactly the grounded events, and each can be weighed after those before it.
-use Rattle.std.proofs.Common.{◌≡◌, ℕ, zero, suc, ◌+◌, ◌-◌, ◌<◌, ◌≤◌, min, Bool, true, false, not, ◌||◌, ◌==◌, nat_le, List, [], length, take, set, slice_index, refl, sym, ◌∙◌, ap, subst, inl, inr, arith, take_all, get_or-set_same, get_or-set_other}
+use Rattle.std.proofs.Common.{◌≡◌, ℕ, zero, suc, ◌+◌, ◌-◌, ◌<◌, ◌≤◌, min, Bool, true, false, not, ◌||◌, ◌==◌, nat_le, List, [], length, take, set, refl, sym, ◌∙◌, ap, subst, inl, inr, arith, take_all, get_or-set_same, get_or-set_other}
 use Rattle.std.specs.List.{list_all}
 use Rattle.std.proofs.lemmas.Bool.{cases_eq, cases_Bool, or_cases, eqb-true, eq-eqb, leb-true, le-leb, and_left, and_parts, false≢true}
-use Rattle.std.proofs.lemmas.List.FromFn.{fill_by_all, length-map-range_with_len, get_or-map-range_with_len}
+use Rattle.std.proofs.lemmas.List.{ext_get_or, length-map, get_or-map}
 use Rattle.std.proofs.lemmas.List.Sums.{AllPass-from_list_all, list_all-from_AllPass}
 use Rattle.std.proofs.lemmas.List.Elements.{All-from_get_or}
 use Rattle.mpf_plan.specs.PlanView.{PlanView}
 use Rattle.mpf_plan.specs.Valid.{IsValid}
 use Rattle.mpf_plan.specs.declared.entries.EventId.{EventId}
 use Rattle.cascade_rank.specs.Cost.{price, all_mentioned, cost_of_event}
+use Rattle.cascade_rank.specs.Events.{events_of, no_event, event_at, weight_of}
 use Rattle.cascade_rank.specs.Weights.{need, greatest, bound_of}
 use Rattle.cascade_rank.specs.LeadsTo.{grounded_in, grounded, is_open}
 use Rattle.cascade_rank.specs.Ranks.{rank, ranks}
 use Rattle.cascade_rank.specs.Finding.{is_within_limit}
-use Rattle.cascade_rank.specs.Order.{unmet, is_in, event_at, EachAfter, IsOrdering, AreRanks}
+use Rattle.cascade_rank.specs.Order.{unmet, is_in, left_of, EachAfter, IsOrdering, AreRanks}
+use Rattle.cascade_rank.proofs.Events.{event, same_event, tested_event, length-events, event_number}
 use Rattle.cascade_rank.proofs.Prices.{price_agrees}
 use Rattle.cascade_rank.proofs.Mentioned.{all_mentioned_at, all_mentioned-weaker, unmet-none, price-capped}
 use Rattle.cascade_rank.proofs.Ranking.{grounded-more, grounded-later, rank-stable, mentioned_below}
@@ -26,15 +28,15 @@ same_bool false false h k = refl
 
 module _ (plan : PlanView) (order : List EventId) (grounds : EachAfter (λ before e. all_mentioned (is_in before) (cost_of_event plan e) ≡ true) order) where
   -- the first k of the order are grounded after k rounds
-  pub grounded-front : (k : ℕ) → k ≤ length order → (e : ℕ) → is_in (take k order) e ≡ true → grounded_in plan k e ≡ true
+  pub grounded-front : (k : ℕ) → k ≤ length order → (e : EventId) → is_in (take k order) e ≡ true → grounded_in plan k e ≡ true
   grounded-front zero l e h = absurd (false≢true h)
   grounded-front (suc k) l e h =
       let one : suc k ≡ k + 1 = omega arith in
       let parts = sym (is_in-more order k e (omega (arith, l))) ∙ ap (λ (n : ℕ). is_in (take n order) e) (sym one) ∙ h in
-      elim (or_cases (is_in (take k order) e) (event_at order k == e) parts) [
+      elim (or_cases (is_in (take k order) e) ((event_at order k).0 == e.0) parts) [
         | inl before ↦ grounded-more plan k e (grounded-front k (omega (arith, l)) e before)
         | inr here ↦
-            subst (λ (x : ℕ). grounded_in plan (suc k) x ≡ true) (eqb-true (event_at order k) e here)
+            subst (λ (x : EventId). grounded_in plan (suc k) x ≡ true) (tested_event (event_at order k) e here)
             (all_mentioned-weaker (is_in (take k order)) (grounded_in plan k) (cost_of_event plan (event_at order k)) (λ f m. grounded-front k (omega (arith, l)) f) (grounds k (omega (arith, l))))
       ]
 
@@ -42,31 +44,31 @@ module _ (plan : PlanView) (valid : IsValid plan) (left : List ℕ) (order : Lis
   short : length order ≤ length plan.events
   short = omega (arith, o.room)
 
-  pub order-grounded : (e : ℕ) → is_in order e ≡ true → grounded plan e ≡ true
+  pub order-grounded : (e : EventId) → is_in order e ≡ true → grounded plan e ≡ true
   order-grounded e h =
       let whole : is_in (take (length order) order) e ≡ true = ap (λ (ds : List EventId). is_in ds e) (take_all (length order) order (omega arith)) ∙ h in
       let rounds : length order + (length plan.events - length order) ≡ length plan.events = omega (arith, short) in
       subst (λ (n : ℕ). grounded_in plan n e ≡ true) rounds (grounded-later plan (length order) (length plan.events - length order) e (grounded-front plan order o.grounds (length order) (omega arith) e whole))
 
   -- an event that leads only to events of the order is in it
-  closed : (e : ℕ) → e < length plan.events → all_mentioned (is_in order) (cost_of_event plan e) ≡ true → is_in order e ≡ true
+  closed : (e : EventId) → e.0 < length plan.events → all_mentioned (is_in order) (cost_of_event plan e) ≡ true → is_in order e ≡ true
   closed e l h =
       let whole = ap (λ (ds : List EventId). unmet (is_in ds) (cost_of_event plan e)) (take_all (length order) order (omega arith)) in
       let none = eqb-true (unmet (is_in order) (cost_of_event plan e)) 0 (sym (unmet-none (is_in order) (cost_of_event plan e)) ∙ h) in
       let is = o.left_is e l in
-      o.listed e l ∙ eq-eqb (slice_index left e) 0 (omega (arith, whole, none, is))
+      o.listed e l ∙ eq-eqb (left_of left e) 0 (omega (arith, whole, none, is))
 
-  grounded-order : (k e : ℕ) → e < length plan.events → grounded_in plan k e ≡ true → is_in order e ≡ true
+  grounded-order : (k : ℕ) (e : EventId) → e.0 < length plan.events → grounded_in plan k e ≡ true → is_in order e ≡ true
   grounded-order zero e l h = absurd (false≢true h)
   grounded-order (suc k) e l h =
       closed e l (all_mentioned-weaker (grounded_in plan k) (is_in order) (cost_of_event plan e) (λ f m. grounded-order k f (mentioned_below plan valid e f m)) h)
 
   -- an event is grounded where nothing is left of it
-  pub grounded_is : (e : ℕ) → e < length plan.events → grounded plan e ≡ (slice_index left e == 0)
+  pub grounded_is : (e : EventId) → e.0 < length plan.events → grounded plan e ≡ (left_of left e == 0)
   grounded_is e l = same_bool (grounded plan e) (is_in order e) (grounded-order (length plan.events) e l) (order-grounded e) ∙ o.listed e l
 
   -- an event that is not grounded leads to one
-  pub open-leads : (e : ℕ) → e < length plan.events → is_open plan e ≡ true → all_mentioned (grounded plan) (cost_of_event plan e) ≡ false
+  pub open-leads : (e : EventId) → e.0 < length plan.events → is_open plan e ≡ true → all_mentioned (grounded plan) (cost_of_event plan e) ≡ false
   open-leads e l h = by (all_mentioned (grounded plan) (cost_of_event plan e)) refl
     where
       by : (b : Bool) → all_mentioned (grounded plan) (cost_of_event plan e) ≡ b → b ≡ false
@@ -79,7 +81,7 @@ module _ (plan : PlanView) (valid : IsValid plan) (left : List ℕ) (order : Lis
 
 -- the events of the order so far weigh their ranks, none more than 1 above the limit
 abbrev pub AreWeighed : PlanView → List EventId → List ℕ → Type 0
-AreWeighed plan weighed weights = (e : ℕ) → is_in weighed e ≡ true → slice_index weights e ≡ min 10001 (rank plan e)
+AreWeighed plan weighed weights = (e : EventId) → is_in weighed e ≡ true → weight_of weights e ≡ min 10001 (rank plan e)
 
 module _ (plan : PlanView) (valid : IsValid plan) (order : List EventId) (grounds : EachAfter (λ before e. all_mentioned (is_in before) (cost_of_event plan e) ≡ true) order)
     (short : length order ≤ length plan.events) where
@@ -88,7 +90,7 @@ module _ (plan : PlanView) (valid : IsValid plan) (order : List EventId) (ground
   rank_needs i l =
       let here = is_in-more order i (event_at order i) l in
       let rounds : (i + 1) + (length plan.events - (i + 1)) ≡ length plan.events = omega (arith, short, l) in
-      let within : is_in (take (i + 1) order) (event_at order i) ≡ true = here ∙ by (is_in (take i order) (event_at order i)) (event_at order i == event_at order i) (eq-eqb (event_at order i) (event_at order i) refl) in
+      let within : is_in (take (i + 1) order) (event_at order i) ≡ true = here ∙ by (is_in (take i order) (event_at order i)) ((event_at order i).0 == (event_at order i).0) (eq-eqb (event_at order i).0 (event_at order i).0 refl) in
       let stands = grounded-later plan (i + 1) (length plan.events - (i + 1)) (event_at order i) (grounded-front plan order grounds (i + 1) (omega (arith, l)) (event_at order i) within) in
       rank-stable plan (length plan.events) (event_at order i) (subst (λ (n : ℕ). grounded_in plan n (event_at order i) ≡ true) rounds stands)
     where
@@ -96,56 +98,59 @@ module _ (plan : PlanView) (valid : IsValid plan) (order : List EventId) (ground
       by true b h = refl
       by false b h = h
 
-  pub weighs_more : (weights : List ℕ) (i needed : ℕ) → i < length order → length weights ≡ length plan.events → event_at order i < length plan.events →
-      AreWeighed plan (take i order) weights → needed ≡ price (slice_index weights) (cost_of_event plan (event_at order i)) →
-      AreWeighed plan (take (i + 1) order) (set weights (event_at order i) (min 10001 needed))
+  pub weighs_more : (weights : List ℕ) (i needed : ℕ) → i < length order → length weights ≡ length plan.events → (event_at order i).0 < length plan.events →
+      AreWeighed plan (take i order) weights → needed ≡ price (weight_of weights) (cost_of_event plan (event_at order i)) →
+      AreWeighed plan (take (i + 1) order) (set weights (event_at order i).0 (min 10001 needed))
   weighs_more weights i needed l count below weighed is = λ e h.
       let capped : min 10001 needed ≡ min 10001 (rank plan (event_at order i)) =
-      (let agree = price_agrees (slice_index weights) (λ f. min 10001 (rank plan f)) (cost_of_event plan (event_at order i)) (λ f m. weighed f (all_mentioned_at (is_in (take i order)) (cost_of_event plan (event_at order i)) f (grounds i l) m)) in
+      (let agree = price_agrees (weight_of weights) (λ f. min 10001 (rank plan f)) (cost_of_event plan (event_at order i)) (λ f m. weighed f (all_mentioned_at (is_in (take i order)) (cost_of_event plan (event_at order i)) f (grounds i l) m)) in
       let over = price-capped 10001 (rank plan) (cost_of_event plan (event_at order i)) in
       omega (arith, is, agree, over, rank_needs i l)) in
-      elim (cases_eq e (event_at order i)) [
+      elim (cases_eq e.0 (event_at order i).0) [
         | inl same ↦
-            subst (λ (y : ℕ). slice_index (set weights (event_at order i) (min 10001 needed)) y ≡ min 10001 (rank plan y)) (sym same)
-            (get_or-set_same weights (event_at order i) (min 10001 needed) 0 (omega (arith, count, below)) ∙ capped)
+            subst (λ (y : EventId). weight_of (set weights (event_at order i).0 (min 10001 needed)) y ≡ min 10001 (rank plan y)) (sym (same_event e (event_at order i) same))
+            (get_or-set_same weights (event_at order i).0 (min 10001 needed) 0 (omega (arith, count, below)) ∙ capped)
         | inr other ↦
-            elim (or_cases (is_in (take i order) e) (event_at order i == e) (sym (is_in-more order i e l) ∙ h)) [
-              | inl before ↦ get_or-set_other weights (event_at order i) e (min 10001 needed) 0 other ∙ weighed e before
-              | inr here ↦ absurd (other (sym (eqb-true (event_at order i) e here)))
+            elim (or_cases (is_in (take i order) e) ((event_at order i).0 == e.0) (sym (is_in-more order i e l) ∙ h)) [
+              | inl before ↦ get_or-set_other weights (event_at order i).0 e.0 (min 10001 needed) 0 other ∙ weighed e before
+              | inr here ↦ absurd (other (sym (eqb-true (event_at order i).0 e.0 here)))
             ]
       ]
 
 module _ (plan : PlanView) where
   pub length_ranks : length (ranks plan) ≡ length plan.events
-  length_ranks = length-map-range_with_len (rank plan) 0 (length plan.events)
+  length_ranks = length-map (events_of plan) (rank plan) ∙ length-events plan
 
-  pub rank_at : (e : ℕ) → e < length plan.events → slice_index (ranks plan) e ≡ rank plan e
-  rank_at e l = get_or-map-range_with_len (rank plan) 0 (length plan.events) e e 0 l (omega arith)
+  pub rank_at : (e : EventId) → e.0 < length plan.events → weight_of (ranks plan) e ≡ rank plan e
+  rank_at e l =
+      get_or-map (rank plan) (events_of plan) e.0 no_event 0 (omega (arith, l, length-events plan))
+      ∙ ap (rank plan) (event_number plan e.0 l)
 
 module _ (plan : PlanView) (weights : List ℕ) (are : AreRanks plan weights) where
   -- where each is within the limit, they are the ranks
   all_small : list_all (λ w. nat_le w greatest) weights ≡ true → weights ≡ ranks plan
   all_small h =
       let each = AllPass-from_list_all (λ w. nat_le w greatest) weights h in
-      fill_by_all (rank plan) weights (length plan.events) 0 are.count (λ e l.
-      let low = leb-true (slice_index weights e) greatest (each e 0 (omega (arith, l, are.count))) in
-      omega (arith, low, are.each e l))
+      ext_get_or 0 weights (ranks plan) (are.count ∙ sym (length_ranks plan)) (λ n l.
+      let low = leb-true (weight_of weights (event n)) greatest (each n 0 l) in
+      let below : n < length plan.events = omega (arith, l, are.count) in
+      omega (arith, low, are.each (event n) below, rank_at plan (event n) below))
 
   ranks_small : list_all (λ w. nat_le w greatest) (ranks plan) ≡ true → list_all (λ w. nat_le w greatest) weights ≡ true
   ranks_small h =
       let each = AllPass-from_list_all (λ w. nat_le w greatest) (ranks plan) h in
-      list_all-from_AllPass (λ w. nat_le w greatest) weights (All-from_get_or (λ w. nat_le w greatest ≡ true) weights 0 (λ e l.
-      let below : e < length plan.events = omega (arith, l, are.count) in
-      let low = leb-true (slice_index (ranks plan) e) greatest (each e 0 (omega (arith, below, length_ranks plan))) in
-      le-leb (slice_index weights e) greatest (omega (arith, low, rank_at plan e below, are.each e below))))
+      list_all-from_AllPass (λ w. nat_le w greatest) weights (All-from_get_or (λ w. nat_le w greatest ≡ true) weights 0 (λ n l.
+      let below : n < length plan.events = omega (arith, l, are.count) in
+      let low = leb-true (weight_of (ranks plan) (event n)) greatest (each n 0 (omega (arith, below, length_ranks plan))) in
+      le-leb (weight_of weights (event n)) greatest (omega (arith, low, rank_at plan (event n) below, are.each (event n) below))))
 
   pub limit_same : is_within_limit plan weights ≡ is_within_limit plan (ranks plan)
   limit_same = elim (cases_Bool (list_all (λ w. nat_le w greatest) weights)) [
     | inl holds ↦ ap (is_within_limit plan) (all_small holds)
     | inr fails ↦
-        and_left (list_all (λ w. nat_le w greatest) weights) (nat_le (bound_of plan (slice_index weights)) greatest) fails
-        ∙ sym (and_left (list_all (λ w. nat_le w greatest) (ranks plan)) (nat_le (bound_of plan (slice_index (ranks plan))) greatest) (same_bool (list_all (λ w. nat_le w greatest) (ranks plan)) false (λ h. sym fails ∙ ranks_small h) (λ h. absurd (false≢true h))))
+        and_left (list_all (λ w. nat_le w greatest) weights) (nat_le (bound_of plan (weight_of weights)) greatest) fails
+        ∙ sym (and_left (list_all (λ w. nat_le w greatest) (ranks plan)) (nat_le (bound_of plan (weight_of (ranks plan))) greatest) (same_bool (list_all (λ w. nat_le w greatest) (ranks plan)) false (λ h. sym fails ∙ ranks_small h) (λ h. absurd (false≢true h))))
   ]
 
   pub limit_ranks : is_within_limit plan weights ≡ true → weights ≡ ranks plan
-  limit_ranks h = all_small (and_parts (list_all (λ w. nat_le w greatest) weights) (nat_le (bound_of plan (slice_index weights)) greatest) h).0
+  limit_ranks h = all_small (and_parts (list_all (λ w. nat_le w greatest) weights) (nat_le (bound_of plan (weight_of weights)) greatest) h).0

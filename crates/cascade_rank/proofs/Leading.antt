@@ -10,9 +10,11 @@ use Rattle.mpf_plan.specs.declared.entries.EventId.{EventId}
 use Rattle.mpf_plan.specs.declared.entries.BindingId.{BindingId}
 use Rattle.mpf_plan.specs.declared.entries.Binding.{Binding}
 use Rattle.cascade_rank.specs.Cost.{Cost, Lines, Weight, Both, each_of, cost_of_binding, cost_of_work, cost_of_event}
-use Rattle.cascade_rank.specs.Order.{unmet, occurrences, times, no_event, event_at, IsOrdering, IsMeeting}
+use Rattle.cascade_rank.specs.Events.{no_event, event_at}
+use Rattle.cascade_rank.specs.Order.{unmet, occurrences, times, left_of, IsOrdering, IsMeeting}
 use Rattle.cascade_rank.specs.Leaders.{leaders_to, AddsLeader, HasLeaders}
 use Rattle.mpf_plan.proofs.BoundTo.{places_of-bound}
+use Rattle.cascade_rank.proofs.Events.{event, same_event}
 use Rattle.cascade_rank.proofs.Ordering.{counted}
 use Rattle.cascade_rank.proofs.Places.{each_of-map, cost_at_place}
 
@@ -27,10 +29,10 @@ module _ (F : Cost → ℕ) (none : F (Lines 0) ≡ 0) (both : (a b : Cost) → 
       let r = each-more f xs i d (omega (arith, h)) in
       rw e (omega (arith, r, both (f x) (each_of f (take (i + 1) xs)), both (f x) (each_of f (take i xs))))
 
-pub occurrences-each_more : {X : Type 0} (e : ℕ) (f : X → Cost) (xs : List X) (i : ℕ) (d : X) → i < length xs → occurrences e (each_of f (take (i + 1) xs)) ≡ occurrences e (each_of f (take i xs)) + occurrences e (f (get_or xs i d))
+pub occurrences-each_more : {X : Type 0} (e : EventId) (f : X → Cost) (xs : List X) (i : ℕ) (d : X) → i < length xs → occurrences e (each_of f (take (i + 1) xs)) ≡ occurrences e (each_of f (take i xs)) + occurrences e (f (get_or xs i d))
 occurrences-each_more e f xs i d h = each-more (occurrences e) refl (λ a b. refl) f xs i d h
 
-pub unmet-each_more : {X : Type 0} (p : ℕ → Bool) (f : X → Cost) (xs : List X) (i : ℕ) (d : X) → i < length xs → unmet p (each_of f (take (i + 1) xs)) ≡ unmet p (each_of f (take i xs)) + unmet p (f (get_or xs i d))
+pub unmet-each_more : {X : Type 0} (p : EventId → Bool) (f : X → Cost) (xs : List X) (i : ℕ) (d : X) → i < length xs → unmet p (each_of f (take (i + 1) xs)) ≡ unmet p (each_of f (take i xs)) + unmet p (f (get_or xs i d))
 unmet-each_more p f xs i d h = each-more (unmet p) refl (λ a b. refl) f xs i d h
 
 -- ---- what one event leads to
@@ -39,44 +41,44 @@ split_sum : (b : Bool) (x y z : ℕ) → z ≡ x + y → cond b z 0 ≡ cond b x
 split_sum true x y z h = h
 split_sum false x y z h = refl
 
-pub adds-none : (leader : ℕ) (c : Cost) (old : List (List EventId)) → ((f : ℕ) → occurrences f c ≡ 0) → AddsLeader leader c old old
+pub adds-none : (leader : EventId) (c : Cost) (old : List (List EventId)) → ((f : EventId) → occurrences f c ≡ 0) → AddsLeader leader c old old
 adds-none leader c old none = record {
   count = refl;
-  more = λ f e l. let nothing = by (leader == e) (occurrences f c) (none f) in omega (arith, nothing);
+  more = λ f e l. let nothing = by (leader.0 == e.0) (occurrences f c) (none f) in omega (arith, nothing);
 }
   where
     by : (b : Bool) (n : ℕ) → n ≡ 0 → cond b n 0 ≡ 0
     by true n h = h
     by false n h = refl
 
-pub adds-both : (leader : ℕ) (a b c : Cost) (old mid new : List (List EventId)) → ((f : ℕ) → occurrences f c ≡ occurrences f a + occurrences f b) → AddsLeader leader a old mid → AddsLeader leader b mid new → AddsLeader leader c old new
+pub adds-both : (leader : EventId) (a b c : Cost) (old mid new : List (List EventId)) → ((f : EventId) → occurrences f c ≡ occurrences f a + occurrences f b) → AddsLeader leader a old mid → AddsLeader leader b mid new → AddsLeader leader c old new
 adds-both leader a b c old mid new sums first then = record {
   count = then.count ∙ first.count;
   more = λ f e l.
       let one = first.more f e l in
       let two = then.more f e (omega (arith, l, first.count)) in
-      let whole = split_sum (leader == e) (occurrences f a) (occurrences f b) (occurrences f c) (sums f) in
+      let whole = split_sum (leader.0 == e.0) (occurrences f a) (occurrences f b) (occurrences f c) (sums f) in
       omega (arith, one, two, whole);
 }
 
-pub adds-more : {X : Type 0} (leader : ℕ) (cost : X → Cost) (xs : List X) (i : ℕ) (d : X) (old mid new : List (List EventId)) → i < length xs →
+pub adds-more : {X : Type 0} (leader : EventId) (cost : X → Cost) (xs : List X) (i : ℕ) (d : X) (old mid new : List (List EventId)) → i < length xs →
     AddsLeader leader (each_of cost (take i xs)) old mid → AddsLeader leader (cost (get_or xs i d)) mid new → AddsLeader leader (each_of cost (take (i + 1) xs)) old new
 adds-more leader cost xs i d old mid new l first then =
     adds-both leader (each_of cost (take i xs)) (cost (get_or xs i d)) (each_of cost (take (i + 1) xs)) old mid new (λ f. occurrences-each_more f cost xs i d l) first then
 
-pub adds-one : (leader f : EventId) (old : List (List EventId)) → f.0 < length old → AddsLeader leader.0 (Weight f.0) old (set old f.0 (leaders_to old f.0 ++ leader ∷ []))
+pub adds-one : (leader f : EventId) (old : List (List EventId)) → f.0 < length old → AddsLeader leader (Weight f) old (set old f.0 (leaders_to old f ++ leader ∷ []))
 adds-one leader f old l = record {
-  count = length-set old f.0 (leaders_to old f.0 ++ leader ∷ []);
-  more = λ g e k. elim (cases_eq g f.0) [
+  count = length-set old f.0 (leaders_to old f ++ leader ∷ []);
+  more = λ g e k. elim (cases_eq g.0 f.0) [
     | inl same ↦
-        let here = ap (λ (ds : List EventId). times ds e) (ap (λ (h : ℕ). leaders_to (set old f.0 (leaders_to old f.0 ++ leader ∷ [])) h) same ∙ get_or-set_same old f.0 (leaders_to old f.0 ++ leader ∷ []) [] l) in
-        let push = sum_by_push (λ d. cond (d.0 == e) 1 0) (leaders_to old f.0) leader in
-        let was = ap (λ (h : ℕ). times (leaders_to old h) e) same in
-        let one = by (leader.0 == e) (g == f.0) (eq-eqb g f.0 same) in
+        let here = ap (λ (ds : List EventId). times ds e) (ap (λ (h : EventId). leaders_to (set old f.0 (leaders_to old f ++ leader ∷ [])) h) (same_event g f same) ∙ get_or-set_same old f.0 (leaders_to old f ++ leader ∷ []) [] l) in
+        let push = sum_by_push (λ d. cond (d.0 == e.0) 1 0) (leaders_to old f) leader in
+        let was = ap (λ (h : EventId). times (leaders_to old h) e) (same_event g f same) in
+        let one = by (leader.0 == e.0) (g.0 == f.0) (eq-eqb g.0 f.0 same) in
         omega (arith, here, push, was, one)
     | inr other ↦
-        let here = ap (λ (ds : List EventId). times ds e) (get_or-set_other old f.0 g (leaders_to old f.0 ++ leader ∷ []) [] other) in
-        let nothing = by_not (leader.0 == e) (g == f.0) (ne_eqb g f.0 other) in
+        let here = ap (λ (ds : List EventId). times ds e) (get_or-set_other old f.0 g.0 (leaders_to old f ++ leader ∷ []) [] other) in
+        let nothing = by_not (leader.0 == e.0) (g.0 == f.0) (ne_eqb g.0 f.0 other) in
         omega (arith, here, nothing)
   ];
 }
@@ -96,28 +98,28 @@ module _ (plan : PlanView) (places : List BindingId) (i : ℕ) where
   place-cost b at = ap (cost_of_binding plan) (get_or_from_slice_get plan.bindings (get_or places i (record { 0 = 0 })).0 b no_binding at)
 
   -- an event costs its line, what is at the places of what is bound to it, and the machine's work
-  pub event-places : (e : EventId) → places ≡ places_of plan e → length places ≤ i → cost_of_event plan e.0 ≡ Both (Lines 1) (Both (each_of (cost_at_place plan) (take i places)) (cost_of_work plan e))
+  pub event-places : (e : EventId) → places ≡ places_of plan e → length places ≤ i → cost_of_event plan e ≡ Both (Lines 1) (Both (each_of (cost_at_place plan) (take i places)) (cost_of_work plan e))
   event-places e are whole =
       let taken : take i places ≡ places_of plan e = take_all i places whole ∙ are in
       let bound = each_of-map (cost_of_binding plan) (λ (p : BindingId). binding_at plan p.0) (places_of plan e) ∙ ap (each_of (cost_of_binding plan)) (places_of-bound plan e) in
       sym (ap (λ (c : Cost). Both (Lines 1) (Both c (cost_of_work plan e))) (ap (each_of (cost_at_place plan)) taken ∙ bound))
 
   -- the event leads to what one place more posts
-  pub adds-place : (leader : ℕ) (b : Binding) (old mid new : List (List EventId)) → i < length places → slice_get plan.bindings (get_or places i (record { 0 = 0 })).0 ≡ Some b →
+  pub adds-place : (leader : EventId) (b : Binding) (old mid new : List (List EventId)) → i < length places → slice_get plan.bindings (get_or places i (record { 0 = 0 })).0 ≡ Some b →
       AddsLeader leader (each_of (cost_at_place plan) (take i places)) old mid → AddsLeader leader (cost_of_binding plan b) mid new → AddsLeader leader (each_of (cost_at_place plan) (take (i + 1) places)) old new
   adds-place leader b old mid new l at first then =
       adds-more leader (cost_at_place plan) places i (record { 0 = 0 }) old mid new l first (subst (λ (c : Cost). AddsLeader leader c mid new) (sym (place-cost b at)) then)
 
-  pub unmet-place : (p : ℕ → Bool) (b : Binding) → i < length places → slice_get plan.bindings (get_or places i (record { 0 = 0 })).0 ≡ Some b →
+  pub unmet-place : (p : EventId → Bool) (b : Binding) → i < length places → slice_get plan.bindings (get_or places i (record { 0 = 0 })).0 ≡ Some b →
       unmet p (each_of (cost_at_place plan) (take (i + 1) places)) ≡ unmet p (each_of (cost_at_place plan) (take i places)) + unmet p (cost_of_binding plan b)
   unmet-place p b l at = unmet-each_more p (cost_at_place plan) places i (record { 0 = 0 }) l ∙ ap (λ (c : Cost). unmet p (each_of (cost_at_place plan) (take i places)) + unmet p c) (place-cost b at)
 
   pub adds-event : (e : EventId) (old new : List (List EventId)) → places ≡ places_of plan e → length places ≤ i →
-      AddsLeader e.0 (each_of (cost_at_place plan) (take i places)) old new → AddsLeader e.0 (cost_of_event plan e.0) old new
-  adds-event e old new are whole adds = subst (λ (c : Cost). AddsLeader e.0 c old new) (sym (event-places e are whole))
-      (adds-both e.0 (Lines 1) (each_of (cost_at_place plan) (take i places)) (Both (Lines 1) (Both (each_of (cost_at_place plan) (take i places)) (cost_of_work plan e))) old old new (λ f. omega arith) (adds-none e.0 (Lines 1) old (λ f. refl)) adds)
+      AddsLeader e (each_of (cost_at_place plan) (take i places)) old new → AddsLeader e (cost_of_event plan e) old new
+  adds-event e old new are whole adds = subst (λ (c : Cost). AddsLeader e c old new) (sym (event-places e are whole))
+      (adds-both e (Lines 1) (each_of (cost_at_place plan) (take i places)) (Both (Lines 1) (Both (each_of (cost_at_place plan) (take i places)) (cost_of_work plan e))) old old new (λ f. omega arith) (adds-none e (Lines 1) old (λ f. refl)) adds)
 
-  pub unmet-event : (p : ℕ → Bool) (e : EventId) → places ≡ places_of plan e → length places ≤ i → unmet p (each_of (cost_at_place plan) (take i places)) ≡ unmet p (cost_of_event plan e.0)
+  pub unmet-event : (p : EventId → Bool) (e : EventId) → places ≡ places_of plan e → length places ≤ i → unmet p (each_of (cost_at_place plan) (take i places)) ≡ unmet p (cost_of_event plan e)
   unmet-event p e are whole = zero-plus (unmet p (each_of (cost_at_place plan) (take i places))) ∙ sym (ap (unmet p) (event-places e are whole))
     where
       zero-plus : (n : ℕ) → n ≡ 0 + (n + 0)
@@ -130,57 +132,57 @@ leaders_start plan leaders is = record {
   count = ap length is ∙ length-replicate (length plan.events) [];
   left_count = refl;
   leads = λ f e l.
-      ap (λ (ds : List EventId). times ds e) (ap (λ (ls : List (List EventId)). leaders_to ls f) is ∙ get_or-replicate (length plan.events) f [] [] l)
-      ∙ sym (ap (λ (b : Bool). cond b (occurrences f (cost_of_event plan e)) 0) (le-ltb e 0 (omega arith)));
+      ap (λ (ds : List EventId). times ds e) (ap (λ (ls : List (List EventId)). leaders_to ls f) is ∙ get_or-replicate (length plan.events) f.0 [] [] l)
+      ∙ sym (ap (λ (b : Bool). cond b (occurrences f (cost_of_event plan e)) 0) (le-ltb e.0 0 (omega arith)));
   left_is = λ e l. absurd (omega (arith, l));
 }
 
-pub leaders_more : (plan : PlanView) (n posts : ℕ) (leaders new : List (List EventId)) (left : List ℕ) → HasLeaders plan n leaders left → AddsLeader n (cost_of_event plan n) leaders new →
-    posts ≡ unmet (λ _. false) (cost_of_event plan n) → HasLeaders plan (n + 1) new (left ++ posts ∷ [])
+pub leaders_more : (plan : PlanView) (n posts : ℕ) (leaders new : List (List EventId)) (left : List ℕ) → HasLeaders plan n leaders left → AddsLeader (event n) (cost_of_event plan (event n)) leaders new →
+    posts ≡ unmet (λ _. false) (cost_of_event plan (event n)) → HasLeaders plan (n + 1) new (left ++ posts ∷ [])
 leaders_more plan n posts leaders new left has adds is = record {
   count = adds.count ∙ has.count;
   left_count = omega (arith, has.left_count, length_push left posts);
   leads = λ f e l.
       let old = has.leads f e l in
       let now = adds.more f e (omega (arith, l, has.count)) in
-      elim (cases_eq n e) [
+      elim (cases_eq n e.0) [
         | inl same ↦
-            let before = ap (λ (b : Bool). cond b (occurrences f (cost_of_event plan e)) 0) (le-ltb e n (omega (arith, same))) in
-            let here = ap (λ (b : Bool). cond b (occurrences f (cost_of_event plan n)) 0) (eq-eqb n e same) in
-            let after = ap (λ (b : Bool). cond b (occurrences f (cost_of_event plan e)) 0) (lt-ltb e (n + 1) (omega (arith, same))) in
-            let cost = ap (λ (k : ℕ). occurrences f (cost_of_event plan k)) same in
+            let before = ap (λ (b : Bool). cond b (occurrences f (cost_of_event plan e)) 0) (le-ltb e.0 n (omega (arith, same))) in
+            let here = ap (λ (b : Bool). cond b (occurrences f (cost_of_event plan (event n))) 0) (eq-eqb n e.0 same) in
+            let after = ap (λ (b : Bool). cond b (occurrences f (cost_of_event plan e)) 0) (lt-ltb e.0 (n + 1) (omega (arith, same))) in
+            let cost = ap (λ (k : EventId). occurrences f (cost_of_event plan k)) (same_event (event n) e same) in
             omega (arith, old, now, before, here, after, cost)
         | inr other ↦
-            let here = ap (λ (b : Bool). cond b (occurrences f (cost_of_event plan n)) 0) (ne_eqb n e other) in
+            let here = ap (λ (b : Bool). cond b (occurrences f (cost_of_event plan (event n))) 0) (ne_eqb n e.0 other) in
             let kept = ap (λ (b : Bool). cond b (occurrences f (cost_of_event plan e)) 0) (alike e other) in
             omega (arith, old, now, here, kept)
       ];
-  left_is = λ e l. elim (cases_lt e n) [
-    | inl k ↦ get_or_append_left left (posts ∷ []) 0 e (omega (arith, k, has.left_count)) ∙ has.left_is e k
+  left_is = λ e l. elim (cases_lt e.0 n) [
+    | inl k ↦ get_or_append_left left (posts ∷ []) 0 e.0 (omega (arith, k, has.left_count)) ∙ has.left_is e k
     | inr g ↦
-        let here : n ≡ e = omega (arith, l, g) in
-        get_or_push left posts 0 e (has.left_count ∙ here) ∙ is ∙ ap (λ (k : ℕ). unmet (λ _. false) (cost_of_event plan k)) here
+        let here : n ≡ e.0 = omega (arith, l, g) in
+        get_or_push left posts 0 e.0 (has.left_count ∙ here) ∙ is ∙ ap (λ (k : EventId). unmet (λ _. false) (cost_of_event plan k)) (same_event (event n) e here)
   ];
 }
   where
-    alike : (e : ℕ) → n ≢ e → nat_lt e n ≡ nat_lt e (n + 1)
-    alike e other = elim (cases_lt e n) [
-      | inl l ↦ lt-ltb e n l ∙ sym (lt-ltb e (n + 1) (omega (arith, l)))
-      | inr g ↦ le-ltb e n g ∙ sym (le-ltb e (n + 1) (omega (arith, g, other)))
+    alike : (e : EventId) → n ≢ e.0 → nat_lt e.0 n ≡ nat_lt e.0 (n + 1)
+    alike e other = elim (cases_lt e.0 n) [
+      | inl l ↦ lt-ltb e.0 n l ∙ sym (lt-ltb e.0 (n + 1) (omega (arith, l)))
+      | inr g ↦ le-ltb e.0 n g ∙ sym (le-ltb e.0 (n + 1) (omega (arith, g, other)))
     ]
 
 -- ---- those that lead to the next event of the order
 
 pub meeting_starts : (plan : PlanView) (taken : ℕ) (leaders : List EventId) (left counts : List ℕ) (order : List EventId) (lists : List (List EventId)) (f : EventId) → HasLeaders plan (length plan.events) lists counts →
-    IsOrdering plan taken [] left order → taken < length order → f ≡ get_or order taken f → leaders ≡ leaders_to lists f.0 → IsMeeting plan taken leaders [] left order
+    IsOrdering plan taken [] left order → taken < length order → f ≡ get_or order taken f → leaders ≡ leaders_to lists f → IsMeeting plan taken leaders [] left order
 meeting_starts plan taken leaders left counts order lists f has o turn f_is leaders_are =
-    let event : event_at order taken ≡ f.0 = ap (λ (d : EventId). d.0) (sym (get_or_read order taken f turn f_is no_event)) in
-    let below : f.0 < length plan.events = subst (λ (n : ℕ). n < length plan.events) event (o.below taken turn) in
+    let here : event_at order taken ≡ f = sym (get_or_read order taken f turn f_is no_event) in
+    let below : f.0 < length plan.events = subst (λ (d : EventId). d.0 < length plan.events) here (o.below taken turn) in
     record {
       turn = turn;
       leaders_are = λ e.
-          ap (λ (ds : List EventId). times ds e) leaders_are ∙ has.leads f.0 e below
-          ∙ ap (λ (n : ℕ). cond (nat_lt e (length plan.events)) (occurrences n (cost_of_event plan e)) 0) (sym event);
+          ap (λ (ds : List EventId). times ds e) leaders_are ∙ has.leads f e below
+          ∙ ap (λ (d : EventId). cond (nat_lt e.0 (length plan.events)) (occurrences d (cost_of_event plan e)) 0) (sym here);
       ordering = o;
     }
 

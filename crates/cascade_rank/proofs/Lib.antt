@@ -1,3 +1,4 @@
+pub mod Events
 pub mod Prices
 pub mod Within
 pub mod Switches

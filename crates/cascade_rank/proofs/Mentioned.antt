@@ -1,14 +1,16 @@
 -- Which events are in a cost, and how often.
 use Rattle.std.proofs.Common.{◌≡◌, ℕ, ◌+◌, ◌≤◌, min, Bool, true, false, cond, ◌||◌, eqb, ◌==◌, refl, sym, subst, inl, inr, arith}
-use Rattle.std.proofs.lemmas.Bool.{and_parts, and_cases, or_left, or_right, or_cases, eqb-true, eq-eqb, false≢true}
+use Rattle.std.proofs.lemmas.Bool.{and_parts, and_cases, or_left, or_right, or_cases, eq-eqb, false≢true}
 use Rattle.std.proofs.lemmas.Bool.Decides.{nat_tests}
+use Rattle.mpf_plan.specs.declared.entries.EventId.{EventId}
 use Rattle.cascade_rank.specs.Cost.{Cost, Lines, Weight, Both, Greater, price, mentions, all_mentioned}
 use Rattle.cascade_rank.specs.Order.{unmet, occurrences}
+use Rattle.cascade_rank.proofs.Events.{tested_event}
 
 -- what holds of each mentioned event, at one
-pub all_mentioned_at : (p : ℕ → Bool) (c : Cost) (e : ℕ) → all_mentioned p c ≡ true → mentions e c ≡ true → p e ≡ true
+pub all_mentioned_at : (p : EventId → Bool) (c : Cost) (e : EventId) → all_mentioned p c ≡ true → mentions e c ≡ true → p e ≡ true
 all_mentioned_at p (Lines n) e h m = absurd (false≢true m)
-all_mentioned_at p (Weight f) e h m = subst (λ (x : ℕ). p x ≡ true) (sym (eqb-true e f m)) h
+all_mentioned_at p (Weight f) e h m = subst (λ (x : EventId). p x ≡ true) (sym (tested_event e f m)) h
 all_mentioned_at p (Both a b) e h m =
     let parts = and_parts (all_mentioned p a) (all_mentioned p b) h in
     elim (or_cases (mentions e a) (mentions e b) m) [
@@ -23,9 +25,9 @@ all_mentioned_at p (Greater a b) e h m =
     ]
 
 -- a test that holds of each mentioned event where another does
-pub all_mentioned-weaker : (p q : ℕ → Bool) (c : Cost) → ((e : ℕ) → mentions e c ≡ true → p e ≡ true → q e ≡ true) → all_mentioned p c ≡ true → all_mentioned q c ≡ true
+pub all_mentioned-weaker : (p q : EventId → Bool) (c : Cost) → ((e : EventId) → mentions e c ≡ true → p e ≡ true → q e ≡ true) → all_mentioned p c ≡ true → all_mentioned q c ≡ true
 all_mentioned-weaker p q (Lines n) h y = refl
-all_mentioned-weaker p q (Weight e) h y = h e (eq-eqb e e refl) y
+all_mentioned-weaker p q (Weight e) h y = h e (eq-eqb e.0 e.0 refl) y
 all_mentioned-weaker p q (Both a b) h y =
     let parts = and_parts (all_mentioned p a) (all_mentioned p b) y in
     let l = all_mentioned-weaker p q a (λ e m. h e (or_left (mentions e a) (mentions e b) m)) parts.0 in
@@ -38,9 +40,9 @@ all_mentioned-weaker p q (Greater a b) h y =
     grind (arith, l, r)
 
 -- where it fails, it fails of a mentioned event
-pub all_mentioned-fails : (p : ℕ → Bool) (c : Cost) → all_mentioned p c ≡ false → (e : ℕ) × (mentions e c ≡ true) × (p e ≡ false)
+pub all_mentioned-fails : (p : EventId → Bool) (c : Cost) → all_mentioned p c ≡ false → (e : EventId) × (mentions e c ≡ true) × (p e ≡ false)
 all_mentioned-fails p (Lines n) h = absurd (false≢true (sym h))
-all_mentioned-fails p (Weight e) h = (e, eq-eqb e e refl, h)
+all_mentioned-fails p (Weight e) h = (e, eq-eqb e.0 e.0 refl, h)
 all_mentioned-fails p (Both a b) h =
     elim (and_cases (all_mentioned p a) (all_mentioned p b) h) [
       | inl k ↦ let r = all_mentioned-fails p a k in (r.0, or_left (mentions r.0 a) (mentions r.0 b) r.1, r.2)
@@ -53,14 +55,14 @@ all_mentioned-fails p (Greater a b) h =
     ]
 
 -- capped weights give the capped price
-pub price-capped : (cap : ℕ) (w : ℕ → ℕ) (c : Cost) → min cap (price (λ e. min cap (w e)) c) ≡ min cap (price w c)
+pub price-capped : (cap : ℕ) (w : EventId → ℕ) (c : Cost) → min cap (price (λ e. min cap (w e)) c) ≡ min cap (price w c)
 price-capped cap w (Lines n) = refl
 price-capped cap w (Weight e) = omega arith
 price-capped cap w (Both a b) = omega (arith, price-capped cap w a, price-capped cap w b)
 price-capped cap w (Greater a b) = omega (arith, price-capped cap w a, price-capped cap w b)
 
 -- all are met exactly where none is unmet
-pub unmet-none : (p : ℕ → Bool) (c : Cost) → all_mentioned p c ≡ (unmet p c == 0)
+pub unmet-none : (p : EventId → Bool) (c : Cost) → all_mentioned p c ≡ (unmet p c == 0)
 unmet-none p (Lines n) = refl
 unmet-none p (Weight e) = by (p e)
   where
@@ -71,7 +73,7 @@ unmet-none p (Both a b) = grind (arith, nat_tests, unmet-none p a, unmet-none p 
 unmet-none p (Greater a b) = grind (arith, nat_tests, unmet-none p a, unmet-none p b)
 
 -- where one event more is met, its occurrences are no longer unmet
-module _ (p q : ℕ → Bool) (f : ℕ) (fresh : p f ≡ false) (more : (e : ℕ) → q e ≡ (p e || f == e)) where
+module _ (p q : EventId → Bool) (f : EventId) (fresh : p f ≡ false) (more : (e : EventId) → q e ≡ (p e || f.0 == e.0)) where
   one : (x y z : Bool) → y ≡ (x || z) → (z ≡ true → x ≡ false) → cond x 0 1 ≡ cond y 0 1 + cond z 1 0
   one true y true h k = absurd (false≢true (sym (k refl)))
   one true y false h k = rw h refl
@@ -80,10 +82,10 @@ module _ (p q : ℕ → Bool) (f : ℕ) (fresh : p f ≡ false) (more : (e : ℕ
 
   pub unmet_met : (c : Cost) → unmet p c ≡ unmet q c + occurrences f c
   unmet_met (Lines n) = refl
-  unmet_met (Weight e) = one (p e) (q e) (f == e) (more e) (λ same. subst (λ (x : ℕ). p x ≡ false) (eqb-true f e same) fresh)
+  unmet_met (Weight e) = one (p e) (q e) (f.0 == e.0) (more e) (λ same. subst (λ (x : EventId). p x ≡ false) (tested_event f e same) fresh)
   unmet_met (Both a b) = omega (arith, unmet_met a, unmet_met b)
   unmet_met (Greater a b) = omega (arith, unmet_met a, unmet_met b)
 
 -- the occurrences of an event that is not met are unmet
-pub occurrences-unmet : (p : ℕ → Bool) (f : ℕ) (c : Cost) → p f ≡ false → occurrences f c ≤ unmet p c
-occurrences-unmet p f c fresh = omega (arith, unmet_met p (λ e. p e || f == e) f fresh (λ e. refl) c)
+pub occurrences-unmet : (p : EventId → Bool) (f : EventId) (c : Cost) → p f ≡ false → occurrences f c ≤ unmet p c
+occurrences-unmet p f c fresh = omega (arith, unmet_met p (λ e. p e || f.0 == e.0) f fresh (λ e. refl) c)

@@ -1,5 +1,5 @@
 -- The order grows: one of those that lead to its next event is gone through, then all of them, then the one after.
-use Rattle.std.proofs.Common.{◌≡◌, ◌≢◌, ℕ, zero, suc, ◌+◌, ◌-◌, ◌<◌, ◌≤◌, Bool, true, false, cond, ◌||◌, eqb, ◌==◌, nat_lt, List, [], ◌∷◌, ◌++◌, length, take, set, get_or, slice_index, count_by, refl, sym, ◌∙◌, ap, subst, inl, inr, arith, length-set, take_all, take_at, get_or-set_same, get_or-set_other}
+use Rattle.std.proofs.Common.{◌≡◌, ◌≢◌, ℕ, zero, suc, ◌+◌, ◌-◌, ◌<◌, ◌≤◌, Bool, true, false, cond, ◌||◌, eqb, ◌==◌, nat_lt, List, [], ◌∷◌, ◌++◌, length, take, set, get_or, count_by, refl, sym, ◌∙◌, ap, subst, inl, inr, arith, length-set, take_all, take_at, get_or-set_same, get_or-set_other}
 use Rattle.std.proofs.lemmas.Bool.{cases_lt, cases_eq, eq-eqb, ne_eqb, lt-ltb, le-ltb, or_right, or_from, false≢true}
 use Rattle.std.proofs.lemmas.List.{take-append-le, get_or_append_left, get_or_push, length_push}
 use Rattle.std.proofs.lemmas.List.Sums.{count_by_more_yes, count_by_more_no, sum_by-take-le, sum_by-set}
@@ -7,21 +7,23 @@ use Rattle.std.proofs.lemmas.List.Folds.{list_any-append, list_any_more}
 use Rattle.mpf_plan.specs.PlanView.{PlanView}
 use Rattle.mpf_plan.specs.declared.entries.EventId.{EventId}
 use Rattle.cascade_rank.specs.Cost.{Cost, all_mentioned, cost_of_event}
-use Rattle.cascade_rank.specs.Order.{unmet, occurrences, is_in, times, no_event, event_at, EachAfter, IsOrdering, IsMeeting}
+use Rattle.cascade_rank.specs.Events.{no_event, event_at}
+use Rattle.cascade_rank.specs.Order.{unmet, occurrences, is_in, times, left_of, CountsPosts, EachAfter, IsOrdering, IsMeeting}
+use Rattle.cascade_rank.proofs.Events.{same_event}
 use Rattle.cascade_rank.proofs.Mentioned.{unmet-none, unmet_met, occurrences-unmet, all_mentioned-weaker}
 
 -- ---- one event more
 
-pub each_push : (P : List EventId → ℕ → Type 0) (xs : List EventId) (x : EventId) → EachAfter P xs → P xs x.0 → EachAfter P (xs ++ x ∷ [])
+pub each_push : (P : List EventId → EventId → Type 0) (xs : List EventId) (x : EventId) → EachAfter P xs → P xs x → EachAfter P (xs ++ x ∷ [])
 each_push P xs x h last i l = elim (cases_lt i (length xs)) [
   | inl k ↦
       let before = take-append-le i xs (x ∷ []) (omega (arith, k)) in
-      let here = ap (λ (d : EventId). d.0) (get_or_append_left xs (x ∷ []) no_event i k) in
+      let here = get_or_append_left xs (x ∷ []) no_event i k in
       subst (λ (ds : List EventId). P ds (event_at (xs ++ x ∷ []) i)) (sym before) (subst (P (take i xs)) (sym here) (h i k))
   | inr g ↦
       let end : length xs ≡ i = omega (arith, l, g, length_push xs x) in
       let before = take_at xs (x ∷ []) i end in
-      let here = ap (λ (d : EventId). d.0) (get_or_push xs x no_event i end) in
+      let here = get_or_push xs x no_event i end in
       subst (λ (ds : List EventId). P ds (event_at (xs ++ x ∷ []) i)) (sym before) (subst (P xs) (sym here) last)
 ]
 
@@ -29,11 +31,11 @@ or_false : (b : Bool) → (b || false) ≡ b
 or_false true = refl
 or_false false = refl
 
-pub is_in-push : (xs : List EventId) (x : EventId) (e : ℕ) → is_in (xs ++ x ∷ []) e ≡ (is_in xs e || x.0 == e)
-is_in-push xs x e = list_any-append (λ d. d.0 == e) xs (x ∷ []) ∙ ap (λ (b : Bool). is_in xs e || b) (or_false (x.0 == e))
+pub is_in-push : (xs : List EventId) (x e : EventId) → is_in (xs ++ x ∷ []) e ≡ (is_in xs e || x.0 == e.0)
+is_in-push xs x e = list_any-append (λ d. d.0 == e.0) xs (x ∷ []) ∙ ap (λ (b : Bool). is_in xs e || b) (or_false (x.0 == e.0))
 
-pub is_in-more : (xs : List EventId) (i e : ℕ) → i < length xs → is_in (take (i + 1) xs) e ≡ (is_in (take i xs) e || event_at xs i == e)
-is_in-more xs i e l = list_any_more (λ d. d.0 == e) xs i no_event l
+pub is_in-more : (xs : List EventId) (i : ℕ) (e : EventId) → i < length xs → is_in (take (i + 1) xs) e ≡ (is_in (take i xs) e || (event_at xs i).0 == e.0)
+is_in-more xs i e l = list_any_more (λ d. d.0 == e.0) xs i no_event l
 
 -- what a test adds to a count
 abbrev pub counted : Bool → ℕ
@@ -50,15 +52,15 @@ counted_none b h = ap counted h
 -- the events below `count` are gone through
 pub record IsStart (plan : PlanView) (left : List ℕ) (count : ℕ) (order : List EventId) : Type 0 where
   pub within : count ≤ length plan.events
-  pub below : EachAfter (λ before e. e < length plan.events) order
+  pub below : EachAfter (λ before e. e.0 < length plan.events) order
   pub apart : EachAfter (λ before e. is_in before e ≡ false) order
   pub grounds : EachAfter (λ before e. all_mentioned (is_in before) (cost_of_event plan e) ≡ true) order
-  pub listed : (e : ℕ) → e < count → is_in order e ≡ (slice_index left e == 0)
-  pub above : (e : ℕ) → count ≤ e → is_in order e ≡ false
+  pub listed : (e : EventId) → e.0 < count → is_in order e ≡ (left_of left e == 0)
+  pub above : (e : EventId) → count ≤ e.0 → is_in order e ≡ false
   pub room : count_by (λ n. nat_lt 0 n) (take count left) + length order ≡ count
 
 module _ (plan : PlanView) (left : List ℕ) (length_is : length left ≡ length plan.events)
-    (left_is : (e : ℕ) → e < length plan.events → slice_index left e ≡ unmet (λ _. false) (cost_of_event plan e)) where
+    (left_is : CountsPosts plan left) where
   pub start_none : IsStart plan left 0 []
   start_none = record {
     within = omega arith;
@@ -74,32 +76,32 @@ module _ (plan : PlanView) (left : List ℕ) (length_is : length left ≡ length
     inside : x.0 < length left
     inside = omega (arith, here, length_is)
 
-    pub start_push : slice_index left x.0 ≡ 0 → IsStart plan left (x.0 + 1) (order ++ x ∷ [])
+    pub start_push : left_of left x ≡ 0 → IsStart plan left (x.0 + 1) (order ++ x ∷ [])
     start_push none = record {
       within = omega (arith, here);
-      below = each_push (λ before e. e < length plan.events) order x s.below here;
-      apart = each_push (λ before e. is_in before e ≡ false) order x s.apart (s.above x.0 (omega arith));
-      grounds = each_push (λ before e. all_mentioned (is_in before) (cost_of_event plan e) ≡ true) order x s.grounds (all_mentioned-weaker (λ _. false) (is_in order) (cost_of_event plan x.0) (λ e m z. absurd (false≢true z)) (unmet-none (λ _. false) (cost_of_event plan x.0) ∙ eq-eqb (unmet (λ _. false) (cost_of_event plan x.0)) 0 (sym (left_is x.0 here) ∙ none)));
-      listed = λ e l. elim (cases_eq e x.0) [
-        | inl same ↦ is_in-push order x e ∙ or_right (is_in order e) (x.0 == e) (eq-eqb x.0 e (sym same)) ∙ sym (eq-eqb (slice_index left e) 0 (ap (slice_index left) same ∙ none))
-        | inr other ↦ is_in-push order x e ∙ ap (λ (b : Bool). is_in order e || b) (ne_eqb x.0 e (λ same. other (sym same))) ∙ or_false (is_in order e) ∙ s.listed e (omega (arith, l, other))
+      below = each_push (λ before e. e.0 < length plan.events) order x s.below here;
+      apart = each_push (λ before e. is_in before e ≡ false) order x s.apart (s.above x (omega arith));
+      grounds = each_push (λ before e. all_mentioned (is_in before) (cost_of_event plan e) ≡ true) order x s.grounds (all_mentioned-weaker (λ _. false) (is_in order) (cost_of_event plan x) (λ e m z. absurd (false≢true z)) (unmet-none (λ _. false) (cost_of_event plan x) ∙ eq-eqb (unmet (λ _. false) (cost_of_event plan x)) 0 (sym (left_is x here) ∙ none)));
+      listed = λ e l. elim (cases_eq e.0 x.0) [
+        | inl same ↦ is_in-push order x e ∙ or_right (is_in order e) (x.0 == e.0) (eq-eqb x.0 e.0 (sym same)) ∙ sym (eq-eqb (left_of left e) 0 (ap (left_of left) (same_event e x same) ∙ none))
+        | inr other ↦ is_in-push order x e ∙ ap (λ (b : Bool). is_in order e || b) (ne_eqb x.0 e.0 (λ same. other (sym same))) ∙ or_false (is_in order e) ∙ s.listed e (omega (arith, l, other))
       ];
-      above = λ e l. is_in-push order x e ∙ or_from (is_in order e) (x.0 == e) (s.above e (omega (arith, l))) (ne_eqb x.0 e (λ same. omega (arith, l, same)));
-      room = omega (arith, s.room, length_push order x, count_by_more_no (λ n. nat_lt 0 n) left x.0 0 inside (le-ltb 0 (slice_index left x.0) (omega (arith, none))));
+      above = λ e l. is_in-push order x e ∙ or_from (is_in order e) (x.0 == e.0) (s.above e (omega (arith, l))) (ne_eqb x.0 e.0 (λ same. omega (arith, l, same)));
+      room = omega (arith, s.room, length_push order x, count_by_more_no (λ n. nat_lt 0 n) left x.0 0 inside (le-ltb 0 (left_of left x) (omega (arith, none))));
     }
 
-    pub start_skip : 0 < slice_index left x.0 → IsStart plan left (x.0 + 1) order
+    pub start_skip : 0 < left_of left x → IsStart plan left (x.0 + 1) order
     start_skip some = record {
       within = omega (arith, here);
       below = s.below;
       apart = s.apart;
       grounds = s.grounds;
-      listed = λ e l. elim (cases_eq e x.0) [
-        | inl same ↦ ap (is_in order) same ∙ s.above x.0 (omega arith) ∙ sym (ne_eqb (slice_index left e) 0 (λ z. omega (arith, some, sym (ap (slice_index left) same) ∙ z)))
+      listed = λ e l. elim (cases_eq e.0 x.0) [
+        | inl same ↦ ap (is_in order) (same_event e x same) ∙ s.above x (omega arith) ∙ sym (ne_eqb (left_of left e) 0 (λ z. omega (arith, some, sym (ap (left_of left) (same_event e x same)) ∙ z)))
         | inr other ↦ s.listed e (omega (arith, l, other))
       ];
       above = λ e l. s.above e (omega (arith, l));
-      room = omega (arith, s.room, count_by_more_yes (λ n. nat_lt 0 n) left x.0 0 inside (lt-ltb 0 (slice_index left x.0) some));
+      room = omega (arith, s.room, count_by_more_yes (λ n. nat_lt 0 n) left x.0 0 inside (lt-ltb 0 (left_of left x) some));
     }
 
   pub start_all : (order : List EventId) → IsStart plan left (length plan.events) order → IsOrdering plan 0 [] left order
@@ -120,11 +122,11 @@ module _ (plan : PlanView) (left : List ℕ) (length_is : length left ≡ length
 -- ---- the next event of the order is gone through
 
 module _ (plan : PlanView) (taken : ℕ) (order : List EventId) (leaders : List EventId) (turn : taken < length order)
-    (leaders_are : (e : ℕ) → e < length plan.events → times leaders e ≡ occurrences (event_at order taken) (cost_of_event plan e)) where
-  met : ℕ → Bool
+    (leaders_are : (e : EventId) → e.0 < length plan.events → times leaders e ≡ occurrences (event_at order taken) (cost_of_event plan e)) where
+  met : EventId → Bool
   met = is_in (take taken order)
 
-  then_met : ℕ → Bool
+  then_met : EventId → Bool
   then_met = is_in (take (taken + 1) order)
 
   module _ (left : List ℕ) (apart : EachAfter (λ before e. is_in before e ≡ false) order) where
@@ -140,98 +142,98 @@ module _ (plan : PlanView) (taken : ℕ) (order : List EventId) (leaders : List 
     inside_left : x.0 < length left
     inside_left = omega (arith, below, o.length_is)
 
-    one_more : times (take (i + 1) leaders) x.0 ≡ times (take i leaders) x.0 + 1
+    one_more : times (take (i + 1) leaders) x ≡ times (take i leaders) x + 1
     one_more = count_by_more_yes (λ d. d.0 == x.0) leaders i no_event there (eq-eqb (get_or leaders i no_event).0 x.0 (ap (λ (d : EventId). d.0) x_is))
 
-    no_more : (e : ℕ) → e ≢ x.0 → times (take (i + 1) leaders) e ≡ times (take i leaders) e
-    no_more e other = count_by_more_no (λ d. d.0 == e) leaders i no_event there (ne_eqb (get_or leaders i no_event).0 e (λ same. other (sym same ∙ ap (λ (d : EventId). d.0) x_is)))
+    no_more : (e : EventId) → e.0 ≢ x.0 → times (take (i + 1) leaders) e ≡ times (take i leaders) e
+    no_more e other = count_by_more_no (λ d. d.0 == e.0) leaders i no_event there (ne_eqb (get_or leaders i no_event).0 e.0 (λ same. other (sym same ∙ ap (λ (d : EventId). d.0) x_is)))
 
-    no_more_than : times (take (i + 1) leaders) x.0 ≤ occurrences (event_at order taken) (cost_of_event plan x.0)
-    no_more_than = omega (arith, sum_by-take-le (λ d. cond (d.0 == x.0) 1 0) leaders (i + 1), leaders_are x.0 below)
+    no_more_than : times (take (i + 1) leaders) x ≤ occurrences (event_at order taken) (cost_of_event plan x)
+    no_more_than = omega (arith, sum_by-take-le (λ d. cond (d.0 == x.0) 1 0) leaders (i + 1), leaders_are x below)
 
     -- something is left of it, since it leads to an event that is not gone through
-    pub some_left : 0 < slice_index left x.0
+    pub some_left : 0 < left_of left x
     some_left =
-        let still = occurrences-unmet (is_in (take taken order)) (event_at order taken) (cost_of_event plan x.0) (o.apart taken turn) in
-        omega (arith, still, o.left_is x.0 below, one_more, no_more_than)
+        let still = occurrences-unmet (is_in (take taken order)) (event_at order taken) (cost_of_event plan x) (o.apart taken turn) in
+        omega (arith, still, o.left_is x below, one_more, no_more_than)
 
     less : List ℕ
-    less = set left x.0 (slice_index left x.0 - 1)
+    less = set left x.0 (left_of left x - 1)
 
-    less_here : slice_index (set left x.0 (slice_index left x.0 - 1)) x.0 ≡ slice_index left x.0 - 1
-    less_here = get_or-set_same left x.0 (slice_index left x.0 - 1) 0 inside_left
+    less_here : left_of (set left x.0 (left_of left x - 1)) x ≡ left_of left x - 1
+    less_here = get_or-set_same left x.0 (left_of left x - 1) 0 inside_left
 
-    less_there : (e : ℕ) → e ≢ x.0 → slice_index (set left x.0 (slice_index left x.0 - 1)) e ≡ slice_index left e
-    less_there e other = get_or-set_other left x.0 e (slice_index left x.0 - 1) 0 other
+    less_there : (e : EventId) → e.0 ≢ x.0 → left_of (set left x.0 (left_of left x - 1)) e ≡ left_of left e
+    less_there e other = get_or-set_other left x.0 e.0 (left_of left x - 1) 0 other
 
-    less_is : (e : ℕ) → e < length plan.events → slice_index (set left x.0 (slice_index left x.0 - 1)) e + times (take (i + 1) leaders) e ≡ unmet (is_in (take taken order)) (cost_of_event plan e)
-    less_is e l = elim (cases_eq e x.0) [
-      | inl same ↦ subst (λ (y : ℕ). slice_index (set left x.0 (slice_index left x.0 - 1)) y + times (take (i + 1) leaders) y ≡ unmet (is_in (take taken order)) (cost_of_event plan y)) (sym same) (omega (arith, less_here, one_more, some_left, o.left_is x.0 below))
+    less_is : (e : EventId) → e.0 < length plan.events → left_of (set left x.0 (left_of left x - 1)) e + times (take (i + 1) leaders) e ≡ unmet (is_in (take taken order)) (cost_of_event plan e)
+    less_is e l = elim (cases_eq e.0 x.0) [
+      | inl same ↦ subst (λ (y : EventId). left_of (set left x.0 (left_of left x - 1)) y + times (take (i + 1) leaders) y ≡ unmet (is_in (take taken order)) (cost_of_event plan y)) (sym (same_event e x same)) (omega (arith, less_here, one_more, some_left, o.left_is x below))
       | inr other ↦ omega (arith, less_there e other, no_more e other, o.left_is e l)
     ]
 
-    count_less : count_by (λ n. nat_lt 0 n) (set left x.0 (slice_index left x.0 - 1)) + 1 ≡ count_by (λ n. nat_lt 0 n) left + cond (nat_lt 0 (slice_index left x.0 - 1)) 1 0
+    count_less : count_by (λ n. nat_lt 0 n) (set left x.0 (left_of left x - 1)) + 1 ≡ count_by (λ n. nat_lt 0 n) left + cond (nat_lt 0 (left_of left x - 1)) 1 0
     count_less =
-        let total = sum_by-set (λ n. cond (nat_lt 0 n) 1 0) left x.0 (slice_index left x.0 - 1) 0 inside_left in
-        let was = counted_one (nat_lt 0 (slice_index left x.0)) (lt-ltb 0 (slice_index left x.0) some_left) in
+        let total = sum_by-set (λ n. cond (nat_lt 0 n) 1 0) left x.0 (left_of left x - 1) 0 inside_left in
+        let was = counted_one (nat_lt 0 (left_of left x)) (lt-ltb 0 (left_of left x) some_left) in
         omega (arith, total, was)
 
-    not_listed : is_in order x.0 ≡ false
-    not_listed = o.listed x.0 below ∙ ne_eqb (slice_index left x.0) 0 (λ z. omega (arith, z, some_left))
+    not_listed : is_in order x ≡ false
+    not_listed = o.listed x below ∙ ne_eqb (left_of left x) 0 (λ z. omega (arith, z, some_left))
 
     -- more of it is left
-    pub keeps : slice_index left x.0 - 1 ≢ 0 → IsOrdering plan taken (take (i + 1) leaders) (set left x.0 (slice_index left x.0 - 1)) order
+    pub keeps : left_of left x - 1 ≢ 0 → IsOrdering plan taken (take (i + 1) leaders) (set left x.0 (left_of left x - 1)) order
     keeps more = record {
-      length_is = length-set left x.0 (slice_index left x.0 - 1) ∙ o.length_is;
+      length_is = length-set left x.0 (left_of left x - 1) ∙ o.length_is;
       within = o.within;
       below = o.below;
       apart = o.apart;
       grounds = o.grounds;
       left_is = less_is;
-      listed = λ e l. elim (cases_eq e x.0) [
-        | inl same ↦ ap (is_in order) same ∙ not_listed ∙ sym (ne_eqb (slice_index (set left x.0 (slice_index left x.0 - 1)) e) 0 (λ z. more (sym less_here ∙ sym (ap (slice_index (set left x.0 (slice_index left x.0 - 1))) same) ∙ z)))
+      listed = λ e l. elim (cases_eq e.0 x.0) [
+        | inl same ↦ ap (is_in order) (same_event e x same) ∙ not_listed ∙ sym (ne_eqb (left_of (set left x.0 (left_of left x - 1)) e) 0 (λ z. more (sym less_here ∙ sym (ap (left_of (set left x.0 (left_of left x - 1))) (same_event e x same)) ∙ z)))
         | inr other ↦ o.listed e l ∙ ap (λ (n : ℕ). eqb n 0) (sym (less_there e other))
       ];
       room =
-          let still = counted_one (nat_lt 0 (slice_index left x.0 - 1)) (lt-ltb 0 (slice_index left x.0 - 1) (omega (arith, more))) in
+          let still = counted_one (nat_lt 0 (left_of left x - 1)) (lt-ltb 0 (left_of left x - 1) (omega (arith, more))) in
           omega (arith, o.room, count_less, still);
     }
 
     -- each event that it leads to is in the order
-    all_met : slice_index left x.0 - 1 ≡ 0 → all_mentioned (is_in order) (cost_of_event plan x.0) ≡ true
+    all_met : left_of left x - 1 ≡ 0 → all_mentioned (is_in order) (cost_of_event plan x) ≡ true
     all_met none =
-        let is = less_is x.0 below in
-        let rest = unmet_then left o.apart (cost_of_event plan x.0) in
-        let nothing : unmet (is_in (take (taken + 1) order)) (cost_of_event plan x.0) ≡ 0 = omega (arith, is, rest, less_here, none, no_more_than) in
-        let before = unmet-none (is_in (take (taken + 1) order)) (cost_of_event plan x.0) ∙ eq-eqb (unmet (is_in (take (taken + 1) order)) (cost_of_event plan x.0)) 0 nothing in
-        all_mentioned-weaker (is_in (take (taken + 1) order)) (is_in order) (cost_of_event plan x.0) (λ e m. is_in-take order (taken + 1) e) before
+        let is = less_is x below in
+        let rest = unmet_then left o.apart (cost_of_event plan x) in
+        let nothing : unmet (is_in (take (taken + 1) order)) (cost_of_event plan x) ≡ 0 = omega (arith, is, rest, less_here, none, no_more_than) in
+        let before = unmet-none (is_in (take (taken + 1) order)) (cost_of_event plan x) ∙ eq-eqb (unmet (is_in (take (taken + 1) order)) (cost_of_event plan x)) 0 nothing in
+        all_mentioned-weaker (is_in (take (taken + 1) order)) (is_in order) (cost_of_event plan x) (λ e m. is_in-take order (taken + 1) e) before
       where
-        is_in-take : (ds : List EventId) (k e : ℕ) → is_in (take k ds) e ≡ true → is_in ds e ≡ true
+        is_in-take : (ds : List EventId) (k : ℕ) (e : EventId) → is_in (take k ds) e ≡ true → is_in ds e ≡ true
         is_in-take ds zero e h = absurd (false≢true h)
         is_in-take [] (suc k) e h = h
-        is_in-take (d ∷ ds) (suc k) e h = by (d.0 == e) h (is_in-take ds k e)
+        is_in-take (d ∷ ds) (suc k) e h = by (d.0 == e.0) h (is_in-take ds k e)
           where
             by : (b : Bool) → (b || is_in (take k ds) e) ≡ true → (is_in (take k ds) e ≡ true → is_in ds e ≡ true) → (b || is_in ds e) ≡ true
             by true h' ih = refl
             by false h' ih = ih h'
 
     -- nothing is left of it, and it goes last
-    pub lists : slice_index left x.0 - 1 ≡ 0 → IsOrdering plan taken (take (i + 1) leaders) (set left x.0 (slice_index left x.0 - 1)) (order ++ x ∷ [])
+    pub lists : left_of left x - 1 ≡ 0 → IsOrdering plan taken (take (i + 1) leaders) (set left x.0 (left_of left x - 1)) (order ++ x ∷ [])
     lists none =
         let front = take-append-le taken order (x ∷ []) o.within in
         record {
-          length_is = length-set left x.0 (slice_index left x.0 - 1) ∙ o.length_is;
+          length_is = length-set left x.0 (left_of left x - 1) ∙ o.length_is;
           within = omega (arith, o.within, length_push order x);
-          below = each_push (λ before e. e < length plan.events) order x o.below below;
+          below = each_push (λ before e. e.0 < length plan.events) order x o.below below;
           apart = each_push (λ before e. is_in before e ≡ false) order x o.apart not_listed;
           grounds = each_push (λ before e. all_mentioned (is_in before) (cost_of_event plan e) ≡ true) order x o.grounds (all_met none);
           left_is = λ e l. less_is e l ∙ ap (λ (ds : List EventId). unmet (is_in ds) (cost_of_event plan e)) (sym front);
-          listed = λ e l. elim (cases_eq e x.0) [
-            | inl same ↦ is_in-push order x e ∙ or_right (is_in order e) (x.0 == e) (eq-eqb x.0 e (sym same)) ∙ sym (eq-eqb (slice_index (set left x.0 (slice_index left x.0 - 1)) e) 0 (ap (slice_index (set left x.0 (slice_index left x.0 - 1))) same ∙ less_here ∙ none))
-            | inr other ↦ is_in-push order x e ∙ ap (λ (b : Bool). is_in order e || b) (ne_eqb x.0 e (λ same. other (sym same))) ∙ or_false (is_in order e) ∙ o.listed e l ∙ ap (λ (n : ℕ). eqb n 0) (sym (less_there e other))
+          listed = λ e l. elim (cases_eq e.0 x.0) [
+            | inl same ↦ is_in-push order x e ∙ or_right (is_in order e) (x.0 == e.0) (eq-eqb x.0 e.0 (sym same)) ∙ sym (eq-eqb (left_of (set left x.0 (left_of left x - 1)) e) 0 (ap (left_of (set left x.0 (left_of left x - 1))) (same_event e x same) ∙ less_here ∙ none))
+            | inr other ↦ is_in-push order x e ∙ ap (λ (b : Bool). is_in order e || b) (ne_eqb x.0 e.0 (λ same. other (sym same))) ∙ or_false (is_in order e) ∙ o.listed e l ∙ ap (λ (n : ℕ). eqb n 0) (sym (less_there e other))
           ];
           room =
-              let gone = counted_none (nat_lt 0 (slice_index left x.0 - 1)) (le-ltb 0 (slice_index left x.0 - 1) (omega (arith, none))) in
+              let gone = counted_none (nat_lt 0 (left_of left x - 1)) (le-ltb 0 (left_of left x - 1) (omega (arith, none))) in
               omega (arith, o.room, count_less, gone, length_push order x);
         }
 
@@ -251,21 +253,20 @@ module _ (plan : PlanView) (taken : ℕ) (order : List EventId) (leaders : List 
 -- ---- the same, of those that lead to the next event from the first
 
 module _ (plan : PlanView) (taken : ℕ) (leaders : List EventId) where
-  occurs : List EventId → ℕ → ℕ
+  occurs : List EventId → EventId → ℕ
   occurs order e = occurrences (event_at order taken) (cost_of_event plan e)
 
-  leaders_of : (order : List EventId) → ((e : ℕ) → times leaders e ≡ cond (nat_lt e (length plan.events)) (occurrences (event_at order taken) (cost_of_event plan e)) 0) → (e : ℕ) → e < length plan.events → times leaders e ≡ occurrences (event_at order taken) (cost_of_event plan e)
-  leaders_of order is e l = is e ∙ ap (λ (b : Bool). cond b (occurrences (event_at order taken) (cost_of_event plan e)) 0) (lt-ltb e (length plan.events) l)
+  leaders_of : (order : List EventId) → ((e : EventId) → times leaders e ≡ cond (nat_lt e.0 (length plan.events)) (occurrences (event_at order taken) (cost_of_event plan e)) 0) → (e : EventId) → e.0 < length plan.events → times leaders e ≡ occurrences (event_at order taken) (cost_of_event plan e)
+  leaders_of order is e l = is e ∙ ap (λ (b : Bool). cond b (occurrences (event_at order taken) (cost_of_event plan e)) 0) (lt-ltb e.0 (length plan.events) l)
 
   -- each of them is an event of the plan
   pub leaders_below : (done : List EventId) (left : List ℕ) (order : List EventId) → IsMeeting plan taken leaders done left order → (i : ℕ) → i < length leaders → (get_or leaders i no_event).0 < length plan.events
   leaders_below done left order m i there = elim (cases_lt (get_or leaders i no_event).0 (length plan.events)) [
     | inl l ↦ l
     | inr g ↦
-        let e : ℕ = (get_or leaders i no_event).0 in
         let one = count_by_more_yes (λ d. d.0 == (get_or leaders i no_event).0) leaders i no_event there (eq-eqb (get_or leaders i no_event).0 (get_or leaders i no_event).0 refl) in
         let all = sum_by-take-le (λ d. cond (d.0 == (get_or leaders i no_event).0) 1 0) leaders (i + 1) in
-        let none = m.leaders_are (get_or leaders i no_event).0 ∙ ap (λ (b : Bool). cond b (occurrences (event_at order taken) (cost_of_event plan (get_or leaders i no_event).0)) 0) (le-ltb (get_or leaders i no_event).0 (length plan.events) g) in
+        let none = m.leaders_are (get_or leaders i no_event) ∙ ap (λ (b : Bool). cond b (occurrences (event_at order taken) (cost_of_event plan (get_or leaders i no_event))) 0) (le-ltb (get_or leaders i no_event).0 (length plan.events) g) in
         absurd (omega (arith, one, all, none))
   ]
 
@@ -273,25 +274,25 @@ module _ (plan : PlanView) (taken : ℕ) (leaders : List EventId) where
     here : x.0 < length plan.events
     here = subst (λ (d : EventId). d.0 < length plan.events) x_is (leaders_below (take i leaders) left order m i there)
 
-    pub meets_some : 0 < slice_index left x.0
+    pub meets_some : 0 < left_of left x
     meets_some = some_left plan taken order leaders m.turn (leaders_of order m.leaders_are) left i x there x_is here m.ordering
 
     pub meets_inside : x.0 < length left
     meets_inside = omega (arith, here, m.ordering.length_is)
 
-    pub meets_keeps : slice_index left x.0 - 1 ≢ 0 → IsMeeting plan taken leaders (take (i + 1) leaders) (set left x.0 (slice_index left x.0 - 1)) order
+    pub meets_keeps : left_of left x - 1 ≢ 0 → IsMeeting plan taken leaders (take (i + 1) leaders) (set left x.0 (left_of left x - 1)) order
     meets_keeps more = record {
       turn = m.turn;
       leaders_are = m.leaders_are;
       ordering = keeps plan taken order leaders m.turn (leaders_of order m.leaders_are) left i x there x_is here m.ordering more;
     }
 
-    pub meets_lists : slice_index left x.0 - 1 ≡ 0 → IsMeeting plan taken leaders (take (i + 1) leaders) (set left x.0 (slice_index left x.0 - 1)) (order ++ x ∷ [])
+    pub meets_lists : left_of left x - 1 ≡ 0 → IsMeeting plan taken leaders (take (i + 1) leaders) (set left x.0 (left_of left x - 1)) (order ++ x ∷ [])
     meets_lists none =
-        let same : event_at order taken ≡ event_at (order ++ x ∷ []) taken = sym (ap (λ (d : EventId). d.0) (get_or_append_left order (x ∷ []) no_event taken m.turn)) in
+        let same : event_at order taken ≡ event_at (order ++ x ∷ []) taken = sym (get_or_append_left order (x ∷ []) no_event taken m.turn) in
         record {
           turn = omega (arith, m.turn, length_push order x);
-          leaders_are = λ e. m.leaders_are e ∙ ap (λ (f : ℕ). cond (nat_lt e (length plan.events)) (occurrences f (cost_of_event plan e)) 0) same;
+          leaders_are = λ e. m.leaders_are e ∙ ap (λ (f : EventId). cond (nat_lt e.0 (length plan.events)) (occurrences f (cost_of_event plan e)) 0) same;
           ordering = lists plan taken order leaders m.turn (leaders_of order m.leaders_are) left i x there x_is here m.ordering none;
         }
 

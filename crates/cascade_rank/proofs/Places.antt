@@ -29,7 +29,7 @@ module _ (plan : PlanView) where
   cost_at_place p = cost_of_binding plan (binding_at plan p.0)
 
   -- the price of a line and of what is at the first places, and at one place more
-  pub price-places_more : (w : ℕ → ℕ) (places : List BindingId) (i : ℕ) (b : Binding) (total cost : ℕ) → i < length places
+  pub price-places_more : (w : EventId → ℕ) (places : List BindingId) (i : ℕ) (b : Binding) (total cost : ℕ) → i < length places
       → slice_get plan.bindings (get_or places i (record { 0 = 0 })).0 ≡ Some b → cost ≡ price w (cost_of_binding plan b)
       → total ≡ 1 + price w (each_of cost_at_place (take i places)) → total + cost ≡ 1 + price w (each_of cost_at_place (take (i + 1) places))
   price-places_more w places i b total cost h at is so_far =
@@ -53,7 +53,7 @@ module _ (plan : PlanView) where
         omega (arith, ap length are, same, whole, passed, few)
 
     -- once all places are gone through
-    pub price-places_all : (w : ℕ → ℕ) (i total : ℕ) → length places ≤ i → total ≡ 1 + price w (each_of cost_at_place (take i places)) → total ≡ price w (cost_of_event plan e.0)
+    pub price-places_all : (w : EventId → ℕ) (i total : ℕ) → length places ≤ i → total ≡ 1 + price w (each_of cost_at_place (take i places)) → total ≡ price w (cost_of_event plan e)
     price-places_all w i total whole so_far =
         let taken : take i places ≡ places_of plan e = take_all i places whole ∙ are in
         let bound = each_of-map (cost_of_binding plan) (λ (p : BindingId). binding_at plan p.0) (places_of plan e) ∙ ap (each_of (cost_of_binding plan)) (places_of-bound plan e) in

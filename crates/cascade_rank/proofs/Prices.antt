@@ -1,27 +1,29 @@
 -- Laws of prices, by cases on the cost.
 use Rattle.std.proofs.Common.{◌≡◌, ℕ, zero, suc, ◌+◌, ◌≤◌, ◌<◌, max, true, List, [], ◌∷◌, length, take, get_or, sum_by, refl, subst, inl, inr, arith, rules}
-use Rattle.std.proofs.lemmas.Bool.{or_left, or_right, or_cases, eqb-true, eq-eqb, false≢true}
+use Rattle.std.proofs.lemmas.Bool.{or_left, or_right, or_cases, eq-eqb, false≢true}
 use Rattle.std.proofs.lemmas.List.Sums.{sum_by-cons}
+use Rattle.mpf_plan.specs.declared.entries.EventId.{EventId}
 use Rattle.cascade_rank.specs.Cost.{Cost, Lines, Weight, Both, Greater, price, mentions, each_of, dearest_of}
+use Rattle.cascade_rank.proofs.Events.{tested_event}
 
 -- at greater weights nothing is cheaper
-pub price_at_most : (w v : ℕ → ℕ) (c : Cost) → ((e : ℕ) → mentions e c ≡ true → w e ≤ v e) → price w c ≤ price v c
+pub price_at_most : (w v : EventId → ℕ) (c : Cost) → ((e : EventId) → mentions e c ≡ true → w e ≤ v e) → price w c ≤ price v c
 price_at_most w v (Lines n) h = omega arith
-price_at_most w v (Weight e) h = h e (eq-eqb e e refl)
+price_at_most w v (Weight e) h = h e (eq-eqb e.0 e.0 refl)
 price_at_most w v (Both a b) h =
     omega (arith, price_at_most w v a (λ e m. h e (or_left (mentions e a) (mentions e b) m)), price_at_most w v b (λ e m. h e (or_right (mentions e a) (mentions e b) m)))
 price_at_most w v (Greater a b) h =
     omega (arith, price_at_most w v a (λ e m. h e (or_left (mentions e a) (mentions e b) m)), price_at_most w v b (λ e m. h e (or_right (mentions e a) (mentions e b) m)))
 
 -- weights that agree on the mentioned events give the same price
-pub price_agrees : (w v : ℕ → ℕ) (c : Cost) → ((e : ℕ) → mentions e c ≡ true → w e ≡ v e) → price w c ≡ price v c
+pub price_agrees : (w v : EventId → ℕ) (c : Cost) → ((e : EventId) → mentions e c ≡ true → w e ≡ v e) → price w c ≡ price v c
 price_agrees w v c h =
     omega (arith, price_at_most w v c (λ e m. omega (arith, h e m)), price_at_most v w c (λ e m. omega (arith, h e m)))
 
 -- a mentioned event weighs no more than the whole costs
-pub price-mentioned : (w : ℕ → ℕ) (c : Cost) (e : ℕ) → mentions e c ≡ true → w e ≤ price w c
+pub price-mentioned : (w : EventId → ℕ) (c : Cost) (e : EventId) → mentions e c ≡ true → w e ≤ price w c
 price-mentioned w (Lines n) e m = absurd (false≢true m)
-price-mentioned w (Weight f) e m = subst (λ (x : ℕ). w e ≤ w x) (eqb-true e f m) (omega arith)
+price-mentioned w (Weight f) e m = subst (λ (x : EventId). w e ≤ w x) (tested_event e f m) (omega arith)
 price-mentioned w (Both a b) e m =
     elim (or_cases (mentions e a) (mentions e b) m) [
       | inl h ↦ omega (arith, price-mentioned w a e h)
@@ -34,12 +36,12 @@ price-mentioned w (Greater a b) e m =
     ]
 
 -- what all of a list cost is the sum of their prices
-pub price-each_sum : {X : Type 0} (w : ℕ → ℕ) (f : X → Cost) (xs : List X) → price w (each_of f xs) ≡ sum_by (λ x. price w (f x)) xs
+pub price-each_sum : {X : Type 0} (w : EventId → ℕ) (f : X → Cost) (xs : List X) → price w (each_of f xs) ≡ sum_by (λ x. price w (f x)) xs
 price-each_sum w f [] = search rules
 price-each_sum w f (x ∷ xs) = omega (arith, price-each_sum w f xs, sum_by-cons (λ y. price w (f y)) x xs)
 
 -- one more of a list
-pub price-each_more : {X : Type 0} (w : ℕ → ℕ) (f : X → Cost) (xs : List X) (i : ℕ) (d : X) → i < length xs → price w (each_of f (take (i + 1) xs)) ≡ price w (each_of f (take i xs)) + price w (f (get_or xs i d))
+pub price-each_more : {X : Type 0} (w : EventId → ℕ) (f : X → Cost) (xs : List X) (i : ℕ) (d : X) → i < length xs → price w (each_of f (take (i + 1) xs)) ≡ price w (each_of f (take i xs)) + price w (f (get_or xs i d))
 price-each_more w f [] i d h = omega arith
 price-each_more w f (x ∷ xs) zero d h = omega arith
 price-each_more w f (x ∷ xs) (suc i) d h =
@@ -47,7 +49,7 @@ price-each_more w f (x ∷ xs) (suc i) d h =
     let r = price-each_more w f xs i d (omega arith) in
     rw e (omega (arith, r))
 
-pub price-dearest_more : {X : Type 0} (w : ℕ → ℕ) (f : X → Cost) (xs : List X) (i : ℕ) (d : X) → i < length xs → price w (dearest_of f (take (i + 1) xs)) ≡ max (price w (dearest_of f (take i xs))) (price w (f (get_or xs i d)))
+pub price-dearest_more : {X : Type 0} (w : EventId → ℕ) (f : X → Cost) (xs : List X) (i : ℕ) (d : X) → i < length xs → price w (dearest_of f (take (i + 1) xs)) ≡ max (price w (dearest_of f (take i xs))) (price w (f (get_or xs i d)))
 price-dearest_more w f [] i d h = omega arith
 price-dearest_more w f (x ∷ xs) zero d h = omega arith
 price-dearest_more w f (x ∷ xs) (suc i) d h =
@@ -56,7 +58,7 @@ price-dearest_more w f (x ∷ xs) (suc i) d h =
     rw e (omega (arith, r))
 
 -- no one of a list is dearer than the dearest
-pub price-dearest : {X : Type 0} (w : ℕ → ℕ) (f : X → Cost) (xs : List X) (i : ℕ) (d : X) → i < length xs → price w (f (get_or xs i d)) ≤ price w (dearest_of f xs)
+pub price-dearest : {X : Type 0} (w : EventId → ℕ) (f : X → Cost) (xs : List X) (i : ℕ) (d : X) → i < length xs → price w (f (get_or xs i d)) ≤ price w (dearest_of f xs)
 price-dearest w f [] i d h = omega arith
 price-dearest w f (x ∷ xs) zero d h = omega arith
 price-dearest w f (x ∷ xs) (suc i) d h = omega (arith, price-dearest w f xs i d (omega arith))

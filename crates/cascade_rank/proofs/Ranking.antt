@@ -3,6 +3,7 @@ use Rattle.std.proofs.Common.{◌≡◌, ℕ, zero, suc, ◌+◌, ◌≤◌, ◌
 use Rattle.std.proofs.lemmas.Bool.{false≢true}
 use Rattle.mpf_plan.specs.PlanView.{PlanView}
 use Rattle.mpf_plan.specs.Valid.{IsValid}
+use Rattle.mpf_plan.specs.declared.entries.EventId.{EventId}
 use Rattle.cascade_rank.specs.Cost.{mentions, cost_of_event}
 use Rattle.cascade_rank.specs.Weights.{IsFitting}
 use Rattle.cascade_rank.specs.LeadsTo.{grounded_in, grounded}
@@ -13,26 +14,26 @@ use Rattle.cascade_rank.proofs.Mentioned.{all_mentioned_at, all_mentioned-weaker
 
 module _ (plan : PlanView) where
   -- what is grounded stays grounded
-  pub grounded-more : (k e : ℕ) → grounded_in plan k e ≡ true → grounded_in plan (suc k) e ≡ true
+  pub grounded-more : (k : ℕ) (e : EventId) → grounded_in plan k e ≡ true → grounded_in plan (suc k) e ≡ true
   grounded-more zero e h = absurd (false≢true h)
   grounded-more (suc k) e h = all_mentioned-weaker (grounded_in plan k) (grounded_in plan (suc k)) (cost_of_event plan e) (λ f m. grounded-more k f) h
 
-  pub grounded-later : (k j e : ℕ) → grounded_in plan k e ≡ true → grounded_in plan (k + j) e ≡ true
+  pub grounded-later : (k j : ℕ) (e : EventId) → grounded_in plan k e ≡ true → grounded_in plan (k + j) e ≡ true
   grounded-later k zero e h = let same : k + 0 ≡ k = omega arith in rw same h
   grounded-later k (suc j) e h = let same : k + suc j ≡ suc (k + j) = omega arith in rw same (grounded-more (k + j) e (grounded-later k j e h))
 
   -- a grounded event keeps its rank
-  pub rank-stable : (k e : ℕ) → grounded_in plan k e ≡ true → rank_in plan (suc k) e ≡ rank_in plan k e
+  pub rank-stable : (k : ℕ) (e : EventId) → grounded_in plan k e ≡ true → rank_in plan (suc k) e ≡ rank_in plan k e
   rank-stable zero e h = absurd (false≢true h)
   rank-stable (suc k) e h =
       price_agrees (rank_in plan (suc k)) (rank_in plan k) (cost_of_event plan e) (λ f m. rank-stable k f (all_mentioned_at (grounded_in plan k) (cost_of_event plan e) f h m))
 
 module _ (plan : PlanView) (valid : IsValid plan) where
-  pub mentioned_below : (e f : ℕ) → mentions f (cost_of_event plan e) ≡ true → f < length plan.events
+  pub mentioned_below : (e f : EventId) → mentions f (cost_of_event plan e) ≡ true → f.0 < length plan.events
   mentioned_below e f m = IsBelow-mentioned (length plan.events) (cost_of_event plan e) f (IsBelow-event plan valid e) m
 
   -- no fitting weights are below the ranks of any round
-  pub rank-least : (v : ℕ → ℕ) → IsFitting plan v → (k e : ℕ) → e < length plan.events → rank_in plan k e ≤ v e
+  pub rank-least : (v : EventId → ℕ) → IsFitting plan v → (k : ℕ) (e : EventId) → e.0 < length plan.events → rank_in plan k e ≤ v e
   rank-least v fit zero e h = omega arith
   rank-least v fit (suc k) e h =
       let less = price_at_most (rank_in plan k) v (cost_of_event plan e) (λ f m. rank-least v fit k f (mentioned_below e f m)) in
@@ -40,7 +41,7 @@ module _ (plan : PlanView) (valid : IsValid plan) where
       omega (arith, less, fits)
 
   -- where all are grounded, the ranks fit
-  pub rank-fits : ((e : ℕ) → e < length plan.events → grounded plan e ≡ true) → IsFitting plan (rank plan)
+  pub rank-fits : ((e : EventId) → e.0 < length plan.events → grounded plan e ≡ true) → IsFitting plan (rank plan)
   rank-fits all e h =
       let same = rank-stable plan (length plan.events) e (all e h) in
       omega (arith, same)

@@ -2,6 +2,7 @@
 use Rattle.std.proofs.Common.{◌≡◌, ℕ, ◌<◌, ◌≤◌, Bool, true, false, length, get_or, ap, arith}
 use Rattle.std.proofs.lemmas.List.FromFn.{length-map-range_with_len, get_or-map-range_with_len}
 use Rattle.mpf_plan.specs.PlanView.{PlanView}
+use Rattle.mpf_plan.specs.declared.entries.EventId.{EventId}
 use Rattle.mpf_plan.specs.declared.entries.SwitchId.{SwitchId}
 use Rattle.cascade_rank.specs.Cost.{price, cost_of_acceptance, cost_of_switch, switches_of}
 use Rattle.cascade_rank.specs.Weights.{bound_of}
@@ -15,7 +16,7 @@ module _ (plan : PlanView) where
   switch_of n d h = get_or-map-range_with_len (λ n. record { 0 = n }) 0 (length plan.switches) n n d h (omega arith)
 
   -- no acceptance of a switch of the plan is dearer than the dearest stimulus
-  pub acceptance-within_bound : (w : ℕ → ℕ) (s : SwitchId) (active : Bool) → s.0 < length plan.switches → price w (cost_of_acceptance plan s active) ≤ bound_of plan w
+  pub acceptance-within_bound : (w : EventId → ℕ) (s : SwitchId) (active : Bool) → s.0 < length plan.switches → price w (cost_of_acceptance plan s active) ≤ bound_of plan w
   acceptance-within_bound w s active h =
       let listed : s.0 < length (switches_of plan) = omega (arith, h, length-switches) in
       let here = ap (λ (t : SwitchId). price w (cost_of_switch plan t)) (switch_of s.0 s h) in

@@ -1,12 +1,14 @@
 -- Weights that are verified or refused, case by case.
-use Rattle.std.proofs.Common.{◌≡◌, ◌≢◌, ℕ, ◌<◌, ◌≤◌, true, false, nat_le, ◌==◌, List, length, slice_index, Option, Some, None, IfSome, IfNone, ok_or, Result, Ok, Err, refl, ap, ◌∙◌, subst}
+use Rattle.std.proofs.Common.{◌≡◌, ◌≢◌, ℕ, ◌<◌, ◌≤◌, true, false, nat_le, ◌==◌, List, length, Option, Some, None, IfSome, IfNone, ok_or, Result, Ok, Err, refl, ap, ◌∙◌, subst}
 use Rattle.std.specs.List.{All, list_all}
 use Rattle.std.proofs.lemmas.Bool.{cond-true, cond-false, cond_both, eq-eqb, ne_eqb, eqb-true, eqb-false, lt-ltb, le-ltb, ltb-true, ltb-false, le-leb, leb-true, and_from, and_parts, both_ways, false_from_ne_true}
 use Rattle.std.proofs.lemmas.List.Elements.{All-weaker}
 use Rattle.std.proofs.lemmas.List.Sums.{AllPass-from_list_all, list_all-from_AllPass}
 use Rattle.mpf_plan.specs.PlanView.{PlanView}
+use Rattle.mpf_plan.specs.declared.entries.EventId.{EventId}
 use Rattle.cascade_rank.specs.declared.fault.RankFault.TheVariants.{BoundTooLarge}
 use Rattle.cascade_rank.specs.declared.verdict.Bound.{Bound}
+use Rattle.cascade_rank.specs.Events.{weight_of}
 use Rattle.cascade_rank.specs.Weights.{greatest, need, IsFitting, bound_of, IsWithinLimit}
 use Rattle.cascade_rank.specs.Cycle.{first_event}
 use Rattle.cascade_rank.specs.Finding.{RankView, bound_too_large, short, wrong_events, is_within_limit, is_short, verified_past, verified_at}
@@ -27,44 +29,44 @@ All-are_limited ws h =
 module _ (plan : PlanView) (ws : List ℕ) where
   pub IsWithinLimit-from_test : is_within_limit plan ws ≡ true → IsWithinLimit plan ws
   IsWithinLimit-from_test h =
-      let parts = and_parts (list_all (λ w. nat_le w greatest) ws) (nat_le (bound_of plan (slice_index ws)) greatest) h in
-      record { weights_within = are_limited-All ws parts.0; bound_within = leb-true (bound_of plan (slice_index ws)) greatest parts.1 }
+      let parts = and_parts (list_all (λ w. nat_le w greatest) ws) (nat_le (bound_of plan (weight_of ws)) greatest) h in
+      record { weights_within = are_limited-All ws parts.0; bound_within = leb-true (bound_of plan (weight_of ws)) greatest parts.1 }
 
   pub is_within_limit-true : IsWithinLimit plan ws → is_within_limit plan ws ≡ true
-  is_within_limit-true h = and_from _ _ (All-are_limited ws h.weights_within) (le-leb (bound_of plan (slice_index ws)) greatest h.bound_within)
+  is_within_limit-true h = and_from _ _ (All-are_limited ws h.weights_within) (le-leb (bound_of plan (weight_of ws)) greatest h.bound_within)
 
   pub is_within_limit-false : ¬ (IsWithinLimit plan ws) → is_within_limit plan ws ≡ false
   is_within_limit-false above = false_from_ne_true (is_within_limit plan ws) (λ t. above (IsWithinLimit-from_test t))
 
   -- ---- events that weigh too little
 
-  pub first_short-Some : (e : ℕ) → first_event plan (is_short plan ws) ≡ Some e → IsFirstShort plan ws e (need plan (slice_index ws) e)
+  pub first_short-Some : (e : EventId) → first_event plan (is_short plan ws) ≡ Some e → IsFirstShort plan ws e (need plan (weight_of ws) e)
   first_short-Some e h =
       let found = first_event-Some plan (is_short plan ws) e h in
       record {
         within = found.0;
         needed_is = refl;
-        short_is = ltb-true (slice_index ws e) (need plan (slice_index ws) e) found.1.holds;
-        first = λ d lt. ltb-false (slice_index ws d) (need plan (slice_index ws) d) (found.1.least d lt);
+        short_is = ltb-true (weight_of ws e) (need plan (weight_of ws) e) found.1.holds;
+        first = λ d lt. ltb-false (weight_of ws d) (need plan (weight_of ws) d) (found.1.least d lt);
       }
 
-  pub first_short-None : first_event plan (is_short plan ws) ≡ None → IsFitting plan (slice_index ws)
-  first_short-None h e lt = ltb-false (slice_index ws e) (need plan (slice_index ws) e) (first_event-None plan (is_short plan ws) h e lt)
+  pub first_short-None : first_event plan (is_short plan ws) ≡ None → IsFitting plan (weight_of ws)
+  first_short-None h e lt = ltb-false (weight_of ws e) (need plan (weight_of ws) e) (first_event-None plan (is_short plan ws) h e lt)
 
-  pub first_short-first : (e needed : ℕ) → IsFirstShort plan ws e needed → first_event plan (is_short plan ws) ≡ Some e
+  pub first_short-first : (e : EventId) (needed : ℕ) → IsFirstShort plan ws e needed → first_event plan (is_short plan ws) ≡ Some e
   first_short-first e needed h =
-      let light : slice_index ws e < need plan (slice_index ws) e = subst (λ (n : ℕ). slice_index ws e < n) h.needed_is h.short_is in
+      let light : weight_of ws e < need plan (weight_of ws) e = subst (λ (n : ℕ). weight_of ws e < n) h.needed_is h.short_is in
       first_event-first plan (is_short plan ws) e h.within (record {
-        holds = lt-ltb (slice_index ws e) (need plan (slice_index ws) e) light;
-        least = λ d lt. le-ltb (slice_index ws d) (need plan (slice_index ws) d) (h.first d lt);
+        holds = lt-ltb (weight_of ws e) (need plan (weight_of ws) e) light;
+        least = λ d lt. le-ltb (weight_of ws d) (need plan (weight_of ws) d) (h.first d lt);
       })
 
-  pub first_short-nothing : IsFitting plan (slice_index ws) → first_event plan (is_short plan ws) ≡ None
-  first_short-nothing fits = first_event-nothing plan (is_short plan ws) (λ e lt. le-ltb (slice_index ws e) (need plan (slice_index ws) e) (fits e lt))
+  pub first_short-nothing : IsFitting plan (weight_of ws) → first_event plan (is_short plan ws) ≡ None
+  first_short-nothing fits = first_event-nothing plan (is_short plan ws) (λ e lt. le-ltb (weight_of ws e) (need plan (weight_of ws) e) (fits e lt))
 
   -- ---- what verifying gives, from what it means
 
-  verified_at-past : length ws ≡ length plan.events → (found : Option ℕ) → first_event plan (is_short plan ws) ≡ found → verified_at plan ws ≡ verified_past plan ws found
+  verified_at-past : length ws ≡ length plan.events → (found : Option EventId) → first_event plan (is_short plan ws) ≡ found → verified_at plan ws ≡ verified_past plan ws found
   unfolding verified_at
   verified_at-past count found is = cond-true _ _ _ (eq-eqb (length ws) (length plan.events) count) ∙ ap (verified_past plan ws) is
 
@@ -72,10 +74,10 @@ module _ (plan : PlanView) (ws : List ℕ) where
   unfolding verified_at
   verified_at-wrong differ = cond-false _ _ _ (ne_eqb (length ws) (length plan.events) differ)
 
-  pub verified_at-short : length ws ≡ length plan.events → (e needed : ℕ) → IsFirstShort plan ws e needed → verified_at plan ws ≡ Err (short e needed)
+  pub verified_at-short : length ws ≡ length plan.events → (e : EventId) (needed : ℕ) → IsFirstShort plan ws e needed → verified_at plan ws ≡ Err (short e needed)
   verified_at-short count e needed h = rw h.needed_is (verified_at-past count (Some e) (first_short-first e needed h))
 
-  pub verified_at-above : length ws ≡ length plan.events → IsFitting plan (slice_index ws) → ¬ (IsWithinLimit plan ws) → verified_at plan ws ≡ Err bound_too_large
+  pub verified_at-above : length ws ≡ length plan.events → IsFitting plan (weight_of ws) → ¬ (IsWithinLimit plan ws) → verified_at plan ws ≡ Err bound_too_large
   verified_at-above count fits above = verified_at-past count None (first_short-nothing fits) ∙ cond-false _ _ _ (is_within_limit-false above)
 
   pub verified_at-bound : (bound : ℕ) → IsVerified plan ws bound → verified_at plan ws ≡ Ok bound
@@ -83,8 +85,8 @@ module _ (plan : PlanView) (ws : List ℕ) where
       rw h.bound_is (verified_at-past h.count None (first_short-nothing h.fits) ∙ cond-true _ _ _ (is_within_limit-true h.limit))
 
   -- what is answered once no event weighs too little
-  pub GivesBound-limited : length ws ≡ length plan.events → IsFitting plan (slice_index ws) → (bound : Option Bound)
-      → IfSome bound (λ b. IsWithinLimit plan ws × (b.0 ≡ bound_of plan (slice_index ws))) → IfNone bound (¬ (IsWithinLimit plan ws)) → GivesBound (ok_or bound BoundTooLarge) (verified_at plan ws)
+  pub GivesBound-limited : length ws ≡ length plan.events → IsFitting plan (weight_of ws) → (bound : Option Bound)
+      → IfSome bound (λ b. IsWithinLimit plan ws × (b.0 ≡ bound_of plan (weight_of ws))) → IfNone bound (¬ (IsWithinLimit plan ws)) → GivesBound (ok_or bound BoundTooLarge) (verified_at plan ws)
   GivesBound-limited count fits (Some b) within above = verified_at-bound b.0 (record { count = count; fits = fits; limit = within.0; bound_is = within.1 })
   GivesBound-limited count fits None within above = (bound_too_large, refl, verified_at-above count fits above)
 
@@ -94,13 +96,13 @@ module _ (plan : PlanView) (ws : List ℕ) where
   Means (Ok bound) = IsVerified plan ws bound
   Means (Err fault) = IsUnverified plan ws fault
 
-  means-limited : length ws ≡ length plan.events → IsFitting plan (slice_index ws) → Means (verified_past plan ws None)
+  means-limited : length ws ≡ length plan.events → IsFitting plan (weight_of ws) → Means (verified_past plan ws None)
   means-limited count fits =
-      cond_both (is_within_limit plan ws) (Ok (bound_of plan (slice_index ws))) (Err bound_too_large) Means
+      cond_both (is_within_limit plan ws) (Ok (bound_of plan (weight_of ws))) (Err bound_too_large) Means
       (λ t. record { count = count; fits = fits; limit = IsWithinLimit-from_test t; bound_is = refl })
       (λ f. (count, fits, λ within. both_ways (is_within_limit plan ws) f (is_within_limit-true within)))
 
-  means-past : length ws ≡ length plan.events → (found : Option ℕ) → first_event plan (is_short plan ws) ≡ found → Means (verified_past plan ws found)
+  means-past : length ws ≡ length plan.events → (found : Option EventId) → first_event plan (is_short plan ws) ≡ found → Means (verified_past plan ws found)
   means-past count (Some e) h = (count, first_short-Some e h)
   means-past count None h = means-limited count (first_short-None h)
 

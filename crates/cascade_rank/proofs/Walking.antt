@@ -1,5 +1,5 @@
 -- The walk along events that are not grounded, and the cycle in which it ends.
-use Rattle.std.proofs.Common.{◌≡◌, ◌≢◌, ℕ, suc, ◌+◌, ◌-◌, ◌<◌, Bool, true, false, not, cond, ◌&&◌, ◌||◌, ◌==◌, List, [], ◌∷◌, ◌++◌, length, map, take, drop, set, get_or, slice_index, slice_index_or, count_by, All, replicate, Option, Some, None, position, unwrap_or, refl, sym, ◌∙◌, ap, subst, inl, inr, arith, length-append, length-drop, length-set, get_or-drop, get_or-set_same, get_or-set_other}
+use Rattle.std.proofs.Common.{◌≡◌, ◌≢◌, ℕ, suc, ◌+◌, ◌-◌, ◌<◌, Bool, true, false, not, cond, ◌&&◌, ◌||◌, ◌==◌, List, [], ◌∷◌, ◌++◌, length, take, drop, set, get_or, slice_index_or, count_by, All, replicate, Option, Some, None, position, unwrap_or, refl, sym, ◌∙◌, ap, subst, inl, inr, arith, length-append, length-drop, length-set, get_or-drop, get_or-set_same, get_or-set_other}
 use Rattle.std.specs.List.{list_any, position_or_len}
 use Rattle.std.proofs.lemmas.Bool.{cases_lt, cases_eq, lt-ltb, le-ltb, and_parts, or_right, eqb-true, eq-eqb, ne_eqb, false≢true}
 use Rattle.std.proofs.lemmas.List.{get_or_append_left, get_or_push, get_or-replicate, length-replicate, take_rest}
@@ -10,9 +10,11 @@ use Rattle.mpf_plan.specs.PlanView.{PlanView}
 use Rattle.mpf_plan.specs.Valid.{IsValid}
 use Rattle.mpf_plan.specs.declared.entries.EventId.{EventId}
 use Rattle.cascade_rank.specs.Cost.{cost_of_event}
+use Rattle.cascade_rank.specs.Events.{events_of, no_event, event_at}
 use Rattle.cascade_rank.specs.LeadsTo.{leads, grounded, is_open, IsCycle}
 use Rattle.cascade_rank.specs.Cycle.{IsFirst, GoesOn, IsWalk, IsReportedCycle, next_open, from_first, cycle_from, cycle_of}
 use Rattle.cascade_rank.specs.Lowest.{LeadsOn}
+use Rattle.cascade_rank.proofs.Events.{event, same_event, tested_event}
 use Rattle.cascade_rank.proofs.Mentioned.{all_mentioned-fails}
 use Rattle.cascade_rank.proofs.Ranking.{mentioned_below}
 use Rattle.cascade_rank.proofs.Ordering.{counted_one}
@@ -20,11 +22,11 @@ use Rattle.cascade_rank.proofs.Firsts.{first_is, first_below}
 
 -- ---- where an event goes on to
 
-module _ (plan : PlanView) (valid : IsValid plan) (on : LeadsOn plan) (e : ℕ) (below : e < length plan.events) (here : is_open plan e ≡ true) where
-  pub next_below : next_open plan e < length plan.events
+module _ (plan : PlanView) (valid : IsValid plan) (on : LeadsOn plan) (e : EventId) (below : e.0 < length plan.events) (here : is_open plan e ≡ true) where
+  pub next_below : (next_open plan e).0 < length plan.events
   next_below =
       let (f, m, unmet) = all_mentioned-fails (grounded plan) (cost_of_event plan e) (on e below here) in
-      first_below (length plan.events) (λ g. leads plan e g && is_open plan g) f (mentioned_below plan valid e f m) (by (leads plan e f) (grounded plan f) m unmet)
+      first_below plan (λ g. leads plan e g && is_open plan g) f (mentioned_below plan valid e f m) (by (leads plan e f) (grounded plan f) m unmet)
     where
       by : (a b : Bool) → a ≡ true → b ≡ false → (a && not b) ≡ true
       by true false h k = refl
@@ -32,43 +34,40 @@ module _ (plan : PlanView) (valid : IsValid plan) (on : LeadsOn plan) (e : ℕ) 
       by false b h k = absurd (false≢true h)
 
   pub next_goes : GoesOn plan e (next_open plan e)
-  next_goes = first_is (length plan.events) (λ g. leads plan e g && is_open plan g) (next_open plan e) refl next_below
+  next_goes = first_is plan (λ g. leads plan e g && is_open plan g) (next_open plan e) refl next_below
 
   pub next_is_open : is_open plan (next_open plan e) ≡ true
   next_is_open = (and_parts (leads plan e (next_open plan e)) (is_open plan (next_open plan e)) next_goes.holds).1
 
 -- ---- the walk so far
 
-at_left : (path : List ℕ) (e i : ℕ) → i < length path → slice_index (path ++ e ∷ []) i ≡ slice_index path i
-at_left path e i l = get_or_append_left path (e ∷ []) 0 i l
+at_left : (path : List EventId) (e : EventId) (i : ℕ) → i < length path → event_at (path ++ e ∷ []) i ≡ event_at path i
+at_left path e i l = get_or_append_left path (e ∷ []) no_event i l
 
-at_end : (path : List ℕ) (e i : ℕ) → length path ≡ i → slice_index (path ++ e ∷ []) i ≡ e
-at_end path e i l = get_or_push path e 0 i l
+at_end : (path : List EventId) (e : EventId) (i : ℕ) → length path ≡ i → event_at (path ++ e ∷ []) i ≡ e
+at_end path e i l = get_or_push path e no_event i l
 
-has : List ℕ → ℕ → Bool
-has path e = list_any (λ d. d == e) path
-
-has-push : (path : List ℕ) (x e : ℕ) → list_any (λ d. d == e) (path ++ x ∷ []) ≡ (list_any (λ d. d == e) path || x == e)
-has-push path x e = list_any-append (λ d. d == e) path (x ∷ []) ∙ ap (λ (b : Bool). list_any (λ d. d == e) path || b) (by (x == e))
+has-push : (path : List EventId) (x e : EventId) → list_any (λ d. d.0 == e.0) (path ++ x ∷ []) ≡ (list_any (λ d. d.0 == e.0) path || x.0 == e.0)
+has-push path x e = list_any-append (λ d. d.0 == e.0) path (x ∷ []) ∙ ap (λ (b : Bool). list_any (λ d. d.0 == e.0) path || b) (by (x.0 == e.0))
   where
     by : (b : Bool) → (b || false) ≡ b
     by true = refl
     by false = refl
 
 -- it has passed this path, of which the events are marked, and comes to `at`
-pub record WalkAt (plan : PlanView) (start : ℕ) (passed : List Bool) (path : List ℕ) (at : ℕ) : Type 0 where
+pub record WalkAt (plan : PlanView) (start : EventId) (passed : List Bool) (path : List EventId) (at : EventId) : Type 0 where
   pub count : length passed ≡ length plan.events
   pub walk : IsWalk plan path
   pub begins : length path ≡ 0 → at ≡ start
-  pub goes : 0 < length path → GoesOn plan (slice_index path (length path - 1)) at
+  pub goes : 0 < length path → GoesOn plan (event_at path (length path - 1)) at
   pub at_open : is_open plan at ≡ true
-  pub below : at < length plan.events
-  pub all_below : All (λ e. e < length plan.events) path
-  pub marks : (e : ℕ) → e < length plan.events → slice_index_or passed e false ≡ list_any (λ d. d == e) path
+  pub below : at.0 < length plan.events
+  pub all_below : All (λ e. e.0 < length plan.events) path
+  pub marks : (e : EventId) → e.0 < length plan.events → slice_index_or passed e.0 false ≡ list_any (λ d. d.0 == e.0) path
   pub room : count_by not passed + length path ≡ length plan.events
   pub same : cycle_from plan (length plan.events + 1 - length path) path at ≡ cycle_of plan start
 
-module _ (plan : PlanView) (start : ℕ) (first : IsFirst (is_open plan) start) (below : start < length plan.events) where
+module _ (plan : PlanView) (start : EventId) (first : IsFirst (is_open plan) start) (below : start.0 < length plan.events) where
   pub walk_starts : WalkAt plan start (replicate (length plan.events) false) [] start
   walk_starts = record {
     count = length-replicate (length plan.events) false;
@@ -81,26 +80,26 @@ module _ (plan : PlanView) (start : ℕ) (first : IsFirst (is_open plan) start) 
     goes = λ l. absurd (omega (arith, l));
     at_open = first.holds;
     below = below;
-    all_below = All-nil (λ e. e < length plan.events);
-    marks = λ e l. get_or-replicate (length plan.events) e false false l;
+    all_below = All-nil (λ e. e.0 < length plan.events);
+    marks = λ e l. get_or-replicate (length plan.events) e.0 false false l;
     room = omega (arith, sum_by-replicate (λ (b : Bool). cond (not b) 1 0) (length plan.events) false);
     same = let whole : length plan.events + 1 - 0 ≡ length plan.events + 1 = omega arith in ap (λ (k : ℕ). cycle_from plan k [] start) whole;
   }
 
-module _ (plan : PlanView) (start : ℕ) (first : IsFirst (is_open plan) start) (passed : List Bool) (path : List ℕ) (at : ℕ) (w : WalkAt plan start passed path at) where
-  here_marked : slice_index_or passed at false ≡ list_any (λ d. d == at) path
+module _ (plan : PlanView) (start : EventId) (first : IsFirst (is_open plan) start) (passed : List Bool) (path : List EventId) (at : EventId) (w : WalkAt plan start passed path at) where
+  here_marked : slice_index_or passed at.0 false ≡ list_any (λ d. d.0 == at.0) path
   here_marked = w.marks at w.below
 
   -- one round of the definition is left
   one_left : length plan.events + 1 - length path ≡ suc (length plan.events - length path)
   one_left = omega (arith, w.room)
 
-  module _ (valid : IsValid plan) (on : LeadsOn plan) (new : slice_index_or passed at false ≡ false) where
+  module _ (valid : IsValid plan) (on : LeadsOn plan) (new : slice_index_or passed at.0 false ≡ false) where
     longer : length (path ++ at ∷ []) ≡ length path + 1
     longer = omega (arith, length-append path (at ∷ []))
 
-    not_in : (i : ℕ) → i < length path → slice_index path i ≢ at
-    not_in i l same = false≢true (sym (sym here_marked ∙ new) ∙ list_any_at (λ d. d == at) path i 0 l (eq-eqb (slice_index path i) at same))
+    not_in : (i : ℕ) → i < length path → event_at path i ≢ at
+    not_in i l same = false≢true (sym (sym here_marked ∙ new) ∙ list_any_at (λ d. d.0 == at.0) path i no_event l (eq-eqb (event_at path i).0 at.0 (ap (λ (d : EventId). d.0) same)))
 
     walk_more : IsWalk plan (path ++ at ∷ [])
     walk_more = record {
@@ -109,12 +108,12 @@ module _ (plan : PlanView) (start : ℕ) (first : IsFirst (is_open plan) start) 
         | inr g ↦ subst (IsFirst (is_open plan)) (sym (at_end path at 0 (omega (arith, g)) ∙ w.begins (omega (arith, g)))) first
       ];
       next = λ i l. elim (cases_lt (i + 1) (length path)) [
-        | inl k ↦ subst (λ (y : ℕ). GoesOn plan (slice_index (path ++ at ∷ []) i) y) (sym (at_left path at (i + 1) k)) (subst (λ (x : ℕ). GoesOn plan x (slice_index path (i + 1))) (sym (at_left path at i (omega (arith, k)))) (w.walk.next i k))
+        | inl k ↦ subst (λ (y : EventId). GoesOn plan (event_at (path ++ at ∷ []) i) y) (sym (at_left path at (i + 1) k)) (subst (λ (x : EventId). GoesOn plan x (event_at path (i + 1))) (sym (at_left path at i (omega (arith, k)))) (w.walk.next i k))
         | inr g ↦
             let last : length path ≡ i + 1 = omega (arith, l, g, longer) in
             let place : length path - 1 ≡ i = omega (arith, last) in
-            let was : GoesOn plan (slice_index path i) at = subst (λ (x : ℕ). GoesOn plan (slice_index path x) at) place (w.goes (omega (arith, last))) in
-            subst (λ (y : ℕ). GoesOn plan (slice_index (path ++ at ∷ []) i) y) (sym (at_end path at (i + 1) last)) (subst (λ (x : ℕ). GoesOn plan x at) (sym (at_left path at i (omega (arith, last)))) was)
+            let was : GoesOn plan (event_at path i) at = subst (λ (x : ℕ). GoesOn plan (event_at path x) at) place (w.goes (omega (arith, last))) in
+            subst (λ (y : EventId). GoesOn plan (event_at (path ++ at ∷ []) i) y) (sym (at_end path at (i + 1) last)) (subst (λ (x : EventId). GoesOn plan x at) (sym (at_left path at i (omega (arith, last)))) was)
       ];
       apart = λ i j l k same. elim (cases_lt j (length path)) [
         | inl m ↦ w.walk.apart i j l m (sym (at_left path at i (omega (arith, l, m))) ∙ same ∙ at_left path at j m)
@@ -124,11 +123,11 @@ module _ (plan : PlanView) (start : ℕ) (first : IsFirst (is_open plan) start) 
       ];
     }
 
-    fewer : count_by not (set passed at true) + 1 ≡ count_by not passed
+    fewer : count_by not (set passed at.0 true) + 1 ≡ count_by not passed
     fewer =
-        let inside : at < length passed = omega (arith, w.below, w.count) in
-        let total = sum_by-set (λ (b : Bool). cond (not b) 1 0) passed at true false inside in
-        let was = counted_one (not (get_or passed at false)) (ap not new) in
+        let inside : at.0 < length passed = omega (arith, w.below, w.count) in
+        let total = sum_by-set (λ (b : Bool). cond (not b) 1 0) passed at.0 true false inside in
+        let was = counted_one (not (get_or passed at.0 false)) (ap not new) in
         omega (arith, total, was)
 
     same_cycle : cycle_from plan (length plan.events + 1 - length (path ++ at ∷ [])) (path ++ at ∷ []) (next_open plan at) ≡ cycle_of plan start
@@ -139,23 +138,23 @@ module _ (plan : PlanView) (start : ℕ) (first : IsFirst (is_open plan) start) 
         ∙ ap (λ (k : ℕ). cycle_from plan k path at) (sym one_left)
         ∙ w.same
 
-    pub walk_goes : WalkAt plan start (set passed at true) (path ++ at ∷ []) (next_open plan at)
+    pub walk_goes : WalkAt plan start (set passed at.0 true) (path ++ at ∷ []) (next_open plan at)
     walk_goes = record {
-      count = length-set passed at true ∙ w.count;
+      count = length-set passed at.0 true ∙ w.count;
       walk = walk_more;
       begins = λ z. absurd (omega (arith, z, longer));
       goes = λ _.
           let last : length path ≡ length (path ++ at ∷ []) - 1 = omega (arith, longer) in
-          subst (λ (x : ℕ). GoesOn plan x (next_open plan at)) (sym (at_end path at (length (path ++ at ∷ []) - 1) last)) (next_goes plan valid on at w.below w.at_open);
+          subst (λ (x : EventId). GoesOn plan x (next_open plan at)) (sym (at_end path at (length (path ++ at ∷ []) - 1) last)) (next_goes plan valid on at w.below w.at_open);
       at_open = next_is_open plan valid on at w.below w.at_open;
       below = next_below plan valid on at w.below w.at_open;
-      all_below = All-push (λ e. e < length plan.events) path at w.all_below w.below;
-      marks = λ e l. elim (cases_eq e at) [
+      all_below = All-push (λ e. e.0 < length plan.events) path at w.all_below w.below;
+      marks = λ e l. elim (cases_eq e.0 at.0) [
         | inl same ↦
-            subst (λ (y : ℕ). slice_index_or (set passed at true) y false ≡ list_any (λ d. d == y) (path ++ at ∷ [])) (sym same)
-            (get_or-set_same passed at true false (omega (arith, w.below, w.count)) ∙ sym (has-push path at at ∙ or_right (list_any (λ d. d == at) path) (at == at) (eq-eqb at at refl)))
+            subst (λ (y : EventId). slice_index_or (set passed at.0 true) y.0 false ≡ list_any (λ d. d.0 == y.0) (path ++ at ∷ [])) (sym (same_event e at same))
+            (get_or-set_same passed at.0 true false (omega (arith, w.below, w.count)) ∙ sym (has-push path at at ∙ or_right (list_any (λ d. d.0 == at.0) path) (at.0 == at.0) (eq-eqb at.0 at.0 refl)))
         | inr other ↦
-            get_or-set_other passed at e true false other ∙ w.marks e l ∙ sym (has-push path at e ∙ ap (λ (b : Bool). list_any (λ d. d == e) path || b) (ne_eqb at e (λ same. other (sym same))) ∙ by (list_any (λ d. d == e) path))
+            get_or-set_other passed at.0 e.0 true false other ∙ w.marks e l ∙ sym (has-push path at e ∙ ap (λ (b : Bool). list_any (λ d. d.0 == e.0) path || b) (ne_eqb at.0 e.0 (λ same. other (sym same))) ∙ by (list_any (λ d. d.0 == e.0) path))
       ];
       room = omega (arith, w.room, fewer, longer);
       same = same_cycle;
@@ -165,12 +164,12 @@ module _ (plan : PlanView) (start : ℕ) (first : IsFirst (is_open plan) start) 
         by true = refl
         by false = refl
 
-    pub walk_falls : count_by not (set passed at true) < count_by not passed
+    pub walk_falls : count_by not (set passed at.0 true) < count_by not passed
     walk_falls = omega (arith, fewer)
 
   -- ---- it comes again to an event
-  module _ (again : slice_index_or passed at false ≡ true) where
-    pub comes_again : list_any (λ d. d == at) path ≡ true
+  module _ (again : slice_index_or passed at.0 false ≡ true) where
+    pub comes_again : list_any (λ d. d.0 == at.0) path ≡ true
     comes_again = sym here_marked ∙ again
 
     pub cycle_is : from_first at path ≡ cycle_of plan start
@@ -181,78 +180,68 @@ module _ (plan : PlanView) (start : ℕ) (first : IsFirst (is_open plan) start) 
 
 -- ---- the part from the first coming on
 
-pub from_first-drop : (e : ℕ) (path : List ℕ) → from_first e path ≡ drop (position_or_len (λ d. d == e) path) path
+pub from_first-drop : (e : EventId) (path : List EventId) → from_first e path ≡ drop (position_or_len (λ d. d.0 == e.0) path) path
 from_first-drop e [] = refl
-from_first-drop e (d ∷ ds) = by (d == e) (from_first-drop e ds)
+from_first-drop e (d ∷ ds) = by (d.0 == e.0) (from_first-drop e ds)
   where
-    by : (b : Bool) → from_first e ds ≡ drop (position_or_len (λ x. x == e) ds) ds → cond b (d ∷ ds) (from_first e ds) ≡ drop (cond (not b) (1 + position_or_len (λ x. x == e) ds) 0) (d ∷ ds)
+    by : (b : Bool) → from_first e ds ≡ drop (position_or_len (λ x. x.0 == e.0) ds) ds → cond b (d ∷ ds) (from_first e ds) ≡ drop (cond (not b) (1 + position_or_len (λ x. x.0 == e.0) ds) 0) (d ∷ ds)
     by true rest = refl
-    by false rest = let more : 1 + position_or_len (λ x. x == e) ds ≡ suc (position_or_len (λ x. x == e) ds) = omega arith in rest ∙ ap (λ (k : ℕ). drop k (d ∷ ds)) (sym more)
+    by false rest = let more : 1 + position_or_len (λ x. x.0 == e.0) ds ≡ suc (position_or_len (λ x. x.0 == e.0) ds) = omega arith in rest ∙ ap (λ (k : ℕ). drop k (d ∷ ds)) (sym more)
 
-place_below : (e : ℕ) (path : List ℕ) → list_any (λ d. d == e) path ≡ true → position_or_len (λ d. d == e) path < length path
+place_below : (e : EventId) (path : List EventId) → list_any (λ d. d.0 == e.0) path ≡ true → position_or_len (λ d. d.0 == e.0) path < length path
 place_below e [] h = absurd (false≢true h)
-place_below e (d ∷ ds) h = by (d == e) h (place_below e ds)
+place_below e (d ∷ ds) h = by (d.0 == e.0) h (place_below e ds)
   where
-    by : (b : Bool) → (b || list_any (λ x. x == e) ds) ≡ true → (list_any (λ x. x == e) ds ≡ true → position_or_len (λ x. x == e) ds < length ds) → cond (not b) (1 + position_or_len (λ x. x == e) ds) 0 < length (d ∷ ds)
+    by : (b : Bool) → (b || list_any (λ x. x.0 == e.0) ds) ≡ true → (list_any (λ x. x.0 == e.0) ds ≡ true → position_or_len (λ x. x.0 == e.0) ds < length ds) → cond (not b) (1 + position_or_len (λ x. x.0 == e.0) ds) 0 < length (d ∷ ds)
     by true k rest = omega arith
     by false k rest = omega (arith, rest k)
 
-module _ (plan : PlanView) (path : List ℕ) (at : ℕ) (walk : IsWalk plan path) (all_below : All (λ e. e < length plan.events) path)
-    (goes : 0 < length path → GoesOn plan (slice_index path (length path - 1)) at) (there : list_any (λ d. d == at) path ≡ true) where
+module _ (plan : PlanView) (path : List EventId) (at : EventId) (walk : IsWalk plan path) (all_below : All (λ e. e.0 < length plan.events) path)
+    (goes : 0 < length path → GoesOn plan (event_at path (length path - 1)) at) (there : list_any (λ d. d.0 == at.0) path ≡ true) where
   place : ℕ
-  place = position_or_len (λ d. d == at) path
+  place = position_or_len (λ d. d.0 == at.0) path
 
-  within : position_or_len (λ d. d == at) path < length path
+  within : position_or_len (λ d. d.0 == at.0) path < length path
   within = place_below at path there
 
-  at_place : slice_index path (position_or_len (λ d. d == at) path) ≡ at
-  at_place = eqb-true (slice_index path (position_or_len (λ d. d == at) path)) at (passes_at_first (λ d. d == at) path 0 within)
+  at_place : event_at path (position_or_len (λ d. d.0 == at.0) path) ≡ at
+  at_place = tested_event (event_at path (position_or_len (λ d. d.0 == at.0) path)) at (passes_at_first (λ d. d.0 == at.0) path no_event within)
 
   pub reported : IsReportedCycle plan (from_first at path)
   reported = record {
     path = path;
     walk = walk;
-    place = position_or_len (λ d. d == at) path;
+    place = position_or_len (λ d. d.0 == at.0) path;
     place_within = within;
     part = from_first-drop at path;
-    again = subst (GoesOn plan (slice_index path (length path - 1))) (sym at_place) (goes (omega (arith, within)));
+    again = subst (GoesOn plan (event_at path (length path - 1))) (sym at_place) (goes (omega (arith, within)));
   }
 
-  leads_on : (e f : ℕ) → GoesOn plan e f → leads plan e f ≡ true
+  leads_on : (e f : EventId) → GoesOn plan e f → leads plan e f ≡ true
   leads_on e f g = (and_parts (leads plan e f) (is_open plan f) g.holds).0
 
-  dropped : (n i : ℕ) → slice_index (drop n path) i ≡ slice_index path (n + i)
-  dropped n i = get_or-drop n path i 0
+  dropped : (n i : ℕ) → event_at (drop n path) i ≡ event_at path (n + i)
+  dropped n i = get_or-drop n path i no_event
 
-  is_cycle : (n : ℕ) → n ≡ position_or_len (λ d. d == at) path → IsCycle plan (drop n path)
+  is_cycle : (n : ℕ) → n ≡ position_or_len (λ d. d.0 == at.0) path → IsCycle plan (drop n path)
   is_cycle n is =
       let rest = length-drop n path in
       record {
         some = omega (arith, rest, is, within);
-        within = All-drop (λ e. e < length plan.events) n path all_below;
+        within = All-drop (λ e. e.0 < length plan.events) n path all_below;
         next = λ i l.
             let shift : n + (i + 1) ≡ (n + i) + 1 = omega arith in
-            let step = leads_on (slice_index path (n + i)) (slice_index path (n + i + 1)) (walk.next (n + i) (omega (arith, l, rest))) in
-            subst (λ (y : ℕ). leads plan (slice_index (drop n path) i) y ≡ true) (sym (dropped n (i + 1) ∙ ap (slice_index path) shift)) (subst (λ (x : ℕ). leads plan x (slice_index path (n + i + 1)) ≡ true) (sym (dropped n i)) step);
+            let step = leads_on (event_at path (n + i)) (event_at path (n + i + 1)) (walk.next (n + i) (omega (arith, l, rest))) in
+            subst (λ (y : EventId). leads plan (event_at (drop n path) i) y ≡ true) (sym (dropped n (i + 1) ∙ ap (event_at path) shift)) (subst (λ (x : EventId). leads plan x (event_at path (n + i + 1)) ≡ true) (sym (dropped n i)) step);
         back =
             let last : n + (length (drop n path) - 1) ≡ length path - 1 = omega (arith, rest, is, within) in
-            let front : n + 0 ≡ position_or_len (λ d. d == at) path = omega (arith, is) in
-            let step = leads_on (slice_index path (length path - 1)) at (goes (omega (arith, within))) in
-            subst (λ (y : ℕ). leads plan (slice_index (drop n path) (length (drop n path) - 1)) y ≡ true) (sym (dropped n 0 ∙ ap (slice_index path) front ∙ at_place)) (subst (λ (x : ℕ). leads plan x at ≡ true) (sym (dropped n (length (drop n path) - 1) ∙ ap (slice_index path) last)) step);
+            let front : n + 0 ≡ position_or_len (λ d. d.0 == at.0) path = omega (arith, is) in
+            let step = leads_on (event_at path (length path - 1)) at (goes (omega (arith, within))) in
+            subst (λ (y : EventId). leads plan (event_at (drop n path) (length (drop n path) - 1)) y ≡ true) (sym (dropped n 0 ∙ ap (event_at path) front ∙ at_place)) (subst (λ (x : EventId). leads plan x at ≡ true) (sym (dropped n (length (drop n path) - 1) ∙ ap (event_at path) last)) step);
       }
 
   pub cycle : IsCycle plan (from_first at path)
-  cycle = subst (IsCycle plan) (sym (from_first-drop at path)) (is_cycle (position_or_len (λ d. d == at) path) refl)
-
--- the same of a path of events, by its place
-from_first-map : (e : ℕ) (path : List EventId) → from_first e (map (λ d. d.0) path) ≡ map (λ d. d.0) (drop (position_or_len (λ d. d.0 == e) path) path)
-from_first-map e [] = refl
-from_first-map e (d ∷ ds) = by (d.0 == e) (from_first-map e ds)
-  where
-    by : (b : Bool) → from_first e (map (λ x. x.0) ds) ≡ map (λ x. x.0) (drop (position_or_len (λ x. x.0 == e) ds) ds) →
-        cond b (d.0 ∷ map (λ x. x.0) ds) (from_first e (map (λ x. x.0) ds)) ≡ map (λ x. x.0) (drop (cond (not b) (1 + position_or_len (λ x. x.0 == e) ds) 0) (d ∷ ds))
-    by true rest = refl
-    by false rest = let more : 1 + position_or_len (λ x. x.0 == e) ds ≡ suc (position_or_len (λ x. x.0 == e) ds) = omega arith in rest ∙ ap (λ (k : ℕ). map (λ (x : EventId). x.0) (drop k (d ∷ ds))) (sym more)
+  cycle = subst (IsCycle plan) (sym (from_first-drop at path)) (is_cycle (position_or_len (λ d. d.0 == at.0) path) refl)
 
 position_or_end : {X : Type 0} (p : X → Bool) (xs : List X) → unwrap_or (position p xs) (length xs) ≡ position_or_len p xs
 position_or_end p xs = elim (cases_lt (position_or_len p xs) (length xs)) [
@@ -260,8 +249,8 @@ position_or_end p xs = elim (cases_lt (position_or_len p xs) (length xs)) [
   | inr g ↦ ap (λ (b : Bool). unwrap_or (cond b (Some (position_or_len p xs)) None) (length xs)) (le-ltb (position_or_len p xs) (length xs) g) ∙ omega (arith, g, prefix_len-le-length (λ x. not (p x)) xs)
 ]
 
-pub part_is : (path part : List EventId) (e place : ℕ) (found : Option ℕ) → found ≡ position (λ d. d.0 == e) path → place ≡ unwrap_or found (length path) →
-    part ≡ take (length path - place) (drop place path) → map (λ d. d.0) part ≡ from_first e (map (λ d. d.0) path)
+pub part_is : (path part : List EventId) (e : EventId) (place : ℕ) (found : Option ℕ) → found ≡ position (λ d. d.0 == e.0) path → place ≡ unwrap_or found (length path) →
+    part ≡ take (length path - place) (drop place path) → part ≡ from_first e path
 part_is path part e place found is_found is_place is_part =
-    let here : place ≡ position_or_len (λ d. d.0 == e) path = is_place ∙ ap (λ (o : Option ℕ). unwrap_or o (length path)) is_found ∙ position_or_end (λ d. d.0 == e) path in
-    ap (map (λ (d : EventId). d.0)) (is_part ∙ take_rest path place ∙ ap (λ (k : ℕ). drop k path) here) ∙ sym (from_first-map e path)
+    let here : place ≡ position_or_len (λ d. d.0 == e.0) path = is_place ∙ ap (λ (o : Option ℕ). unwrap_or o (length path)) is_found ∙ position_or_end (λ d. d.0 == e.0) path in
+    is_part ∙ take_rest path place ∙ ap (λ (k : ℕ). drop k path) here ∙ sym (from_first-drop e path)

@@ -17,9 +17,9 @@ use Rattle.mpf_plan.specs.declared.entries.Binding.{Binding}
 use Rattle.cascade_rank.specs.Cost.{Cost, Lines, Weight, Both, Greater, mentions, each_of, dearest_of, cost_of_post, cost_of_action, cost_of_list, cost_of_target, cost_of_binding, cost_of_event, cost_of_acceptance, cost_of_switch, switches_of, cost_of_stimuli}
 use Rattle.cascade_rank.specs.Below.{IsBelow}
 
-pub IsBelow-mentioned : (n : ℕ) (c : Cost) (e : ℕ) → IsBelow n c → mentions e c ≡ true → e < n
+pub IsBelow-mentioned : (n : ℕ) (c : Cost) (e : EventId) → IsBelow n c → mentions e c ≡ true → e.0 < n
 IsBelow-mentioned n (Lines k) e h m = absurd (false≢true m)
-IsBelow-mentioned n (Weight f) e h m = subst (λ (x : ℕ). x < n) (sym (eqb-true e f m)) h
+IsBelow-mentioned n (Weight f) e h m = subst (λ (x : ℕ). x < n) (sym (eqb-true e.0 f.0 m)) h
 IsBelow-mentioned n (Both a b) e h m =
     elim (or_cases (mentions e a) (mentions e b) m) [
       | inl k ↦ IsBelow-mentioned n a e h.0 k
@@ -59,12 +59,12 @@ module _ (plan : PlanView) (valid : IsValid plan) where
   pub IsBelow-binding : (b : Binding) → IsBindingWithin plan b → IsBelow (length plan.events) (cost_of_binding plan b)
   IsBelow-binding b h = IsBelow-target b.target h.2
 
-  pub IsBelow-event : (e : ℕ) → IsBelow (length plan.events) (cost_of_event plan e)
+  pub IsBelow-event : (e : EventId) → IsBelow (length plan.events) (cost_of_event plan e)
   IsBelow-event e = (
     tt,
     (
-      each_below (length plan.events) (cost_of_binding plan) (IsBindingWithin plan) IsBelow-binding (bound_to plan (record { 0 = e }))
-          (All-filter (λ b. b.event.0 == e) (IsBindingWithin plan) plan.bindings valid.bindings),
+      each_below (length plan.events) (cost_of_binding plan) (IsBindingWithin plan) IsBelow-binding (bound_to plan e)
+          (All-filter (λ b. b.event.0 == e.0) (IsBindingWithin plan) plan.bindings valid.bindings),
       tt,
     ),
   )

@@ -6,7 +6,7 @@ use Rattle.cascade_rank.proofs.leaders.add_event.Goals as goal
 
 pub loop-place-init : goal.loop-place-init
 loop-place-init c = record {
-  adds = adds-none c.args.event.0 (Lines 0) c.args.leaders.now (λ f. refl);
+  adds = adds-none c.args.event (Lines 0) c.args.leaders.now (λ f. refl);
   count = refl;
   small = omega arith;
 }
@@ -31,7 +31,7 @@ loop-place-preserved c =
     let places = c.bindings_of-place-items.result.now in
     let more = unmet-place plan places c.loop-place.place-index (λ _. false) c.binding-target.result c.loop-place-test.true c.binding-target.ensures.binding in
     record {
-      adds = adds-place plan places c.loop-place.place-index c.args.event.0 c.binding-target.result c.args.leaders.now c.loop-place.leaders c.add_target.new.leaders c.loop-place-test.true c.binding-target.ensures.binding c.loop-place.invariant.adds c.in_ok-more.ensures.leaders;
+      adds = adds-place plan places c.loop-place.place-index c.args.event c.binding-target.result c.args.leaders.now c.loop-place.leaders c.add_target.new.leaders c.loop-place-test.true c.binding-target.ensures.binding c.loop-place.invariant.adds c.in_ok-more.ensures.leaders;
       count = omega (arith, more, c.in_ok-more.ensures.posts);
       small = omega (arith, c.loop-place.invariant.small, c.in_ok-more.ensures.small);
     }

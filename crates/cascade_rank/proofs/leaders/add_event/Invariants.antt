@@ -8,7 +8,7 @@ use Rattle.cascade_rank.proofs.leaders.add_event.Given as goal
 -- the event leads to what is at the places so far, each fewer than 2^64 posts
 abbrev pub invariant-loop-place : goal.invariant-loop-place
 invariant-loop-place l = record {
-  adds : AddsLeader l.event.0 (each_of (cost_at_place l.plan) (take l.place-index l.place-items)) l.fn.leaders l.leaders;
+  adds : AddsLeader l.event (each_of (cost_at_place l.plan) (take l.place-index l.place-items)) l.fn.leaders l.leaders;
   count : l.posts ≡ unmet (λ _. false) (each_of (cost_at_place l.plan) (take l.place-index l.place-items));
   small : l.posts ≤ l.place-index * 2 ^ 64;
 }

@@ -1,8 +1,11 @@
-use Rattle.std.proofs.Common.{List, ℕ, nat_lt, position, Err, Ok, ap, ◌∙◌, sym, subst, arith}
+use Rattle.std.proofs.Common.{List, ℕ, nat_lt, Option, position, Err, Ok, ap, ◌∙◌, sym, subst, arith}
+use Rattle.std.specs.Option.{option_map}
+use Rattle.mpf_plan.specs.declared.entries.EventId.{EventId}
 use Rattle.cascade_rank.specs.Weights.{IsLeastFitting, IsWithinLimit}
 use Rattle.cascade_rank.specs.Finding.{cycle, found_past}
 use Rattle.cascade_rank.specs.Lowest.{IsLeft}
 use Rattle.cascade_rank.specs.Order.{IsWholeOrder}
+use Rattle.cascade_rank.proofs.Events.{event}
 use Rattle.cascade_rank.proofs.Cycles.{cycle-no_fit}
 use Rattle.cascade_rank.proofs.Finds.{left_is_open, found_past_is, first_is_open, all_grounded, whole_order, found_within, least_within, found_above, too_dear}
 use Rattle.cascade_rank.proofs.least.find.Goals as goal
@@ -30,8 +33,8 @@ returns-in-Some-clause-exact c =
     let g = c.in_ok-grounding.ensures in
     let is = c.first_left.ensures ∙ ap (position (λ n. nat_lt 0 n)) c.deref.ensures.value in
     found_past_is c.args.plan.now g.valid c.in_ok-grounding.grounding.left.items c.in_ok-grounding.grounding.order.items g.order c.first_left.result is
-    ∙ ap (found_past c.args.plan.now) c.in-Some.is
-    ∙ ap (λ (es : List ℕ). Err (cycle es)) (sym c.in_ok-walk.ensures.cycle)
+    ∙ ap (λ (found : Option ℕ). found_past c.args.plan.now (option_map event found)) c.in-Some.is
+    ∙ ap (λ (es : List EventId). Err (cycle es)) (sym c.in_ok-walk.ensures.cycle)
 
 pub returns-in-Some-clause-refused : goal.returns-in-Some-clause-refused
 returns-in-Some-clause-refused c =
@@ -53,7 +56,7 @@ returns-in-None-clause-exact c =
     let all = all_grounded c.args.plan.now g.valid left order g.order c.first_left.result is c.in_default.is in
     let above = subst (λ (ws : List ℕ). ¬ (IsWithinLimit c.args.plan.now ws)) c.deref-3.ensures.value c.in-None.ensures.above in
     found_past_is c.args.plan.now g.valid left order g.order c.first_left.result is
-    ∙ ap (found_past c.args.plan.now) c.in_default.is
+    ∙ ap (λ (found : Option ℕ). found_past c.args.plan.now (option_map event found)) c.in_default.is
     ∙ found_above c.args.plan.now g.valid all c.in_ok-weights.weights.items c.in_ok-weights.ensures above
 
 pub returns-in-None-clause-refused : goal.returns-in-None-clause-refused
@@ -75,7 +78,7 @@ returns-clause-exact c =
     let all = all_grounded c.args.plan.now g.valid left order g.order c.first_left.result is c.in_default.is in
     let within = subst (IsWithinLimit c.args.plan.now) c.deref-3.ensures.value c.in-Some-limited_bound.ensures.within.0 in
     found_past_is c.args.plan.now g.valid left order g.order c.first_left.result is
-    ∙ ap (found_past c.args.plan.now) c.in_default.is
+    ∙ ap (λ (found : Option ℕ). found_past c.args.plan.now (option_map event found)) c.in_default.is
     ∙ found_within c.args.plan.now g.valid all c.in_ok-weights.weights.items c.in_ok-weights.ensures within
     ∙ ap Ok (sym c.of.ensures)
 

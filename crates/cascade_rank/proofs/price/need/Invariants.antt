@@ -1,4 +1,5 @@
-use Rattle.std.proofs.Common.{◌≡◌, ◌+◌, ◌*◌, ◌^◌, ◌≤◌, take, slice_index}
+use Rattle.std.proofs.Common.{◌≡◌, ◌+◌, ◌*◌, ◌^◌, ◌≤◌, take}
+use Rattle.cascade_rank.specs.Events.{weight_of}
 use Rattle.cascade_rank.specs.Cost.{price, each_of}
 use Rattle.cascade_rank.proofs.Places.{cost_at_place}
 use Rattle.cascade_rank.proofs.price.need.Given as goal
@@ -6,6 +7,6 @@ use Rattle.cascade_rank.proofs.price.need.Given as goal
 -- a line, and the price of what is at the places so far, at each of which it is below 2^96
 abbrev pub invariant-loop-place : goal.invariant-loop-place
 invariant-loop-place l = record {
-  price : l.total ≡ 1 + price (slice_index l.weights) (each_of (cost_at_place l.plan) (take l.place-index l.place-items));
+  price : l.total ≡ 1 + price (weight_of l.weights) (each_of (cost_at_place l.plan) (take l.place-index l.place-items));
   small : l.total ≤ 1 + l.place-index * 2 ^ 96;
 }

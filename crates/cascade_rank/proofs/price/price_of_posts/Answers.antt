@@ -1,11 +1,12 @@
-use Rattle.std.proofs.Common.{slice_index, arith}
+use Rattle.std.proofs.Common.{arith}
+use Rattle.cascade_rank.specs.Events.{weight_of}
 use Rattle.cascade_rank.specs.Cost.{cost_of_post}
 use Rattle.cascade_rank.proofs.Prices.{price-each_more}
 use Rattle.cascade_rank.proofs.price.price_of_posts.Goals as goal
 
 pub loop-event-preserved : goal.loop-event-preserved
 loop-event-preserved c =
-    let more = price-each_more (slice_index c.args.weights.now) cost_of_post c.args.posts.now c.loop-event.event-index (record { 0 = 0 }) c.loop-event-test.true in
+    let more = price-each_more (weight_of c.args.weights.now) cost_of_post c.args.posts.now c.loop-event.event-index (record { 0 = 0 }) c.loop-event-test.true in
     record {
       price = omega (arith, more);
       small = omega arith;

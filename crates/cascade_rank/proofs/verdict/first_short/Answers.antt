@@ -1,4 +1,7 @@
-use Rattle.std.proofs.Common.{below_more, arith}
+use Rattle.std.proofs.Common.{◌≤◌, ℕ, below_more, arith}
+use Rattle.cascade_rank.specs.Events.{weight_of}
+use Rattle.cascade_rank.specs.Weights.{need}
+use Rattle.cascade_rank.proofs.Events.{event}
 use Rattle.cascade_rank.proofs.verdict.first_short.Goals as goal
 
 pub returns-then-from-needed-clause-short : goal.returns-then-from-needed-clause-short
@@ -10,7 +13,9 @@ returns-then-from-needed-clause-short c = record {
 }
 
 pub loop-number-preserved : goal.loop-number-preserved
-loop-number-preserved c = below_more _ _ c.loop-number.invariant (omega (arith, c.need-needed.ensures.price))
+loop-number-preserved c =
+    let more = below_more (λ (n : ℕ). need c.args.plan.now (weight_of c.args.weights.now) (event n) ≤ weight_of c.args.weights.now (event n)) c.loop-number.number (λ n l. c.loop-number.invariant (event n) l) (omega (arith, c.need-needed.ensures.price)) in
+    λ e l. more e.0 l
 
 pub returns-clause-fits : goal.returns-clause-fits
 returns-clause-fits c = λ e h. c.loop-number.invariant e (omega arith)

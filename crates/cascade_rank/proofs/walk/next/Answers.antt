@@ -1,6 +1,7 @@
-use Rattle.std.proofs.Common.{nat_lt, length, slice_index, ap, arith}
+use Rattle.std.proofs.Common.{nat_lt, length, ap, arith}
 use Rattle.cascade_rank.specs.Cost.{Cost}
 use Rattle.cascade_rank.specs.Lowest.{lowest}
+use Rattle.cascade_rank.specs.Order.{left_of}
 use Rattle.cascade_rank.proofs.Places.{cost_at_place, binding-within, place-within}
 use Rattle.cascade_rank.proofs.Leading.{place-cost}
 use Rattle.cascade_rank.proofs.Firsts.{lowest-each_more, next_is}
@@ -18,8 +19,8 @@ pub loop-place-preserved : goal.loop-place-preserved
 loop-place-preserved c =
     let left = c.args.left.now in
     let places = c.bindings_of-place-items.result.now in
-    let more = lowest-each_more (length left) (λ e. nat_lt 0 (slice_index left e)) (cost_at_place c.args.plan.now) places c.loop-place.place-index (record { 0 = 0 }) c.loop-place-test.true in
-    let here = ap (λ (cost : Cost). lowest (length c.args.left.now) (λ e. nat_lt 0 (slice_index c.args.left.now e)) cost) (place-cost c.args.plan.now c.bindings_of-place-items.result.now c.loop-place.place-index c.binding-target.result c.binding-target.ensures.binding) in
+    let more = lowest-each_more (length left) (λ e. nat_lt 0 (left_of left e)) (cost_at_place c.args.plan.now) places c.loop-place.place-index (record { 0 = 0 }) c.loop-place-test.true in
+    let here = ap (λ (cost : Cost). lowest (length c.args.left.now) (λ e. nat_lt 0 (left_of c.args.left.now e)) cost) (place-cost c.args.plan.now c.bindings_of-place-items.result.now c.loop-place.place-index c.binding-target.result c.binding-target.ensures.binding) in
     omega (arith, more, here)
 
 pub returns : goal.returns

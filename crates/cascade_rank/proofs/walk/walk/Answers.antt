@@ -1,6 +1,6 @@
-use Rattle.std.proofs.Common.{◌≡◌, ◌<◌, true, false, List, [], ◌∷◌, ◌++◌, ℕ, length, map, set, slice_index_or, ap, ◌∙◌, sym, subst, arith}
+use Rattle.std.proofs.Common.{◌≡◌, ◌<◌, true, false, List, [], ◌∷◌, ◌++◌, length, set, slice_index_or, ap, ◌∙◌, sym, subst, arith}
 use Rattle.std.proofs.lemmas.Result.{IfOk-weaker}
-use Rattle.std.proofs.lemmas.List.{map_push, get_or_read}
+use Rattle.std.proofs.lemmas.List.{get_or_read}
 use Rattle.mpf_plan.specs.declared.entries.EventId.{EventId}
 use Rattle.cascade_rank.specs.LeadsTo.{IsCycle}
 use Rattle.cascade_rank.specs.Cycle.{IsReportedCycle, from_first}
@@ -9,48 +9,47 @@ use Rattle.cascade_rank.proofs.walk.walk.Goals as goal
 
 pub loop-passed-preserved : goal.loop-passed-preserved
 loop-passed-preserved c =
-    let path = map (λ (e : EventId). e.0) c.loop-passed.path.items in
+    let path = c.loop-passed.path.items in
     let passed = c.loop-passed.passed.items in
-    let at = c.loop-passed.at.0 in
+    let at = c.loop-passed.at in
     let w = c.loop-passed.invariant in
-    let inside : at < length passed = omega (arith, w.below, w.count) in
-    let new : slice_index_or passed at false ≡ false = sym (get_or_read passed at c.index.result.now inside c.index.ensures false) ∙ c.loop-passed-test.true in
-    let more : map (λ (e : EventId). e.0) c.push.new.self.items ≡ path ++ at ∷ [] = ap (map (λ (e : EventId). e.0)) c.in_ok-push.ensures.items ∙ map_push (λ (e : EventId). e.0) c.loop-passed.path.items c.loop-passed.at in
-    subst (λ (es : List ℕ). WalkAt c.args.plan.now c.args.start.0 (set c.loop-passed.passed.items c.loop-passed.at.0 true) es c.next-at.result.0) (sym more)
-    (subst (λ (n : ℕ). WalkAt c.args.plan.now c.args.start.0 (set c.loop-passed.passed.items c.loop-passed.at.0 true) (map (λ (e : EventId). e.0) c.loop-passed.path.items ++ c.loop-passed.at.0 ∷ []) n) (sym c.next-at.ensures)
-    (walk_goes c.args.plan.now c.args.start.0 c.requires.first passed path at w c.event_count.ensures.valid c.requires.left.leads_on new))
+    let inside : at.0 < length passed = omega (arith, w.below, w.count) in
+    let new : slice_index_or passed at.0 false ≡ false = sym (get_or_read passed at.0 c.index.result.now inside c.index.ensures false) ∙ c.loop-passed-test.true in
+    subst (λ (es : List EventId). WalkAt c.args.plan.now c.args.start (set c.loop-passed.passed.items c.loop-passed.at.0 true) es c.next-at.result) (sym c.in_ok-push.ensures.items)
+    (subst (WalkAt c.args.plan.now c.args.start (set c.loop-passed.passed.items c.loop-passed.at.0 true) (c.loop-passed.path.items ++ c.loop-passed.at ∷ [])) (sym c.next-at.ensures)
+    (walk_goes c.args.plan.now c.args.start c.requires.first passed path at w c.event_count.ensures.valid c.requires.left.leads_on new))
 
 pub returns-clause-cycle : goal.returns-clause-cycle
 returns-clause-cycle c =
-    let path = map (λ (e : EventId). e.0) c.loop-passed.path.items in
+    let path = c.loop-passed.path.items in
     let passed = c.loop-passed.passed.items in
-    let at = c.loop-passed.at.0 in
+    let at = c.loop-passed.at in
     let w = c.loop-passed.invariant in
-    let inside : at < length passed = omega (arith, w.below, w.count) in
-    let again : slice_index_or passed at false ≡ true = sym (get_or_read passed at c.index.result.now inside c.index.ensures false) ∙ c.loop-passed-test.false in
-    let same = ap (λ (es : List EventId). from_first c.loop-passed.at.0 (map (λ (e : EventId). e.0) es)) c.deref.ensures.value in
-    IfOk-weaker c.part_from.result _ _ (λ part is. is ∙ same ∙ cycle_is c.args.plan.now c.args.start.0 c.requires.first passed path at w again) c.part_from.ensures
+    let inside : at.0 < length passed = omega (arith, w.below, w.count) in
+    let again : slice_index_or passed at.0 false ≡ true = sym (get_or_read passed at.0 c.index.result.now inside c.index.ensures false) ∙ c.loop-passed-test.false in
+    let same = ap (from_first c.loop-passed.at) c.deref.ensures.value in
+    IfOk-weaker c.part_from.result _ _ (λ part is. is ∙ same ∙ cycle_is c.args.plan.now c.args.start c.requires.first passed path at w again) c.part_from.ensures
 
 pub returns-clause-reported : goal.returns-clause-reported
 returns-clause-reported c =
-    let path = map (λ (e : EventId). e.0) c.loop-passed.path.items in
+    let path = c.loop-passed.path.items in
     let passed = c.loop-passed.passed.items in
-    let at = c.loop-passed.at.0 in
+    let at = c.loop-passed.at in
     let w = c.loop-passed.invariant in
-    let inside : at < length passed = omega (arith, w.below, w.count) in
-    let again : slice_index_or passed at false ≡ true = sym (get_or_read passed at c.index.result.now inside c.index.ensures false) ∙ c.loop-passed-test.false in
-    let same = ap (λ (es : List EventId). from_first c.loop-passed.at.0 (map (λ (e : EventId). e.0) es)) c.deref.ensures.value in
-    let there = comes_again c.args.plan.now c.args.start.0 c.requires.first passed path at w again in
+    let inside : at.0 < length passed = omega (arith, w.below, w.count) in
+    let again : slice_index_or passed at.0 false ≡ true = sym (get_or_read passed at.0 c.index.result.now inside c.index.ensures false) ∙ c.loop-passed-test.false in
+    let same = ap (from_first c.loop-passed.at) c.deref.ensures.value in
+    let there = comes_again c.args.plan.now c.args.start c.requires.first passed path at w again in
     IfOk-weaker c.part_from.result _ _ (λ part is. subst (IsReportedCycle c.args.plan.now) (sym (is ∙ same)) (reported c.args.plan.now path at w.walk w.all_below w.goes there)) c.part_from.ensures
 
 pub returns-clause-is_one : goal.returns-clause-is_one
 returns-clause-is_one c =
-    let path = map (λ (e : EventId). e.0) c.loop-passed.path.items in
+    let path = c.loop-passed.path.items in
     let passed = c.loop-passed.passed.items in
-    let at = c.loop-passed.at.0 in
+    let at = c.loop-passed.at in
     let w = c.loop-passed.invariant in
-    let inside : at < length passed = omega (arith, w.below, w.count) in
-    let again : slice_index_or passed at false ≡ true = sym (get_or_read passed at c.index.result.now inside c.index.ensures false) ∙ c.loop-passed-test.false in
-    let same = ap (λ (es : List EventId). from_first c.loop-passed.at.0 (map (λ (e : EventId). e.0) es)) c.deref.ensures.value in
-    let there = comes_again c.args.plan.now c.args.start.0 c.requires.first passed path at w again in
+    let inside : at.0 < length passed = omega (arith, w.below, w.count) in
+    let again : slice_index_or passed at.0 false ≡ true = sym (get_or_read passed at.0 c.index.result.now inside c.index.ensures false) ∙ c.loop-passed-test.false in
+    let same = ap (from_first c.loop-passed.at) c.deref.ensures.value in
+    let there = comes_again c.args.plan.now c.args.start c.requires.first passed path at w again in
     IfOk-weaker c.part_from.result _ _ (λ part is. subst (IsCycle c.args.plan.now) (sym (is ∙ same)) (cycle c.args.plan.now path at w.walk w.all_below w.goes there)) c.part_from.ensures

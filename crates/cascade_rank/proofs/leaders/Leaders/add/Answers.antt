@@ -13,4 +13,4 @@ returns c =
     let was = ap items c.index_mut.ensures.value ∙ sym (get_or-map items lists event c.index_mut.result.now [] within) in
     map-set items lists event c.push.new.self
     ∙ ap (set (map items lists) event) (c.in_ok-push.ensures.items ∙ ap (λ (es : List EventId). es ++ c.args.leader ∷ []) was)
-    ∙ ap (λ (all : List (List EventId)). set all event (leaders_to all event ++ c.args.leader ∷ [])) c.self.view_is
+    ∙ ap (λ (all : List (List EventId)). set all event (leaders_to all c.args.event ++ c.args.leader ∷ [])) c.self.view_is
