@@ -11,7 +11,7 @@ use Rattle.mpf_plan.specs.declared.entries.BindingId.{BindingId}
 use Rattle.mpf_plan.specs.declared.entries.Binding.{Binding}
 use Rattle.cascade_rank.specs.Cost.{Cost, Lines, Weight, Both, each_of, cost_of_binding, cost_of_work, cost_of_event}
 use Rattle.cascade_rank.specs.Events.{no_event, event_at}
-use Rattle.cascade_rank.specs.Order.{unmet, occurrences, times, left_of, IsOrdering, IsMeeting}
+use Rattle.cascade_rank.specs.Order.{unmet, occurrences, times, IsOrdering, IsMeeting}
 use Rattle.cascade_rank.specs.Leaders.{leaders_to, AddsLeader, HasLeaders}
 use Rattle.mpf_plan.proofs.BoundTo.{places_of-bound}
 use Rattle.cascade_rank.proofs.Events.{event, same_event}

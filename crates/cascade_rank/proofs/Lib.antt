@@ -1,4 +1,5 @@
 pub mod Events
+pub mod Limits
 pub mod Prices
 pub mod Within
 pub mod Switches

@@ -1,7 +1,7 @@
 -- The walk along events that are not grounded, and the cycle in which it ends.
 use Rattle.std.proofs.Common.{◌≡◌, ◌≢◌, ℕ, suc, ◌+◌, ◌-◌, ◌<◌, Bool, true, false, not, cond, ◌&&◌, ◌||◌, ◌==◌, List, [], ◌∷◌, ◌++◌, length, take, drop, set, get_or, slice_index_or, count_by, All, replicate, Option, Some, None, position, unwrap_or, refl, sym, ◌∙◌, ap, subst, inl, inr, arith, length-append, length-drop, length-set, get_or-drop, get_or-set_same, get_or-set_other}
 use Rattle.std.specs.List.{list_any, position_or_len}
-use Rattle.std.proofs.lemmas.Bool.{cases_lt, cases_eq, lt-ltb, le-ltb, and_parts, or_right, eqb-true, eq-eqb, ne_eqb, false≢true}
+use Rattle.std.proofs.lemmas.Bool.{cases_lt, cases_eq, lt-ltb, le-ltb, and_parts, or_right, eq-eqb, ne_eqb, false≢true}
 use Rattle.std.proofs.lemmas.List.{get_or_append_left, get_or_push, get_or-replicate, length-replicate, take_rest}
 use Rattle.std.proofs.lemmas.List.Elements.{All-nil, All-push, All-drop}
 use Rattle.std.proofs.lemmas.List.Sums.{sum_by-set, passes_at_first, prefix_len-le-length}
@@ -10,11 +10,11 @@ use Rattle.mpf_plan.specs.PlanView.{PlanView}
 use Rattle.mpf_plan.specs.Valid.{IsValid}
 use Rattle.mpf_plan.specs.declared.entries.EventId.{EventId}
 use Rattle.cascade_rank.specs.Cost.{cost_of_event}
-use Rattle.cascade_rank.specs.Events.{events_of, no_event, event_at}
+use Rattle.cascade_rank.specs.Events.{no_event, event_at}
 use Rattle.cascade_rank.specs.LeadsTo.{leads, grounded, is_open, IsCycle}
 use Rattle.cascade_rank.specs.Cycle.{IsFirst, GoesOn, IsWalk, IsReportedCycle, next_open, from_first, cycle_from, cycle_of}
 use Rattle.cascade_rank.specs.Lowest.{LeadsOn}
-use Rattle.cascade_rank.proofs.Events.{event, same_event, tested_event}
+use Rattle.cascade_rank.proofs.Events.{same_event, tested_event}
 use Rattle.cascade_rank.proofs.Mentioned.{all_mentioned-fails}
 use Rattle.cascade_rank.proofs.Ranking.{mentioned_below}
 use Rattle.cascade_rank.proofs.Ordering.{counted_one}

@@ -1,5 +1,6 @@
 use Rattle.std.proofs.Common.{false, refl, arith}
 use Rattle.cascade_rank.specs.Cost.{Lines}
+use Rattle.cascade_rank.proofs.Limits.{bindings-few}
 use Rattle.cascade_rank.proofs.Places.{binding-within, place-within, places-few}
 use Rattle.cascade_rank.proofs.Leading.{adds-none, adds-place, unmet-place, adds-event, unmet-event}
 use Rattle.cascade_rank.proofs.leaders.add_event.Goals as goal
@@ -22,7 +23,7 @@ add_target-requires-clause-target c =
 pub overflow_add-posts : goal.overflow_add-posts
 overflow_add-posts c =
     let few = places-few c.args.plan.now c.args.event c.bindings_of-place-items.result.now c.bindings_of-place-items.ensures.places in
-    let limit = c.bindings_of-place-items.ensures.valid.binding_limit in
+    let limit = bindings-few c.args.plan.now c.bindings_of-place-items.ensures.valid in
     omega (arith, few, limit, c.loop-place.invariant.small, c.in_ok-more.ensures.small)
 
 pub loop-place-preserved : goal.loop-place-preserved

@@ -6,6 +6,7 @@ use Rattle.cascade_rank.specs.Finding.{cycle, found_past}
 use Rattle.cascade_rank.specs.Lowest.{IsLeft}
 use Rattle.cascade_rank.specs.Order.{IsWholeOrder}
 use Rattle.cascade_rank.proofs.Events.{event}
+use Rattle.cascade_rank.proofs.Limits.{events-few}
 use Rattle.cascade_rank.proofs.Cycles.{cycle-no_fit}
 use Rattle.cascade_rank.proofs.Finds.{left_is_open, found_past_is, first_is_open, all_grounded, whole_order, found_within, least_within, found_above, too_dear}
 use Rattle.cascade_rank.proofs.least.find.Goals as goal
@@ -15,7 +16,7 @@ overflow_cast-start c =
     let g = c.in_ok-grounding.ensures in
     let is = c.first_left.ensures ∙ ap (position (λ n. nat_lt 0 n)) c.deref.ensures.value in
     let below = (first_is_open c.args.plan.now g.valid c.in_ok-grounding.grounding.left.items c.in_ok-grounding.grounding.order.items g.order c.first_left.result is c.in-Some.place c.in-Some.is).0 in
-    omega (arith, below, g.valid.event_limit)
+    omega (arith, below, events-few c.args.plan.now g.valid)
 
 pub walk-requires-clause-left : goal.walk-requires-clause-left
 walk-requires-clause-left c =

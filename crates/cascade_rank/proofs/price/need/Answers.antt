@@ -1,5 +1,6 @@
 use Rattle.std.proofs.Common.{arith}
 use Rattle.cascade_rank.specs.Events.{weight_of}
+use Rattle.cascade_rank.proofs.Limits.{bindings-few}
 use Rattle.cascade_rank.proofs.Places.{binding-within, place-within, places-few, price-places_more, price-places_all}
 use Rattle.cascade_rank.proofs.price.need.Goals as goal
 
@@ -14,7 +15,7 @@ price_of_binding-total-requires-clause-binding c =
 pub overflow_add-total : goal.overflow_add-total
 overflow_add-total c =
     let few = places-few c.args.plan.now c.args.event c.bindings_of-place-items.result.now c.bindings_of-place-items.ensures.places in
-    let limit = c.bindings_of-place-items.ensures.valid.binding_limit in
+    let limit = bindings-few c.args.plan.now c.bindings_of-place-items.ensures.valid in
     omega (arith, few, limit, c.loop-place.invariant.small, c.price_of_binding-total.ensures.small)
 
 pub loop-place-preserved : goal.loop-place-preserved
@@ -33,5 +34,5 @@ returns-clause-price c =
 pub returns-clause-small : goal.returns-clause-small
 returns-clause-small c =
     let few = places-few c.args.plan.now c.args.event c.bindings_of-place-items.result.now c.bindings_of-place-items.ensures.places in
-    let limit = c.bindings_of-place-items.ensures.valid.binding_limit in
+    let limit = bindings-few c.args.plan.now c.bindings_of-place-items.ensures.valid in
     omega (arith, few, limit, c.loop-place.invariant.small)
