@@ -1,7 +1,8 @@
 -- Where weights fit, no event step raises the potential. So every run of an accepted plan is good.
-use Rattle.std.proofs.Common.{◌≡◌, ℕ, zero, suc, ◌+◌, ◌≤◌, ◌<◌, Bool, true, false, if◌then◌else◌, Option, Some, None, List, [], ◌∷◌, length, slice_index, refl, ap, sym, subst, arith, length-append}
+use Rattle.std.proofs.Common.{◌≡◌, ℕ, zero, suc, ◌+◌, ◌≤◌, ◌<◌, Bool, true, false, if◌then◌else◌, Option, Some, None, List, [], ◌∷◌, length, refl, ap, sym, subst, arith, length-append}
 use Rattle.std.specs.List.{AllByRecursion}
 use Rattle.mpf_plan.specs.PlanView.{PlanView}
+use Rattle.mpf_plan.specs.declared.entries.EventId.{EventId}
 use Rattle.mpf_plan.specs.Valid.{IsValid}
 use Rattle.mpf_plan.specs.declared.entries.SwitchId.{SwitchId}
 use Rattle.switch_core.specs.declared.change.Change.{Change as Acceptance}
@@ -11,6 +12,7 @@ use Rattle.switch_core.proofs.Lists.{due-within}
 use Rattle.config_checker.specs.declared.line.Line.{Line}
 use Rattle.config_checker.specs.declared.line.Happening.TheVariants as lines
 use Rattle.cascade_rank.specs.Cost.{Cost, price, cost_of_acceptance}
+use Rattle.cascade_rank.specs.Events.{weight_of}
 use Rattle.cascade_rank.specs.Weights.{IsFitting, bound_of}
 use Rattle.cascade_rank.specs.Below.{IsBelow}
 use Rattle.cascade_rank.proofs.Within.{IsBelow-acceptance}
@@ -68,7 +70,7 @@ module _ (plan : PlanView) (valid : IsValid plan) where
   waits-run stimuli trace s run = run-keeps plan valid WaitsInPlan waits-moves waits-drops (λ stimulus s allowed empty h. waits-begin stimulus s h) stimuli (initial plan) trace s run tt
 
 -- a stimulus that may come costs at most what the dearest does
-module _ (plan : PlanView) (w : ℕ → ℕ) where
+module _ (plan : PlanView) (w : EventId → ℕ) where
   accepted_cost : (n : SwitchId) (taken : Bool) (a : Acceptance) → a.switch ≡ n → n.0 < length plan.switches → price w (cost_if_accepted plan (if taken then Some a else None)) ≤ bound_of plan w
   accepted_cost n true a is l = subst (λ (m : SwitchId). price w (cost_of_acceptance plan m a.active) ≤ bound_of plan w) (sym is) (acceptance-within_bound plan w n a.active l)
   accepted_cost n false a is l = omega arith
@@ -94,11 +96,11 @@ module _ (plan : PlanView) where
   steps-lines zero s t is = let same = ap (λ (m : Machine). length m.lines) is in omega (arith, same)
   steps-lines (suc n) s t (mid, step, more) = omega (arith, step-line s mid step, steps-lines n mid t more)
 
-module _ (plan : PlanView) (valid : IsValid plan) (w : ℕ → ℕ) (fits : IsFitting plan w) where
+module _ (plan : PlanView) (valid : IsValid plan) (w : EventId → ℕ) (fits : IsFitting plan w) where
   pub step-potential : (s t : Machine) → EventStep plan s t → WaitsInPlan plan valid s → potential w t ≤ potential w s
   step-potential s t st h =
       let front : AllByRecursion (λ p. p.event.0 < length plan.events) (st.first ∷ st.rest) = subst (AllByRecursion (λ p. p.event.0 < length plan.events)) st.waiting h in
-      let fit = fits st.first.event.0 front.0 in
+      let fit = fits st.first.event front.0 in
       let grown = potential-does w (does-event plan st.first st.rest st.order s) in
       let paid = order_cost plan w (before_handlers plan st.first st.rest s) st.first.event st.order st.in_order in
       let line = length-append s.lines (record { moment = s.moment; owner = st.first.owner; happening = lines.Event st.first.event } ∷ []) in
@@ -124,7 +126,7 @@ module _ (plan : PlanView) (valid : IsValid plan) (w : ℕ → ℕ) (fits : IsFi
   waiting-weigh : (ps : List Posted) → AllByRecursion (λ p. p.event.0 < length plan.events) ps → length ps ≤ weigh w ps
   waiting-weigh [] h = omega arith
   waiting-weigh (p ∷ ps) h =
-      let fit = fits p.event.0 h.0 in
+      let fit = fits p.event h.0 in
       omega (arith, fit, waiting-weigh ps h.1)
 
   -- a run that begins within the bound stays within it
@@ -145,10 +147,10 @@ module _ (plan : PlanView) (valid : IsValid plan) (w : ℕ → ℕ) (fits : IsFi
       omega (arith, started, went)
 
 -- where the weights fit and the bound is theirs, every run is good
-pub fitting-is_good : (c : CheckedView) → IsValid c.plan → IsFitting c.plan (slice_index c.weights) → c.bound ≡ bound_of c.plan (slice_index c.weights) → IsGood c
+pub fitting-is_good : (c : CheckedView) → IsValid c.plan → IsFitting c.plan (weight_of c.weights) → c.bound ≡ bound_of c.plan (weight_of c.weights) → IsGood c
 fitting-is_good c valid fits bound =
     let plan = c.plan in
-    let w = slice_index c.weights in
+    let w = weight_of c.weights in
     record {
       cascade = λ stimuli trace s run empty stimulus allowed n t steps.
           cascade-potential plan valid w fits stimulus s (waits-run plan valid stimuli trace s run) empty n t steps;

@@ -26,15 +26,15 @@ pub data Does : Cost → Machine → Machine → Type 0 where
   right : {a b : Cost} {s t : Machine} → Does b s t → Does (Greater a b) s t
 
 -- lines so far, and the weights of the waiting events
-abbrev pub potential : (ℕ → ℕ) → Machine → ℕ
+abbrev pub potential : (EventId → ℕ) → Machine → ℕ
 potential w s = length s.lines + weigh w s.waiting
 
-pub weigh-append : (w : ℕ → ℕ) (ps qs : List Posted) → weigh w (ps ++ qs) ≡ weigh w ps + weigh w qs
+pub weigh-append : (w : EventId → ℕ) (ps qs : List Posted) → weigh w (ps ++ qs) ≡ weigh w ps + weigh w qs
 weigh-append w [] qs = omega arith
 weigh-append w (p ∷ ps) qs = omega (arith, weigh-append w ps qs)
 
 -- the potential grows by no more than the cost
-pub potential-does : (w : ℕ → ℕ) {c : Cost} {s t : Machine} → Does c s t → potential w t ≤ potential w s + price w c
+pub potential-does : (w : EventId → ℕ) {c : Cost} {s t : Machine} → Does c s t → potential w t ≤ potential w s + price w c
 potential-does w quiet = omega arith
 potential-does w (wrote owner what s) = omega (arith, length-append s.lines (record { moment = s.moment; owner = owner; happening = what } ∷ []))
 potential-does w (posted owner e s) = omega (arith, weigh-append w s.waiting (record { event = e; owner = owner } ∷ []))

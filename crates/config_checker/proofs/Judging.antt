@@ -1,12 +1,13 @@
 -- What rows are judged to be, case by case.
-use Rattle.std.proofs.Common.{◌≡◌, ◌≢◌, ℕ, true, false, List, [], ◌∷◌, length, slice_index, Option, Some, None, option_map, Result, Ok, Err, refl, sym, ap, ◌∙◌, subst, true≢false}
+use Rattle.std.proofs.Common.{◌≡◌, ◌≢◌, ℕ, true, false, List, [], ◌∷◌, length, Option, Some, None, option_map, Result, Ok, Err, refl, sym, ap, ◌∙◌, subst, true≢false}
 use Rattle.std.specs.List.{zip}
 use Rattle.std.proofs.lemmas.Bool.{cond-true, cond-false, eq-eqb, ne_eqb}
 use Rattle.std.proofs.lemmas.Slice.Zip.{firsts-zip, seconds-zip}
 use Rattle.mpf_config.specs.Rows.{Rows}
-use Rattle.mpf_plan.specs.PlanView.{PlanView}
+use Rattle.mpf_plan.specs.PlanView.{PlanView, name_of_event}
 use Rattle.mpf_plan.specs.PlanOf.{plan_at, plan_of}
 use Rattle.mpf_plan.proofs.Judged.{plan_at-Ok, plan_at-exceeded}
+use Rattle.cascade_rank.specs.Events.{weight_of}
 use Rattle.cascade_rank.specs.Weights.{bound_of}
 use Rattle.cascade_rank.specs.Finding.{RankView, found_at, verified_at}
 use Rattle.cascade_rank.specs.Finding as ranks
@@ -18,7 +19,7 @@ use Rattle.config_checker.specs.declared.report.Report.TheVariants.{NoMemory, Fa
 use Rattle.config_checker.specs.CheckedView.{CheckedView}
 use Rattle.config_checker.specs.CertificateText.{Certificate, text_of, certificate_text}
 use Rattle.config_checker.specs.CertificateOf.{IsTextOf, certificate_at}
-use Rattle.config_checker.specs.Checking.{FaultView, limit, cycle, bound, certificate, bad_line, other_events, other_bound, name_of, fault_of, weighed, weighed_plan, same_names, names_in, weights_in, bounded, certified, certified_plan, alone, checked, checked_at, checked_with_at}
+use Rattle.config_checker.specs.Checking.{FaultView, limit, cycle, bound, certificate, bad_line, other_events, other_bound, fault_of, weighed, weighed_plan, same_names, names_in, weights_in, bounded, certified, certified_plan, alone, checked, checked_at, checked_with_at}
 use Rattle.config_checker.specs.View.{GivesChecked, ReportsFault}
 use Rattle.config_checker.specs.Refused.{IsLimitFault, IsFaultOf, IsNoCertificate, IsCertificateOf, HasOtherEvents, HasOtherBound, HasTooMuch, IsShort, IsFaultWith, Reports}
 use Rattle.config_checker.proofs.Certificates.{read-is_text, text-is_read}
@@ -101,7 +102,7 @@ module _ (rows : Rows) (plan : PlanView) (made : plan_at rows ≡ Ok plan) where
   unfolding checked_at
   found-checked answer is = ap (checked weighed_plan) made ∙ ap alone is
 
-  pub found-accepted : (ws : List ℕ) (b : ℕ) → found_at plan ≡ Ok ws → b ≡ bound_of plan (slice_index ws) → checked_at rows ≡ Ok (record { plan = plan; weights = ws; bound = b })
+  pub found-accepted : (ws : List ℕ) (b : ℕ) → found_at plan ≡ Ok ws → b ≡ bound_of plan (weight_of ws) → checked_at rows ≡ Ok (record { plan = plan; weights = ws; bound = b })
   unfolding weighed_plan
   found-accepted ws b found is =
       found-checked (Ok (record { plan = plan; weights = ws; bound = b })) (ap (weighed plan) found ∙ ap (λ (n : ℕ). Ok (record { plan = plan; weights = ws; bound = n })) (sym is))
@@ -180,7 +181,7 @@ module _ (rows : Rows) (plan : PlanView) (made : plan_at rows ≡ Ok plan) where
             by (ranks.cycle events) h = absurd h
             by ranks.bound_too_large h = subst (λ (p : PlanView). HasTooMuch p text) of_rows (record { certificate = c; of_plan = of_plan; above = h })
             by (ranks.short event needed) h =
-                subst (λ (p : PlanView). IsShort p text (name_of plan event) needed) of_rows (record { certificate = c; of_plan = of_plan; event = event; first = h.1; name_is = refl })
+                subst (λ (p : PlanView). IsShort p text (name_of_event plan event) needed) of_rows (record { certificate = c; of_plan = of_plan; event = event; first = h.1; name_is = refl })
             by ranks.wrong_events h = absurd (h (parts-length c.events ∙ ap length of_plan.events))
 
         pub verified-checked : (b : ℕ) → verified_at plan ws ≡ Ok b → b ≡ c.bound → checked_with_at rows text ≡ Ok (record { plan = plan; weights = ws; bound = b })

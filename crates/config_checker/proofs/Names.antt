@@ -48,10 +48,6 @@ module _ (events : List (List ℕ)) (names : List (Bor (List ℕ))) (k : ℕ) (d
 pub all_seen : {X Y : Type 0} (view : X → Y) (P : Y → Type 0) (xs : List X) → All P (map view xs) → All (λ x. P (view x)) xs
 all_seen view P xs h k d within = subst P (get_or-map view xs k d (view d) within) (h k (view d) (omega (arith, within, length-map xs view)))
 
-pub map-seen : {X Y Z : Type 0} (view : X → Y) (f : Y → Z) (xs : List X) → map f (map view xs) ≡ map (λ x. f (view x)) xs
-map-seen view f [] = refl
-map-seen view f (x ∷ xs) = ap (λ (ys : List _). f (view x) ∷ ys) (map-seen view f xs)
-
 -- the names and the weights of a list of both
 pub zip-parts : (es : List (List ℕ × ℕ)) → zip (map (λ (e : List ℕ × ℕ). e.0) es) (map (λ (e : List ℕ × ℕ). e.1) es) ≡ es
 zip-parts [] = refl

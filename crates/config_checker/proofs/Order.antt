@@ -22,13 +22,13 @@ use Rattle.config_checker.specs.Machine.{Machine}
 use Rattle.config_checker.specs.EventStep.{before_handlers, handlers_in, EventStep, after_event}
 use Rattle.config_checker.proofs.Parts.{cost_of_handler, cost_of_handling}
 
-each_of-map : {X Y : Type 0} (f : Y → Cost) (g : X → Y) (xs : List X) (w : ℕ → ℕ) → price w (each_of f (map g xs)) ≡ price w (each_of (λ x. f (g x)) xs)
+each_of-map : {X Y : Type 0} (f : Y → Cost) (g : X → Y) (xs : List X) (w : EventId → ℕ) → price w (each_of f (map g xs)) ≡ price w (each_of (λ x. f (g x)) xs)
 each_of-map f g [] w = refl
 each_of-map f g (x ∷ xs) w = omega (arith, each_of-map f g xs w)
 
 module _ (plan : PlanView) where
   -- the handlers of an event are among what is bound to it
-  handlers_cost : (w : ℕ → ℕ) (e : EventId) → price w (each_of (cost_of_handler plan) (handlers plan e)) ≤ price w (each_of (cost_of_binding plan) (bound_to plan e))
+  handlers_cost : (w : EventId → ℕ) (e : EventId) → price w (each_of (cost_of_handler plan) (handlers plan e)) ≤ price w (each_of (cost_of_binding plan) (bound_to plan e))
   handlers_cost w e =
       let f : BindingId → ℕ = λ p. price w (cost_of_handler plan p) in
       let both = sum_by-filter_both (λ p. takes_part (binding_at plan p.0).owner) (λ p. not (takes_part (binding_at plan p.0).owner)) (λ p. refl) f (places_of plan e) in
@@ -39,7 +39,7 @@ module _ (plan : PlanView) where
       omega (arith, both, kept, all, seen, bound)
 
   -- the event's line, its handlers in any order and the machine's work are within what the event costs
-  pub order_cost : (w : ℕ → ℕ) (s : Machine) (e : EventId) (order : List BindingId) → IsHandlerOrder plan (handlers_in plan s e) order → 1 + price w (cost_of_handling plan e order) ≤ need plan w e.0
+  pub order_cost : (w : EventId → ℕ) (s : Machine) (e : EventId) (order : List BindingId) → IsHandlerOrder plan (handlers_in plan s e) order → 1 + price w (cost_of_handling plan e order) ≤ need plan w e
   order_cost w s e order h =
       let same = sum_by-IsPermutation (λ p. price w (cost_of_handler plan p)) (handlers plan e) order h.permutation in
       let kept = price-each_sum w (cost_of_handler plan) (handlers plan e) in

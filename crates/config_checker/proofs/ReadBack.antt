@@ -1,5 +1,5 @@
 -- What was accepted is accepted again with the text of its certificate.
-use Rattle.std.proofs.Common.{◌≡◌, ℕ, ◌<◌, ◌≤◌, ◌^◌, Bool, true, false, ◌==◌, if◌then◌else◌, List, length, slice_index, Option, Some, None, Result, Ok, Err, refl, sym, ap, subst, arith}
+use Rattle.std.proofs.Common.{◌≡◌, ℕ, ◌<◌, ◌≤◌, ◌^◌, Bool, true, false, ◌==◌, if◌then◌else◌, List, length, Option, Some, None, Result, Ok, Err, refl, sym, ap, subst, arith}
 use Rattle.std.specs.List.{All, zip}
 use Rattle.std.proofs.lemmas.Bool.{not-false, eqb-true}
 use Rattle.std.proofs.lemmas.List.Elements.{All-weaker}
@@ -7,10 +7,12 @@ use Rattle.std.proofs.lemmas.Slice.Zip.{firsts-zip, seconds-zip}
 use Rattle.mpf_config.specs.Rows.{Rows}
 use Rattle.mpf_config.specs.Reading.{rows_at}
 use Rattle.mpf_plan.specs.PlanView.{PlanView}
+use Rattle.mpf_plan.specs.declared.entries.EventId.{EventId}
 use Rattle.mpf_plan.specs.PlanOf.{plan_at, plan_of, PlanRefusal, no_such_name, above_limit}
 use Rattle.mpf_plan.specs.Valid.{IsValid}
 use Rattle.mpf_plan.proofs.Judged.{plan_at-Ok}
 use Rattle.mpf_plan.proofs.ValidPlan.{IsValid-plan_at}
+use Rattle.cascade_rank.specs.Events.{weight_of}
 use Rattle.cascade_rank.specs.Weights.{IsLeastFitting, bound_of, greatest}
 use Rattle.cascade_rank.specs.LeadsTo.{grounded, is_open}
 use Rattle.cascade_rank.specs.Ranks.{ranks}
@@ -45,14 +47,14 @@ chosen false r e x is = absurd (err_not_ok e x is)
 -- ---- weights that were found
 
 module _ (plan : PlanView) (valid : IsValid plan) (ws : List ℕ) where
-  past_found : (first : Option ℕ) → first_open plan ≡ first → found_past plan first ≡ Ok ws → IsLeastFitting plan ws × (is_within_limit plan ws ≡ true)
+  past_found : (first : Option EventId) → first_open plan ≡ first → found_past plan first ≡ Ok ws → IsLeastFitting plan ws × (is_within_limit plan ws ≡ true)
   past_found (Some e) is found = absurd (err_not_ok _ ws found)
   past_found None is found =
-      let all : (e : ℕ) → e < length plan.events → grounded plan e ≡ true = λ e l. not-false (grounded plan e) (first_event-None plan (is_open plan) is e l) in
+      let all : (e : EventId) → e.0 < length plan.events → grounded plan e ≡ true = λ e l. not-false (grounded plan e) (first_event-None plan (is_open plan) is e l) in
       let limited = chosen (is_within_limit plan (ranks plan)) (Ok (ranks plan)) bound_too_large ws found in
       subst (λ (v : List ℕ). IsLeastFitting plan v × (is_within_limit plan v ≡ true)) (ok_same (ranks plan) ws limited.1) (ranks_least plan valid all, limited.0)
 
-  found-verified : found_at plan ≡ Ok ws → IsVerified plan ws (bound_of plan (slice_index ws))
+  found-verified : found_at plan ≡ Ok ws → IsVerified plan ws (bound_of plan (weight_of ws))
   unfolding found_at
   found-verified found =
       let both = past_found (first_open plan) refl found in
@@ -90,7 +92,7 @@ module _ (rows : Rows) where
   -- what was accepted has the plan of the rows, and weights that serve
   weighed-accepted : (plan : PlanView) (found : Result (List ℕ) RankView) (c : CheckedView) → plan_at rows ≡ Ok plan → found_at plan ≡ found → weighed plan found ≡ Ok c → (plan_at rows ≡ Ok c.plan) × IsAccepted c
   weighed-accepted plan (Ok ws) c made found is =
-      let accepted : CheckedView = record { plan = plan; weights = ws; bound = bound_of plan (slice_index ws) } in
+      let accepted : CheckedView = record { plan = plan; weights = ws; bound = bound_of plan (weight_of ws) } in
       let valid = IsValid-plan_at rows plan made in
       subst (λ (v : CheckedView). (plan_at rows ≡ Ok v.plan) × IsAccepted v) (ok_same accepted c is) (made, record { valid = valid; verified = found-verified plan valid ws found })
   weighed-accepted plan (Err fault) c made found is = absurd (err_not_ok _ c is)

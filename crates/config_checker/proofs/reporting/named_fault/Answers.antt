@@ -1,24 +1,20 @@
-use Rattle.std.proofs.Common.{ℕ, ◌<◌, List, length, map, Some, option_map, sym, ap, ◌∙◌, subst}
+use Rattle.std.proofs.Common.{ℕ, List, length, map, Some, option_map, sym, ap, ◌∙◌, subst}
 use Rattle.std.specs.List.{All}
-use Rattle.mpf_plan.specs.declared.entries.EventId.{EventId}
+use Rattle.mpf_plan.specs.PlanView.{name_of_event}
 use Rattle.mpf_plan.specs.Valid.{IsEventWithin}
 use Rattle.cascade_rank.specs.declared.fault.RankFault.{RankFault}
 use Rattle.cascade_rank.specs.View.{IfRank, rank_view}
-use Rattle.config_checker.specs.Checking.{cycle, name_of, fault_of}
+use Rattle.config_checker.specs.Checking.{cycle, fault_of}
 use Rattle.config_checker.specs.View.{HasEvents}
-use Rattle.config_checker.proofs.Names.{all_seen, map-seen}
 use Rattle.config_checker.proofs.reporting.named_fault.Goals as goal
 
 pub names_of-requires : goal.names_of-requires
 names_of-requires c =
-    let n = length c.args.plan.now.events in
-    let within : All (λ e. e < n) (map (λ e. e.0) c.in-Cycle.events.items) = subst (λ (f : RankFault). IfRank f (HasEvents c.args.plan.now)) c.in-Cycle.is c.requires in
-    subst (All (IsEventWithin n)) (sym c.deref.ensures.value) (all_seen (λ (e : EventId). e.0) (λ e. e < n) c.in-Cycle.events.items within)
+    let within : All (IsEventWithin (length c.args.plan.now.events)) c.in-Cycle.events.items = subst (λ (f : RankFault). IfRank f (HasEvents c.args.plan.now)) c.in-Cycle.is c.requires in
+    subst (All (IsEventWithin (length c.args.plan.now.events))) (sym c.deref.ensures.value) within
 
 pub returns-in_ok-names_of-in-Cycle : goal.returns-in_ok-names_of-in-Cycle
 returns-in_ok-names_of-in-Cycle c =
     ap (λ (f : RankFault). option_map (fault_of c.args.plan.now) (rank_view f)) c.in-Cycle.is
     ∙ ap (λ (names : List (List ℕ)). Some (cycle names))
-    (map-seen (λ (e : EventId). e.0) (name_of c.args.plan.now) c.in-Cycle.events.items
-    ∙ ap (map (λ (e : EventId). name_of c.args.plan.now e.0)) (sym c.deref.ensures.value)
-    ∙ sym c.in_ok-names_of-in-Cycle.ensures)
+    (ap (map (name_of_event c.args.plan.now)) (sym c.deref.ensures.value) ∙ sym c.in_ok-names_of-in-Cycle.ensures)
