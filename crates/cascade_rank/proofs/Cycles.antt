@@ -13,7 +13,7 @@ use Rattle.mpf_plan.specs.PlanView.{PlanView, bound_to}
 use Rattle.mpf_plan.specs.Valid.{IsValid}
 use Rattle.mpf_plan.specs.declared.entries.EventId.{EventId}
 use Rattle.cascade_rank.specs.Cost.{Both, each_of, cost_of_binding, cost_of_work, cost_of_event}
-use Rattle.cascade_rank.specs.Events.{no_event, event_at}
+use Rattle.cascade_rank.specs.Events.{no_event, nth_event}
 use Rattle.cascade_rank.specs.Weights.{IsFitting}
 use Rattle.cascade_rank.specs.LeadsTo.{leads, grounded_in, grounded, is_open, IsCycle, HasNoFit}
 use Rattle.cascade_rank.proofs.Events.{tested_event}
@@ -25,46 +25,46 @@ use Rattle.cascade_rank.proofs.Ranking.{mentioned_below}
 
 module _ (plan : PlanView) (events : List EventId) (c : IsCycle plan events) where
   -- each leads to one of them
-  goes_on : (i : ℕ) → i < length events → (j : ℕ) × (j < length events) × (leads plan (event_at events i) (event_at events j) ≡ true)
+  goes_on : (i : ℕ) → i < length events → (j : ℕ) × (j < length events) × (leads plan (nth_event events i) (nth_event events j) ≡ true)
   goes_on i l = elim (cases_lt (i + 1) (length events)) [
     | inl more ↦ (i + 1, more, c.next i more)
     | inr last ↦
         let here : length events - 1 ≡ i = omega (arith, l, last) in
-        (0, c.some, subst (λ (k : ℕ). leads plan (event_at events k) (event_at events 0) ≡ true) here c.back)
+        (0, c.some, subst (λ (k : ℕ). leads plan (nth_event events k) (nth_event events 0) ≡ true) here c.back)
   ]
 
-  never_grounded : (k i : ℕ) → i < length events → grounded_in plan k (event_at events i) ≡ false
+  never_grounded : (k i : ℕ) → i < length events → grounded_in plan k (nth_event events i) ≡ false
   never_grounded zero i l = refl
   never_grounded (suc k) i l =
       let (j, within, leads_there) = goes_on i l in
-      false_from_ne_true (grounded_in plan (suc k) (event_at events i)) (λ h.
-      false≢true (sym (never_grounded k j within) ∙ all_mentioned_at (grounded_in plan k) (cost_of_event plan (event_at events i)) (event_at events j) h leads_there))
+      false_from_ne_true (grounded_in plan (suc k) (nth_event events i)) (λ h.
+      false≢true (sym (never_grounded k j within) ∙ all_mentioned_at (grounded_in plan k) (cost_of_event plan (nth_event events i)) (nth_event events j) h leads_there))
 
   pub cycle-open : All (λ e. is_open plan e ≡ true) events
   cycle-open = All-from_get_or (λ e. is_open plan e ≡ true) events no_event (λ i l. ap not (never_grounded (length plan.events) i l))
 
   module _ (v : EventId → ℕ) (fit : IsFitting plan v) where
     -- what an event leads to weighs less
-    lead_falls : (i : ℕ) (f : EventId) → i < length events → leads plan (event_at events i) f ≡ true → v f < v (event_at events i)
+    lead_falls : (i : ℕ) (f : EventId) → i < length events → leads plan (nth_event events i) f ≡ true → v f < v (nth_event events i)
     lead_falls i f l m =
-        let fits = fit (event_at events i) (All-get_or (λ e. e.0 < length plan.events) events i no_event l c.within) in
-        let e = event_at events i in
+        let fits = fit (nth_event events i) (All-get_or (λ e. e.0 < length plan.events) events i no_event l c.within) in
+        let e = nth_event events i in
         let cost = price-mentioned v (Both (each_of (cost_of_binding plan) (bound_to plan e)) (cost_of_work plan e)) f m in
         omega (arith, fits, cost)
 
-    cycle_falls : (i : ℕ) → i < length events → v (event_at events i) + i ≤ v (event_at events 0)
+    cycle_falls : (i : ℕ) → i < length events → v (nth_event events i) + i ≤ v (nth_event events 0)
     cycle_falls zero l = omega arith
     cycle_falls (suc i) l =
         let one : i + 1 ≡ suc i = omega arith in
-        let next = subst (λ (n : ℕ). leads plan (event_at events i) (event_at events n) ≡ true) one (c.next i (omega (arith, l))) in
-        omega (arith, cycle_falls i (omega (arith, l)), lead_falls i (event_at events (suc i)) (omega (arith, l)) next)
+        let next = subst (λ (n : ℕ). leads plan (nth_event events i) (nth_event events n) ≡ true) one (c.next i (omega (arith, l))) in
+        omega (arith, cycle_falls i (omega (arith, l)), lead_falls i (nth_event events (suc i)) (omega (arith, l)) next)
 
   -- no weights fit
   pub cycle-no_fit : HasNoFit plan
   cycle-no_fit v fit =
       let some = c.some in
       let last : length events - 1 < length events = omega (arith, some) in
-      omega (arith, cycle_falls v fit (length events - 1) last, lead_falls v fit (length events - 1) (event_at events 0) last c.back)
+      omega (arith, cycle_falls v fit (length events - 1) last, lead_falls v fit (length events - 1) (nth_event events 0) last c.back)
 
 -- ---- the way from an event that is not grounded
 
@@ -75,9 +75,9 @@ one_number e f = e.0 == f.0
 -- events from e on, each of which leads to the next, k of them after e, and none comes twice
 pub record IsTrail (plan : PlanView) (e : EventId) (k : ℕ) (trail : List EventId) : Type 0 where
   pub count : length trail ≡ k + 1
-  pub begins : event_at trail 0 ≡ e
+  pub begins : nth_event trail 0 ≡ e
   pub below : All (λ f. f.0 < length plan.events) trail
-  pub next : (i : ℕ) → i + 1 < length trail → leads plan (event_at trail i) (event_at trail (i + 1)) ≡ true
+  pub next : (i : ℕ) → i + 1 < length trail → leads plan (nth_event trail i) (nth_event trail (i + 1)) ≡ true
   pub apart : IsDistinct one_number trail
 
 numbers-apart : (e : EventId) (xs : List EventId) → AllByRecursion (λ d. one_number e d ≡ false) xs → AllByRecursion (λ n. eqb e.0 n ≡ false) (map (λ (d : EventId). d.0) xs)
@@ -107,8 +107,8 @@ module _ (plan : PlanView) where
 
   module _ (e f : EventId) (k : ℕ) (trail : List EventId) (t : IsTrail plan f k trail) (leads_there : leads plan e f ≡ true) where
     -- e leads to the trail, and is on it: the part of the trail up to there is a cycle
-    module _ (n : ℕ) (within : n < length trail) (here : event_at trail n ≡ e) where
-      at_start : (i : ℕ) → i < n + 1 → event_at (take (n + 1) trail) i ≡ event_at trail i
+    module _ (n : ℕ) (within : n < length trail) (here : nth_event trail n ≡ e) where
+      at_start : (i : ℕ) → i < n + 1 → nth_event (take (n + 1) trail) i ≡ nth_event trail i
       at_start i l = get_or-take (n + 1) trail i no_event l
 
       trail_closes : IsCycle plan (take (n + 1) trail)
@@ -118,11 +118,11 @@ module _ (plan : PlanView) where
             some = omega (arith, count);
             within = All-take (λ d. d.0 < length plan.events) (n + 1) trail t.below;
             next = λ i l.
-                subst (λ (x : EventId). leads plan x (event_at (take (n + 1) trail) (i + 1)) ≡ true) (sym (at_start i (omega (arith, l, count))))
-                (subst (λ (y : EventId). leads plan (event_at trail i) y ≡ true) (sym (at_start (i + 1) (omega (arith, l, count)))) (t.next i (omega (arith, l, count, within))));
+                subst (λ (x : EventId). leads plan x (nth_event (take (n + 1) trail) (i + 1)) ≡ true) (sym (at_start i (omega (arith, l, count))))
+                (subst (λ (y : EventId). leads plan (nth_event trail i) y ≡ true) (sym (at_start (i + 1) (omega (arith, l, count)))) (t.next i (omega (arith, l, count, within))));
             back =
                 let last : length (take (n + 1) trail) - 1 ≡ n = omega (arith, count) in
-                subst (λ (x : EventId). leads plan x (event_at (take (n + 1) trail) 0) ≡ true) (sym (ap (event_at (take (n + 1) trail)) last ∙ at_start n (omega arith) ∙ here))
+                subst (λ (x : EventId). leads plan x (nth_event (take (n + 1) trail) 0) ≡ true) (sym (ap (nth_event (take (n + 1) trail)) last ∙ at_start n (omega arith) ∙ here))
                 (subst (λ (y : EventId). leads plan e y ≡ true) (sym (at_start 0 (omega arith) ∙ t.begins)) leads_there);
           }
 
@@ -136,11 +136,11 @@ module _ (plan : PlanView) where
       apart = IsDistinct-cons one_number e trail (recursion_from_All (λ d. one_number e d ≡ false) trail (All-from_get_or (λ d. one_number e d ≡ false) trail no_event (λ i h. fails_before_first (one_number e) trail i no_event (omega (arith, new, h))))) t.apart;
     }
       where
-        then : (i : ℕ) → i + 1 < length (e ∷ trail) → leads plan (event_at (e ∷ trail) i) (event_at (e ∷ trail) (i + 1)) ≡ true
+        then : (i : ℕ) → i + 1 < length (e ∷ trail) → leads plan (nth_event (e ∷ trail) i) (nth_event (e ∷ trail) (i + 1)) ≡ true
         then zero h = subst (λ (y : EventId). leads plan e y ≡ true) (sym t.begins) leads_there
         then (suc i) h =
             let one : suc (i + 1) ≡ suc i + 1 = omega arith in
-            subst (λ (n : ℕ). leads plan (event_at trail i) (event_at (e ∷ trail) n) ≡ true) one (t.next i (omega (arith, h)))
+            subst (λ (n : ℕ). leads plan (nth_event trail i) (nth_event (e ∷ trail) n) ≡ true) one (t.next i (omega (arith, h)))
 
   -- there are no more events on a trail than in the plan
   trail-short : (e : EventId) (k : ℕ) (trail : List EventId) → IsTrail plan e k trail → k < length plan.events
@@ -163,7 +163,7 @@ module _ (plan : PlanView) (valid : IsValid plan) where
             let (trail, t) = found in
             let place = position_or_len (one_number e) trail in
             elim (cases_lt place (length trail)) [
-              | inl within ↦ inl (take (place + 1) trail, trail_closes plan e f k trail t m place within (sym (tested_event e (event_at trail place) (passes_at_first (one_number e) trail no_event within))))
+              | inl within ↦ inl (take (place + 1) trail, trail_closes plan e f k trail t m place within (sym (tested_event e (nth_event trail place) (passes_at_first (one_number e) trail no_event within))))
               | inr new ↦ inr (e ∷ trail, trail_more plan e f k trail t m l new)
             ]
       ]

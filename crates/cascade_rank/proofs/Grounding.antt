@@ -9,7 +9,7 @@ use Rattle.mpf_plan.specs.PlanView.{PlanView}
 use Rattle.mpf_plan.specs.Valid.{IsValid}
 use Rattle.mpf_plan.specs.declared.entries.EventId.{EventId}
 use Rattle.cascade_rank.specs.Cost.{price, all_mentioned, cost_of_event}
-use Rattle.cascade_rank.specs.Events.{events_of, no_event, event_at, weight_of}
+use Rattle.cascade_rank.specs.Events.{events_of, no_event, nth_event, weight_of}
 use Rattle.cascade_rank.specs.Weights.{need, greatest, bound_of}
 use Rattle.cascade_rank.specs.LeadsTo.{grounded_in, grounded, is_open}
 use Rattle.cascade_rank.specs.Ranks.{rank, ranks}
@@ -33,11 +33,11 @@ module _ (plan : PlanView) (order : List EventId) (grounds : EachAfter (λ befor
   grounded-front (suc k) l e h =
       let one : suc k ≡ k + 1 = omega arith in
       let parts = sym (is_in-more order k e (omega (arith, l))) ∙ ap (λ (n : ℕ). is_in (take n order) e) (sym one) ∙ h in
-      elim (or_cases (is_in (take k order) e) ((event_at order k).0 == e.0) parts) [
+      elim (or_cases (is_in (take k order) e) ((nth_event order k).0 == e.0) parts) [
         | inl before ↦ grounded-more plan k e (grounded-front k (omega (arith, l)) e before)
         | inr here ↦
-            subst (λ (x : EventId). grounded_in plan (suc k) x ≡ true) (tested_event (event_at order k) e here)
-            (all_mentioned-weaker (is_in (take k order)) (grounded_in plan k) (cost_of_event plan (event_at order k)) (λ f m. grounded-front k (omega (arith, l)) f) (grounds k (omega (arith, l))))
+            subst (λ (x : EventId). grounded_in plan (suc k) x ≡ true) (tested_event (nth_event order k) e here)
+            (all_mentioned-weaker (is_in (take k order)) (grounded_in plan k) (cost_of_event plan (nth_event order k)) (λ f m. grounded-front k (omega (arith, l)) f) (grounds k (omega (arith, l))))
       ]
 
 module _ (plan : PlanView) (valid : IsValid plan) (left : List ℕ) (order : List EventId) (o : IsOrdering plan (length order) [] left order) where
@@ -86,34 +86,34 @@ AreWeighed plan weighed weights = (e : EventId) → is_in weighed e ≡ true →
 module _ (plan : PlanView) (valid : IsValid plan) (order : List EventId) (grounds : EachAfter (λ before e. all_mentioned (is_in before) (cost_of_event plan e) ≡ true) order)
     (short : length order ≤ length plan.events) where
   -- the rank of an event of the order is what it needs
-  rank_needs : (i : ℕ) → i < length order → need plan (rank plan) (event_at order i) ≡ rank plan (event_at order i)
+  rank_needs : (i : ℕ) → i < length order → need plan (rank plan) (nth_event order i) ≡ rank plan (nth_event order i)
   rank_needs i l =
-      let here = is_in-more order i (event_at order i) l in
+      let here = is_in-more order i (nth_event order i) l in
       let rounds : (i + 1) + (length plan.events - (i + 1)) ≡ length plan.events = omega (arith, short, l) in
-      let within : is_in (take (i + 1) order) (event_at order i) ≡ true = here ∙ by (is_in (take i order) (event_at order i)) ((event_at order i).0 == (event_at order i).0) (eq-eqb (event_at order i).0 (event_at order i).0 refl) in
-      let stands = grounded-later plan (i + 1) (length plan.events - (i + 1)) (event_at order i) (grounded-front plan order grounds (i + 1) (omega (arith, l)) (event_at order i) within) in
-      rank-stable plan (length plan.events) (event_at order i) (subst (λ (n : ℕ). grounded_in plan n (event_at order i) ≡ true) rounds stands)
+      let within : is_in (take (i + 1) order) (nth_event order i) ≡ true = here ∙ by (is_in (take i order) (nth_event order i)) ((nth_event order i).0 == (nth_event order i).0) (eq-eqb (nth_event order i).0 (nth_event order i).0 refl) in
+      let stands = grounded-later plan (i + 1) (length plan.events - (i + 1)) (nth_event order i) (grounded-front plan order grounds (i + 1) (omega (arith, l)) (nth_event order i) within) in
+      rank-stable plan (length plan.events) (nth_event order i) (subst (λ (n : ℕ). grounded_in plan n (nth_event order i) ≡ true) rounds stands)
     where
       by : (a b : Bool) → b ≡ true → (a || b) ≡ true
       by true b h = refl
       by false b h = h
 
-  pub weighs_more : (weights : List ℕ) (i needed : ℕ) → i < length order → length weights ≡ length plan.events → (event_at order i).0 < length plan.events →
-      AreWeighed plan (take i order) weights → needed ≡ price (weight_of weights) (cost_of_event plan (event_at order i)) →
-      AreWeighed plan (take (i + 1) order) (set weights (event_at order i).0 (min 10001 needed))
+  pub weighs_more : (weights : List ℕ) (i needed : ℕ) → i < length order → length weights ≡ length plan.events → (nth_event order i).0 < length plan.events →
+      AreWeighed plan (take i order) weights → needed ≡ price (weight_of weights) (cost_of_event plan (nth_event order i)) →
+      AreWeighed plan (take (i + 1) order) (set weights (nth_event order i).0 (min 10001 needed))
   weighs_more weights i needed l count below weighed is = λ e h.
-      let capped : min 10001 needed ≡ min 10001 (rank plan (event_at order i)) =
-      (let agree = price_agrees (weight_of weights) (λ f. min 10001 (rank plan f)) (cost_of_event plan (event_at order i)) (λ f m. weighed f (all_mentioned_at (is_in (take i order)) (cost_of_event plan (event_at order i)) f (grounds i l) m)) in
-      let over = price-capped 10001 (rank plan) (cost_of_event plan (event_at order i)) in
+      let capped : min 10001 needed ≡ min 10001 (rank plan (nth_event order i)) =
+      (let agree = price_agrees (weight_of weights) (λ f. min 10001 (rank plan f)) (cost_of_event plan (nth_event order i)) (λ f m. weighed f (all_mentioned_at (is_in (take i order)) (cost_of_event plan (nth_event order i)) f (grounds i l) m)) in
+      let over = price-capped 10001 (rank plan) (cost_of_event plan (nth_event order i)) in
       omega (arith, is, agree, over, rank_needs i l)) in
-      elim (cases_eq e.0 (event_at order i).0) [
+      elim (cases_eq e.0 (nth_event order i).0) [
         | inl same ↦
-            subst (λ (y : EventId). weight_of (set weights (event_at order i).0 (min 10001 needed)) y ≡ min 10001 (rank plan y)) (sym (same_event e (event_at order i) same))
-            (get_or-set_same weights (event_at order i).0 (min 10001 needed) 0 (omega (arith, count, below)) ∙ capped)
+            subst (λ (y : EventId). weight_of (set weights (nth_event order i).0 (min 10001 needed)) y ≡ min 10001 (rank plan y)) (sym (same_event e (nth_event order i) same))
+            (get_or-set_same weights (nth_event order i).0 (min 10001 needed) 0 (omega (arith, count, below)) ∙ capped)
         | inr other ↦
-            elim (or_cases (is_in (take i order) e) ((event_at order i).0 == e.0) (sym (is_in-more order i e l) ∙ h)) [
-              | inl before ↦ get_or-set_other weights (event_at order i).0 e.0 (min 10001 needed) 0 other ∙ weighed e before
-              | inr here ↦ absurd (other (sym (eqb-true (event_at order i).0 e.0 here)))
+            elim (or_cases (is_in (take i order) e) ((nth_event order i).0 == e.0) (sym (is_in-more order i e l) ∙ h)) [
+              | inl before ↦ get_or-set_other weights (nth_event order i).0 e.0 (min 10001 needed) 0 other ∙ weighed e before
+              | inr here ↦ absurd (other (sym (eqb-true (nth_event order i).0 e.0 here)))
             ]
       ]
 

@@ -10,7 +10,7 @@ use Rattle.mpf_plan.specs.declared.entries.EventId.{EventId}
 use Rattle.mpf_plan.specs.declared.entries.BindingId.{BindingId}
 use Rattle.mpf_plan.specs.declared.entries.Binding.{Binding}
 use Rattle.cascade_rank.specs.Cost.{Cost, Lines, Weight, Both, each_of, cost_of_binding, cost_of_work, cost_of_event}
-use Rattle.cascade_rank.specs.Events.{no_event, event_at}
+use Rattle.cascade_rank.specs.Events.{no_event, nth_event}
 use Rattle.cascade_rank.specs.Order.{unmet, occurrences, times, IsOrdering, IsMeeting}
 use Rattle.cascade_rank.specs.Leaders.{leaders_to, AddsLeader, HasLeaders}
 use Rattle.mpf_plan.proofs.BoundTo.{places_of-bound}
@@ -176,7 +176,7 @@ leaders_more plan n posts leaders new left has adds is = record {
 pub meeting_starts : (plan : PlanView) (taken : ℕ) (leaders : List EventId) (left counts : List ℕ) (order : List EventId) (lists : List (List EventId)) (f : EventId) → HasLeaders plan (length plan.events) lists counts →
     IsOrdering plan taken [] left order → taken < length order → f ≡ get_or order taken f → leaders ≡ leaders_to lists f → IsMeeting plan taken leaders [] left order
 meeting_starts plan taken leaders left counts order lists f has o turn f_is leaders_are =
-    let here : event_at order taken ≡ f = sym (get_or_read order taken f turn f_is no_event) in
+    let here : nth_event order taken ≡ f = sym (get_or_read order taken f turn f_is no_event) in
     let below : f.0 < length plan.events = subst (λ (d : EventId). d.0 < length plan.events) here (o.below taken turn) in
     record {
       turn = turn;

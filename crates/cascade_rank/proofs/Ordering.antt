@@ -7,7 +7,7 @@ use Rattle.std.proofs.lemmas.List.Folds.{list_any-append, list_any_more}
 use Rattle.mpf_plan.specs.PlanView.{PlanView}
 use Rattle.mpf_plan.specs.declared.entries.EventId.{EventId}
 use Rattle.cascade_rank.specs.Cost.{Cost, all_mentioned, cost_of_event}
-use Rattle.cascade_rank.specs.Events.{no_event, event_at}
+use Rattle.cascade_rank.specs.Events.{no_event, nth_event}
 use Rattle.cascade_rank.specs.Order.{unmet, occurrences, is_in, times, left_of, CountsPosts, EachAfter, IsOrdering, IsMeeting}
 use Rattle.cascade_rank.proofs.Events.{same_event}
 use Rattle.cascade_rank.proofs.Mentioned.{unmet-none, unmet_met, occurrences-unmet, all_mentioned-weaker}
@@ -19,12 +19,12 @@ each_push P xs x h last i l = elim (cases_lt i (length xs)) [
   | inl k ↦
       let before = take-append-le i xs (x ∷ []) (omega (arith, k)) in
       let here = get_or_append_left xs (x ∷ []) no_event i k in
-      subst (λ (ds : List EventId). P ds (event_at (xs ++ x ∷ []) i)) (sym before) (subst (P (take i xs)) (sym here) (h i k))
+      subst (λ (ds : List EventId). P ds (nth_event (xs ++ x ∷ []) i)) (sym before) (subst (P (take i xs)) (sym here) (h i k))
   | inr g ↦
       let end : length xs ≡ i = omega (arith, l, g, length_push xs x) in
       let before = take_at xs (x ∷ []) i end in
       let here = get_or_push xs x no_event i end in
-      subst (λ (ds : List EventId). P ds (event_at (xs ++ x ∷ []) i)) (sym before) (subst (P xs) (sym here) last)
+      subst (λ (ds : List EventId). P ds (nth_event (xs ++ x ∷ []) i)) (sym before) (subst (P xs) (sym here) last)
 ]
 
 or_false : (b : Bool) → (b || false) ≡ b
@@ -34,7 +34,7 @@ or_false false = refl
 pub is_in-push : (xs : List EventId) (x e : EventId) → is_in (xs ++ x ∷ []) e ≡ (is_in xs e || x.0 == e.0)
 is_in-push xs x e = list_any-append (λ d. d.0 == e.0) xs (x ∷ []) ∙ ap (λ (b : Bool). is_in xs e || b) (or_false (x.0 == e.0))
 
-pub is_in-more : (xs : List EventId) (i : ℕ) (e : EventId) → i < length xs → is_in (take (i + 1) xs) e ≡ (is_in (take i xs) e || (event_at xs i).0 == e.0)
+pub is_in-more : (xs : List EventId) (i : ℕ) (e : EventId) → i < length xs → is_in (take (i + 1) xs) e ≡ (is_in (take i xs) e || (nth_event xs i).0 == e.0)
 is_in-more xs i e l = list_any_more (λ d. d.0 == e.0) xs i no_event l
 
 -- what a test adds to a count
@@ -122,7 +122,7 @@ module _ (plan : PlanView) (left : List ℕ) (length_is : length left ≡ length
 -- ---- the next event of the order is gone through
 
 module _ (plan : PlanView) (taken : ℕ) (order : List EventId) (leaders : List EventId) (turn : taken < length order)
-    (leaders_are : (e : EventId) → e.0 < length plan.events → times leaders e ≡ occurrences (event_at order taken) (cost_of_event plan e)) where
+    (leaders_are : (e : EventId) → e.0 < length plan.events → times leaders e ≡ occurrences (nth_event order taken) (cost_of_event plan e)) where
   met : EventId → Bool
   met = is_in (take taken order)
 
@@ -130,11 +130,11 @@ module _ (plan : PlanView) (taken : ℕ) (order : List EventId) (leaders : List 
   then_met = is_in (take (taken + 1) order)
 
   module _ (left : List ℕ) (apart : EachAfter (λ before e. is_in before e ≡ false) order) where
-    fresh : is_in (take taken order) (event_at order taken) ≡ false
+    fresh : is_in (take taken order) (nth_event order taken) ≡ false
     fresh = apart taken turn
 
-    pub unmet_then : (c : Cost) → unmet (is_in (take taken order)) c ≡ unmet (is_in (take (taken + 1) order)) c + occurrences (event_at order taken) c
-    unmet_then c = unmet_met (is_in (take taken order)) (is_in (take (taken + 1) order)) (event_at order taken) fresh (λ e. is_in-more order taken e turn) c
+    pub unmet_then : (c : Cost) → unmet (is_in (take taken order)) c ≡ unmet (is_in (take (taken + 1) order)) c + occurrences (nth_event order taken) c
+    unmet_then c = unmet_met (is_in (take taken order)) (is_in (take (taken + 1) order)) (nth_event order taken) fresh (λ e. is_in-more order taken e turn) c
 
   -- one of those that lead to it
   module _ (left : List ℕ) (i : ℕ) (x : EventId) (there : i < length leaders) (x_is : get_or leaders i no_event ≡ x) (below : x.0 < length plan.events)
@@ -148,13 +148,13 @@ module _ (plan : PlanView) (taken : ℕ) (order : List EventId) (leaders : List 
     no_more : (e : EventId) → e.0 ≢ x.0 → times (take (i + 1) leaders) e ≡ times (take i leaders) e
     no_more e other = count_by_more_no (λ d. d.0 == e.0) leaders i no_event there (ne_eqb (get_or leaders i no_event).0 e.0 (λ same. other (sym same ∙ ap (λ (d : EventId). d.0) x_is)))
 
-    no_more_than : times (take (i + 1) leaders) x ≤ occurrences (event_at order taken) (cost_of_event plan x)
+    no_more_than : times (take (i + 1) leaders) x ≤ occurrences (nth_event order taken) (cost_of_event plan x)
     no_more_than = omega (arith, sum_by-take-le (λ d. cond (d.0 == x.0) 1 0) leaders (i + 1), leaders_are x below)
 
     -- something is left of it, since it leads to an event that is not gone through
     pub some_left : 0 < left_of left x
     some_left =
-        let still = occurrences-unmet (is_in (take taken order)) (event_at order taken) (cost_of_event plan x) (o.apart taken turn) in
+        let still = occurrences-unmet (is_in (take taken order)) (nth_event order taken) (cost_of_event plan x) (o.apart taken turn) in
         omega (arith, still, o.left_is x below, one_more, no_more_than)
 
     less : List ℕ
@@ -254,10 +254,10 @@ module _ (plan : PlanView) (taken : ℕ) (order : List EventId) (leaders : List 
 
 module _ (plan : PlanView) (taken : ℕ) (leaders : List EventId) where
   occurs : List EventId → EventId → ℕ
-  occurs order e = occurrences (event_at order taken) (cost_of_event plan e)
+  occurs order e = occurrences (nth_event order taken) (cost_of_event plan e)
 
-  leaders_of : (order : List EventId) → ((e : EventId) → times leaders e ≡ cond (nat_lt e.0 (length plan.events)) (occurrences (event_at order taken) (cost_of_event plan e)) 0) → (e : EventId) → e.0 < length plan.events → times leaders e ≡ occurrences (event_at order taken) (cost_of_event plan e)
-  leaders_of order is e l = is e ∙ ap (λ (b : Bool). cond b (occurrences (event_at order taken) (cost_of_event plan e)) 0) (lt-ltb e.0 (length plan.events) l)
+  leaders_of : (order : List EventId) → ((e : EventId) → times leaders e ≡ cond (nat_lt e.0 (length plan.events)) (occurrences (nth_event order taken) (cost_of_event plan e)) 0) → (e : EventId) → e.0 < length plan.events → times leaders e ≡ occurrences (nth_event order taken) (cost_of_event plan e)
+  leaders_of order is e l = is e ∙ ap (λ (b : Bool). cond b (occurrences (nth_event order taken) (cost_of_event plan e)) 0) (lt-ltb e.0 (length plan.events) l)
 
   -- each of them is an event of the plan
   pub leaders_below : (done : List EventId) (left : List ℕ) (order : List EventId) → IsMeeting plan taken leaders done left order → (i : ℕ) → i < length leaders → (get_or leaders i no_event).0 < length plan.events
@@ -266,7 +266,7 @@ module _ (plan : PlanView) (taken : ℕ) (leaders : List EventId) where
     | inr g ↦
         let one = count_by_more_yes (λ d. d.0 == (get_or leaders i no_event).0) leaders i no_event there (eq-eqb (get_or leaders i no_event).0 (get_or leaders i no_event).0 refl) in
         let all = sum_by-take-le (λ d. cond (d.0 == (get_or leaders i no_event).0) 1 0) leaders (i + 1) in
-        let none = m.leaders_are (get_or leaders i no_event) ∙ ap (λ (b : Bool). cond b (occurrences (event_at order taken) (cost_of_event plan (get_or leaders i no_event))) 0) (le-ltb (get_or leaders i no_event).0 (length plan.events) g) in
+        let none = m.leaders_are (get_or leaders i no_event) ∙ ap (λ (b : Bool). cond b (occurrences (nth_event order taken) (cost_of_event plan (get_or leaders i no_event))) 0) (le-ltb (get_or leaders i no_event).0 (length plan.events) g) in
         absurd (omega (arith, one, all, none))
   ]
 
@@ -289,7 +289,7 @@ module _ (plan : PlanView) (taken : ℕ) (leaders : List EventId) where
 
     pub meets_lists : left_of left x - 1 ≡ 0 → IsMeeting plan taken leaders (take (i + 1) leaders) (set left x.0 (left_of left x - 1)) (order ++ x ∷ [])
     meets_lists none =
-        let same : event_at order taken ≡ event_at (order ++ x ∷ []) taken = sym (get_or_append_left order (x ∷ []) no_event taken m.turn) in
+        let same : nth_event order taken ≡ nth_event (order ++ x ∷ []) taken = sym (get_or_append_left order (x ∷ []) no_event taken m.turn) in
         record {
           turn = omega (arith, m.turn, length_push order x);
           leaders_are = λ e. m.leaders_are e ∙ ap (λ (f : EventId). cond (nat_lt e.0 (length plan.events)) (occurrences f (cost_of_event plan e)) 0) same;

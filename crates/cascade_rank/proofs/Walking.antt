@@ -10,7 +10,7 @@ use Rattle.mpf_plan.specs.PlanView.{PlanView}
 use Rattle.mpf_plan.specs.Valid.{IsValid}
 use Rattle.mpf_plan.specs.declared.entries.EventId.{EventId}
 use Rattle.cascade_rank.specs.Cost.{cost_of_event}
-use Rattle.cascade_rank.specs.Events.{no_event, event_at}
+use Rattle.cascade_rank.specs.Events.{no_event, nth_event}
 use Rattle.cascade_rank.specs.LeadsTo.{leads, grounded, is_open, IsCycle}
 use Rattle.cascade_rank.specs.Cycle.{IsFirst, GoesOn, IsWalk, IsReportedCycle, next_open, from_first, cycle_from, cycle_of}
 use Rattle.cascade_rank.specs.Lowest.{LeadsOn}
@@ -41,10 +41,10 @@ module _ (plan : PlanView) (valid : IsValid plan) (on : LeadsOn plan) (e : Event
 
 -- ---- the walk so far
 
-at_left : (path : List EventId) (e : EventId) (i : ℕ) → i < length path → event_at (path ++ e ∷ []) i ≡ event_at path i
+at_left : (path : List EventId) (e : EventId) (i : ℕ) → i < length path → nth_event (path ++ e ∷ []) i ≡ nth_event path i
 at_left path e i l = get_or_append_left path (e ∷ []) no_event i l
 
-at_end : (path : List EventId) (e : EventId) (i : ℕ) → length path ≡ i → event_at (path ++ e ∷ []) i ≡ e
+at_end : (path : List EventId) (e : EventId) (i : ℕ) → length path ≡ i → nth_event (path ++ e ∷ []) i ≡ e
 at_end path e i l = get_or_push path e no_event i l
 
 has-push : (path : List EventId) (x e : EventId) → list_any (λ d. d.0 == e.0) (path ++ x ∷ []) ≡ (list_any (λ d. d.0 == e.0) path || x.0 == e.0)
@@ -59,7 +59,7 @@ pub record WalkAt (plan : PlanView) (start : EventId) (passed : List Bool) (path
   pub count : length passed ≡ length plan.events
   pub walk : IsWalk plan path
   pub begins : length path ≡ 0 → at ≡ start
-  pub goes : 0 < length path → GoesOn plan (event_at path (length path - 1)) at
+  pub goes : 0 < length path → GoesOn plan (nth_event path (length path - 1)) at
   pub at_open : is_open plan at ≡ true
   pub below : at.0 < length plan.events
   pub all_below : All (λ e. e.0 < length plan.events) path
@@ -98,8 +98,8 @@ module _ (plan : PlanView) (start : EventId) (first : IsFirst (is_open plan) sta
     longer : length (path ++ at ∷ []) ≡ length path + 1
     longer = omega (arith, length-append path (at ∷ []))
 
-    not_in : (i : ℕ) → i < length path → event_at path i ≢ at
-    not_in i l same = false≢true (sym (sym here_marked ∙ new) ∙ list_any_at (λ d. d.0 == at.0) path i no_event l (eq-eqb (event_at path i).0 at.0 (ap (λ (d : EventId). d.0) same)))
+    not_in : (i : ℕ) → i < length path → nth_event path i ≢ at
+    not_in i l same = false≢true (sym (sym here_marked ∙ new) ∙ list_any_at (λ d. d.0 == at.0) path i no_event l (eq-eqb (nth_event path i).0 at.0 (ap (λ (d : EventId). d.0) same)))
 
     walk_more : IsWalk plan (path ++ at ∷ [])
     walk_more = record {
@@ -108,12 +108,12 @@ module _ (plan : PlanView) (start : EventId) (first : IsFirst (is_open plan) sta
         | inr g ↦ subst (IsFirst (is_open plan)) (sym (at_end path at 0 (omega (arith, g)) ∙ w.begins (omega (arith, g)))) first
       ];
       next = λ i l. elim (cases_lt (i + 1) (length path)) [
-        | inl k ↦ subst (λ (y : EventId). GoesOn plan (event_at (path ++ at ∷ []) i) y) (sym (at_left path at (i + 1) k)) (subst (λ (x : EventId). GoesOn plan x (event_at path (i + 1))) (sym (at_left path at i (omega (arith, k)))) (w.walk.next i k))
+        | inl k ↦ subst (λ (y : EventId). GoesOn plan (nth_event (path ++ at ∷ []) i) y) (sym (at_left path at (i + 1) k)) (subst (λ (x : EventId). GoesOn plan x (nth_event path (i + 1))) (sym (at_left path at i (omega (arith, k)))) (w.walk.next i k))
         | inr g ↦
             let last : length path ≡ i + 1 = omega (arith, l, g, longer) in
             let place : length path - 1 ≡ i = omega (arith, last) in
-            let was : GoesOn plan (event_at path i) at = subst (λ (x : ℕ). GoesOn plan (event_at path x) at) place (w.goes (omega (arith, last))) in
-            subst (λ (y : EventId). GoesOn plan (event_at (path ++ at ∷ []) i) y) (sym (at_end path at (i + 1) last)) (subst (λ (x : EventId). GoesOn plan x at) (sym (at_left path at i (omega (arith, last)))) was)
+            let was : GoesOn plan (nth_event path i) at = subst (λ (x : ℕ). GoesOn plan (nth_event path x) at) place (w.goes (omega (arith, last))) in
+            subst (λ (y : EventId). GoesOn plan (nth_event (path ++ at ∷ []) i) y) (sym (at_end path at (i + 1) last)) (subst (λ (x : EventId). GoesOn plan x at) (sym (at_left path at i (omega (arith, last)))) was)
       ];
       apart = λ i j l k same. elim (cases_lt j (length path)) [
         | inl m ↦ w.walk.apart i j l m (sym (at_left path at i (omega (arith, l, m))) ∙ same ∙ at_left path at j m)
@@ -197,15 +197,15 @@ place_below e (d ∷ ds) h = by (d.0 == e.0) h (place_below e ds)
     by false k rest = omega (arith, rest k)
 
 module _ (plan : PlanView) (path : List EventId) (at : EventId) (walk : IsWalk plan path) (all_below : All (λ e. e.0 < length plan.events) path)
-    (goes : 0 < length path → GoesOn plan (event_at path (length path - 1)) at) (there : list_any (λ d. d.0 == at.0) path ≡ true) where
+    (goes : 0 < length path → GoesOn plan (nth_event path (length path - 1)) at) (there : list_any (λ d. d.0 == at.0) path ≡ true) where
   place : ℕ
   place = position_or_len (λ d. d.0 == at.0) path
 
   within : position_or_len (λ d. d.0 == at.0) path < length path
   within = place_below at path there
 
-  at_place : event_at path (position_or_len (λ d. d.0 == at.0) path) ≡ at
-  at_place = tested_event (event_at path (position_or_len (λ d. d.0 == at.0) path)) at (passes_at_first (λ d. d.0 == at.0) path no_event within)
+  at_place : nth_event path (position_or_len (λ d. d.0 == at.0) path) ≡ at
+  at_place = tested_event (nth_event path (position_or_len (λ d. d.0 == at.0) path)) at (passes_at_first (λ d. d.0 == at.0) path no_event within)
 
   pub reported : IsReportedCycle plan (from_first at path)
   reported = record {
@@ -214,13 +214,13 @@ module _ (plan : PlanView) (path : List EventId) (at : EventId) (walk : IsWalk p
     place = position_or_len (λ d. d.0 == at.0) path;
     place_within = within;
     part = from_first-drop at path;
-    again = subst (GoesOn plan (event_at path (length path - 1))) (sym at_place) (goes (omega (arith, within)));
+    again = subst (GoesOn plan (nth_event path (length path - 1))) (sym at_place) (goes (omega (arith, within)));
   }
 
   leads_on : (e f : EventId) → GoesOn plan e f → leads plan e f ≡ true
   leads_on e f g = (and_parts (leads plan e f) (is_open plan f) g.holds).0
 
-  dropped : (n i : ℕ) → event_at (drop n path) i ≡ event_at path (n + i)
+  dropped : (n i : ℕ) → nth_event (drop n path) i ≡ nth_event path (n + i)
   dropped n i = get_or-drop n path i no_event
 
   is_cycle : (n : ℕ) → n ≡ position_or_len (λ d. d.0 == at.0) path → IsCycle plan (drop n path)
@@ -231,13 +231,13 @@ module _ (plan : PlanView) (path : List EventId) (at : EventId) (walk : IsWalk p
         within = All-drop (λ e. e.0 < length plan.events) n path all_below;
         next = λ i l.
             let shift : n + (i + 1) ≡ (n + i) + 1 = omega arith in
-            let step = leads_on (event_at path (n + i)) (event_at path (n + i + 1)) (walk.next (n + i) (omega (arith, l, rest))) in
-            subst (λ (y : EventId). leads plan (event_at (drop n path) i) y ≡ true) (sym (dropped n (i + 1) ∙ ap (event_at path) shift)) (subst (λ (x : EventId). leads plan x (event_at path (n + i + 1)) ≡ true) (sym (dropped n i)) step);
+            let step = leads_on (nth_event path (n + i)) (nth_event path (n + i + 1)) (walk.next (n + i) (omega (arith, l, rest))) in
+            subst (λ (y : EventId). leads plan (nth_event (drop n path) i) y ≡ true) (sym (dropped n (i + 1) ∙ ap (nth_event path) shift)) (subst (λ (x : EventId). leads plan x (nth_event path (n + i + 1)) ≡ true) (sym (dropped n i)) step);
         back =
             let last : n + (length (drop n path) - 1) ≡ length path - 1 = omega (arith, rest, is, within) in
             let front : n + 0 ≡ position_or_len (λ d. d.0 == at.0) path = omega (arith, is) in
-            let step = leads_on (event_at path (length path - 1)) at (goes (omega (arith, within))) in
-            subst (λ (y : EventId). leads plan (event_at (drop n path) (length (drop n path) - 1)) y ≡ true) (sym (dropped n 0 ∙ ap (event_at path) front ∙ at_place)) (subst (λ (x : EventId). leads plan x at ≡ true) (sym (dropped n (length (drop n path) - 1) ∙ ap (event_at path) last)) step);
+            let step = leads_on (nth_event path (length path - 1)) at (goes (omega (arith, within))) in
+            subst (λ (y : EventId). leads plan (nth_event (drop n path) (length (drop n path) - 1)) y ≡ true) (sym (dropped n 0 ∙ ap (nth_event path) front ∙ at_place)) (subst (λ (x : EventId). leads plan x at ≡ true) (sym (dropped n (length (drop n path) - 1) ∙ ap (nth_event path) last)) step);
       }
 
   pub cycle : IsCycle plan (from_first at path)

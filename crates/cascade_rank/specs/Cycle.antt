@@ -3,7 +3,7 @@ use Rattle.std.specs.Prelude.{◌≡◌, ◌≢◌, ℕ, zero, suc, ◌+◌, ◌
 use Rattle.std.specs.List.{list_any, position_or_len}
 use Rattle.mpf_plan.specs.PlanView.{PlanView}
 use Rattle.mpf_plan.specs.declared.entries.EventId.{EventId}
-use Rattle.cascade_rank.specs.Events.{events_of, event_at}
+use Rattle.cascade_rank.specs.Events.{events_of, nth_event}
 use Rattle.cascade_rank.specs.LeadsTo.{leads, is_open}
 
 -- ---- what it is
@@ -20,9 +20,9 @@ GoesOn plan e f = IsFirst (λ g. leads plan e g && is_open plan g) f
 -- a walk begins at the open event with the lowest number, goes on step by step, and has not come back to one of its
 -- events
 pub record IsWalk (plan : PlanView) (path : List EventId) : Type 0 where
-  pub first : 0 < length path → IsFirst (is_open plan) (event_at path 0)
-  pub next : (i : ℕ) → i + 1 < length path → GoesOn plan (event_at path i) (event_at path (i + 1))
-  pub apart : (i j : ℕ) → i < j → j < length path → event_at path i ≢ event_at path j
+  pub first : 0 < length path → IsFirst (is_open plan) (nth_event path 0)
+  pub next : (i : ℕ) → i + 1 < length path → GoesOn plan (nth_event path i) (nth_event path (i + 1))
+  pub apart : (i j : ℕ) → i < j → j < length path → nth_event path i ≢ nth_event path j
 
 -- a walk whose next step comes back to one of its events: the cycle is the walk from that event on
 pub record IsReportedCycle (plan : PlanView) (cycle : List EventId) : Type 0 where
@@ -31,7 +31,7 @@ pub record IsReportedCycle (plan : PlanView) (cycle : List EventId) : Type 0 whe
   pub place : ℕ
   pub place_within : place < length path
   pub part : cycle ≡ drop place path
-  pub again : GoesOn plan (event_at path (length path - 1)) (event_at path place)
+  pub again : GoesOn plan (nth_event path (length path - 1)) (nth_event path place)
 
 -- ---- how it is computed
 

@@ -13,8 +13,8 @@ abbrev pub no_event : EventId
 no_event = record { 0 = 0 }
 
 -- the event at a place of a list
-abbrev pub event_at : List EventId → ℕ → EventId
-event_at events i = slice_index_or events i no_event
+abbrev pub nth_event : List EventId → ℕ → EventId
+nth_event events i = slice_index_or events i no_event
 
 -- the weight of an event, where weights are in the order of the events' numbers
 abbrev pub weight_of : List ℕ → EventId → ℕ

@@ -3,7 +3,7 @@ use Rattle.std.specs.Prelude.{◌≡◌, ℕ, zero, suc, ◌+◌, ◌-◌, ◌<�
 use Rattle.std.specs.List.{All}
 use Rattle.mpf_plan.specs.PlanView.{PlanView}
 use Rattle.mpf_plan.specs.declared.entries.EventId.{EventId}
-use Rattle.cascade_rank.specs.Events.{event_at}
+use Rattle.cascade_rank.specs.Events.{nth_event}
 use Rattle.cascade_rank.specs.Cost.{mentions, all_mentioned, cost_of_event}
 use Rattle.cascade_rank.specs.Weights.{IsFitting}
 
@@ -29,8 +29,8 @@ is_open plan e = not (grounded plan e)
 pub record IsCycle (plan : PlanView) (events : List EventId) : Type 0 where
   pub some : 0 < length events
   pub within : All (λ e. e.0 < length plan.events) events
-  pub next : (i : ℕ) → i + 1 < length events → leads plan (event_at events i) (event_at events (i + 1)) ≡ true
-  pub back : leads plan (event_at events (length events - 1)) (event_at events 0) ≡ true
+  pub next : (i : ℕ) → i + 1 < length events → leads plan (nth_event events i) (nth_event events (i + 1)) ≡ true
+  pub back : leads plan (nth_event events (length events - 1)) (nth_event events 0) ≡ true
 
 -- no weights fit
 abbrev pub HasNoFit : PlanView → Type 0

@@ -3,7 +3,7 @@ use Rattle.std.specs.Prelude.{◌≡◌, ℕ, ◌+◌, ◌<◌, ◌≤◌, Bool,
 use Rattle.std.specs.List.{list_any}
 use Rattle.mpf_plan.specs.PlanView.{PlanView}
 use Rattle.mpf_plan.specs.declared.entries.EventId.{EventId}
-use Rattle.cascade_rank.specs.Events.{event_at, weight_of}
+use Rattle.cascade_rank.specs.Events.{nth_event, weight_of}
 use Rattle.cascade_rank.specs.Ranks.{rank}
 use Rattle.cascade_rank.specs.Cost.{Cost, Lines, Weight, Both, Greater, all_mentioned, cost_of_event}
 
@@ -39,7 +39,7 @@ CountsPosts plan left = (e : EventId) → e.0 < length plan.events → left_of l
 
 -- P holds of those before each of these events, and of that event
 abbrev pub EachAfter : (List EventId → EventId → Type 0) → List EventId → Type 0
-EachAfter P events = (i : ℕ) → i < length events → P (take i events) (event_at events i)
+EachAfter P events = (i : ℕ) → i < length events → P (take i events) (nth_event events i)
 
 -- So many events of the order are gone through, and of those that lead to the next one `done`. Of each event `left`
 -- counts the posts that were not met by these, and the order has the events of which none is left.
@@ -56,7 +56,7 @@ pub record IsOrdering (plan : PlanView) (taken : ℕ) (done : List EventId) (lef
 -- `leaders` are those that lead to the next event of the order, each as often as it does
 pub record IsMeeting (plan : PlanView) (taken : ℕ) (leaders done : List EventId) (left : List ℕ) (order : List EventId) : Type 0 where
   pub turn : taken < length order
-  pub leaders_are : (e : EventId) → times leaders e ≡ (if nat_lt e.0 (length plan.events) then occurrences (event_at order taken) (cost_of_event plan e) else 0)
+  pub leaders_are : (e : EventId) → times leaders e ≡ (if nat_lt e.0 (length plan.events) then occurrences (nth_event order taken) (cost_of_event plan e) else 0)
   pub ordering : IsOrdering plan taken done left order
 
 abbrev pub CanMeet : List EventId → List ℕ → List EventId → Type 0

@@ -19,9 +19,9 @@ use Rattle.config_checker.specs.declared.report.Report.TheVariants.{NoMemory, Fa
 use Rattle.config_checker.specs.CheckedView.{CheckedView}
 use Rattle.config_checker.specs.CertificateText.{Certificate, text_of, certificate_text}
 use Rattle.config_checker.specs.CertificateOf.{IsTextOf, certificate_at}
-use Rattle.config_checker.specs.Checking.{FaultView, limit, cycle, bound, certificate, bad_line, other_events, other_bound, fault_of, weighed, weighed_plan, same_names, names_in, weights_in, bounded, certified, certified_plan, alone, checked, checked_at, checked_with_at}
+use Rattle.config_checker.specs.Checking.{FaultView, limit, cycle, bound, certificate, bad_line, other_events, other_bound, named_fault, weighed, weighed_plan, same_names, names_in, weights_in, bounded, certified, certified_plan, alone, checked, checked_at, checked_with_at}
 use Rattle.config_checker.specs.View.{GivesChecked, ReportsFault}
-use Rattle.config_checker.specs.Refused.{IsLimitFault, IsFaultOf, IsNoCertificate, IsCertificateOf, HasOtherEvents, HasOtherBound, HasTooMuch, IsShort, IsFaultWith, Reports}
+use Rattle.config_checker.specs.Refused.{IsLimitFault, IsFaultOf, IsNoCertificate, IsCertificateOf, HasOtherEvents, HasOtherBound, HasTooMuch, HasShortEvent, IsFaultWith, Reports}
 use Rattle.config_checker.proofs.Certificates.{read-is_text, text-is_read}
 use Rattle.config_checker.proofs.Names.{same_names-is, same_names-self, zip-parts, parts-length}
 
@@ -107,17 +107,17 @@ module _ (rows : Rows) (plan : PlanView) (made : plan_at rows ≡ Ok plan) where
   found-accepted ws b found is =
       found-checked (Ok (record { plan = plan; weights = ws; bound = b })) (ap (weighed plan) found ∙ ap (λ (n : ℕ). Ok (record { plan = plan; weights = ws; bound = n })) (sym is))
 
-  pub unfound-checked : (view : Option RankView) (fault : FaultView) → option_map (fault_of plan) view ≡ Some fault → IfReported view (λ reported. found_at plan ≡ Err reported) → checked_at rows ≡ Err (fault ∷ [])
+  pub unfound-checked : (view : Option RankView) (fault : FaultView) → option_map (named_fault plan) view ≡ Some fault → IfReported view (λ reported. found_at plan ≡ Err reported) → checked_at rows ≡ Err (fault ∷ [])
   unfolding weighed_plan
   unfound-checked None fault named h = none-some fault named
-  unfound-checked (Some reported) fault named h = found-checked (Err fault) (ap (weighed plan) h ∙ ap Err (some_same (fault_of plan reported) fault named))
+  unfound-checked (Some reported) fault named h = found-checked (Err fault) (ap (weighed plan) h ∙ ap Err (some_same (named_fault plan reported) fault named))
 
-  pub unfound-fault : (view : Option RankView) (fault : FaultView) → option_map (fault_of plan) view ≡ Some fault → IfReported view (IsUnfound plan) → IsFaultOf rows fault
+  pub unfound-fault : (view : Option RankView) (fault : FaultView) → option_map (named_fault plan) view ≡ Some fault → IfReported view (IsUnfound plan) → IsFaultOf rows fault
   unfound-fault None fault named h = none-some fault named
   unfound-fault (Some reported) fault named h =
-      subst (IsFaultOf rows) (some_same (fault_of plan reported) fault named) (subst (λ (p : PlanView). IsUnfound p reported → IsFaultOf rows (fault_of p reported)) (sym of_rows) (by reported) h)
+      subst (IsFaultOf rows) (some_same (named_fault plan reported) fault named) (subst (λ (p : PlanView). IsUnfound p reported → IsFaultOf rows (named_fault p reported)) (sym of_rows) (by reported) h)
     where
-      by : (reported : RankView) → IsUnfound (plan_of rows) reported → IsFaultOf rows (fault_of (plan_of rows) reported)
+      by : (reported : RankView) → IsUnfound (plan_of rows) reported → IsFaultOf rows (named_fault (plan_of rows) reported)
       by (ranks.cycle events) h = record { events = events; reason = h; names_are = refl }
       by ranks.bound_too_large h = h
       by (ranks.short event needed) h = absurd h
@@ -167,21 +167,21 @@ module _ (rows : Rows) (plan : PlanView) (made : plan_at rows ≡ Ok plan) where
         certified-bounded verified is =
             ap (certified plan) reading.read ∙ cond-true _ _ _ (ap (same_names plan.events) reading.names_are ∙ named) ∙ ap (bounded plan c) (ap (verified_at plan) reading.weights_are ∙ is)
 
-        pub unverified-checked : (reported : RankView) (view : Option RankView) (fault : FaultView) → view ≡ Some reported → option_map (fault_of plan) view ≡ Some fault → verified_at plan ws ≡ Err reported → checked_with_at rows text ≡ Err (fault ∷ [])
+        pub unverified-checked : (reported : RankView) (view : Option RankView) (fault : FaultView) → view ≡ Some reported → option_map (named_fault plan) view ≡ Some fault → verified_at plan ws ≡ Err reported → checked_with_at rows text ≡ Err (fault ∷ [])
         unverified-checked reported view fault seen is verified =
-            let same : fault_of plan reported ≡ fault = some_same (fault_of plan reported) fault (ap (option_map (fault_of plan)) (sym seen) ∙ is) in
+            let same : named_fault plan reported ≡ fault = some_same (named_fault plan reported) fault (ap (option_map (named_fault plan)) (sym seen) ∙ is) in
             given-checked (Err fault) (certified-bounded (Err reported) verified ∙ ap Err same)
 
-        pub unverified-fault : (view : Option RankView) (fault : FaultView) → option_map (fault_of plan) view ≡ Some fault → IfReported view (IsUnverified plan ws) → IsFaultWith rows text fault
+        pub unverified-fault : (view : Option RankView) (fault : FaultView) → option_map (named_fault plan) view ≡ Some fault → IfReported view (IsUnverified plan ws) → IsFaultWith rows text fault
         unverified-fault None fault is h = none-some fault is
         unverified-fault (Some reported) fault is h =
-            subst (IsFaultWith rows text) (some_same (fault_of plan reported) fault is) (by reported (subst (λ (v : List ℕ). IsUnverified plan v reported) (sym reading.weights_are) h))
+            subst (IsFaultWith rows text) (some_same (named_fault plan reported) fault is) (by reported (subst (λ (v : List ℕ). IsUnverified plan v reported) (sym reading.weights_are) h))
           where
-            by : (reported : RankView) → IsUnverified plan (weights_in c) reported → IsFaultWith rows text (fault_of plan reported)
+            by : (reported : RankView) → IsUnverified plan (weights_in c) reported → IsFaultWith rows text (named_fault plan reported)
             by (ranks.cycle events) h = absurd h
             by ranks.bound_too_large h = subst (λ (p : PlanView). HasTooMuch p text) of_rows (record { certificate = c; of_plan = of_plan; above = h })
             by (ranks.short event needed) h =
-                subst (λ (p : PlanView). IsShort p text (name_of_event plan event) needed) of_rows (record { certificate = c; of_plan = of_plan; event = event; first = h.1; name_is = refl })
+                subst (λ (p : PlanView). HasShortEvent p text (name_of_event plan event) needed) of_rows (record { certificate = c; of_plan = of_plan; event = event; first = h.1; name_is = refl })
             by ranks.wrong_events h = absurd (h (parts-length c.events ∙ ap length of_plan.events))
 
         pub verified-checked : (b : ℕ) → verified_at plan ws ≡ Ok b → b ≡ c.bound → checked_with_at rows text ≡ Ok (record { plan = plan; weights = ws; bound = b })

@@ -11,7 +11,7 @@ use Rattle.std.proofs.lemmas.Option.{cond_some, option_and_then_some}
 use Rattle.yaml_bytes.specs.Numbers.{value_of_digits, AreDigits, IsNumber, number_at}
 use Rattle.yaml_bytes.proofs.AllBytes.{Are-from_list_all, list_all-from_Are}
 use Rattle.yaml_bytes.proofs.WrittenNumbers.{own, number_sound, number_complete, none_of}
-use Rattle.config_checker.specs.CertificateOf.{is_plain, fitting, number_in}
+use Rattle.config_checker.specs.CertificateOf.{is_plain, within_32_bits, number_in}
 
 -- ---- what a word is that says a number
 
@@ -26,8 +26,8 @@ pub record SaysNumber (word : List ℕ) (n : ℕ) : Type 0 where
 
 pub says_number : (word : List ℕ) (n : ℕ) → number_in word ≡ Some n → SaysNumber word n
 says_number word n e =
-    let a = guard (is_plain word) (option_and_then fitting (number_at word)) n e in
-    option_and_then_some fitting (number_at word) n a.1 (λ m is fits.
+    let a = guard (is_plain word) (option_and_then within_32_bits (number_at word)) n e in
+    option_and_then_some within_32_bits (number_at word) n a.1 (λ m is fits.
     let b = cond_some (nat_lt m (2 ^ 32)) m n fits in
     record { number = number_sound word n (is ∙ ap Some b.1); plain = a.0; small = subst (λ k. k < 2 ^ 32) b.1 (ltb-true m (2 ^ 32) b.0) })
 
@@ -78,9 +78,9 @@ written_says n small =
 
 -- ---- how a number is read
 
-pub plain_number : (word : List ℕ) (o : Option ℕ) → false ≡ not (is_plain word) → o ≡ number_at word → number_in word ≡ option_and_then fitting o
-plain_number word o plain e = cond-true (is_plain word) (option_and_then fitting (number_at word)) None (not-false (is_plain word) (sym plain)) ∙ ap (option_and_then fitting) (sym e)
+pub plain_number : (word : List ℕ) (o : Option ℕ) → false ≡ not (is_plain word) → o ≡ number_at word → number_in word ≡ option_and_then within_32_bits o
+plain_number word o plain e = cond-true (is_plain word) (option_and_then within_32_bits (number_at word)) None (not-false (is_plain word) (sym plain)) ∙ ap (option_and_then within_32_bits) (sym e)
 
-pub narrowed : {E : Type 0} (r : Result ℕ E) (n : ℕ) → OkIff r (n < 2 ^ 32) n → result_ok r ≡ fitting n
+pub narrowed : {E : Type 0} (r : Result ℕ E) (n : ℕ) → OkIff r (n < 2 ^ 32) n → result_ok r ≡ within_32_bits n
 narrowed (Ok m) n h = rw (lt-ltb n (2 ^ 32) h.0, h.1) refl
-narrowed (Err e) n h = sym (none_of (fitting n) (λ m k. h (ltb-true n (2 ^ 32) (cond_some (nat_lt n (2 ^ 32)) n m k).0)))
+narrowed (Err e) n h = sym (none_of (within_32_bits n) (λ m k. h (ltb-true n (2 ^ 32) (cond_some (nat_lt n (2 ^ 32)) n m k).0)))

@@ -34,12 +34,12 @@ abbrev pub is_plain : List ℕ → Bool
 is_plain word = length word == 1 || not (slice_index word 0 == 48)
 
 -- a number, where it is below 2^32
-abbrev pub fitting : ℕ → Option ℕ
-fitting n = if nat_lt n (2 ^ 32) then Some n else None
+abbrev pub within_32_bits : ℕ → Option ℕ
+within_32_bits n = if nat_lt n (2 ^ 32) then Some n else None
 
 -- the number that a word of digits says, where it is below 2^32
 abbrev pub number_in : List ℕ → Option ℕ
-number_in word = if is_plain word then option_and_then fitting (number_at word) else None
+number_in word = if is_plain word then option_and_then within_32_bits (number_at word) else None
 
 -- a text, cut at each of these bytes
 abbrev pub parts : ℕ → List ℕ → List (List ℕ)

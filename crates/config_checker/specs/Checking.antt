@@ -32,17 +32,17 @@ pub data FaultView : Type 0 where
   certificate : CertificateFaultView → FaultView
 
 -- what is wrong, by the names of the events
-abbrev pub fault_of : PlanView → RankView → FaultView
-fault_of plan (ranks.cycle events) = cycle (map (name_of_event plan) events)
-fault_of plan ranks.bound_too_large = bound
-fault_of plan (ranks.short event needed) = certificate (short (name_of_event plan event) needed)
-fault_of plan ranks.wrong_events = certificate other_events
+abbrev pub named_fault : PlanView → RankView → FaultView
+named_fault plan (ranks.cycle events) = cycle (map (name_of_event plan) events)
+named_fault plan ranks.bound_too_large = bound
+named_fault plan (ranks.short event needed) = certificate (short (name_of_event plan event) needed)
+named_fault plan ranks.wrong_events = certificate other_events
 
 -- ---- with the least weights
 
 abbrev pub weighed : PlanView → Result (List ℕ) RankView → Result CheckedView FaultView
 weighed plan (Ok weights) = Ok (record { plan = plan; weights = weights; bound = bound_of plan (weight_of weights) })
-weighed plan (Err fault) = Err (fault_of plan fault)
+weighed plan (Err fault) = Err (named_fault plan fault)
 
 unfoldable pub weighed_plan : PlanView → Result CheckedView FaultView
 weighed_plan plan = weighed plan (found_at plan)
@@ -64,7 +64,7 @@ weights_in c = map (λ e. e.1) c.events
 -- the weights are judged before the bound that is stated
 abbrev pub bounded : PlanView → Certificate → Result ℕ RankView → Result CheckedView FaultView
 bounded plan c (Ok b) = if b == c.bound then Ok (record { plan = plan; weights = weights_in c; bound = b }) else Err (certificate (other_bound b))
-bounded plan c (Err fault) = Err (fault_of plan fault)
+bounded plan c (Err fault) = Err (named_fault plan fault)
 
 abbrev pub certified : PlanView → Result Certificate ℕ → Result CheckedView FaultView
 certified plan (Ok c) = if same_names plan.events (names_in c) then bounded plan c (verified_at plan (weights_in c)) else Err (certificate other_events)

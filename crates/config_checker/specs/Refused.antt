@@ -53,7 +53,8 @@ pub record HasOtherEvents (plan : PlanView) (text : List ℕ) : Type 0 where
   pub text_is : IsTextOf certificate text
   pub other : names_in certificate ≢ plan.events
 
-pub record IsShort (plan : PlanView) (text name : List ℕ) (needed : ℕ) : Type 0 where
+-- of the events that weigh too little the first has this name, and needs so much
+pub record HasShortEvent (plan : PlanView) (text name : List ℕ) (needed : ℕ) : Type 0 where
   pub certificate : Certificate
   pub of_plan : IsCertificateOf plan text certificate
   pub event : EventId
@@ -76,7 +77,7 @@ pub record HasTooMuch (plan : PlanView) (text : List ℕ) : Type 0 where
 abbrev pub IsCertificateFault : PlanView → List ℕ → CertificateFaultView → Type 0
 IsCertificateFault plan text (bad_line number) = IsNoCertificate text
 IsCertificateFault plan text other_events = HasOtherEvents plan text
-IsCertificateFault plan text (short name needed) = IsShort plan text name needed
+IsCertificateFault plan text (short name needed) = HasShortEvent plan text name needed
 IsCertificateFault plan text (other_bound right) = HasOtherBound plan text right
 
 -- the fault says what is wrong with the rows or with the certificate

@@ -5,7 +5,7 @@ ghost use Rattle.std.specs.List.{All};
 ghost use Rattle.mpf_plan.specs.PlanView.{name_of_event};
 ghost use Rattle.mpf_plan.specs.Valid.{IsEventWithin};
 ghost use Rattle.cascade_rank.specs.View.{rank_view, IfRank};
-ghost use Rattle.config_checker.specs.Checking.{fault_of};
+ghost use Rattle.config_checker.specs.Checking.{named_fault};
 ghost use Rattle.config_checker.specs.View.{HasEvents, ReportsFault, fault_view};
 
 use crate::report::{CertificateFault, Fault, Report};
@@ -27,7 +27,7 @@ pub(crate) fn report_of(alloc: Global, fault: Fault) -> Report
 /// What is wrong with weights, by the names of the events.
 pub(crate) fn named_fault(alloc: Global, plan: &Plan, fault: RankFault) -> Result<Fault, AllocError>
     requires { IfRank fault (HasEvents plan.now) }
-    ensures { IfOk result (λ named. option_map (fault_of plan.now) (rank_view fault) ≡ Some (fault_view named)) }
+    ensures { IfOk result (λ named. option_map (named_fault plan.now) (rank_view fault) ≡ Some (fault_view named)) }
 {
     match fault {
         RankFault::NoMemory => Err(AllocError),

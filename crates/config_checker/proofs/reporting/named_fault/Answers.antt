@@ -4,7 +4,7 @@ use Rattle.mpf_plan.specs.PlanView.{name_of_event}
 use Rattle.mpf_plan.specs.Valid.{IsEventWithin}
 use Rattle.cascade_rank.specs.declared.fault.RankFault.{RankFault}
 use Rattle.cascade_rank.specs.View.{IfRank, rank_view}
-use Rattle.config_checker.specs.Checking.{cycle, fault_of}
+use Rattle.config_checker.specs.Checking.{cycle, named_fault}
 use Rattle.config_checker.specs.View.{HasEvents}
 use Rattle.config_checker.proofs.reporting.named_fault.Goals as goal
 
@@ -15,6 +15,6 @@ names_of-requires c =
 
 pub returns-in_ok-names_of-in-Cycle : goal.returns-in_ok-names_of-in-Cycle
 returns-in_ok-names_of-in-Cycle c =
-    ap (λ (f : RankFault). option_map (fault_of c.args.plan.now) (rank_view f)) c.in-Cycle.is
+    ap (λ (f : RankFault). option_map (named_fault c.args.plan.now) (rank_view f)) c.in-Cycle.is
     ∙ ap (λ (names : List (List ℕ)). Some (cycle names))
     (ap (map (name_of_event c.args.plan.now)) (sym c.deref.ensures.value) ∙ sym c.in_ok-names_of-in-Cycle.ensures)
