@@ -3,8 +3,8 @@ starts it.
 
 PROGRAM is pinball, PLAIN what plain.rs is built to, and a READER reads the YAML file that its word names, each as a
 path. Each line has the wall time in ms (the median of RUNS runs, of a third as many of `play`), a ratio of times, peak
-memory in MiB, and bytes of memory for each byte of text. An exit status is in brackets. Wants Debian's /usr/bin/python3.
-What it lacks of python3-yaml and fy-tool it names, and leaves out."""
+memory in MiB, and bytes of memory for each byte of text. An exit status is in brackets. Wants Debian's
+/usr/bin/python3. What it lacks of python3-yaml and fy-tool it names, and leaves out."""
 import dataclasses
 import os
 import pathlib
