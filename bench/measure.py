@@ -1,8 +1,10 @@
-"""measure.py PROGRAM PLAIN RUNS: what `check` and `play` cost, beside others on the same texts. bench/run starts it.
+"""measure.py PROGRAM PLAIN RUNS [READER ..]: what `check` and `play` cost, beside others on the same texts. bench/run
+starts it.
 
-PROGRAM is pinball and PLAIN what plain.rs is built to, each as a path. Each line tells wall time in ms (the median of RUNS
-runs, of a third as many of `play`), a ratio of times, peak memory in MiB, and bytes of memory for each byte of text. An
-exit status stands in brackets. Wants Debian's /usr/bin/python3 with python3-yaml, and fy-tool on the PATH."""
+PROGRAM is pinball, PLAIN what plain.rs is built to, and a READER reads the YAML file that its word names, each as a
+path. Each line has the wall time in ms (the median of RUNS runs, of a third as many of `play`), a ratio of times, peak
+memory in MiB, and bytes of memory for each byte of text. An exit status is in brackets. Wants Debian's
+/usr/bin/python3. What it lacks of python3-yaml and fy-tool it names, and leaves out."""
 import dataclasses
 import os
 import pathlib
@@ -14,6 +16,7 @@ import tempfile
 
 import cascades
 import texts
+import waits
 from measuring import MIB, Cost, measured, show
 
 PYTHON = "/usr/bin/python3"
@@ -28,6 +31,7 @@ class Bench:
     plain: str
     folder: pathlib.Path
     runs: int
+    readers: list[str]
 
     def check(self, text: str) -> Cost:
         path = self.folder / "checked.bundle"
@@ -35,20 +39,30 @@ class Bench:
         return measured([self.program, "check"], path, self.runs)
 
 
+def other_readers(bench: Bench, path: str) -> dict[str, list[str]]:
+    """The commands of those that are installed and read a YAML file."""
+    found = {}
+    if subprocess.run([PYTHON, "-c", "import yaml; yaml.CSafeLoader"], capture_output=True).returncode == 0:
+        found["python3-yaml, CSafeLoader"] = [PYTHON, "-c", LOAD, path]
+        found["python3 that imports yaml alone"] = [PYTHON, "-c", START, path]
+    else:
+        print("left out: python3-yaml with its C loader, which is Debian's python3-yaml", file=sys.stderr)
+    if fy_tool := shutil.which("fy-tool"):
+        found["fy-tool, no output"] = [fy_tool, "--null-output", "--dump", path]
+    else:
+        print("left out: fy-tool, which is in Debian's libfyaml-utils", file=sys.stderr)
+    return found | {pathlib.Path(reader).stem: [reader, path] for reader in bench.readers}
+
+
 def checks_ordinary(bench: Bench) -> float:
     """Gives the seconds of `check`, to which later lines are a ratio."""
-    fy_tool = shutil.which("fy-tool") or sys.exit("fy-tool is not on the PATH: Debian's libfyaml-utils has it")
-    text = texts.ordinary()
     path = bench.folder / "ordinary.yaml"
+    text = texts.ordinary()
     path.write_text(text)
     ours = bench.check(text)
     print(f"an ordinary configuration of {len(text)} bytes (status {ours.status})")
     show("pinball check", ours, len(text), ours.seconds)
-    for what, command in {
-        "python3-yaml, CSafeLoader": [PYTHON, "-c", LOAD, str(path)],
-        "python3 that imports yaml alone": [PYTHON, "-c", START, str(path)],
-        "fy-tool, no output": [fy_tool, "--null-output", "--dump", str(path)],
-    }.items():
+    for what, command in other_readers(bench, str(path)).items():
         cost = measured(command, path, bench.runs)
         if cost.status != 0:
             sys.exit(f"{what}: status {cost.status}, so that its time tells nothing")
@@ -120,19 +134,34 @@ def plays_cascades(bench: Bench, runs: int) -> None:
     show("pinball play", measured(ours, bundle, runs), bytes_read, base.seconds)
 
 
+def plays_waits(bench: Bench, runs: int) -> None:
+    log = bench.folder / "waits.log"
+    log.write_text(waits.log())
+    bytes_read = log.stat().st_size
+    print(f"\nplay of a log of {bytes_read} bytes that only waits, as a ratio to that with one switch")
+    base = None
+    for count in waits.SWITCHES:
+        bundle = bench.folder / "waits.bundle"
+        bundle.write_bytes(texts.bundle("".join(waits.switches(count))))
+        cost = measured([bench.program, "play", str(log)], bundle, runs)
+        base = base or cost.seconds
+        show(f"{count} switches ({cost.status})", cost, bytes_read, base)
+
+
 def main() -> None:
-    if len(sys.argv) != 4:
+    if len(sys.argv) < 4:
         sys.exit(__doc__)
     runs = int(sys.argv[3])
     cpu = next((line.split(":")[1].strip() for line in open("/proc/cpuinfo") if line.startswith("model name")), "?")
     print(f"{platform.system()} {platform.machine()}, {cpu}, {os.cpu_count()} processors, median of {runs} runs\n")
     with tempfile.TemporaryDirectory(prefix="pinball_bench") as folder:
-        bench = Bench(sys.argv[1], sys.argv[2], pathlib.Path(folder), runs)
+        bench = Bench(sys.argv[1], sys.argv[2], pathlib.Path(folder), runs, sys.argv[4:])
         seconds = checks_ordinary(bench)
         checks_hostile(bench, seconds)
         checks_growth(bench, seconds)
         checks_cascades(bench)
         plays_cascades(bench, max(runs // 3, 1))
+        plays_waits(bench, max(runs // 3, 1))
 
 
 main()
