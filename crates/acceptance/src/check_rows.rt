@@ -79,6 +79,17 @@ fn open_quote(rt: HostRuntime) -> Result<(), Fail> {
     )
 }
 
+// Where a line has to be an entry and is none, that comes before whatever else is wrong with it.
+#[test]
+fn line_that_is_no_entry(rt: HostRuntime) -> Result<(), Fail> {
+    assert_checks(
+        &rt,
+        b"@ config/config.yaml\n#config_version=6\nlights:\n  a: 1\n  {x: 1, x: 2}\n",
+        Verdict::Refused,
+        b"error 3 Yaml config/config.yaml 4 NotInSubset\nno\n",
+    )
+}
+
 #[test]
 fn skipped_section_note(rt: HostRuntime) -> Result<(), Fail> {
     assert_checks(

@@ -44,6 +44,35 @@ a: \"b¶c: \u{1} => Quote 1
 a: [b, 'c => Quote 1
 ";
 
+// Texts with a line that has to be an entry or an item and is none: that is at its first character, before
+// whatever else is wrong with the line.
+const NO_ENTRIES: &str = "\
+a: 1¶{x: 1, x: 2} => NotInSubset 2
+- a¶{x: 1, x: 2} => NotInSubset 2
+a: 1¶[b => NotInSubset 2
+- a¶[b => NotInSubset 2
+s:¶[ => NotInSubset 2
+s:¶{ => NotInSubset 2
+s:¶- a¶[ => NotInSubset 3
+a: 1¶[b] c => NotInSubset 2
+a: 1¶[b]: c => NotInSubset 2
+a: 1¶[[[[[[[[[ => NotInSubset 2
+- a¶[[[[[[[[[ => NotInSubset 2
+a: 1¶\"b => NotInSubset 2
+- a¶\"b => NotInSubset 2
+a: 1¶\"b: c => NotInSubset 2
+a: 1¶\"b\\q\": c => NotInSubset 2
+a: 1¶'b' c => NotInSubset 2
+a: 1¶'b':c => NotInSubset 2
+a:¶  b: 1¶  [ => NotInSubset 3
+a:¶  - b¶  [ => NotInSubset 3
+a:¶  b: 1¶[ => NotInSubset 3
+a:¶  - b¶[ => NotInSubset 3
+- a: 1¶  [ => NotInSubset 2
+-¶  a: 1¶  {x: 1, x: 2} => NotInSubset 3
+a: 1¶[b¶a: 2 => NotInSubset 2
+";
+
 // Texts with bytes that are not UTF-8. Here each character stands for the byte of its number: `ÿ` for
 // 255, which no UTF-8 text has.
 const BYTES: &str = "\
@@ -56,7 +85,8 @@ a: b: ÿ => NotInSubset 1
 a: \"b\" cÿ => Quote 1
 --- ÿ => NotInSubset 1
 a\u{ED}\u{A0}\u{80}: 1 => NotUtf8 1
-a: 1¶bÿ => NotUtf8 2
+a: 1¶bÿ => NotInSubset 2
+a: 1¶ÿ => NotUtf8 2
 a: 1¶a: ÿ => DuplicateKey 2
 \u{20}\tÿ => Tab 1
 a: \u{C2}\u{85}ÿ => NotInSubset 1
@@ -79,7 +109,10 @@ a: ÿ&b: c => NotUtf8 1
 - a¶bÿ => NotInSubset 2
 a: [b, 'cÿ => NotUtf8 1
 a: [b} ÿ => Flow 1
-a: 1¶[b} ÿ => Flow 2
+a: 1¶[b} ÿ => NotInSubset 2
+a: 1¶ÿ[b} => NotUtf8 2
+a: 1¶bÿ: &c => NotUtf8 2
+- a¶ÿ => NotUtf8 2
 ";
 
 // Where on its line a fault stands. `ÿ` marks a place: directly behind the fault's place the row's fault is
@@ -157,6 +190,11 @@ fn characters(rt: HostRuntime) -> Result<(), Fail> {
 #[test]
 fn first_faults(rt: HostRuntime) -> Result<(), Fail> {
     assert_rows(&rt, FAULTS)
+}
+
+#[test]
+fn lines_that_are_no_entries(rt: HostRuntime) -> Result<(), Fail> {
+    assert_rows(&rt, NO_ENTRIES)
 }
 
 // The bytes that the characters of a text stand for.

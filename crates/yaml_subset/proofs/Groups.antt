@@ -1,5 +1,5 @@
 -- Groups of lines, and the loop over them.
-use Rattle.std.proofs.Common.{◌≡◌, ℕ, zero, suc, ◌+◌, ◌-◌, ◌≤◌, Bool, true, false, ◌||◌, List, [], ◌∷◌, ◌++◌, length, take, drop, Option, Result, Ok, Err, refl, sym, ap, subst, ◌∙◌, arith, append_assoc, get_or}
+use Rattle.std.proofs.Common.{◌≡◌, ℕ, zero, suc, ◌+◌, ◌-◌, ◌≤◌, Bool, true, false, ◌||◌, List, [], ◌∷◌, ◌++◌, length, take, drop, Option, Some, None, Result, Ok, Err, refl, sym, ap, subst, ◌∙◌, arith, append_assoc, get_or}
 use Rattle.std.specs.Str.{bytes_eq}
 use Rattle.std.proofs.lemmas.List.{append-nil, length-drop, drop-drop, drop_all}
 use Rattle.std.proofs.Math.Seq.{drop-cons, take-length}
@@ -14,7 +14,7 @@ use Rattle.yaml_subset.specs.Placed.{HaltsAs}
 use Rattle.yaml_subset.specs.Inside.{line_view, lines_view}
 use Rattle.yaml_subset.specs.Keys.{is_among}
 use Rattle.yaml_bytes.specs.Results.{◌>>=◌}
-use Rattle.yaml_subset.specs.Reading.{Head, item, entry, alone, head_at, BlockReader, chunks, groups_of, hanging_len, pair_from, pair_at, pairs_at, item_at, items_at}
+use Rattle.yaml_subset.specs.Reading.{key_at, BlockReader, chunks, groups_of, hanging_len, pair_from, pair_at, pairs_at, item_at, items_at}
 
 -- ---- the lines that hang, and the groups after them
 
@@ -70,15 +70,14 @@ bind-same (Ok x) f g same = same x
 bind-same (Err e) f g same = refl
 
 module _ (depth : ℕ) (block : BlockReader) (around : Option ℕ) (i : ℕ) where
-  pair_from-same : (ks js : List (List ℕ)) (g : Group) (h : Head) → SameKeys ks js → pair_from depth block i ks g h ≡ pair_from depth block i js g h
+  pair_from-same : (ks js : List (List ℕ)) (g : Group) (found : Option (List ℕ × List ℕ)) → SameKeys ks js → pair_from depth block i ks g found ≡ pair_from depth block i js g found
   unfolding pair_from
-  pair_from-same ks js g (item after) same = refl
-  pair_from-same ks js g (alone t) same = refl
-  pair_from-same ks js g (entry key after) same = rw (same key) refl
+  pair_from-same ks js g None same = refl
+  pair_from-same ks js g (Some k) same = rw (same k.0) refl
 
   pair_at-same : (ks js : List (List ℕ)) (g : Group) → SameKeys ks js → pair_at depth block around i ks g ≡ pair_at depth block around i js g
   unfolding pair_at
-  pair_at-same ks js g same = rw (bind-same (head_at depth g.head.number g.head.text) (pair_from depth block i ks g) (pair_from depth block i js g) (λ h. pair_from-same ks js g h same)) refl
+  pair_at-same ks js g same = rw (pair_from-same ks js g (key_at g.head.number g.head.text) same) refl
 
   pub pairs_at-same : (ks js : List (List ℕ)) (gs : List Group) → SameKeys ks js → pairs_at depth block around i ks gs ≡ pairs_at depth block around i js gs
   unfolding pairs_at

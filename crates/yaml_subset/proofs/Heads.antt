@@ -1,5 +1,5 @@
 -- What a line is read as is what it is.
-use Rattle.std.proofs.Common.{◌≡◌, ◌≢◌, ℕ, suc, zero, ◌+◌, ◌-◌, ◌≤◌, ltb, ◌==◌, true, false, ◌&&◌, List, [], ◌∷◌, ◌++◌, length, take, Option, Some, None, Result, Ok, refl, sym, ap, subst, ◌∙◌, ◌⊎◌, inl, inr, arith}
+use Rattle.std.proofs.Common.{◌≡◌, ◌≢◌, ℕ, suc, zero, ◌+◌, ◌-◌, ◌≤◌, ltb, ◌==◌, true, false, ◌&&◌, List, [], ◌∷◌, ◌++◌, length, take, Option, Some, None, Result, Ok, Err, refl, sym, ap, subst, ◌∙◌, ◌⊎◌, inl, inr, arith}
 use Rattle.std.proofs.lemmas.Bool.{eqb-true, ne_eqb, le-ltb, ltb-false, cases_Bool, and_parts, or_cases, both_ways}
 use Rattle.std.proofs.lemmas.List.{length-append}
 use Rattle.std.proofs.Math.Seq.{take-append_seam}
@@ -14,7 +14,7 @@ use Rattle.yaml_subset.specs.Words.{IsWordAt, word_at}
 use Rattle.yaml_subset.specs.Flow.{IsFlow, begins_bracket, flow_at}
 use Rattle.yaml_bytes.specs.Scanning.{behind_blanks, behind_dash, before_colon}
 use Rattle.yaml_subset.specs.TreeOf.{IsDash}
-use Rattle.yaml_subset.specs.Reading.{Head, item, entry, alone, word_head, flow_head, text_head, head_from, head_at, node_from, inline_at}
+use Rattle.yaml_subset.specs.Reading.{Head, item, entry, alone, word_head, flow_head, text_head, head_from, head_at, key_in, key_from, key_at, node_from, inline_at}
 use Rattle.yaml_bytes.proofs.Steps.{bind_ok, guard_true, chosen, ok_is}
 use Rattle.yaml_bytes.proofs.PlainTexts.{is_behind_blanks, behind_blanks-is}
 use Rattle.yaml_subset.proofs.WordTexts.{BeginsWord, word_sound, word_complete, word_begins, word_parts, word-rest_ends}
@@ -224,9 +224,36 @@ before_colon-is text front after e =
     let len : length text - (length after + 1) ≡ length front = omega (arith, ap length e, length-append front (58 ∷ after)) in
     ap (λ n. take n text) len ∙ ap (take (length front)) e ∙ take-append_seam front (58 ∷ after)
 
-pub entry_sound : (depth n : ℕ) (text key after : List ℕ) → head_at depth n text ≡ Ok (entry key after) → ltb 1024 (characters (before_colon text after)) ≡ false → IsEntry text key after
-entry_sound depth n text key after e short =
-    let k = key_sound depth n text key after e in
+-- the key of a line that is an entry
+key_in_sound : (word rest : List ℕ) (k : List ℕ × List ℕ) → key_in word rest ≡ Some k → (rest ≡ 58 ∷ k.1) × (word ≡ k.0)
+unfolding key_in
+key_in_sound word [] k e = absurd cc
+key_in_sound word (b ∷ bs) k e =
+    elim (chosen (b == 58) (Some (word, bs)) None (Some k) e) [
+      | inl p ↦
+          let h : Some (word, bs) ≡ Some k = p.1 in
+          let same : (word, bs) ≡ k = cc in
+          (ap (λ (x : ℕ). x ∷ bs) (eqb-true b 58 p.0) ∙ ap (λ (w : List ℕ × List ℕ). 58 ∷ w.1) same, ap (λ (w : List ℕ × List ℕ). w.0) same)
+      | inr p ↦ let h : None ≡ Some k = p.1 in absurd cc
+    ]
+
+key_from_sound : (n : ℕ) (text : List ℕ) (read : Result (List ℕ × List ℕ) PlacedFault) (k : List ℕ × List ℕ) → word_at n false text ≡ read → key_from read ≡ Some k → IsKey text k.0 k.1
+unfolding key_from
+key_from_sound n text (Err f) k w e = absurd cc
+key_from_sound n text (Ok r) k w e =
+    let a = key_in_sound r.0 r.1 k e in
+    subst (λ word. IsWordAt false text word (58 ∷ k.1)) a.1 (subst (λ rest. IsWordAt false text r.0 rest) a.0 (word_sound n false text r.0 r.1 w))
+
+pub key_at_sound : (n : ℕ) (text : List ℕ) (k : List ℕ × List ℕ) → key_at n text ≡ Some k → IsKey text k.0 k.1
+unfolding key_at
+key_at_sound n text k e = key_from_sound n text (word_at n false text) k refl e
+
+pub key_at_complete : (n : ℕ) (text key after : List ℕ) → IsKey text key after → key_at n text ≡ Some (key, after)
+unfolding key_at key_from key_in
+key_at_complete n text key after h = rw (word_complete n false text key (58 ∷ after) h) refl
+
+pub entry_sound : (text key after : List ℕ) → IsKey text key after → ltb 1024 (characters (before_colon text after)) ≡ false → IsEntry text key after
+entry_sound text key after k short =
     let f = word_parts false text key (58 ∷ after) k in
     let few : characters (before_colon text after) ≤ 1024 = ltb-false 1024 (characters (before_colon text after)) short in
     record { is_key = k; front = f.0; parts = f.1; short = subst (λ xs. characters xs ≤ 1024) (before_colon-is text f.0 after f.1) few }

@@ -12,12 +12,12 @@ use Rattle.yaml_subset.specs.TextLines.{Line}
 use Rattle.yaml_subset.specs.TreeOf.{Group, IsRun, IsValue, IsPair, ArePairs, IsMapping, IsDash, IsInner, IsItem, AreItems, IsSequence, IsAlone, IsBlock, ByLines, IsTree}
 use Rattle.yaml_bytes.specs.Results.{◌>>=◌}
 use Rattle.yaml_subset.specs.Placed.{fault_at}
-use Rattle.yaml_subset.specs.Reading.{Head, item, entry, alone, head_at, inline_at, BlockReader, hangs, groups_of, misplaced, closed_at, value_at, pair_from, pair_at, pairs_at, mapping_at, inner, item_with, item_from, item_at, items_at, sequence_at, block_from, deep_from, block_at, tree_at}
+use Rattle.yaml_subset.specs.Reading.{Head, item, entry, alone, head_at, key_at, inline_at, BlockReader, hangs, groups_of, misplaced, closed_at, value_at, pair_from, pair_at, pairs_at, mapping_at, inner, item_with, item_from, item_at, items_at, sequence_at, block_from, deep_from, block_at, tree_at}
 use Rattle.yaml_bytes.proofs.Steps.{bind_ok, guard_true, guard_false, chosen, ok_is}
 use Rattle.yaml_bytes.proofs.PlainTexts.{is_behind_blanks, behind_blanks-is}
 use Rattle.yaml_subset.proofs.KeySets.{fresh_sound, fresh_complete}
 use Rattle.yaml_bytes.proofs.Spaces.{spaces_parts, spaces_len-is, drop_spaces, blanks_are_spaces}
-use Rattle.yaml_subset.proofs.Heads.{dash_sound, dash_complete, item_head, alone_sound, alone_complete, key_sound, key_complete, key_begins, key_no_item, entry_sound, entry_short, inline_sound, inline_complete}
+use Rattle.yaml_subset.proofs.Heads.{dash_sound, dash_complete, item_head, alone_sound, alone_complete, key_sound, key_complete, key_begins, key_no_item, key_at_sound, key_at_complete, entry_sound, entry_short, inline_sound, inline_complete}
 use Rattle.yaml_subset.proofs.Runs.{AllStand, groups_are_run, run_stands, run_is_groups}
 
 -- f gives the tree that lines have, and gives none where they have none
@@ -95,11 +95,10 @@ module _ (depth : ℕ) (block : BlockReader) (R : List Line → Node → Type 0)
 
   -- ---- mappings
 
-  pair_from_sound : (i : ℕ) (before : List (List ℕ)) (g : Group) (h : Head) (p : Pair) → head_at depth g.head.number g.head.text ≡ Ok h → pair_from depth block i before g h ≡ Ok p → IsPair depth R before g p
+  pair_from_sound : (i : ℕ) (before : List (List ℕ)) (g : Group) (found : Option (List ℕ × List ℕ)) (p : Pair) → key_at g.head.number g.head.text ≡ found → pair_from depth block i before g found ≡ Ok p → IsPair depth R before g p
   unfolding pair_from
-  pair_from_sound i before g (item after) p e k = absurd cc
-  pair_from_sound i before g (alone t) p e k = absurd cc
-  pair_from_sound i before g (entry key after) p e k =
+  pair_from_sound i before g None p e k = absurd cc
+  pair_from_sound i before g (Some (key, after)) p e k =
       let n = g.head.number in
       let front = before_colon g.head.text after in
       let made : Node → Result Pair PlacedFault = λ t. Ok (record { line = n; key = key; value = t }) in
@@ -111,7 +110,7 @@ module _ (depth : ℕ) (block : BlockReader) (R : List Line → Node → Type 0)
       subst (IsPair depth R before g) (ok_is (record { line = n; key = key; value = b.0 }) p b.2) (record {
         line = refl;
         after = after;
-        entry = entry_sound depth n g.head.text key after e c.0;
+        entry = entry_sound g.head.text key after (key_at_sound n g.head.text (key, after) e) c.0;
         fresh = fresh_sound before key a.0;
         inline = inline.0;
         is_inline = inline_sound depth n after inline.0 inline.1;
@@ -121,14 +120,13 @@ module _ (depth : ℕ) (block : BlockReader) (R : List Line → Node → Type 0)
   pair_sound : (around : Option ℕ) (i : ℕ) (before : List (List ℕ)) (g : Group) (p : Pair) → pair_at depth block around i before g ≡ Ok p → (g.head.indent ≡ i) × IsPair depth R before g p
   unfolding pair_at
   pair_sound around i before g p e =
-      let a = guard_true (g.head.indent == i) (head_at depth g.head.number g.head.text >>= λ h. pair_from depth block i before g h) (record { kind = misplaced around g.head; line = g.head.number; left = length g.head.text }) p e in
-      let b = bind_ok (head_at depth g.head.number g.head.text) (λ h. pair_from depth block i before g h) p a.1 in
-      (eqb-true g.head.indent i a.0, pair_from_sound i before g b.0 p b.1 b.2)
+      let a = guard_true (g.head.indent == i) (pair_from depth block i before g (key_at g.head.number g.head.text)) (record { kind = misplaced around g.head; line = g.head.number; left = length g.head.text }) p e in
+      (eqb-true g.head.indent i a.0, pair_from_sound i before g (key_at g.head.number g.head.text) p refl a.1)
 
   pair_complete : (around : Option ℕ) (i : ℕ) (before : List (List ℕ)) (g : Group) (p : Pair) → g.head.indent ≡ i → IsPair depth R before g p → pair_at depth block around i before g ≡ Ok p
   unfolding pair_at pair_from
   pair_complete around i before g p at h =
-      rw (eq-eqb g.head.indent i at, key_complete depth g.head.number g.head.text p.key h.after h.entry.is_key, fresh_complete before p.key h.fresh, entry_short g.head.text p.key h.after h.entry, inline_complete depth g.head.number h.after h.inline h.is_inline, value_complete g.head.number i h.inline g.below p.value h.value)
+      rw (eq-eqb g.head.indent i at, key_at_complete g.head.number g.head.text p.key h.after h.entry.is_key, fresh_complete before p.key h.fresh, entry_short g.head.text p.key h.after h.entry, inline_complete depth g.head.number h.after h.inline h.is_inline, value_complete g.head.number i h.inline g.below p.value h.value)
       (ap (λ (n : ℕ). Ok (record { line = n; key = p.key; value = p.value })) (sym h.line))
 
   pairs_sound : (around : Option ℕ) (i : ℕ) (before : List (List ℕ)) (gs : List Group) (ps : List Pair) → pairs_at depth block around i before gs ≡ Ok ps → AllStand (hangs true i) i gs × ArePairs depth R before gs ps

@@ -44,6 +44,11 @@ byte_view r = (r.0, r.1.now)
 abbrev pub word_view : Vec ℕ × Bor (List ℕ) → List ℕ × List ℕ
 word_view r = (r.0.items, r.1.now)
 
+-- a key and what comes after its colon, or nothing
+abbrev pub key_option_view : Option (Vec ℕ × Bor (List ℕ)) → Option (List ℕ × List ℕ)
+key_option_view None = None
+key_option_view (Some r) = Some (word_view r)
+
 abbrev pub rest_view : Bor (List ℕ) → List ℕ
 rest_view rest = rest.now
 

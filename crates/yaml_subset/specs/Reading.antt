@@ -54,6 +54,19 @@ head_from depth n text (Some after) = Ok (item after)
 unfoldable pub head_at : ℕ → ℕ → List ℕ → Result Head PlacedFault
 head_at depth n text = head_from depth n text (behind_dash text)
 
+-- a word that is a key, since its colon comes next, and what comes after the colon
+unfoldable pub key_in : List ℕ → List ℕ → Option (List ℕ × List ℕ)
+key_in word [] = None
+key_in word (b ∷ after) = if b == 58 then Some (word, after) else None
+
+unfoldable pub key_from : Result (List ℕ × List ℕ) PlacedFault → Option (List ℕ × List ℕ)
+key_from (Ok w) = key_in w.0 w.1
+key_from (Err f) = None
+
+-- the key of a line that is an entry, and what comes after its colon; of any other line nothing, whatever it holds
+unfoldable pub key_at : ℕ → List ℕ → Option (List ℕ × List ℕ)
+key_at n text = key_from (word_at n false text)
+
 -- where a value has to be, at the front of a text
 unfoldable pub node_from : ℕ → List ℕ → Head → Result Node PlacedFault
 node_from n text (item after) = fault_at NotInSubset n (length text)
@@ -110,21 +123,20 @@ value_at block n i (Some t) below = closed_at (Some i) t below
 value_at block n i None [] = Ok (scalar n [])
 value_at block n i None (l ∷ ls) = block (Some i) (l ∷ ls)
 
--- the pair of an entry, with the fault that comes first on its line
-unfoldable pub pair_from : ℕ → BlockReader → ℕ → List (List ℕ) → Group → Head → Result Pair PlacedFault
-pair_from depth block i before g (item after) = fault_of NotInSubset g.head
-pair_from depth block i before g (alone t) = fault_at NotInSubset g.head.number 0
-pair_from depth block i before g (entry key after) =
-    if is_among before key
+-- The pair of a line, with the fault that comes first on it: where the line is no entry, that is at its first character.
+unfoldable pub pair_from : ℕ → BlockReader → ℕ → List (List ℕ) → Group → Option (List ℕ × List ℕ) → Result Pair PlacedFault
+pair_from depth block i before g None = fault_of NotInSubset g.head
+pair_from depth block i before g (Some k) =
+    if is_among before k.0
     then fault_of DuplicateKey g.head
-    else (if nat_lt 1024 (characters (before_colon g.head.text after))
-    then fault_at NotInSubset g.head.number (length after + 1)
-    else (inline_at depth g.head.number after >>= λ inline. value_at block g.head.number i inline g.below >>= λ t. Ok (record { line = g.head.number; key = key; value = t })))
+    else (if nat_lt 1024 (characters (before_colon g.head.text k.1))
+    then fault_at NotInSubset g.head.number (length k.1 + 1)
+    else (inline_at depth g.head.number k.1 >>= λ inline. value_at block g.head.number i inline g.below >>= λ t. Ok (record { line = g.head.number; key = k.0; value = t })))
 
 unfoldable pub pair_at : ℕ → BlockReader → Option ℕ → ℕ → List (List ℕ) → Group → Result Pair PlacedFault
 pair_at depth block around i before g =
     if g.head.indent == i
-    then (head_at depth g.head.number g.head.text >>= λ h. pair_from depth block i before g h)
+    then pair_from depth block i before g (key_at g.head.number g.head.text)
     else fault_of (misplaced around g.head) g.head
 
 unfoldable pub pairs_at : ℕ → BlockReader → Option ℕ → ℕ → List (List ℕ) → List Group → Result (List Pair) PlacedFault

@@ -9,7 +9,7 @@ ghost use Rattle.yaml_subset.specs.Placed.{GivesOrHalts};
 ghost use Rattle.yaml_subset.specs.View.{node_view, pair_view};
 ghost use Rattle.yaml_subset.specs.Inside.{line_view, lines_view, node_option_view, copies_view};
 
-use crate::entry::{Head, head_of, inline};
+use crate::entry::{Head, head_of, inline, key_of};
 use crate::fault::FaultKind;
 use crate::keys::{MAX_KEY, take_copy};
 use crate::line::Line;
@@ -142,28 +142,26 @@ fn pair(
     if line.indent != indent {
         return Err(misplaced(around, line));
     }
-    match head_of(alloc, number, line.text())? {
-        Head::Item(_) => Err(line.fault(FaultKind::NotInSubset)),
-        Head::Alone(_) => Err(Halt::at(FaultKind::NotInSubset, number, 0)),
-        Head::Entry(key, after) => {
-            let fresh = take_copy(alloc, keys, &key)?;
-            if !fresh {
-                return Err(line.fault(FaultKind::DuplicateKey));
-            }
-            if characters(before_colon(line.text(), after)) > MAX_KEY {
-                return Err(Halt::at(FaultKind::NotInSubset, number, after.len() + 1));
-            }
-            let inline = inline(alloc, number, after)?;
-            let value = value(alloc, number, indent, inline, below, levels)?;
-            Ok((
-                Key {
-                    line: number,
-                    text: key,
-                },
-                value,
-            ))
-        }
+    let (key, after) = match key_of(alloc, number, line.text())? {
+        Some(found) => found,
+        None => return Err(line.fault(FaultKind::NotInSubset)),
+    };
+    let fresh = take_copy(alloc, keys, &key)?;
+    if !fresh {
+        return Err(line.fault(FaultKind::DuplicateKey));
     }
+    if characters(before_colon(line.text(), after)) > MAX_KEY {
+        return Err(Halt::at(FaultKind::NotInSubset, number, after.len() + 1));
+    }
+    let inline = inline(alloc, number, after)?;
+    let value = value(alloc, number, indent, inline, below, levels)?;
+    Ok((
+        Key {
+            line: number,
+            text: key,
+        },
+        value,
+    ))
 }
 
 // The mapping that lines are.

@@ -1,16 +1,16 @@
 //! What a line begins, and what comes after the colon of an entry.
 
-ghost use Rattle.std.specs.Prelude.{◌≡◌};
+ghost use Rattle.std.specs.Prelude.{◌≡◌, IfOk};
 ghost use Rattle.yaml_subset.specs.Placed.{GivesOrHalts};
-ghost use Rattle.yaml_subset.specs.Reading.{text_head, head_at, inline_at};
-ghost use Rattle.yaml_subset.specs.Inside.{node_option_view, head_view};
+ghost use Rattle.yaml_subset.specs.Reading.{text_head, head_at, key_at, inline_at};
+ghost use Rattle.yaml_subset.specs.Inside.{node_option_view, head_view, key_option_view};
 
 use crate::fault::FaultKind;
 use crate::flow::{begins_bracket, flow};
 use crate::place::Halt;
 use crate::tree::Tree;
 use crate::words::word;
-use std::alloc::Global;
+use std::alloc::{AllocError, Global};
 use yaml_bytes::{behind_blanks, behind_dash, is_over};
 
 /// The most lists and mappings that may be one inside the other on one line.
@@ -55,6 +55,23 @@ pub fn head_of(alloc: Global, number: u32, text: &[u8]) -> Result<Head<'_>, Halt
         return Ok(Head::Item(after));
     }
     text_head(alloc, number, text)
+}
+
+/// The key of a line that is an entry, and the text after its colon. Any other line has none,
+/// whatever is wrong with it.
+#[tactic(auto, unfolding(crate::specs::Reading::key_at, crate::specs::Reading::key_from, crate::specs::Reading::key_in))]
+pub fn key_of(
+    alloc: Global,
+    number: u32,
+    text: &[u8],
+) -> Result<Option<(Vec<u8>, &[u8])>, AllocError>
+    ensures { IfOk result (λ key. key_option_view key ≡ key_at number text.now) }
+{
+    match word(alloc, number, false, text) {
+        Ok((key, [b':', after @ ..])) => Ok(Some((key, after))),
+        Err(Halt::NoMemory) => Err(AllocError),
+        _ => Ok(None),
+    }
 }
 
 /// What comes after the colon of an entry: a value or nothing.

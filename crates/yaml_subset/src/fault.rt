@@ -30,8 +30,8 @@ pub enum FaultKind {
     /// followed by other text.
     #[error("Flow")]
     Flow,
-    /// A form of YAML that is not read, a key of more than 1,024 characters, or a character that no
-    /// line may have.
+    /// A line that has to be an entry or an item and is none, at its first character; a form of YAML
+    /// that is not read, a key of more than 1,024 characters, or a character that no line may have.
     #[error("NotInSubset")]
     NotInSubset,
     /// More than 32 sequences and mappings of lines are one inside the other, or more than 8 lists
