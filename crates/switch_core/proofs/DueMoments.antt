@@ -9,7 +9,7 @@ use Rattle.mpf_plan.specs.declared.entries.SwitchKind.{SwitchKind}
 use Rattle.mpf_plan.specs.PlanView.{PlanView, Switch, no_switch, switch_at}
 use Rattle.switch_core.specs.declared.change.Change.{Change}
 use Rattle.switch_core.specs.SwitchStep.{SwitchState, same_level, is_active, idle, accepted, awaited, changed, is_taken, fired}
-use Rattle.switch_core.specs.Switches.{SwitchesView, IsComplete, no_kind, kind_at, state_at, set_state, due_of, told, all_idle, after_change, told_by_change, IsNextDue, IsNothingDue, IsQuietUntil, accept, accept_due, after_fire, told_by_fire}
+use Rattle.switch_core.specs.Switches.{SwitchesView, IsComplete, no_kind, kind_at, state_at, set_state, due_of, reported, all_idle, after_change, reported_by_change, IsNextDue, IsNothingDue, IsNothingDueBy, accept, accept_due, after_fire, reported_by_fire}
 use Rattle.switch_core.specs.Calls.{ChangesArmLater}
 use Rattle.switch_core.proofs.NextDue.{next_due-is}
 
@@ -104,7 +104,7 @@ module _ (switch : SwitchId) (level : Bool) (now : ℕ) (s : SwitchesView) where
   change-other n = due-other s switch (changed (kind_at s switch) now level (state_at s switch)) n
 
   -- nothing is armed for its own moment
-  pub change-quiet : IsQuietUntil s now → IsQuietUntil (after_change switch level now s) now
+  pub change-quiet : IsNothingDueBy s now → IsNothingDueBy (after_change switch level now s) now
   change-quiet quiet n due is =
       elim (changes_arm_later switch level now s n due is) [
         | inl old ↦ quiet n due old
@@ -118,10 +118,10 @@ module _ (switch : SwitchId) (level : Bool) (now : ℕ) (s : SwitchesView) where
   change-complete = set-complete s switch (changed (kind_at s switch) now level (state_at s switch))
 
   -- what is reported of a change is reported of its switch
-  pub change-told : (a : Change) → told_by_change switch level now s ≡ Some a → a ≡ told (after_change switch level now s) switch
-  change-told a =
-      cond_both (is_taken (kind_at s switch) level (state_at s switch)) (Some (told (after_change switch level now s) switch)) None (λ o. o ≡ Some a → a ≡ told (after_change switch level now s) switch)
-      (λ _ is. sym (same_Some (told (after_change switch level now s) switch) a is))
+  pub change-reported : (a : Change) → reported_by_change switch level now s ≡ Some a → a ≡ reported (after_change switch level now s) switch
+  change-reported a =
+      cond_both (is_taken (kind_at s switch) level (state_at s switch)) (Some (reported (after_change switch level now s) switch)) None (λ o. o ≡ Some a → a ≡ reported (after_change switch level now s) switch)
+      (λ _ is. sym (same_Some (reported (after_change switch level now s) switch) a is))
       (λ _ is. absurd (none-some a is))
 
 -- ---- what is due is accepted
@@ -166,5 +166,5 @@ module _ (switch : SwitchId) (s : SwitchesView) where
     pub fire-accepts : after_fire s ≡ accept switch s
     fire-accepts = ap (λ d. accept_due d s) (next_due-is s at switch next)
 
-    pub fire-tells : told_by_fire s ≡ Some (told (accept switch s) switch)
-    fire-tells = ap (option_map (λ d. told (after_fire s) d.1)) (next_due-is s at switch next) ∙ ap (λ (t : SwitchesView). Some (told t switch)) fire-accepts
+    pub fire-reports : reported_by_fire s ≡ Some (reported (accept switch s) switch)
+    fire-reports = ap (option_map (λ d. reported (after_fire s) d.1)) (next_due-is s at switch next) ∙ ap (λ (t : SwitchesView). Some (reported t switch)) fire-accepts

@@ -10,7 +10,7 @@ use Rattle.switch_core.specs.declared.change.Change.{Change}
 use Rattle.switch_core.specs.declared.state.State.{State}
 use Rattle.switch_core.specs.SwitchStep.{SwitchState, idle, changed, is_taken, fired}
 use Rattle.switch_core.specs.StateView.{state_view}
-use Rattle.switch_core.specs.Switches.{SwitchesView, IsComplete, no_kind, kind_at, state_at, set_state, due_of, told, after_change, told_by_change, IsNextDue, due_as, sooner, next_due_from, next_due, accept, accept_due, after_fire}
+use Rattle.switch_core.specs.Switches.{SwitchesView, IsComplete, no_kind, kind_at, state_at, set_state, due_of, reported, after_change, reported_by_change, IsNextDue, due_as, sooner, next_due_from, next_due, accept, accept_due, after_fire}
 use Rattle.switch_core.proofs.NextDue.{next_due-more, next_due-all}
 
 -- the switches of which these are the kinds and the states
@@ -86,28 +86,28 @@ module _ (kinds : List SwitchKind) (states : List State) (switch : SwitchId) (ki
         lists_of : List SwitchKind → List SwitchState → SwitchesView
         lists_of ks xs = record { kinds = ks; states = xs }
 
-    told-made : told (set_state switch (make (kind_at (lists_view kinds states) switch) (state_at (lists_view kinds states) switch)) (lists_view kinds states)) switch ≡ record { switch = switch; active = new.active }
-    told-made =
+    reported-made : reported (set_state switch (make (kind_at (lists_view kinds states) switch) (state_at (lists_view kinds states) switch)) (lists_view kinds states)) switch ≡ record { switch = switch; active = new.active }
+    reported-made =
         let x = make (kind_at (lists_view kinds states) switch) (state_at (lists_view kinds states) switch) in
         let count = length-map states state_view in
         let set : slice_index_or (slice_set (map state_view states) switch.0 x) switch.0 (idle no_kind) ≡ x = get_or-set_same (map state_view states) switch.0 x (idle no_kind) (omega arith) in
-        ap (λ (y : SwitchState). told_as y.active) (set ∙ makes)
+        ap (λ (y : SwitchState). reported_as y.active) (set ∙ makes)
       where
-        told_as : Bool → Change
-        told_as b = record { switch = switch; active = b }
+        reported_as : Bool → Change
+        reported_as b = record { switch = switch; active = b }
 
   -- a change
   pub change-set : (level : Bool) (now : ℕ) → state_view new ≡ changed kind now level (state_view old) → lists_view kinds (slice_set states switch.0 new) ≡ after_change switch level now (lists_view kinds states)
   change-set level now made = set-made (λ k x. changed k now level x) made
 
   pub change-answer : (level : Bool) (now : ℕ) (taken : Bool) → state_view new ≡ changed kind now level (state_view old) → taken ≡ is_taken kind level (state_view old)
-      → then_some taken (record { switch = switch; active = new.active }) ≡ told_by_change switch level now (lists_view kinds states)
+      → then_some taken (record { switch = switch; active = new.active }) ≡ reported_by_change switch level now (lists_view kinds states)
   change-answer level now taken made test =
       let s = lists_view kinds states in
-      let told_is = told-made (λ k x. changed k now level x) made in
+      let reported_is = reported-made (λ k x. changed k now level x) made in
       let test_is : taken ≡ is_taken (kind_at s switch) level (state_at s switch) = test ∙ sym (ap₂ (λ k x. is_taken k level x) read-kind read-state) in
-      then_some-is taken (is_taken (kind_at s switch) level (state_at s switch)) (record { switch = switch; active = new.active }) (told (after_change switch level now s) switch) test_is (sym told_is)
-      ∙ then_some-cond (is_taken (kind_at s switch) level (state_at s switch)) (told (after_change switch level now s) switch)
+      then_some-is taken (is_taken (kind_at s switch) level (state_at s switch)) (record { switch = switch; active = new.active }) (reported (after_change switch level now s) switch) test_is (sym reported_is)
+      ∙ then_some-cond (is_taken (kind_at s switch) level (state_at s switch)) (reported (after_change switch level now s) switch)
 
   -- what is due next is accepted
   module _ (at : ℕ) (next : next_due (lists_view kinds states) ≡ Some (at, switch)) (made : state_view new ≡ fired kind (state_view old)) where

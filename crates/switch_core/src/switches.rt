@@ -35,7 +35,7 @@ impl Model for Switches {
 
 impl Switches {
     ghost use Rattle.std.specs.Prelude.{◌≡◌, ◌<◌, ◌^◌, length, Some, IsSome, IfOk, IfSome, IfNone};
-    ghost use Rattle.switch_core.specs.Switches.{IsComplete, active_at, all_idle, after_change, told_by_change, IsNextDue, IsNothingDue, next_due, after_fire, told_by_fire};
+    ghost use Rattle.switch_core.specs.Switches.{IsComplete, active_at, all_idle, after_change, reported_by_change, IsNextDue, IsNothingDue, next_due, after_fire, reported_by_fire};
 
     /// All switches of the plan, inactive: at raw level 0, and at 1 where the contact is normally
     /// closed. Only this call takes memory.
@@ -68,7 +68,7 @@ impl Switches {
         requires switch { switch.0 < length self.old.kinds }
         requires now { now < 2 ^ 40 }
         ensures state { self.new ≡ after_change switch level now self.old }
-        ensures told { result ≡ told_by_change switch level now self.old }
+        ensures reported { result ≡ reported_by_change switch level now self.old }
         ensures complete { IsComplete self.new }
     {
         let number = switch.0 as usize;
@@ -102,7 +102,7 @@ impl Switches {
     pub fn fire(&mut self) -> Change
         requires { IsSome (next_due self.old) }
         ensures state { self.new ≡ after_fire self.old }
-        ensures told { told_by_fire self.old ≡ Some result }
+        ensures reported { reported_by_fire self.old ≡ Some result }
         ensures kinds { self.new.kinds ≡ self.old.kinds }
         ensures complete { IsComplete self.new }
     {
