@@ -1,5 +1,5 @@
 -- What each call does with the due moments: a change arms its own switch alone, and later than its moment; what is accepted is not due any more.
-use Rattle.std.proofs.Common.{◌≡◌, ◌≢◌, ℕ, ◌+◌, ◌<◌, ◌≤◌, ◌⊎◌, Bool, if◌then◌else◌, Some, None, option_map, List, length, slice_set, slice_index_or, refl, ap, sym, subst, ◌∙◌, inl, inr, arith}
+use Rattle.std.proofs.Common.{◌≡◌, ◌≢◌, ℕ, ◌+◌, ◌<◌, ◌≤◌, ◌⊎◌, Bool, if◌then◌else◌, Some, None, option_map, List, length, map, slice_set, slice_index_or, refl, ap, sym, subst, ◌∙◌, inl, inr, arith}
 use Rattle.std.proofs.lemmas.Bool.{cases_lt, cases_eq, cond_both}
 use Rattle.std.proofs.Math.ListN.{get_or-map}
 use Rattle.std.proofs.lemmas.Option.{none-some, same_Some}
@@ -56,6 +56,20 @@ module _ (s : SwitchesView) (set : SwitchId) (x : SwitchState) where
             ap (λ (t : SwitchesView). due_of t set) (set-past past) ∙ ap (λ (y : SwitchState). y.due) (get_or_past s.states set.0 (idle no_kind) past)
       ]
 
+  -- where the new state is due as the old one was, all are
+  pub due-kept : x.due ≡ due_of s set → (n : SwitchId) → due_of (set_state set x s) n ≡ due_of s n
+  due-kept kept n =
+      elim (cases_eq n.0 set.0) [
+        | inr other ↦ due-other n other
+        | inl same ↦
+            elim (cases_lt set.0 (length s.states)) [
+              | inl there ↦
+                  subst (λ (k : ℕ). (slice_index_or (slice_set s.states set.0 x) k (idle no_kind)).due ≡ (slice_index_or s.states k (idle no_kind)).due) (sym same)
+                  (ap (λ (y : SwitchState). y.due) (state-same there) ∙ kept)
+              | inr past ↦ ap (λ (t : SwitchesView). due_of t n) (set-past past)
+            ]
+      ]
+
   pub set-count : length (set_state set x s).states ≡ length s.states
   set-count = length-set s.states set.0 x
 
@@ -73,8 +87,11 @@ idle-kind plan n = get_or-map (λ (s : Switch). s.kind) plan.switches n.0 no_swi
 pub idle-state : (plan : PlanView) (n : SwitchId) → state_at (all_idle plan) n ≡ idle (switch_at plan n).kind
 idle-state plan n = get_or-map (λ (s : Switch). idle s.kind) plan.switches n.0 no_switch
 
+pub idle_list-nothing_due : (kinds : List SwitchKind) (switches : List Switch) → IsNothingDue (record { kinds = kinds; states = map (λ s. idle s.kind) switches })
+idle_list-nothing_due kinds switches n = ap (λ (x : SwitchState). x.due) (get_or-map (λ (s : Switch). idle s.kind) switches n.0 no_switch)
+
 pub idle-nothing_due : (plan : PlanView) → IsNothingDue (all_idle plan)
-idle-nothing_due plan n = ap (λ (x : SwitchState). x.due) (idle-state plan n)
+idle-nothing_due plan n = idle_list-nothing_due (all_idle plan).kinds plan.switches n
 
 -- ---- a change
 

@@ -167,6 +167,24 @@ next_due-is s at n a = is_next s at n (next_due s) (next_due-is_due s) a
 
 -- ---- and the other way round
 
+nothing_in : (s : SwitchesView) (o : Option (ℕ × SwitchId)) → IsNothingDue s → IsDueIn s o → o ≡ None
+nothing_in s None none is = refl
+nothing_in s (Some d) none next = absurd_due (due_of s d.1) d.0 (none d.1) next.due
+
+pub nothing_due-is : (s : SwitchesView) → IsNothingDue s → next_due s ≡ None
+nothing_due-is s none = nothing_in s (next_due s) none (next_due-is_due s)
+
+-- it follows from the due moments alone
+module _ (s t : SwitchesView) (same : (n : SwitchId) → due_of t n ≡ due_of s n) where
+  same_in : (o : Option (ℕ × SwitchId)) → IsDueIn s o → next_due t ≡ o
+  same_in None none = nothing_due-is t (λ n. same n ∙ none n)
+  same_in (Some d) next =
+      next_due-is t d.0 d.1
+      (record { due = same d.1 ∙ next.due; least = λ other moment is. next.least other moment (sym (same other) ∙ is) })
+
+  pub next_due-same : next_due t ≡ next_due s
+  next_due-same = same_in (next_due s) (next_due-is_due s)
+
 pub next_due-least : (s : SwitchesView) (at : ℕ) (n : SwitchId) → next_due s ≡ Some (at, n) → IsNextDue s at n
 next_due-least s at n is = subst (IsDueIn s) is (next_due-is_due s)
 
