@@ -3,8 +3,11 @@
 ghost use Rattle.std.specs.Prelude.{◌≤◌, length};
 
 use crate::row::ONE_SWITCH;
-use pinball_shell::{ShellFault, check_text, load_text, play_text, read_all, verify_text};
+use pinball_shell::{
+    BUNDLE_LIMIT, Failure, ShellFault, check_text, load_text, play_text, read_all, verify_text,
+};
 use std::io::{self, ErrorKind, Read, Write};
+use std::process::Abort;
 use std::test::Fail;
 
 /// Gives a byte at each read, and fails at the last of `reads`.
@@ -106,41 +109,30 @@ fn writer_fails_at_its_second_write(rt: HostRuntime) -> Result<(), Fail> {
     Ok(())
 }
 
-/// The bundle is read first: nothing has been read of the certificate where that fails.
+/// The bundle of `verify` is read before its certificate is opened.
 #[test]
-fn bundle_fails_before_its_certificate_is_read(rt: HostRuntime) -> Result<(), Fail> {
-    let mut certificate = EndlessReader { reads: 0 };
-    let mut writer: Vec<u8> = Vec::new(rt.alloc());
-    let answer = verify_text(
-        rt.alloc(),
-        &mut FailingReader { reads: 2 },
-        &mut certificate,
-        &mut writer,
-    );
-    assert_eq!(rt; answer, Err(ShellFault::Read));
-    let mut bundle = EndlessReader { reads: 0 };
-    let answer = verify_text(rt.alloc(), &mut bundle, &mut certificate, &mut writer);
-    assert_eq!(rt; answer, Err(ShellFault::TooLong));
-    assert_eq!(rt; bundle.reads, 8_388_609);
-    assert_eq!(rt; certificate.reads, 0);
-    assert!(rt; writer.is_empty());
+fn bundle_reader_fails_or_never_ends(rt: HostRuntime) -> Result<(), Fail> {
+    let failing = read_all(rt.alloc(), &mut FailingReader { reads: 2 }, BUNDLE_LIMIT);
+    assert!(rt; matches!(&failing, Err(ShellFault::Read)));
+    let mut endless = EndlessReader { reads: 0 };
+    let longer = read_all(rt.alloc(), &mut endless, BUNDLE_LIMIT);
+    assert!(rt; matches!(&longer, Err(ShellFault::TooLong)));
+    assert_eq!(rt; endless.reads, 8_388_609);
     Ok(())
 }
 
 #[test]
 fn certificate_reader_fails_or_never_ends(rt: HostRuntime) -> Result<(), Fail> {
-    let mut bundle = ONE_SWITCH;
     let mut writer: Vec<u8> = Vec::new(rt.alloc());
     let answer = verify_text(
         rt.alloc(),
-        &mut bundle,
+        ONE_SWITCH,
         &mut FailingReader { reads: 2 },
         &mut writer,
     );
     assert_eq!(rt; answer, Err(ShellFault::Read));
-    let mut bundle = ONE_SWITCH;
     let mut certificate = EndlessReader { reads: 0 };
-    let answer = verify_text(rt.alloc(), &mut bundle, &mut certificate, &mut writer);
+    let answer = verify_text(rt.alloc(), ONE_SWITCH, &mut certificate, &mut writer);
     assert_eq!(rt; answer, Err(ShellFault::TooLong));
     assert_eq!(rt; certificate.reads, 1_048_577);
     assert!(rt; writer.is_empty());
@@ -150,11 +142,10 @@ fn certificate_reader_fails_or_never_ends(rt: HostRuntime) -> Result<(), Fail> {
 #[test]
 fn verifying_to_a_writer_that_fails(rt: HostRuntime) -> Result<(), Fail> {
     for writes in [1, 2] {
-        let mut bundle = ONE_SWITCH;
         let mut certificate: &[u8] = b"";
         let answer = verify_text(
             rt.alloc(),
-            &mut bundle,
+            ONE_SWITCH,
             &mut certificate,
             &mut FailingWriter { writes },
         );
@@ -210,4 +201,33 @@ fn trace_writer_fails_at_its_second_write(rt: HostRuntime) -> Result<(), Fail> {
     );
     assert_eq!(rt; answer, Err(ShellFault::Write));
     Ok(())
+}
+
+/// This is what standard error gets of a failure.
+fn assert_said<R: Abort + AllocGlobal>(
+    rt: &R,
+    failure: Failure<'_>,
+    said: &[u8],
+) -> Result<(), Fail> {
+    let mut writer = Vec::new(rt.alloc());
+    failure.write(&mut writer)?;
+    assert_eq!(rt; writer.as_slice(), said);
+    Ok(())
+}
+
+#[test]
+fn fault_of_a_file_names_it_on_the_second_line(rt: HostRuntime) -> Result<(), Fail> {
+    let read = Failure::at(ShellFault::Read, "a b");
+    assert_said(&rt, read, b"fault: Read\nfile: a b\n")?;
+    let longer = Failure::at(ShellFault::TooLong, "a b");
+    assert_said(&rt, longer, b"fault: TooLong\nfile: a b\n")
+}
+
+#[test]
+fn fault_of_no_file_is_one_line(rt: HostRuntime) -> Result<(), Fail> {
+    assert_said(&rt, Failure::from(ShellFault::Read), b"fault: Read\n")?;
+    let write = Failure::at(ShellFault::Write, "a b");
+    assert_said(&rt, write, b"fault: Write\n")?;
+    let memory = Failure::at(ShellFault::NoMemory, "a b");
+    assert_said(&rt, memory, b"fault: NoMemory\n")
 }

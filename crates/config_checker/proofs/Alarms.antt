@@ -15,7 +15,7 @@ use Rattle.mpf_plan.specs.declared.entries.Target.TheVariants.{Run}
 use Rattle.mpf_plan.specs.declared.entries.Binding.{Binding}
 use Rattle.switch_core.specs.declared.change.Change.{Change as Acceptance}
 use Rattle.switch_core.specs.SwitchStep.{idle}
-use Rattle.switch_core.specs.Switches.{SwitchesView, IsComplete, due_of, all_idle, after_change, told_by_change, accept, told}
+use Rattle.switch_core.specs.Switches.{SwitchesView, IsComplete, due_of, all_idle, after_change, reported_by_change, accept, reported}
 use Rattle.switch_core.proofs.DueMoments.{changes_arm_later, accept-due, accept-done, idle-nothing_due}
 use Rattle.config_checker.specs.declared.line.Line.{Line}
 use Rattle.config_checker.specs.declared.line.Happening.TheVariants as lines
@@ -85,10 +85,10 @@ module _ (plan : PlanView) where
   switches-if_accepted (Some a) s = switches-accepted a s
 
   pub switches-change : (at : ℕ) (n : SwitchId) (level : Bool) (s : Machine) → (begin plan (Change at n level) s).switches ≡ after_change n level at s.switches
-  switches-change at n level s = switches-if_accepted (told_by_change n level at s.switches) (set_switches (after_change n level at s.switches) (arrived at s))
+  switches-change at n level s = switches-if_accepted (reported_by_change n level at s.switches) (set_switches (after_change n level at s.switches) (arrived at s))
 
   pub switches-alarm : (at : ℕ) (n : SwitchId) (s : Machine) → (begin plan (Alarm at (switch n)) s).switches ≡ accept n s.switches
-  switches-alarm at n s = switches-accepted (told (accept n s.switches) n) (set_switches (accept n s.switches) (arrived at s))
+  switches-alarm at n s = switches-accepted (reported (accept n s.switches) n) (set_switches (accept n s.switches) (arrived at s))
 
   -- so they do the same with the same switches
   pub switches-same : (stimulus : Stimulus) (s t : Machine) → s.switches ≡ t.switches → (begin plan stimulus s).switches ≡ (begin plan stimulus t).switches

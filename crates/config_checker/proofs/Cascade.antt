@@ -7,7 +7,7 @@ use Rattle.mpf_plan.specs.Valid.{IsValid}
 use Rattle.mpf_plan.specs.declared.entries.SwitchId.{SwitchId}
 use Rattle.switch_core.specs.declared.change.Change.{Change as Acceptance}
 use Rattle.switch_core.specs.SwitchStep.{is_taken}
-use Rattle.switch_core.specs.Switches.{kind_at, state_at, after_change, told_by_change, accept, told}
+use Rattle.switch_core.specs.Switches.{kind_at, state_at, after_change, reported_by_change, accept, reported}
 use Rattle.switch_core.proofs.Lists.{due-within}
 use Rattle.config_checker.specs.declared.line.Line.{Line}
 use Rattle.config_checker.specs.declared.line.Happening.TheVariants as lines
@@ -40,8 +40,8 @@ module _ (plan : PlanView) (valid : IsValid plan) where
   accepted_below (Some a) = IsBelow-acceptance plan valid a.switch a.active
 
   pub stimulus_below : (s : Machine) (stimulus : Stimulus) → IsBelow (length plan.events) (cost_of_stimulus plan s stimulus)
-  stimulus_below s (Change at n level) = accepted_below (told_by_change n level at s.switches)
-  stimulus_below s (Alarm at (switch n)) = IsBelow-acceptance plan valid n (told (accept n s.switches) n).active
+  stimulus_below s (Change at n level) = accepted_below (reported_by_change n level at s.switches)
+  stimulus_below s (Alarm at (switch n)) = IsBelow-acceptance plan valid n (reported (accept n s.switches) n).active
   stimulus_below s (Wait at) = tt
 
   -- each waiting event is one of the plan's
@@ -77,11 +77,11 @@ module _ (plan : PlanView) (w : EventId → ℕ) where
 
   pub stimulus_cost : (s : Machine) (stimulus : Stimulus) → HasSwitches plan s → IsAllowed plan s stimulus → price w (cost_of_stimulus plan s stimulus) ≤ bound_of plan w
   stimulus_cost s (Change at n level) h allowed =
-      accepted_cost n (is_taken (kind_at s.switches n) level (state_at s.switches n)) (told (after_change n level at s.switches) n) refl allowed.1
+      accepted_cost n (is_taken (kind_at s.switches n) level (state_at s.switches n)) (reported (after_change n level at s.switches) n) refl allowed.1
   stimulus_cost s (Alarm at (switch n)) h allowed =
       let there = due-within s.switches n at allowed.0.due in
       let count = h.states in
-      acceptance-within_bound plan w n (told (accept n s.switches) n).active (omega arith)
+      acceptance-within_bound plan w n (reported (accept n s.switches) n).active (omega arith)
   stimulus_cost s (Wait at) h allowed = omega arith
 
 module _ (plan : PlanView) where

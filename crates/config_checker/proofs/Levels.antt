@@ -4,7 +4,7 @@ use Rattle.std.proofs.Common.{◌≡◌, ℕ, ◌≤◌, ◌<◌, List, [], ◌�
 use Rattle.mpf_plan.specs.PlanView.{PlanView, switch_at}
 use Rattle.mpf_plan.specs.declared.entries.SwitchId.{SwitchId}
 use Rattle.switch_core.specs.SwitchStep.{raw_at_rest}
-use Rattle.switch_core.specs.Switches.{SwitchesView, all_idle, active_at, IsQuietUntil}
+use Rattle.switch_core.specs.Switches.{SwitchesView, all_idle, active_at, IsNothingDueBy as IsNoSwitchDueBy}
 use Rattle.switch_core.specs.AcceptedLevel.{accepted_level}
 use Rattle.switch_core.specs.Calls.{Call, Fire, call_moment, after_call, after_calls, last_moment, IsInTime, AreInTime, raw_changes}
 use Rattle.switch_core.specs.Calls as calls
@@ -73,6 +73,6 @@ module _ (plan : PlanView) where
       let called = run-called stimuli (initial plan) trace s run (not_late-initial plan) 0 (omega arith) in
       let there : after_calls (switch_calls stimuli) (all_idle plan) ≡ s.switches = called.after in
       let last = called.last in
-      let still : IsQuietUntil (after_calls (switch_calls stimuli) (all_idle plan)) at =
-      subst (λ (v : SwitchesView). IsQuietUntil v at) (sym there) (λ other due is. quiet (switch other) due is) in
+      let still : IsNoSwitchDueBy (after_calls (switch_calls stimuli) (all_idle plan)) at =
+      subst (λ (v : SwitchesView). IsNoSwitchDueBy v at) (sym there) (λ other due is. quiet (switch other) due is) in
       ap (λ (v : SwitchesView). active_at v n) (sym there) ∙ levels_are_accepted plan (switch_calls stimuli) at called.in_time (omega (arith, last, after)) still n within

@@ -14,7 +14,7 @@ use Rattle.mpf_plan.specs.declared.entries.Target.TheVariants.{Run}
 use Rattle.mpf_plan.specs.declared.entries.Binding.{Binding}
 use Rattle.switch_core.specs.declared.change.Change.{Change as Acceptance}
 use Rattle.switch_core.specs.SwitchStep.{changed, fired}
-use Rattle.switch_core.specs.Switches.{kind_at, state_at, after_change, told_by_change, accept, told}
+use Rattle.switch_core.specs.Switches.{kind_at, state_at, after_change, reported_by_change, accept, reported}
 use Rattle.config_checker.specs.declared.line.Happening.TheVariants as lines
 use Rattle.cascade_rank.specs.Cost.{Cost, Both, each_of, cost_of_post, cost_of_action, cost_of_list, cost_of_target, cost_of_binding, cost_of_work, cost_of_acceptance}
 use Rattle.event_queue.specs.declared.queue.Posted.{Posted}
@@ -76,15 +76,15 @@ module _ (plan : PlanView) where
   does-if_accepted None s = quiet
   does-if_accepted (Some a) s = does-accepted a s
 
-  does-change : (at : ℕ) (n : SwitchId) (raw : Bool) (s : Machine) → Does (cost_if_accepted plan (told_by_change n raw at s.switches)) s (change_switch plan at n raw s)
+  does-change : (at : ℕ) (n : SwitchId) (raw : Bool) (s : Machine) → Does (cost_if_accepted plan (reported_by_change n raw at s.switches)) s (change_switch plan at n raw s)
   does-change at n raw s =
       switched n (changed (kind_at s.switches n) at raw (state_at s.switches n)) s
-      (does-if_accepted (told_by_change n raw at s.switches) (set_switches (after_change n raw at s.switches) s))
+      (does-if_accepted (reported_by_change n raw at s.switches) (set_switches (after_change n raw at s.switches) s))
 
   does-fire : (at : ℕ) (source : Source) (s : Machine) → Does (cost_of_alarm plan s source) (arrived at s) (fire plan source (arrived at s))
   does-fire at (switch n) s =
       switched n (fired (kind_at s.switches n) (state_at s.switches n)) (arrived at s)
-      (does-accepted (told (accept n s.switches) n) (set_switches (accept n s.switches) (arrived at s)))
+      (does-accepted (reported (accept n s.switches) n) (set_switches (accept n s.switches) (arrived at s)))
 
   -- what a stimulus does once it has arrived
   pub does-begin : (stimulus : Stimulus) (s : Machine) → Does (cost_of_stimulus plan s stimulus) (arrived (moment_of stimulus) s) (begin plan stimulus s)

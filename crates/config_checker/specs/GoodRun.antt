@@ -5,7 +5,7 @@ use Rattle.mpf_plan.specs.declared.entries.EventId.{EventId}
 use Rattle.mpf_plan.specs.declared.entries.SwitchId.{SwitchId}
 use Rattle.switch_core.specs.declared.change.Change.{Change as Acceptance}
 use Rattle.switch_core.specs.SwitchStep.{raw_at_rest}
-use Rattle.switch_core.specs.Switches.{active_at, accept, told, told_by_change}
+use Rattle.switch_core.specs.Switches.{active_at, accept, reported, reported_by_change}
 use Rattle.switch_core.specs.AcceptedLevel.{accepted_level}
 use Rattle.switch_core.specs.Calls.{raw_changes}
 use Rattle.cascade_rank.specs.Cost.{Cost, Lines, price, cost_of_acceptance}
@@ -24,12 +24,12 @@ cost_if_accepted plan (Some a) = cost_of_acceptance plan a.switch a.active
 
 -- what an alarm costs: that of a switch its acceptance
 abbrev pub cost_of_alarm : PlanView → Machine → Source → Cost
-cost_of_alarm plan s (switch n) = cost_of_acceptance plan n (told (accept n s.switches) n).active
+cost_of_alarm plan s (switch n) = cost_of_acceptance plan n (reported (accept n s.switches) n).active
 
 -- What a stimulus costs: a change costs the acceptance of the switch where it is accepted at once, else nothing.
 -- A wait costs nothing.
 abbrev pub cost_of_stimulus : PlanView → Machine → Stimulus → Cost
-cost_of_stimulus plan s (Change at n level) = cost_if_accepted plan (told_by_change n level at s.switches)
+cost_of_stimulus plan s (Change at n level) = cost_if_accepted plan (reported_by_change n level at s.switches)
 cost_of_stimulus plan s (Alarm at source) = cost_of_alarm plan s source
 cost_of_stimulus plan s (Wait at) = Lines 0
 

@@ -13,7 +13,7 @@ use Rattle.mpf_plan.specs.declared.entries.Target.{Target}
 use Rattle.mpf_plan.specs.declared.entries.Target.TheVariants.{Run}
 use Rattle.mpf_plan.specs.declared.entries.Binding.{Binding}
 use Rattle.switch_core.specs.declared.change.Change.{Change as Acceptance}
-use Rattle.switch_core.specs.Switches.{SwitchesView, all_idle, after_change, told_by_change, accept, told}
+use Rattle.switch_core.specs.Switches.{SwitchesView, all_idle, after_change, reported_by_change, accept, reported}
 use Rattle.config_checker.specs.declared.line.Line.{Line}
 use Rattle.config_checker.specs.declared.line.Happening.{Happening}
 use Rattle.config_checker.specs.declared.line.Happening.TheVariants as lines
@@ -79,8 +79,8 @@ do_if_accepted plan (Some a) s = do_accepted plan a s
 
 -- The raw level of a switch changes, which a quick switch accepts at once.
 abbrev pub change_switch : PlanView → ℕ → SwitchId → Bool → Machine → Machine
-change_switch plan at switch raw s = do_if_accepted plan (told_by_change switch raw at s.switches) (set_switches (after_change switch raw at s.switches) s)
+change_switch plan at switch raw s = do_if_accepted plan (reported_by_change switch raw at s.switches) (set_switches (after_change switch raw at s.switches) s)
 
 -- The raw level of a switch, which was due, is accepted.
 abbrev pub fire_switch : PlanView → SwitchId → Machine → Machine
-fire_switch plan switch s = do_accepted plan (told (accept switch s.switches) switch) (set_switches (accept switch s.switches) s)
+fire_switch plan switch s = do_accepted plan (reported (accept switch s.switches) switch) (set_switches (accept switch s.switches) s)

@@ -2,7 +2,7 @@
 
 ghost use Rattle.std.specs.Prelude.{◌≡◌, ◌^◌, ◌<◌, Some, IfOk, IfSome, IsSome, length, option_map, slice_get};
 ghost use Rattle.event_queue.specs.PlanOrder.{in_order};
-ghost use Rattle.switch_core.specs.Switches.{after_change, told_by_change, next_due, after_fire, told_by_fire};
+ghost use Rattle.switch_core.specs.Switches.{after_change, reported_by_change, next_due, after_fire, reported_by_fire};
 ghost use Rattle.config_checker.specs.Machine.{initial, write, post, set_switches};
 ghost use Rattle.config_checker.specs.Run.{arrived};
 ghost use Rattle.config_checker.specs.NextAlarm.{next_alarm, is_due_by};
@@ -144,7 +144,7 @@ impl<'p> Core<'p> {
         requires at { at < 2 ^ 40 }
         requires switch { switch.0 < length self.old.machine.switches.kinds }
         ensures changed { self.new ≡ after (set_switches (after_change switch level at self.old.machine.switches)) self.old }
-        ensures told { result ≡ told_by_change switch level at self.old.machine.switches }
+        ensures reported { result ≡ reported_by_change switch level at self.old.machine.switches }
     {
         self.switches.change(switch, level, at)
     }
@@ -153,7 +153,7 @@ impl<'p> Core<'p> {
     pub(crate) fn fire(&mut self) -> Change
         requires { IsSome (next_due self.old.machine.switches) }
         ensures fired { self.new ≡ after (set_switches (after_fire self.old.machine.switches)) self.old }
-        ensures told { told_by_fire self.old.machine.switches ≡ Some result }
+        ensures reported { reported_by_fire self.old.machine.switches ≡ Some result }
     {
         self.switches.fire()
     }

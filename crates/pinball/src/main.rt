@@ -2,8 +2,8 @@
 #![tactic(auto)]
 
 use pinball_shell::{
-    Ask, AskFault, ShellFault, Verdict, check_text, command, load_text, play_text, status,
-    verify_text,
+    Ask, AskFault, BUNDLE_LIMIT, Failure, ShellFault, Verdict, check_text, command, load_text,
+    play_text, read_all, status, verify_text,
 };
 use std::io::{self, BufWriter, ErrorKind, Write};
 use std::process::ExitCode;
@@ -19,10 +19,10 @@ fn main(rt: HostRuntime) -> ExitCode {
     match asked(&rt) {
         Ok(ask) => {
             let answer = answer(&rt, &ask);
-            if let Err(fault) = &answer {
-                let _ = eprintln!(&rt; "fault: {}", fault.name());
+            if let Err(failure) = &answer {
+                let _ = failure.write(&mut io::writer(&rt.stderr()));
             }
-            ExitCode::from(status(&answer))
+            ExitCode::from(status(&answer.map_err(|failure| failure.fault)))
         }
         Err(AskFault::Usage(text)) => {
             let _ = eprint!(&rt; "{text}");
@@ -48,12 +48,12 @@ fn asked<R: Env + AllocGlobal>(rt: &R) -> Result<Ask, AskFault> {
 }
 
 /// Does what is asked. What is printed is buffered, and has gone out where this answers a verdict.
-fn answer<R: Files + Input + Print + AllocGlobal>(
+fn answer<'a, R: Files + Input + Print + AllocGlobal>(
     rt: &R,
-    ask: &Ask,
-) -> Result<Verdict, ShellFault> {
+    ask: &'a Ask,
+) -> Result<Verdict, Failure<'a>> {
     let Ok(mut writer) = BufWriter::new(rt.alloc(), io::writer(rt)) else {
-        return Err(ShellFault::NoMemory);
+        return Err(Failure::from(ShellFault::NoMemory));
     };
     let verdict = match ask {
         Ask::Check => check_text(rt.alloc(), &mut rt.reader(), &mut writer)?,
@@ -62,33 +62,36 @@ fn answer<R: Files + Input + Print + AllocGlobal>(
     };
     match writer.flush() {
         Ok(()) => Ok(verdict),
-        Err(_) => Err(ShellFault::Write),
+        Err(_) => Err(Failure::from(ShellFault::Write)),
     }
 }
 
-/// Verifies the certificate of a file on the bundle.
-fn verify<R: Files + Input + AllocGlobal, W: Write>(
+/// Verifies the certificate of a file on the bundle. The bundle is read before the file is opened:
+/// where standard input is closed, the file takes its place.
+fn verify<'a, R: Files + Input + AllocGlobal, W: Write>(
     rt: &R,
-    path: &str,
+    path: &'a str,
     writer: &mut W,
-) -> Result<Verdict, ShellFault> {
+) -> Result<Verdict, Failure<'a>> {
+    let bundle = read_all(rt.alloc(), &mut rt.reader(), BUNDLE_LIMIT)?;
     let Ok(mut certificate) = fs::open(rt, path) else {
-        return Err(ShellFault::Read);
+        return Err(Failure::at(ShellFault::Read, path));
     };
-    verify_text(rt.alloc(), &mut rt.reader(), &mut certificate, writer)
+    verify_text(rt.alloc(), &bundle, &mut certificate, writer)
+        .map_err(|fault| Failure::at(fault, path))
 }
 
 /// Loads the bundle, and plays the log only where it is accepted.
-fn play<R: Files + Input + AllocGlobal, W: Write>(
+fn play<'a, R: Files + Input + AllocGlobal, W: Write>(
     rt: &R,
-    path: &str,
+    path: &'a str,
     writer: &mut W,
-) -> Result<Verdict, ShellFault> {
+) -> Result<Verdict, Failure<'a>> {
     let Some(checked) = load_text(rt.alloc(), &mut rt.reader(), writer)? else {
         return Ok(Verdict::Refused);
     };
     let Ok(mut log) = fs::open(rt, path) else {
-        return Err(ShellFault::Read);
+        return Err(Failure::at(ShellFault::Read, path));
     };
-    play_text(rt.alloc(), &checked, &mut log, writer)
+    play_text(rt.alloc(), &checked, &mut log, writer).map_err(|fault| Failure::at(fault, path))
 }

@@ -1,5 +1,5 @@
--- The status with which the program ends, and the names of its faults.
-use Rattle.std.specs.Prelude.{ℕ, List, Result, Ok, Err, codes}
+-- The status with which the program ends, and what it says of a fault.
+use Rattle.std.specs.Prelude.{ℕ, List, [], ◌∷◌, ◌++◌, Option, None, Some, Result, Ok, Err, codes}
 use Rattle.pinball_shell.specs.declared.fault.ShellFault.{ShellFault}
 use Rattle.pinball_shell.specs.declared.fault.ShellFault.TheVariants.{NoMemory, Read, Write, TooLong}
 use Rattle.pinball_shell.specs.declared.fault.Verdict.{Verdict}
@@ -17,3 +17,19 @@ fault_name NoMemory = codes "NoMemory"
 fault_name Read = codes "Read"
 fault_name Write = codes "Write"
 fault_name TooLong = codes "TooLong"
+
+-- Of a fault in reading the file of this path: its own where a read failed or it is too long.
+abbrev pub file_at_fault : ShellFault → List ℕ → Option (List ℕ)
+file_at_fault NoMemory path = None
+file_at_fault Read path = Some path
+file_at_fault Write path = None
+file_at_fault TooLong path = Some path
+
+-- the line that names the file at fault, if there is one
+abbrev pub file_line : Option (List ℕ) → List ℕ
+file_line None = []
+file_line (Some path) = codes "file: " ++ path ++ 10 ∷ []
+
+-- what standard error gets where there is no verdict: the name of the fault, and on a second line the file at fault
+abbrev pub failure_text : ShellFault → Option (List ℕ) → List ℕ
+failure_text fault file = codes "fault: " ++ fault_name fault ++ 10 ∷ file_line file

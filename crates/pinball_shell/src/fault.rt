@@ -1,11 +1,13 @@
 //! What can go wrong outside of the texts.
 
-ghost use Rattle.std.specs.Prelude.{◌≡◌};
-ghost use Rattle.pinball_shell.specs.Status.{status_of, fault_name};
+ghost use Rattle.std.specs.Prelude.{◌≡◌, None, OnOk, option_map};
+ghost use Rattle.std.specs.Io.KnownBytes.{Appends};
+ghost use Rattle.pinball_shell.specs.Status.{status_of, fault_name, file_at_fault, failure_text};
 ghost use Rattle.pinball_shell.specs.declared.fault.ShellFault.TheVariants.{NoMemory};
 
 use pin_rig::RigFault;
 use std::alloc::AllocError;
+use std::io::{self, Write};
 use thiserror::Error;
 
 /// Why there is no verdict.
@@ -20,6 +22,14 @@ pub enum ShellFault {
     Write,
     /// A text is longer than its limit.
     TooLong,
+}
+
+/// Why there is no verdict, and which file is at fault.
+#[derive(Clone, Copy)]
+pub struct Failure<'a> {
+    pub fault: ShellFault,
+    /// The path of the file. None where standard input, the output or memory failed.
+    pub file: Option<&'a str>,
 }
 
 /// What a text was found to be.
@@ -42,6 +52,41 @@ impl ShellFault {
             ShellFault::Write => "Write",
             ShellFault::TooLong => "TooLong",
         }
+    }
+}
+
+impl<'a> Failure<'a> {
+    /// Of a fault that was met while the file of this path was read. `Read` and `TooLong` are the
+    /// file's; `NoMemory` and `Write` are no file's.
+    pub fn at(fault: ShellFault, path: &'a str) -> Failure<'a>
+        ensures fault { result.fault ≡ fault }
+        ensures file { option_map (λ p. p.now) result.file ≡ file_at_fault fault path.now }
+    {
+        let file = match fault {
+            ShellFault::Read | ShellFault::TooLong => Some(path),
+            ShellFault::NoMemory | ShellFault::Write => None,
+        };
+        Failure { fault, file }
+    }
+
+    /// Writes what standard error gets: the line `fault: NAME`, and where a file is at fault a
+    /// second one, `file: PATH`.
+    pub fn write<W: Write>(&self, writer: &mut W) -> io::Result<()>
+        ensures { OnOk result (Appends (W.contents writer.old) (W.contents writer.new) (failure_text self.now.fault (option_map (λ p. p.now) self.now.file))) }
+    {
+        let name = self.fault.name();
+        match self.file {
+            None => writeln!(writer, "fault: {name}"),
+            Some(path) => writeln!(writer, "fault: {name}\nfile: {path}"),
+        }
+    }
+}
+
+impl From<ShellFault> for Failure<'_> {
+    ghost from_gives = { λ fault failure. (failure.fault ≡ fault) × (option_map (λ p. p.now) failure.file ≡ None) };
+
+    fn from(fault: ShellFault) -> Self {
+        Failure { fault, file: None }
     }
 }
 

@@ -12,9 +12,9 @@ mod reply;
 pub mod text;
 mod trace;
 
-pub use check::{check_text, load_text, verify_text};
+pub use check::{BUNDLE_LIMIT, check_text, load_text, verify_text};
 pub use command_line::{Ask, AskFault, command};
-pub use fault::{ShellFault, Verdict, status};
+pub use fault::{Failure, ShellFault, Verdict, status};
 pub use law::{
     any_certificate_plays_the_same, log_gives_one_list_of_stimuli, printed_certificate_is_verified,
 };

@@ -1,5 +1,5 @@
 -- What each call does with the due moments: a change arms its own switch alone, and later than its moment; what is accepted is not due any more.
-use Rattle.std.proofs.Common.{◌≡◌, ◌≢◌, ℕ, ◌+◌, ◌<◌, ◌≤◌, ◌⊎◌, Bool, if◌then◌else◌, Some, None, option_map, List, length, slice_set, slice_index_or, refl, ap, sym, subst, ◌∙◌, inl, inr, arith}
+use Rattle.std.proofs.Common.{◌≡◌, ◌≢◌, ℕ, ◌+◌, ◌<◌, ◌≤◌, ◌⊎◌, Bool, if◌then◌else◌, Some, None, option_map, List, length, map, slice_set, slice_index_or, refl, ap, sym, subst, ◌∙◌, inl, inr, arith}
 use Rattle.std.proofs.lemmas.Bool.{cases_lt, cases_eq, cond_both}
 use Rattle.std.proofs.Math.ListN.{get_or-map}
 use Rattle.std.proofs.lemmas.Option.{none-some, same_Some}
@@ -9,7 +9,7 @@ use Rattle.mpf_plan.specs.declared.entries.SwitchKind.{SwitchKind}
 use Rattle.mpf_plan.specs.PlanView.{PlanView, Switch, no_switch, switch_at}
 use Rattle.switch_core.specs.declared.change.Change.{Change}
 use Rattle.switch_core.specs.SwitchStep.{SwitchState, same_level, is_active, idle, accepted, awaited, changed, is_taken, fired}
-use Rattle.switch_core.specs.Switches.{SwitchesView, IsComplete, no_kind, kind_at, state_at, set_state, due_of, told, all_idle, after_change, told_by_change, IsNextDue, IsNothingDue, IsQuietUntil, accept, accept_due, after_fire, told_by_fire}
+use Rattle.switch_core.specs.Switches.{SwitchesView, IsComplete, no_kind, kind_at, state_at, set_state, due_of, reported, all_idle, after_change, reported_by_change, IsNextDue, IsNothingDue, IsNothingDueBy, accept, accept_due, after_fire, reported_by_fire}
 use Rattle.switch_core.specs.Calls.{ChangesArmLater}
 use Rattle.switch_core.proofs.NextDue.{next_due-is}
 
@@ -56,6 +56,20 @@ module _ (s : SwitchesView) (set : SwitchId) (x : SwitchState) where
             ap (λ (t : SwitchesView). due_of t set) (set-past past) ∙ ap (λ (y : SwitchState). y.due) (get_or_past s.states set.0 (idle no_kind) past)
       ]
 
+  -- where the new state is due as the old one was, all are
+  pub due-kept : x.due ≡ due_of s set → (n : SwitchId) → due_of (set_state set x s) n ≡ due_of s n
+  due-kept kept n =
+      elim (cases_eq n.0 set.0) [
+        | inr other ↦ due-other n other
+        | inl same ↦
+            elim (cases_lt set.0 (length s.states)) [
+              | inl there ↦
+                  subst (λ (k : ℕ). (slice_index_or (slice_set s.states set.0 x) k (idle no_kind)).due ≡ (slice_index_or s.states k (idle no_kind)).due) (sym same)
+                  (ap (λ (y : SwitchState). y.due) (state-same there) ∙ kept)
+              | inr past ↦ ap (λ (t : SwitchesView). due_of t n) (set-past past)
+            ]
+      ]
+
   pub set-count : length (set_state set x s).states ≡ length s.states
   set-count = length-set s.states set.0 x
 
@@ -73,8 +87,11 @@ idle-kind plan n = get_or-map (λ (s : Switch). s.kind) plan.switches n.0 no_swi
 pub idle-state : (plan : PlanView) (n : SwitchId) → state_at (all_idle plan) n ≡ idle (switch_at plan n).kind
 idle-state plan n = get_or-map (λ (s : Switch). idle s.kind) plan.switches n.0 no_switch
 
+pub idle_list-nothing_due : (kinds : List SwitchKind) (switches : List Switch) → IsNothingDue (record { kinds = kinds; states = map (λ s. idle s.kind) switches })
+idle_list-nothing_due kinds switches n = ap (λ (x : SwitchState). x.due) (get_or-map (λ (s : Switch). idle s.kind) switches n.0 no_switch)
+
 pub idle-nothing_due : (plan : PlanView) → IsNothingDue (all_idle plan)
-idle-nothing_due plan n = ap (λ (x : SwitchState). x.due) (idle-state plan n)
+idle-nothing_due plan n = idle_list-nothing_due (all_idle plan).kinds plan.switches n
 
 -- ---- a change
 
@@ -104,7 +121,7 @@ module _ (switch : SwitchId) (level : Bool) (now : ℕ) (s : SwitchesView) where
   change-other n = due-other s switch (changed (kind_at s switch) now level (state_at s switch)) n
 
   -- nothing is armed for its own moment
-  pub change-quiet : IsQuietUntil s now → IsQuietUntil (after_change switch level now s) now
+  pub change-quiet : IsNothingDueBy s now → IsNothingDueBy (after_change switch level now s) now
   change-quiet quiet n due is =
       elim (changes_arm_later switch level now s n due is) [
         | inl old ↦ quiet n due old
@@ -118,10 +135,10 @@ module _ (switch : SwitchId) (level : Bool) (now : ℕ) (s : SwitchesView) where
   change-complete = set-complete s switch (changed (kind_at s switch) now level (state_at s switch))
 
   -- what is reported of a change is reported of its switch
-  pub change-told : (a : Change) → told_by_change switch level now s ≡ Some a → a ≡ told (after_change switch level now s) switch
-  change-told a =
-      cond_both (is_taken (kind_at s switch) level (state_at s switch)) (Some (told (after_change switch level now s) switch)) None (λ o. o ≡ Some a → a ≡ told (after_change switch level now s) switch)
-      (λ _ is. sym (same_Some (told (after_change switch level now s) switch) a is))
+  pub change-reported : (a : Change) → reported_by_change switch level now s ≡ Some a → a ≡ reported (after_change switch level now s) switch
+  change-reported a =
+      cond_both (is_taken (kind_at s switch) level (state_at s switch)) (Some (reported (after_change switch level now s) switch)) None (λ o. o ≡ Some a → a ≡ reported (after_change switch level now s) switch)
+      (λ _ is. sym (same_Some (reported (after_change switch level now s) switch) a is))
       (λ _ is. absurd (none-some a is))
 
 -- ---- what is due is accepted
@@ -166,5 +183,5 @@ module _ (switch : SwitchId) (s : SwitchesView) where
     pub fire-accepts : after_fire s ≡ accept switch s
     fire-accepts = ap (λ d. accept_due d s) (next_due-is s at switch next)
 
-    pub fire-tells : told_by_fire s ≡ Some (told (accept switch s) switch)
-    fire-tells = ap (option_map (λ d. told (after_fire s) d.1)) (next_due-is s at switch next) ∙ ap (λ (t : SwitchesView). Some (told t switch)) fire-accepts
+    pub fire-reports : reported_by_fire s ≡ Some (reported (accept switch s) switch)
+    fire-reports = ap (option_map (λ d. reported (after_fire s) d.1)) (next_due-is s at switch next) ∙ ap (λ (t : SwitchesView). Some (reported t switch)) fire-accepts

@@ -7,7 +7,7 @@ use Rattle.mpf_plan.specs.declared.entries.SwitchId.{SwitchId}
 use Rattle.mpf_plan.specs.declared.entries.SwitchKind.{SwitchKind}
 use Rattle.mpf_plan.specs.PlanView.{PlanView, Switch, switch_at, no_switch}
 use Rattle.switch_core.specs.SwitchStep.{SwitchState, same_level, is_active, raw_at_rest, idle, accepted, awaited, changed, fired}
-use Rattle.switch_core.specs.Switches.{SwitchesView, no_kind, kind_at, state_at, set_state, due_of, all_idle, after_change, IsNextDue, IsQuietUntil, accept, accept_due, after_fire}
+use Rattle.switch_core.specs.Switches.{SwitchesView, no_kind, kind_at, state_at, set_state, due_of, all_idle, after_change, IsNextDue, IsNothingDueBy, accept, accept_due, after_fire}
 use Rattle.switch_core.specs.AcceptedLevel.{RawChange, delay_of, accepted_level}
 use Rattle.switch_core.specs.Calls.{Call, Change, Fire, after_calls, last_moment, AreInTime, raw_changes, LevelsAreAccepted, NothingIsLate}
 use Rattle.switch_core.proofs.Levels.{accepted-push}
@@ -137,7 +137,7 @@ module _ (switch : SwitchId) (kind : SwitchKind) (raw : Bool) (past : List RawCh
       }
 
   -- Its raw level changes to the one that is there already.
-  follows-unchanged : (other : SwitchId) (level : Bool) → other.0 ≡ switch.0 → same_level level raw ≡ true → moment ≤ now → IsQuietUntil s now
+  follows-unchanged : (other : SwitchId) (level : Bool) → other.0 ≡ switch.0 → same_level level raw ≡ true → moment ≤ now → IsNothingDueBy s now
       → Follows switch kind raw past s moment → Follows switch kind raw past (after_change other level now s) now
   follows-unchanged other level own same forward quiet f =
       let x = state_at s switch in
@@ -147,7 +147,7 @@ module _ (switch : SwitchId) (kind : SwitchKind) (raw : Bool) (past : List RawCh
       (subst (λ (y : SwitchState). IsFollowed kind past y now) (sym stays) later) f
 
   -- Its raw level changes to another one.
-  follows-changed : (other : SwitchId) (level : Bool) → other.0 ≡ switch.0 → same_level level raw ≡ false → moment ≤ now → IsQuietUntil s now
+  follows-changed : (other : SwitchId) (level : Bool) → other.0 ≡ switch.0 → same_level level raw ≡ false → moment ≤ now → IsNothingDueBy s now
       → Follows switch kind raw past s moment → Follows switch kind level (past ++ record { at = now; level = level } ∷ []) (after_change other level now s) now
   follows-changed other level own differs forward quiet f =
       let x = state_at s switch in

@@ -1,17 +1,21 @@
 -- The fields of `Switches`, and the switches that they are.
-use Rattle.std.proofs.Common.{◌≡◌, ℕ, ◌+◌, ◌<◌, ◌≤◌, Bool, true, false, if◌then◌else◌, Option, Some, None, IfSome, List, length, map, drop, slice_index_or, slice_set, refl, ap, ap₂, sym, ◌∙◌, inl, inr, arith}
+use Rattle.std.proofs.Common.{◌≡◌, ℕ, ◌+◌, ◌<◌, ◌≤◌, Bool, true, false, not, if◌then◌else◌, Option, Some, None, option_map, IfSome, List, length, map, drop, nat_eq, slice_index_or, slice_set, refl, ap, ap₂, sym, ◌∙◌, inl, inr, arith}
 use Rattle.std.specs.Bool.{then_some}
+use Rattle.std.specs.Option.{option_eq}
 use Rattle.std.proofs.lemmas.Bool.{cases_lt}
 use Rattle.std.proofs.lemmas.Option.{none-some}
 use Rattle.std.proofs.lemmas.List.{length-map, length-set, get_or_past, get_or_read, get_or-map, get_or-set_same, map-set}
 use Rattle.mpf_plan.specs.declared.entries.SwitchId.{SwitchId}
 use Rattle.mpf_plan.specs.declared.entries.SwitchKind.{SwitchKind}
+use Rattle.mpf_plan.specs.PlanView.{Switch}
 use Rattle.switch_core.specs.declared.change.Change.{Change}
 use Rattle.switch_core.specs.declared.state.State.{State}
 use Rattle.switch_core.specs.SwitchStep.{SwitchState, idle, changed, is_taken, fired}
 use Rattle.switch_core.specs.StateView.{state_view}
-use Rattle.switch_core.specs.Switches.{SwitchesView, IsComplete, no_kind, kind_at, state_at, set_state, due_of, told, after_change, told_by_change, IsNextDue, due_as, sooner, next_due_from, next_due, accept, accept_due, after_fire}
-use Rattle.switch_core.proofs.NextDue.{next_due-more, next_due-all}
+use Rattle.switch_core.specs.Switches.{SwitchesView, IsComplete, no_kind, kind_at, state_at, set_state, due_of, reported, after_change, reported_by_change, IsNextDue, due_as, sooner, next_due_from, next_due, accept, accept_due, after_fire, reported_by_fire}
+use Rattle.switch_core.specs.Inside.{IsKept}
+use Rattle.switch_core.proofs.NextDue.{next_due-more, next_due-all, next_due-least, nothing_due-is, next_due-same}
+use Rattle.switch_core.proofs.DueMoments.{idle_list-nothing_due, due-kept}
 
 -- the switches of which these are the kinds and the states
 abbrev pub lists_view : List SwitchKind → List State → SwitchesView
@@ -30,24 +34,51 @@ pub answer-within : (s : SwitchesView) (o : Option (ℕ × SwitchId)) → IsComp
 answer-within s None complete is = tt
 answer-within s (Some d) complete is = let within = due-within s d.1 d.0 is.due in let same = complete.states in omega arith
 
+module _ (kinds : List SwitchKind) (states : List State) (next : Option (ℕ × SwitchId)) (kept : IsKept next (lists_view kinds states)) (at : ℕ) (switch : SwitchId) (is : next ≡ Some (at, switch)) where
+  pub kept-next : next_due (lists_view kinds states) ≡ Some (at, switch)
+  kept-next = sym kept.next_is ∙ is
+
+  pub kept-in_states : switch.0 < length states
+  kept-in_states =
+      let within = due-within (lists_view kinds states) switch at (next_due-least (lists_view kinds states) at switch kept-next).due in
+      omega (arith, within, length-map states state_view)
+
+  pub kept-in_kinds : switch.0 < length kinds
+  kept-in_kinds = let same = kept.complete.states in omega (arith, same, kept-in_states, length-map states state_view)
+
+-- nothing is due at the beginning
+pub idle-next : (kinds : List SwitchKind) (switches : List Switch) (states : List State) → map state_view states ≡ map (λ (s : Switch). idle s.kind) switches → next_due (lists_view kinds states) ≡ None
+idle-next kinds switches states is = ap (λ (xs : List SwitchState). next_due_from 0 xs) is ∙ nothing_due-is (record { kinds = kinds; states = map (λ (s : Switch). idle s.kind) switches }) (idle_list-nothing_due kinds switches)
+
+-- a switch of the view has its place in both lists
+module _ (kinds : List SwitchKind) (states : List State) (s : SwitchesView) (is : lists_view kinds states ≡ s) (switch : SwitchId) (within : switch.0 < length s.kinds) where
+  pub view-in_kinds : switch.0 < length kinds
+  view-in_kinds = let count = ap (λ (t : SwitchesView). length t.kinds) is in omega (arith, within)
+
+  pub view-in_states : IsComplete (lists_view kinds states) → switch.0 < length states
+  view-in_states complete = let same = complete.states in omega (arith, same, view-in_kinds, length-map states state_view)
+
 -- a loop over the states that looks for what is due next, one step on and at the end
-module _ (kinds : List SwitchKind) (states items : List State) (s : SwitchesView) (next : Option (ℕ × SwitchId)) (i : ℕ) (view_is : lists_view kinds states ≡ s) (items_are : items ≡ states) (found : sooner next (next_due_from i (drop i s.states)) ≡ next_due s) where
-  states_are : s.states ≡ map state_view items
-  states_are = sym (ap (λ (t : SwitchesView). t.states) view_is) ∙ ap (map state_view) (sym items_are)
+module _ (states items : List State) (next : Option (ℕ × SwitchId)) (i : ℕ) (items_are : items ≡ states)
+    (found : sooner next (next_due_from i (drop i (map state_view states))) ≡ next_due_from 0 (map state_view states)) where
+  views_are : map state_view states ≡ map state_view items
+  views_are = ap (map state_view) (sym items_are)
 
-  pub found-more : (due after : Option (ℕ × SwitchId)) (d : State) → i < length items → due ≡ due_as i (state_view (slice_index_or items i d)) → after ≡ sooner next due → sooner after (next_due_from (i + 1) (drop (i + 1) s.states)) ≡ next_due s
+  pub found-more : (due after : Option (ℕ × SwitchId)) (d : State) → i < length items → due ≡ due_as i (state_view (slice_index_or items i d)) → after ≡ sooner next due
+      → sooner after (next_due_from (i + 1) (drop (i + 1) (map state_view states))) ≡ next_due_from 0 (map state_view states)
   found-more due after d within due_is after_is =
+      let views = map state_view states in
       let count = length-map items state_view in
-      let long = ap (λ (xs : List SwitchState). length xs) states_are in
-      let read : slice_index_or s.states i (idle no_kind) ≡ state_view (slice_index_or items i d) = ap (λ (xs : List SwitchState). slice_index_or xs i (idle no_kind)) states_are ∙ get_or-map state_view items i d (idle no_kind) within in
-      let rest = next_due_from (i + 1) (drop (i + 1) s.states) in
-      ap (λ o. sooner o rest) (after_is ∙ ap (sooner next) (due_is ∙ ap (due_as i) (sym read))) ∙ sym (next_due-more next s.states i (idle no_kind) (omega arith)) ∙ found
+      let long = ap (λ (xs : List SwitchState). length xs) views_are in
+      let read : slice_index_or views i (idle no_kind) ≡ state_view (slice_index_or items i d) = ap (λ (xs : List SwitchState). slice_index_or xs i (idle no_kind)) views_are ∙ get_or-map state_view items i d (idle no_kind) within in
+      let rest = next_due_from (i + 1) (drop (i + 1) views) in
+      ap (λ o. sooner o rest) (after_is ∙ ap (sooner next) (due_is ∙ ap (due_as i) (sym read))) ∙ sym (next_due-more next views i (idle no_kind) (omega arith)) ∙ found
 
-  pub found-all : length items ≤ i → next ≡ next_due s
+  pub found-all : length items ≤ i → next ≡ next_due_from 0 (map state_view states)
   found-all past =
       let count = length-map items state_view in
-      let long = ap (λ (xs : List SwitchState). length xs) states_are in
-      sym (next_due-all next s.states i (omega arith)) ∙ found
+      let long = ap (λ (xs : List SwitchState). length xs) views_are in
+      sym (next_due-all next (map state_view states) i (omega arith)) ∙ found
 
 -- ---- one state is set
 
@@ -58,6 +89,13 @@ complete-set kinds states i new complete =
       states = length-map (slice_set states i new) state_view ∙ (length-set states i new ∙ (sym (length-map states state_view) ∙ same));
       limit = complete.limit;
     }
+
+-- a test whether two moments differ
+pub same-moment : (a b : Option ℕ) (differ : Bool) → differ ≡ not (option_eq nat_eq a b) → differ ≡ false → a ≡ b
+same-moment None None differ is not_true = refl
+same-moment None (Some y) differ is not_true = cc
+same-moment (Some x) None differ is not_true = cc
+same-moment (Some x) (Some y) differ is not_true = ap (λ (n : ℕ). Some n) (grind (arith, is, not_true))
 
 then_some-is : (b c : Bool) (x y : Change) → b ≡ c → x ≡ y → then_some b x ≡ then_some c y
 then_some-is b c x y test is = ap₂ then_some test is
@@ -86,33 +124,47 @@ module _ (kinds : List SwitchKind) (states : List State) (switch : SwitchId) (ki
         lists_of : List SwitchKind → List SwitchState → SwitchesView
         lists_of ks xs = record { kinds = ks; states = xs }
 
-    told-made : told (set_state switch (make (kind_at (lists_view kinds states) switch) (state_at (lists_view kinds states) switch)) (lists_view kinds states)) switch ≡ record { switch = switch; active = new.active }
-    told-made =
+    reported-made : reported (set_state switch (make (kind_at (lists_view kinds states) switch) (state_at (lists_view kinds states) switch)) (lists_view kinds states)) switch ≡ record { switch = switch; active = new.active }
+    reported-made =
         let x = make (kind_at (lists_view kinds states) switch) (state_at (lists_view kinds states) switch) in
         let count = length-map states state_view in
         let set : slice_index_or (slice_set (map state_view states) switch.0 x) switch.0 (idle no_kind) ≡ x = get_or-set_same (map state_view states) switch.0 x (idle no_kind) (omega arith) in
-        ap (λ (y : SwitchState). told_as y.active) (set ∙ makes)
+        ap (λ (y : SwitchState). reported_as y.active) (set ∙ makes)
       where
-        told_as : Bool → Change
-        told_as b = record { switch = switch; active = b }
+        reported_as : Bool → Change
+        reported_as b = record { switch = switch; active = b }
+
+  -- what is due next is the same, where the new state is due as the old one was
+  pub set-next : new.due ≡ old.due → next_due (lists_view kinds (slice_set states switch.0 new)) ≡ next_due (lists_view kinds states)
+  set-next same =
+      let s = lists_view kinds states in
+      let kept = due-kept s switch (state_view new) (same ∙ sym (ap (λ (x : SwitchState). x.due) read-state)) in
+      ap next_due (set-made (λ k x. state_view new) refl) ∙ next_due-same s (set_state switch (state_view new) s) kept
 
   -- a change
   pub change-set : (level : Bool) (now : ℕ) → state_view new ≡ changed kind now level (state_view old) → lists_view kinds (slice_set states switch.0 new) ≡ after_change switch level now (lists_view kinds states)
   change-set level now made = set-made (λ k x. changed k now level x) made
 
   pub change-answer : (level : Bool) (now : ℕ) (taken : Bool) → state_view new ≡ changed kind now level (state_view old) → taken ≡ is_taken kind level (state_view old)
-      → then_some taken (record { switch = switch; active = new.active }) ≡ told_by_change switch level now (lists_view kinds states)
+      → then_some taken (record { switch = switch; active = new.active }) ≡ reported_by_change switch level now (lists_view kinds states)
   change-answer level now taken made test =
       let s = lists_view kinds states in
-      let told_is = told-made (λ k x. changed k now level x) made in
+      let reported_is = reported-made (λ k x. changed k now level x) made in
       let test_is : taken ≡ is_taken (kind_at s switch) level (state_at s switch) = test ∙ sym (ap₂ (λ k x. is_taken k level x) read-kind read-state) in
-      then_some-is taken (is_taken (kind_at s switch) level (state_at s switch)) (record { switch = switch; active = new.active }) (told (after_change switch level now s) switch) test_is (sym told_is)
-      ∙ then_some-cond (is_taken (kind_at s switch) level (state_at s switch)) (told (after_change switch level now s) switch)
+      then_some-is taken (is_taken (kind_at s switch) level (state_at s switch)) (record { switch = switch; active = new.active }) (reported (after_change switch level now s) switch) test_is (sym reported_is)
+      ∙ then_some-cond (is_taken (kind_at s switch) level (state_at s switch)) (reported (after_change switch level now s) switch)
 
   -- what is due next is accepted
   module _ (at : ℕ) (next : next_due (lists_view kinds states) ≡ Some (at, switch)) (made : state_view new ≡ fired kind (state_view old)) where
     fires : after_fire (lists_view kinds states) ≡ accept switch (lists_view kinds states)
     fires = ap (λ d. accept_due d (lists_view kinds states)) next
+
+    pub fire-answer : reported_by_fire (lists_view kinds states) ≡ Some (record { switch = switch; active = new.active })
+    fire-answer =
+        let s = lists_view kinds states in
+        ap (option_map (λ d. reported (after_fire s) d.1)) next
+        ∙ ap (λ (t : SwitchesView). Some (reported t switch)) fires
+        ∙ ap (λ (a : Change). Some a) (reported-made (λ k x. fired k x) made)
 
     pub fire-set : lists_view kinds (slice_set states switch.0 new) ≡ after_fire (lists_view kinds states)
     fire-set = set-made (λ k x. fired k x) made ∙ sym fires

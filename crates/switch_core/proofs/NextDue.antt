@@ -6,7 +6,7 @@ use Rattle.std.proofs.lemmas.Option.{none-some, same_Some}
 use Rattle.std.proofs.lemmas.List.{drop_more, drop_all}
 use Rattle.mpf_plan.specs.declared.entries.SwitchId.{SwitchId}
 use Rattle.switch_core.specs.SwitchStep.{SwitchState, idle}
-use Rattle.switch_core.specs.Switches.{SwitchesView, no_kind, due_of, IsNextDue, IsNothingDue, IsQuietUntil, sooner, due_as, next_due_from, next_due}
+use Rattle.switch_core.specs.Switches.{SwitchesView, no_kind, due_of, IsNextDue, IsNothingDue, IsNothingDueBy, sooner, due_as, next_due_from, next_due}
 
 -- ---- the sooner of three
 
@@ -167,6 +167,24 @@ next_due-is s at n a = is_next s at n (next_due s) (next_due-is_due s) a
 
 -- ---- and the other way round
 
+nothing_in : (s : SwitchesView) (o : Option (ℕ × SwitchId)) → IsNothingDue s → IsDueIn s o → o ≡ None
+nothing_in s None none is = refl
+nothing_in s (Some d) none next = absurd_due (due_of s d.1) d.0 (none d.1) next.due
+
+pub nothing_due-is : (s : SwitchesView) → IsNothingDue s → next_due s ≡ None
+nothing_due-is s none = nothing_in s (next_due s) none (next_due-is_due s)
+
+-- it follows from the due moments alone
+module _ (s t : SwitchesView) (same : (n : SwitchId) → due_of t n ≡ due_of s n) where
+  same_in : (o : Option (ℕ × SwitchId)) → IsDueIn s o → next_due t ≡ o
+  same_in None none = nothing_due-is t (λ n. same n ∙ none n)
+  same_in (Some d) next =
+      next_due-is t d.0 d.1
+      (record { due = same d.1 ∙ next.due; least = λ other moment is. next.least other moment (sym (same other) ∙ is) })
+
+  pub next_due-same : next_due t ≡ next_due s
+  next_due-same = same_in (next_due s) (next_due-is_due s)
+
 pub next_due-least : (s : SwitchesView) (at : ℕ) (n : SwitchId) → next_due s ≡ Some (at, n) → IsNextDue s at n
 next_due-least s at n is = subst (IsDueIn s) is (next_due-is_due s)
 
@@ -175,27 +193,27 @@ next_due-none s is = subst (IsDueIn s) is (next_due-is_due s)
 
 -- ---- nothing is due at or before a moment
 
-pub nothing_due-quiet : (s : SwitchesView) (moment : ℕ) → IsNothingDue s → IsQuietUntil s moment
+pub nothing_due-quiet : (s : SwitchesView) (moment : ℕ) → IsNothingDue s → IsNothingDueBy s moment
 nothing_due-quiet s moment none n due is = absurd_due (due_of s n) due (none n) is
 
-pub next_due-quiet : (s : SwitchesView) (moment at : ℕ) (n : SwitchId) → IsNextDue s at n → moment < at → IsQuietUntil s moment
+pub next_due-quiet : (s : SwitchesView) (moment at : ℕ) (n : SwitchId) → IsNextDue s at n → moment < at → IsNothingDueBy s moment
 next_due-quiet s moment at n next before other due is =
     elim (next.least other due is) [
       | inl later ↦ omega arith
       | inr same ↦ let e = same.0 in omega arith
     ]
 
-quiet-where : (s : SwitchesView) (moment : ℕ) (o : Option (ℕ × SwitchId)) → IsDueIn s o → option_map_or (λ d. nat_le d.0 moment) o false ≡ false → IsQuietUntil s moment
+quiet-where : (s : SwitchesView) (moment : ℕ) (o : Option (ℕ × SwitchId)) → IsDueIn s o → option_map_or (λ d. nat_le d.0 moment) o false ≡ false → IsNothingDueBy s moment
 quiet-where s moment None none later = nothing_due-quiet s moment none
 quiet-where s moment (Some d) next later = next_due-quiet s moment d.0 d.1 next (leb-false d.0 moment later)
 
-not_due-where : (s : SwitchesView) (moment : ℕ) (o : Option (ℕ × SwitchId)) → IsDueIn s o → IsQuietUntil s moment → option_map_or (λ d. nat_le d.0 moment) o false ≡ false
+not_due-where : (s : SwitchesView) (moment : ℕ) (o : Option (ℕ × SwitchId)) → IsDueIn s o → IsNothingDueBy s moment → option_map_or (λ d. nat_le d.0 moment) o false ≡ false
 not_due-where s moment None none quiet = refl
 not_due-where s moment (Some d) next quiet = lt-leb d.0 moment (quiet d.1 d.0 next.due)
 
 -- as what is due next says it
-pub not_due-quiet : (s : SwitchesView) (moment : ℕ) → option_map_or (λ d. nat_le d.0 moment) (next_due s) false ≡ false → IsQuietUntil s moment
+pub not_due-quiet : (s : SwitchesView) (moment : ℕ) → option_map_or (λ d. nat_le d.0 moment) (next_due s) false ≡ false → IsNothingDueBy s moment
 not_due-quiet s moment = quiet-where s moment (next_due s) (next_due-is_due s)
 
-pub quiet-not_due : (s : SwitchesView) (moment : ℕ) → IsQuietUntil s moment → option_map_or (λ d. nat_le d.0 moment) (next_due s) false ≡ false
+pub quiet-not_due : (s : SwitchesView) (moment : ℕ) → IsNothingDueBy s moment → option_map_or (λ d. nat_le d.0 moment) (next_due s) false ≡ false
 quiet-not_due s moment = not_due-where s moment (next_due s) (next_due-is_due s)

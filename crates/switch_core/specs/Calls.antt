@@ -3,7 +3,7 @@ use Rattle.std.specs.Prelude.{◌≡◌, ℕ, ◌<◌, ◌≤◌, ◌==◌, ◌�
 use Rattle.mpf_plan.specs.declared.entries.SwitchId.{SwitchId}
 use Rattle.mpf_plan.specs.PlanView.{PlanView, switch_at}
 use Rattle.switch_core.specs.SwitchStep.{same_level, raw_at_rest}
-use Rattle.switch_core.specs.Switches.{SwitchesView, all_idle, after_change, after_fire, active_at, due_of, IsNextDue, IsQuietUntil}
+use Rattle.switch_core.specs.Switches.{SwitchesView, all_idle, after_change, after_fire, active_at, due_of, IsNextDue, IsNothingDueBy}
 use Rattle.switch_core.specs.AcceptedLevel.{RawChange, accepted_level}
 
 -- a call of `change` or of `fire`, with its moment
@@ -31,7 +31,7 @@ last_moment moment (call ∷ calls) = last_moment (call_moment call) calls
 
 -- A change comes where nothing is due at or before its moment; what is due next is accepted at its moment.
 abbrev pub IsInTime : SwitchesView → Call → Type 0
-IsInTime s (Change switch level now) = IsQuietUntil s now
+IsInTime s (Change switch level now) = IsNothingDueBy s now
 IsInTime s (Fire now) = (switch : SwitchId) × IsNextDue s now switch
 
 -- Each call is in time, and their moments do not go back, from this one on.
@@ -50,7 +50,7 @@ raw_changes switch raw (Fire now ∷ calls) = raw_changes switch raw calls
 -- as its raw changes say.
 abbrev pub LevelsAreAccepted : Type 0
 LevelsAreAccepted =
-    (plan : PlanView) (calls : List Call) (moment : ℕ) → AreInTime 0 (all_idle plan) calls → last_moment 0 calls ≤ moment → IsQuietUntil (after_calls calls (all_idle plan)) moment
+    (plan : PlanView) (calls : List Call) (moment : ℕ) → AreInTime 0 (all_idle plan) calls → last_moment 0 calls ≤ moment → IsNothingDueBy (after_calls calls (all_idle plan)) moment
     → (switch : SwitchId) → switch.0 < length plan.switches
     → active_at (after_calls calls (all_idle plan)) switch ≡ accepted_level (switch_at plan switch).kind moment (raw_changes switch (raw_at_rest (switch_at plan switch).kind.contact) calls)
 

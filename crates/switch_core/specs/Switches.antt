@@ -40,8 +40,8 @@ abbrev pub due_of : SwitchesView → SwitchId → Option ℕ
 due_of s switch = (state_at s switch).due
 
 -- what is reported of a switch whose raw level was accepted
-abbrev pub told : SwitchesView → SwitchId → Change
-told s switch = record { switch = switch; active = active_at s switch }
+abbrev pub reported : SwitchesView → SwitchId → Change
+reported s switch = record { switch = switch; active = active_at s switch }
 
 -- ---- new
 
@@ -56,9 +56,9 @@ abbrev pub after_change : SwitchId → Bool → ℕ → SwitchesView → Switche
 after_change switch level now s = set_state switch (changed (kind_at s switch) now level (state_at s switch)) s
 
 -- The change is reported where it is accepted at once.
-abbrev pub told_by_change : SwitchId → Bool → ℕ → SwitchesView → Option Change
-told_by_change switch level now s =
-    if is_taken (kind_at s switch) level (state_at s switch) then Some (told (after_change switch level now s) switch) else None
+abbrev pub reported_by_change : SwitchId → Bool → ℕ → SwitchesView → Option Change
+reported_by_change switch level now s =
+    if is_taken (kind_at s switch) level (state_at s switch) then Some (reported (after_change switch level now s) switch) else None
 
 -- ---- due
 
@@ -72,8 +72,8 @@ abbrev pub IsNothingDue : SwitchesView → Type 0
 IsNothingDue s = (switch : SwitchId) → due_of s switch ≡ None
 
 -- no raw level is to be accepted at or before the moment
-abbrev pub IsQuietUntil : SwitchesView → ℕ → Type 0
-IsQuietUntil s moment = (switch : SwitchId) (due : ℕ) → due_of s switch ≡ Some due → moment < due
+abbrev pub IsNothingDueBy : SwitchesView → ℕ → Type 0
+IsNothingDueBy s moment = (switch : SwitchId) (due : ℕ) → due_of s switch ≡ Some due → moment < due
 
 -- of two that may be due, the one of the lesser moment, and of equal moments the first
 abbrev pub sooner : Option (ℕ × SwitchId) → Option (ℕ × SwitchId) → Option (ℕ × SwitchId)
@@ -109,5 +109,5 @@ abbrev pub after_fire : SwitchesView → SwitchesView
 after_fire s = accept_due (next_due s) s
 
 -- It is reported.
-abbrev pub told_by_fire : SwitchesView → Option Change
-told_by_fire s = option_map (λ d. told (after_fire s) d.1) (next_due s)
+abbrev pub reported_by_fire : SwitchesView → Option Change
+reported_by_fire s = option_map (λ d. reported (after_fire s) d.1) (next_due s)

@@ -1,8 +1,8 @@
 //! The accepted level of every switch.
 
-ghost use Rattle.std.specs.Prelude.{◌≡◌};
+ghost use Rattle.std.specs.Prelude.{◌≡◌, ◌≤◌, length, map};
 ghost use Rattle.switch_core.specs.StateView.{state_view};
-ghost use Rattle.switch_core.specs.Switches.{due_as, sooner};
+ghost use Rattle.switch_core.specs.Switches.{due_as, sooner, next_due_from};
 
 use crate::change::Change;
 use crate::state::State;
@@ -19,23 +19,26 @@ use std::marker::Model;
 pub struct Switches {
     kinds: Vec<SwitchKind>,
     states: Vec<State>,
+    /// What is due next. It is looked for only where a due moment changes.
+    next: Option<(u64, SwitchId)>,
 }
 
 impl Model for Switches {
     ghost use Rattle.std.specs.Prelude.{map};
     ghost use Rattle.switch_core.specs.StateView.{state_view};
-    ghost use Rattle.switch_core.specs.Switches.{SwitchesView, IsComplete};
+    ghost use Rattle.switch_core.specs.Switches.{SwitchesView};
+    ghost use Rattle.switch_core.specs.Inside.{IsKept};
 
     ghost Value = { SwitchesView };
 
     ghost view = { λ s. record { kinds = s.kinds.items; states = map state_view s.states.items } };
 
-    ghost invariant = { λ s. IsComplete (record { kinds = s.kinds.items; states = map state_view s.states.items }) };
+    ghost invariant = { λ s. IsKept s.next (record { kinds = s.kinds.items; states = map state_view s.states.items }) };
 }
 
 impl Switches {
     ghost use Rattle.std.specs.Prelude.{◌≡◌, ◌<◌, ◌^◌, length, Some, IsSome, IfOk, IfSome, IfNone};
-    ghost use Rattle.switch_core.specs.Switches.{IsComplete, active_at, all_idle, after_change, told_by_change, IsNextDue, IsNothingDue, next_due, after_fire, told_by_fire};
+    ghost use Rattle.switch_core.specs.Switches.{IsComplete, active_at, all_idle, after_change, reported_by_change, IsNextDue, IsNothingDue, next_due, after_fire, reported_by_fire};
 
     /// All switches of the plan, inactive: at raw level 0, and at 1 where the contact is normally
     /// closed. Only this call takes memory.
@@ -56,7 +59,11 @@ impl Switches {
             kinds.push_reserved(kind);
             states.push_reserved(State::idle(kind));
         }
-        Ok(Switches { kinds, states })
+        Ok(Switches {
+            kinds,
+            states,
+            next: None,
+        })
     }
 
     /// The raw level of a switch of the plan changes at the moment `now`, below 2^40 ms. Reports
@@ -68,7 +75,7 @@ impl Switches {
         requires switch { switch.0 < length self.old.kinds }
         requires now { now < 2 ^ 40 }
         ensures state { self.new ≡ after_change switch level now self.old }
-        ensures told { result ≡ told_by_change switch level now self.old }
+        ensures reported { result ≡ reported_by_change switch level now self.old }
         ensures complete { IsComplete self.new }
     {
         let number = switch.0 as usize;
@@ -76,6 +83,9 @@ impl Switches {
         let old = self.states[number];
         let new = old.changed(kind, level, now);
         self.states[number] = new;
+        if new.due != old.due {
+            self.next = find_next(&self.states);
+        }
         let active = new.active;
         old.takes(kind, level).then_some(Change { switch, active })
     }
@@ -89,12 +99,7 @@ impl Switches {
         ensures none { IfNone result (IsNothingDue self.now) }
         ensures complete { IsComplete self.now }
     {
-        let mut next = None;
-        for (number, state) in self.states.iter().enumerate() {
-            let due = due_as(number as u16, *state);
-            next = sooner(next, due);
-        }
-        next
+        self.next
     }
 
     /// Accepts the raw level that is due next, which something must be, as `due` says. Reports
@@ -102,16 +107,17 @@ impl Switches {
     pub fn fire(&mut self) -> Change
         requires { IsSome (next_due self.old) }
         ensures state { self.new ≡ after_fire self.old }
-        ensures told { told_by_fire self.old ≡ Some result }
+        ensures reported { reported_by_fire self.old ≡ Some result }
         ensures kinds { self.new.kinds ≡ self.old.kinds }
         ensures complete { IsComplete self.new }
     {
-        let Some((_, switch)) = self.due() else {
+        let Some((_, switch)) = self.next else {
             unreachable!()
         };
         let number = switch.0 as usize;
         let accepted = self.states[number].fired(self.kinds[number]);
         self.states[number] = accepted;
+        self.next = find_next(&self.states);
         let active = accepted.active;
         Change { switch, active }
     }
@@ -124,6 +130,19 @@ impl Switches {
     {
         self.states[switch.0 as usize].active
     }
+}
+
+/// The moment and the switch that are due next by these states, if something is due.
+fn find_next(states: &[State]) -> Option<(u64, SwitchId)>
+    requires { length states.now ≤ 256 }
+    ensures { result ≡ next_due_from 0 (map state_view states.now) }
+{
+    let mut next = None;
+    for (number, state) in states.iter().enumerate() {
+        let due = due_as(number as u16, *state);
+        next = sooner(next, due);
+    }
+    next
 }
 
 /// A state's due moment, with the number of its switch.
