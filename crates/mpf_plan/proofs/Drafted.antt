@@ -7,7 +7,7 @@ use Rattle.std.proofs.lemmas.List.Sums.{sum_by-append}
 use Rattle.mpf_config.specs.declared.config.Section.{Section}
 use Rattle.mpf_config.specs.View.{section_view}
 use Rattle.mpf_plan.specs.declared.contribution.Contribution as contributions
-use Rattle.mpf_plan.specs.declared.draft.NameSets.{NameSets}
+use Rattle.mpf_plan.specs.declared.names.NameSets.{NameSets}
 use Rattle.mpf_plan.specs.declared.draft.Draft.{Draft}
 use Rattle.mpf_plan.specs.declared.entries.Action.{Action}
 use Rattle.mpf_plan.specs.declared.entries.Action.TheVariants.{Post}
@@ -17,7 +17,8 @@ use Rattle.mpf_plan.specs.PlanView.{Switch, no_switch, PlanView}
 use Rattle.mpf_plan.specs.Contributions.{Contribution, switch, active, inactive, binds, post, section_contributions, machine_place, contributions_in}
 use Rattle.mpf_plan.specs.Uses.{Names, names_from, number_among}
 use Rattle.mpf_plan.specs.PlanOf.{DraftView, event_of, last_switch, with_binding, with_list, with_action, with_contribution, named_switch, blank, drafted, plan_from}
-use Rattle.mpf_plan.specs.Inside.{names_of, name_sets_view, draft_view, contribution_view, contributions_view}
+use Rattle.mpf_plan.specs.Inside.{name_sets_view, draft_view, contribution_view, contributions_view}
+use Rattle.mpf_plan.specs.NamesKept.{names_of}
 use Rattle.mpf_plan.specs.Numbering.{bindings_given, binding_count}
 use Rattle.mpf_plan.proofs.Taken.{part_count}
 

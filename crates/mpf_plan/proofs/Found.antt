@@ -6,13 +6,13 @@ use Rattle.mpf_plan.specs.declared.contribution.Kind.TheVariants as kinds
 use Rattle.mpf_plan.specs.declared.contribution.Role.TheVariants.{Uses}
 use Rattle.mpf_plan.specs.declared.fault.Table.{Table}
 use Rattle.mpf_plan.specs.declared.fault.Table.TheVariants.{Events, Bindings, Switches}
-use Rattle.mpf_plan.specs.declared.numbering.NameTable.{NameTable}
-use Rattle.mpf_plan.specs.declared.numbering.Found.{Found}
+use Rattle.mpf_plan.specs.declared.names.NameTable.{NameTable}
+use Rattle.mpf_plan.specs.declared.names.Found.{Found}
 use Rattle.mpf_plan.specs.Contributions.{Contribution}
 use Rattle.mpf_plan.specs.Uses.{all_names, names_of_kind}
 use Rattle.mpf_plan.specs.Limits.{entry_count, limit_of, order_of, IsFirstAbove}
 use Rattle.mpf_plan.specs.PlanOf.{plan_from}
-use Rattle.mpf_plan.specs.Inside.{names_of}
+use Rattle.mpf_plan.specs.NamesKept.{names_of}
 use Rattle.mpf_plan.specs.Numbering.{with_name, IsTable, Notes, bindings_given, binding_count, IsCount, HasFound}
 use Rattle.mpf_plan.proofs.Firsts.{with_names-all}
 use Rattle.mpf_plan.proofs.Taken.{all_names-append}

@@ -11,7 +11,8 @@ use Rattle.mpf_plan.specs.declared.contribution.Kind.{Kind}
 use Rattle.mpf_plan.specs.declared.contribution.Role.TheVariants.{Uses, Gives}
 use Rattle.mpf_plan.specs.Contributions.{Contribution, section_contributions, machine_place, contributions_in}
 use Rattle.mpf_plan.specs.Uses.{used, as_list, first_uses, all_names, is_lacking, lacks}
-use Rattle.mpf_plan.specs.Inside.{contribution_view, contributions_view, names_of}
+use Rattle.mpf_plan.specs.Inside.{contribution_view, contributions_view}
+use Rattle.mpf_plan.specs.NamesKept.{names_of}
 use Rattle.mpf_plan.proofs.Taken.{all_names-append}
 
 -- ---- a name is among the first names where it is among all

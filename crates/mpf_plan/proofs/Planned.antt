@@ -4,7 +4,7 @@ use Rattle.std.specs.Prelude.{Result, Ok, Err}
 use Rattle.std.specs.List.{All}
 use Rattle.std.proofs.lemmas.List.Elements.{All-weaker}
 use Rattle.mpf_config.specs.Rows.{Rows}
-use Rattle.mpf_plan.specs.declared.draft.NameSets.{NameSets}
+use Rattle.mpf_plan.specs.declared.names.NameSets.{NameSets}
 use Rattle.mpf_plan.specs.declared.draft.Draft.{Draft}
 use Rattle.mpf_plan.specs.declared.fault.Table.{Table}
 use Rattle.mpf_plan.specs.declared.fault.PlanFault.{PlanFault}

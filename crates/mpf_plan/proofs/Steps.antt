@@ -7,7 +7,8 @@ use Rattle.mpf_plan.specs.declared.entries.Action.{Action}
 use Rattle.mpf_plan.specs.declared.draft.SwitchEntry.{SwitchEntry}
 use Rattle.mpf_plan.specs.PlanView.{Switch, no_switch}
 use Rattle.mpf_plan.specs.PlanOf.{last_with, named_switch}
-use Rattle.mpf_plan.specs.Inside.{names_of, switch_view, switches_view, action_lists}
+use Rattle.mpf_plan.specs.Inside.{switch_view, switches_view, action_lists}
+use Rattle.mpf_plan.specs.NamesKept.{names_of}
 
 -- an item changed in its place, as it is seen
 shown_at : {X Y : Type 0} (shown : X → Y) (f : Y → Y) (xs : List X) (i : ℕ) (old new : X) (d : Y) → i < length xs → old ≡ get_or xs i old → shown new ≡ f (shown old)

@@ -7,7 +7,7 @@ use Rattle.mpf_plan.specs.declared.collect.Row.TheVariants as row
 use Rattle.mpf_plan.specs.declared.contribution.Parts.{Parts}
 use Rattle.mpf_plan.specs.declared.contribution.Contribution as contributions
 use Rattle.mpf_plan.specs.declared.contribution.Contribution.TheVariants as contribution
-use Rattle.mpf_plan.specs.declared.draft.NameSets.{NameSets}
+use Rattle.mpf_plan.specs.declared.names.NameSets.{NameSets}
 use Rattle.mpf_plan.specs.declared.draft.SwitchEntry.{SwitchEntry}
 use Rattle.mpf_plan.specs.declared.draft.Draft.{Draft}
 use Rattle.mpf_plan.specs.declared.entries.Action.{Action}

@@ -1,7 +1,7 @@
 -- The names that a table keeps.
 use Rattle.std.specs.Prelude.{ℕ, List, [], Option, None, Some, map, Vec}
 use Rattle.std.specs.Global.{Global}
-use Rattle.mpf_plan.specs.declared.draft.NameTable.{NameTable}
+use Rattle.mpf_plan.specs.declared.names.NameTable.{NameTable}
 
 -- the names in a set of them
 abbrev pub names_of : List (Vec ℕ Global) → List (List ℕ)

@@ -4,12 +4,12 @@ use Rattle.std.specs.Global.{Global}
 use Rattle.indexmap.specs.IndexSet.{IndexSet}
 use Rattle.std.specs.List.{list_any, sum_by}
 use Rattle.std.specs.Str.{bytes_eq}
-use Rattle.mpf_plan.specs.declared.draft.NameTable.{NameTable}
-use Rattle.mpf_plan.specs.declared.draft.NameSets.{NameSets}
+use Rattle.mpf_plan.specs.declared.names.NameTable.{NameTable}
+use Rattle.mpf_plan.specs.declared.names.NameSets.{NameSets}
 use Rattle.mpf_plan.specs.declared.fault.PlanFault.{PlanFault}
 use Rattle.mpf_plan.specs.declared.fault.PlanFault.TheVariants as faults
 use Rattle.mpf_plan.specs.declared.fault.Table.{Table}
-use Rattle.mpf_plan.specs.declared.numbering.Found.{Found}
+use Rattle.mpf_plan.specs.declared.names.Found.{Found}
 use Rattle.mpf_plan.specs.Contributions.{Contribution, binds}
 use Rattle.mpf_plan.specs.Uses.{given_names, names_from, lacks_name}
 use Rattle.mpf_plan.specs.Limits.{limit_of, order_of, tables_in_order, first_above}

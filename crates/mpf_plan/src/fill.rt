@@ -1,7 +1,7 @@
 //! The plan of contributions: each adds its own to what is there.
 
 ghost use Rattle.std.specs.Prelude.{◌≡◌, ◌<◌, ◌≤◌, ◌+◌, List, ℕ, false, length, map, fold, IfOk, OnOk};
-ghost use Rattle.mpf_plan.specs.declared.draft.NameSets.{NameSets as NameSetsValue};
+ghost use Rattle.mpf_plan.specs.declared.names.NameSets.{NameSets as NameSetsValue};
 ghost use Rattle.mpf_plan.specs.declared.fault.Table.TheVariants.{Events, Switches};
 ghost use Rattle.mpf_plan.specs.Contributions.{gives, active, inactive, binds, post, given_by};
 ghost use Rattle.mpf_plan.specs.PlanView.{no_switch};
@@ -12,9 +12,10 @@ ghost use Rattle.mpf_plan.specs.Numbering.{binding_count};
 
 use crate::collect::{Row, collect_row, machine_place};
 use crate::contribution::{Aim, Contribution, Parts, Place, whole};
-use crate::draft::{Draft, NameSets, SwitchEntry};
+use crate::draft::{Draft, SwitchEntry};
 use crate::entries::{Action, Binding, EventId, ListId, SwitchKind, Target};
 use crate::fault::Table;
+use crate::names::NameSets;
 use crate::numbering::number_among;
 use mpf_config::config::Contact;
 use std::alloc::{AllocError, Global};

@@ -7,24 +7,24 @@ ghost use Rattle.mpf_plan.specs.Limits.{entry_count, limit_of, tables_in_order, 
 ghost use Rattle.mpf_plan.specs.Uses.{used, given_names, number_among, is_to_be_given, is_lacking, lacks_name};
 ghost use Rattle.mpf_plan.specs.PlanOf.{plan_from};
 ghost use Rattle.mpf_plan.specs.NamesKept.{names_of};
-ghost use Rattle.mpf_plan.specs.Inside.{parts_text, contribution_view, contributions_view, rows_view};
+ghost use Rattle.mpf_plan.specs.Inside.{parts_text, name_sets_view, contribution_view, contributions_view, rows_view};
 ghost use Rattle.mpf_plan.specs.Numbering.{with_name, HasNames, HaveNames, bindings_given, IsCount, HaveGiven, HasFound, Numbered};
 
 use crate::collect::{Row, collect_row, machine_place};
 use crate::contribution::{Contribution, Parts, given, used, write_name};
-use crate::draft::{NameSets, NameTable};
 use crate::fault::{PlanFault, TABLES, Table};
+use crate::names::{Found, NameSets, NameTable};
 use indexmap::IndexSet;
 use std::alloc::{AllocError, Global};
 
-/// What the rows so far have.
-#[derive(Drop)]
-pub(crate) struct Found {
-    /// Each table at its index.
-    pub(crate) tables: Vec<NameTable>,
-    /// How many bindings they give, or more than a plan may have.
-    pub(crate) bindings: usize,
-    ghost count: { length tables.items ≡ length tables_in_order },
+impl NameSets {
+    /// The names of a table.
+    pub(crate) fn of(&self, table: Table) -> &IndexSet<Vec<u8>>
+        ensures names { names_of result.now.keys ≡ name_sets_view self.now table }
+        ensures fit { length result.now.keys ≤ limit_of table }
+    {
+        &self.tables[table.index()].set
+    }
 }
 
 /// The names of the rows, by number, where the plan is within its limits.

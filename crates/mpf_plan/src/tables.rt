@@ -1,8 +1,9 @@
 //! The plan, and its tables read by number and by text.
 
-use crate::draft::{Draft, NameSets, SwitchEntry};
+use crate::draft::{Draft, SwitchEntry};
 use crate::entries::{Action, Binding, BindingId, EventId, ListId, SwitchId, SwitchKind};
 use crate::fault::Table;
+use crate::names::NameSets;
 use std::marker::Model;
 
 /// The plan of a configuration. Each number in it is that of an entry of its table, no two

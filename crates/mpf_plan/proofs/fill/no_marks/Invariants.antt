@@ -1,5 +1,5 @@
 use Rattle.std.proofs.Common.{◌≡◌, false, ◌++◌, map, drop}
-use Rattle.mpf_plan.specs.Inside.{names_of}
+use Rattle.mpf_plan.specs.NamesKept.{names_of}
 use Rattle.mpf_plan.proofs.fill.no_marks.Given as goal
 
 abbrev pub invariant-loop-name : goal.invariant-loop-name

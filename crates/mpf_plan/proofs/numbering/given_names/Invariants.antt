@@ -3,7 +3,7 @@ use Rattle.mpf_config.specs.View.{section_view}
 use Rattle.mpf_plan.specs.declared.contribution.Role.TheVariants.{Gives}
 use Rattle.mpf_plan.specs.Contributions.{contributions_in}
 use Rattle.mpf_plan.specs.Uses.{all_names}
-use Rattle.mpf_plan.specs.Inside.{names_of}
+use Rattle.mpf_plan.specs.NamesKept.{names_of}
 use Rattle.mpf_plan.specs.Numbering.{with_name}
 use Rattle.mpf_plan.proofs.numbering.given_names.Given as goal
 

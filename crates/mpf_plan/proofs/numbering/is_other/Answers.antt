@@ -3,7 +3,8 @@ use Rattle.std.specs.Str.{bytes_eq}
 use Rattle.std.specs.List.{list_any}
 use Rattle.std.specs.Option.{option_map}
 use Rattle.mpf_plan.specs.Uses.{as_list, is_lacking}
-use Rattle.mpf_plan.specs.Inside.{parts_text, names_of}
+use Rattle.mpf_plan.specs.Inside.{parts_text}
+use Rattle.mpf_plan.specs.NamesKept.{names_of}
 use Rattle.mpf_plan.proofs.Lacking.{any_keys}
 use Rattle.mpf_plan.proofs.numbering.is_other.Goals as goal
 

@@ -1,7 +1,8 @@
 use Rattle.std.proofs.Common.{Some, None, sym, ◌∙◌, ap}
 use Rattle.std.specs.Option.{option_map}
 use Rattle.mpf_plan.specs.declared.contribution.Role.TheVariants.{Gives}
-use Rattle.mpf_plan.specs.Inside.{parts_text, names_of}
+use Rattle.mpf_plan.specs.Inside.{parts_text}
+use Rattle.mpf_plan.specs.NamesKept.{names_of}
 use Rattle.mpf_plan.specs.Numbering.{with_name}
 use Rattle.mpf_plan.proofs.FirstNames.{use_inserted}
 use Rattle.mpf_plan.proofs.Taken.{noted_more}

@@ -1,7 +1,8 @@
 use Rattle.std.proofs.Common.{◌≡◌, fold, take}
 use Rattle.mpf_plan.specs.declared.contribution.Role.TheVariants.{Gives}
 use Rattle.mpf_plan.specs.Uses.{all_names}
-use Rattle.mpf_plan.specs.Inside.{contributions_view, names_of}
+use Rattle.mpf_plan.specs.Inside.{contributions_view}
+use Rattle.mpf_plan.specs.NamesKept.{names_of}
 use Rattle.mpf_plan.specs.Numbering.{with_name}
 use Rattle.mpf_plan.proofs.numbering.note_given.Given as goal
 
