@@ -80,7 +80,8 @@ event_named (word w) h = absurd h
 event_named (name w) h = h
 event_named (event e) h = h
 
-switch_named : (e : Entry) → IsNamedEntry e → IsNamedSwitch (switch_of e)
+-- The names in an entry of `switches` are names.
+pub switch_named : (e : Entry) → IsNamedEntry e → IsNamedSwitch (switch_of e)
 unfolding switch_of
 switch_named e h = record {
   name = h.name;
@@ -89,7 +90,8 @@ switch_named e h = record {
   deactivated = posts_named (slice_get e.values 4) (value_at_named e.values 4 h.values);
 }
 
-event_player_named : (p : Player) → tables.IsNamedPlayer p → IsNamedPlayer (event_player_of p)
+-- Those in an entry of `event_player` are, too.
+pub event_player_named : (p : Player) → tables.IsNamedPlayer p → IsNamedPlayer (event_player_of p)
 unfolding event_player_of
 event_player_named p h = record { event = event_named p.event h.event; posts = posts_named (Some p.value) h.value }
 

@@ -8,12 +8,14 @@ pub mod Taken
 pub mod Counts
 pub mod Lacking
 pub mod Drafted
+pub mod ByTable
 pub mod Judged
 pub mod Found
+pub mod Among
 pub mod SoundDraft
+pub mod RowFacts
 pub mod ValidPlan
 pub mod Planned
 pub mod EventNames
 pub mod BoundTo
 pub mod Placed
-pub mod LastList

@@ -18,6 +18,7 @@ use Rattle.mpf_plan.specs.PlanOf.{drafted, plan_from, plan_of, plan_at, GivesPla
 use Rattle.mpf_plan.specs.Inside.{name_sets_view, draft_view}
 use Rattle.mpf_plan.specs.Numbering.{Numbered}
 use Rattle.mpf_plan.proofs.Judged.{all_within, is_first, plan_at-lacking, plan_at-within, plan_at-exceeded, plan_at-Err}
+use Rattle.mpf_plan.proofs.RowFacts.{AreListsShort}
 use Rattle.mpf_plan.proofs.ValidPlan.{IsValid-plan_of}
 
 module _ (rows : Rows) (cs : List Contribution) (same : cs ≡ contributions_of rows) where
@@ -41,7 +42,7 @@ module _ (rows : Rows) (cs : List Contribution) (same : cs ≡ contributions_of 
 
   -- ---- a plan
 
-  module _ (names : NameSets) (d : Draft) (numbered : Numbered cs (Ok names)) (made : draft_view names d ≡ drafted (name_sets_view names) cs) where
+  module _ (short : AreListsShort rows.machine) (names : NameSets) (d : Draft) (numbered : Numbered cs (Ok names)) (made : draft_view names d ≡ drafted (name_sets_view names) cs) where
     pub is_plan : (draft_view names d).plan ≡ plan_of rows
     is_plan = ap (λ x. x.plan) (made ∙ ap (λ n. drafted n cs) numbered.1) ∙ from_rows
 
@@ -49,7 +50,7 @@ module _ (rows : Rows) (cs : List Contribution) (same : cs ≡ contributions_of 
     rows_within = all_within (plan_of rows) (ap first_above (sym from_rows) ∙ numbered.2)
 
     pub is_valid : IsValid (draft_view names d).plan
-    is_valid = subst IsValid (sym is_plan) (IsValid-plan_of rows rows_within)
+    is_valid = subst IsValid (sym is_plan) (IsValid-plan_of rows short rows_within)
 
     pub is_planned : plan_at rows ≡ Ok (draft_view names d).plan
     is_planned = plan_at-within rows rows_within ∙ ap Ok (sym is_plan)
