@@ -9,13 +9,14 @@ use Rattle.section_tables.specs.Named.{IsShortValue, IsShortEntry, IsShortPlayer
 use Rattle.section_tables.specs.SectionTables.{switches_name, event_player_name}
 use Rattle.section_tables.proofs.RowNames.{entries_short, players_short}
 use Rattle.section_tables.proofs.TableNames.{table_short}
-use Rattle.mpf_config.specs.Rows.{Content, entries, players, SectionRows}
+use Rattle.mpf_config.specs.Rows.{Content, entries, players, SectionRows, Rows}
 use Rattle.mpf_config.specs.Typed.{names_of, posts_of, switch_of, event_player_of, entries_in, players_in, entries_of, players_of, switches_in, event_players_in}
 use Rattle.mpf_config.specs.Unread.{read_of}
 use Rattle.mpf_config.specs.RowsOf.{IsContent, IsSection}
-use Rattle.mpf_config.specs.Short.{IsShortContent, IsShortSection, IsShortSwitch, IsShortEventPlayer}
-use Rattle.mpf_config.specs.Reading.{sections_at}
+use Rattle.mpf_config.specs.Short.{IsShortContent, IsShortSection, AreListsShort, IsShortSwitch, IsShortEventPlayer}
+use Rattle.mpf_config.specs.Reading.{sections_at, rows_at}
 use Rattle.mpf_config.proofs.Meaning.{sections_sound}
+use Rattle.mpf_config.proofs.Theorem.{rows_sound}
 use Rattle.mpf_config.proofs.Each.{All-from_zip, all_where}
 
 content_short : (p : Pair) (content : Content) → IsContent 1024 p content → IsShortContent content
@@ -26,6 +27,12 @@ content_short p (players ps) h = (All-nil (IsShortEntry 1024), players_short 102
 pub sections_short : (text : List ℕ) (sections : List Pair) (found : List SectionRows) → sections_at text sections ≡ Ok found → All IsShortSection found
 sections_short text sections found is =
     All-from_zip (IsSection 1024) IsShortSection (λ p s k. content_short p s.content k.content) (read_of sections) found (sections_sound text sections found is)
+
+-- No list in the rows that are read from a bundle has more items.
+pub rows_are_short : (bundle : List ℕ) (rows : Rows) → rows_at bundle ≡ Ok rows → AreListsShort rows
+rows_are_short bundle rows is =
+    let h = rows_sound bundle rows is in
+    All-from_zip (IsSection 1024) IsShortSection (λ p s k. content_short p s.content k.content) (read_of h.sections) rows.machine h.each
 
 -- ---- by the names of settings
 

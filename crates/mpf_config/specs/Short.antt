@@ -1,7 +1,7 @@
 -- What it means that no list in the rows has more than 1,024 items.
 use Rattle.std.specs.Prelude.{◌≤◌, length}
 use Rattle.std.specs.List.{All}
-use Rattle.section_tables.specs.Named.{IsShortEntry, IsShortPlayer}
+pub use Rattle.section_tables.specs.Named.{IsShortEntry, IsShortPlayer}
 use Rattle.mpf_config.specs.Rows.{Switch, EventPlayer, Content, SectionRows, Rows}
 use Rattle.mpf_config.specs.Typed.{entries_in, players_in}
 

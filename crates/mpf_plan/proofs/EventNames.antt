@@ -6,11 +6,11 @@ use Rattle.mpf_config.specs.Rows.{Rows}
 use Rattle.mpf_config.specs.Named.{IsNamed}
 use Rattle.mpf_plan.specs.declared.fault.Table.{Table}
 use Rattle.mpf_plan.specs.declared.fault.Table.TheVariants.{Events}
-use Rattle.mpf_plan.specs.Contributions.{Contribution, gives, reads, active, inactive, binds, post, contributions_of, rows_in}
+use Rattle.mpf_plan.specs.Contributions.{Contribution, gives, reads, active, inactive, binds, post, contributions_of}
 use Rattle.mpf_plan.specs.Uses.{used, uses, name_in}
 use Rattle.mpf_plan.specs.PlanOf.{plan_of}
 use Rattle.mpf_plan.proofs.Drafted.{names-from}
-use Rattle.mpf_plan.proofs.RowFacts.{IsFitName, IsFit, IsOfNames, All-flat_map, all_fit, all_named}
+use Rattle.mpf_plan.proofs.RowFacts.{IsFitName, IsFit, IsOfNames, All-flat_map, sections_fit}
 use Rattle.mpf_plan.proofs.ValidPlan.{All-first_by}
 
 module _ (P : List ℕ → Type 0) where
@@ -34,4 +34,4 @@ module _ (P : List ℕ → Type 0) where
   unfolding plan_of
   event_names of rows named =
       let cs = contributions_of rows in
-      subst (All P) (sym (names-from cs Events)) (All-first_by P (λ name. name) (uses Events cs) (uses_fit cs (all_fit P of (rows_in rows.machine) (all_named rows.machine named))))
+      subst (All P) (sym (names-from cs Events)) (All-first_by P (λ name. name) (uses Events cs) (uses_fit cs (sections_fit P of rows.machine named)))

@@ -4,6 +4,7 @@ use Rattle.std.specs.Prelude.{Result, Ok, Err}
 use Rattle.std.specs.List.{All}
 use Rattle.std.proofs.lemmas.List.Elements.{All-weaker}
 use Rattle.mpf_config.specs.Rows.{Rows}
+use Rattle.mpf_config.specs.Short.{AreListsShort}
 use Rattle.mpf_plan.specs.declared.names.NameSets.{NameSets}
 use Rattle.mpf_plan.specs.declared.draft.Draft.{Draft}
 use Rattle.mpf_plan.specs.declared.fault.Table.{Table}
@@ -18,7 +19,6 @@ use Rattle.mpf_plan.specs.PlanOf.{drafted, plan_from, plan_of, plan_at, GivesPla
 use Rattle.mpf_plan.specs.Inside.{name_sets_view, draft_view}
 use Rattle.mpf_plan.specs.Numbering.{Numbered}
 use Rattle.mpf_plan.proofs.Judged.{all_within, is_first, plan_at-lacking, plan_at-within, plan_at-exceeded, plan_at-Err}
-use Rattle.mpf_plan.proofs.RowFacts.{AreListsShort}
 use Rattle.mpf_plan.proofs.ValidPlan.{IsValid-plan_of}
 
 module _ (rows : Rows) (cs : List Contribution) (same : cs ≡ contributions_of rows) where
@@ -42,7 +42,7 @@ module _ (rows : Rows) (cs : List Contribution) (same : cs ≡ contributions_of 
 
   -- ---- a plan
 
-  module _ (short : AreListsShort rows.machine) (names : NameSets) (d : Draft) (numbered : Numbered cs (Ok names)) (made : draft_view names d ≡ drafted (name_sets_view names) cs) where
+  module _ (short : AreListsShort rows) (names : NameSets) (d : Draft) (numbered : Numbered cs (Ok names)) (made : draft_view names d ≡ drafted (name_sets_view names) cs) where
     pub is_plan : (draft_view names d).plan ≡ plan_of rows
     is_plan = ap (λ x. x.plan) (made ∙ ap (λ n. drafted n cs) numbered.1) ∙ from_rows
 

@@ -7,7 +7,9 @@ use Rattle.std.proofs.lemmas.List.Elements.{All-nil, All-cons, All-head, All-tai
 use Rattle.mpf_config.specs.Rows.{Written, Entry, Player, Switch, EventPlayer, Content, entries, players, SectionRows}
 use Rattle.mpf_config.specs.Named.{IsName, AllNames, IsNamedEntry, IsNamedPlayerEntry, IsNamedSwitch, IsNamedPlayer, IsNamedContent, IsNamed}
 use Rattle.mpf_config.specs.Typed.{switch_of, event_player_of}
+use Rattle.mpf_config.specs.Short.{IsShortEntry, IsShortPlayer, IsShortContent, IsShortSection}
 use Rattle.mpf_config.proofs.RowNames.{switch_named, event_player_named}
+use Rattle.mpf_config.proofs.ShortRows.{event_player_short}
 use Rattle.mpf_plan.specs.declared.contribution.Aim.TheVariants.{Run}
 use Rattle.mpf_plan.specs.declared.fault.Table.{Table}
 use Rattle.mpf_plan.specs.declared.fault.Table.TheVariants.{Events}
@@ -59,19 +61,13 @@ pub record Facts (P : List ℕ → Type 0) (Named Short : Type 0) (cs : List Con
   pub names : Named → All (IsFit P) cs
   pub lists : Short → AreShort 1024 cs
 
-abbrev IsShortEntry : Entry → Type 0
-IsShortEntry e = Unit {0}
-
-abbrev IsShortPlayer : Player → Type 0
-IsShortPlayer p = length (event_player_of p).posts ≤ 1024
-
 abbrev pub IsNamedRow : Row → Type 0
 IsNamedRow (entry section e) = IsNamedEntry e
 IsNamedRow (player section p) = IsNamedPlayerEntry p
 
 abbrev pub IsShortRow : Row → Type 0
-IsShortRow (entry section e) = IsShortEntry e
-IsShortRow (player section p) = IsShortPlayer p
+IsShortRow (entry section e) = IsShortEntry 1024 e
+IsShortRow (player section p) = IsShortPlayer 1024 p
 
 -- what holds of all that each item gives
 pub All-flat_map : {X Y : Type 0} (P : Y → Type 0) (f : X → List Y) (xs : List X) → All (λ x. All P (f x)) xs → All P (flat_map f xs)
@@ -153,48 +149,45 @@ module _ (P : List ℕ → Type 0) (of : IsOfNames P) where
   none_facts : (Named Short : Type 0) → Facts P Named Short []
   none_facts Named Short = record { names = λ h. All-nil (IsFit P); lists = λ h. tt }
 
-  entry_facts : (section : List ℕ) (e : Entry) → Facts P (IsNamedEntry e) (IsShortEntry e) (entry_contributions section e)
+  entry_facts : (section : List ℕ) (e : Entry) → Facts P (IsNamedEntry e) (IsShortEntry 1024 e) (entry_contributions section e)
   unfolding entry_contributions
   entry_facts section e = by (bytes_eq section (codes "switches"))
     where
       switch : Facts P (IsNamedSwitch (switch_of e)) (Unit {0}) (switch_contributions (switch_of e))
       switch = switch_facts (switch_of e)
 
-      by : (b : Bool) → Facts P (IsNamedEntry e) (IsShortEntry e) (if b then switch_contributions (switch_of e) else [])
+      by : (b : Bool) → Facts P (IsNamedEntry e) (IsShortEntry 1024 e) (if b then switch_contributions (switch_of e) else [])
       by true = record { names = λ h. switch.names (switch_named e h); lists = λ h. switch.lists tt }
-      by false = none_facts (IsNamedEntry e) (IsShortEntry e)
+      by false = none_facts (IsNamedEntry e) (IsShortEntry 1024 e)
 
-  player_entry_facts : (section : List ℕ) (p : Player) → Facts P (IsNamedPlayerEntry p) (IsShortPlayer p) (player_entry_contributions machine_place section p)
+  player_entry_facts : (section : List ℕ) (p : Player) → Facts P (IsNamedPlayerEntry p) (IsShortPlayer 1024 p) (player_entry_contributions machine_place section p)
   unfolding player_entry_contributions
   player_entry_facts section p = by (bytes_eq section (codes "event_player"))
     where
       row : Facts P (IsNamedPlayer (event_player_of p)) (length (event_player_of p).posts ≤ 1024) (player_contributions machine_place (event_player_of p))
       row = player_facts (event_player_of p)
 
-      by : (b : Bool) → Facts P (IsNamedPlayerEntry p) (IsShortPlayer p) (if b then player_contributions machine_place (event_player_of p) else [])
-      by true = record { names = λ h. row.names (event_player_named p h); lists = row.lists }
-      by false = none_facts (IsNamedPlayerEntry p) (IsShortPlayer p)
+      by : (b : Bool) → Facts P (IsNamedPlayerEntry p) (IsShortPlayer 1024 p) (if b then player_contributions machine_place (event_player_of p) else [])
+      by true = record { names = λ h. row.names (event_player_named p h); lists = λ h. row.lists (event_player_short p h) }
+      by false = none_facts (IsNamedPlayerEntry p) (IsShortPlayer 1024 p)
 
   row_facts : (r : Row) → Facts P (IsNamedRow r) (IsShortRow r) (row_contributions machine_place r)
   row_facts (entry section e) = entry_facts section e
   row_facts (player section p) = player_entry_facts section p
 
-  pub all_fit : (rs : List Row) → All IsNamedRow rs → All (IsFit P) (given_by rs)
+  all_fit : (rs : List Row) → All IsNamedRow rs → All (IsFit P) (given_by rs)
   all_fit rs h =
       All-flat_map (IsFit P) (row_contributions machine_place) rs
       (All-weaker IsNamedRow (λ r. All (IsFit P) (row_contributions machine_place r)) (λ r k. let facts = row_facts r in facts.names k) rs h)
 
--- no list of effects that rows give has more posts
-pub all_short : (rs : List Row) → All IsShortRow rs → AreShort 1024 (given_by rs)
+-- no effect list that rows give has more posts
+all_short : (rs : List Row) → All IsShortRow rs → AreShort 1024 (given_by rs)
 all_short [] h = tt
 all_short (r ∷ rs) h =
     let facts = row_facts (λ n. Unit {0}) (record { name = λ n k. tt; active = λ n k. tt; inactive = λ n k. tt; tag = λ n k. tt }) r in
     AreShort-append (row_contributions machine_place r) (given_by rs) 1024 (omega arith) (facts.lists (All-head IsShortRow r rs h)) (all_short rs (All-tail IsShortRow r rs h))
 
 -- ---- the rows of sections
-
-abbrev pub AreListsShort : List SectionRows → Type 0
-AreListsShort sections = All IsShortRow (rows_in sections)
 
 rows_named : (s : SectionRows) → IsNamed s → All IsNamedRow (rows_from s.name s.content)
 rows_named s h = by s.content h
@@ -203,5 +196,17 @@ rows_named s h = by s.content h
     by (entries es) k = All-map IsNamedRow (entry s.name) es k
     by (players ps) k = All-map IsNamedRow (player s.name) ps k
 
-pub all_named : (sections : List SectionRows) → All IsNamed sections → All IsNamedRow (rows_in sections)
-all_named sections h = All-flat_map IsNamedRow (λ s. rows_from s.name s.content) sections (All-weaker IsNamed (λ s. All IsNamedRow (rows_from s.name s.content)) rows_named sections h)
+pub sections_fit : (P : List ℕ → Type 0) → IsOfNames P → (sections : List SectionRows) → All IsNamed sections → All (IsFit P) (given_by (rows_in sections))
+sections_fit P of sections h =
+    all_fit P of (rows_in sections) (All-flat_map IsNamedRow (λ s. rows_from s.name s.content) sections (All-weaker IsNamed (λ s. All IsNamedRow (rows_from s.name s.content)) rows_named sections h))
+
+rows_short : (s : SectionRows) → IsShortSection s → All IsShortRow (rows_from s.name s.content)
+rows_short s h = by s.content h
+  where
+    by : (content : Content) → IsShortContent content → All IsShortRow (rows_from s.name content)
+    by (entries es) k = All-map IsShortRow (entry s.name) es k.0
+    by (players ps) k = All-map IsShortRow (player s.name) ps k.1
+
+pub sections_short : (sections : List SectionRows) → All IsShortSection sections → AreShort 1024 (given_by (rows_in sections))
+sections_short sections h =
+    all_short (rows_in sections) (All-flat_map IsShortRow (λ s. rows_from s.name s.content) sections (All-weaker IsShortSection (λ s. All IsShortRow (rows_from s.name s.content)) rows_short sections h))

@@ -7,6 +7,7 @@ use Rattle.std.proofs.lemmas.List.{length_push, length-set, get_or-set_same, get
 use Rattle.std.proofs.lemmas.List.Elements.{All-nil, All-cons, All-head, All-tail, All-push, All-set, All-weaker, All-filter, filter_passes}
 use Rattle.std.proofs.lemmas.Slice.Eq.{bytes_eq-Decides}
 use Rattle.mpf_config.specs.Rows.{Rows}
+use Rattle.mpf_config.specs.Short.{AreListsShort}
 use Rattle.mpf_plan.specs.declared.contribution.Aim.TheVariants.{Run}
 use Rattle.mpf_plan.specs.declared.entries.Action.{Action}
 use Rattle.mpf_plan.specs.declared.entries.Action.TheVariants.{Post}
@@ -22,7 +23,7 @@ use Rattle.mpf_plan.specs.PlanOf.{DraftView, event_of, with_contribution, blank,
 use Rattle.mpf_plan.proofs.Counts.{named_of}
 use Rattle.mpf_plan.proofs.Drafted.{given_plan, names-from, count-bindings, count-lists}
 use Rattle.mpf_plan.proofs.Judged.{plan_at-Ok}
-use Rattle.mpf_plan.proofs.RowFacts.{AreShort, AreListsShort, all_short}
+use Rattle.mpf_plan.proofs.RowFacts.{AreShort, sections_short}
 use Rattle.mpf_plan.proofs.SoundDraft.{sound_drafted}
 
 pub All-first_by : {X : Type 0} (P : X → Type 0) (name : X → List ℕ) (xs : List X) → All P xs → All P (first_by name xs)
@@ -137,12 +138,12 @@ IsValid-plan_from cs short within =
     }
 
 -- where each table is within its limit, and no list in the rows is too long, the plan of the rows is valid
-pub IsValid-plan_of : (rows : Rows) → AreListsShort rows.machine → ((t : Table) → entry_count (plan_of rows) t ≤ limit_of t) → IsValid (plan_of rows)
+pub IsValid-plan_of : (rows : Rows) → AreListsShort rows → ((t : Table) → entry_count (plan_of rows) t ≤ limit_of t) → IsValid (plan_of rows)
 unfolding plan_of
-IsValid-plan_of rows short within = IsValid-plan_from (contributions_of rows) (all_short _ short) within
+IsValid-plan_of rows short within = IsValid-plan_from (contributions_of rows) (sections_short rows.machine short) within
 
 -- a plan that planning gives is valid
-pub IsValid-plan_at : (rows : Rows) → AreListsShort rows.machine → (plan : PlanView) → plan_at rows ≡ Ok plan → IsValid plan
+pub IsValid-plan_at : (rows : Rows) → AreListsShort rows → (plan : PlanView) → plan_at rows ≡ Ok plan → IsValid plan
 IsValid-plan_at rows short plan is =
     let given = plan_at-Ok rows plan is in
     subst IsValid (sym given.0) (IsValid-plan_of rows short (subst (λ p. (t : Table) → entry_count p t ≤ limit_of t) given.0 given.1))
