@@ -5,6 +5,7 @@ pub mod FirstNames
 pub mod Steps
 pub mod Shown
 pub mod Taken
+pub mod Counts
 pub mod Lacking
 pub mod Drafted
 pub mod Judged
