@@ -9,12 +9,12 @@ use Rattle.std.proofs.lemmas.List.Folds.{list_any-append, list_any_none}
 use Rattle.std.proofs.lemmas.Slice.Eq.{bytes_eq-Decides}
 use Rattle.mpf_config.specs.Rows.{Rows}
 use Rattle.mpf_plan.specs.declared.fault.Table.{Table}
-use Rattle.mpf_plan.specs.declared.fault.Table.TheVariants.{Events}
 use Rattle.mpf_plan.specs.PlanView.{PlanView, no_switch}
 use Rattle.mpf_plan.specs.Contributions.{Contribution, gives, reads, contributions_of}
 use Rattle.mpf_plan.specs.Uses.{used, given, is_to_be_given, name_in, given_names, is_lacking, lacks_name}
 use Rattle.mpf_plan.specs.Limits.{entry_count, limit_of, order_of, tables_in_order, first_above, IsFirstAbove}
 use Rattle.mpf_plan.specs.PlanOf.{plan_of, plan_at, PlanRefusal, no_such_name, above_limit, fitting, IsExceeded}
+use Rattle.mpf_plan.proofs.ByTable.{place_within, same_place, in_place}
 
 -- ---- names
 
@@ -45,23 +45,6 @@ lacks_none cs =
 
 -- ---- tables
 
--- a table stands at its place
-table_at : (t : Table) → get_or tables_in_order (order_of t) Events ≡ t
-table_at Events = refl
-table_at _ = refl
-
-pub place_within : (t : Table) → order_of t < length tables_in_order
-place_within Events = omega arith
-place_within _ = omega arith
-
-same_place : (t u : Table) → order_of t ≡ order_of u → t ≡ u
-same_place t u e = sym (table_at t) ∙ ap (λ n. get_or tables_in_order n Events) e ∙ table_at u
-
--- whether tables stand at their places, from one on
-abbrev in_place : ℕ → List Table → Bool
-in_place n [] = true
-in_place n (t ∷ ts) = (order_of t == n) && in_place (n + 1) ts
-
 module _ (plan : PlanView) where
   abbrev Within : Table → Type 0
   Within t = entry_count plan t ≤ limit_of t
@@ -76,51 +59,48 @@ module _ (plan : PlanView) where
   pub none_above : ((t : Table) → entry_count plan t ≤ limit_of t) → first_above plan ≡ None
   none_above within = none_among tables_in_order within
 
+  first_step : (n : ℕ) (x : Table) (xs : List Table) (t : Table) → order_of x ≡ n → n ≤ order_of t → IsFirstAbove plan t → (n < order_of t → find is_above xs ≡ Some t) → (n < order_of t) ⊎ (order_of t ≤ n)
+      → find is_above (x ∷ xs) ≡ Some t
+  first_step n x xs t here from first rest (inl later) = ap (λ b. cond b (Some x) (find is_above xs)) (le-ltb (limit_of x) (entry_count plan x) (first.before x (omega (arith, here)))) ∙ rest later
+  first_step n x xs t here from first rest (inr now) =
+      let same : x ≡ t = same_place x t (omega (arith, here)) in
+      ap (λ b. cond b (Some x) (find is_above xs)) (ap is_above same ∙ lt-ltb (limit_of t) (entry_count plan t) first.above) ∙ ap Some same
+
   first_among : (n : ℕ) (ts : List Table) (t : Table) → in_place n ts ≡ true → n ≤ order_of t → order_of t < n + length ts → IsFirstAbove plan t → find is_above ts ≡ Some t
   first_among n [] t placed from to first = absurd (omega arith)
-  first_among n (x ∷ xs) t placed from to first = by (cases_lt n (order_of t))
-    where
-      here : order_of x ≡ n
-      here = eqb-true (order_of x) n (and_parts (order_of x == n) (in_place (n + 1) xs) placed).0
-
-      by : (n < order_of t) ⊎ (order_of t ≤ n) → find is_above (x ∷ xs) ≡ Some t
-      by (inl later) =
-          ap (λ b. cond b (Some x) (find is_above xs)) (le-ltb (limit_of x) (entry_count plan x) (first.before x (omega (arith, here))))
-          ∙ first_among (n + 1) xs t (and_parts (order_of x == n) (in_place (n + 1) xs) placed).1 (omega arith) (omega arith) first
-      by (inr now) =
-          let same : x ≡ t = same_place x t (omega (arith, here)) in
-          ap (λ b. cond b (Some x) (find is_above xs)) (ap is_above same ∙ lt-ltb (limit_of t) (entry_count plan t) first.above) ∙ ap Some same
+  first_among n (x ∷ xs) t placed from to first =
+      let parts = and_parts (order_of x == n) (in_place (n + 1) xs) placed in
+      first_step n x xs t (eqb-true (order_of x) n parts.0) from first (λ later. first_among (n + 1) xs t parts.1 (omega arith) (omega arith) first) (cases_lt n (order_of t))
 
   pub first_is : (t : Table) → IsFirstAbove plan t → first_above plan ≡ Some t
   first_is t first = first_among 0 tables_in_order t refl (omega arith) (place_within t) first
 
-  -- each table of these is within its limit, or one is the first that is not
-  some_or_none_among : (n : ℕ) (ts : List Table) → in_place n ts ≡ true → ((t : Table) → order_of t < n → Within t) → ((t : Table) → order_of t < n + length ts → Within t) ⊎ ((t : Table) × IsFirstAbove plan t)
-  some_or_none_among n [] placed before = inl (λ t to. before t (omega arith))
-  some_or_none_among n (x ∷ xs) placed before = by (cases_lt (limit_of x) (entry_count plan x))
+  upto : (n : ℕ) (x : Table) → order_of x ≡ n → ((t : Table) → order_of t < n → Within t) → Within x → (t : Table) → order_of t < n + 1 → Within t
+  upto n x here before within t to = by (cases_lt (order_of t) n)
     where
-      here : order_of x ≡ n
-      here = eqb-true (order_of x) n (and_parts (order_of x == n) (in_place (n + 1) xs) placed).0
+      by : (order_of t < n) ⊎ (n ≤ order_of t) → Within t
+      by (inl earlier) = before t earlier
+      by (inr now) = subst Within (same_place x t (omega (arith, here))) within
 
-      upto : Within x → (t : Table) → order_of t < n + 1 → Within t
-      upto within t to = at (cases_lt (order_of t) n)
-        where
-          at : (order_of t < n) ⊎ (n ≤ order_of t) → Within t
-          at (inl earlier) = before t earlier
-          at (inr now) = subst Within (same_place x t (omega (arith, here))) within
+  -- each table of these is within its limit, or one is the first that is not
+  abbrev SomeOrNone : ℕ → Type 0
+  SomeOrNone n = ((t : Table) → order_of t < n → Within t) ⊎ ((t : Table) × IsFirstAbove plan t)
 
-      by : (limit_of x < entry_count plan x) ⊎ (entry_count plan x ≤ limit_of x) → ((t : Table) → order_of t < n + length (x ∷ xs) → Within t) ⊎ ((t : Table) × IsFirstAbove plan t)
-      by (inl above) = inr (x, record { above = above; before = λ t earlier. before t (omega (arith, here)) })
-      by (inr within) = then (some_or_none_among (n + 1) xs (and_parts (order_of x == n) (in_place (n + 1) xs) placed).1 (upto within))
-        where
-          then : ((t : Table) → order_of t < (n + 1) + length xs → Within t) ⊎ ((t : Table) × IsFirstAbove plan t) → ((t : Table) → order_of t < n + length (x ∷ xs) → Within t) ⊎ ((t : Table) × IsFirstAbove plan t)
-          then (inl all) = inl (λ t to. all t (omega arith))
-          then (inr first) = inr first
+  some_or_none_step : (n m : ℕ) (x : Table) → order_of x ≡ n → ((t : Table) → order_of t < n → Within t) → (Within x → SomeOrNone m) → (limit_of x < entry_count plan x) ⊎ (entry_count plan x ≤ limit_of x) → SomeOrNone m
+  some_or_none_step n m x here before rest (inl above) = inr (x, record { above = above; before = λ t earlier. before t (omega (arith, here)) })
+  some_or_none_step n m x here before rest (inr within) = rest within
+
+  some_or_none_among : (n m : ℕ) (ts : List Table) → m ≡ n + length ts → in_place n ts ≡ true → ((t : Table) → order_of t < n → Within t) → SomeOrNone m
+  some_or_none_among n m [] end placed before = inl (λ t to. before t (omega arith))
+  some_or_none_among n m (x ∷ xs) end placed before =
+      let parts = and_parts (order_of x == n) (in_place (n + 1) xs) placed in
+      let here = eqb-true (order_of x) n parts.0 in
+      some_or_none_step n m x here before (λ within. some_or_none_among (n + 1) m xs (omega (arith, end)) parts.1 (upto n x here before within)) (cases_lt (limit_of x) (entry_count plan x))
 
   some_or_none : ((t : Table) → entry_count plan t ≤ limit_of t) ⊎ ((t : Table) × IsFirstAbove plan t)
-  some_or_none = by (some_or_none_among 0 tables_in_order refl (λ t none. absurd (omega arith)))
+  some_or_none = by (some_or_none_among 0 (length tables_in_order) tables_in_order refl refl (λ t none. absurd (omega arith)))
     where
-      by : ((t : Table) → order_of t < 0 + length tables_in_order → Within t) ⊎ ((t : Table) × IsFirstAbove plan t) → ((t : Table) → entry_count plan t ≤ limit_of t) ⊎ ((t : Table) × IsFirstAbove plan t)
+      by : SomeOrNone (length tables_in_order) → ((t : Table) → entry_count plan t ≤ limit_of t) ⊎ ((t : Table) × IsFirstAbove plan t)
       by (inl all) = inl (λ t. all t (place_within t))
       by (inr first) = inr first
 

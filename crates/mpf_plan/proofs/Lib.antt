@@ -6,10 +6,13 @@ pub mod Steps
 pub mod Shown
 pub mod Taken
 pub mod Counts
-pub mod Lacking
 pub mod Drafted
+pub mod ByTable
 pub mod Judged
+pub mod Collected
+pub mod Unnamed
 pub mod Found
+pub mod Lacking
 pub mod SoundDraft
 pub mod ValidPlan
 pub mod Planned

@@ -1,0 +1,19 @@
+use Rattle.std.proofs.Common.{inr, refl, subst, arith}
+use Rattle.std.proofs.lemmas.List.{take_all}
+use Rattle.mpf_plan.specs.Contributions.{given_by}
+use Rattle.mpf_plan.specs.Inside.{rows_view}
+use Rattle.mpf_plan.specs.Numbering.{HasFound}
+use Rattle.mpf_plan.proofs.Collected.{row_more}
+use Rattle.mpf_plan.proofs.numbering.find_names.Goals as goal
+
+pub loop-row-init : goal.loop-row-init
+loop-row-init c = record { tables = c.in_ok-no_names.ensures.names; bindings = inr (refl, omega arith) }
+
+pub loop-row-preserved : goal.loop-row-preserved
+loop-row-preserved c =
+    subst (λ cs. HasFound cs c.note_all.new.found)
+    (row_more c.args.rows.now c.loop-row.row-index c.row-item.result c.loop-row-test.true c.row-item.is c.deref.result.now c.collect_row.new.contributions.items c.machine_place.ensures c.deref.ensures.value c.in_ok-collect_row.ensures)
+    (c.in_ok-note_all.ensures _ c.loop-row.invariant)
+
+pub returns : goal.returns
+returns c = subst (λ rs. HasFound (given_by (rows_view rs)) c.loop-row.found) (take_all c.loop-row.row-index c.args.rows.now c.loop-row-test.false) c.loop-row.invariant

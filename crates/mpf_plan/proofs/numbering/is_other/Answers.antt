@@ -1,0 +1,11 @@
+use Rattle.std.proofs.Common.{sym, ◌∙◌, ap}
+use Rattle.std.specs.Option.{option_map}
+use Rattle.mpf_plan.specs.Uses.{used}
+use Rattle.mpf_plan.specs.Inside.{parts_text, named_view, contribution_view}
+use Rattle.mpf_plan.proofs.Lacking.{lacking_named}
+use Rattle.mpf_plan.proofs.numbering.is_other.Goals as goal
+
+pub returns : goal.returns
+returns c cs has =
+    lacking_named cs c.args.sets.now (used (contribution_view c.args.contribution.now)) c.in-Some.table (parts_text c.in-Some.name) c.index.result c.index-sets-index.result c.as_slice.result.now c.contains-there.result has
+    (sym c.used.ensures ∙ ap (option_map named_view) c.in-Some.is) (sym c.is_to_be_given.ensures ∙ c.if-not-is_to_be_given.false) c.index.ensures c.index-sets-index.is (c.as_slice.ensures.value ∙ c.in_ok-write_name.ensures) c.contains-there.ensures
