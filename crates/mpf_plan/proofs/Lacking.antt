@@ -65,11 +65,11 @@ module _ {S : Type 0} where
         ∙ ap (fold with_name []) (sym (flat_map-append (λ c. name_in t (given c)) cs (d ∷ []) ∙ ap (λ l. given_names t cs ++ l) (append-nil (name_in t (given d)))))
 
     -- one contribution more, which gives nothing under a name
-    pub given_nameless : given d ≡ None → HaveGiven (cs ++ d ∷ []) sets
-    given_nameless none = record {
+    pub given_nameless : (now : List (IndexSet (Vec ℕ Global) S)) → given d ≡ None → now ≡ sets → HaveGiven (cs ++ d ∷ []) now
+    given_nameless now none same = subst (HaveGiven (cs ++ d ∷ [])) (sym same) (record {
       count = has.count;
       names = λ t s at. has.names t s at ∙ ap (λ o. fold with_name (fold with_name [] (given_names t cs)) (name_in t o)) (sym none) ∙ names_then t;
-    }
+    })
 
     -- or under this name
     module _ (u : Table) (n : List ℕ) (gives : given d ≡ Some (u, n)) where
@@ -79,16 +79,17 @@ module _ {S : Type 0} where
           let so_far = fold with_name [] (given_names t cs) in
           sym (ap (λ o. fold with_name so_far (name_in t o)) gives ∙ ap (λ b. fold with_name so_far (cond b (n ∷ []) [])) same) ∙ names_then t
 
-      pub given_named : (p : ℕ) (was is : IndexSet (Vec ℕ Global) S) → p ≡ order_of u → was ≡ get_or sets p was → names_of is.keys ≡ with_name (names_of was.keys) n → HaveGiven (cs ++ d ∷ []) (set sets p is)
-      given_named p was is place got noted =
-          let at : was ≡ get_or sets (order_of u) was = got ∙ ap (λ k. get_or sets k was) place in
-          let Names : List Contribution → Table → IndexSet (Vec ℕ Global) S → Type 0 = λ cs t s. names_of s.keys ≡ fold with_name [] (given_names t cs) in
-          subst (λ k. HaveGiven (cs ++ d ∷ []) (set sets k is)) (sym place) (record {
-            count = length-set sets (order_of u) is ∙ has.count;
-            names = each_changed (Names cs) (Names (cs ++ d ∷ [])) u sets was is has.count at
-                (λ t e h. noted ∙ ap (λ ns. with_name ns n) h ∙ names_by t true (eq-eqb (order_of u) (order_of t) (sym e)))
-                (λ t other s h. h ∙ names_by t false (ne_eqb (order_of u) (order_of t) (λ e. other (sym e)))) has.names;
-          })
+      abbrev Names : List Contribution → Table → IndexSet (Vec ℕ Global) S → Type 0
+      Names ds t s = names_of s.keys ≡ fold with_name [] (given_names t ds)
+
+      pub given_named : (now : List (IndexSet (Vec ℕ Global) S)) (p : ℕ) (was is : IndexSet (Vec ℕ Global) S) → p ≡ order_of u → now ≡ set sets p is → was ≡ get_or sets p was → names_of is.keys ≡ with_name (names_of was.keys) n
+          → HaveGiven (cs ++ d ∷ []) now
+      given_named now p was is place changed got noted = subst (HaveGiven (cs ++ d ∷ [])) (sym (changed ∙ ap (λ k. set sets k is) place)) (record {
+        count = length-set sets (order_of u) is ∙ has.count;
+        names = each_changed (Names cs) (Names (cs ++ d ∷ [])) u sets was is has.count (got ∙ ap (λ k. get_or sets k was) place)
+            (λ t e h. noted ∙ ap (λ ns. with_name ns n) h ∙ names_by t true (eq-eqb (order_of u) (order_of t) (sym e)))
+            (λ t other s h. h ∙ names_by t false (ne_eqb (order_of u) (order_of t) (λ e. other (sym e)))) has.names;
+      })
 
   -- whether a name is among them
   any_given : (cs : List Contribution) (sets : List (IndexSet (Vec ℕ Global) S)) (t : Table) (s : IndexSet (Vec ℕ Global) S) (n : List ℕ) → HaveGiven cs sets → slice_get sets (order_of t) ≡ Some s

@@ -25,13 +25,12 @@ loop-contribution-preserved c =
       names = λ before has. subst (λ cs. HaveGiven cs c.match-given.sets.items) (one_more before cs i _ c.loop-contribution-test.true) (elim c.match-given.branch [
         | in-Some+in_ok-write_name+in_ok-insert w ↦
             let name = parts_text w.in-Some.name in
-            subst (λ v. HaveGiven _ v.items) (sym w.sets-is)
-            (given_named (before ++ contributions_view (take i cs)) _ sets (c.loop-contribution.invariant.names before has) w.in-Some.table name (sym c.given.ensures ∙ ap (option_map named_view) w.in-Some.is)
-            w.index.result w.index_mut.result.now w.insert.new.self w.index.ensures w.index_mut.ensures.value
-            (use_inserted w.index_mut.result.now.keys name w.write_name.new.text w.insert.new.self.keys w.in_ok-write_name.ensures w.in_ok-insert.ensures.keys))
+            given_named (before ++ contributions_view (take i cs)) _ sets (c.loop-contribution.invariant.names before has) w.in-Some.table name (sym c.given.ensures ∙ ap (option_map named_view) w.in-Some.is)
+            c.match-given.sets.items w.index.result w.index_mut.result.now w.insert.new.self w.index.ensures (ap (λ v. v.items) w.sets-is) w.index_mut.ensures.value
+            (use_inserted w.index_mut.result.now.keys name w.write_name.new.text w.insert.new.self.keys w.in_ok-write_name.ensures w.in_ok-insert.ensures.keys)
         | in_default w ↦
-            subst (λ v. HaveGiven _ v.items) (sym w.sets-is)
-            (given_nameless (before ++ contributions_view (take i cs)) _ sets (c.loop-contribution.invariant.names before has) (sym c.given.ensures ∙ ap (option_map named_view) w.in_default.is))
+            given_nameless (before ++ contributions_view (take i cs)) _ sets (c.loop-contribution.invariant.names before has)
+            c.match-given.sets.items (sym c.given.ensures ∙ ap (option_map named_view) w.in_default.is) (ap (λ v. v.items) w.sets-is)
       ]);
     }
 

@@ -6,7 +6,17 @@ use Rattle.mpf_plan.proofs.Unnamed.{bindings_unnamed}
 use Rattle.mpf_plan.proofs.numbering.number.Goals as goal
 
 pub invariant_of-result : goal.invariant_of-result
-invariant_of-result c = ?
+invariant_of-result c =
+    let rows = rows_view c.args.rows.now in
+    let cs = given_by rows in
+    let has = c.in_ok-found.ensures in
+    record { count = c.in_ok-found.found.count; fit = kept_fit cs c.in_ok-found.found has (sym (c.first_above.ensures cs has) ∙ c.in_default.is) (bindings_unnamed rows) }
 
 pub returns : goal.returns
-returns c = ?
+returns c =
+    let rows = rows_view c.args.rows.now in
+    let cs = given_by rows in
+    let found = c.in_ok-found.found in
+    let has = c.in_ok-found.ensures in
+    let none = sym (c.first_above.ensures cs has) ∙ c.in_default.is in
+    (sym c.in_ok-lacking.ensures ∙ c.if-lacking.false, (λ i t. names_are_kept cs found has none (bindings_unnamed rows) t i), none, bindings_fit cs found has none (bindings_unnamed rows))
