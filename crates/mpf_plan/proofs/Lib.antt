@@ -6,12 +6,14 @@ pub mod Steps
 pub mod Shown
 pub mod Taken
 pub mod Counts
-pub mod Lacking
 pub mod Drafted
 pub mod ByTable
 pub mod Judged
+pub mod Collected
+pub mod Unnamed
 pub mod Found
 pub mod Among
+pub mod Lacking
 pub mod SoundDraft
 pub mod RowFacts
 pub mod ValidPlan

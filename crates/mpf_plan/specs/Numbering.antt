@@ -44,9 +44,10 @@ pub record HaveNames (cs : List Contribution) (tables : List NameTable) : Type 0
   pub names : (t : Table) (kept : NameTable) → slice_get tables (order_of t) ≡ Some kept → HasNames (names_from cs t) kept
 
 -- the sets have the names under which contributions give something, each at its place
-pub record HaveGiven (cs : List Contribution) (sets : List (IndexSet (Vec ℕ Global))) : Type 0 where
-  pub count : length sets ≡ length tables_in_order
-  pub names : (t : Table) (set : IndexSet (Vec ℕ Global)) → slice_get sets (order_of t) ≡ Some set → names_of set.keys ≡ fold with_name [] (given_names t cs)
+module _ {S : Type 0} where
+  pub record HaveGiven (cs : List Contribution) (sets : List (IndexSet (Vec ℕ Global) S)) : Type 0 where
+    pub count : length sets ≡ length tables_in_order
+    pub names : (t : Table) (set : IndexSet (Vec ℕ Global) S) → slice_get sets (order_of t) ≡ Some set → names_of set.keys ≡ fold with_name [] (given_names t cs)
 
 -- what is found in contributions
 pub record HasFound (cs : List Contribution) (found : Found) : Type 0 where
