@@ -1,103 +1,144 @@
--- What is found in contributions gives the first table that is above its limit, or the names of a plan.
-use Rattle.std.proofs.Common.{◌≡◌, ℕ, ◌+◌, ◌<◌, ◌≤◌, inl, inr, true, false, List, [], ◌++◌, length, fold, sym, ◌∙◌, ap, subst, true≢false, arith}
+-- What is found in contributions: their names and bindings, one contribution after the other.
+use Rattle.std.proofs.Common.{◌≡◌, ℕ, ◌+◌, ◌<◌, ◌≤◌, ◌==◌, ◌⊎◌, inl, inr, Bool, true, false, cond, List, [], ◌∷◌, ◌++◌, length, fold, set, get_or, nat_lt, Option, Some, None, refl, sym, ◌∙◌, ap, subst, arith}
+use Rattle.std.specs.Prelude.{slice_get}
+use Rattle.std.proofs.lemmas.Bool.{eq-eqb, ne_eqb, lt-ltb, le-ltb}
+use Rattle.std.proofs.lemmas.Grind.{flat_map-append}
+use Rattle.std.proofs.lemmas.List.{append-nil, length-set}
 use Rattle.std.proofs.lemmas.List.Sums.{fold-append, sum_by-append}
-use Rattle.mpf_plan.specs.declared.contribution.Kind.{Kind}
-use Rattle.mpf_plan.specs.declared.contribution.Kind.TheVariants as kinds
-use Rattle.mpf_plan.specs.declared.contribution.Role.TheVariants.{Uses}
+use Rattle.std.proofs.lemmas.Option.{slice_get_cases}
 use Rattle.mpf_plan.specs.declared.fault.Table.{Table}
-use Rattle.mpf_plan.specs.declared.fault.Table.TheVariants.{Events, Bindings, Switches}
-use Rattle.mpf_plan.specs.declared.numbering.NameTable.{NameTable}
-use Rattle.mpf_plan.specs.declared.numbering.Found.{Found}
+use Rattle.mpf_plan.specs.declared.fault.Table.TheVariants.{Bindings}
+use Rattle.mpf_plan.specs.declared.names.NameTable.{NameTable}
+use Rattle.mpf_plan.specs.declared.names.Found.{Found}
 use Rattle.mpf_plan.specs.Contributions.{Contribution}
-use Rattle.mpf_plan.specs.Uses.{all_names, names_of_kind}
-use Rattle.mpf_plan.specs.Limits.{entry_count, limit_of, order_of, IsFirstAbove}
+use Rattle.mpf_plan.specs.Uses.{used, name_in, uses, names_from}
+use Rattle.mpf_plan.specs.Limits.{entry_count, limit_of, order_of, tables_in_order, first_above}
 use Rattle.mpf_plan.specs.PlanOf.{plan_from}
-use Rattle.mpf_plan.specs.Inside.{names_of}
-use Rattle.mpf_plan.specs.Numbering.{with_name, IsTable, Notes, bindings_given, binding_count, IsCount, HasFound}
+use Rattle.mpf_plan.specs.NamesKept.{names_of, names_kept}
+use Rattle.mpf_plan.specs.Numbering.{with_name, HasNames, HaveNames, bindings_given, binding_count, IsCount, HasFound}
 use Rattle.mpf_plan.proofs.Firsts.{with_names-all}
-use Rattle.mpf_plan.proofs.Taken.{all_names-append}
-use Rattle.mpf_plan.proofs.Drafted.{events-from, count-switches, count-bindings}
-use Rattle.mpf_plan.proofs.Judged.{by_table}
+use Rattle.mpf_plan.proofs.Counts.{count_of}
+use Rattle.mpf_plan.proofs.Drafted.{count-from}
+use Rattle.mpf_plan.proofs.ByTable.{place_within, each_changed}
+use Rattle.mpf_plan.proofs.Judged.{all_within}
 
--- ---- more contributions
+-- ---- one contribution more
 
--- the names of a kind, with those of more contributions
-names_then : (kind : Kind) (cs ds : List Contribution) → fold with_name (names_of_kind kind cs) (all_names (Uses kind) ds) ≡ names_of_kind kind (cs ++ ds)
-names_then kind cs ds =
-    ap (λ ns. fold with_name ns (all_names (Uses kind) ds)) (sym (with_names-all (all_names (Uses kind) cs)))
-    ∙ sym (fold-append with_name [] (all_names (Uses kind) cs) (all_names (Uses kind) ds))
-    ∙ ap (fold with_name []) (sym (all_names-append (Uses kind) cs ds))
-    ∙ with_names-all (all_names (Uses kind) (cs ++ ds))
+module _ (cs : List Contribution) (d : Contribution) where
+  abbrev more : List Contribution
+  more = cs ++ d ∷ []
 
-pub found_then : (cs ds : List Contribution) (old new : Found) → HasFound cs old
-    → Notes 4096 (Uses kinds.Event) ds old.events new.events → Notes 256 (Uses kinds.Switch) ds old.switches new.switches
-    → ((all : ℕ) → IsCount 16384 all old.bindings → IsCount 16384 (all + binding_count ds) new.bindings) → HasFound (cs ++ ds) new
-found_then cs ds old new has events switches bindings = record {
-  events_found = subst (λ ns. IsTable 4096 ns new.events) (names_then kinds.Event cs ds) (events (names_of_kind kinds.Event cs) has.events_found);
-  switches_found = subst (λ ns. IsTable 256 ns new.switches) (names_then kinds.Switch cs ds) (switches (names_of_kind kinds.Switch cs) has.switches_found);
-  bindings_found = subst (λ n. IsCount 16384 n new.bindings) (sym (sum_by-append bindings_given cs ds)) (bindings (binding_count cs) has.bindings_found);
+  names_then : (t : Table) → fold with_name (names_from cs t) (name_in t (used d)) ≡ names_from more t
+  names_then t =
+      ap (λ ns. fold with_name ns (name_in t (used d))) (sym (with_names-all (uses t cs)))
+      ∙ sym (fold-append with_name [] (uses t cs) (name_in t (used d)))
+      ∙ ap (fold with_name []) (sym (flat_map-append (λ c. name_in t (used c)) cs (d ∷ []) ∙ ap (λ l. uses t cs ++ l) (append-nil (name_in t (used d)))))
+      ∙ with_names-all (uses t more)
+
+  -- one that uses no name
+  names_stay : used d ≡ None → (t : Table) → names_from cs t ≡ names_from more t
+  names_stay none t = ap (λ o. fold with_name (names_from cs t) (name_in t o)) (sym none) ∙ names_then t
+
+  -- one that uses this name
+  module _ (u : Table) (n : List ℕ) (is : used d ≡ Some (u, n)) where
+    names_by : (t : Table) (b : Bool) → (order_of u == order_of t) ≡ b → fold with_name (names_from cs t) (cond b (n ∷ []) []) ≡ names_from more t
+    names_by t b same = sym (ap (λ o. fold with_name (names_from cs t) (name_in t o)) is ∙ ap (λ b. fold with_name (names_from cs t) (cond b (n ∷ []) [])) same) ∙ names_then t
+
+    names_here : (t : Table) → order_of t ≡ order_of u → with_name (names_from cs t) n ≡ names_from more t
+    names_here t e = names_by t true (eq-eqb (order_of u) (order_of t) (sym e))
+
+    names_there : (t : Table) → (order_of t ≡ order_of u → ⊥) → names_from cs t ≡ names_from more t
+    names_there t other = names_by t false (ne_eqb (order_of u) (order_of t) (λ e. other (sym e)))
+
+  count_then : (count : ℕ) → IsCount 16384 (binding_count cs + bindings_given d) count → IsCount 16384 (binding_count more) count
+  count_then count is = let e : binding_count cs + bindings_given d ≡ binding_count more = omega (arith, sum_by-append bindings_given cs (d ∷ [])) in subst (λ n. IsCount 16384 n count) e is
+
+  module _ (old new : Found) (has : HasFound cs old) (bindings : (all : ℕ) → IsCount 16384 all old.bindings → IsCount 16384 (all + bindings_given d) new.bindings) where
+    -- a contribution that uses no name
+    pub found_nameless : used d ≡ None → new.tables.items ≡ old.tables.items → HasFound more new
+    found_nameless none same = record {
+      tables = subst (HaveNames more) (sym same) (record {
+        count = has.tables.count;
+        limits = has.tables.limits;
+        names = λ t kept at. subst (λ ns. HasNames ns kept) (names_stay none t) (has.tables.names t kept at);
+      });
+      bindings = count_then new.bindings (bindings (binding_count cs) has.bindings);
+    }
+
+    -- a contribution that uses this name
+    pub found_named : (u : Table) (n : List ℕ) (p : ℕ) (was is : NameTable) → used d ≡ Some (u, n) → p ≡ order_of u → new.tables.items ≡ set old.tables.items p is → was ≡ get_or old.tables.items p was
+        → is.limit ≡ was.limit → ((all : List (List ℕ)) → HasNames all was → HasNames (with_name all n) is) → HasFound more new
+    found_named u n p was is uses_it place changed got limit noted = record {
+      tables = subst (HaveNames more) (sym (changed ∙ ap (λ k. set old.tables.items k is) place)) (record {
+        count = length-set old.tables.items (order_of u) is ∙ has.tables.count;
+        limits = each_changed (λ t k. k.limit ≡ limit_of t) (λ t k. k.limit ≡ limit_of t) u old.tables.items was is has.tables.count at (λ t e h. limit ∙ h) (λ t e k h. h) has.tables.limits;
+        names = each_changed (λ t k. HasNames (names_from cs t) k) (λ t k. HasNames (names_from more t) k) u old.tables.items was is has.tables.count at
+            (λ t e h. subst (λ ns. HasNames ns is) (names_here u n uses_it t e) (noted (names_from cs t) h))
+            (λ t e k h. subst (λ ns. HasNames ns k) (names_there u n uses_it t e) h) has.tables.names;
+      });
+      bindings = count_then new.bindings (bindings (binding_count cs) has.bindings);
+    }
+      where
+        at : was ≡ get_or old.tables.items (order_of u) was
+        at = got ∙ ap (λ k. get_or old.tables.items k was) place
+
+-- ---- before any
+
+-- tables with no name
+pub found_none : (tables : List NameTable) → length tables ≡ length tables_in_order
+    → ((t : Table) (k : NameTable) → slice_get tables (order_of t) ≡ Some k → (k.limit ≡ limit_of t) × (k.above ≡ false) × (k.set.keys ≡ [])) → HaveNames [] tables
+found_none tables count empty = record {
+  count = count;
+  limits = λ t k at. (empty t k at).0;
+  names = λ t k at. inr ((empty t k at).1, ap names_of (empty t k at).2, omega arith);
 }
 
--- ---- tables above their limits, and within
+-- ---- limits
 
-table_exceeds : (limit : ℕ) (all : List (List ℕ)) (t : NameTable) → IsTable limit all t → t.above ≡ true → limit < length all
-table_exceeds limit all t (inl (above, more)) is = more
-table_exceeds limit all t (inr (below, names, within)) is = absurd (true≢false (sym is ∙ below))
-
-table_keeps : (limit : ℕ) (all : List (List ℕ)) (t : NameTable) → IsTable limit all t → t.above ≡ false → (names_of t.set.keys ≡ all) × (length all ≤ limit)
-table_keeps limit all t (inl (above, more)) is = absurd (true≢false (sym above ∙ is))
-table_keeps limit all t (inr (below, names, within)) is = (names, within)
-
-count_exceeds : (limit all count : ℕ) → IsCount limit all count → limit < count → limit < all
-count_exceeds limit all count (inl (more, above)) is = more
-count_exceeds limit all count (inr (same, within)) is = absurd (omega (arith, same, within, is))
-
-count_keeps : (limit all count : ℕ) → IsCount limit all count → count ≤ limit → all ≤ limit
-count_keeps limit all count (inl (more, above)) is = absurd (omega (arith, above, is))
-count_keeps limit all count (inr (same, within)) is = within
+named_count : (cs : List Contribution) (t : Table) → (t ≡ Bindings → ⊥) → count_of cs t ≡ length (names_from cs t)
+named_count cs Bindings other = absurd (other refl)
+named_count cs _ other = refl
 
 module _ (cs : List Contribution) (found : Found) (has : HasFound cs found) where
-  abbrev Within : Table → Type 0
-  Within t = entry_count (plan_from cs) t ≤ limit_of t
+  -- whether there are too many bindings
+  pub bindings_above : nat_lt (limit_of Bindings) found.bindings ≡ nat_lt (limit_of Bindings) (entry_count (plan_from cs) Bindings)
+  bindings_above = by has.bindings
+    where
+      by : IsCount 16384 (binding_count cs) found.bindings → nat_lt 16384 found.bindings ≡ nat_lt 16384 (entry_count (plan_from cs) Bindings)
+      by (inl (more, above)) = lt-ltb 16384 found.bindings above ∙ sym (lt-ltb 16384 (entry_count (plan_from cs) Bindings) (omega (arith, more, count-from cs Bindings)))
+      by (inr (same, within)) = ap (nat_lt 16384) (same ∙ sym (count-from cs Bindings))
 
-  events_within : found.events.above ≡ false → Within Events
-  events_within is = let kept = (table_keeps 4096 (names_of_kind kinds.Event cs) found.events has.events_found is).1 in omega (arith, kept, ap length (events-from cs))
+  -- whether there are too many names
+  pub names_above : (t : Table) (k : NameTable) → (t ≡ Bindings → ⊥) → slice_get found.tables.items (order_of t) ≡ Some k → k.above ≡ nat_lt (limit_of t) (entry_count (plan_from cs) t)
+  names_above t k other at = by (has.tables.names t k at)
+    where
+      count : entry_count (plan_from cs) t ≡ length (names_from cs t)
+      count = count-from cs t ∙ named_count cs t other
 
-  pub bindings_kept : found.bindings ≤ 16384 → binding_count cs ≤ 16384
-  bindings_kept few = count_keeps 16384 (binding_count cs) found.bindings has.bindings_found few
+      by : HasNames (names_from cs t) k → k.above ≡ nat_lt (limit_of t) (entry_count (plan_from cs) t)
+      by (inl (above, more)) = above ∙ sym (lt-ltb (limit_of t) (entry_count (plan_from cs) t) (omega (arith, more, count, has.tables.limits t k at)))
+      by (inr (below, names, within)) = below ∙ sym (le-ltb (limit_of t) (entry_count (plan_from cs) t) (omega (arith, within, count, has.tables.limits t k at)))
 
-  bindings_within : found.bindings ≤ 16384 → Within Bindings
-  bindings_within few = omega (arith, bindings_kept few, count-bindings cs)
+  -- where the plan is within its limits, and bindings have no names, all names are kept
+  module _ (none : first_above (plan_from cs) ≡ None) (unnamed : names_from cs Bindings ≡ []) where
+    pub bindings_fit : binding_count cs ≤ 16384
+    bindings_fit = omega (arith, all_within (plan_from cs) none Bindings, count-from cs Bindings)
 
-  switches_within : found.switches.above ≡ false → Within Switches
-  switches_within is = let kept = (table_keeps 256 (names_of_kind kinds.Switch cs) found.switches has.switches_found is).1 in omega (arith, kept, count-switches cs)
+    names_fit : (t : Table) → length (names_from cs t) ≤ limit_of t
+    names_fit Bindings = omega (arith, ap length unnamed)
+    names_fit t = omega (arith, all_within (plan_from cs) none t, count-from cs t)
 
-  pub events_first : found.events.above ≡ true → IsFirstAbove (plan_from cs) Events
-  events_first is =
-      let more = table_exceeds 4096 (names_of_kind kinds.Event cs) found.events has.events_found is in
-      record { above = omega (arith, more, ap length (events-from cs)); before = λ u earlier. absurd (omega (arith, earlier)) }
+    pub names_are_kept : (t : Table) → names_kept (slice_get found.tables.items (order_of t)) ≡ names_from cs t
+    names_are_kept t = at (slice_get_cases found.tables.items (order_of t)).1
+      where
+        by : (k : NameTable) → k.limit ≡ limit_of t → HasNames (names_from cs t) k → names_of k.set.keys ≡ names_from cs t
+        by k limit (inl (above, more)) = absurd (omega (arith, more, limit, names_fit t))
+        by k limit (inr (below, names, within)) = names
 
-  pub bindings_first : found.events.above ≡ false → 16384 < found.bindings → IsFirstAbove (plan_from cs) Bindings
-  bindings_first events is =
-      let more = count_exceeds 16384 (binding_count cs) found.bindings has.bindings_found is in
-      record {
-        above = omega (arith, more, count-bindings cs);
-        before = by_table (λ u. order_of u < 1 → Within u) (λ _. events_within events) (λ h. absurd (omega (arith, h))) (λ h. absurd (omega (arith, h)));
-      }
+        at : ((k : NameTable) × (order_of t < length found.tables.items) × (slice_get found.tables.items (order_of t) ≡ Some k) × (get_or found.tables.items (order_of t) k ≡ k))
+            ⊎ ((length found.tables.items ≤ order_of t) × (slice_get found.tables.items (order_of t) ≡ None)) → names_kept (slice_get found.tables.items (order_of t)) ≡ names_from cs t
+        at (inl (k, within, there, same)) = ap names_kept there ∙ by k (has.tables.limits t k there) (has.tables.names t k there)
+        at (inr (past, none)) = absurd (omega (arith, past, has.tables.count, place_within t))
 
-  pub switches_first : found.events.above ≡ false → found.bindings ≤ 16384 → found.switches.above ≡ true → IsFirstAbove (plan_from cs) Switches
-  switches_first events bindings is =
-      let more = table_exceeds 256 (names_of_kind kinds.Switch cs) found.switches has.switches_found is in
-      record {
-        above = omega (arith, more, count-switches cs);
-        before = by_table (λ u. order_of u < 2 → Within u) (λ _. events_within events) (λ _. bindings_within bindings) (λ h. absurd (omega (arith, h)));
-      }
-
-  pub found_within : found.events.above ≡ false → found.bindings ≤ 16384 → found.switches.above ≡ false → (t : Table) → Within t
-  found_within events bindings switches = by_table Within (events_within events) (bindings_within bindings) (switches_within switches)
-
-  pub events_kept : found.events.above ≡ false → names_of found.events.set.keys ≡ names_of_kind kinds.Event cs
-  events_kept is = (table_keeps 4096 (names_of_kind kinds.Event cs) found.events has.events_found is).0
-
-  pub switches_kept : found.switches.above ≡ false → names_of found.switches.set.keys ≡ names_of_kind kinds.Switch cs
-  switches_kept is = (table_keeps 256 (names_of_kind kinds.Switch cs) found.switches has.switches_found is).0
+    pub kept_fit : (t : Table) → length (names_kept (slice_get found.tables.items (order_of t))) ≤ limit_of t
+    kept_fit t = omega (arith, names_fit t, ap length (names_are_kept t))

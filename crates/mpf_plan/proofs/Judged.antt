@@ -1,74 +1,108 @@
 -- The first table that is above its limit, and the plan where there is none.
-use Rattle.std.proofs.Common.{◌≡◌, ◌<◌, ◌≤◌, ◌⊎◌, inl, inr, Bool, true, false, cond, ◌||◌, not, List, [], ◌∷◌, nat_lt, Some, None, refl, sym, ◌∙◌, ap, subst, arith, Contains}
-use Rattle.std.specs.Prelude.{Result, Ok, Err}
-use Rattle.std.specs.List.{All, list_any}
-use Rattle.std.proofs.lemmas.Bool.{le-ltb, lt-ltb, cases_lt}
-use Rattle.std.proofs.lemmas.Cmp.{nat_list_eq_equiv}
-use Rattle.std.proofs.lemmas.List.Elements.{All-head, All-tail, All-weaker, All-contains_itself}
-use Rattle.std.proofs.lemmas.Map.Views.{list_any-from_Contains}
+use Rattle.std.proofs.Common.{◌≡◌, ◌<◌, ◌≤◌, ◌⊎◌, inl, inr, ℕ, zero, suc, ◌+◌, ◌==◌, Bool, true, false, cond, ◌||◌, ◌&&◌, not, List, [], ◌∷◌, length, get_or, nat_lt, Some, None, refl, sym, ◌∙◌, ap, subst, arith}
+use Rattle.std.specs.Prelude.{Result, Ok, Err, find}
+use Rattle.std.specs.List.{list_any}
+use Rattle.std.specs.Str.{bytes_eq}
+use Rattle.std.proofs.lemmas.Bool.{le-ltb, lt-ltb, cases_lt, eqb-true, eq-eqb, and_parts, and_right, or_left, or_right, not_from_true}
+use Rattle.std.proofs.lemmas.List.Elements.{All-from_get_or}
+use Rattle.std.proofs.lemmas.List.Folds.{list_any-append, list_any_none}
+use Rattle.std.proofs.lemmas.Slice.Eq.{bytes_eq-Decides}
 use Rattle.mpf_config.specs.Rows.{Rows}
-use Rattle.mpf_plan.specs.declared.contribution.Kind.TheVariants as kinds
-use Rattle.mpf_plan.specs.declared.contribution.Role.TheVariants.{Uses}
 use Rattle.mpf_plan.specs.declared.fault.Table.{Table}
-use Rattle.mpf_plan.specs.declared.fault.Table.TheVariants.{Events, Bindings, Switches}
-use Rattle.mpf_plan.specs.PlanView.{PlanView}
-use Rattle.mpf_plan.specs.Contributions.{Contribution, contributions_of}
-use Rattle.mpf_plan.specs.Uses.{all_names, is_lacking, lacks_name}
-use Rattle.mpf_plan.specs.Limits.{entry_count, limit_of, order_of, first_above, IsFirstAbove}
+use Rattle.mpf_plan.specs.PlanView.{PlanView, no_switch}
+use Rattle.mpf_plan.specs.Contributions.{Contribution, gives, reads, contributions_of}
+use Rattle.mpf_plan.specs.Uses.{used, given, is_to_be_given, name_in, given_names, is_lacking, lacks_name}
+use Rattle.mpf_plan.specs.Limits.{entry_count, limit_of, order_of, tables_in_order, first_above, IsFirstAbove}
 use Rattle.mpf_plan.specs.PlanOf.{plan_of, plan_at, PlanRefusal, no_such_name, above_limit, fitting, IsExceeded}
+use Rattle.mpf_plan.proofs.ByTable.{place_within, same_place, in_place}
 
 -- ---- names
 
-none_of : {X : Type 0} (p : X → Bool) (xs : List X) → All (λ x. p x ≡ false) xs → list_any p xs ≡ false
-none_of p [] all = refl
-none_of p (x ∷ xs) all = λ i. All-head (λ y. p y ≡ false) x xs all i || none_of p xs (All-tail (λ y. p y ≡ false) x xs all) i
+-- a name that a contribution gives is among those that are given
+given_there : (cs : List Contribution) (i : ℕ) (d c : Contribution) (t : Table) (n : List ℕ) → i < length cs → get_or cs i d ≡ c → given c ≡ Some (t, n) → list_any (bytes_eq n) (given_names t cs) ≡ true
+given_there [] i d c t n within at is = absurd (omega arith)
+given_there (x ∷ cs) zero d c t n within at is =
+    list_any-append (bytes_eq n) (name_in t (given x)) (given_names t cs)
+    ∙ or_left (list_any (bytes_eq n) (name_in t (given x))) (list_any (bytes_eq n) (given_names t cs)) (ap (λ o. list_any (bytes_eq n) (name_in t o)) (ap given at ∙ is) ∙ there)
+  where
+    there : list_any (bytes_eq n) (name_in t (Some (t, n))) ≡ true
+    there = ap (λ b. list_any (bytes_eq n) (cond b (n ∷ []) [])) (eq-eqb (order_of t) (order_of t) refl) ∙ or_left (bytes_eq n n) false ((bytes_eq-Decides n n).1 refl)
+given_there (x ∷ cs) (suc i) d c t n within at is =
+    list_any-append (bytes_eq n) (name_in t (given x)) (given_names t cs)
+    ∙ or_right (list_any (bytes_eq n) (name_in t (given x))) (list_any (bytes_eq n) (given_names t cs)) (given_there cs i d c t n (omega arith) at is)
 
--- no contribution lacks a name yet: what uses the name of a switch gives it
+-- no contribution lacks a name yet: what uses a name that has to be given gives it
+named : (cs : List Contribution) (i : ℕ) (d c : Contribution) → i < length cs → get_or cs i d ≡ c → is_lacking (λ t. given_names t cs) (used c) ≡ false
+named cs i d (gives t n) within at =
+    let there = list_any (bytes_eq n) (given_names t cs) in
+    and_right (is_to_be_given t) (not there) (not_from_true there (given_there cs i d (gives t n) t n within at refl))
+named cs i d _ within at = refl
+
 pub lacks_none : (cs : List Contribution) → lacks_name cs ≡ false
 lacks_none cs =
-    let uses = all_names (Uses kinds.Switch) cs in
-    none_of (is_lacking uses) uses
-    (All-weaker (Contains uses) (λ n. is_lacking uses n ≡ false) (λ n there. ap not (list_any-from_Contains nat_list_eq_equiv n uses there)) uses (All-contains_itself uses))
+    let lacking : Contribution → Bool = λ c. is_lacking (λ t. given_names t cs) (used c) in
+    list_any_none lacking cs (All-from_get_or (λ c. lacking c ≡ false) cs (reads no_switch.kind) (λ i within. named cs i (reads no_switch.kind) (get_or cs i (reads no_switch.kind)) within refl))
 
 -- ---- tables
 
-pub none_above : (plan : PlanView) → ((t : Table) → entry_count plan t ≤ limit_of t) → first_above plan ≡ None
-none_above plan within =
-    let events = le-ltb 4096 (entry_count plan Events) (within Events) in
-    let bindings = le-ltb 16384 (entry_count plan Bindings) (within Bindings) in
-    let switches = le-ltb 256 (entry_count plan Switches) (within Switches) in
-    λ i. cond (events i) (Some Events) (cond (bindings i) (Some Bindings) (cond (switches i) (Some Switches) None))
+module _ (plan : PlanView) where
+  abbrev Within : Table → Type 0
+  Within t = entry_count plan t ≤ limit_of t
 
-pub first_is : (plan : PlanView) (t : Table) → IsFirstAbove plan t → first_above plan ≡ Some t
-first_is plan Events first =
-    let events = lt-ltb 4096 (entry_count plan Events) first.above in
-    λ i. cond (events i) (Some Events) (cond (nat_lt 16384 (entry_count plan Bindings)) (Some Bindings) (cond (nat_lt 256 (entry_count plan Switches)) (Some Switches) None))
-first_is plan Bindings first =
-    let events = le-ltb 4096 (entry_count plan Events) (first.before Events (omega arith)) in
-    let bindings = lt-ltb 16384 (entry_count plan Bindings) first.above in
-    λ i. cond (events i) (Some Events) (cond (bindings i) (Some Bindings) (cond (nat_lt 256 (entry_count plan Switches)) (Some Switches) None))
-first_is plan Switches first =
-    let events = le-ltb 4096 (entry_count plan Events) (first.before Events (omega arith)) in
-    let bindings = le-ltb 16384 (entry_count plan Bindings) (first.before Bindings (omega arith)) in
-    let switches = lt-ltb 256 (entry_count plan Switches) first.above in
-    λ i. cond (events i) (Some Events) (cond (bindings i) (Some Bindings) (cond (switches i) (Some Switches) None))
+  abbrev is_above : Table → Bool
+  is_above t = nat_lt (limit_of t) (entry_count plan t)
 
--- a fact for each table
-pub by_table : (P : Table → Type 0) → P Events → P Bindings → P Switches → (t : Table) → P t
-by_table P e b s Events = e
-by_table P e b s Bindings = b
-by_table P e b s Switches = s
+  none_among : (ts : List Table) → ((t : Table) → Within t) → find is_above ts ≡ None
+  none_among [] within = refl
+  none_among (t ∷ ts) within = λ i. cond (le-ltb (limit_of t) (entry_count plan t) (within t) i) (Some t) (none_among ts within i)
 
--- each table is within its limit, or one is the first that is not
-some_or_none : (plan : PlanView) → ((t : Table) → entry_count plan t ≤ limit_of t) ⊎ ((t : Table) × IsFirstAbove plan t)
-some_or_none plan = by (cases_lt 4096 (entry_count plan Events)) (cases_lt 16384 (entry_count plan Bindings)) (cases_lt 256 (entry_count plan Switches))
-  where
-    by : (4096 < entry_count plan Events) ⊎ (entry_count plan Events ≤ 4096) → (16384 < entry_count plan Bindings) ⊎ (entry_count plan Bindings ≤ 16384)
-        → (256 < entry_count plan Switches) ⊎ (entry_count plan Switches ≤ 256) → ((t : Table) → entry_count plan t ≤ limit_of t) ⊎ ((t : Table) × IsFirstAbove plan t)
-    by (inr e) (inr b) (inr s) = inl (by_table (λ t. entry_count plan t ≤ limit_of t) e b s)
-    by (inl e) b s = inr (Events, record { above = e; before = λ u earlier. absurd (omega arith) })
-    by (inr e) (inl b) s = inr (Bindings, record { above = b; before = by_table (λ u. order_of u < 1 → entry_count plan u ≤ limit_of u) (λ _. e) (λ h. absurd (omega arith)) (λ h. absurd (omega arith)) })
-    by (inr e) (inr b) (inl s) = inr (Switches, record { above = s; before = by_table (λ u. order_of u < 2 → entry_count plan u ≤ limit_of u) (λ _. e) (λ _. b) (λ h. absurd (omega arith)) })
+  pub none_above : ((t : Table) → entry_count plan t ≤ limit_of t) → first_above plan ≡ None
+  none_above within = none_among tables_in_order within
+
+  first_step : (n : ℕ) (x : Table) (xs : List Table) (t : Table) → order_of x ≡ n → n ≤ order_of t → IsFirstAbove plan t → (n < order_of t → find is_above xs ≡ Some t) → (n < order_of t) ⊎ (order_of t ≤ n)
+      → find is_above (x ∷ xs) ≡ Some t
+  first_step n x xs t here from first rest (inl later) = ap (λ b. cond b (Some x) (find is_above xs)) (le-ltb (limit_of x) (entry_count plan x) (first.before x (omega (arith, here)))) ∙ rest later
+  first_step n x xs t here from first rest (inr now) =
+      let same : x ≡ t = same_place x t (omega (arith, here)) in
+      ap (λ b. cond b (Some x) (find is_above xs)) (ap is_above same ∙ lt-ltb (limit_of t) (entry_count plan t) first.above) ∙ ap Some same
+
+  first_among : (n : ℕ) (ts : List Table) (t : Table) → in_place n ts ≡ true → n ≤ order_of t → order_of t < n + length ts → IsFirstAbove plan t → find is_above ts ≡ Some t
+  first_among n [] t placed from to first = absurd (omega arith)
+  first_among n (x ∷ xs) t placed from to first =
+      let parts = and_parts (order_of x == n) (in_place (n + 1) xs) placed in
+      first_step n x xs t (eqb-true (order_of x) n parts.0) from first (λ later. first_among (n + 1) xs t parts.1 (omega arith) (omega arith) first) (cases_lt n (order_of t))
+
+  pub first_is : (t : Table) → IsFirstAbove plan t → first_above plan ≡ Some t
+  first_is t first = first_among 0 tables_in_order t refl (omega arith) (place_within t) first
+
+  upto : (n : ℕ) (x : Table) → order_of x ≡ n → ((t : Table) → order_of t < n → Within t) → Within x → (t : Table) → order_of t < n + 1 → Within t
+  upto n x here before within t to = by (cases_lt (order_of t) n)
+    where
+      by : (order_of t < n) ⊎ (n ≤ order_of t) → Within t
+      by (inl earlier) = before t earlier
+      by (inr now) = subst Within (same_place x t (omega (arith, here))) within
+
+  -- each table of these is within its limit, or one is the first that is not
+  abbrev SomeOrNone : ℕ → Type 0
+  SomeOrNone n = ((t : Table) → order_of t < n → Within t) ⊎ ((t : Table) × IsFirstAbove plan t)
+
+  some_or_none_step : (n m : ℕ) (x : Table) → order_of x ≡ n → ((t : Table) → order_of t < n → Within t) → (Within x → SomeOrNone m) → (limit_of x < entry_count plan x) ⊎ (entry_count plan x ≤ limit_of x) → SomeOrNone m
+  some_or_none_step n m x here before rest (inl above) = inr (x, record { above = above; before = λ t earlier. before t (omega (arith, here)) })
+  some_or_none_step n m x here before rest (inr within) = rest within
+
+  some_or_none_among : (n m : ℕ) (ts : List Table) → m ≡ n + length ts → in_place n ts ≡ true → ((t : Table) → order_of t < n → Within t) → SomeOrNone m
+  some_or_none_among n m [] end placed before = inl (λ t to. before t (omega arith))
+  some_or_none_among n m (x ∷ xs) end placed before =
+      let parts = and_parts (order_of x == n) (in_place (n + 1) xs) placed in
+      let here = eqb-true (order_of x) n parts.0 in
+      some_or_none_step n m x here before (λ within. some_or_none_among (n + 1) m xs (omega (arith, end)) parts.1 (upto n x here before within)) (cases_lt (limit_of x) (entry_count plan x))
+
+  some_or_none : ((t : Table) → entry_count plan t ≤ limit_of t) ⊎ ((t : Table) × IsFirstAbove plan t)
+  some_or_none = by (some_or_none_among 0 (length tables_in_order) tables_in_order refl refl (λ t none. absurd (omega arith)))
+    where
+      by : SomeOrNone (length tables_in_order) → ((t : Table) → entry_count plan t ≤ limit_of t) ⊎ ((t : Table) × IsFirstAbove plan t)
+      by (inl all) = inl (λ t. all t (place_within t))
+      by (inr first) = inr first
 
 same_Some : (t u : Table) → Some t ≡ Some u → t ≡ u
 same_Some t u e = cc

@@ -1,18 +1,26 @@
 -- Names that are used, and names that are given.
-use Rattle.std.proofs.Common.{◌≡◌, ℕ, zero, suc, ◌<◌, Bool, true, false, cond, not, ◌||◌, List, [], ◌∷◌, ◌++◌, length, map, filter, get_or, Vec, Global, refl, sym, ◌∙◌, ap, arith}
+use Rattle.std.proofs.Common.{◌≡◌, ℕ, zero, suc, ◌+◌, ◌<◌, ◌==◌, Bool, true, false, cond, not, ◌||◌, ◌&&◌, List, [], ◌∷◌, ◌++◌, length, map, filter, fold, set, get_or, take, Option, Some, None, Vec, Global, refl, sym, ◌∙◌, ap, subst, arith}
+use Rattle.std.specs.Prelude.{slice_get}
 use Rattle.std.specs.Str.{bytes_eq}
-use Rattle.std.specs.List.{list_any}
+use Rattle.std.specs.List.{All, list_any}
+use Rattle.std.proofs.lemmas.Bool.{eq-eqb, ne_eqb, or_left, or_right}
+use Rattle.std.proofs.lemmas.Grind.{flat_map-append}
+use Rattle.std.proofs.lemmas.List.{append-nil, length-set}
 use Rattle.std.proofs.lemmas.List.Folds.{list_any-append}
+use Rattle.std.proofs.lemmas.Option.{get_or_from_slice_get, slice_get_read, slice_get_within}
+use Rattle.std.proofs.lemmas.List.Sums.{fold-append}
 use Rattle.std.proofs.lemmas.Slice.Eq.{bytes_eq-Decides}
-use Rattle.mpf_config.specs.declared.config.Section.{Section}
-use Rattle.mpf_config.specs.View.{section_view}
-use Rattle.mpf_plan.specs.declared.contribution.Contribution as contributions
-use Rattle.mpf_plan.specs.declared.contribution.Kind.{Kind}
-use Rattle.mpf_plan.specs.declared.contribution.Role.TheVariants.{Uses, Gives}
-use Rattle.mpf_plan.specs.Contributions.{Contribution, section_contributions, machine_place, contributions_in}
-use Rattle.mpf_plan.specs.Uses.{used, as_list, first_uses, all_names, is_lacking, lacks}
-use Rattle.mpf_plan.specs.Inside.{contribution_view, contributions_view, names_of}
-use Rattle.mpf_plan.proofs.Taken.{all_names-append}
+use Rattle.indexmap.specs.IndexSet.{IndexSet}
+use Rattle.mpf_plan.specs.declared.collect.Row as rows
+use Rattle.mpf_plan.specs.declared.fault.Table.{Table}
+use Rattle.mpf_plan.specs.Contributions.{Contribution, row_contributions, machine_place, given_by}
+use Rattle.mpf_plan.specs.Uses.{first_uses, given, name_in, given_names, is_to_be_given, is_lacking}
+use Rattle.mpf_plan.specs.Limits.{order_of, tables_in_order}
+use Rattle.mpf_plan.specs.Inside.{row_view, rows_view}
+use Rattle.mpf_plan.specs.NamesKept.{names_of}
+use Rattle.mpf_plan.specs.Numbering.{with_name, HaveGiven}
+use Rattle.mpf_plan.proofs.Firsts.{with_names-all}
+use Rattle.mpf_plan.proofs.ByTable.{place_within, each_changed}
 
 -- ---- a name is among the first names where it is among all
 
@@ -27,7 +35,7 @@ any_filter name x other (y ∷ ys) = by (bytes_eq x y) refl (any_filter name x o
         rest ∙ sym (ap (λ b. b || list_any (bytes_eq name) ys) absent)
     by false same rest = ap (λ b. bytes_eq name y || b) rest
 
-pub any_first : (name : List ℕ) (us : List (List ℕ)) → list_any (bytes_eq name) (first_uses us) ≡ list_any (bytes_eq name) us
+any_first : (name : List ℕ) (us : List (List ℕ)) → list_any (bytes_eq name) (first_uses us) ≡ list_any (bytes_eq name) us
 any_first name [] = refl
 any_first name (x ∷ xs) = by (any_first name xs) (bytes_eq name x) refl
   where
@@ -35,51 +43,78 @@ any_first name (x ∷ xs) = by (any_first name xs) (bytes_eq name x) refl
     by rest true is = refl
     by rest false is = any_filter name x is (first_uses xs) ∙ rest
 
-any_lacking : (xs ys : List (List ℕ)) → ((n : List ℕ) → list_any (bytes_eq n) xs ≡ list_any (bytes_eq n) ys) → (us : List (List ℕ)) → list_any (is_lacking xs) us ≡ list_any (is_lacking ys) us
-any_lacking xs ys same [] = refl
-any_lacking xs ys same (u ∷ us) = λ i. not (same u i) || any_lacking xs ys same us i
-
--- what is lacking among the first names given is what is lacking
-pub lacks_first : (kind : Kind) (cs : List Contribution) (names : List (List ℕ)) → names ≡ first_uses (all_names (Gives kind) cs) → list_any (is_lacking names) (all_names (Uses kind) cs) ≡ lacks kind cs
-lacks_first kind cs names is =
-    ap (λ ns. list_any (is_lacking ns) (all_names (Uses kind) cs)) is
-    ∙ any_lacking (first_uses (all_names (Gives kind) cs)) (all_names (Gives kind) cs) (λ n. any_first n (all_names (Gives kind) cs)) (all_names (Uses kind) cs)
-
 -- a name among keys
-pub any_keys : (name : List ℕ) (keys : List (Vec ℕ Global)) → list_any (bytes_eq name) (names_of keys) ≡ list_any (λ k. bytes_eq name k.items) keys
+any_keys : (name : List ℕ) (keys : List (Vec ℕ Global)) → list_any (bytes_eq name) (names_of keys) ≡ list_any (λ k. bytes_eq name k.items) keys
 any_keys name [] = refl
 any_keys name (k ∷ ks) = ap (λ b. bytes_eq name k.items || b) (any_keys name ks)
 
--- ---- a name that is lacking somewhere is lacking in all
+-- ---- the names that are given
 
-either : (a b : Bool) → b ≡ true → (a || b) ≡ true
-either true b is = refl
-either false b is = is
+module _ {S : Type 0} where
+  -- none
+  pub given_none : (sets : List (IndexSet (Vec ℕ Global) S)) → length sets ≡ length tables_in_order → All (λ s. s.keys ≡ []) sets → HaveGiven [] sets
+  given_none sets count empty = record {
+    count = count;
+    names = λ t s at. ap names_of (subst (λ (x : IndexSet (Vec ℕ Global) S). x.keys ≡ []) (get_or_from_slice_get sets (order_of t) s s at) (empty (order_of t) s (slice_get_within sets (order_of t) s at)));
+  }
 
-module _ (names : List (List ℕ)) (kind : Kind) where
-  abbrev lacking_in : List Contribution → Bool
-  lacking_in cs = list_any (is_lacking names) (all_names (Uses kind) cs)
+  module _ (cs : List Contribution) (d : Contribution) (sets : List (IndexSet (Vec ℕ Global) S)) (has : HaveGiven cs sets) where
+    names_then : (t : Table) → fold with_name (fold with_name [] (given_names t cs)) (name_in t (given d)) ≡ fold with_name [] (given_names t (cs ++ d ∷ []))
+    names_then t =
+        sym (fold-append with_name [] (given_names t cs) (name_in t (given d)))
+        ∙ ap (fold with_name []) (sym (flat_map-append (λ c. name_in t (given c)) cs (d ∷ []) ∙ ap (λ l. given_names t cs ++ l) (append-nil (name_in t (given d)))))
 
-  lacking_then : (cs ds : List Contribution) → lacking_in (cs ++ ds) ≡ (lacking_in cs || lacking_in ds)
-  lacking_then cs ds = ap (list_any (is_lacking names)) (all_names-append (Uses kind) cs ds) ∙ list_any-append (is_lacking names) (all_names (Uses kind) cs) (all_names (Uses kind) ds)
+    -- one contribution more, which gives nothing under a name
+    pub given_nameless : (now : List (IndexSet (Vec ℕ Global) S)) → given d ≡ None → now ≡ sets → HaveGiven (cs ++ d ∷ []) now
+    given_nameless now none same = subst (HaveGiven (cs ++ d ∷ [])) (sym same) (record {
+      count = has.count;
+      names = λ t s at. has.names t s at ∙ ap (λ o. fold with_name (fold with_name [] (given_names t cs)) (name_in t o)) (sym none) ∙ names_then t;
+    })
 
-  -- in a contribution
-  pub lacking_here : (cs : List contributions.Contribution) (i : ℕ) (d : contributions.Contribution) → i < length cs → list_any (is_lacking names) (as_list (used kind (contribution_view (get_or cs i d)))) ≡ true
-      → lacking_in (contributions_view cs) ≡ true
-  lacking_here [] i d within is = absurd (omega arith)
-  lacking_here (c ∷ cs) zero d within is =
-      list_any-append (is_lacking names) (as_list (used kind (contribution_view c))) (all_names (Uses kind) (contributions_view cs)) ∙ ap (λ b. b || lacking_in (contributions_view cs)) is
-  lacking_here (c ∷ cs) (suc i) d within is =
-      list_any-append (is_lacking names) (as_list (used kind (contribution_view c))) (all_names (Uses kind) (contributions_view cs))
-      ∙ either (list_any (is_lacking names) (as_list (used kind (contribution_view c)))) (lacking_in (contributions_view cs)) (lacking_here cs i d (omega arith) is)
+    -- or under this name
+    module _ (u : Table) (n : List ℕ) (gives : given d ≡ Some (u, n)) where
+      names_by : (t : Table) (b : Bool) → (order_of u == order_of t) ≡ b
+          → fold with_name (fold with_name [] (given_names t cs)) (cond b (n ∷ []) []) ≡ fold with_name [] (given_names t (cs ++ d ∷ []))
+      names_by t b same =
+          let so_far = fold with_name [] (given_names t cs) in
+          sym (ap (λ o. fold with_name so_far (name_in t o)) gives ∙ ap (λ b. fold with_name so_far (cond b (n ∷ []) [])) same) ∙ names_then t
 
-  -- in a section
-  pub lacking_section : (ss : List Section) (i : ℕ) (s : Section) → i < length ss → s ≡ get_or ss i s → lacking_in (section_contributions machine_place (section_view s)) ≡ true
-      → lacking_in (contributions_in (map section_view ss)) ≡ true
-  lacking_section [] i s within at is = absurd (omega arith)
-  lacking_section (x ∷ ss) zero s within at is =
-      lacking_then (section_contributions machine_place (section_view x)) (contributions_in (map section_view ss))
-      ∙ ap (λ b. b || lacking_in (contributions_in (map section_view ss))) (ap (λ y. lacking_in (section_contributions machine_place (section_view y))) (sym at) ∙ is)
-  lacking_section (x ∷ ss) (suc i) s within at is =
-      lacking_then (section_contributions machine_place (section_view x)) (contributions_in (map section_view ss))
-      ∙ either (lacking_in (section_contributions machine_place (section_view x))) (lacking_in (contributions_in (map section_view ss))) (lacking_section ss i s (omega arith) at is)
+      abbrev Names : List Contribution → Table → IndexSet (Vec ℕ Global) S → Type 0
+      Names ds t s = names_of s.keys ≡ fold with_name [] (given_names t ds)
+
+      pub given_named : (now : List (IndexSet (Vec ℕ Global) S)) (p : ℕ) (was is : IndexSet (Vec ℕ Global) S) → p ≡ order_of u → now ≡ set sets p is → was ≡ get_or sets p was → names_of is.keys ≡ with_name (names_of was.keys) n
+          → HaveGiven (cs ++ d ∷ []) now
+      given_named now p was is place changed got noted = subst (HaveGiven (cs ++ d ∷ [])) (sym (changed ∙ ap (λ k. set sets k is) place)) (record {
+        count = length-set sets (order_of u) is ∙ has.count;
+        names = each_changed (Names cs) (Names (cs ++ d ∷ [])) u sets was is has.count (got ∙ ap (λ k. get_or sets k was) place)
+            (λ t e h. noted ∙ ap (λ ns. with_name ns n) h ∙ names_by t true (eq-eqb (order_of u) (order_of t) (sym e)))
+            (λ t other s h. h ∙ names_by t false (ne_eqb (order_of u) (order_of t) (λ e. other (sym e)))) has.names;
+      })
+
+  -- whether a name is among them
+  any_given : (cs : List Contribution) (sets : List (IndexSet (Vec ℕ Global) S)) (t : Table) (s : IndexSet (Vec ℕ Global) S) (n : List ℕ) → HaveGiven cs sets → slice_get sets (order_of t) ≡ Some s
+      → list_any (λ k. bytes_eq n k.items) s.keys ≡ list_any (bytes_eq n) (given_names t cs)
+  any_given cs sets t s n has at =
+      sym (any_keys n s.keys)
+      ∙ ap (list_any (bytes_eq n)) (has.names t s at ∙ with_names-all (given_names t cs))
+      ∙ any_first n (given_names t cs)
+
+  -- whether a contribution that uses this name lacks it
+  pub lacking_named : (cs : List Contribution) (sets : List (IndexSet (Vec ℕ Global) S)) (o : Option (Table × List ℕ)) (t : Table) (n : List ℕ) (p : ℕ) (s : IndexSet (Vec ℕ Global) S) (text : List ℕ) (there : Bool) → HaveGiven cs sets
+      → o ≡ Some (t, n) → is_to_be_given t ≡ true → p ≡ order_of t → s ≡ get_or sets p s → text ≡ n → there ≡ list_any (λ k. bytes_eq text k.items) s.keys → not there ≡ is_lacking (λ t. given_names t cs) o
+  lacking_named cs sets o t n p s text there has uses_it needed place got same found =
+      let at : slice_get sets (order_of t) ≡ Some s = slice_get_read sets (length tables_in_order) (order_of t) s (sym has.count) (place_within t) (got ∙ ap (λ k. get_or sets k s) place) in
+      ap not (found ∙ ap (λ m. list_any (λ (k : Vec ℕ Global). bytes_eq m k.items) s.keys) same ∙ any_given cs sets t s n has at)
+      ∙ ap (λ b. b && not (list_any (bytes_eq n) (given_names t cs))) (sym needed)
+      ∙ ap (is_lacking (λ t. given_names t cs)) (sym uses_it)
+
+-- ---- a contribution of one row is one of all
+
+pub any_row : (p : Contribution → Bool) (rs : List rows.Row) (i : ℕ) (r : rows.Row) → i < length rs → list_any p (row_contributions machine_place (row_view (get_or rs i r))) ≡ true → list_any p (given_by (rows_view rs)) ≡ true
+any_row p [] i r within is = absurd (omega arith)
+any_row p (x ∷ rs) zero r within is =
+    let here = row_contributions machine_place (row_view x) in
+    list_any-append p here (given_by (rows_view rs)) ∙ or_left (list_any p here) (list_any p (given_by (rows_view rs))) is
+any_row p (x ∷ rs) (suc i) r within is =
+    let here = row_contributions machine_place (row_view x) in
+    list_any-append p here (given_by (rows_view rs)) ∙ or_right (list_any p here) (list_any p (given_by (rows_view rs))) (any_row p rs i r (omega arith) is)

@@ -4,7 +4,8 @@ use Rattle.std.specs.Prelude.{Result, Ok, Err}
 use Rattle.std.specs.List.{All}
 use Rattle.std.proofs.lemmas.List.Elements.{All-weaker}
 use Rattle.mpf_config.specs.Rows.{Rows}
-use Rattle.mpf_plan.specs.declared.draft.NameSets.{NameSets}
+use Rattle.mpf_config.specs.Short.{AreListsShort}
+use Rattle.mpf_plan.specs.declared.names.NameSets.{NameSets}
 use Rattle.mpf_plan.specs.declared.draft.Draft.{Draft}
 use Rattle.mpf_plan.specs.declared.fault.Table.{Table}
 use Rattle.mpf_plan.specs.declared.fault.PlanFault.{PlanFault}
@@ -41,7 +42,7 @@ module _ (rows : Rows) (cs : List Contribution) (same : cs ≡ contributions_of 
 
   -- ---- a plan
 
-  module _ (names : NameSets) (d : Draft) (numbered : Numbered cs (Ok names)) (made : draft_view names d ≡ drafted (name_sets_view names) cs) where
+  module _ (short : AreListsShort rows) (names : NameSets) (d : Draft) (numbered : Numbered cs (Ok names)) (made : draft_view names d ≡ drafted (name_sets_view names) cs) where
     pub is_plan : (draft_view names d).plan ≡ plan_of rows
     is_plan = ap (λ x. x.plan) (made ∙ ap (λ n. drafted n cs) numbered.1) ∙ from_rows
 
@@ -49,7 +50,7 @@ module _ (rows : Rows) (cs : List Contribution) (same : cs ≡ contributions_of 
     rows_within = all_within (plan_of rows) (ap first_above (sym from_rows) ∙ numbered.2)
 
     pub is_valid : IsValid (draft_view names d).plan
-    is_valid = subst IsValid (sym is_plan) (IsValid-plan_of rows rows_within)
+    is_valid = subst IsValid (sym is_plan) (IsValid-plan_of rows short rows_within)
 
     pub is_planned : plan_at rows ≡ Ok (draft_view names d).plan
     is_planned = plan_at-within rows rows_within ∙ ap Ok (sym is_plan)

@@ -1,5 +1,5 @@
 -- The switches of a plan, each at the place of its name.
-use Rattle.std.proofs.Common.{◌≡◌, ℕ, zero, suc, ◌<◌, List, [], ◌∷◌, length, get_or, Vec, Global, refl, sym, ◌∙◌, ap, arith}
+use Rattle.std.proofs.Common.{◌≡◌, ℕ, zero, suc, ◌<◌, List, [], ◌∷◌, length, get_or, refl, sym, ◌∙◌, ap, arith}
 use Rattle.std.specs.List.{zip, position}
 use Rattle.std.specs.Str.{bytes_eq}
 use Rattle.std.proofs.lemmas.Slice.Zip.{firsts-zip}
@@ -9,31 +9,31 @@ use Rattle.mpf_plan.specs.Inside.{switch_view, switches_view}
 use Rattle.mpf_plan.proofs.Places.{position-map}
 
 -- there are as many as names
-pub length-switches : (names : List (Vec ℕ Global)) (entries : List SwitchEntry) → length entries ≡ length names → length (switches_view names entries) ≡ length names
+pub length-switches : (names : List (List ℕ)) (entries : List SwitchEntry) → length entries ≡ length names → length (switches_view names entries) ≡ length names
 length-switches [] entries count = refl
 length-switches (n ∷ ns) [] count = absurd (omega (arith, count))
 length-switches (n ∷ ns) (e ∷ es) count = let rest = length-switches ns es (omega (arith, count)) in omega (arith, rest)
 
 -- the switch at a place has the name there
-pub name_shown : (names : List (Vec ℕ Global)) (entries : List SwitchEntry) (i : ℕ) (n : Vec ℕ Global) → length entries ≡ length names → i < length names
-    → (get_or (switches_view names entries) i no_switch).name ≡ (get_or names i n).items
-name_shown [] entries i n count within = absurd (omega arith)
-name_shown (m ∷ ms) [] i n count within = absurd (omega (arith, count))
-name_shown (m ∷ ms) (e ∷ es) zero n count within = refl
-name_shown (m ∷ ms) (e ∷ es) (suc i) n count within = name_shown ms es i n (omega (arith, count)) (omega arith)
+pub name_shown : (names : List (List ℕ)) (entries : List SwitchEntry) (i : ℕ) → length entries ≡ length names → i < length names
+    → (get_or (switches_view names entries) i no_switch).name ≡ get_or names i []
+name_shown [] entries i count within = absurd (omega arith)
+name_shown (m ∷ ms) [] i count within = absurd (omega (arith, count))
+name_shown (m ∷ ms) (e ∷ es) zero count within = refl
+name_shown (m ∷ ms) (e ∷ es) (suc i) count within = name_shown ms es i (omega (arith, count)) (omega arith)
 
 -- and what the entry there says
-pub entry_shown : {X : Type 0} (seen : Switch → X) (said : SwitchEntry → X) → ((n : Vec ℕ Global) (e : SwitchEntry) → seen (switch_view (n, e)) ≡ said e)
-    → (names : List (Vec ℕ Global)) (entries : List SwitchEntry) (i : ℕ) (e : SwitchEntry) → length entries ≡ length names → i < length names → seen (get_or (switches_view names entries) i no_switch) ≡ said (get_or entries i e)
+pub entry_shown : {X : Type 0} (seen : Switch → X) (said : SwitchEntry → X) → ((n : List ℕ) (e : SwitchEntry) → seen (switch_view (n, e)) ≡ said e)
+    → (names : List (List ℕ)) (entries : List SwitchEntry) (i : ℕ) (e : SwitchEntry) → length entries ≡ length names → i < length names → seen (get_or (switches_view names entries) i no_switch) ≡ said (get_or entries i e)
 entry_shown seen said same [] entries i e count within = absurd (omega arith)
 entry_shown seen said same (m ∷ ms) [] i e count within = absurd (omega (arith, count))
 entry_shown seen said same (m ∷ ms) (f ∷ fs) zero e count within = same m f
 entry_shown seen said same (m ∷ ms) (f ∷ fs) (suc i) e count within = entry_shown seen said same ms fs i e (omega (arith, count)) (omega arith)
 
 -- a switch has the place of its name
-pub switch_position : (name : List ℕ) (names : List (Vec ℕ Global)) (entries : List SwitchEntry) → length entries ≡ length names
-    → position (λ (s : Switch). bytes_eq name s.name) (switches_view names entries) ≡ position (λ k. bytes_eq name k.items) names
+pub switch_position : (name : List ℕ) (names : List (List ℕ)) (entries : List SwitchEntry) → length entries ≡ length names
+    → position (λ (s : Switch). bytes_eq name s.name) (switches_view names entries) ≡ position (bytes_eq name) names
 switch_position name names entries count =
     position-map switch_view (λ (s : Switch). bytes_eq name s.name) (zip names entries)
-    ∙ sym (position-map (λ e. e.0) (λ k. bytes_eq name k.items) (zip names entries))
-    ∙ ap (position (λ k. bytes_eq name k.items)) (firsts-zip names entries count)
+    ∙ sym (position-map (λ e. e.0) (bytes_eq name) (zip names entries))
+    ∙ ap (position (bytes_eq name)) (firsts-zip names entries count)

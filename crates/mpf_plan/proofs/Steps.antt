@@ -1,5 +1,5 @@
 -- Items changed in their places, as they are seen; and switches of which the names alone are known.
-use Rattle.std.proofs.Common.{◌≡◌, ℕ, zero, suc, ◌-◌, ◌<◌, ◌≤◌, List, [], ◌∷◌, ◌++◌, length, map, set, get_or, Vec, Global, refl, sym, ◌∙◌, ap, arith}
+use Rattle.std.proofs.Common.{◌≡◌, ℕ, zero, suc, ◌-◌, ◌<◌, ◌≤◌, List, [], ◌∷◌, ◌++◌, Bool, false, length, map, set, get_or, Vec, Global, refl, sym, ◌∙◌, ap, arith}
 use Rattle.std.specs.List.{All}
 use Rattle.std.proofs.lemmas.List.{set_past, map-set, get_or-map, length-map}
 use Rattle.std.proofs.lemmas.List.Elements.{All-head, All-tail}
@@ -7,7 +7,7 @@ use Rattle.mpf_plan.specs.declared.entries.Action.{Action}
 use Rattle.mpf_plan.specs.declared.draft.SwitchEntry.{SwitchEntry}
 use Rattle.mpf_plan.specs.PlanView.{Switch, no_switch}
 use Rattle.mpf_plan.specs.PlanOf.{last_with, named_switch}
-use Rattle.mpf_plan.specs.Inside.{names_of, switch_view, switches_view, action_lists}
+use Rattle.mpf_plan.specs.Inside.{switch_view, switches_view, action_lists}
 
 -- an item changed in its place, as it is seen
 shown_at : {X Y : Type 0} (shown : X → Y) (f : Y → Y) (xs : List X) (i : ℕ) (old new : X) (d : Y) → i < length xs → old ≡ get_or xs i old → shown new ≡ f (shown old)
@@ -31,8 +31,8 @@ same_default (x ∷ xs) (suc n) d e within = same_default xs n d e (omega arith)
 -- ---- switches
 
 -- an entry changed in its place
-pub switch_changed : (change : Switch → Switch) (old new : SwitchEntry) → ((n : Vec ℕ Global) → switch_view (n, new) ≡ change (switch_view (n, old)))
-    → (names : List (Vec ℕ Global)) (entries : List SwitchEntry) (i : ℕ) → i < length entries → old ≡ get_or entries i old
+pub switch_changed : (change : Switch → Switch) (old new : SwitchEntry) → ((n : List ℕ) → switch_view (n, new) ≡ change (switch_view (n, old)))
+    → (names : List (List ℕ)) (entries : List SwitchEntry) (i : ℕ) → i < length entries → old ≡ get_or entries i old
     → switches_view names (set entries i new) ≡ set (switches_view names entries) i (change (get_or (switches_view names entries) i no_switch))
 switch_changed change old new changed [] entries i within is = refl
 switch_changed change old new changed (n ∷ ns) [] i within is = absurd (omega arith)
@@ -40,13 +40,13 @@ switch_changed change old new changed (n ∷ ns) (e ∷ es) zero within is = ap 
 switch_changed change old new changed (n ∷ ns) (e ∷ es) (suc i) within is = ap (λ ss. switch_view (n, e) ∷ ss) (switch_changed change old new changed ns es i (omega arith) is)
 
 -- past the last entry nothing is changed
-pub switch_unchanged : (change : Switch → Switch) (names : List (Vec ℕ Global)) (entries : List SwitchEntry) (i : ℕ) → length entries ≤ i
+pub switch_unchanged : (change : Switch → Switch) (names : List (List ℕ)) (entries : List SwitchEntry) (i : ℕ) → length entries ≤ i
     → switches_view names entries ≡ set (switches_view names entries) i (change (get_or (switches_view names entries) i no_switch))
 switch_unchanged change names entries i past =
     let seen = switches_view names entries in
     sym (set_past seen i (change (get_or seen i no_switch)) (omega (arith, past, fewer names entries)))
   where
-    fewer : (names : List (Vec ℕ Global)) (entries : List SwitchEntry) → length (switches_view names entries) ≤ length entries
+    fewer : (names : List (List ℕ)) (entries : List SwitchEntry) → length (switches_view names entries) ≤ length entries
     fewer [] es = omega arith
     fewer (n ∷ ns) [] = omega arith
     fewer (n ∷ ns) (e ∷ es) = omega (arith, fewer ns es)
@@ -57,9 +57,18 @@ pub record IsBlank (e : SwitchEntry) : Type 0 where
   pub active : e.active.items ≡ []
   pub inactive : e.inactive.items ≡ []
 
-pub blank_entries : (names : List (Vec ℕ Global)) (entries : List SwitchEntry) → length entries ≡ length names → All IsBlank entries → switches_view names entries ≡ map named_switch (names_of names)
+pub blank_entries : (names : List (List ℕ)) (entries : List SwitchEntry) → length entries ≡ length names → All IsBlank entries → switches_view names entries ≡ map named_switch names
 blank_entries [] entries count all = refl
 blank_entries (n ∷ ns) [] count all = absurd (omega (arith, count))
 blank_entries (n ∷ ns) (e ∷ es) count all =
     let first = All-head IsBlank e es all in
-    λ i. record { name = n.items; kind = first.kind i; active = first.active i; inactive = first.inactive i } ∷ blank_entries ns es (omega (arith, count)) (All-tail IsBlank e es all) i
+    λ i. record { name = n; kind = first.kind i; active = first.active i; inactive = first.inactive i } ∷ blank_entries ns es (omega (arith, count)) (All-tail IsBlank e es all) i
+
+-- as many marks as names
+pub blank_marks : (names : List (List ℕ)) (marks : List Bool) → length marks ≡ length names → All (λ m. m ≡ false) marks → marks ≡ map (λ n. false) names
+blank_marks [] [] count all = refl
+blank_marks [] (m ∷ ms) count all = absurd (omega (arith, count))
+blank_marks (n ∷ ns) [] count all = absurd (omega (arith, count))
+blank_marks (n ∷ ns) (m ∷ ms) count all =
+    let first = All-head (λ x. x ≡ false) m ms all in
+    λ i. first i ∷ blank_marks ns ms (omega (arith, count)) (All-tail (λ x. x ≡ false) m ms all) i

@@ -1,20 +1,25 @@
 -- What the rows give to a plan, by names and in plan order.
-use Rattle.std.specs.Prelude.{ℕ, Bool, true, false, List, ◌∷◌, ◌++◌, map, codes}
+use Rattle.std.specs.Prelude.{ℕ, Bool, true, false, if◌then◌else◌, List, [], ◌∷◌, ◌++◌, map, codes}
 use Rattle.std.specs.List.{flat_map}
+use Rattle.std.specs.Str.{bytes_eq}
 use Rattle.mpf_config.specs.declared.config.Debounce.{Debounce}
 use Rattle.mpf_config.specs.declared.config.Debounce.TheVariants.{Auto, Quick, Normal}
-use Rattle.mpf_config.specs.Rows.{Written, Switch, EventPlayer, SectionRows, Rows}
-use Rattle.mpf_config.specs.Typed.{switches_in, event_players_in}
+use Rattle.mpf_config.specs.Rows.{Written, Entry, Player, Switch, EventPlayer, Content, entries, players, SectionRows, Rows}
+use Rattle.mpf_config.specs.Typed.{switch_of, event_player_of}
 use Rattle.mpf_plan.specs.declared.entries.SwitchKind.{SwitchKind}
 use Rattle.mpf_plan.specs.declared.entries.Owner.TheVariants.{Machine}
 use Rattle.mpf_plan.specs.declared.contribution.Place.{Place}
 use Rattle.mpf_plan.specs.declared.contribution.Aim.{Aim}
 use Rattle.mpf_plan.specs.declared.contribution.Aim.TheVariants.{Run}
+use Rattle.mpf_plan.specs.declared.fault.Table.{Table}
+use Rattle.mpf_plan.specs.declared.fault.Table.TheVariants.{Switches}
 
--- One thing that an entry gives: a switch that is read so; an event that this switch posts when it becomes active,
--- or inactive; a binding of an event; an event that the effect list posts which began last.
+-- One thing that an entry gives: what stands in a table under this name; how the switch is read that was given last; an
+-- event that this switch posts when it becomes active, or inactive; a binding of an event; an event that the effect list
+-- posts which began last.
 pub data Contribution : Type 0 where
-  switch : List ℕ → SwitchKind → Contribution
+  gives : Table → List ℕ → Contribution
+  reads : SwitchKind → Contribution
   active : List ℕ → Contribution
   inactive : List ℕ → Contribution
   binds : List ℕ → Place → Aim → Contribution
@@ -50,7 +55,8 @@ inactive_posts s = (s.name.text ++ codes "_inactive") ∷ texts s.deactivated
 
 -- a switch, with what it posts, whatever the order of its settings: first when it becomes active
 unfoldable pub switch_contributions : Switch → List Contribution
-switch_contributions s = switch s.name.text (kind_of s) ∷ map active (active_posts s) ++ map inactive (inactive_posts s)
+switch_contributions s =
+    gives Switches s.name.text ∷ reads (kind_of s) ∷ map active (active_posts s) ++ map inactive (inactive_posts s)
 
 -- ---- event_player
 
@@ -58,19 +64,41 @@ switch_contributions s = switch s.name.text (kind_of s) ∷ map active (active_p
 unfoldable pub player_contributions : Place → EventPlayer → List Contribution
 player_contributions place p = binds p.event.text place Run ∷ map post (texts p.posts)
 
--- ---- sections
+-- ---- rows
 
--- what a section gives; it has entries of one kind, so that all lists here but one are empty
-unfoldable pub section_contributions : Place → SectionRows → List Contribution
-section_contributions place s = flat_map switch_contributions (switches_in s) ++ flat_map (player_contributions place) (event_players_in s)
+-- an entry, or an entry of a player, in the section of this name
+pub data Row : Type 0 where
+  entry : List ℕ → Entry → Row
+  player : List ℕ → Player → Row
+
+abbrev pub rows_from : List ℕ → Content → List Row
+rows_from name (entries es) = map (entry name) es
+rows_from name (players ps) = map (player name) ps
+
+-- the rows of sections, as written
+abbrev pub rows_in : List SectionRows → List Row
+rows_in sections = flat_map (λ s. rows_from s.name s.content) sections
+
+-- what an entry gives, by the name of its section
+unfoldable pub entry_contributions : List ℕ → Entry → List Contribution
+entry_contributions section e = if bytes_eq section (codes "switches") then switch_contributions (switch_of e) else []
+
+-- and an entry of a player
+unfoldable pub player_entry_contributions : Place → List ℕ → Player → List Contribution
+player_entry_contributions place section p =
+    if bytes_eq section (codes "event_player") then player_contributions place (event_player_of p) else []
+
+abbrev pub row_contributions : Place → Row → List Contribution
+row_contributions place (entry section e) = entry_contributions section e
+row_contributions place (player section p) = player_entry_contributions place section p
 
 -- the machine handles events, at priority 0
 abbrev pub machine_place : Place
 machine_place = record { owner = Machine; priority = 0 }
 
--- what sections of the machine give, in turn
-abbrev pub contributions_in : List SectionRows → List Contribution
-contributions_in sections = flat_map (section_contributions machine_place) sections
+-- what rows of the machine give, in turn
+abbrev pub given_by : List Row → List Contribution
+given_by rows = flat_map (row_contributions machine_place) rows
 
 abbrev pub contributions_of : Rows → List Contribution
-contributions_of rows = contributions_in rows.machine
+contributions_of rows = given_by (rows_in rows.machine)

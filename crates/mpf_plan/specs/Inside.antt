@@ -1,19 +1,26 @@
 -- What the fields of a plan hold, and those of one that is being made.
-use Rattle.std.specs.Prelude.{ℕ, ◌≡◌, ◌++◌, List, length, map, Vec, zip}
+use Rattle.std.specs.Prelude.{ℕ, ◌≡◌, ◌++◌, List, length, map, slice_get, Vec, zip}
 use Rattle.std.specs.List.{range_with_len}
 use Rattle.std.specs.Global.{Global}
+use Rattle.mpf_plan.specs.declared.collect.Row as rows
+use Rattle.mpf_plan.specs.declared.collect.Row.TheVariants as row
 use Rattle.mpf_plan.specs.declared.contribution.Parts.{Parts}
 use Rattle.mpf_plan.specs.declared.contribution.Contribution as contributions
 use Rattle.mpf_plan.specs.declared.contribution.Contribution.TheVariants as contribution
-use Rattle.mpf_plan.specs.declared.draft.NameSets.{NameSets}
+use Rattle.mpf_plan.specs.declared.names.NameSets.{NameSets}
 use Rattle.mpf_plan.specs.declared.draft.SwitchEntry.{SwitchEntry}
 use Rattle.mpf_plan.specs.declared.draft.Draft.{Draft}
 use Rattle.mpf_plan.specs.declared.entries.Action.{Action}
 use Rattle.mpf_plan.specs.declared.entries.Binding.{Binding}
 use Rattle.mpf_plan.specs.declared.entries.BindingId.{BindingId}
+use Rattle.mpf_plan.specs.declared.fault.Table.{Table}
+use Rattle.mpf_plan.specs.declared.fault.Table.TheVariants.{Events, Switches}
 use Rattle.mpf_plan.specs.declared.tables.Plan.TheInside.{Inside}
-use Rattle.mpf_plan.specs.Contributions.{Contribution, switch, active, inactive, binds, post}
+use Rattle.mpf_config.specs.View.{entry_view, player_view}
+use Rattle.mpf_plan.specs.Contributions.{Contribution, gives, reads, active, inactive, binds, post, Row, entry, player}
+use Rattle.mpf_plan.specs.Limits.{order_of}
 use Rattle.mpf_plan.specs.Uses.{Names}
+use Rattle.mpf_plan.specs.NamesKept.{names_kept}
 use Rattle.mpf_plan.specs.PlanView.{Switch, PlanView, places_of}
 use Rattle.mpf_plan.specs.PlanOf.{DraftView}
 
@@ -22,7 +29,8 @@ abbrev pub parts_text : Parts → List ℕ
 parts_text p = p.front.now ++ p.end.now
 
 abbrev pub contribution_view : contributions.Contribution → Contribution
-contribution_view (contribution.Switch n kind) = switch n.now kind
+contribution_view (contribution.Gives table n) = gives table n.now
+contribution_view (contribution.Reads kind) = reads kind
 contribution_view (contribution.Active n) = active (parts_text n)
 contribution_view (contribution.Inactive n) = inactive (parts_text n)
 contribution_view (contribution.Binds n place aim) = binds n.now place aim
@@ -31,19 +39,27 @@ contribution_view (contribution.Post n) = post (parts_text n)
 abbrev pub contributions_view : List contributions.Contribution → List Contribution
 contributions_view cs = map contribution_view cs
 
--- the names in a set of them
-abbrev pub names_of : List (Vec ℕ Global) → List (List ℕ)
-names_of keys = map (λ v. v.items) keys
+abbrev pub row_view : rows.Row → Row
+row_view (row.Entry section e) = entry section.now (entry_view e.now)
+row_view (row.Player section p) = player section.now (player_view p.now)
 
+abbrev pub rows_view : List rows.Row → List Row
+rows_view rs = map row_view rs
+
+-- a name and its table
+abbrev pub named_view : Table × Parts → Table × List ℕ
+named_view p = (p.0, parts_text p.1)
+
+-- the names of each table
 abbrev pub name_sets_view : NameSets → Names
-name_sets_view n = record { events = names_of n.events.keys; switches = names_of n.switches.keys }
+name_sets_view n table = names_kept (slice_get n.tables.items (order_of table))
 
 -- a switch's name, how it is read, and its posts
-abbrev pub switch_view : Vec ℕ Global × SwitchEntry → Switch
-switch_view e = record { name = e.0.items; kind = e.1.kind; active = e.1.active.items; inactive = e.1.inactive.items }
+abbrev pub switch_view : List ℕ × SwitchEntry → Switch
+switch_view e = record { name = e.0; kind = e.1.kind; active = e.1.active.items; inactive = e.1.inactive.items }
 
 -- each switch stands at the place of its name
-abbrev pub switches_view : List (Vec ℕ Global) → List SwitchEntry → List Switch
+abbrev pub switches_view : List (List ℕ) → List SwitchEntry → List Switch
 switches_view names entries = map switch_view (zip names entries)
 
 abbrev pub action_lists : List (Vec Action Global) → List (List Action)
@@ -52,8 +68,8 @@ action_lists lists = map (λ v. v.items) lists
 -- the tables as they lie in a plan's fields
 abbrev pub tables_view : NameSets → List SwitchEntry → List (Vec Action Global) → List Binding → PlanView
 tables_view names switches lists bindings = record {
-  events = names_of names.events.keys;
-  switches = switches_view names.switches.keys switches;
+  events = name_sets_view names Events;
+  switches = switches_view (name_sets_view names Switches) switches;
   lists = action_lists lists;
   bindings = bindings;
 }

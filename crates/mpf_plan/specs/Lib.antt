@@ -1,9 +1,10 @@
 pub mod PlanView
+pub mod Limits
 pub mod Valid
 pub mod Contributions
 pub mod Uses
-pub mod Limits
 pub mod PlanOf
-pub mod ListLimits
+-- scaffolding: what contracts of the functions inside this crate see
+pub mod NamesKept
 pub mod Inside
 pub mod Numbering

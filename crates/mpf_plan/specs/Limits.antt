@@ -1,5 +1,5 @@
 -- How many entries each table of a plan may have.
-use Rattle.std.specs.Prelude.{ℕ, ◌<◌, ◌≤◌, List, [], ◌∷◌, Option, length, nat_lt, find, codes}
+use Rattle.std.specs.Prelude.{ℕ, ◌<◌, ◌≤◌, List, [], ◌∷◌, Option, length, map, nat_lt, find, codes}
 use Rattle.mpf_plan.specs.declared.fault.Table.{Table}
 use Rattle.mpf_plan.specs.declared.fault.Table.TheVariants.{Events, Bindings, Switches}
 use Rattle.mpf_plan.specs.PlanView.{PlanView}
@@ -9,12 +9,18 @@ entry_count plan Events = length plan.events
 entry_count plan Bindings = length plan.bindings
 entry_count plan Switches = length plan.switches
 
+-- the names of a table, where its entries have names
+abbrev pub names_in : PlanView → Table → List (List ℕ)
+names_in plan Events = plan.events
+names_in plan Bindings = []
+names_in plan Switches = map (λ s. s.name) plan.switches
+
 abbrev pub limit_of : Table → ℕ
 limit_of Events = 4096
 limit_of Bindings = 16384
 limit_of Switches = 256
 
--- the name that a table is told by
+-- the name by which a table is reported
 abbrev pub table_name : Table → List ℕ
 table_name Events = codes "events"
 table_name Bindings = codes "bindings"

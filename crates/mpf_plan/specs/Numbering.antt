@@ -1,39 +1,34 @@
 -- What the pass that numbers the names has found.
-use Rattle.std.specs.Prelude.{◌≡◌, ℕ, ◌<◌, ◌≤◌, ◌⊎◌, true, false, List, [], ◌∷◌, ◌++◌, None, Some, Result, Ok, Err, if◌then◌else◌, length, fold}
+use Rattle.std.specs.Prelude.{◌≡◌, ℕ, ◌<◌, ◌≤◌, ◌⊎◌, true, false, List, [], ◌∷◌, ◌++◌, Option, None, Some, Result, Ok, Err, if◌then◌else◌, length, slice_get, fold, Vec}
+use Rattle.std.specs.Global.{Global}
+use Rattle.indexmap.specs.IndexSet.{IndexSet}
 use Rattle.std.specs.List.{list_any, sum_by}
 use Rattle.std.specs.Str.{bytes_eq}
-use Rattle.mpf_plan.specs.declared.contribution.Kind.TheVariants as kinds
-use Rattle.mpf_plan.specs.declared.contribution.Role.{Role}
-use Rattle.mpf_plan.specs.declared.draft.NameSets.{NameSets}
+use Rattle.mpf_plan.specs.declared.names.NameTable.{NameTable}
+use Rattle.mpf_plan.specs.declared.names.NameSets.{NameSets}
 use Rattle.mpf_plan.specs.declared.fault.PlanFault.{PlanFault}
 use Rattle.mpf_plan.specs.declared.fault.PlanFault.TheVariants as faults
-use Rattle.mpf_plan.specs.declared.numbering.NameTable.{NameTable}
-use Rattle.mpf_plan.specs.declared.numbering.Found.{Found}
-use Rattle.mpf_plan.specs.Contributions.{Contribution, switch, active, inactive, binds, post}
-use Rattle.mpf_plan.specs.Uses.{all_names, names_of_kind, names_from, lacks_name}
-use Rattle.mpf_plan.specs.Limits.{first_above}
+use Rattle.mpf_plan.specs.declared.fault.Table.{Table}
+use Rattle.mpf_plan.specs.declared.names.Found.{Found}
+use Rattle.mpf_plan.specs.Contributions.{Contribution, binds}
+use Rattle.mpf_plan.specs.Uses.{given_names, names_from, lacks_name}
+use Rattle.mpf_plan.specs.Limits.{limit_of, order_of, tables_in_order, first_above}
 use Rattle.mpf_plan.specs.PlanOf.{plan_from}
-use Rattle.mpf_plan.specs.Inside.{names_of, name_sets_view}
+use Rattle.mpf_plan.specs.NamesKept.{names_of}
+use Rattle.mpf_plan.specs.Inside.{name_sets_view}
 
 -- the names after one more use: a new name goes last
 abbrev pub with_name : List (List ℕ) → List ℕ → List (List ℕ)
 with_name names name = if list_any (λ n. bytes_eq name n) names then names else names ++ name ∷ []
 
--- a table has all names, and they are within the limit; or there are more than that
-abbrev pub IsTable : ℕ → List (List ℕ) → NameTable → Type 0
-IsTable limit all t = ((t.above ≡ true) × (limit < length all)) ⊎ ((t.above ≡ false) × (names_of t.set.keys ≡ all) × (length all ≤ limit))
-
--- the table has those names as well that the contributions use, or give
-abbrev pub Notes : ℕ → Role → List Contribution → NameTable → NameTable → Type 0
-Notes limit role cs old new = (all : List (List ℕ)) → IsTable limit all old → IsTable limit (fold with_name all (all_names role cs)) new
+-- a table has all names, and they are within its limit; or there are more than that
+abbrev pub HasNames : List (List ℕ) → NameTable → Type 0
+HasNames all t = ((t.above ≡ true) × (t.limit < length all)) ⊎ ((t.above ≡ false) × (names_of t.set.keys ≡ all) × (length all ≤ t.limit))
 
 -- how many bindings a contribution gives, and how many all do
 abbrev pub bindings_given : Contribution → ℕ
-bindings_given (switch n kind) = 0
-bindings_given (active n) = 0
-bindings_given (inactive n) = 0
 bindings_given (binds n place aim) = 1
-bindings_given (post n) = 0
+bindings_given _ = 0
 
 abbrev pub binding_count : List Contribution → ℕ
 binding_count cs = sum_by bindings_given cs
@@ -42,11 +37,22 @@ binding_count cs = sum_by bindings_given cs
 abbrev pub IsCount : ℕ → ℕ → ℕ → Type 0
 IsCount limit all count = ((limit < all) × (limit < count)) ⊎ ((count ≡ all) × (all ≤ limit))
 
+-- the tables have the names of contributions, each at its place
+pub record HaveNames (cs : List Contribution) (tables : List NameTable) : Type 0 where
+  pub count : length tables ≡ length tables_in_order
+  pub limits : (t : Table) (kept : NameTable) → slice_get tables (order_of t) ≡ Some kept → kept.limit ≡ limit_of t
+  pub names : (t : Table) (kept : NameTable) → slice_get tables (order_of t) ≡ Some kept → HasNames (names_from cs t) kept
+
+-- the sets have the names under which contributions give something, each at its place
+module _ {S : Type 0} where
+  pub record HaveGiven (cs : List Contribution) (sets : List (IndexSet (Vec ℕ Global) S)) : Type 0 where
+    pub count : length sets ≡ length tables_in_order
+    pub names : (t : Table) (set : IndexSet (Vec ℕ Global) S) → slice_get sets (order_of t) ≡ Some set → names_of set.keys ≡ fold with_name [] (given_names t cs)
+
 -- what is found in contributions
 pub record HasFound (cs : List Contribution) (found : Found) : Type 0 where
-  pub events_found : IsTable 4096 (names_of_kind kinds.Event cs) found.events
-  pub switches_found : IsTable 256 (names_of_kind kinds.Switch cs) found.switches
-  pub bindings_found : IsCount 16384 (binding_count cs) found.bindings
+  pub tables : HaveNames cs found.tables.items
+  pub bindings : IsCount 16384 (binding_count cs) found.bindings
 
 -- the names of contributions whose plan is within all limits; or they use a name that nothing has; or the first table
 -- that is above its limit

@@ -9,10 +9,11 @@ use Rattle.mpf_plan.specs.declared.entries.Target.TheVariants as targets
 use Rattle.mpf_plan.specs.declared.entries.Binding.{Binding}
 use Rattle.mpf_plan.specs.declared.contribution.Aim.TheVariants.{Run}
 use Rattle.mpf_plan.specs.declared.fault.Table.{Table}
+use Rattle.mpf_plan.specs.declared.fault.Table.TheVariants.{Events, Switches}
 use Rattle.mpf_plan.specs.declared.fault.PlanFault.{PlanFault}
 use Rattle.mpf_plan.specs.declared.fault.PlanFault.TheVariants as faults
 use Rattle.mpf_plan.specs.PlanView.{Switch, no_switch, PlanView}
-use Rattle.mpf_plan.specs.Contributions.{Contribution, switch, active, inactive, binds, post, contributions_of}
+use Rattle.mpf_plan.specs.Contributions.{Contribution, gives, reads, active, inactive, binds, post, contributions_of}
 use Rattle.mpf_plan.specs.Uses.{Names, names_from, number_among, lacks_name}
 use Rattle.mpf_plan.specs.Limits.{first_above, IsFirstAbove}
 
@@ -33,12 +34,21 @@ abbrev pub last_switch : (Switch → Switch) → DraftView → DraftView
 last_switch change d =
     record d { plan = record d.plan { switches = slice_set d.plan.switches d.last (change (slice_index_or d.plan.switches d.last no_switch)) } }
 
--- the switch of the number is read so, where nothing has defined it: of two entries of one name the first counts
-abbrev pub with_switch : ℕ → SwitchKind → DraftView → DraftView
-with_switch n kind d =
+-- the switch of the number comes last, where nothing has defined it: of two entries of one name the first counts
+abbrev pub with_switch : ℕ → DraftView → DraftView
+with_switch n d =
     cond (slice_index_or d.defined n true)
     (record d { last = length d.defined })
-    (last_switch (λ s. record s { kind = kind }) (record d { defined = slice_set d.defined n true; last = n }))
+    (record d { defined = slice_set d.defined n true; last = n })
+
+-- what stands in a table under this number; a plan has more than the name of switches alone
+abbrev pub with_given : Table → ℕ → DraftView → DraftView
+with_given Switches n d = with_switch n d
+with_given _ n d = d
+
+-- the switch that came last is read so
+abbrev pub with_kind : SwitchKind → DraftView → DraftView
+with_kind kind d = last_switch (λ s. record s { kind = kind }) d
 
 abbrev pub with_active : EventId → DraftView → DraftView
 with_active e d = last_switch (λ s. record s { active = s.active ++ e ∷ [] }) d
@@ -62,12 +72,13 @@ with_action a d = record d { plan = record d.plan { lists = last_with a d.plan.l
 
 -- what one contribution adds, where names have these numbers
 abbrev pub with_contribution : Names → DraftView → Contribution → DraftView
-with_contribution names d (switch n kind) = with_switch (number_among names.switches n) kind d
-with_contribution names d (active n) = with_active (event_of names.events n) d
-with_contribution names d (inactive n) = with_inactive (event_of names.events n) d
+with_contribution names d (gives table n) = with_given table (number_among (names table) n) d
+with_contribution names d (reads kind) = with_kind kind d
+with_contribution names d (active n) = with_active (event_of (names Events) n) d
+with_contribution names d (inactive n) = with_inactive (event_of (names Events) n) d
 with_contribution names d (binds n place Run) =
-    with_list (with_binding (record { event = event_of names.events n; owner = place.owner; priority = place.priority; target = targets.Run (record { 0 = length d.plan.lists }) }) d)
-with_contribution names d (post n) = with_action (Post (event_of names.events n)) d
+    with_list (with_binding (record { event = event_of (names Events) n; owner = place.owner; priority = place.priority; target = targets.Run (record { 0 = length d.plan.lists }) }) d)
+with_contribution names d (post n) = with_action (Post (event_of (names Events) n)) d
 
 -- a switch of which the name alone is known
 abbrev pub named_switch : List ℕ → Switch
@@ -76,9 +87,9 @@ named_switch n = record no_switch { name = n }
 -- before anything is added, names are there alone
 abbrev pub blank : Names → DraftView
 blank names = record {
-  plan = record { events = names.events; switches = map named_switch names.switches; lists = []; bindings = [] };
-  defined = map (λ n. false) names.switches;
-  last = length names.switches;
+  plan = record { events = names Events; switches = map named_switch (names Switches); lists = []; bindings = [] };
+  defined = map (λ n. false) (names Switches);
+  last = length (names Switches);
 }
 
 -- all contributions, in turn

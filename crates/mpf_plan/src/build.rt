@@ -6,7 +6,8 @@ ghost use Rattle.mpf_plan.specs.declared.fault.Table.{Table as TableValue};
 ghost use Rattle.mpf_plan.specs.Limits.{entry_count, limit_of};
 ghost use Rattle.mpf_plan.specs.PlanOf.{plan_at, plan_of, GivesPlan, IsExceeded};
 
-use crate::fault::PlanFault;
+use crate::fault::{PlanFault, Table};
+use crate::collect::rows_in;
 use crate::fill::fill;
 use crate::numbering::number;
 use crate::placing::places_by_event;
@@ -36,8 +37,9 @@ pub fn plan(alloc: Global, config: &Config) -> Result<Plan, PlanFault>
     ensures limit { (t : TableValue) → result ≡ Err (PlanFault.Limit t) → IsExceeded (rows_view config.now) t }
 {
     let sections = config.machine.sections.as_slice();
-    let names = number(alloc, sections)?;
-    let draft = fill(alloc, &names, sections)?;
-    let places = places_by_event(alloc, names.events.len(), &draft.bindings)?;
+    let rows = rows_in(alloc, sections)?;
+    let names = number(alloc, &rows)?;
+    let draft = fill(alloc, &names, &rows)?;
+    let places = places_by_event(alloc, names.of(Table::Events).len(), &draft.bindings)?;
     Ok(Plan::assemble(names, draft, places))
 }

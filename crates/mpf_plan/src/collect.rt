@@ -1,32 +1,82 @@
-//! What sections give to a plan, by names and in plan order.
+//! What rows give to a plan, by names and in plan order.
 
-ghost use Rattle.std.specs.Prelude.{◌≡◌, ◌++◌, map, OnOk, codes};
-ghost use Rattle.std.specs.List.{flat_map};
-ghost use Rattle.mpf_config.specs.Typed.{switch_of, event_player_of};
+ghost use Rattle.std.specs.Prelude.{◌≡◌, ◌++◌, map, IfOk, OnOk};
 ghost use Rattle.mpf_config.specs.View.{switch_view as switch_row_view, event_player_view, section_view, entry_view, player_view, name_view};
-ghost use Rattle.mpf_plan.specs.Contributions.{active, inactive, post, texts, is_quick, kind_of, tag_event, active_posts, inactive_posts, switch_contributions, player_contributions, section_contributions, machine_place};
-ghost use Rattle.mpf_plan.specs.Inside.{contributions_view};
+ghost use Rattle.mpf_plan.specs.Contributions.{active, inactive, post, texts, is_quick, kind_of, tag_event, active_posts, inactive_posts, switch_contributions, player_contributions, rows_in, rows_from, entry, player, entry_contributions, player_entry_contributions, row_contributions, machine_place};
+ghost use Rattle.mpf_plan.specs.Inside.{contributions_view, row_view, rows_view};
 
 use crate::contribution::{Aim, Contribution, Parts, Place, whole};
 use crate::entries::{Owner, SwitchKind};
+use crate::fault::Table;
 use mpf_config::{
-    Debounce, Entry, EventPlayer, Name, Player, Section, Switch, as_event_player, as_switch,
+    Content, Debounce, Entry, EventPlayer, Name, Player, Section, Switch, as_event_player,
+    as_switch,
 };
-use std::alloc::AllocError;
+use std::alloc::{AllocError, Global};
 
-/// What a section gives, after what is there.
-#[tactic(auto, unfolding(crate::specs::Contributions::section_contributions))]
-pub(crate) fn collect_section<'a>(
-    contributions: &mut Vec<Contribution<'a>>,
-    place: Place,
-    section: &'a Section,
-) -> Result<(), AllocError>
-    ensures { OnOk result (contributions_view contributions.new.items ≡ contributions_view contributions.old.items ++ section_contributions place (section_view section.now)) }
+/// An entry, or an entry of a player, in the section of this name.
+#[derive(Clone, Copy)]
+pub(crate) enum Row<'a> {
+    Entry(&'a [u8], &'a Entry),
+    Player(&'a [u8], &'a Player),
+}
+
+// ---- rows
+
+/// The rows of sections, as written.
+pub(crate) fn rows_in<'a>(
+    alloc: Global,
+    sections: &'a [Section],
+) -> Result<Vec<Row<'a>>, AllocError>
+    ensures { IfOk result (λ rows. rows_view rows.items ≡ rows_in (map section_view sections.now)) }
 {
-    collect_switches(contributions, section.switches())?;
-    collect_players(contributions, place, section.event_players())?;
+    let mut rows = Vec::new(alloc);
+    for section in sections {
+        add_rows(&mut rows, section)?;
+    }
+    Ok(rows)
+}
+
+fn add_rows<'a>(rows: &mut Vec<Row<'a>>, section: &'a Section) -> Result<(), AllocError>
+    ensures { OnOk result (rows_view rows.new.items ≡ rows_view rows.old.items ++ rows_from (section_view section.now).name (section_view section.now).content) }
+{
+    match &section.content {
+        Content::Entries(entries) => add_entries(rows, &section.name, entries),
+        Content::Players(players) => add_players(rows, &section.name, players),
+    }
+}
+
+fn add_entries<'a>(
+    rows: &mut Vec<Row<'a>>,
+    section: &'a [u8],
+    entries: &'a [Entry],
+) -> Result<(), AllocError>
+    ensures { OnOk result (rows_view rows.new.items ≡ rows_view rows.old.items ++ map (entry section.now) (map entry_view entries.now)) }
+{
+    for entry in entries {
+        rows.push(Row::Entry(section, entry))?;
+    }
     Ok(())
 }
+
+fn add_players<'a>(
+    rows: &mut Vec<Row<'a>>,
+    section: &'a [u8],
+    players: &'a [Player],
+) -> Result<(), AllocError>
+    ensures { OnOk result (rows_view rows.new.items ≡ rows_view rows.old.items ++ map (player section.now) (map player_view players.now)) }
+{
+    for player in players {
+        rows.push(Row::Player(section, player))?;
+    }
+    Ok(())
+}
+
+// ---- contributions
+
+const SWITCHES: &[u8] = b"switches";
+
+const EVENT_PLAYER: &[u8] = b"event_player";
 
 /// The machine handles events, at priority 0.
 pub(crate) fn machine_place() -> Place
@@ -38,17 +88,53 @@ pub(crate) fn machine_place() -> Place
     }
 }
 
-fn collect_switches<'a>(
+/// What a row gives, in place of what was there.
+pub(crate) fn collect_row<'a>(
     contributions: &mut Vec<Contribution<'a>>,
-    rows: &'a [Entry],
+    place: Place,
+    row: Row<'a>,
 ) -> Result<(), AllocError>
-    ensures { OnOk result (contributions_view contributions.new.items ≡ contributions_view contributions.old.items ++ flat_map switch_contributions (map switch_of (map entry_view rows.now))) }
+    ensures { OnOk result (contributions_view contributions.new.items ≡ row_contributions place (row_view row.entry)) }
 {
-    for row in rows {
-        collect_switch(contributions, as_switch(row))?;
+    contributions.clear();
+    match row {
+        Row::Entry(section, entry) => collect_entry(contributions, section, entry),
+        Row::Player(section, player) => collect_player(contributions, place, section, player),
+    }
+}
+
+/// What an entry gives, after what is there.
+#[tactic(auto, unfolding(crate::specs::Contributions::entry_contributions))]
+fn collect_entry<'a>(
+    contributions: &mut Vec<Contribution<'a>>,
+    section: &[u8],
+    entry: &'a Entry,
+) -> Result<(), AllocError>
+    ensures { OnOk result (contributions_view contributions.new.items ≡ contributions_view contributions.old.items ++ entry_contributions section.now (entry_view entry.now)) }
+{
+    if section == SWITCHES {
+        return collect_switch(contributions, as_switch(entry));
     }
     Ok(())
 }
+
+/// What an entry of a player gives, after what is there.
+#[tactic(auto, unfolding(crate::specs::Contributions::player_entry_contributions))]
+fn collect_player<'a>(
+    contributions: &mut Vec<Contribution<'a>>,
+    place: Place,
+    section: &[u8],
+    player: &'a Player,
+) -> Result<(), AllocError>
+    ensures { OnOk result (contributions_view contributions.new.items ≡ contributions_view contributions.old.items ++ player_entry_contributions place section.now (player_view player.now)) }
+{
+    if section == EVENT_PLAYER {
+        return collect_event_player(contributions, place, as_event_player(player));
+    }
+    Ok(())
+}
+
+// ---- `switches`
 
 #[tactic(auto, unfolding(crate::specs::Contributions::switch_contributions))]
 fn collect_switch<'a>(
@@ -57,7 +143,8 @@ fn collect_switch<'a>(
 ) -> Result<(), AllocError>
     ensures { OnOk result (contributions_view contributions.new.items ≡ contributions_view contributions.old.items ++ switch_contributions (switch_row_view row.entry)) }
 {
-    contributions.push(Contribution::Switch(&row.name.text, kind_of(row)))?;
+    contributions.push(Contribution::Gives(Table::Switches, &row.name.text))?;
+    contributions.push(Contribution::Reads(kind_of(row)))?;
     collect_active(contributions, row)?;
     collect_inactive(contributions, row)?;
     Ok(())
@@ -134,21 +221,10 @@ fn collect_inactive<'a>(
     Ok(())
 }
 
-fn collect_players<'a>(
-    contributions: &mut Vec<Contribution<'a>>,
-    place: Place,
-    rows: &'a [Player],
-) -> Result<(), AllocError>
-    ensures { OnOk result (contributions_view contributions.new.items ≡ contributions_view contributions.old.items ++ flat_map (player_contributions place) (map event_player_of (map player_view rows.now))) }
-{
-    for row in rows {
-        collect_player(contributions, place, as_event_player(row))?;
-    }
-    Ok(())
-}
+// ---- `event_player`
 
 #[tactic(auto, unfolding(crate::specs::Contributions::player_contributions))]
-fn collect_player<'a>(
+fn collect_event_player<'a>(
     contributions: &mut Vec<Contribution<'a>>,
     place: Place,
     row: EventPlayer<'a>,

@@ -1,10 +1,11 @@
 //! What entries give to a plan, by names.
 
 ghost use Rattle.std.specs.Prelude.{◌≡◌, ◌++◌, option_map, OnOk};
-ghost use Rattle.mpf_plan.specs.Uses.{used_event, given_switch, used, given_name, role_name};
-ghost use Rattle.mpf_plan.specs.Inside.{parts_text, contribution_view};
+ghost use Rattle.mpf_plan.specs.Uses.{used, given};
+ghost use Rattle.mpf_plan.specs.Inside.{parts_text, named_view, contribution_view};
 
 use crate::entries::{Owner, SwitchKind};
+use crate::fault::Table;
 use std::alloc::AllocError;
 
 /// A name in two parts, which lie where they are written.
@@ -31,8 +32,10 @@ pub(crate) enum Aim {
 /// One thing that an entry gives to a plan.
 #[derive(Clone, Copy)]
 pub(crate) enum Contribution<'a> {
-    /// A switch, which is read so.
-    Switch(&'a [u8], SwitchKind),
+    /// What stands in the table under this name.
+    Gives(Table, &'a [u8]),
+    /// How the switch is read that came last.
+    Reads(SwitchKind),
     /// The switch that came last posts the event when it becomes active.
     Active(Parts<'a>),
     /// It posts the event when it becomes inactive.
@@ -41,22 +44,6 @@ pub(crate) enum Contribution<'a> {
     Binds(&'a [u8], Place, Aim),
     /// The effect list that began last posts the event.
     Post(Parts<'a>),
-}
-
-/// What has numbers by its names.
-#[derive(Clone, Copy)]
-pub(crate) enum Kind {
-    Event,
-    Switch,
-}
-
-/// What a contribution does with a name.
-#[derive(Clone, Copy)]
-pub(crate) enum Role {
-    /// It uses the name, which has its number from the first use.
-    Uses(Kind),
-    /// It says what has the name.
-    Gives(Kind),
 }
 
 /// A name as it is written.
@@ -78,54 +65,26 @@ pub(crate) fn write_name(text: &mut Vec<u8>, name: Parts) -> Result<(), AllocErr
     text.extend_from_slice(name.end)
 }
 
-fn used_event<'a>(contribution: &Contribution<'a>) -> Option<Parts<'a>>
-    ensures { option_map parts_text result ≡ used_event (contribution_view contribution.now) }
+/// The name that a contribution uses, and its table.
+pub(crate) fn used<'a>(contribution: &Contribution<'a>) -> Option<(Table, Parts<'a>)>
+    ensures { option_map named_view result ≡ used (contribution_view contribution.now) }
 {
     match *contribution {
-        Contribution::Switch(_, _) => None,
-        Contribution::Active(name) => Some(name),
-        Contribution::Inactive(name) => Some(name),
-        Contribution::Binds(name, _, _) => Some(whole(name)),
-        Contribution::Post(name) => Some(name),
+        Contribution::Gives(table, name) => Some((table, whole(name))),
+        Contribution::Active(name) => Some((Table::Events, name)),
+        Contribution::Inactive(name) => Some((Table::Events, name)),
+        Contribution::Binds(name, _, _) => Some((Table::Events, whole(name))),
+        Contribution::Post(name) => Some((Table::Events, name)),
+        _ => None,
     }
 }
 
-fn given_switch<'a>(contribution: &Contribution<'a>) -> Option<Parts<'a>>
-    ensures { option_map parts_text result ≡ given_switch (contribution_view contribution.now) }
+/// The name under which a contribution gives something, and its table.
+pub(crate) fn given<'a>(contribution: &Contribution<'a>) -> Option<(Table, Parts<'a>)>
+    ensures { option_map named_view result ≡ given (contribution_view contribution.now) }
 {
     match *contribution {
-        Contribution::Switch(name, _) => Some(whole(name)),
-        Contribution::Active(_) => None,
-        Contribution::Inactive(_) => None,
-        Contribution::Binds(_, _, _) => None,
-        Contribution::Post(_) => None,
-    }
-}
-
-fn used<'a>(kind: Kind, contribution: &Contribution<'a>) -> Option<Parts<'a>>
-    ensures { option_map parts_text result ≡ used kind (contribution_view contribution.now) }
-{
-    match kind {
-        Kind::Event => used_event(contribution),
-        Kind::Switch => given_switch(contribution),
-    }
-}
-
-fn given_name<'a>(kind: Kind, contribution: &Contribution<'a>) -> Option<Parts<'a>>
-    ensures { option_map parts_text result ≡ given_name kind (contribution_view contribution.now) }
-{
-    match kind {
-        Kind::Event => None,
-        Kind::Switch => given_switch(contribution),
-    }
-}
-
-/// The name that a contribution uses, or gives.
-pub(crate) fn role_name<'a>(role: Role, contribution: &Contribution<'a>) -> Option<Parts<'a>>
-    ensures { option_map parts_text result ≡ role_name role (contribution_view contribution.now) }
-{
-    match role {
-        Role::Uses(kind) => used(kind, contribution),
-        Role::Gives(kind) => given_name(kind, contribution),
+        Contribution::Gives(table, name) => Some((table, whole(name))),
+        _ => None,
     }
 }

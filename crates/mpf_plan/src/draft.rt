@@ -1,18 +1,8 @@
 //! A plan that is being made.
 
-ghost use Rattle.std.specs.Prelude.{◌≡◌, ◌≤◌, length};
+ghost use Rattle.std.specs.Prelude.{◌≡◌, length};
 
 use crate::entries::{Action, Binding, EventId, SwitchKind};
-use indexmap::IndexSet;
-
-/// The names of each kind, at their numbers.
-#[derive(Drop)]
-pub(crate) struct NameSets {
-    pub(crate) events: IndexSet<Vec<u8>>,
-    pub(crate) switches: IndexSet<Vec<u8>>,
-    ghost events_fit: { length events.keys ≤ 4096 },
-    ghost switches_fit: { length switches.keys ≤ 256 },
-}
 
 /// How a switch is read, and what it posts when it becomes active, and when it becomes inactive.
 #[derive(Debug, Drop)]

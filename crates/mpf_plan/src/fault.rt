@@ -1,7 +1,7 @@
 //! Why rows have no plan.
 
 ghost use Rattle.std.specs.Prelude.{◌≡◌};
-ghost use Rattle.mpf_plan.specs.Limits.{table_name};
+ghost use Rattle.mpf_plan.specs.Limits.{table_name, limit_of, order_of};
 ghost use Rattle.mpf_plan.specs.declared.fault.PlanFault.TheVariants.{NoMemory};
 
 use std::alloc::{AllocError, AllocFailed};
@@ -18,8 +18,11 @@ pub enum Table {
     Switches,
 }
 
+/// The tables, in the order in which they are judged.
+pub(crate) const TABLES: [Table; 3] = [Table::Events, Table::Bindings, Table::Switches];
+
 impl Table {
-    /// The name that the table is told by.
+    /// The name by which the table is reported.
     pub fn name(&self) -> &'static str
         ensures { result.now ≡ table_name self.now }
     {
@@ -28,6 +31,24 @@ impl Table {
             Table::Bindings => "bindings",
             Table::Switches => "switches",
         }
+    }
+
+    /// At most so many entries.
+    pub(crate) fn limit(self) -> usize
+        ensures { result ≡ limit_of self }
+    {
+        match self {
+            Table::Events => 4_096,
+            Table::Bindings => 16_384,
+            Table::Switches => 256,
+        }
+    }
+
+    /// The place in [`TABLES`].
+    pub(crate) fn index(self) -> usize
+        ensures { result ≡ order_of self }
+    {
+        self as usize
     }
 }
 

@@ -1,53 +1,52 @@
 //! The plan of contributions: each adds its own to what is there.
 
 ghost use Rattle.std.specs.Prelude.{◌≡◌, ◌<◌, ◌≤◌, ◌+◌, List, ℕ, false, length, map, fold, IfOk, OnOk};
-ghost use Rattle.mpf_config.specs.View.{section_view};
-ghost use Rattle.mpf_plan.specs.declared.draft.NameSets.{NameSets as NameSetsValue};
-ghost use Rattle.mpf_plan.specs.Contributions.{switch, active, inactive, binds, post, contributions_in};
+ghost use Rattle.mpf_plan.specs.declared.names.NameSets.{NameSets as NameSetsValue};
+ghost use Rattle.mpf_plan.specs.declared.fault.Table.TheVariants.{Events, Switches};
+ghost use Rattle.mpf_plan.specs.Contributions.{gives, active, inactive, binds, post, given_by};
 ghost use Rattle.mpf_plan.specs.PlanView.{no_switch};
-ghost use Rattle.mpf_plan.specs.PlanOf.{event_of, with_switch, with_active, with_inactive, last_with, with_contribution, named_switch, blank, drafted};
-ghost use Rattle.mpf_plan.specs.Inside.{parts_text, contribution_view, contributions_view, names_of, name_sets_view, action_lists, switches_view, draft_view};
+ghost use Rattle.mpf_plan.specs.PlanOf.{event_of, with_switch, with_kind, with_active, with_inactive, last_with, with_contribution, named_switch, blank, drafted};
+ghost use Rattle.mpf_plan.specs.NamesKept.{names_of};
+ghost use Rattle.mpf_plan.specs.Inside.{parts_text, contribution_view, contributions_view, rows_view, name_sets_view, action_lists, switches_view, draft_view};
 ghost use Rattle.mpf_plan.specs.Numbering.{binding_count};
 
-use crate::collect::{collect_section, machine_place};
+use crate::collect::{Row, collect_row, machine_place};
 use crate::contribution::{Aim, Contribution, Parts, Place, whole};
-use crate::draft::{Draft, NameSets, SwitchEntry};
+use crate::draft::{Draft, SwitchEntry};
 use crate::entries::{Action, Binding, EventId, ListId, SwitchKind, Target};
+use crate::fault::Table;
+use crate::names::NameSets;
 use crate::numbering::number_among;
-use mpf_config::config::{Contact, Section};
+use mpf_config::config::Contact;
 use std::alloc::{AllocError, Global};
 
-/// What the sections make, where names have these numbers.
-pub(crate) fn fill(
-    alloc: Global,
-    names: &NameSets,
-    sections: &[Section],
-) -> Result<Draft, AllocError>
-    requires { binding_count (contributions_in (map section_view sections.now)) ≤ 16384 }
-    ensures { IfOk result (λ d. draft_view names.now d ≡ drafted (name_sets_view names.now) (contributions_in (map section_view sections.now))) }
+/// What the rows make, where names have these numbers.
+pub(crate) fn fill(alloc: Global, names: &NameSets, rows: &[Row]) -> Result<Draft, AllocError>
+    requires { binding_count (given_by (rows_view rows.now)) ≤ 16384 }
+    ensures { IfOk result (λ d. draft_view names.now d ≡ drafted (name_sets_view names.now) (given_by (rows_view rows.now))) }
 {
     let mut draft = blank(alloc, names)?;
+    let mut text = Vec::new(alloc);
     let mut contributions = Vec::new(alloc);
-    for section in sections {
-        contributions.clear();
-        collect_section(&mut contributions, machine_place(), section)?;
-        fill_section(alloc, names, &mut draft, &contributions)?;
+    for row in rows {
+        collect_row(&mut contributions, machine_place(), *row)?;
+        add_all(alloc, names, &mut text, &mut draft, &contributions)?;
     }
     Ok(draft)
 }
 
-fn fill_section(
+fn add_all(
     alloc: Global,
     names: &NameSets,
+    text: &mut Vec<u8>,
     draft: &mut Draft,
     contributions: &[Contribution],
 ) -> Result<(), AllocError>
     requires { length draft.old.lists.items + binding_count (contributions_view contributions.now) ≤ 16384 }
     ensures { OnOk result (draft_view names.now draft.new ≡ fold (with_contribution (name_sets_view names.now)) (draft_view names.now draft.old) (contributions_view contributions.now)) }
 {
-    let mut text = Vec::new(alloc);
     for contribution in contributions {
-        add(alloc, names, &mut text, draft, contribution)?;
+        add(alloc, names, text, draft, contribution)?;
     }
     Ok(())
 }
@@ -63,7 +62,11 @@ fn add(
     ensures { OnOk result (draft_view names.now draft.new ≡ with_contribution (name_sets_view names.now) (draft_view names.now draft.old) (contribution_view contribution.now)) }
 {
     match *contribution {
-        Contribution::Switch(name, kind) => add_switch(names, text, draft, name, kind),
+        Contribution::Gives(table, name) => add_given(names, text, draft, table, name),
+        Contribution::Reads(kind) => {
+            read_switch(draft, kind);
+            Ok(())
+        }
         Contribution::Active(name) => add_active(names, text, draft, name),
         Contribution::Inactive(name) => add_inactive(names, text, draft, name),
         Contribution::Binds(name, place, aim) => {
@@ -74,31 +77,36 @@ fn add(
 }
 
 fn event_of(names: &NameSets, text: &mut Vec<u8>, name: Parts) -> Result<EventId, AllocError>
-    ensures { IfOk result (λ e. e ≡ event_of (name_sets_view names.now).events (parts_text name.entry)) }
+    ensures { IfOk result (λ e. e ≡ event_of (name_sets_view names.now Events) (parts_text name.entry)) }
 {
-    let number = number_among(&names.events, text, name)?;
+    let number = number_among(names.of(Table::Events), text, name)?;
     Ok(EventId(number as u16))
 }
 
 // ---- switches
 
-fn add_switch(
+fn add_given(
     names: &NameSets,
     text: &mut Vec<u8>,
     draft: &mut Draft,
+    table: Table,
     name: &[u8],
-    kind: SwitchKind,
 ) -> Result<(), AllocError>
-    ensures { OnOk result (draft_view names.now draft.new ≡ with_contribution (name_sets_view names.now) (draft_view names.now draft.old) (switch name.now kind)) }
+    ensures { OnOk result (draft_view names.now draft.new ≡ with_contribution (name_sets_view names.now) (draft_view names.now draft.old) (gives table name.now)) }
 {
-    let n = number_among(&names.switches, text, whole(name))?;
-    define_switch(draft, n, kind);
-    Ok(())
+    match table {
+        Table::Switches => {
+            let n = number_among(names.of(table), text, whole(name))?;
+            define_switch(draft, n);
+            Ok(())
+        }
+        _ => Ok(()),
+    }
 }
 
-/// The switch is read so, where nothing has defined it.
-fn define_switch(draft: &mut Draft, n: usize, kind: SwitchKind)
-    ensures { (names : NameSetsValue) → draft_view names draft.new ≡ with_switch n kind (draft_view names draft.old) }
+/// The switch comes last, where nothing has defined it.
+fn define_switch(draft: &mut Draft, n: usize)
+    ensures { (names : NameSetsValue) → draft_view names draft.new ≡ with_switch n (draft_view names draft.old) }
 {
     if n >= draft.defined.len() || draft.defined[n] {
         draft.last = draft.defined.len();
@@ -106,7 +114,16 @@ fn define_switch(draft: &mut Draft, n: usize, kind: SwitchKind)
     }
     draft.defined[n] = true;
     draft.last = n;
-    draft.switches[n].kind = kind;
+}
+
+/// The switch that came last is read so.
+fn read_switch(draft: &mut Draft, kind: SwitchKind)
+    ensures { (names : NameSetsValue) → draft_view names draft.new ≡ with_kind kind (draft_view names draft.old) }
+{
+    let last = draft.last;
+    if last < draft.switches.len() {
+        draft.switches[last].kind = kind;
+    }
 }
 
 fn add_active(
@@ -216,24 +233,25 @@ fn push_action(lists: &mut Vec<Vec<Action>>, action: Action) -> Result<(), Alloc
 fn blank(alloc: Global, names: &NameSets) -> Result<Draft, AllocError>
     ensures { IfOk result (λ d. draft_view names.now d ≡ blank (name_sets_view names.now)) }
 {
-    let switches = blank_switches(alloc, names.switches.as_slice())?;
-    let defined = no_marks(alloc, names.switches.as_slice())?;
+    let count = names.of(Table::Switches).len();
+    let switches = blank_switches(alloc, count)?;
+    let defined = no_marks(alloc, count)?;
     Ok(Draft {
         switches,
         lists: Vec::new(alloc),
         bindings: Vec::new(alloc),
         defined,
-        last: names.switches.len(),
+        last: count,
     })
 }
 
-/// A switch for each of the names.
-fn blank_switches(alloc: Global, names: &[Vec<u8>]) -> Result<Vec<SwitchEntry>, AllocError>
-    ensures count { IfOk result (λ v. length v.items ≡ length names.now) }
-    ensures switches { IfOk result (λ v. switches_view names.now v.items ≡ map named_switch (names_of names.now)) }
+/// So many switches.
+fn blank_switches(alloc: Global, count: usize) -> Result<Vec<SwitchEntry>, AllocError>
+    ensures count { IfOk result (λ v. length v.items ≡ count) }
+    ensures switches { IfOk result (λ v. (names : List (List ℕ)) → length names ≡ count → switches_view names v.items ≡ map named_switch names) }
 {
     let mut switches = Vec::new(alloc);
-    for _name in names {
+    for _ in 0..count {
         switches.push(SwitchEntry {
             kind: SwitchKind {
                 contact: Contact::NormallyOpen,
@@ -246,12 +264,12 @@ fn blank_switches(alloc: Global, names: &[Vec<u8>]) -> Result<Vec<SwitchEntry>, 
     Ok(switches)
 }
 
-/// Nothing has defined any of the switches.
-fn no_marks(alloc: Global, names: &[Vec<u8>]) -> Result<Vec<bool>, AllocError>
-    ensures { IfOk result (λ v. v.items ≡ map (λ n. false) (names_of names.now)) }
+/// Nothing has defined any of so many switches.
+fn no_marks(alloc: Global, count: usize) -> Result<Vec<bool>, AllocError>
+    ensures { IfOk result (λ v. (names : List (List ℕ)) → length names ≡ count → v.items ≡ map (λ n. false) names) }
 {
     let mut marks = Vec::new(alloc);
-    for _name in names {
+    for _ in 0..count {
         marks.push(false)?;
     }
     Ok(marks)

@@ -8,6 +8,7 @@ mod draft;
 pub mod entries;
 pub mod fault;
 mod fill;
+mod names;
 mod numbering;
 mod placing;
 pub mod tables;

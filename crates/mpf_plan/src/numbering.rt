@@ -1,69 +1,46 @@
 //! Names by number, in the order of their first uses.
 
-ghost use Rattle.std.specs.Prelude.{◌≡◌, ◌≤◌, ◌+◌, ◌++◌, ℕ, List, [], length, map, fold, IfOk, OnOk};
+ghost use Rattle.std.specs.Prelude.{◌≡◌, ◌≤◌, ◌<◌, ◌+◌, ◌++◌, ℕ, List, [], ◌∷◌, Option, length, nat_lt, IfOk, OnOk};
 ghost use Rattle.std.specs.List.{list_any};
-ghost use Rattle.mpf_config.specs.View.{section_view};
-ghost use Rattle.mpf_plan.specs.Contributions.{Contribution as ContributionValue, contributions_in};
-ghost use Rattle.mpf_plan.specs.Uses.{all_names, as_list, used, number_among, is_lacking, lacks};
-ghost use Rattle.mpf_plan.specs.Inside.{parts_text, contribution_view, contributions_view, names_of};
-ghost use Rattle.mpf_plan.specs.Numbering.{with_name, IsTable, Notes, bindings_given, binding_count, IsCount, HasFound, Numbered};
-ghost use Rattle.mpf_plan.specs.declared.contribution.Role.TheVariants.{Uses, Gives};
+ghost use Rattle.mpf_plan.specs.Contributions.{Contribution as ContributionValue, given_by};
+ghost use Rattle.mpf_plan.specs.Limits.{entry_count, limit_of, tables_in_order, first_above};
+ghost use Rattle.mpf_plan.specs.Uses.{used, given_names, number_among, is_to_be_given, is_lacking, lacks_name};
+ghost use Rattle.mpf_plan.specs.PlanOf.{plan_from};
+ghost use Rattle.mpf_plan.specs.NamesKept.{names_of};
+ghost use Rattle.mpf_plan.specs.Inside.{parts_text, name_sets_view, contribution_view, contributions_view, rows_view};
+ghost use Rattle.mpf_plan.specs.Numbering.{with_name, HasNames, HaveNames, bindings_given, IsCount, HaveGiven, HasFound, Numbered};
 
-use crate::collect::{collect_section, machine_place};
-use crate::contribution::{Contribution, Kind, Parts, Role, role_name, write_name};
-use crate::draft::NameSets;
-use crate::fault::{PlanFault, Table};
+use crate::collect::{Row, collect_row, machine_place};
+use crate::contribution::{Contribution, Parts, given, used, write_name};
+use crate::fault::{PlanFault, TABLES, Table};
+use crate::names::{Found, NameSets, NameTable};
 use indexmap::IndexSet;
-use mpf_config::config::Section;
 use std::alloc::{AllocError, Global};
 
-/// At most so many events.
-const MAX_EVENTS: usize = 4_096;
-
-/// At most so many bindings.
-const MAX_BINDINGS: usize = 16_384;
-
-/// At most so many switches.
-const MAX_SWITCHES: usize = 256;
-
-/// The first names of a kind, as far as they are kept.
-#[derive(Drop)]
-pub(crate) struct NameTable {
-    pub(crate) set: IndexSet<Vec<u8>>,
-    /// Whether there are more than are kept.
-    pub(crate) above: bool,
+impl NameSets {
+    /// The names of a table.
+    pub(crate) fn of(&self, table: Table) -> &IndexSet<Vec<u8>>
+        ensures names { names_of result.now.keys ≡ name_sets_view self.now table }
+        ensures fit { length result.now.keys ≤ limit_of table }
+    {
+        &self.tables[table.index()].set
+    }
 }
 
-/// What the sections so far have.
-#[derive(Drop)]
-pub(crate) struct Found {
-    pub(crate) events: NameTable,
-    pub(crate) switches: NameTable,
-    /// How many bindings they give, or more than a plan may have.
-    pub(crate) bindings: usize,
-}
-
-/// The names of the sections, by number, where the plan is within its limits.
-pub(crate) fn number(alloc: Global, sections: &[Section]) -> Result<NameSets, PlanFault>
-    ensures { Numbered (contributions_in (map section_view sections.now)) result }
+/// The names of the rows, by number, where the plan is within its limits.
+pub(crate) fn number(alloc: Global, rows: &[Row]) -> Result<NameSets, PlanFault>
+    ensures { Numbered (given_by (rows_view rows.now)) result }
 {
-    let lacking = lacks(alloc, Kind::Switch, sections)?;
+    let lacking = lacks_name(alloc, rows)?;
     if lacking {
         return Err(PlanFault::NoSuchName);
     }
-    let found = find_names(alloc, sections)?;
-    if found.events.above {
-        return Err(PlanFault::Limit(Table::Events));
-    }
-    if found.bindings > MAX_BINDINGS {
-        return Err(PlanFault::Limit(Table::Bindings));
-    }
-    if found.switches.above {
-        return Err(PlanFault::Limit(Table::Switches));
+    let found = find_names(alloc, rows)?;
+    if let Some(table) = first_above(&found) {
+        return Err(PlanFault::Limit(table));
     }
     Ok(NameSets {
-        events: found.events.set,
-        switches: found.switches.set,
+        tables: found.tables,
     })
 }
 
@@ -81,83 +58,98 @@ pub(crate) fn number_among(
     Ok(place)
 }
 
+// ---- limits
+
+/// The first table that is above its limit.
+fn first_above(found: &Found) -> Option<Table>
+    ensures { (cs : List ContributionValue) → HasFound cs found.now → result ≡ first_above (plan_from cs) }
+{
+    for table in TABLES {
+        if is_above(found, table) {
+            return Some(table);
+        }
+    }
+    None
+}
+
+fn is_above(found: &Found, table: Table) -> bool
+    ensures { (cs : List ContributionValue) → HasFound cs found.now → result ≡ nat_lt (limit_of table) (entry_count (plan_from cs) table) }
+{
+    match table {
+        Table::Bindings => found.bindings > table.limit(),
+        _ => found.tables[table.index()].above,
+    }
+}
+
 // ---- first uses
 
-/// The names that the sections use, each kind up to its limit, and how many bindings they give.
-fn find_names(alloc: Global, sections: &[Section]) -> Result<Found, AllocError>
-    ensures { IfOk result (HasFound (contributions_in (map section_view sections.now))) }
+/// The names that the rows use, each table up to its limit, and how many bindings they give.
+fn find_names(alloc: Global, rows: &[Row]) -> Result<Found, AllocError>
+    ensures { IfOk result (HasFound (given_by (rows_view rows.now))) }
 {
     let mut found = Found {
-        events: no_names(alloc),
-        switches: no_names(alloc),
+        tables: no_names(alloc)?,
         bindings: 0,
     };
+    let mut text = Vec::new(alloc);
     let mut contributions = Vec::new(alloc);
-    for section in sections {
-        contributions.clear();
-        collect_section(&mut contributions, machine_place(), section)?;
-        note_section(alloc, &mut found, &contributions)?;
+    for row in rows {
+        collect_row(&mut contributions, machine_place(), *row)?;
+        note_all(alloc, &mut found, &mut text, &contributions)?;
     }
     Ok(found)
 }
 
-fn no_names(alloc: Global) -> NameTable
-    ensures { (limit : ℕ) → IsTable limit [] result }
+fn no_names(alloc: Global) -> Result<Vec<NameTable>, AllocError>
+    ensures count { IfOk result (λ tables. length tables.items ≡ length tables_in_order) }
+    ensures names { IfOk result (λ tables. HaveNames [] tables.items) }
 {
-    NameTable {
-        set: IndexSet::new(alloc),
-        above: false,
+    let mut tables = Vec::new(alloc);
+    for table in TABLES {
+        tables.push(NameTable {
+            set: IndexSet::new(alloc),
+            limit: table.limit(),
+            above: false,
+        })?;
     }
+    Ok(tables)
 }
 
-fn note_section(
+fn note_all(
     alloc: Global,
     found: &mut Found,
+    text: &mut Vec<u8>,
     contributions: &[Contribution],
 ) -> Result<(), AllocError>
     ensures { OnOk result ((before : List ContributionValue) → HasFound before found.old → HasFound (before ++ contributions_view contributions.now) found.new) }
 {
-    note_names(
-        alloc,
-        Role::Uses(Kind::Event),
-        MAX_EVENTS,
-        &mut found.events,
-        contributions,
-    )?;
-    note_names(
-        alloc,
-        Role::Uses(Kind::Switch),
-        MAX_SWITCHES,
-        &mut found.switches,
-        contributions,
-    )?;
-    found.bindings = count_bindings(found.bindings, contributions);
-    Ok(())
-}
-
-/// Each name that the contributions use, or give, in turn.
-fn note_names(
-    alloc: Global,
-    role: Role,
-    limit: usize,
-    table: &mut NameTable,
-    contributions: &[Contribution],
-) -> Result<(), AllocError>
-    ensures { OnOk result (Notes limit role (contributions_view contributions.now) table.old table.new) }
-{
-    let mut text = Vec::new(alloc);
     for contribution in contributions {
-        if let Some(name) = role_name(role, contribution) {
-            write_name(&mut text, name)?;
-            note(alloc, limit, table, &text)?;
-        }
+        note_one(alloc, found, text, contribution)?;
     }
     Ok(())
 }
 
+/// The name that the contribution uses, and its binding.
+fn note_one(
+    alloc: Global,
+    found: &mut Found,
+    text: &mut Vec<u8>,
+    contribution: &Contribution,
+) -> Result<(), AllocError>
+    ensures { OnOk result ((before : List ContributionValue) → HasFound before found.old → HasFound (before ++ contribution_view contribution.now ∷ []) found.new) }
+{
+    found.bindings = count_binding(found.bindings, contribution);
+    let Some((table, name)) = used(contribution) else {
+        return Ok(());
+    };
+    write_name(text, name)?;
+    note(alloc, &mut found.tables[table.index()], text)
+}
+
 /// A name that is new goes last. Only then it is copied, and only up to the limit.
-fn note(alloc: Global, limit: usize, table: &mut NameTable, name: &[u8]) -> Result<(), AllocError>
-    ensures { OnOk result ((all : List (List ℕ)) → IsTable limit all table.old → IsTable limit (with_name all name.now) table.new) }
+fn note(alloc: Global, table: &mut NameTable, name: &[u8]) -> Result<(), AllocError>
+    ensures limit { OnOk result (table.new.limit ≡ table.old.limit) }
+    ensures names { OnOk result ((all : List (List ℕ)) → HasNames all table.old → HasNames (with_name all name.now) table.new) }
 {
     if table.above {
         return Ok(());
@@ -165,7 +157,7 @@ fn note(alloc: Global, limit: usize, table: &mut NameTable, name: &[u8]) -> Resu
     if table.set.contains(name) {
         return Ok(());
     }
-    if table.set.len() == limit {
+    if table.set.len() >= table.limit {
         table.above = true;
         return Ok(());
     }
@@ -173,115 +165,94 @@ fn note(alloc: Global, limit: usize, table: &mut NameTable, name: &[u8]) -> Resu
     Ok(())
 }
 
-/// How many bindings there are with those of the contributions, or more than a plan may have.
-fn count_bindings(before: usize, contributions: &[Contribution]) -> usize
-    ensures { (all : ℕ) → IsCount 16384 all before → IsCount 16384 (all + binding_count (contributions_view contributions.now)) result }
-{
-    let mut count = before;
-    for contribution in contributions {
-        count = count_binding(count, contribution);
-    }
-    count
-}
-
+/// How many bindings there are with that of the contribution, or more than a plan may have.
 fn count_binding(before: usize, contribution: &Contribution) -> usize
     ensures { (all : ℕ) → IsCount 16384 all before → IsCount 16384 (all + bindings_given (contribution_view contribution.now)) result }
 {
     match *contribution {
         Contribution::Binds(_, _, _) => {
-            if before > MAX_BINDINGS {
+            if before > Table::Bindings.limit() {
                 before
             } else {
                 before + 1
             }
         }
-        Contribution::Switch(_, _) => before,
-        Contribution::Active(_) => before,
-        Contribution::Inactive(_) => before,
-        Contribution::Post(_) => before,
+        _ => before,
     }
 }
 
 // ---- names that nothing has
 
-/// Whether a name of the kind is used that nothing has.
-fn lacks(alloc: Global, kind: Kind, sections: &[Section]) -> Result<bool, AllocError>
-    ensures { IfOk result (λ b. b ≡ lacks kind (contributions_in (map section_view sections.now))) }
+/// Whether the rows use a name that nothing has.
+fn lacks_name(alloc: Global, rows: &[Row]) -> Result<bool, AllocError>
+    ensures { IfOk result (λ b. b ≡ lacks_name (given_by (rows_view rows.now))) }
 {
-    let given = given_names(alloc, kind, sections)?;
-    let lacking = lacks_one_of(alloc, &given, kind, sections)?;
-    Ok(lacking)
+    let sets = given_names(alloc, rows)?;
+    let mut text = Vec::new(alloc);
+    let mut contributions = Vec::new(alloc);
+    for row in rows {
+        collect_row(&mut contributions, machine_place(), *row)?;
+        let lacking = use_other(&sets, &mut text, &contributions)?;
+        if lacking {
+            return Ok(true);
+        }
+    }
+    Ok(false)
 }
 
-/// The names of the kind that the sections give to something.
-fn given_names(
-    alloc: Global,
-    kind: Kind,
-    sections: &[Section],
-) -> Result<IndexSet<Vec<u8>>, AllocError>
-    ensures { IfOk result (λ set. names_of set.keys ≡ fold with_name [] (all_names (Gives kind) (contributions_in (map section_view sections.now)))) }
+/// The names under which the rows give something, those of each table at its index.
+fn given_names(alloc: Global, rows: &[Row]) -> Result<Vec<IndexSet<Vec<u8>>>, AllocError>
+    ensures { IfOk result (λ sets. HaveGiven (given_by (rows_view rows.now)) sets.items) }
 {
-    let mut given = IndexSet::new(alloc);
+    let mut sets = no_sets(alloc)?;
     let mut contributions = Vec::new(alloc);
-    for section in sections {
-        contributions.clear();
-        collect_section(&mut contributions, machine_place(), section)?;
-        note_given(alloc, &mut given, kind, &contributions)?;
+    for row in rows {
+        collect_row(&mut contributions, machine_place(), *row)?;
+        note_given(alloc, &mut sets, &contributions)?;
     }
-    Ok(given)
+    Ok(sets)
+}
+
+fn no_sets(alloc: Global) -> Result<Vec<IndexSet<Vec<u8>>>, AllocError>
+    ensures { IfOk result (λ sets. HaveGiven [] sets.items) }
+{
+    let mut sets = Vec::new(alloc);
+    for _table in TABLES {
+        sets.push(IndexSet::new(alloc))?;
+    }
+    Ok(sets)
 }
 
 fn note_given(
     alloc: Global,
-    given: &mut IndexSet<Vec<u8>>,
-    kind: Kind,
+    sets: &mut Vec<IndexSet<Vec<u8>>>,
     contributions: &[Contribution],
 ) -> Result<(), AllocError>
-    ensures { OnOk result (names_of given.new.keys ≡ fold with_name (names_of given.old.keys) (all_names (Gives kind) (contributions_view contributions.now))) }
+    requires { length sets.old.items ≡ length tables_in_order }
+    ensures count { length sets.new.items ≡ length tables_in_order }
+    ensures names { OnOk result ((before : List ContributionValue) → HaveGiven before sets.old.items → HaveGiven (before ++ contributions_view contributions.now) sets.new.items) }
 {
     for contribution in contributions {
-        if let Some(name) = role_name(Role::Gives(kind), contribution) {
+        if let Some((table, name)) = given(contribution) {
             let mut text = Vec::new(alloc);
             write_name(&mut text, name)?;
-            given.insert(text)?;
+            sets[table.index()].insert(text)?;
         }
     }
     Ok(())
 }
 
-/// Whether the sections use a name of the kind that is not among these.
-fn lacks_one_of(
-    alloc: Global,
-    given: &IndexSet<Vec<u8>>,
-    kind: Kind,
-    sections: &[Section],
-) -> Result<bool, AllocError>
-    ensures { IfOk result (λ b. b ≡ list_any (is_lacking (names_of given.now.keys)) (all_names (Uses kind) (contributions_in (map section_view sections.now)))) }
-{
-    let mut contributions = Vec::new(alloc);
-    for section in sections {
-        contributions.clear();
-        collect_section(&mut contributions, machine_place(), section)?;
-        let lacking = uses_other(alloc, given, kind, &contributions)?;
-        if lacking {
-            return Ok(true);
-        }
-    }
-    Ok(false)
-}
-
-/// Whether the contributions use a name of the kind that is not among these.
-fn uses_other(
-    alloc: Global,
-    given: &IndexSet<Vec<u8>>,
-    kind: Kind,
+/// Whether the contributions use a name that is not among these.
+fn use_other(
+    sets: &[IndexSet<Vec<u8>>],
+    text: &mut Vec<u8>,
     contributions: &[Contribution],
 ) -> Result<bool, AllocError>
-    ensures { IfOk result (λ b. b ≡ list_any (is_lacking (names_of given.now.keys)) (all_names (Uses kind) (contributions_view contributions.now))) }
+    requires { length sets.now ≡ length tables_in_order }
+    ensures { IfOk result (λ b. (cs : List ContributionValue) → HaveGiven cs sets.now → b ≡ list_any (λ c. is_lacking (λ t. given_names t cs) (used c)) (contributions_view contributions.now)) }
 {
-    let mut text = Vec::new(alloc);
     for contribution in contributions {
-        let lacking = is_other(given, &mut text, kind, contribution)?;
+        let lacking = is_other(sets, text, contribution)?;
         if lacking {
             return Ok(true);
         }
@@ -289,19 +260,32 @@ fn uses_other(
     Ok(false)
 }
 
-/// Whether the contribution uses a name of the kind that is not among these.
+/// Whether the contribution uses a name that is not among these.
 fn is_other(
-    given: &IndexSet<Vec<u8>>,
+    sets: &[IndexSet<Vec<u8>>],
     text: &mut Vec<u8>,
-    kind: Kind,
     contribution: &Contribution,
 ) -> Result<bool, AllocError>
-    ensures { IfOk result (λ b. b ≡ list_any (is_lacking (names_of given.now.keys)) (as_list (used kind (contribution_view contribution.now)))) }
+    requires { length sets.now ≡ length tables_in_order }
+    ensures { IfOk result (λ b. (cs : List ContributionValue) → HaveGiven cs sets.now → b ≡ is_lacking (λ t. given_names t cs) (used (contribution_view contribution.now))) }
 {
-    let Some(name) = role_name(Role::Uses(kind), contribution) else {
+    let Some((table, name)) = used(contribution) else {
         return Ok(false);
     };
+    if !is_to_be_given(table) {
+        return Ok(false);
+    }
     write_name(text, name)?;
-    let there = given.contains(text.as_slice());
+    let there = sets[table.index()].contains(text.as_slice());
     Ok(!there)
+}
+
+/// Whether a name of the table has to be given: events are there by their use alone.
+fn is_to_be_given(table: Table) -> bool
+    ensures { result ≡ is_to_be_given table }
+{
+    match table {
+        Table::Events => false,
+        _ => true,
+    }
 }

@@ -1,7 +1,9 @@
 //! The plan, and its tables read by number and by text.
 
-use crate::draft::{Draft, NameSets, SwitchEntry};
+use crate::draft::{Draft, SwitchEntry};
 use crate::entries::{Action, Binding, BindingId, EventId, ListId, SwitchId, SwitchKind};
+use crate::fault::Table;
+use crate::names::NameSets;
 use std::marker::Model;
 
 /// The plan of a configuration. Each number in it is that of an entry of its table, no two
@@ -23,24 +25,26 @@ impl Model for Plan {
     ghost Value = { PlanView };
 
     ghost use Rattle.std.specs.Prelude.{◌≡◌, length};
-    ghost use Rattle.mpf_plan.specs.Inside.{plan_view, HasPlaces};
+    ghost use Rattle.mpf_plan.specs.declared.fault.Table.TheVariants.{Switches};
+    ghost use Rattle.mpf_plan.specs.Inside.{name_sets_view, plan_view, HasPlaces};
     ghost use Rattle.mpf_plan.specs.Valid.{IsValid};
 
     ghost view = { plan_view };
 
-    ghost invariant = { λ p. IsValid (plan_view p) × HasPlaces (plan_view p) p.places.items × (length p.switches.items ≡ length p.names.switches.keys) };
+    ghost invariant = { λ p. IsValid (plan_view p) × HasPlaces (plan_view p) p.places.items × (length p.switches.items ≡ length (name_sets_view p.names Switches)) };
 }
 
 impl Plan {
     ghost use Rattle.std.specs.Prelude.{◌≡◌, ◌<◌, length, slice_get, Contains, IfSome, IfNone};
     ghost use Rattle.mpf_plan.specs.PlanView.{name_of_event, event_named, switch_at, switch_named, posts_of, list_at, places_of};
-    ghost use Rattle.mpf_plan.specs.Inside.{draft_view, HasPlaces};
+    ghost use Rattle.mpf_plan.specs.declared.fault.Table.TheVariants.{Switches};
+    ghost use Rattle.mpf_plan.specs.Inside.{name_sets_view, draft_view, HasPlaces};
     ghost use Rattle.mpf_plan.specs.Valid.{IsValid};
 
     pub(crate) fn assemble(names: NameSets, draft: Draft, places: Vec<Vec<BindingId>>) -> Plan
         requires valid { IsValid (draft_view names draft).plan }
         requires places { HasPlaces (draft_view names draft).plan places.items }
-        requires switches { length draft.switches.items ≡ length names.switches.keys }
+        requires switches { length draft.switches.items ≡ length (name_sets_view names Switches) }
         ensures { result ≡ (draft_view names draft).plan }
     {
         Plan {
@@ -57,7 +61,7 @@ impl Plan {
         ensures count { result ≡ length self.now.events }
         ensures valid { IsValid self.now }
     {
-        self.names.events.len()
+        self.names.of(Table::Events).len()
     }
 
     /// The name of an event of the plan.
@@ -66,7 +70,7 @@ impl Plan {
         ensures name { result.now ≡ name_of_event self.now event }
         ensures valid { IsValid self.now }
     {
-        let names = self.names.events.as_slice();
+        let names = self.names.of(Table::Events).as_slice();
         names[event.0 as usize].as_slice()
     }
 
@@ -77,7 +81,7 @@ impl Plan {
         ensures absent { IfNone result (¬ (Contains self.now.events name.now)) }
         ensures valid { IsValid self.now }
     {
-        let place = self.names.events.get_index_of(name)?;
+        let place = self.names.of(Table::Events).get_index_of(name)?;
         Some(EventId(place as u16))
     }
 
@@ -95,7 +99,7 @@ impl Plan {
         ensures name { result.now ≡ (switch_at self.now switch).name }
         ensures valid { IsValid self.now }
     {
-        let names = self.names.switches.as_slice();
+        let names = self.names.of(Table::Switches).as_slice();
         names[switch.0 as usize].as_slice()
     }
 
@@ -106,7 +110,7 @@ impl Plan {
         ensures within { IfSome result (λ s. s.0 < length self.now.switches) }
         ensures valid { IsValid self.now }
     {
-        let place = self.names.switches.get_index_of(name)?;
+        let place = self.names.of(Table::Switches).get_index_of(name)?;
         Some(SwitchId(place as u16))
     }
 

@@ -3,5 +3,5 @@ use Rattle.std.specs.List.{All}
 use Rattle.mpf_plan.proofs.Steps.{IsBlank}
 use Rattle.mpf_plan.proofs.fill.blank_switches.Given as goal
 
-abbrev pub invariant-loop-name : goal.invariant-loop-name
-invariant-loop-name l = (length l.switches.items ≡ l._name-index) × All IsBlank l.switches.items
+abbrev pub invariant-loop : goal.invariant-loop
+invariant-loop l = (length l.switches.items ≡ l.counter) × All IsBlank l.switches.items

@@ -1,9 +1,8 @@
-use Rattle.std.proofs.Common.{◌≡◌, map, take}
-use Rattle.mpf_config.specs.View.{section_view}
-use Rattle.mpf_plan.specs.Contributions.{contributions_in}
+use Rattle.std.proofs.Common.{◌≡◌, take}
+use Rattle.mpf_plan.specs.Contributions.{given_by}
 use Rattle.mpf_plan.specs.PlanOf.{drafted}
-use Rattle.mpf_plan.specs.Inside.{name_sets_view, draft_view}
+use Rattle.mpf_plan.specs.Inside.{name_sets_view, draft_view, rows_view}
 use Rattle.mpf_plan.proofs.fill.fill.Given as goal
 
-abbrev pub invariant-loop-section : goal.invariant-loop-section
-invariant-loop-section l = draft_view l.names l.draft ≡ drafted (name_sets_view l.names) (contributions_in (map section_view (take l.section-index l.sections)))
+abbrev pub invariant-loop-row : goal.invariant-loop-row
+invariant-loop-row l = draft_view l.names l.draft ≡ drafted (name_sets_view l.names) (given_by (rows_view (take l.row-index l.rows)))

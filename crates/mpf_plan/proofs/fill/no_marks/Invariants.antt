@@ -1,6 +1,6 @@
-use Rattle.std.proofs.Common.{◌≡◌, false, ◌++◌, map, drop}
-use Rattle.mpf_plan.specs.Inside.{names_of}
+use Rattle.std.proofs.Common.{◌≡◌, false, length}
+use Rattle.std.specs.List.{All}
 use Rattle.mpf_plan.proofs.fill.no_marks.Given as goal
 
-abbrev pub invariant-loop-name : goal.invariant-loop-name
-invariant-loop-name l = l.marks.items ++ map (λ n. false) (names_of (drop l._name-index l.names)) ≡ map (λ n. false) (names_of l.names)
+abbrev pub invariant-loop : goal.invariant-loop
+invariant-loop l = (length l.marks.items ≡ l.counter) × All (λ m. m ≡ false) l.marks.items

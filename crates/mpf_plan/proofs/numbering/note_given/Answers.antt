@@ -1,27 +1,43 @@
-use Rattle.std.proofs.Common.{Some, None, sym, ◌∙◌, ap}
+use Rattle.std.proofs.Common.{length, ◌++◌, refl, sym, ◌∙◌, ap, subst, take}
 use Rattle.std.specs.Option.{option_map}
-use Rattle.mpf_plan.specs.declared.contribution.Role.TheVariants.{Gives}
-use Rattle.mpf_plan.specs.Inside.{parts_text, names_of}
-use Rattle.mpf_plan.specs.Numbering.{with_name}
+use Rattle.std.proofs.lemmas.List.{append-nil, take_all, length-set}
+use Rattle.mpf_plan.specs.Inside.{parts_text, named_view, contributions_view}
+use Rattle.mpf_plan.specs.Numbering.{HaveGiven}
+use Rattle.mpf_plan.proofs.Collected.{one_more}
 use Rattle.mpf_plan.proofs.FirstNames.{use_inserted}
-use Rattle.mpf_plan.proofs.Taken.{noted_more}
+use Rattle.mpf_plan.proofs.Lacking.{given_nameless, given_named}
 use Rattle.mpf_plan.proofs.numbering.note_given.Goals.{in-Some+in_ok-write_name+in_ok-insert, in_default}
 use Rattle.mpf_plan.proofs.numbering.note_given.Goals as goal
+
+pub loop-contribution-init : goal.loop-contribution-init
+loop-contribution-init c = record { count = c.requires; names = λ before has. subst (λ cs. HaveGiven cs c.args.sets.now.items) (sym (append-nil before)) has }
 
 pub loop-contribution-preserved : goal.loop-contribution-preserved
 loop-contribution-preserved c =
     let cs = c.args.contributions.now in
     let i = c.loop-contribution.contribution-index in
-    let start = names_of c.args.given.now.keys in
-    elim c.match-role_name.branch [
-      | in-Some+in_ok-write_name+in_ok-insert w ↦
-          let name = parts_text w.in-Some.name in
-          ap (λ s. names_of s.keys) w.given-is
-          ∙ use_inserted c.loop-contribution.given.keys name w.write_name.new.text w.insert.new.self.keys w.in_ok-write_name.ensures w.in_ok-insert.ensures.keys
-          ∙ ap (λ ns. with_name ns name) c.loop-contribution.invariant
-          ∙ noted_more cs i _ c.loop-contribution-test.true (Gives c.args.kind) start (Some name) (sym c.role_name.ensures ∙ ap (option_map parts_text) w.in-Some.is)
-      | in_default w ↦
-          ap (λ s. names_of s.keys) w.given-is
-          ∙ c.loop-contribution.invariant
-          ∙ noted_more cs i _ c.loop-contribution-test.true (Gives c.args.kind) start None (sym c.role_name.ensures ∙ ap (option_map parts_text) w.in_default.is)
-    ]
+    let sets = c.loop-contribution.sets.items in
+    record {
+      count = elim c.match-given.branch [
+        | in-Some+in_ok-write_name+in_ok-insert w ↦ ap (λ v. length v.items) w.sets-is ∙ length-set sets w.index.result w.insert.new.self ∙ c.loop-contribution.invariant.count
+        | in_default w ↦ ap (λ v. length v.items) w.sets-is ∙ c.loop-contribution.invariant.count
+      ];
+      names = λ before has. subst (λ cs. HaveGiven cs c.match-given.sets.items) (one_more before cs i _ c.loop-contribution-test.true) (elim c.match-given.branch [
+        | in-Some+in_ok-write_name+in_ok-insert w ↦
+            let name = parts_text w.in-Some.name in
+            given_named (before ++ contributions_view (take i cs)) _ sets (c.loop-contribution.invariant.names before has) w.in-Some.table name (sym c.given.ensures ∙ ap (option_map named_view) w.in-Some.is)
+            c.match-given.sets.items w.index.result w.index_mut.result.now w.insert.new.self w.index.ensures (ap (λ v. v.items) w.sets-is) w.index_mut.ensures.value
+            (use_inserted w.index_mut.result.now.keys name w.write_name.new.text w.insert.new.self.keys w.in_ok-write_name.ensures w.in_ok-insert.ensures.keys)
+        | in_default w ↦
+            given_nameless (before ++ contributions_view (take i cs)) _ sets (c.loop-contribution.invariant.names before has)
+            c.match-given.sets.items (sym c.given.ensures ∙ ap (option_map named_view) w.in_default.is) (ap (λ v. v.items) w.sets-is)
+      ]);
+    }
+
+pub returns : goal.returns
+returns c = record {
+  count = c.loop-contribution.invariant.count;
+  names = λ before has.
+      subst (λ cs. HaveGiven (before ++ contributions_view cs) c.loop-contribution.sets.items) (take_all c.loop-contribution.contribution-index c.args.contributions.now c.loop-contribution-test.false)
+      (c.loop-contribution.invariant.names before has);
+}

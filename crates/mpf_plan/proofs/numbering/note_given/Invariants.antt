@@ -1,9 +1,12 @@
-use Rattle.std.proofs.Common.{◌≡◌, fold, take}
-use Rattle.mpf_plan.specs.declared.contribution.Role.TheVariants.{Gives}
-use Rattle.mpf_plan.specs.Uses.{all_names}
-use Rattle.mpf_plan.specs.Inside.{contributions_view, names_of}
-use Rattle.mpf_plan.specs.Numbering.{with_name}
+use Rattle.std.proofs.Common.{◌≡◌, List, ◌++◌, length, take}
+use Rattle.mpf_plan.specs.Contributions.{Contribution}
+use Rattle.mpf_plan.specs.Inside.{contributions_view}
+use Rattle.mpf_plan.specs.Limits.{tables_in_order}
+use Rattle.mpf_plan.specs.Numbering.{HaveGiven}
 use Rattle.mpf_plan.proofs.numbering.note_given.Given as goal
 
 abbrev pub invariant-loop-contribution : goal.invariant-loop-contribution
-invariant-loop-contribution l = names_of l.given.keys ≡ fold with_name (names_of l.initial.given.keys) (all_names (Gives l.kind) (contributions_view (take l.contribution-index l.contributions)))
+invariant-loop-contribution l = record {
+  count : length l.sets.items ≡ length tables_in_order;
+  names : (before : List Contribution) → HaveGiven before l.initial.sets.items → HaveGiven (before ++ contributions_view (take l.contribution-index l.contributions)) l.sets.items;
+}

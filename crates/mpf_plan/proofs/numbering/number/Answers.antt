@@ -1,34 +1,22 @@
-use Rattle.std.proofs.Common.{map, sym, ◌∙◌}
-use Rattle.mpf_config.specs.View.{section_view}
-use Rattle.mpf_plan.specs.declared.fault.Table.TheVariants.{Events, Bindings, Switches}
-use Rattle.mpf_plan.specs.Contributions.{contributions_in}
-use Rattle.mpf_plan.specs.PlanOf.{plan_from}
-use Rattle.mpf_plan.proofs.Judged.{first_is, none_above}
-use Rattle.mpf_plan.proofs.Found.{events_first, bindings_first, switches_first, found_within, bindings_kept, events_kept, switches_kept}
+use Rattle.std.proofs.Common.{sym, ◌∙◌}
+use Rattle.mpf_plan.specs.Contributions.{given_by}
+use Rattle.mpf_plan.specs.Inside.{rows_view}
+use Rattle.mpf_plan.proofs.Found.{bindings_fit, names_are_kept, kept_fit}
+use Rattle.mpf_plan.proofs.Unnamed.{bindings_unnamed}
 use Rattle.mpf_plan.proofs.numbering.number.Goals as goal
 
-pub returns-then-found : goal.returns-then-found
-returns-then-found c =
-    let cs = contributions_in (map section_view c.args.sections.now) in
-    (sym c.in_ok-lacking.ensures ∙ c.if-lacking.false, first_is (plan_from cs) Events (events_first cs c.in_ok-found.found c.in_ok-found.ensures c.if-found.true))
-
-pub returns-then-found-gt-MAX_BINDINGS : goal.returns-then-found-gt-MAX_BINDINGS
-returns-then-found-gt-MAX_BINDINGS c =
-    let cs = contributions_in (map section_view c.args.sections.now) in
-    (sym c.in_ok-lacking.ensures ∙ c.if-lacking.false, first_is (plan_from cs) Bindings (bindings_first cs c.in_ok-found.found c.in_ok-found.ensures c.if-found.false c.if-found-gt-MAX_BINDINGS.true))
-
-pub returns-then-found-2 : goal.returns-then-found-2
-returns-then-found-2 c =
-    let cs = contributions_in (map section_view c.args.sections.now) in
-    (sym c.in_ok-lacking.ensures ∙ c.if-lacking.false, first_is (plan_from cs) Switches (switches_first cs c.in_ok-found.found c.in_ok-found.ensures c.if-found.false c.if-found-gt-MAX_BINDINGS.false c.if-found-2.true))
+pub invariant_of-result : goal.invariant_of-result
+invariant_of-result c =
+    let rows = rows_view c.args.rows.now in
+    let cs = given_by rows in
+    let has = c.in_ok-found.ensures in
+    record { count = c.in_ok-found.found.count; fit = kept_fit cs c.in_ok-found.found has (sym (c.first_above.ensures cs has) ∙ c.in_default.is) (bindings_unnamed rows) }
 
 pub returns : goal.returns
 returns c =
-    let cs = contributions_in (map section_view c.args.sections.now) in
+    let rows = rows_view c.args.rows.now in
+    let cs = given_by rows in
     let found = c.in_ok-found.found in
-    let has = c.in_ok-found.ensures in (
-      sym c.in_ok-lacking.ensures ∙ c.if-lacking.false,
-      (λ i. record { events = events_kept cs found has c.if-found.false i; switches = switches_kept cs found has c.if-found-2.false i }),
-      none_above (plan_from cs) (found_within cs found has c.if-found.false c.if-found-gt-MAX_BINDINGS.false c.if-found-2.false),
-      bindings_kept cs found has c.if-found-gt-MAX_BINDINGS.false,
-    )
+    let has = c.in_ok-found.ensures in
+    let none = sym (c.first_above.ensures cs has) ∙ c.in_default.is in
+    (sym c.in_ok-lacking.ensures ∙ c.if-lacking.false, (λ i t. names_are_kept cs found has none (bindings_unnamed rows) t i), none, bindings_fit cs found has none (bindings_unnamed rows))

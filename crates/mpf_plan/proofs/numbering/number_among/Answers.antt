@@ -4,7 +4,7 @@ use Rattle.std.specs.Str.{bytes_eq}
 use Rattle.std.specs.List.{position}
 use Rattle.std.proofs.lemmas.List.Sums.{prefix_len-le-length}
 use Rattle.mpf_plan.specs.Uses.{number_among}
-use Rattle.mpf_plan.specs.Inside.{names_of}
+use Rattle.mpf_plan.specs.NamesKept.{names_of}
 use Rattle.mpf_plan.proofs.Places.{position_or_len-map, position-or_len}
 use Rattle.mpf_plan.proofs.numbering.number_among.Goals as goal
 

@@ -1,0 +1,67 @@
+-- What a pass has seen: one contribution more, and what is collected of one row more.
+use Rattle.std.proofs.Common.{◌≡◌, ℕ, ◌+◌, ◌<◌, Bool, true, false, cond, ◌||◌, List, [], ◌∷◌, ◌++◌, length, take, drop, get_or, Some, refl, sym, ◌∙◌, ap, arith}
+use Rattle.std.specs.Prelude.{Result, Ok, Err, OnOk, find}
+use Rattle.std.specs.List.{list_any}
+use Rattle.std.proofs.lemmas.Bool.{or_from, or_left, or_right}
+use Rattle.std.proofs.lemmas.List.{append_assoc, drop_more}
+use Rattle.std.proofs.lemmas.List.Folds.{list_any-append, list_any_at}
+use Rattle.mpf_plan.specs.declared.collect.Row as rows
+use Rattle.mpf_plan.specs.declared.contribution.Contribution as contributions
+use Rattle.mpf_plan.specs.declared.contribution.Place.{Place}
+use Rattle.mpf_plan.specs.Contributions.{Contribution, row_contributions, machine_place, given_by}
+use Rattle.mpf_plan.specs.Inside.{contribution_view, contributions_view, row_view, rows_view}
+use Rattle.mpf_plan.proofs.Taken.{contributions_more, rows_more}
+
+-- what two calls' clauses say together
+pub on_ok_both : {T E P Q R : Type 0} (r : Result T E) → (P → Q → R) → OnOk r P → OnOk r Q → OnOk r R
+on_ok_both (Ok x) f p q = f p q
+on_ok_both (Err e) f p q = q
+
+-- ---- contributions
+
+-- one more, after others
+pub one_more : (before : List Contribution) (cs : List contributions.Contribution) (i : ℕ) (d : contributions.Contribution) → i < length cs
+    → (before ++ contributions_view (take i cs)) ++ contribution_view (get_or cs i d) ∷ [] ≡ before ++ contributions_view (take (i + 1) cs)
+one_more before cs i d within =
+    append_assoc before (contributions_view (take i cs)) (contribution_view (get_or cs i d) ∷ []) ∙ ap (λ l. before ++ l) (sym (contributions_more cs i d within))
+
+module _ (p : Contribution → Bool) where
+  -- none of them passes, nor does one more
+  pub none_more : (cs : List contributions.Contribution) (i : ℕ) (d : contributions.Contribution) → i < length cs → list_any p (contributions_view (take i cs)) ≡ false → p (contribution_view (get_or cs i d)) ≡ false
+      → list_any p (contributions_view (take (i + 1) cs)) ≡ false
+  none_more cs i d within none here =
+      ap (list_any p) (contributions_more cs i d within)
+      ∙ list_any-append p (contributions_view (take i cs)) (contribution_view (get_or cs i d) ∷ [])
+      ∙ or_from (list_any p (contributions_view (take i cs))) (p (contribution_view (get_or cs i d)) || false) none (or_from (p (contribution_view (get_or cs i d))) false here refl)
+
+  any_seen : (cs : List contributions.Contribution) → list_any p (contributions_view cs) ≡ list_any (λ c. p (contribution_view c)) cs
+  any_seen [] = refl
+  any_seen (c ∷ cs) = ap (λ b. p (contribution_view c) || b) (any_seen cs)
+
+  -- one of them passes
+  pub any_here : (cs : List contributions.Contribution) (i : ℕ) (d : contributions.Contribution) → i < length cs → p (contribution_view (get_or cs i d)) ≡ true → list_any p (contributions_view cs) ≡ true
+  any_here cs i d within here = any_seen cs ∙ list_any_at (λ c. p (contribution_view c)) cs i d within here
+
+-- ---- rows
+
+module _ (rs : List rows.Row) (i : ℕ) (r : rows.Row) (within : i < length rs) (at : r ≡ get_or rs i r) (now new : List contributions.Contribution) where
+  -- what is collected of a row
+  pub row_is : {place : Place} → place ≡ machine_place → now ≡ new → contributions_view new ≡ row_contributions place (row_view r)
+      → contributions_view now ≡ row_contributions machine_place (row_view (get_or rs i r))
+  row_is place_is same collected = ap contributions_view same ∙ collected ∙ (λ j. row_contributions (place_is j) (row_view (at j)))
+
+  -- after what the first rows give
+  pub row_more : {place : Place} → place ≡ machine_place → now ≡ new → contributions_view new ≡ row_contributions place (row_view r)
+      → given_by (rows_view (take i rs)) ++ contributions_view now ≡ given_by (rows_view (take (i + 1) rs))
+  row_more place_is same collected = ap (λ l. given_by (rows_view (take i rs)) ++ l) (row_is place_is same collected) ∙ sym (rows_more rs i r within)
+
+-- ---- the first item that passes
+
+module _ {X : Type 0} (p : X → Bool) (xs : List X) (i : ℕ) (d : X) (within : i < length xs) where
+  -- is not this one
+  pub find_next : p (get_or xs i d) ≡ false → find p (drop i xs) ≡ find p (drop (i + 1) xs)
+  find_next fails = ap (find p) (drop_more xs i d within) ∙ ap (λ b. cond b (Some (get_or xs i d)) (find p (drop (i + 1) xs))) fails
+
+  -- is this one
+  pub find_here : p (get_or xs i d) ≡ true → find p (drop i xs) ≡ Some (get_or xs i d)
+  find_here passes = ap (find p) (drop_more xs i d within) ∙ ap (λ b. cond b (Some (get_or xs i d)) (find p (drop (i + 1) xs))) passes

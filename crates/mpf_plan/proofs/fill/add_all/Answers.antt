@@ -1,0 +1,14 @@
+use Rattle.mpf_plan.specs.PlanOf.{with_contribution}
+use Rattle.mpf_plan.specs.Inside.{name_sets_view, draft_view}
+use Rattle.mpf_plan.proofs.Drafted.{lists_fit}
+use Rattle.mpf_plan.proofs.Taken.{added_next}
+use Rattle.mpf_plan.proofs.fill.add_all.Goals as goal
+
+pub add-requires : goal.add-requires
+add-requires c = lists_fit c.args.names.now c.args.draft.now c.loop-contribution.draft c.args.contributions.now c.loop-contribution.contribution-index c.requires c.loop-contribution.invariant
+
+pub loop-contribution-preserved : goal.loop-contribution-preserved
+loop-contribution-preserved c =
+    let names = c.args.names.now in
+    added_next c.args.contributions.now c.loop-contribution.contribution-index _ c.loop-contribution-test.true (with_contribution (name_sets_view names)) (draft_view names c.args.draft.now)
+    (draft_view names c.loop-contribution.draft) (draft_view names c.add.new.draft) c.loop-contribution.invariant c.in_ok-add.ensures

@@ -1,0 +1,7 @@
+use Rattle.std.proofs.Common.{◌≡◌, fold, take}
+use Rattle.mpf_plan.specs.PlanOf.{with_contribution}
+use Rattle.mpf_plan.specs.Inside.{name_sets_view, contributions_view, draft_view}
+use Rattle.mpf_plan.proofs.fill.add_all.Given as goal
+
+abbrev pub invariant-loop-contribution : goal.invariant-loop-contribution
+invariant-loop-contribution l = draft_view l.names l.draft ≡ fold (with_contribution (name_sets_view l.names)) (draft_view l.names l.initial.draft) (contributions_view (take l.contribution-index l.contributions))

@@ -1,7 +1,0 @@
-use Rattle.std.proofs.Common.{◌≡◌, fold, take}
-use Rattle.mpf_plan.specs.PlanOf.{with_contribution}
-use Rattle.mpf_plan.specs.Inside.{name_sets_view, contributions_view, draft_view}
-use Rattle.mpf_plan.proofs.fill.fill_section.Given as goal
-
-abbrev pub invariant-loop-contribution : goal.invariant-loop-contribution
-invariant-loop-contribution l = draft_view l.names l.draft ≡ fold (with_contribution (name_sets_view l.names)) (draft_view l.names l.initial.draft) (contributions_view (take l.contribution-index l.contributions))

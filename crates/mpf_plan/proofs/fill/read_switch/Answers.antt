@@ -1,0 +1,18 @@
+use Rattle.std.proofs.Common.{refl, ap, arith}
+use Rattle.mpf_plan.specs.declared.fault.Table.TheVariants.{Switches}
+use Rattle.mpf_plan.specs.Inside.{name_sets_view, draft_view}
+use Rattle.mpf_plan.proofs.Steps.{switch_changed, switch_unchanged}
+use Rattle.mpf_plan.proofs.fill.read_switch.Goals as goal
+
+pub returns-then-last-len : goal.returns-then-last-len
+returns-then-last-len c names =
+    let d = draft_view names c.args.draft.now in
+    ap (λ ss. record d { plan = record d.plan { switches = ss } })
+    (switch_changed (λ s. record s { kind = c.args.kind }) c.index_mut.result.now (record c.index_mut.result.now { kind = c.args.kind }) (λ n. refl)
+    (name_sets_view names Switches) c.args.draft.now.switches.items c.args.draft.now.last (omega (arith, c.if-last-len.true, c.len.ensures)) c.index_mut.ensures.value)
+
+pub returns-else-last-len : goal.returns-else-last-len
+returns-else-last-len c names =
+    let d = draft_view names c.args.draft.now in
+    ap (λ ss. record d { plan = record d.plan { switches = ss } })
+    (switch_unchanged (λ s. record s { kind = c.args.kind }) (name_sets_view names Switches) c.args.draft.now.switches.items c.args.draft.now.last (omega (arith, c.if-last-len.false, c.len.ensures)))

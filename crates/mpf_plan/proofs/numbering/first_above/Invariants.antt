@@ -1,0 +1,11 @@
+use Rattle.std.proofs.Common.{◌≡◌, List, drop, nat_lt}
+use Rattle.std.specs.Prelude.{find}
+use Rattle.mpf_plan.specs.Contributions.{Contribution}
+use Rattle.mpf_plan.specs.Limits.{entry_count, limit_of, first_above}
+use Rattle.mpf_plan.specs.PlanOf.{plan_from}
+use Rattle.mpf_plan.specs.Numbering.{HasFound}
+use Rattle.mpf_plan.proofs.numbering.first_above.Given as goal
+
+-- the first table above its limit is among those that are left
+abbrev pub invariant-loop-table : goal.invariant-loop-table
+invariant-loop-table l = (cs : List Contribution) → HasFound cs l.found → first_above (plan_from cs) ≡ find (λ t. nat_lt (limit_of t) (entry_count (plan_from cs) t)) (drop l.table-index l.table-items)

@@ -1,0 +1,21 @@
+use Rattle.std.proofs.Common.{◌≡◌, length, get_or, nat_lt, sym, ◌∙◌, ap, subst}
+use Rattle.std.proofs.lemmas.Option.{slice_get_read}
+use Rattle.mpf_plan.specs.Limits.{entry_count, limit_of, order_of, tables_in_order}
+use Rattle.mpf_plan.specs.PlanOf.{plan_from}
+use Rattle.mpf_plan.proofs.ByTable.{place_within}
+use Rattle.mpf_plan.proofs.Found.{bindings_above, names_above}
+use Rattle.mpf_plan.proofs.numbering.is_above.Goals as goal
+
+pub returns-in-Bindings : goal.returns-in-Bindings
+returns-in-Bindings c cs has =
+    let found = c.args.found.now in
+    ap (λ n. nat_lt n found.bindings) c.limit.ensures
+    ∙ subst (λ t. nat_lt (limit_of t) found.bindings ≡ nat_lt (limit_of t) (entry_count (plan_from cs) t)) (sym c.in-Bindings.is) (bindings_above cs found has)
+
+pub returns-in_default : goal.returns-in_default
+returns-in_default c cs has =
+    let found = c.args.found.now in
+    let t = c.args.table in
+    let kept = c.index-in_default.result.now in
+    names_above cs found has t kept c.in_default.not-Bindings
+    (slice_get_read found.tables.items (length tables_in_order) (order_of t) kept (sym has.tables.count) (place_within t) (c.index-in_default.ensures ∙ ap (λ n. get_or found.tables.items n kept) c.index.ensures))

@@ -1,0 +1,39 @@
+use Rattle.std.proofs.Common.{◌≡◌, ◌≤◌, ℕ, ◌+◌, false, [], length, get_or, Some, refl, sym, ◌∙◌, ap, subst, arith}
+use Rattle.std.specs.Prelude.{slice_get}
+use Rattle.std.proofs.lemmas.List.{length_push}
+use Rattle.std.proofs.lemmas.Option.{none-some}
+use Rattle.mpf_plan.specs.declared.fault.Table.TheVariants.{Events}
+use Rattle.mpf_plan.specs.declared.names.NameTable.{NameTable}
+use Rattle.mpf_plan.specs.Limits.{limit_of, order_of, tables_in_order}
+use Rattle.mpf_plan.proofs.ByTable.{table_at, each_pushed}
+use Rattle.mpf_plan.proofs.Found.{found_none}
+use Rattle.mpf_plan.proofs.numbering.no_names.Goals as goal
+
+abbrev IsEmptyAt : ℕ → NameTable → Type 0
+IsEmptyAt i k = (k.limit ≡ limit_of (get_or tables_in_order i Events)) × (k.above ≡ false) × (k.set.keys ≡ [])
+
+pub loop-table-init : goal.loop-table-init
+loop-table-init c = record {
+  count = ap length c.new-tables.ensures.items;
+  empty = λ i k at. absurd (none-some k (sym (ap (λ ts. slice_get ts i) c.new-tables.ensures.items) ∙ at));
+}
+
+pub loop-table-preserved : goal.loop-table-preserved
+loop-table-preserved c =
+    let so_far = c.loop-table.tables.items in
+    let added : NameTable = record { set = c.new.result; limit = c.limit.result; above = false } in
+    let count = c.loop-table.invariant.count in
+    record {
+      count = ap length c.in_ok-push.ensures.items ∙ length_push so_far added ∙ ap (λ n. n + 1) count;
+      empty = λ i k at. each_pushed IsEmptyAt so_far added c.loop-table.invariant.empty
+          (c.limit.ensures ∙ ap (λ n. limit_of (get_or tables_in_order n Events)) (sym count), refl, c.new.ensures.empty) i k (subst (λ ts. slice_get ts i ≡ Some k) c.in_ok-push.ensures.items at);
+    }
+
+pub returns : goal.returns
+returns c =
+    let tables = c.loop-table.tables.items in
+    let count : length tables ≡ length tables_in_order = omega (arith, c.loop-table.invariant.count, c.loop-table-test.false, c.loop-table.auto.table-index-end) in
+    record {
+      count = count;
+      names = found_none tables count (λ t k at. let here = c.loop-table.invariant.empty (order_of t) k at in (here.0 ∙ ap limit_of (table_at t), here.1, here.2));
+    }

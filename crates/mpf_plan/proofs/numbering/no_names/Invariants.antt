@@ -1,0 +1,12 @@
+use Rattle.std.proofs.Common.{◌≡◌, ℕ, false, [], length, get_or, Some}
+use Rattle.std.specs.Prelude.{slice_get}
+use Rattle.mpf_plan.specs.declared.fault.Table.TheVariants.{Events}
+use Rattle.mpf_plan.specs.declared.names.NameTable.{NameTable}
+use Rattle.mpf_plan.specs.Limits.{limit_of}
+use Rattle.mpf_plan.proofs.numbering.no_names.Given as goal
+
+abbrev pub invariant-loop-table : goal.invariant-loop-table
+invariant-loop-table l = record {
+  count : length l.tables.items ≡ l.table-index;
+  empty : (i : ℕ) (k : NameTable) → slice_get l.tables.items i ≡ Some k → (k.limit ≡ limit_of (get_or l.table-items i Events)) × (k.above ≡ false) × (k.set.keys ≡ []);
+}
