@@ -8,4 +8,6 @@ pub mod BundleTexts
 pub mod TextNames
 pub mod Meaning
 pub mod Theorem
+pub mod Each
 pub mod RowNames
+pub mod ShortRows

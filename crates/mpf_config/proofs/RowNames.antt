@@ -1,30 +1,25 @@
 -- Every name in the rows of a bundle is one.
 use Rattle.std.proofs.Common.{◌≡◌, ◌≢◌, ℕ, zero, suc, Bool, true, false, if◌then◌else◌, List, [], ◌∷◌, map, Option, Some, None, slice_get, Ok, refl, sym, ap, ◌∙◌, true≢false, codes}
-use Rattle.std.specs.List.{All, AllByRecursion, AllZip}
+use Rattle.std.specs.List.{All, AllByRecursion}
 use Rattle.std.specs.Str.{bytes_eq}
-use Rattle.std.proofs.lemmas.List.Elements.{All-nil, All-cons, All-map, All-weaker, All-from_recursion}
+use Rattle.std.proofs.lemmas.List.Elements.{All-nil, All-map, All-weaker, All-from_recursion}
 use Rattle.yaml_subset.specs.Node.{Pair}
 use Rattle.mpf_values.specs.Bytes.{is_name_byte}
 use Rattle.mpf_values.specs.Names.{IsName}
 use Rattle.section_tables.specs.Rows.{Plain, nothing, flag, number, time, power, word, name, event, Value, one, names, posts, events, steps, maps, keyed, Entry, Player}
 use Rattle.section_tables.specs.Named.{IsNamedValue, IsNamedEvent, IsNamedEntry}
 use Rattle.section_tables.specs.Named as tables
+use Rattle.section_tables.specs.SectionTables.{switches_name, event_player_name}
 use Rattle.section_tables.proofs.RowNames.{entries_named, players_named}
 use Rattle.section_tables.proofs.TableNames.{table_named, kinds_named}
 use Rattle.mpf_config.specs.Rows.{Written, Content, entries, players, SectionRows, Rows}
-use Rattle.mpf_config.specs.Typed.{names_of, posts_of, event_name, switch_of, event_player_of, entries_in, players_in, switches_in, event_players_in}
+use Rattle.mpf_config.specs.Typed.{names_of, posts_of, event_name, switch_of, event_player_of, entries_in, players_in, entries_of, players_of, switches_in, event_players_in}
 use Rattle.mpf_config.specs.Unread.{read_of}
 use Rattle.mpf_config.specs.RowsOf.{IsContent, IsSection}
 use Rattle.mpf_config.specs.Named.{AllNames, IsNamedSwitch, IsNamedPlayer, IsNamedContent, IsNamed}
 use Rattle.mpf_config.specs.Reading.{rows_at}
 use Rattle.mpf_config.proofs.Theorem.{rows_sound}
-
--- what holds of each row that an entry has holds of all rows
-All-from_zip : {A B : Type 0} (R : A → B → Type 0) (P : B → Type 0) → ((x : A) (y : B) → R x y → P y) → (xs : List A) (ys : List B) → AllZip R xs ys → All P ys
-All-from_zip R P so [] [] each = All-nil P
-All-from_zip R P so [] (y ∷ ys) each = absurd each
-All-from_zip R P so (x ∷ xs) [] each = absurd each
-All-from_zip R P so (x ∷ xs) (y ∷ ys) each = All-cons P y ys (so x y each.0) (All-from_zip R P so xs ys each.1)
+use Rattle.mpf_config.proofs.Each.{All-from_zip, all_where}
 
 content_named : (longest : ℕ) (p : Pair) (content : Content) → IsContent longest p content → IsNamedContent content
 content_named longest p (entries es) h = All-from_recursion IsNamedEntry es (entries_named longest h.0 p es (table_named p.key h.0 h.1) h.2)
@@ -80,7 +75,8 @@ event_named (word w) h = absurd h
 event_named (name w) h = h
 event_named (event e) h = h
 
-switch_named : (e : Entry) → IsNamedEntry e → IsNamedSwitch (switch_of e)
+-- The names in an entry of `switches` are names.
+pub switch_named : (e : Entry) → IsNamedEntry e → IsNamedSwitch (switch_of e)
 unfolding switch_of
 switch_named e h = record {
   name = h.name;
@@ -89,7 +85,8 @@ switch_named e h = record {
   deactivated = posts_named (slice_get e.values 4) (value_at_named e.values 4 h.values);
 }
 
-event_player_named : (p : Player) → tables.IsNamedPlayer p → IsNamedPlayer (event_player_of p)
+-- Those in an entry of `event_player` are, too.
+pub event_player_named : (p : Player) → tables.IsNamedPlayer p → IsNamedPlayer (event_player_of p)
 unfolding event_player_of
 event_player_named p h = record { event = event_named p.event h.event; posts = posts_named (Some p.value) h.value }
 
@@ -101,25 +98,26 @@ players_in_named : (content : Content) → IsNamedContent content → All tables
 players_in_named (entries es) h = All-nil tables.IsNamedPlayer
 players_in_named (players ps) h = h
 
-all_where : {A : Type 0} (P : A → Type 0) (b : Bool) (xs : List A) → All P xs → All P (if b then xs else [])
-all_where P true xs h = h
-all_where P false xs h = All-nil P
+entries_of_named : (section : List ℕ) (s : SectionRows) → IsNamed s → All IsNamedEntry (entries_of section s)
+entries_of_named section s h = all_where IsNamedEntry (bytes_eq s.name section) (entries_in s.content) (entries_in_named s.content h)
+
+players_of_named : (section : List ℕ) (s : SectionRows) → IsNamed s → All tables.IsNamedPlayer (players_of section s)
+players_of_named section s h = all_where tables.IsNamedPlayer (bytes_eq s.name section) (players_in s.content) (players_in_named s.content h)
 
 -- The names in the switches of a section are names.
 pub switches_named : (s : SectionRows) → IsNamed s → All IsNamedSwitch (switches_in s)
 unfolding switches_in
 switches_named s h =
-    let es = entries_in s.content in
-    all_where IsNamedSwitch (bytes_eq s.name (codes "switches")) (map switch_of es)
-    (All-map IsNamedSwitch switch_of es (All-weaker IsNamedEntry (λ e. IsNamedSwitch (switch_of e)) switch_named es (entries_in_named s.content h)))
+    let es = entries_of switches_name s in
+    All-map IsNamedSwitch switch_of es (All-weaker IsNamedEntry (λ e. IsNamedSwitch (switch_of e)) switch_named es (entries_of_named switches_name s h))
 
 -- Those in the entries of `event_player` are, too.
 pub event_players_named : (s : SectionRows) → IsNamed s → All IsNamedPlayer (event_players_in s)
 unfolding event_players_in
 event_players_named s h =
-    let ps = players_in s.content in
-    all_where IsNamedPlayer (bytes_eq s.name (codes "event_player")) (map event_player_of ps)
-    (All-map IsNamedPlayer event_player_of ps (All-weaker tables.IsNamedPlayer (λ p. IsNamedPlayer (event_player_of p)) event_player_named ps (players_in_named s.content h)))
+    let ps = players_of event_player_name s in
+    All-map IsNamedPlayer event_player_of ps
+    (All-weaker tables.IsNamedPlayer (λ p. IsNamedPlayer (event_player_of p)) event_player_named ps (players_of_named event_player_name s h))
 
 -- ---- what a name is not
 

@@ -4,7 +4,9 @@ pub mod BundleText
 pub mod Unread
 pub mod RowsOf
 pub mod Named
+pub mod Short
 pub mod Reading
+pub mod SectionView
 pub mod View
 pub mod Inside
 pub mod FaultLine

@@ -1,8 +1,7 @@
 -- What it means that every name in the rows of a section is one: 1 to 64 letters, digits, `_`, `-` and `.`.
 use Rattle.std.specs.Prelude.{List}
 use Rattle.std.specs.List.{All}
-use Rattle.section_tables.specs.Named.{IsNamedEntry}
-use Rattle.section_tables.specs.Named as tables
+pub use Rattle.section_tables.specs.Named.{IsNamedEntry, IsNamedPlayer as IsNamedPlayerEntry}
 use Rattle.mpf_config.specs.Rows.{Written, Switch, EventPlayer, Content, entries, players, SectionRows}
 pub use Rattle.mpf_values.specs.Names.{IsName}
 
@@ -25,7 +24,7 @@ pub record IsNamedPlayer (p : EventPlayer) : Type 0 where
 -- so it is in each entry of a section, whatever its settings are
 abbrev pub IsNamedContent : Content → Type 0
 IsNamedContent (entries es) = All IsNamedEntry es
-IsNamedContent (players ps) = All tables.IsNamedPlayer ps
+IsNamedContent (players ps) = All IsNamedPlayerEntry ps
 
 abbrev pub IsNamed : SectionRows → Type 0
 IsNamed s = IsNamedContent s.content

@@ -77,10 +77,17 @@ abbrev pub players_in : Content → List Player
 players_in (entries es) = []
 players_in (players ps) = ps
 
+-- the entries of the section, where it has this name
+abbrev pub entries_of : List ℕ → SectionRows → List Entry
+entries_of section s = if bytes_eq s.name section then entries_in s.content else []
+
+abbrev pub players_of : List ℕ → SectionRows → List Player
+players_of section s = if bytes_eq s.name section then players_in s.content else []
+
 -- the switches of a section: of `switches` its entries, of any other none
 unfoldable pub switches_in : SectionRows → List Switch
-switches_in s = if bytes_eq s.name (codes "switches") then map switch_of (entries_in s.content) else []
+switches_in s = map switch_of (entries_of tables.switches_name s)
 
 -- the entries of `event_player`, as well
 unfoldable pub event_players_in : SectionRows → List EventPlayer
-event_players_in s = if bytes_eq s.name (codes "event_player") then map event_player_of (players_in s.content) else []
+event_players_in s = map event_player_of (players_of tables.event_player_name s)

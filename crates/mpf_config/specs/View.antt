@@ -1,23 +1,13 @@
 -- What contracts see of the rows, and of an answer.
 use Rattle.std.specs.Prelude.{map}
-use Rattle.mpf_config.specs.declared.config.Content as contents
-use Rattle.mpf_config.specs.declared.config.Content.TheVariants as content
-use Rattle.mpf_config.specs.declared.config.Section.{Section}
 use Rattle.mpf_config.specs.declared.config.Note as notes
 use Rattle.mpf_config.specs.declared.config.Config.{Config}
 use Rattle.mpf_config.specs.declared.typed.NameAt.{NameAt}
 use Rattle.mpf_config.specs.declared.typed.Switch as typed_switches
 use Rattle.mpf_config.specs.declared.typed.EventPlayer as typed_players
-use Rattle.section_tables.specs.View.{entries_view, players_view}
-use Rattle.mpf_config.specs.Rows.{Written, Switch, EventPlayer, Content, entries, players, SectionRows, Note, Rows}
+use Rattle.mpf_config.specs.Rows.{Written, Switch, EventPlayer, Note, Rows}
+pub use Rattle.mpf_config.specs.SectionView.{content_view, section_view}
 pub use Rattle.section_tables.specs.View.{name_view, entry_view, player_view, fault_view, FailsRows, GivesRows}
-
-abbrev pub content_view : contents.Content → Content
-content_view (content.Entries es) = entries (entries_view es)
-content_view (content.Players ps) = players (players_view ps)
-
-abbrev pub section_view : Section → SectionRows
-section_view s = record { name = s.name.items; content = content_view s.content }
 
 abbrev pub note_view : notes.Note → Note
 note_view n = record { kind = n.kind; text = n.text.items; line = n.line; name = n.name.items }

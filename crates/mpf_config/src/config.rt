@@ -1,5 +1,10 @@
 //! The rows of a bundle.
 
+ghost use Rattle.std.specs.Prelude.{map};
+ghost use Rattle.std.specs.List.{All};
+ghost use Rattle.mpf_config.specs.Short.{IsShortSection};
+ghost use Rattle.mpf_config.specs.SectionView.{section_view};
+
 use section_tables::rows::{Entry, Player};
 
 /// How a switch's contact stands while nothing presses it.
@@ -65,11 +70,12 @@ pub struct Note {
     pub name: Vec<u8>,
 }
 
-/// The rows of a bundle.
+/// The rows of a bundle: no list in them has more than 1,024 items.
 #[derive(Debug, Drop)]
 pub struct Config {
     /// What stands in the machine text.
     pub machine: MachineText,
     /// What was not read, in the order in which it is told.
     pub notes: Vec<Note>,
+    ghost lists_short: { All IsShortSection (map section_view machine.sections.items) },
 }

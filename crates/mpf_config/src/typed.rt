@@ -2,11 +2,12 @@
 
 ghost use Rattle.std.specs.Prelude.{◌≡◌, map, slice_get};
 ghost use Rattle.section_tables.specs.View.{name_view, plain_view, value_view, values_view, entry_view, entries_view, player_view, players_view};
-ghost use Rattle.mpf_config.specs.Typed.{names_of, posts_of, word_of, event_name, contact_of, debounce_of, switch_of, event_player_of, entries_in, players_in, switches_in, event_players_in};
+ghost use Rattle.mpf_config.specs.Typed.{names_of, posts_of, word_of, event_name, contact_of, debounce_of, switch_of, event_player_of, entries_in, players_in, entries_of, players_of, switches_in, event_players_in};
 ghost use Rattle.mpf_config.specs.View.{content_view, section_view, name_at_view, switch_view, event_player_view};
 
 use crate::config::{Contact, Content, Debounce, Section};
 use section_tables::rows::{Entry, Name, Plain, Player, Value};
+use section_tables::tables::{EVENT_PLAYER_NAME, SWITCHES_NAME};
 
 /// A name where it is written.
 #[derive(Clone, Copy, Debug)]
@@ -171,10 +172,6 @@ pub fn as_event_player(player: &Player) -> EventPlayer<'_>
 
 // ---- sections
 
-const SWITCHES: &[u8] = b"switches";
-
-const EVENT_PLAYER: &[u8] = b"event_player";
-
 impl Content {
     fn entries(&self) -> &[Entry]
         ensures { map entry_view result.now ≡ entries_in (content_view self.now) }
@@ -196,15 +193,32 @@ impl Content {
 }
 
 impl Section {
+    /// The entries of the section, where it has this name; none otherwise.
+    pub fn entries_of(&self, name: &[u8]) -> &[Entry]
+        ensures { map entry_view result.now ≡ entries_of name.now (section_view self.now) }
+    {
+        if self.name.as_slice() == name {
+            return self.content.entries();
+        }
+        &[]
+    }
+
+    /// The entries of the player, where the section has this name; none otherwise.
+    pub fn players_of(&self, name: &[u8]) -> &[Player]
+        ensures { map player_view result.now ≡ players_of name.now (section_view self.now) }
+    {
+        if self.name.as_slice() == name {
+            return self.content.players();
+        }
+        &[]
+    }
+
     /// The entries of `switches`, to be seen by [`as_switch`]; none of any other section.
     #[tactic(auto, unfolding(crate::specs::Typed::switches_in))]
     pub fn switches(&self) -> &[Entry]
         ensures { map switch_of (map entry_view result.now) ≡ switches_in (section_view self.now) }
     {
-        if self.name.as_slice() == SWITCHES {
-            return self.content.entries();
-        }
-        &[]
+        self.entries_of(SWITCHES_NAME)
     }
 
     /// The entries of `event_player`, to be seen by [`as_event_player`]; none of any other section.
@@ -212,9 +226,6 @@ impl Section {
     pub fn event_players(&self) -> &[Player]
         ensures { map event_player_of (map player_view result.now) ≡ event_players_in (section_view self.now) }
     {
-        if self.name.as_slice() == EVENT_PLAYER {
-            return self.content.players();
-        }
-        &[]
+        self.players_of(EVENT_PLAYER_NAME)
     }
 }

@@ -12,11 +12,12 @@ pub mod Judged
 pub mod Collected
 pub mod Unnamed
 pub mod Found
+pub mod Among
 pub mod Lacking
 pub mod SoundDraft
+pub mod RowFacts
 pub mod ValidPlan
 pub mod Planned
 pub mod EventNames
 pub mod BoundTo
 pub mod Placed
-pub mod LastList

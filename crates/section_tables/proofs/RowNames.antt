@@ -1,6 +1,7 @@
 -- Every name in a row is one, and no list in it is longer than its limit.
-use Rattle.std.proofs.Common.{◌≡◌, ℕ, zero, suc, ◌≤◌, Bool, true, false, List, [], ◌∷◌, length, map, set, Option, Some, None, refl, sym, ap, subst}
-use Rattle.std.specs.List.{AllByRecursion, AllZip}
+use Rattle.std.proofs.Common.{◌≡◌, ℕ, zero, suc, ◌≤◌, Bool, true, false, List, [], ◌∷◌, length, map, set, Option, Some, None, refl, sym, ap, subst, arith}
+use Rattle.std.specs.List.{All, AllByRecursion, AllZip}
+use Rattle.std.proofs.lemmas.List.Elements.{All-nil, All-from_recursion}
 use Rattle.std.specs.Str.{bytes_eq}
 use Rattle.yaml_subset.specs.Node.{Node, Pair}
 use Rattle.yaml_subset.specs.View.{line_of, text_in}
@@ -11,7 +12,7 @@ use Rattle.section_tables.specs.Kinds.{Scalar, a_flag, number_within, time_withi
 use Rattle.section_tables.specs.Entries.{is_ignored}
 use Rattle.section_tables.specs.Tables.{behind_one, found_in, field_key, field_default, setting_key, setting_default}
 use Rattle.section_tables.specs.EntryOf.{IsScalar, IsPlain, AreListed, AreNodes, IsWritten, IsHandled, OverwritesAt, IsOverwritten, IsField, pass, AreFields, IsKeyedRow, IsKeyed, IsStep, IsValue, IsSetting, IsEntry, AreEntries, IsPlayer, ArePlayers}
-use Rattle.section_tables.specs.Named.{IsNamedPlain, IsNamedEvent, AreNames, AreNamedEvents, AreNamedPlains, IsNamedKeyed, IsNamedValue, IsNamedEntry, IsNamedPlayer, AreNamedFields, IsNamedKind, IsNamedTable, IsEventKind, IsNamedKinds, IsShort, IsShortTable}
+use Rattle.section_tables.specs.Named.{IsNamedPlain, IsNamedEvent, AreNames, AreNamedEvents, AreNamedPlains, IsNamedKeyed, IsNamedValue, IsNamedEntry, IsNamedPlayer, AreNamedFields, IsNamedKind, IsNamedTable, IsEventKind, IsNamedKinds, IsShortValue, IsShortEntry, IsShortPlayer, IsShortTable}
 
 -- ---- lists
 
@@ -123,16 +124,27 @@ listed_short IsOne bounds longest node xs h = rw (sym (same_length IsOne h.items
 nodes_short : {B : Type 0} (IsOne : Node → B → Type 0) (bounds : Bounds) (longest : ℕ) (node : Node) (xs : List B) → AreNodes IsOne bounds longest node xs → length xs ≤ longest
 nodes_short IsOne bounds longest node xs h = rw (sym (same_length IsOne h.nodes xs h.each)) h.few
 
-value_short : (longest : ℕ) (kind : Kind) (node : Node) (v : Value) → IsValue longest kind node v → IsShort longest v
-value_short longest (single kind) node v h = subst (IsShort longest) (sym h.2) tt
-value_short longest (name_list bounds) node v h = subst (IsShort longest) (sym h.2) (listed_short IsWritten bounds longest node h.0 h.1)
-value_short longest (post_list bounds) node v h = subst (IsShort longest) (sym h.2) (listed_short IsWritten bounds longest node h.0 h.1)
-value_short longest (event_list bounds) node v h = subst (IsShort longest) (sym h.2) (listed_short IsHandled bounds longest node h.0 h.1)
+-- a list that has no lists in it
+abbrev Few : ℕ → ℕ → Type 0
+Few longest n = (n ≤ longest) × All (λ (hs : List Handled). length hs ≤ longest) []
+
+pub few_items : (longest : ℕ) {n : ℕ} → n ≤ longest → Few longest n
+few_items longest few = (few, All-nil (λ (hs : List Handled). length hs ≤ longest))
+
+pub no_items : (longest : ℕ) → Few longest 0
+no_items longest = let none : 0 ≤ longest = omega arith in few_items longest none
+
+value_short : (longest : ℕ) (kind : Kind) (node : Node) (v : Value) → IsValue longest kind node v → IsShortValue longest v
+value_short longest (single kind) node v h = subst (IsShortValue longest) (sym h.2) (no_items longest)
+value_short longest (name_list bounds) node v h = subst (IsShortValue longest) (sym h.2) (few_items longest (listed_short IsWritten bounds longest node h.0 h.1))
+value_short longest (post_list bounds) node v h = subst (IsShortValue longest) (sym h.2) (few_items longest (listed_short IsWritten bounds longest node h.0 h.1))
+value_short longest (event_list bounds) node v h = subst (IsShortValue longest) (sym h.2) (few_items longest (listed_short IsHandled bounds longest node h.0 h.1))
 value_short longest (step_list bounds) node v h =
-    subst (IsShort longest) (sym h.2)
-    (nodes_short (IsStep longest) bounds longest node h.0 h.1, all_zip (IsStep longest) (λ hs. length hs ≤ longest) (listed_short IsHandled _ longest) h.1.nodes h.0 h.1.each)
-value_short longest (map_list table others bounds) node v h = subst (IsShort longest) (sym h.2) (nodes_short (AreFields table others) bounds longest node h.0 h.1)
-value_short longest (keyed_maps table place short) node v h = subst (IsShort longest) (sym h.2) tt
+    let few : (hs : List Handled) → Type 0 = λ hs. length hs ≤ longest in
+    let each = all_zip (IsStep longest) few (listed_short IsHandled _ longest) h.1.nodes h.0 h.1.each in
+    subst (IsShortValue longest) (sym h.2) (nodes_short (IsStep longest) bounds longest node h.0 h.1, All-from_recursion few h.0 each)
+value_short longest (map_list table others bounds) node v h = subst (IsShortValue longest) (sym h.2) (few_items longest (nodes_short (AreFields table others) bounds longest node h.0 h.1))
+value_short longest (keyed_maps table place short) node v h = subst (IsShortValue longest) (sym h.2) (no_items longest)
 
 -- ---- entries
 
@@ -153,14 +165,16 @@ pub entries_named : (longest : ℕ) (table : List Setting) (p : Pair) (es : List
 entries_named longest table p es q h = all_zip (IsEntry longest table) IsNamedEntry (λ x e k. entry_named longest table x e q k) h.0 es h.2
 
 -- No list in an entry has more items than the limit, where those have not that hold by default.
-pub entry_short : (longest : ℕ) (table : List Setting) (p : Pair) (e : Entry) → IsShortTable longest table → IsEntry longest table p e → AllByRecursion (IsShort longest) e.values
+pub entry_short : (longest : ℕ) (table : List Setting) (p : Pair) (e : Entry) → IsShortTable longest table → IsEntry longest table p e → IsShortEntry longest e
 entry_short longest table p e q h =
-    overwritten_all setting_key (IsSetting longest) is_ignored (λ s. IsShort longest (setting_default s)) (IsShort longest) (λ s node v _ i. value_short longest s.kind node v i) table h.row.pairs
-    (map setting_default table) e.values q h.row.overwritten (all_map (IsShort longest) setting_default table q)
+    All-from_recursion (IsShortValue longest) e.values
+    (overwritten_all setting_key (IsSetting longest) is_ignored (λ s. IsShortValue longest (setting_default s)) (IsShortValue longest) (λ s node v _ i. value_short longest s.kind node v i) table h.row.pairs
+    (map setting_default table) e.values q h.row.overwritten (all_map (IsShortValue longest) setting_default table q))
 
-pub entries_short : (longest : ℕ) (table : List Setting) (p : Pair) (es : List Entry) → IsShortTable longest table → AreEntries longest table p es → AllByRecursion (λ e. AllByRecursion (IsShort longest) e.values) es
+pub entries_short : (longest : ℕ) (table : List Setting) (p : Pair) (es : List Entry) → IsShortTable longest table → AreEntries longest table p es → All (IsShortEntry longest) es
 entries_short longest table p es q h =
-    all_zip (IsEntry longest table) (λ e. AllByRecursion (IsShort longest) e.values) (λ x e k. entry_short longest table x e q k) h.0 es h.2
+    All-from_recursion (IsShortEntry longest) es
+    (all_zip (IsEntry longest table) (IsShortEntry longest) (λ x e k. entry_short longest table x e q k) h.0 es h.2)
 
 -- ---- players
 
@@ -181,6 +195,7 @@ pub players_named : (longest : ℕ) (kinds : PlayerKinds) (p : Pair) (rows : Lis
 players_named longest kinds p rows q h = all_zip (IsPlayer longest kinds) IsNamedPlayer (player_named longest kinds q) h.0 rows h.2
 
 -- No list in them has more items than the limit.
-pub players_short : (longest : ℕ) (kinds : PlayerKinds) (p : Pair) (rows : List Player) → ArePlayers longest kinds p rows → AllByRecursion (λ row. IsShort longest row.value) rows
+pub players_short : (longest : ℕ) (kinds : PlayerKinds) (p : Pair) (rows : List Player) → ArePlayers longest kinds p rows → All (IsShortPlayer longest) rows
 players_short longest kinds p rows h =
-    all_zip (IsPlayer longest kinds) (λ row. IsShort longest row.value) (λ x row k. value_short longest kinds.value x.value row.value k.value) h.0 rows h.2
+    All-from_recursion (IsShortPlayer longest) rows
+    (all_zip (IsPlayer longest kinds) (IsShortPlayer longest) (λ x row k. value_short longest kinds.value x.value row.value k.value) h.0 rows h.2)

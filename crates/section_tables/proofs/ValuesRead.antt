@@ -7,7 +7,7 @@ use Rattle.mpf_values.proofs.NameTexts.{IsName-from_is_name, is_name-from_IsName
 use Rattle.section_tables.specs.declared.fault.FaultKind.TheVariants.{BadValue}
 use Rattle.section_tables.specs.Rows.{Handled, Plain, Fields, Keyed, Value, one, names, posts, events, steps, maps, keyed, RowsFault}
 use Rattle.section_tables.specs.Kinds.{Scalar, at_least, Field, Kind, single, name_list, post_list, event_list, step_list, map_list, keyed_maps}
-use Rattle.section_tables.specs.Entries.{entries_of, written_at}
+use Rattle.section_tables.specs.Entries.{pairs_of, written_at}
 use Rattle.section_tables.specs.Tables.{field_key, field_default, field_lacks}
 use Rattle.section_tables.specs.EntryOf.{IsWritten, IsHandled, IsField, pass, IsFieldRow, AreFields, IsKeyedRow, IsKeyed, AreKeyed, IsStep, IsValue}
 use Rattle.section_tables.specs.Reading.{IsReadOrLong, ◌>>=◌, Spot, fault_at, key_spot, expect, each_read, plain_at, name_at, handled_in, listed_at, nodes_at, field_at, fields_row_at, fields_at, keyed_row_at, keyed_at, keyed_list_at, value_at}
@@ -21,7 +21,7 @@ use Rattle.section_tables.proofs.RowsRead.{row_sound, row_complete}
 field_sound : (f : Field) (spot : Spot) (node : Node) (v : Plain) → field_at f spot node ≡ Ok v → IsField f node v
 field_sound f spot node v e = plain_sound f.kind spot node v e
 
-field_row_sound : (table : List Field) (others : Bool) (spot : Spot) (node : Node) (pairs : List Pair) (row : List Plain) → entries_of node ≡ Some pairs → fields_row_at others spot table pairs ≡ Ok row → IsFieldRow table others node row
+field_row_sound : (table : List Field) (others : Bool) (spot : Spot) (node : Node) (pairs : List Pair) (row : List Plain) → pairs_of node ≡ Some pairs → fields_row_at others spot table pairs ≡ Ok row → IsFieldRow table others node row
 field_row_sound table others spot node pairs row has e =
     let s = row_sound field_key field_at IsField (pass others) field_sound field_default field_lacks spot table pairs row e in
     record { pairs = pairs; has = has; overwritten = s.0; whole = s.1 }
@@ -37,10 +37,10 @@ fields_sound : (table : List Field) (others : Bool) (spot : Spot) (node : Node) 
 unfolding fields_at
 fields_sound table others spot node m e =
     let at : Spot = record { text = spot.text; line = line_of node; key = spot.key } in
-    let a = bind_ok (expect spot (entries_of node)) (λ pairs. fields_row_at others at table pairs >>= λ row. Ok (fields_made node row)) m e in
+    let a = bind_ok (expect spot (pairs_of node)) (λ pairs. fields_row_at others at table pairs >>= λ row. Ok (fields_made node row)) m e in
     let b = bind_ok (fields_row_at others at table a.0) (λ row. Ok (fields_made node row)) m a.2 in
     subst (AreFields table others node) (ok_is (fields_made node b.0) m b.2)
-    (record { line = refl; row = field_row_sound table others at node a.0 b.0 (expected spot (entries_of node) a.0 a.1) b.1 })
+    (record { line = refl; row = field_row_sound table others at node a.0 b.0 (expected spot (pairs_of node) a.0 a.1) b.1 })
 
 fields_complete : (longest : ℕ) (table : List Field) (others : Bool) (spot : Spot) (node : Node) (m : Fields) → AreFields table others node m → IsReadOrLong longest (fields_at table others spot node) m
 unfolding fields_at
@@ -57,8 +57,8 @@ keyed_row_sound table place short spot node row (Some text) e =
     let a = bind_ok (plain_at short spot node) (λ v. Ok (set (map field_default table) place v)) row e in
     (a.0, plain_sound short spot node a.0 a.1, sym (ok_is (set (map field_default table) place a.0) row a.2))
 keyed_row_sound table place short spot node row None e =
-    let a = bind_ok (expect spot (entries_of node)) (λ pairs. fields_row_at false spot table pairs) row e in
-    field_row_sound table false spot node a.0 row (expected spot (entries_of node) a.0 a.1) a.2
+    let a = bind_ok (expect spot (pairs_of node)) (λ pairs. fields_row_at false spot table pairs) row e in
+    field_row_sound table false spot node a.0 row (expected spot (pairs_of node) a.0 a.1) a.2
 
 keyed_row_complete : (longest : ℕ) (table : List Field) (place : ℕ) (short : Scalar) (spot : Spot) (node : Node) (row : List Plain) (o : Option (List ℕ)) → IsKeyedRow table place short node row o
     → IsReadOrLong longest (keyed_row_at table place short spot node o) row
@@ -90,8 +90,8 @@ keyed_complete longest text table place short p k h =
 keyed_list_sound : (table : List Field) (place : ℕ) (short : Scalar) (spot : Spot) (node : Node) (ks : List Keyed) → keyed_list_at table place short spot node ≡ Ok ks → AreKeyed table place short node ks
 unfolding keyed_list_at
 keyed_list_sound table place short spot node ks e =
-    let a = bind_ok (expect spot (entries_of node)) (λ pairs. each_read (keyed_at spot.text table place short) pairs) ks e in
-    (a.0, expected spot (entries_of node) a.0 a.1, each_sound (keyed_at spot.text table place short) (IsKeyed table place short) (keyed_sound spot.text table place short) a.0 ks a.2)
+    let a = bind_ok (expect spot (pairs_of node)) (λ pairs. each_read (keyed_at spot.text table place short) pairs) ks e in
+    (a.0, expected spot (pairs_of node) a.0 a.1, each_sound (keyed_at spot.text table place short) (IsKeyed table place short) (keyed_sound spot.text table place short) a.0 ks a.2)
 
 keyed_list_complete : (longest : ℕ) (table : List Field) (place : ℕ) (short : Scalar) (spot : Spot) (node : Node) (ks : List Keyed) → AreKeyed table place short node ks → IsReadOrLong longest (keyed_list_at table place short spot node) ks
 unfolding keyed_list_at

@@ -15,8 +15,8 @@ or_none None (Some (b ∷ bs)) = None
 or_none None None = None
 
 -- the pairs of a mapping
-unfoldable pub entries_of : Node → Option (List Pair)
-entries_of node = or_none (pairs_in node) (text_in node)
+unfoldable pub pairs_of : Node → Option (List Pair)
+pairs_of node = or_none (pairs_in node) (text_in node)
 
 -- the nodes of a YAML list
 unfoldable pub nodes_of : Node → Option (List Node)

@@ -1,6 +1,6 @@
 -- What it means that every name in a row is one, and that no list in it is longer than its limit.
-use Rattle.std.specs.Prelude.{ℕ, ◌≤◌, List, length}
-use Rattle.std.specs.List.{AllByRecursion}
+use Rattle.std.specs.Prelude.{ℕ, ◌≤◌, List, [], length}
+use Rattle.std.specs.List.{All, AllByRecursion}
 use Rattle.mpf_values.specs.Names.{IsName}
 use Rattle.section_tables.specs.Rows.{Written, Handled, Plain, name, event, Keyed, Value, one, names, posts, events, steps, maps, keyed, Entry, Player}
 use Rattle.section_tables.specs.Kinds.{Scalar, a_name, an_event, Field, Kind, map_list, keyed_maps, Setting, PlayerKinds}
@@ -74,16 +74,31 @@ pub record IsNamedKinds (kinds : PlayerKinds) : Type 0 where
 
 -- ---- limits
 
--- no list in a value has more items than this
-abbrev pub IsShort : ℕ → Value → Type 0
-IsShort longest (one x) = Unit {0}
-IsShort longest (names xs) = length xs ≤ longest
-IsShort longest (posts xs) = length xs ≤ longest
-IsShort longest (events hs) = length hs ≤ longest
-IsShort longest (steps ss) = (length ss ≤ longest) × AllByRecursion (λ hs. length hs ≤ longest) ss
-IsShort longest (maps ms) = length ms ≤ longest
-IsShort longest (keyed ks) = Unit {0}
+-- how many items the list has that a value is
+abbrev pub item_count : Value → ℕ
+item_count (names xs) = length xs
+item_count (posts xs) = length xs
+item_count (events hs) = length hs
+item_count (steps ss) = length ss
+item_count (maps ms) = length ms
+item_count _ = 0
 
--- neither has what holds by default in a table
+-- the lists in that list
+abbrev pub steps_in : Value → List (List Handled)
+steps_in (steps ss) = ss
+steps_in _ = []
+
+-- no list in a value has more items than this
+abbrev pub IsShortValue : ℕ → Value → Type 0
+IsShortValue longest v = (item_count v ≤ longest) × All (λ hs. length hs ≤ longest) (steps_in v)
+
+-- no list in an entry, or in one of a player
+abbrev pub IsShortEntry : ℕ → Entry → Type 0
+IsShortEntry longest e = All (IsShortValue longest) e.values
+
+abbrev pub IsShortPlayer : ℕ → Player → Type 0
+IsShortPlayer longest row = IsShortValue longest row.value
+
+-- nor in what holds by default in a table
 abbrev pub IsShortTable : ℕ → List Setting → Type 0
-IsShortTable longest = AllByRecursion (λ s. IsShort longest (setting_default s))
+IsShortTable longest = AllByRecursion (λ s. IsShortValue longest (setting_default s))

@@ -12,7 +12,7 @@ use Rattle.section_tables.specs.declared.fault.FaultKind.{FaultKind}
 use Rattle.section_tables.specs.declared.fault.FaultKind.TheVariants.{UnknownSetting, BadValue, Missing, Limit}
 use Rattle.section_tables.specs.Rows.{Written, Handled, Plain, flag, number, time, power, word, name, event, Fields, Keyed, Value, one, names, posts, events, steps, maps, keyed, Entry, Player, RowsFault}
 use Rattle.section_tables.specs.Kinds.{Scalar, a_flag, number_within, time_within, a_power, one_of, a_name, an_event, Bounds, at_least, fits, Field, Kind, single, name_list, post_list, event_list, step_list, map_list, keyed_maps, Setting, PlayerKinds}
-use Rattle.section_tables.specs.Entries.{entries_of, nodes_of, is_ignored, written_at, handled_at}
+use Rattle.section_tables.specs.Entries.{pairs_of, nodes_of, is_ignored, written_at, handled_at}
 use Rattle.section_tables.specs.Tables.{found_in, field_key, field_default, field_lacks, setting_key, setting_default, setting_lacks}
 use Rattle.section_tables.specs.EntryOf.{within, pass}
 
@@ -133,13 +133,13 @@ fields_row_at others = row_at field_key field_at (pass others) field_default fie
 -- a map in a list: what it lacks is missing at its own line, and a node that is no map is a fault of the list
 unfoldable pub fields_at : List Field → Bool → Spot → Node → Result Fields RowsFault
 fields_at table others spot node =
-    expect spot (entries_of node) >>= λ pairs. fields_row_at others (record { text = spot.text; line = line_of node; key = spot.key }) table pairs
+    expect spot (pairs_of node) >>= λ pairs. fields_row_at others (record { text = spot.text; line = line_of node; key = spot.key }) table pairs
     >>= λ row. Ok (record { line = line_of node; values = row })
 
 -- the values that belong to a name: one text alone, or a map
 abbrev pub keyed_row_at : List Field → ℕ → Scalar → Spot → Node → Option (List ℕ) → Result (List Plain) RowsFault
 keyed_row_at table place short spot node (Some text) = plain_at short spot node >>= λ v. Ok (set (map field_default table) place v)
-keyed_row_at table place short spot node None = expect spot (entries_of node) >>= λ pairs. fields_row_at false spot table pairs
+keyed_row_at table place short spot node None = expect spot (pairs_of node) >>= λ pairs. fields_row_at false spot table pairs
 
 unfoldable pub keyed_at : List ℕ → List Field → ℕ → Scalar → Pair → Result Keyed RowsFault
 keyed_at text table place short p =
@@ -148,7 +148,7 @@ keyed_at text table place short p =
     else refused BadValue (key_spot text p)
 
 unfoldable pub keyed_list_at : List Field → ℕ → Scalar → Spot → Node → Result (List Keyed) RowsFault
-keyed_list_at table place short spot node = expect spot (entries_of node) >>= λ pairs. each_read (keyed_at spot.text table place short) pairs
+keyed_list_at table place short spot node = expect spot (pairs_of node) >>= λ pairs. each_read (keyed_at spot.text table place short) pairs
 
 -- ---- settings
 
@@ -173,12 +173,12 @@ values_at = row_at setting_key setting_at is_ignored setting_default setting_lac
 unfoldable pub entry_at : List ℕ → List Setting → Pair → Result Entry RowsFault
 entry_at text table p =
     if is_name p.key
-    then (expect (key_spot text p) (entries_of p.value) >>= λ pairs. values_at (key_spot text p) table pairs >>= λ row. Ok (record { name = written_at p.line p.key; values = row }))
+    then (expect (key_spot text p) (pairs_of p.value) >>= λ pairs. values_at (key_spot text p) table pairs >>= λ row. Ok (record { name = written_at p.line p.key; values = row }))
     else refused BadValue (key_spot text p)
 
 -- the entries of a section with this table
 unfoldable pub entries_at : List ℕ → List Setting → Pair → Result (List Entry) RowsFault
-entries_at text table p = expect (key_spot text p) (entries_of p.value) >>= λ pairs. each_read (entry_at text table) pairs
+entries_at text table p = expect (key_spot text p) (pairs_of p.value) >>= λ pairs. each_read (entry_at text table) pairs
 
 -- an entry of a player
 unfoldable pub player_at : List ℕ → PlayerKinds → Pair → Result Player RowsFault
@@ -188,7 +188,7 @@ player_at text kinds p =
 
 -- the entries of a player
 unfoldable pub players_at : List ℕ → PlayerKinds → Pair → Result (List Player) RowsFault
-players_at text kinds p = expect (key_spot text p) (entries_of p.value) >>= λ pairs. each_read (player_at text kinds) pairs
+players_at text kinds p = expect (key_spot text p) (pairs_of p.value) >>= λ pairs. each_read (player_at text kinds) pairs
 
 -- ---- what reading finds
 

@@ -32,10 +32,16 @@ event_player = record { key = a_name; value = post_list (at_least 0) }
 
 -- ---- by name
 
+abbrev pub switches_name : List ℕ
+switches_name = codes "switches"
+
+abbrev pub event_player_name : List ℕ
+event_player_name = codes "event_player"
+
 -- the table of the entries of a section
 abbrev pub table_of : List ℕ → Option (List Setting)
-table_of section = if bytes_eq section (codes "switches") then Some switches else None
+table_of section = if bytes_eq section switches_name then Some switches else None
 
 -- the kinds of a player's keys and values
 abbrev pub player_of : List ℕ → Option PlayerKinds
-player_of section = if bytes_eq section (codes "event_player") then Some event_player else None
+player_of section = if bytes_eq section event_player_name then Some event_player else None

@@ -48,9 +48,11 @@ pub const EVENT_PLAYER: PlayerKinds = PlayerKinds {
     value: Kind::Posts(ANY),
 };
 
-const SWITCHES_NAME: &[u8] = b"switches";
+/// The name of the section [`SWITCHES`].
+pub const SWITCHES_NAME: &[u8] = b"switches";
 
-const EVENT_PLAYER_NAME: &[u8] = b"event_player";
+/// The name of the section [`EVENT_PLAYER`].
+pub const EVENT_PLAYER_NAME: &[u8] = b"event_player";
 
 /// The table of the entries of a section; none where the section has no such entries.
 pub fn table_of(section: &[u8]) -> Option<&'static [Setting]>

@@ -1,0 +1,26 @@
+-- What it means that no list in the rows has more than 1,024 items.
+use Rattle.std.specs.Prelude.{◌≤◌, length}
+use Rattle.std.specs.List.{All}
+pub use Rattle.section_tables.specs.Named.{IsShortEntry, IsShortPlayer}
+use Rattle.mpf_config.specs.Rows.{Switch, EventPlayer, Content, SectionRows, Rows}
+use Rattle.mpf_config.specs.Typed.{entries_in, players_in}
+
+-- so it is in each entry of a section, whatever its settings are
+abbrev pub IsShortContent : Content → Type 0
+IsShortContent content = All (IsShortEntry 1024) (entries_in content) × All (IsShortPlayer 1024) (players_in content)
+
+abbrev pub IsShortSection : SectionRows → Type 0
+IsShortSection s = IsShortContent s.content
+
+abbrev pub AreListsShort : Rows → Type 0
+AreListsShort rows = All IsShortSection rows.machine
+
+-- ---- by the names of settings
+
+pub record IsShortSwitch (s : Switch) : Type 0 where
+  pub tags : length s.tags ≤ 1024
+  pub activated : length s.activated ≤ 1024
+  pub deactivated : length s.deactivated ≤ 1024
+
+abbrev pub IsShortEventPlayer : EventPlayer → Type 0
+IsShortEventPlayer p = length p.posts ≤ 1024
