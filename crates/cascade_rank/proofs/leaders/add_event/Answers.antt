@@ -1,4 +1,6 @@
-use Rattle.std.proofs.Common.{false, refl, arith}
+use Rattle.std.proofs.Common.{◌≤◌, false, length, refl, arith}
+use Rattle.mpf_plan.proofs.ValidPlan.{has_entries}
+use Rattle.mpf_plan.specs.declared.fault.Table.TheVariants.{Bindings}
 use Rattle.cascade_rank.specs.Cost.{Lines}
 use Rattle.cascade_rank.proofs.Places.{binding-within, place-within, places-few}
 use Rattle.cascade_rank.proofs.Leading.{adds-none, adds-place, unmet-place, adds-event, unmet-event}
@@ -17,12 +19,12 @@ binding-target-requires c =
 
 pub add_target-requires-clause-target : goal.add_target-requires-clause-target
 add_target-requires-clause-target c =
-    (binding-within c.args.plan.now c.binding-target.ensures.valid _ c.binding-target.result c.binding-target.ensures.binding).2
+    (binding-within c.args.plan.now (has_entries c.args.plan.now c.binding-target.ensures.valid) _ c.binding-target.result c.binding-target.ensures.binding).2
 
 pub overflow_add-posts : goal.overflow_add-posts
 overflow_add-posts c =
     let few = places-few c.args.plan.now c.args.event c.bindings_of-place-items.result.now c.bindings_of-place-items.ensures.places in
-    let limit = c.bindings_of-place-items.ensures.valid.binding_limit in
+    let limit : length c.args.plan.now.bindings ≤ 16384 = c.bindings_of-place-items.ensures.valid.limits Bindings in
     omega (arith, few, limit, c.loop-place.invariant.small, c.in_ok-more.ensures.small)
 
 pub loop-place-preserved : goal.loop-place-preserved

@@ -1,4 +1,6 @@
-use Rattle.std.proofs.Common.{slice_index, arith}
+use Rattle.std.proofs.Common.{◌≤◌, length, slice_index, arith}
+use Rattle.mpf_plan.proofs.ValidPlan.{has_entries}
+use Rattle.mpf_plan.specs.declared.fault.Table.TheVariants.{Bindings}
 use Rattle.cascade_rank.proofs.Places.{binding-within, place-within, places-few, price-places_more, price-places_all}
 use Rattle.cascade_rank.proofs.price.need.Goals as goal
 
@@ -8,12 +10,12 @@ binding-requires c =
 
 pub price_of_binding-total-requires-clause-binding : goal.price_of_binding-total-requires-clause-binding
 price_of_binding-total-requires-clause-binding c =
-    binding-within c.args.plan.now c.binding.ensures.valid _ c.binding.result c.binding.ensures.binding
+    binding-within c.args.plan.now (has_entries c.args.plan.now c.binding.ensures.valid) _ c.binding.result c.binding.ensures.binding
 
 pub overflow_add-total : goal.overflow_add-total
 overflow_add-total c =
     let few = places-few c.args.plan.now c.args.event c.bindings_of-place-items.result.now c.bindings_of-place-items.ensures.places in
-    let limit = c.bindings_of-place-items.ensures.valid.binding_limit in
+    let limit : length c.args.plan.now.bindings ≤ 16384 = c.bindings_of-place-items.ensures.valid.limits Bindings in
     omega (arith, few, limit, c.loop-place.invariant.small, c.price_of_binding-total.ensures.small)
 
 pub loop-place-preserved : goal.loop-place-preserved
@@ -32,5 +34,5 @@ returns-clause-price c =
 pub returns-clause-small : goal.returns-clause-small
 returns-clause-small c =
     let few = places-few c.args.plan.now c.args.event c.bindings_of-place-items.result.now c.bindings_of-place-items.ensures.places in
-    let limit = c.bindings_of-place-items.ensures.valid.binding_limit in
+    let limit : length c.args.plan.now.bindings ≤ 16384 = c.bindings_of-place-items.ensures.valid.limits Bindings in
     omega (arith, few, limit, c.loop-place.invariant.small)

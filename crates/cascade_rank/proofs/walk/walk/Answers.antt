@@ -2,6 +2,7 @@ use Rattle.std.proofs.Common.{◌≡◌, ◌<◌, true, false, List, [], ◌∷�
 use Rattle.std.proofs.lemmas.Result.{IfOk-weaker}
 use Rattle.std.proofs.lemmas.List.{map_push, get_or_read}
 use Rattle.mpf_plan.specs.declared.entries.EventId.{EventId}
+use Rattle.mpf_plan.proofs.ValidPlan.{has_entries}
 use Rattle.cascade_rank.specs.LeadsTo.{IsCycle}
 use Rattle.cascade_rank.specs.Cycle.{IsReportedCycle, from_first}
 use Rattle.cascade_rank.proofs.Walking.{WalkAt, walk_goes, comes_again, cycle_is, reported, cycle}
@@ -18,7 +19,7 @@ loop-passed-preserved c =
     let more : map (λ (e : EventId). e.0) c.push.new.self.items ≡ path ++ at ∷ [] = ap (map (λ (e : EventId). e.0)) c.in_ok-push.ensures.items ∙ map_push (λ (e : EventId). e.0) c.loop-passed.path.items c.loop-passed.at in
     subst (λ (es : List ℕ). WalkAt c.args.plan.now c.args.start.0 (set c.loop-passed.passed.items c.loop-passed.at.0 true) es c.next-at.result.0) (sym more)
     (subst (λ (n : ℕ). WalkAt c.args.plan.now c.args.start.0 (set c.loop-passed.passed.items c.loop-passed.at.0 true) (map (λ (e : EventId). e.0) c.loop-passed.path.items ++ c.loop-passed.at.0 ∷ []) n) (sym c.next-at.ensures)
-    (walk_goes c.args.plan.now c.args.start.0 c.requires.first passed path at w c.event_count.ensures.valid c.requires.left.leads_on new))
+    (walk_goes c.args.plan.now c.args.start.0 c.requires.first passed path at w (has_entries c.args.plan.now c.event_count.ensures.valid) c.requires.left.leads_on new))
 
 pub returns-clause-cycle : goal.returns-clause-cycle
 returns-clause-cycle c =
