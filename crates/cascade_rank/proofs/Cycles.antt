@@ -10,8 +10,8 @@ use Rattle.std.proofs.lemmas.List.Sums.{fails_before_first, passes_at_first}
 use Rattle.std.proofs.lemmas.Map.Keys.{IsDistinct-cons}
 use Rattle.std.proofs.lemmas.Map.Steps.{length-le_from_distinct_below}
 use Rattle.mpf_plan.specs.PlanView.{PlanView, bound_to}
-use Rattle.mpf_plan.specs.Valid.{IsValid}
 use Rattle.mpf_plan.specs.declared.entries.EventId.{EventId}
+use Rattle.mpf_plan.proofs.ValidPlan.{HasEntries}
 use Rattle.cascade_rank.specs.Cost.{Both, each_of, cost_of_binding, cost_of_work, cost_of_event}
 use Rattle.cascade_rank.specs.Events.{no_event, nth_event}
 use Rattle.cascade_rank.specs.Weights.{IsFitting}
@@ -151,7 +151,7 @@ module _ (plan : PlanView) where
       omega (arith, low, ap (λ (d : EventId). d.0) at, eqb-true q x.0 same)) in
       omega (arith, few, t.count, length-map trail (λ (d : EventId). d.0))
 
-module _ (plan : PlanView) (valid : IsValid plan) where
+module _ (plan : PlanView) (valid : HasEntries plan) where
   -- from an event that is not grounded in k rounds one comes to a cycle, or goes on k times
   open-trail : (k : ℕ) (e : EventId) → e.0 < length plan.events → grounded_in plan k e ≡ false → ((events : List EventId) × IsCycle plan events) ⊎ ((trail : List EventId) × IsTrail plan e k trail)
   open-trail zero e l h = inr (e ∷ [], trail_alone plan e l)

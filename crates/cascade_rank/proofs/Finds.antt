@@ -3,7 +3,7 @@ use Rattle.std.proofs.Common.{◌≡◌, ℕ, ◌<◌, true, false, not, nat_lt,
 use Rattle.std.specs.Option.{option_map}
 use Rattle.std.proofs.lemmas.Bool.{not-false, cond-true, cond-false, both_ways}
 use Rattle.mpf_plan.specs.PlanView.{PlanView}
-use Rattle.mpf_plan.specs.Valid.{IsValid}
+use Rattle.mpf_plan.proofs.ValidPlan.{HasEntries}
 use Rattle.mpf_plan.specs.declared.entries.EventId.{EventId}
 use Rattle.cascade_rank.specs.Events.{weight_of}
 use Rattle.cascade_rank.specs.Weights.{IsLeastFitting, IsWithinLimit}
@@ -22,7 +22,7 @@ use Rattle.cascade_rank.proofs.Ranking.{rank-least, rank-fits}
 use Rattle.cascade_rank.proofs.Grounding.{grounded_is, open-leads, length_ranks, rank_at, limit_same, limit_ranks}
 use Rattle.cascade_rank.proofs.Firsts.{is_left, first_place}
 
-module _ (plan : PlanView) (valid : IsValid plan) (left : List ℕ) (order : List EventId) (o : IsOrdering plan (length order) [] left order) where
+module _ (plan : PlanView) (valid : HasEntries plan) (left : List ℕ) (order : List EventId) (o : IsOrdering plan (length order) [] left order) where
   pub left_is_open : IsLeft plan left
   left_is_open = record {
     count = o.length_is;
@@ -58,7 +58,7 @@ module _ (plan : PlanView) (valid : IsValid plan) (left : List ℕ) (order : Lis
 
 -- ---- where every event is grounded
 
-module _ (plan : PlanView) (valid : IsValid plan) (all : (e : EventId) → e.0 < length plan.events → grounded plan e ≡ true) where
+module _ (plan : PlanView) (valid : HasEntries plan) (all : (e : EventId) → e.0 < length plan.events → grounded plan e ≡ true) where
   pub ranks_least : IsLeastFitting plan (ranks plan)
   ranks_least = record {
     count = length_ranks plan;
@@ -94,5 +94,5 @@ module _ (plan : PlanView) (valid : IsValid plan) (all : (e : EventId) → e.0 <
     }
 
 -- the same, where none is open
-pub not_open-least : (plan : PlanView) → IsValid plan → ((e : EventId) → e.0 < length plan.events → is_open plan e ≡ false) → IsLeastFitting plan (ranks plan)
+pub not_open-least : (plan : PlanView) → HasEntries plan → ((e : EventId) → e.0 < length plan.events → is_open plan e ≡ false) → IsLeastFitting plan (ranks plan)
 not_open-least plan valid none = ranks_least plan valid (λ e l. not-false (grounded plan e) (none e l))

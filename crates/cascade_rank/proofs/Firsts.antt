@@ -4,7 +4,7 @@ use Rattle.std.specs.List.{position_or_len}
 use Rattle.std.proofs.lemmas.Bool.{cases_lt, cases_eq, cases_Bool, lt-ltb, le-ltb, ne_eqb, and_from, and_left, and_right, or_cases, eqb-true, eq-eqb, false≢true}
 use Rattle.std.proofs.lemmas.List.Sums.{position_or_len_is, fails_before_first, passes_at_first, prefix_len-le-length}
 use Rattle.mpf_plan.specs.PlanView.{PlanView, places_of}
-use Rattle.mpf_plan.specs.Valid.{IsValid}
+use Rattle.mpf_plan.proofs.ValidPlan.{HasEntries}
 use Rattle.mpf_plan.specs.declared.entries.EventId.{EventId}
 use Rattle.mpf_plan.specs.declared.entries.BindingId.{BindingId}
 use Rattle.cascade_rank.specs.Cost.{Cost, Lines, Weight, Both, Greater, mentions, each_of, cost_of_event}
@@ -149,7 +149,7 @@ is_left n = elim (cases_eq n 0) [
 ]
 
 -- the lowest of those that are at the places of what is bound to it
-pub next_is : (plan : PlanView) → IsValid plan → (left : List ℕ) → IsLeft plan left → (e : EventId) (places : List BindingId) (i found : ℕ) → places ≡ places_of plan e → length places ≤ i →
+pub next_is : (plan : PlanView) → HasEntries plan → (left : List ℕ) → IsLeft plan left → (e : EventId) (places : List BindingId) (i found : ℕ) → places ≡ places_of plan e → length places ≤ i →
     found ≡ lowest (length left) (λ f. nat_lt 0 (left_of left f)) (each_of (cost_at_place plan) (take i places)) → event found ≡ next_open plan e
 next_is plan valid left l e places i found are whole is =
     let n = length plan.events in

@@ -6,8 +6,8 @@ use Rattle.std.proofs.lemmas.List.{ext_get_or, length-map, get_or-map}
 use Rattle.std.proofs.lemmas.List.Sums.{AllPass-from_list_all, list_all-from_AllPass}
 use Rattle.std.proofs.lemmas.List.Elements.{All-from_get_or}
 use Rattle.mpf_plan.specs.PlanView.{PlanView}
-use Rattle.mpf_plan.specs.Valid.{IsValid}
 use Rattle.mpf_plan.specs.declared.entries.EventId.{EventId}
+use Rattle.mpf_plan.proofs.ValidPlan.{HasEntries}
 use Rattle.cascade_rank.specs.Cost.{price, all_mentioned, cost_of_event}
 use Rattle.cascade_rank.specs.Events.{events_of, no_event, nth_event, weight_of}
 use Rattle.cascade_rank.specs.Weights.{need, greatest, bound_of}
@@ -40,7 +40,7 @@ module _ (plan : PlanView) (order : List EventId) (grounds : EachAfter (λ befor
             (all_mentioned-weaker (is_in (take k order)) (grounded_in plan k) (cost_of_event plan (nth_event order k)) (λ f m. grounded-front k (omega (arith, l)) f) (grounds k (omega (arith, l))))
       ]
 
-module _ (plan : PlanView) (valid : IsValid plan) (left : List ℕ) (order : List EventId) (o : IsOrdering plan (length order) [] left order) where
+module _ (plan : PlanView) (valid : HasEntries plan) (left : List ℕ) (order : List EventId) (o : IsOrdering plan (length order) [] left order) where
   short : length order ≤ length plan.events
   short = omega (arith, o.room)
 
@@ -83,7 +83,7 @@ module _ (plan : PlanView) (valid : IsValid plan) (left : List ℕ) (order : Lis
 abbrev pub AreWeighed : PlanView → List EventId → List ℕ → Type 0
 AreWeighed plan weighed weights = (e : EventId) → is_in weighed e ≡ true → weight_of weights e ≡ min 10001 (rank plan e)
 
-module _ (plan : PlanView) (valid : IsValid plan) (order : List EventId) (grounds : EachAfter (λ before e. all_mentioned (is_in before) (cost_of_event plan e) ≡ true) order)
+module _ (plan : PlanView) (valid : HasEntries plan) (order : List EventId) (grounds : EachAfter (λ before e. all_mentioned (is_in before) (cost_of_event plan e) ≡ true) order)
     (short : length order ≤ length plan.events) where
   -- the rank of an event of the order is what it needs
   rank_needs : (i : ℕ) → i < length order → need plan (rank plan) (nth_event order i) ≡ rank plan (nth_event order i)

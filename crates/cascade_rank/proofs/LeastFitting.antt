@@ -2,7 +2,7 @@
 use Rattle.std.proofs.Common.{◌≡◌, ℕ, ◌<◌, List, length, sym, ◌∙◌, arith}
 use Rattle.std.proofs.lemmas.List.{ext_get_or}
 use Rattle.mpf_plan.specs.PlanView.{PlanView}
-use Rattle.mpf_plan.specs.Valid.{IsValid}
+use Rattle.mpf_plan.proofs.ValidPlan.{HasEntries}
 use Rattle.mpf_plan.specs.declared.entries.EventId.{EventId}
 use Rattle.cascade_rank.specs.Events.{weight_of}
 use Rattle.cascade_rank.specs.Cost.{cost_of_event, cost_of_stimuli}
@@ -11,7 +11,7 @@ use Rattle.cascade_rank.proofs.Events.{event}
 use Rattle.cascade_rank.proofs.Prices.{price_agrees}
 use Rattle.cascade_rank.proofs.Within.{IsBelow-mentioned, IsBelow-event, IsBelow-stimuli}
 
-module _ (plan : PlanView) (valid : IsValid plan) (w v : EventId → ℕ) (same : (e : EventId) → e.0 < length plan.events → w e ≡ v e) where
+module _ (plan : PlanView) (valid : HasEntries plan) (w v : EventId → ℕ) (same : (e : EventId) → e.0 < length plan.events → w e ≡ v e) where
   -- weights that agree on the events of a valid plan give each event the same need, and the same bound
   pub need-agrees : (e : EventId) → need plan w e ≡ need plan v e
   need-agrees e = price_agrees w v (cost_of_event plan e) (λ f m. same f (IsBelow-mentioned (length plan.events) (cost_of_event plan e) f (IsBelow-event plan valid e) m))

@@ -6,11 +6,12 @@ use Rattle.std.proofs.lemmas.List.{length-map, take_all}
 use Rattle.std.proofs.lemmas.List.Elements.{All-get_or}
 use Rattle.std.proofs.lemmas.List.Sums.{length-filter, count_by-le-length}
 use Rattle.mpf_plan.specs.PlanView.{PlanView, no_binding, binding_at, places_of}
-use Rattle.mpf_plan.specs.Valid.{IsValid, IsBindingWithin}
+use Rattle.mpf_plan.specs.Valid.{IsBindingWithin}
 use Rattle.mpf_plan.specs.declared.entries.EventId.{EventId}
 use Rattle.mpf_plan.specs.declared.entries.BindingId.{BindingId}
 use Rattle.mpf_plan.specs.declared.entries.Binding.{Binding}
 use Rattle.mpf_plan.proofs.BoundTo.{places_of-bound, places_of-within}
+use Rattle.mpf_plan.proofs.ValidPlan.{HasEntries}
 use Rattle.cascade_rank.specs.Cost.{Cost, Both, price, each_of, cost_of_binding, cost_of_event}
 use Rattle.cascade_rank.proofs.Prices.{price-each_more}
 
@@ -19,7 +20,7 @@ each_of-map f g [] = refl
 each_of-map f g (x ∷ xs) = ap (Both (f (g x))) (each_of-map f g xs)
 
 -- a binding of a valid plan is within it
-pub binding-within : (plan : PlanView) → IsValid plan → (n : ℕ) (b : Binding) → slice_get plan.bindings n ≡ Some b → IsBindingWithin plan b
+pub binding-within : (plan : PlanView) → HasEntries plan → (n : ℕ) (b : Binding) → slice_get plan.bindings n ≡ Some b → IsBindingWithin plan b
 binding-within plan valid n b at =
     subst (IsBindingWithin plan) (get_or_from_slice_get plan.bindings n b b at) (All-get_or (IsBindingWithin plan) plan.bindings n b (slice_get_within plan.bindings n b at) valid.bindings)
 

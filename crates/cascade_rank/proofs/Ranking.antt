@@ -2,7 +2,7 @@
 use Rattle.std.proofs.Common.{◌≡◌, ℕ, zero, suc, ◌+◌, ◌≤◌, ◌<◌, true, length, arith}
 use Rattle.std.proofs.lemmas.Bool.{false≢true}
 use Rattle.mpf_plan.specs.PlanView.{PlanView}
-use Rattle.mpf_plan.specs.Valid.{IsValid}
+use Rattle.mpf_plan.proofs.ValidPlan.{HasEntries}
 use Rattle.mpf_plan.specs.declared.entries.EventId.{EventId}
 use Rattle.cascade_rank.specs.Cost.{mentions, cost_of_event}
 use Rattle.cascade_rank.specs.Weights.{IsFitting}
@@ -28,7 +28,7 @@ module _ (plan : PlanView) where
   rank-stable (suc k) e h =
       price_agrees (rank_in plan (suc k)) (rank_in plan k) (cost_of_event plan e) (λ f m. rank-stable k f (all_mentioned_at (grounded_in plan k) (cost_of_event plan e) f h m))
 
-module _ (plan : PlanView) (valid : IsValid plan) where
+module _ (plan : PlanView) (valid : HasEntries plan) where
   pub mentioned_below : (e f : EventId) → mentions f (cost_of_event plan e) ≡ true → f.0 < length plan.events
   mentioned_below e f m = IsBelow-mentioned (length plan.events) (cost_of_event plan e) f (IsBelow-event plan valid e) m
 

@@ -7,7 +7,7 @@ use Rattle.std.proofs.lemmas.List.Elements.{All-nil, All-push, All-drop}
 use Rattle.std.proofs.lemmas.List.Sums.{sum_by-set, passes_at_first, prefix_len-le-length}
 use Rattle.std.proofs.lemmas.List.Folds.{list_any-append, list_any_at, sum_by-replicate}
 use Rattle.mpf_plan.specs.PlanView.{PlanView}
-use Rattle.mpf_plan.specs.Valid.{IsValid}
+use Rattle.mpf_plan.proofs.ValidPlan.{HasEntries}
 use Rattle.mpf_plan.specs.declared.entries.EventId.{EventId}
 use Rattle.cascade_rank.specs.Cost.{cost_of_event}
 use Rattle.cascade_rank.specs.Events.{no_event, nth_event}
@@ -22,7 +22,7 @@ use Rattle.cascade_rank.proofs.Firsts.{first_is, first_below}
 
 -- ---- where an event goes on to
 
-module _ (plan : PlanView) (valid : IsValid plan) (on : LeadsOn plan) (e : EventId) (below : e.0 < length plan.events) (here : is_open plan e ≡ true) where
+module _ (plan : PlanView) (valid : HasEntries plan) (on : LeadsOn plan) (e : EventId) (below : e.0 < length plan.events) (here : is_open plan e ≡ true) where
   pub next_below : (next_open plan e).0 < length plan.events
   next_below =
       let (f, m, unmet) = all_mentioned-fails (grounded plan) (cost_of_event plan e) (on e below here) in
@@ -94,7 +94,7 @@ module _ (plan : PlanView) (start : EventId) (first : IsFirst (is_open plan) sta
   one_left : length plan.events + 1 - length path ≡ suc (length plan.events - length path)
   one_left = omega (arith, w.room)
 
-  module _ (valid : IsValid plan) (on : LeadsOn plan) (new : slice_index_or passed at.0 false ≡ false) where
+  module _ (valid : HasEntries plan) (on : LeadsOn plan) (new : slice_index_or passed at.0 false ≡ false) where
     longer : length (path ++ at ∷ []) ≡ length path + 1
     longer = omega (arith, length-append path (at ∷ []))
 

@@ -5,7 +5,7 @@ use Rattle.std.proofs.lemmas.Bool.{cases_lt, or_cases, eqb-true, false≢true}
 use Rattle.std.proofs.lemmas.List.Elements.{recursion_from_All, All-get_or, All-weaker, All-nil, All-filter}
 use Rattle.std.proofs.lemmas.List.{get_or_past}
 use Rattle.mpf_plan.specs.PlanView.{PlanView, no_switch, switch_at, list_at, posts_of, bound_to}
-use Rattle.mpf_plan.specs.Valid.{IsValid, IsEventWithin, IsActionWithin, IsTargetWithin, IsBindingWithin, IsSwitchWithin}
+use Rattle.mpf_plan.specs.Valid.{IsEventWithin, IsActionWithin, IsTargetWithin, IsBindingWithin, IsSwitchWithin}
 use Rattle.mpf_plan.specs.declared.entries.EventId.{EventId}
 use Rattle.mpf_plan.specs.declared.entries.SwitchId.{SwitchId}
 use Rattle.mpf_plan.specs.declared.entries.ListId.{ListId}
@@ -14,6 +14,7 @@ use Rattle.mpf_plan.specs.declared.entries.Action.TheVariants.{Post}
 use Rattle.mpf_plan.specs.declared.entries.Target.{Target}
 use Rattle.mpf_plan.specs.declared.entries.Target.TheVariants.{Run}
 use Rattle.mpf_plan.specs.declared.entries.Binding.{Binding}
+use Rattle.mpf_plan.proofs.ValidPlan.{HasEntries}
 use Rattle.cascade_rank.specs.Cost.{Cost, Lines, Weight, Both, Greater, mentions, each_of, dearest_of, cost_of_post, cost_of_action, cost_of_list, cost_of_target, cost_of_binding, cost_of_event, cost_of_acceptance, cost_of_switch, switches_of, cost_of_stimuli}
 use Rattle.cascade_rank.specs.Below.{IsBelow}
 
@@ -47,7 +48,7 @@ dearest_below n f each (x ∷ xs) = (each x, dearest_below n f each xs)
 pub IsBelow-action : (plan : PlanView) (a : Action) → IsActionWithin plan a → IsBelow (length plan.events) (cost_of_action plan a)
 IsBelow-action plan (Post e) h = h
 
-module _ (plan : PlanView) (valid : IsValid plan) where
+module _ (plan : PlanView) (valid : HasEntries plan) where
   pub IsBelow-list : (l : ListId) → l.0 < length plan.lists → IsBelow (length plan.events) (cost_of_list plan l)
   IsBelow-list l h =
       each_below (length plan.events) (cost_of_action plan) (IsActionWithin plan) (IsBelow-action plan) (list_at plan l)
@@ -90,6 +91,6 @@ module _ (plan : PlanView) (valid : IsValid plan) where
   IsBelow-stimuli = dearest_below (length plan.events) (cost_of_switch plan) IsBelow-switch (switches_of plan)
 
 -- the same of as many events as the plan has
-pub posts-within : (plan : PlanView) → IsValid plan → (s : SwitchId) (active : Bool) (n : ℕ) (es : List EventId) → n ≡ length plan.events → es ≡ posts_of plan s active → All (IsEventWithin n) es
+pub posts-within : (plan : PlanView) → HasEntries plan → (s : SwitchId) (active : Bool) (n : ℕ) (es : List EventId) → n ≡ length plan.events → es ≡ posts_of plan s active → All (IsEventWithin n) es
 posts-within plan valid s active n es count is =
     subst (λ (m : ℕ). All (IsEventWithin m) es) (sym count) (subst (All (IsEventWithin (length plan.events))) (sym is) (posts-below plan valid s active))

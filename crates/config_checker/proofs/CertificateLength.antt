@@ -9,6 +9,8 @@ use Rattle.std.proofs.lemmas.List.Sums.{sum_by-le}
 use Rattle.std.proofs.lemmas.Slice.Zip.{firsts-zip, seconds-zip}
 use Rattle.mpf_config.specs.Rows.{Rows}
 use Rattle.mpf_config.specs.Reading.{rows_at}
+use Rattle.mpf_config.proofs.ShortRows.{rows_are_short}
+use Rattle.mpf_plan.specs.declared.fault.Table.TheVariants.{Events}
 use Rattle.mpf_plan.specs.PlanView.{PlanView}
 use Rattle.cascade_rank.specs.Weights.{greatest}
 use Rattle.config_checker.specs.CheckedView.{CheckedView}
@@ -57,7 +59,7 @@ text-few c accepted few =
     let names = all_seen (λ (e : List ℕ × ℕ). e.0) (λ name. length name ≤ 73) events (subst (All (λ name. length name ≤ 73)) (sym firsts) few) in
     let weights = all_seen (λ (e : List ℕ × ℕ). e.1) (λ w. w ≤ greatest) events (subst (All (λ w. w ≤ greatest)) (sym seconds) accepted.verified.limit.weights_within) in
     let many : length events ≡ length c.plan.events = sym (length-map events (λ (e : List ℕ × ℕ). e.0)) ∙ ap length firsts in
-    let limit = accepted.valid.event_limit in
+    let limit : length c.plan.events ≤ 4096 = accepted.valid.limits Events in
     let lines = lines-few events names weights in
     let below = accepted.verified.limit.bound_within in
     let stated = bound-few c.bound (omega (arith, below, accepted.verified.bound_is)) in
@@ -68,4 +70,4 @@ text-few c accepted few =
 -- Where the rows are those of a bundle, the certificate of what is accepted is not longer than that.
 pub certificate-few : (rows : Rows) (bundle : List ℕ) (c : CheckedView) → rows_at bundle ≡ Ok rows → checked_at rows ≡ Ok c → length (certificate_text c) ≤ 2 ^ 20
 certificate-few rows bundle c read is =
-    text-few c (found_is_accepted rows c is).1 (subst (λ (p : PlanView). All (λ name. length name ≤ 73) p.events) (sym (found-plan rows c is)) (events_are_few bundle rows read))
+    text-few c (found_is_accepted rows (rows_are_short bundle rows read) c is) (subst (λ (p : PlanView). All (λ name. length name ≤ 73) p.events) (sym (found-plan rows c is)) (events_are_few bundle rows read))

@@ -1,19 +1,16 @@
 -- The names of a plan's events are words of few bytes, where its rows are those of a bundle.
-use Rattle.std.proofs.Common.{◌≡◌, ◌≢◌, ℕ, ◌+◌, ◌<◌, ◌≤◌, true, ◌||◌, eqb, List, ◌++◌, length, map, Ok, refl, sym, ap, subst, arith, length-append, codes}
-use Rattle.std.specs.List.{All, flat_map}
+use Rattle.std.proofs.Common.{◌≡◌, ◌≢◌, ℕ, ◌+◌, ◌<◌, ◌≤◌, true, ◌||◌, eqb, List, ◌++◌, length, Ok, refl, ap, arith, length-append, codes}
+use Rattle.std.specs.List.{All}
 use Rattle.std.proofs.lemmas.Bool.{ne_eqb, or_from, not_from_false}
-use Rattle.std.proofs.lemmas.List.Elements.{All-cons, All-append, All-map, All-weaker}
+use Rattle.std.proofs.lemmas.List.Elements.{All-append, All-weaker}
 use Rattle.std.proofs.lemmas.List.Sums.{AllPass-from_list_all}
 use Rattle.yaml_bytes.specs.Bytes.{is_blank}
-use Rattle.mpf_config.specs.Rows.{Written, Switch, EventPlayer, SectionRows, Rows}
-use Rattle.mpf_config.specs.Typed.{switches_in, event_players_in}
-use Rattle.mpf_config.specs.Named.{IsName, AllNames, IsNamedSwitch, IsNamedPlayer, IsNamed}
+use Rattle.mpf_config.specs.Rows.{Rows}
+use Rattle.mpf_config.specs.Named.{IsName}
 use Rattle.mpf_config.specs.Reading.{rows_at}
-use Rattle.mpf_config.proofs.RowNames.{rows_are_named, switches_named, event_players_named, name_bytes}
-use Rattle.mpf_plan.specs.Contributions.{tag_event, texts, active_posts, inactive_posts, switch_contributions, player_contributions, section_contributions, machine_place}
-use Rattle.mpf_plan.specs.Uses.{event_uses}
+use Rattle.mpf_config.proofs.RowNames.{rows_are_named, name_bytes}
 use Rattle.mpf_plan.specs.PlanOf.{plan_of}
-use Rattle.mpf_plan.proofs.EventNames.{events_of_section, events_of_switch, events_of_player, all_uses, all_events}
+use Rattle.mpf_plan.proofs.EventNames.{event_names}
 use Rattle.config_checker.specs.CertificateOf.{is_in_word, IsWord}
 
 -- ---- names are words
@@ -57,47 +54,16 @@ inactive-word name h =
     let few = h.few in
     joined-word name (codes "_inactive") h.some (omega (arith, few)) (name-in_word name h) (AllPass-from_list_all is_in_word (codes "_inactive") refl)
 
-tag-word : (t : Written) → IsName t.text → IsEventWord (tag_event t)
-tag-word t h =
+tag-word : (name : List ℕ) → IsName name → IsEventWord (codes "sw_" ++ name)
+tag-word name h =
     let few = h.few in
-    joined-word (codes "sw_") t.text (omega arith) (omega (arith, few)) (AllPass-from_list_all is_in_word (codes "sw_") refl) (name-in_word t.text h)
-
-names-words : (names : List Written) → AllNames names → All IsEventWord (map (λ w. w.text) names)
-names-words names h = All-map IsEventWord (λ (w : Written). w.text) names (All-weaker (λ (w : Written). IsName w.text) (λ w. IsEventWord w.text) (λ w. name-word w.text) names h)
-
-tags-words : (tags : List Written) → AllNames tags → All IsEventWord (map tag_event tags)
-tags-words tags h = All-map IsEventWord tag_event tags (All-weaker (λ (w : Written). IsName w.text) (λ w. IsEventWord (tag_event w)) tag-word tags h)
-
--- ---- the uses of event names
-
-switch-words : (s : Switch) → IsNamedSwitch s → All IsEventWord (event_uses (switch_contributions s))
-switch-words s h =
-    let named = λ (ws : List Written). map (λ (w : Written). w.text) ws in
-    let listed = All-append IsEventWord (map tag_event s.tags) (named s.activated) (tags-words s.tags h.tags) (names-words s.activated h.activated) in
-    let active = All-cons IsEventWord (s.name.text ++ codes "_active") (map tag_event s.tags ++ named s.activated) (active-word s.name.text h.name) listed in
-    let inactive = All-cons IsEventWord (s.name.text ++ codes "_inactive") (named s.deactivated) (inactive-word s.name.text h.name) (names-words s.deactivated h.deactivated) in
-    subst (All IsEventWord) (sym (events_of_switch s)) (All-append IsEventWord (active_posts s) (inactive_posts s) active inactive)
-
-player-words : (p : EventPlayer) → IsNamedPlayer p → All IsEventWord (event_uses (player_contributions machine_place p))
-player-words p h =
-    subst (All IsEventWord) (sym (events_of_player machine_place p)) (All-cons IsEventWord p.event.text (texts p.posts) (name-word p.event.text h.event) (names-words p.posts h.posts))
-
-section-words : (s : SectionRows) → IsNamed s → All IsEventWord (event_uses (section_contributions machine_place s))
-section-words s h =
-    let player = player_contributions machine_place in
-    let entries = switches_in s in
-    let players = event_players_in s in
-    let first = all_uses IsEventWord switch_contributions entries (All-weaker IsNamedSwitch (λ x. All IsEventWord (event_uses (switch_contributions x))) switch-words entries (switches_named s h)) in
-    let last = all_uses IsEventWord player players (All-weaker IsNamedPlayer (λ p. All IsEventWord (event_uses (player p))) player-words players (event_players_named s h)) in
-    subst (All IsEventWord) (sym (events_of_section machine_place s))
-    (All-append IsEventWord (event_uses (flat_map switch_contributions entries)) (event_uses (flat_map player players)) first last)
+    joined-word (codes "sw_") name (omega arith) (omega (arith, few)) (AllPass-from_list_all is_in_word (codes "sw_") refl) (name-in_word name h)
 
 -- ---- the events of the plan
 
 module _ (bundle : List ℕ) (rows : Rows) (read : rows_at bundle ≡ Ok rows) where
   events_are_named : All IsEventWord (plan_of rows).events
-  events_are_named =
-      all_events IsEventWord rows (All-weaker IsNamed (λ s. All IsEventWord (event_uses (section_contributions machine_place s))) section-words rows.machine (rows_are_named bundle rows read))
+  events_are_named = event_names IsEventWord (record { name = name-word; active = active-word; inactive = inactive-word; tag = tag-word }) rows (rows_are_named bundle rows read)
 
   pub events_are_words : All IsWord (plan_of rows).events
   events_are_words = All-weaker IsEventWord IsWord (λ name h. h.word) (plan_of rows).events events_are_named

@@ -11,6 +11,7 @@ use Rattle.mpf_plan.specs.declared.entries.Binding.{Binding}
 use Rattle.mpf_plan.proofs.BoundTo.{places_of-bound, places_of-within}
 use Rattle.cascade_rank.specs.Cost.{Cost, price, each_of, cost_of_binding}
 use Rattle.cascade_rank.specs.Weights.{need}
+use Rattle.mpf_plan.proofs.ValidPlan.{has_entries}
 use Rattle.cascade_rank.proofs.Prices.{price-each_sum}
 use Rattle.cascade_rank.specs.Below.{IsBelow}
 use Rattle.cascade_rank.proofs.Within.{each_below, IsBelow-binding}
@@ -51,7 +52,7 @@ module _ (plan : PlanView) where
   order_below valid s e order h =
       let count = length plan.bindings in (
         each_below (length plan.events) (cost_of_handler plan) (λ p. p.0 < count)
-            (λ p l. IsBelow-binding plan valid (binding_at plan p.0) (All-get_or (IsBindingWithin plan) plan.bindings p.0 no_binding l valid.bindings)) order
+            (λ p l. IsBelow-binding plan (has_entries plan valid) (binding_at plan p.0) (All-get_or (IsBindingWithin plan) plan.bindings p.0 no_binding l valid.bindings)) order
             (All-permutation (λ p. p.0 < count) (handlers plan e) order h.permutation
             (All-filter (λ p. takes_part (binding_at plan p.0).owner) (λ p. p.0 < count) (places_of plan e) (places_of-within plan e))),
         tt,

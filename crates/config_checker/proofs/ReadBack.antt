@@ -5,13 +5,13 @@ use Rattle.std.proofs.lemmas.Bool.{not-false, eqb-true}
 use Rattle.std.proofs.lemmas.List.Elements.{All-weaker}
 use Rattle.std.proofs.lemmas.Slice.Zip.{firsts-zip, seconds-zip}
 use Rattle.mpf_config.specs.Rows.{Rows}
+use Rattle.mpf_config.specs.Short.{AreListsShort}
 use Rattle.mpf_config.specs.Reading.{rows_at}
 use Rattle.mpf_plan.specs.PlanView.{PlanView}
 use Rattle.mpf_plan.specs.declared.entries.EventId.{EventId}
 use Rattle.mpf_plan.specs.PlanOf.{plan_at, plan_of, PlanRefusal, no_such_name, above_limit}
-use Rattle.mpf_plan.specs.Valid.{IsValid}
 use Rattle.mpf_plan.proofs.Judged.{plan_at-Ok}
-use Rattle.mpf_plan.proofs.ValidPlan.{IsValid-plan_at}
+use Rattle.mpf_plan.proofs.ValidPlan.{HasEntries, HasEntries-plan_at, IsValid-plan_at}
 use Rattle.cascade_rank.specs.Events.{weight_of}
 use Rattle.cascade_rank.specs.Weights.{IsLeastFitting, bound_of, greatest}
 use Rattle.cascade_rank.specs.LeadsTo.{grounded, is_open}
@@ -46,7 +46,7 @@ chosen false r e x is = absurd (err_not_ok e x is)
 
 -- ---- weights that were found
 
-module _ (plan : PlanView) (valid : IsValid plan) (ws : List ℕ) where
+module _ (plan : PlanView) (valid : HasEntries plan) (ws : List ℕ) where
   past_found : (first : Option EventId) → first_open plan ≡ first → found_past plan first ≡ Ok ws → IsLeastFitting plan ws × (is_within_limit plan ws ≡ true)
   past_found (Some e) is found = absurd (err_not_ok _ ws found)
   past_found None is found =
@@ -90,26 +90,32 @@ module _ (rows : Rows) where
   checked-plan judge (Err (above_limit t)) c is = absurd (err_not_ok _ c is)
 
   -- what was accepted has the plan of the rows, and weights that serve
-  weighed-accepted : (plan : PlanView) (found : Result (List ℕ) RankView) (c : CheckedView) → plan_at rows ≡ Ok plan → found_at plan ≡ found → weighed plan found ≡ Ok c → (plan_at rows ≡ Ok c.plan) × IsAccepted c
-  weighed-accepted plan (Ok ws) c made found is =
+  weighed-verified : (plan : PlanView) (found : Result (List ℕ) RankView) (c : CheckedView) → plan_at rows ≡ Ok plan → found_at plan ≡ found → weighed plan found ≡ Ok c
+      → (plan_at rows ≡ Ok c.plan) × IsVerified c.plan c.weights c.bound
+  weighed-verified plan (Ok ws) c made found is =
       let accepted : CheckedView = record { plan = plan; weights = ws; bound = bound_of plan (weight_of ws) } in
-      let valid = IsValid-plan_at rows plan made in
-      subst (λ (v : CheckedView). (plan_at rows ≡ Ok v.plan) × IsAccepted v) (ok_same accepted c is) (made, record { valid = valid; verified = found-verified plan valid ws found })
-  weighed-accepted plan (Err fault) c made found is = absurd (err_not_ok _ c is)
+      subst (λ (v : CheckedView). (plan_at rows ≡ Ok v.plan) × IsVerified v.plan v.weights v.bound) (ok_same accepted c is) (made, found-verified plan (HasEntries-plan_at rows plan made) ws found)
+  weighed-verified plan (Err fault) c made found is = absurd (err_not_ok _ c is)
 
-  pub found_is_accepted : (c : CheckedView) → checked_at rows ≡ Ok c → (plan_at rows ≡ Ok c.plan) × IsAccepted c
+  found_is_verified : (c : CheckedView) → checked_at rows ≡ Ok c → (plan_at rows ≡ Ok c.plan) × IsVerified c.plan c.weights c.bound
   unfolding checked_at weighed_plan
-  found_is_accepted c is =
+  found_is_verified c is =
       let from = checked-plan weighed_plan (plan_at rows) c is in
-      weighed-accepted from.0 (found_at from.0) c from.1 refl from.2
+      weighed-verified from.0 (found_at from.0) c from.1 refl from.2
 
   pub found-again : (c : CheckedView) → checked_at rows ≡ Ok c → All IsWord c.plan.events → IsReadAgain rows c
   found-again c is words =
-      let from = found_is_accepted c is in
-      verified-again c from.0 from.1.verified words
+      let from = found_is_verified c is in
+      verified-again c from.0 from.1 words
 
   pub found-plan : (c : CheckedView) → checked_at rows ≡ Ok c → c.plan ≡ plan_of rows
-  found-plan c is = (plan_at-Ok rows c.plan (found_is_accepted c is).0).0
+  found-plan c is = (plan_at-Ok rows c.plan (found_is_verified c is).0).0
+
+  -- where no list in the rows is too long, it is accepted
+  pub found_is_accepted : AreListsShort rows → (c : CheckedView) → checked_at rows ≡ Ok c → IsAccepted c
+  found_is_accepted short c is =
+      let from = found_is_verified c is in
+      record { valid = IsValid-plan_at rows short c.plan from.0; verified = from.1 }
 
   -- where the rows are those of a bundle, the names of its events are words
   pub read-again : (bundle : List ℕ) (c : CheckedView) → rows_at bundle ≡ Ok rows → checked_at rows ≡ Ok c → IsReadAgain rows c

@@ -1,5 +1,5 @@
 -- Each name that contributions use is among the first uses.
-use Rattle.std.proofs.Common.{◌≡◌, ℕ, zero, suc, ◌+◌, ◌<◌, Bool, true, false, cond, not, ◌||◌, List, [], ◌∷◌, ◌++◌, length, filter, get_or, Option, None, Some, refl, sym, ◌∙◌, ap, true≢false, arith}
+use Rattle.std.proofs.Common.{◌≡◌, ℕ, zero, suc, ◌+◌, ◌<◌, Bool, true, false, cond, not, ◌||◌, List, [], ◌∷◌, length, get_or, Option, None, Some, refl, sym, ◌∙◌, ap, true≢false, arith}
 use Rattle.std.specs.Str.{bytes_eq}
 use Rattle.std.specs.List.{All, list_any, position_or_len}
 use Rattle.std.proofs.lemmas.List.Elements.{All-from_get_or}
@@ -8,28 +8,8 @@ use Rattle.std.proofs.lemmas.Slice.Eq.{bytes_eq-Decides}
 use Rattle.mpf_plan.specs.declared.fault.Table.{Table}
 use Rattle.mpf_plan.specs.declared.fault.Table.TheVariants.{Events}
 use Rattle.mpf_plan.specs.Contributions.{Contribution, post}
-use Rattle.mpf_plan.specs.Uses.{Names, names_from, number_among, used, uses, name_in, first_uses}
-
--- ---- a name is among the first names where it is among all
-
-any_filter : (name x : List ℕ) → bytes_eq name x ≡ false → (ys : List (List ℕ)) → list_any (bytes_eq name) (filter (λ y. not (bytes_eq x y)) ys) ≡ list_any (bytes_eq name) ys
-any_filter name x other [] = refl
-any_filter name x other (y ∷ ys) = by (bytes_eq x y) refl (any_filter name x other ys)
-  where
-    by : (b : Bool) → bytes_eq x y ≡ b → list_any (bytes_eq name) (filter (λ z. not (bytes_eq x z)) ys) ≡ list_any (bytes_eq name) ys
-        → list_any (bytes_eq name) (cond (not b) (y ∷ filter (λ z. not (bytes_eq x z)) ys) (filter (λ z. not (bytes_eq x z)) ys)) ≡ (bytes_eq name y || list_any (bytes_eq name) ys)
-    by true same rest =
-        let absent = ap (bytes_eq name) (sym ((bytes_eq-Decides x y).0 same)) ∙ other in
-        rest ∙ sym (ap (λ b. b || list_any (bytes_eq name) ys) absent)
-    by false same rest = ap (λ b. bytes_eq name y || b) rest
-
-any_first : (name : List ℕ) (us : List (List ℕ)) → list_any (bytes_eq name) (first_uses us) ≡ list_any (bytes_eq name) us
-any_first name [] = refl
-any_first name (x ∷ xs) = by (any_first name xs) (bytes_eq name x) refl
-  where
-    by : list_any (bytes_eq name) (first_uses xs) ≡ list_any (bytes_eq name) xs → (b : Bool) → bytes_eq name x ≡ b → (b || list_any (bytes_eq name) (filter (λ y. not (bytes_eq x y)) (first_uses xs))) ≡ (b || list_any (bytes_eq name) xs)
-    by rest true is = refl
-    by rest false is = any_filter name x is (first_uses xs) ∙ rest
+use Rattle.mpf_plan.specs.Uses.{Names, names_from, number_among, used, uses, name_in}
+use Rattle.mpf_plan.proofs.Lacking.{any_first}
 
 place_within : {X : Type 0} (p : X → Bool) (xs : List X) → list_any p xs ≡ true → position_or_len p xs < length xs
 place_within p [] e = absurd (true≢false (sym e))

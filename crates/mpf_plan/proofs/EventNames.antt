@@ -1,5 +1,5 @@
 -- What holds of names, and of what is made of them, holds of the name of every event of a plan.
-use Rattle.std.proofs.Common.{List, [], ◌∷◌, sym, subst, ℕ}
+use Rattle.std.proofs.Common.{List, [], sym, subst, ℕ}
 use Rattle.std.specs.List.{All}
 use Rattle.std.proofs.lemmas.List.Elements.{All-nil, All-cons, All-weaker}
 use Rattle.mpf_config.specs.Rows.{Rows}

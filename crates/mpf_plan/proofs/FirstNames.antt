@@ -11,13 +11,6 @@ list_any-map : {X Y : Type 0} (p : Y → Bool) (f : X → Y) (xs : List X) → l
 list_any-map p f [] = refl
 list_any-map p f (x ∷ xs) = ap (λ b. p (f x) || b) (list_any-map p f xs)
 
-pub name_grows : (all : List (List ℕ)) (n : List ℕ) → length all ≤ length (with_name all n)
-name_grows all n = by (list_any (λ y. bytes_eq n y) all)
-  where
-    by : (b : Bool) → length all ≤ length (cond b all (all ++ n ∷ []))
-    by true = omega arith
-    by false = omega (arith, length_push all n)
-
 module _ (keys : List (Vec ℕ Global)) (name : List ℕ) where
   -- a name that is there stays where it is
   use_there : list_any (λ k. bytes_eq name k.items) keys ≡ true → with_name (names_of keys) name ≡ names_of keys
@@ -44,11 +37,6 @@ module _ (keys : List (Vec ℕ Global)) (name : List ℕ) where
       seen false = map-append (λ k. k.items) keys (v ∷ [])
 
 module _ (all : List (List ℕ)) (name : List ℕ) where
-  -- above the limit it stays so
-  pub table_above : (t : NameTable) → t.above ≡ true → HasNames all t → HasNames (with_name all name) t
-  table_above t above (inl (a, more)) = inl (a, omega (arith, more, name_grows all name))
-  table_above t above (inr (not, names, within)) = absurd (true≢false (sym above ∙ not))
-
   module _ (t : NameTable) (not_above : t.above ≡ false) where
     pub table_there : list_any (λ k. bytes_eq name k.items) t.set.keys ≡ true → HasNames all t → HasNames (with_name all name) t
     table_there there (inl (a, more)) = absurd (true≢false (sym a ∙ not_above))

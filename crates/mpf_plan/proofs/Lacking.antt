@@ -1,5 +1,5 @@
 -- Names that are used, and names that are given.
-use Rattle.std.proofs.Common.{◌≡◌, ℕ, zero, suc, ◌+◌, ◌<◌, ◌==◌, Bool, true, false, cond, not, ◌||◌, ◌&&◌, List, [], ◌∷◌, ◌++◌, length, map, filter, fold, set, get_or, take, Option, Some, None, Vec, Global, refl, sym, ◌∙◌, ap, subst, arith}
+use Rattle.std.proofs.Common.{◌≡◌, ℕ, zero, suc, ◌<◌, ◌==◌, Bool, true, false, cond, not, ◌||◌, ◌&&◌, List, [], ◌∷◌, ◌++◌, length, filter, fold, set, get_or, Option, Some, None, Vec, Global, refl, sym, ◌∙◌, ap, subst, arith}
 use Rattle.std.specs.Prelude.{slice_get}
 use Rattle.std.specs.Str.{bytes_eq}
 use Rattle.std.specs.List.{All, list_any}
@@ -35,7 +35,7 @@ any_filter name x other (y ∷ ys) = by (bytes_eq x y) refl (any_filter name x o
         rest ∙ sym (ap (λ b. b || list_any (bytes_eq name) ys) absent)
     by false same rest = ap (λ b. bytes_eq name y || b) rest
 
-any_first : (name : List ℕ) (us : List (List ℕ)) → list_any (bytes_eq name) (first_uses us) ≡ list_any (bytes_eq name) us
+pub any_first : (name : List ℕ) (us : List (List ℕ)) → list_any (bytes_eq name) (first_uses us) ≡ list_any (bytes_eq name) us
 any_first name [] = refl
 any_first name (x ∷ xs) = by (any_first name xs) (bytes_eq name x) refl
   where

@@ -1,10 +1,11 @@
--- What was numbered and made of the contributions of rows is their plan, or why there is none.
+-- What was numbered and made of rows is their plan, or why there is none.
 use Rattle.std.proofs.Common.{◌≡◌, ◌<◌, ◌≤◌, List, length, sym, ◌∙◌, ap, subst}
 use Rattle.std.specs.Prelude.{Result, Ok, Err}
 use Rattle.std.specs.List.{All}
 use Rattle.std.proofs.lemmas.List.Elements.{All-weaker}
 use Rattle.mpf_config.specs.Rows.{Rows}
 use Rattle.mpf_config.specs.Short.{AreListsShort}
+use Rattle.mpf_plan.specs.declared.collect.Row as found
 use Rattle.mpf_plan.specs.declared.names.NameSets.{NameSets}
 use Rattle.mpf_plan.specs.declared.draft.Draft.{Draft}
 use Rattle.mpf_plan.specs.declared.fault.Table.{Table}
@@ -12,16 +13,22 @@ use Rattle.mpf_plan.specs.declared.fault.PlanFault.{PlanFault}
 use Rattle.mpf_plan.specs.declared.fault.PlanFault.TheVariants as faults
 use Rattle.mpf_plan.specs.PlanView.{PlanView}
 use Rattle.mpf_plan.specs.Valid.{IsBindingWithin, IsValid}
-use Rattle.mpf_plan.specs.Contributions.{Contribution, contributions_of}
+use Rattle.mpf_plan.specs.Contributions.{Contribution, rows_in, given_by, contributions_of}
 use Rattle.mpf_plan.specs.Uses.{lacks_name}
 use Rattle.mpf_plan.specs.Limits.{entry_count, limit_of, first_above}
 use Rattle.mpf_plan.specs.PlanOf.{drafted, plan_from, plan_of, plan_at, GivesPlan, IsExceeded}
-use Rattle.mpf_plan.specs.Inside.{name_sets_view, draft_view}
+use Rattle.mpf_plan.specs.Inside.{rows_view, name_sets_view, draft_view}
 use Rattle.mpf_plan.specs.Numbering.{Numbered}
 use Rattle.mpf_plan.proofs.Judged.{all_within, is_first, plan_at-lacking, plan_at-within, plan_at-exceeded, plan_at-Err}
 use Rattle.mpf_plan.proofs.ValidPlan.{IsValid-plan_of}
 
-module _ (rows : Rows) (cs : List Contribution) (same : cs ≡ contributions_of rows) where
+module _ (rows : Rows) (rs numbered_of : List found.Row) (are : rows_view rs ≡ rows_in rows.machine) (first : numbered_of ≡ rs) where
+  abbrev cs : List Contribution
+  cs = given_by (rows_view numbered_of)
+
+  same : cs ≡ contributions_of rows
+  same = ap given_by (ap rows_view first ∙ are)
+
   from_rows : plan_from cs ≡ plan_of rows
   unfolding plan_of
   from_rows = ap plan_from same
@@ -42,18 +49,20 @@ module _ (rows : Rows) (cs : List Contribution) (same : cs ≡ contributions_of 
 
   -- ---- a plan
 
-  module _ (short : AreListsShort rows) (names : NameSets) (d : Draft) (numbered : Numbered cs (Ok names)) (made : draft_view names d ≡ drafted (name_sets_view names) cs) where
-    pub is_plan : (draft_view names d).plan ≡ plan_of rows
-    is_plan = ap (λ x. x.plan) (made ∙ ap (λ n. drafted n cs) numbered.1) ∙ from_rows
-
+  module _ (names : NameSets) (numbered : Numbered cs (Ok names)) where
     pub rows_within : (t : Table) → entry_count (plan_of rows) t ≤ limit_of t
     rows_within = all_within (plan_of rows) (ap first_above (sym from_rows) ∙ numbered.2)
 
-    pub is_valid : IsValid (draft_view names d).plan
-    is_valid = subst IsValid (sym is_plan) (IsValid-plan_of rows short rows_within)
+    -- made of the same rows
+    module _ (d : Draft) (made_of : List found.Row) (again : made_of ≡ rs) (made : draft_view names d ≡ drafted (name_sets_view names) (given_by (rows_view made_of))) where
+      pub is_plan : (draft_view names d).plan ≡ plan_of rows
+      is_plan = ap (λ x. x.plan) (made ∙ (λ i. drafted (numbered.1 i) (given_by (rows_view ((again ∙ sym first) i))))) ∙ from_rows
 
-    pub is_planned : plan_at rows ≡ Ok (draft_view names d).plan
-    is_planned = plan_at-within rows rows_within ∙ ap Ok (sym is_plan)
+      pub is_planned : plan_at rows ≡ Ok (draft_view names d).plan
+      is_planned = plan_at-within rows rows_within ∙ ap Ok (sym is_plan)
+
+      pub is_valid : AreListsShort rows → IsValid (draft_view names d).plan
+      is_valid short = subst IsValid (sym is_plan) (IsValid-plan_of rows short rows_within)
 
 -- each binding is of an event of the plan
 pub events_bound : (plan : PlanView) → IsValid plan → All (λ b. b.event.0 < length plan.events) plan.bindings

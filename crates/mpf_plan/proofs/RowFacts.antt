@@ -1,5 +1,5 @@
 -- What the contributions of a row are like: proved here once for each section, and all else follows from it.
-use Rattle.std.proofs.Common.{◌≡◌, ℕ, zero, suc, ◌+◌, ◌<◌, ◌≤◌, Bool, true, false, if◌then◌else◌, List, [], ◌∷◌, ◌++◌, length, map, refl, sym, ap, arith, codes}
+use Rattle.std.proofs.Common.{◌≡◌, ℕ, suc, ◌+◌, ◌<◌, ◌≤◌, Bool, true, false, if◌then◌else◌, List, [], ◌∷◌, ◌++◌, length, map, refl, arith, codes}
 use Rattle.std.specs.Str.{bytes_eq}
 use Rattle.std.specs.List.{All, flat_map}
 use Rattle.std.proofs.lemmas.List.{length-map}
@@ -10,7 +10,6 @@ use Rattle.mpf_config.specs.Typed.{switch_of, event_player_of}
 use Rattle.mpf_config.specs.Short.{IsShortEntry, IsShortPlayer, IsShortContent, IsShortSection}
 use Rattle.mpf_config.proofs.RowNames.{switch_named, event_player_named}
 use Rattle.mpf_config.proofs.ShortRows.{event_player_short}
-use Rattle.mpf_plan.specs.declared.contribution.Aim.TheVariants.{Run}
 use Rattle.mpf_plan.specs.declared.fault.Table.{Table}
 use Rattle.mpf_plan.specs.declared.fault.Table.TheVariants.{Events}
 use Rattle.mpf_plan.specs.Contributions.{Contribution, gives, reads, active, inactive, binds, post, texts, kind_of, tag_event, active_posts, inactive_posts, switch_contributions, player_contributions, Row, entry, player, rows_from, rows_in, entry_contributions, player_entry_contributions, row_contributions, machine_place, given_by}

@@ -15,10 +15,10 @@ use Rattle.mpf_plan.specs.declared.entries.Binding.{Binding}
 use Rattle.mpf_plan.specs.declared.fault.Table.{Table}
 use Rattle.mpf_plan.specs.declared.fault.Table.TheVariants.{Events, Bindings}
 use Rattle.mpf_plan.specs.PlanView.{PlanView}
-use Rattle.mpf_plan.specs.Valid.{IsValid}
+use Rattle.mpf_plan.specs.Valid.{IsActionWithin, IsBindingWithin, IsSwitchWithin, IsValid}
 use Rattle.mpf_plan.specs.Contributions.{Contribution, gives, reads, active, inactive, binds, post, contributions_of}
 use Rattle.mpf_plan.specs.Uses.{Names, names_from, uses, first_by}
-use Rattle.mpf_plan.specs.Limits.{entry_count, limit_of, names_in}
+use Rattle.mpf_plan.specs.Limits.{entry_count, limit_of}
 use Rattle.mpf_plan.specs.PlanOf.{DraftView, event_of, with_contribution, blank, plan_from, plan_of, plan_at}
 use Rattle.mpf_plan.proofs.Counts.{named_of}
 use Rattle.mpf_plan.proofs.Drafted.{given_plan, names-from, count-bindings, count-lists}
@@ -142,7 +142,27 @@ pub IsValid-plan_of : (rows : Rows) → AreListsShort rows → ((t : Table) → 
 unfolding plan_of
 IsValid-plan_of rows short within = IsValid-plan_from (contributions_of rows) (sections_short rows.machine short) within
 
--- a plan that planning gives is valid
+-- ---- whether lists are short or not
+
+-- every number in the plan is that of an entry
+pub record HasEntries (plan : PlanView) : Type 0 where
+  pub switches : All (IsSwitchWithin (length plan.events)) plan.switches
+  pub lists : All (All (IsActionWithin plan)) plan.lists
+  pub bindings : All (IsBindingWithin plan) plan.bindings
+
+pub has_entries : (plan : PlanView) → IsValid plan → HasEntries plan
+has_entries plan valid = record { switches = valid.switches; lists = valid.lists; bindings = valid.bindings }
+
+HasEntries-plan_of : (rows : Rows) → HasEntries (plan_of rows)
+unfolding plan_of
+HasEntries-plan_of rows =
+    let sound = sound_drafted (contributions_of rows) in
+    record { switches = sound.switches; lists = sound.lists; bindings = sound.bindings }
+
+pub HasEntries-plan_at : (rows : Rows) (plan : PlanView) → plan_at rows ≡ Ok plan → HasEntries plan
+HasEntries-plan_at rows plan is = subst HasEntries (sym (plan_at-Ok rows plan is).0) (HasEntries-plan_of rows)
+
+-- a plan that planning gives is valid, where no list in the rows is too long
 pub IsValid-plan_at : (rows : Rows) → AreListsShort rows → (plan : PlanView) → plan_at rows ≡ Ok plan → IsValid plan
 IsValid-plan_at rows short plan is =
     let given = plan_at-Ok rows plan is in

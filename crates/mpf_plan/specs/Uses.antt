@@ -4,7 +4,7 @@ use Rattle.std.specs.List.{flat_map, list_any, position_or_len}
 use Rattle.std.specs.Str.{bytes_eq}
 use Rattle.mpf_plan.specs.declared.fault.Table.{Table}
 use Rattle.mpf_plan.specs.declared.fault.Table.TheVariants.{Events}
-use Rattle.mpf_plan.specs.Contributions.{Contribution, gives, reads, active, inactive, binds, post}
+use Rattle.mpf_plan.specs.Contributions.{Contribution, gives, active, inactive, binds, post}
 use Rattle.mpf_plan.specs.Limits.{order_of}
 
 -- ---- one contribution

@@ -6,11 +6,32 @@ ghost use Rattle.mpf_plan.specs.Limits.{limit_of, order_of, tables_in_order};
 ghost use Rattle.mpf_plan.specs.NamesKept.{names_kept};
 
 use indexmap::IndexSet;
+use std::hash::{BuildHasher, DefaultHasher};
+
+/// Makes the hashers of names. They start in a state that comes from all names of the rows: another
+/// name changes every hash, so nobody can choose names whose hashes collide.
+#[derive(Clone, Copy)]
+pub(crate) struct NameHashing {
+    pub(crate) start: DefaultHasher,
+}
+
+impl BuildHasher for NameHashing {
+    type Hasher = DefaultHasher;
+
+    ghost build_hasher = { λ hashing. hashing.start };
+
+    fn build_hasher(&self) -> DefaultHasher {
+        self.start
+    }
+}
+
+/// Names at their numbers.
+pub(crate) type NameSet = IndexSet<Vec<u8>, NameHashing>;
 
 /// The first names of a table, as far as they are kept.
 #[derive(Drop)]
 pub(crate) struct NameTable {
-    pub(crate) set: IndexSet<Vec<u8>>,
+    pub(crate) set: NameSet,
     /// At most so many are kept.
     pub(crate) limit: usize,
     /// Whether there are more.

@@ -13,13 +13,13 @@ ghost use Rattle.mpf_plan.specs.Numbering.{with_name, HasNames, HaveNames, bindi
 use crate::collect::{Row, collect_row, machine_place};
 use crate::contribution::{Contribution, Parts, given, used, write_name};
 use crate::fault::{PlanFault, TABLES, Table};
-use crate::names::{Found, NameSets, NameTable};
-use indexmap::IndexSet;
+use crate::names::{Found, NameHashing, NameSet, NameSets, NameTable};
 use std::alloc::{AllocError, Global};
+use std::hash::{DefaultHasher, Hasher};
 
 impl NameSets {
     /// The names of a table.
-    pub(crate) fn of(&self, table: Table) -> &IndexSet<Vec<u8>>
+    pub(crate) fn of(&self, table: Table) -> &NameSet
         ensures names { names_of result.now.keys ≡ name_sets_view self.now table }
         ensures fit { length result.now.keys ≤ limit_of table }
     {
@@ -31,11 +31,12 @@ impl NameSets {
 pub(crate) fn number(alloc: Global, rows: &[Row]) -> Result<NameSets, PlanFault>
     ensures { Numbered (given_by (rows_view rows.now)) result }
 {
-    let lacking = lacks_name(alloc, rows)?;
+    let hashing = hashing_of(alloc, rows)?;
+    let lacking = lacks_name(alloc, hashing, rows)?;
     if lacking {
         return Err(PlanFault::NoSuchName);
     }
-    let found = find_names(alloc, rows)?;
+    let found = find_names(alloc, hashing, rows)?;
     if let Some(table) = first_above(&found) {
         return Err(PlanFault::Limit(table));
     }
@@ -46,7 +47,7 @@ pub(crate) fn number(alloc: Global, rows: &[Row]) -> Result<NameSets, PlanFault>
 
 /// The number of a name among these.
 pub(crate) fn number_among(
-    names: &IndexSet<Vec<u8>>,
+    names: &NameSet,
     text: &mut Vec<u8>,
     name: Parts,
 ) -> Result<usize, AllocError>
@@ -56,6 +57,29 @@ pub(crate) fn number_among(
     write_name(text, name)?;
     let place = names.get_index_of(text.as_slice()).unwrap_or(names.len());
     Ok(place)
+}
+
+// ---- hashing
+
+/// Hashing by all names that the rows use.
+fn hashing_of(alloc: Global, rows: &[Row]) -> Result<NameHashing, AllocError> {
+    let mut start = DefaultHasher::new();
+    let mut contributions = Vec::new(alloc);
+    for row in rows {
+        collect_row(&mut contributions, machine_place(), *row)?;
+        feed(&mut start, &contributions);
+    }
+    Ok(NameHashing { start })
+}
+
+/// Each name that the contributions use.
+fn feed(hasher: &mut DefaultHasher, contributions: &[Contribution]) {
+    for contribution in contributions {
+        if let Some((_, name)) = used(contribution) {
+            hasher.write(name.front);
+            hasher.write(name.end);
+        }
+    }
 }
 
 // ---- limits
@@ -84,11 +108,11 @@ fn is_above(found: &Found, table: Table) -> bool
 // ---- first uses
 
 /// The names that the rows use, each table up to its limit, and how many bindings they give.
-fn find_names(alloc: Global, rows: &[Row]) -> Result<Found, AllocError>
+fn find_names(alloc: Global, hashing: NameHashing, rows: &[Row]) -> Result<Found, AllocError>
     ensures { IfOk result (HasFound (given_by (rows_view rows.now))) }
 {
     let mut found = Found {
-        tables: no_names(alloc)?,
+        tables: no_names(alloc, hashing)?,
         bindings: 0,
     };
     let mut text = Vec::new(alloc);
@@ -100,14 +124,14 @@ fn find_names(alloc: Global, rows: &[Row]) -> Result<Found, AllocError>
     Ok(found)
 }
 
-fn no_names(alloc: Global) -> Result<Vec<NameTable>, AllocError>
+fn no_names(alloc: Global, hashing: NameHashing) -> Result<Vec<NameTable>, AllocError>
     ensures count { IfOk result (λ tables. length tables.items ≡ length tables_in_order) }
     ensures names { IfOk result (λ tables. HaveNames [] tables.items) }
 {
     let mut tables = Vec::new(alloc);
     for table in TABLES {
         tables.push(NameTable {
-            set: IndexSet::new(alloc),
+            set: NameSet::with_hasher(alloc, hashing),
             limit: table.limit(),
             above: false,
         })?;
@@ -184,10 +208,10 @@ fn count_binding(before: usize, contribution: &Contribution) -> usize
 // ---- names that nothing has
 
 /// Whether the rows use a name that nothing has.
-fn lacks_name(alloc: Global, rows: &[Row]) -> Result<bool, AllocError>
+fn lacks_name(alloc: Global, hashing: NameHashing, rows: &[Row]) -> Result<bool, AllocError>
     ensures { IfOk result (λ b. b ≡ lacks_name (given_by (rows_view rows.now))) }
 {
-    let sets = given_names(alloc, rows)?;
+    let sets = given_names(alloc, hashing, rows)?;
     let mut text = Vec::new(alloc);
     let mut contributions = Vec::new(alloc);
     for row in rows {
@@ -201,10 +225,14 @@ fn lacks_name(alloc: Global, rows: &[Row]) -> Result<bool, AllocError>
 }
 
 /// The names under which the rows give something, those of each table at its index.
-fn given_names(alloc: Global, rows: &[Row]) -> Result<Vec<IndexSet<Vec<u8>>>, AllocError>
+fn given_names(
+    alloc: Global,
+    hashing: NameHashing,
+    rows: &[Row],
+) -> Result<Vec<NameSet>, AllocError>
     ensures { IfOk result (λ sets. HaveGiven (given_by (rows_view rows.now)) sets.items) }
 {
-    let mut sets = no_sets(alloc)?;
+    let mut sets = no_sets(alloc, hashing)?;
     let mut contributions = Vec::new(alloc);
     for row in rows {
         collect_row(&mut contributions, machine_place(), *row)?;
@@ -213,19 +241,19 @@ fn given_names(alloc: Global, rows: &[Row]) -> Result<Vec<IndexSet<Vec<u8>>>, Al
     Ok(sets)
 }
 
-fn no_sets(alloc: Global) -> Result<Vec<IndexSet<Vec<u8>>>, AllocError>
+fn no_sets(alloc: Global, hashing: NameHashing) -> Result<Vec<NameSet>, AllocError>
     ensures { IfOk result (λ sets. HaveGiven [] sets.items) }
 {
     let mut sets = Vec::new(alloc);
     for _table in TABLES {
-        sets.push(IndexSet::new(alloc))?;
+        sets.push(NameSet::with_hasher(alloc, hashing))?;
     }
     Ok(sets)
 }
 
 fn note_given(
     alloc: Global,
-    sets: &mut Vec<IndexSet<Vec<u8>>>,
+    sets: &mut Vec<NameSet>,
     contributions: &[Contribution],
 ) -> Result<(), AllocError>
     requires { length sets.old.items ≡ length tables_in_order }
@@ -244,7 +272,7 @@ fn note_given(
 
 /// Whether the contributions use a name that is not among these.
 fn use_other(
-    sets: &[IndexSet<Vec<u8>>],
+    sets: &[NameSet],
     text: &mut Vec<u8>,
     contributions: &[Contribution],
 ) -> Result<bool, AllocError>
@@ -262,7 +290,7 @@ fn use_other(
 
 /// Whether the contribution uses a name that is not among these.
 fn is_other(
-    sets: &[IndexSet<Vec<u8>>],
+    sets: &[NameSet],
     text: &mut Vec<u8>,
     contribution: &Contribution,
 ) -> Result<bool, AllocError>

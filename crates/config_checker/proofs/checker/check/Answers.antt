@@ -41,5 +41,5 @@ returns-clause-exact c =
 
 pub returns-clause-good : goal.returns-clause-good
 returns-clause-good c =
-    let valid = IsValid-plan_at (rows_view c.args.config.now) c.in_ok-plan.plan c.in_ok-plan.ensures.plan in
+    let valid = IsValid-plan_at (rows_view c.args.config.now) c.args.config.now.lists_short c.in_ok-plan.plan c.in_ok-plan.ensures.plan in
     subst IsGood (sym c.new.ensures) (every_run_is_good _ (record { valid = valid; verified = c.in-Ok-verify.ensures.verified }))

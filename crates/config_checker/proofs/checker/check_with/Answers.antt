@@ -118,7 +118,7 @@ returns-in-Ok-2-clause-refused c =
 -- ---- accepted
 
 pub new-requires : goal.new-requires
-new-requires c = record { valid = IsValid-plan_at (rows_view c.args.config.now) c.in_ok-plan.plan c.in_ok-plan.ensures.plan; verified = c.in-Ok-verify.ensures.verified }
+new-requires c = record { valid = IsValid-plan_at (rows_view c.args.config.now) c.args.config.now.lists_short c.in_ok-plan.plan c.in_ok-plan.ensures.plan; verified = c.in-Ok-verify.ensures.verified }
 
 pub returns-in-Ok-verify-clause-exact : goal.returns-in-Ok-verify-clause-exact
 returns-in-Ok-verify-clause-exact c =
@@ -144,5 +144,5 @@ returns-in-Ok-verify-clause-text c =
 
 pub returns-in-Ok-verify-clause-good : goal.returns-in-Ok-verify-clause-good
 returns-in-Ok-verify-clause-good c =
-    let valid = IsValid-plan_at (rows_view c.args.config.now) c.in_ok-plan.plan c.in_ok-plan.ensures.plan in
+    let valid = IsValid-plan_at (rows_view c.args.config.now) c.args.config.now.lists_short c.in_ok-plan.plan c.in_ok-plan.ensures.plan in
     subst IsGood (sym c.new.ensures) (every_run_is_good _ (record { valid = valid; verified = c.in-Ok-verify.ensures.verified }))

@@ -1,68 +1,67 @@
-use Rattle.std.proofs.Common.{◌≡◌, ◌<◌, map, sym, subst, ap, ◌∙◌}
+use Rattle.std.proofs.Common.{◌≡◌, ◌<◌, ◌≤◌, length, map, ap, sym, subst, ◌∙◌}
 use Rattle.std.specs.Prelude.{Ok, Err}
 use Rattle.std.specs.List.{All}
 use Rattle.std.proofs.lemmas.List.{length-map}
 use Rattle.std.proofs.lemmas.Result.{err_from_is_err_and}
 use Rattle.mpf_config.specs.View.{rows_view, section_view}
-use Rattle.mpf_plan.specs.Contributions.{contributions_in, contributions_of}
-use Rattle.mpf_plan.specs.Inside.{draft_view}
+use Rattle.mpf_plan.specs.declared.fault.Table.TheVariants.{Bindings}
+use Rattle.mpf_plan.specs.Contributions.{rows_in, given_by}
+use Rattle.mpf_plan.specs.Inside.{draft_view, rows_view as found_view}
 use Rattle.mpf_plan.proofs.Drafted.{entries_count}
-use Rattle.mpf_plan.proofs.Planned.{refused_exact, refused_limit, is_plan, rows_within, is_valid, is_planned, events_bound}
+use Rattle.mpf_plan.proofs.Planned.{refused_exact, refused_limit, rows_within, is_plan, is_planned, is_valid, events_bound}
 use Rattle.mpf_plan.proofs.build.plan.Goals as goal
 
 pub returns-in_err-names-clause-exact : goal.returns-in_err-names-clause-exact
 returns-in_err-names-clause-exact c =
-    let cs = contributions_in (map section_view c.as_slice-sections.result.now) in
-    let same : cs ≡ contributions_of (rows_view c.args.config.now) = ap (λ s. contributions_in (map section_view s)) c.as_slice-sections.ensures.value in
-    let rows = rows_view c.args.config.now in
-    let p = err_from_is_err_and c.from_residual.result c.from_residual.ensures.1 in
-    refused_exact rows cs same c.from_residual.result c.in_err-names.field-0.0 (p.1 ∙ ap Err p.2) c.in_err-names.ensures
+    let are = c.in_ok-rows.ensures ∙ ap (λ s. rows_in (map section_view s)) c.as_slice-sections.ensures.value in
+    let p = err_from_is_err_and c.from_residual-in_err-names.result c.from_residual-in_err-names.ensures.1 in
+    refused_exact (rows_view c.args.config.now) c.in_ok-rows.rows.items c.deref.result.now are c.deref.ensures.value c.from_residual-in_err-names.result c.in_err-names.field-0.0 (p.1 ∙ ap Err p.2) c.in_err-names.ensures
 
 pub returns-in_err-names-clause-limit : goal.returns-in_err-names-clause-limit
 returns-in_err-names-clause-limit c =
-    let cs = contributions_in (map section_view c.as_slice-sections.result.now) in
-    let same : cs ≡ contributions_of (rows_view c.args.config.now) = ap (λ s. contributions_in (map section_view s)) c.as_slice-sections.ensures.value in
-    let rows = rows_view c.args.config.now in
-    let p = err_from_is_err_and c.from_residual.result c.from_residual.ensures.1 in
-    refused_limit rows cs same c.from_residual.result c.in_err-names.field-0.0 (p.1 ∙ ap Err p.2) c.in_err-names.ensures
+    let are = c.in_ok-rows.ensures ∙ ap (λ s. rows_in (map section_view s)) c.as_slice-sections.ensures.value in
+    let p = err_from_is_err_and c.from_residual-in_err-names.result c.from_residual-in_err-names.ensures.1 in
+    refused_limit (rows_view c.args.config.now) c.in_ok-rows.rows.items c.deref.result.now are c.deref.ensures.value c.from_residual-in_err-names.result c.in_err-names.field-0.0 (p.1 ∙ ap Err p.2) c.in_err-names.ensures
 
 pub places_by_event-requires-clause-events : goal.places_by_event-requires-clause-events
 places_by_event-requires-clause-events c =
-    let cs = contributions_in (map section_view c.as_slice-sections.result.now) in
-    let same : cs ≡ contributions_of (rows_view c.args.config.now) = ap (λ s. contributions_in (map section_view s)) c.as_slice-sections.ensures.value in
-    let rows = rows_view c.args.config.now in
-    let tables = (draft_view c.in_ok-names.names c.in_ok-draft.draft).plan in
-    let each = events_bound tables (is_valid rows cs same c.in_ok-names.names c.in_ok-draft.draft c.in_ok-names.ensures c.in_ok-draft.ensures) in
-    subst (λ bs. All (λ b. b.event.0 < c.len.result) bs) (sym c.deref.ensures.value)
-    (subst (λ n. All (λ b. b.event.0 < n) tables.bindings) (length-map c.in_ok-names.names.events.keys (λ v. v.items) ∙ sym c.len.ensures.len) each)
+    let are = c.in_ok-rows.ensures ∙ ap (λ s. rows_in (map section_view s)) c.as_slice-sections.ensures.value in
+    let plan = (draft_view c.in_ok-names.names c.in_ok-draft.draft).plan in
+    let valid = is_valid (rows_view c.args.config.now) c.in_ok-rows.rows.items c.deref.result.now are c.deref.ensures.value c.in_ok-names.names c.in_ok-names.ensures c.in_ok-draft.draft c.deref-2.result.now c.deref-2.ensures.value c.in_ok-draft.ensures c.args.config.now.lists_short in
+    let count : length plan.events ≡ c.len.result = sym (ap length c.of.ensures.names) ∙ length-map c.of.result.now.keys (λ v. v.items) ∙ sym c.len.ensures.len in
+    subst (λ bs. All (λ b. b.event.0 < c.len.result) bs) (sym c.deref-3.ensures.value) (subst (λ n. All (λ b. b.event.0 < n) plan.bindings) count (events_bound plan valid))
+
+pub places_by_event-requires-clause-bindings : goal.places_by_event-requires-clause-bindings
+places_by_event-requires-clause-bindings c =
+    let are = c.in_ok-rows.ensures ∙ ap (λ s. rows_in (map section_view s)) c.as_slice-sections.ensures.value in
+    let valid = is_valid (rows_view c.args.config.now) c.in_ok-rows.rows.items c.deref.result.now are c.deref.ensures.value c.in_ok-names.names c.in_ok-names.ensures c.in_ok-draft.draft c.deref-2.result.now c.deref-2.ensures.value c.in_ok-draft.ensures c.args.config.now.lists_short in
+    subst (λ bs. length bs ≤ 16384) (sym c.deref-3.ensures.value) (valid.limits Bindings)
 
 pub assemble-requires-clause-valid : goal.assemble-requires-clause-valid
 assemble-requires-clause-valid c =
-    let cs = contributions_in (map section_view c.as_slice-sections.result.now) in
-    let same : cs ≡ contributions_of (rows_view c.args.config.now) = ap (λ s. contributions_in (map section_view s)) c.as_slice-sections.ensures.value in
-    let rows = rows_view c.args.config.now in
-    is_valid rows cs same c.in_ok-names.names c.in_ok-draft.draft c.in_ok-names.ensures c.in_ok-draft.ensures
+    let are = c.in_ok-rows.ensures ∙ ap (λ s. rows_in (map section_view s)) c.as_slice-sections.ensures.value in
+    is_valid (rows_view c.args.config.now) c.in_ok-rows.rows.items c.deref.result.now are c.deref.ensures.value c.in_ok-names.names c.in_ok-names.ensures c.in_ok-draft.draft c.deref-2.result.now c.deref-2.ensures.value c.in_ok-draft.ensures c.args.config.now.lists_short
+
+pub assemble-requires-clause-places : goal.assemble-requires-clause-places
+assemble-requires-clause-places c =
+    let plan = (draft_view c.in_ok-names.names c.in_ok-draft.draft).plan in
+    let count : length plan.events ≡ c.len.result = sym (ap length c.of.ensures.names) ∙ length-map c.of.result.now.keys (λ v. v.items) ∙ sym c.len.ensures.len in
+    c.in_ok-places.ensures plan count (sym c.deref-3.ensures.value)
 
 pub assemble-requires-clause-switches : goal.assemble-requires-clause-switches
-assemble-requires-clause-switches c = entries_count c.in_ok-names.names c.in_ok-draft.draft (contributions_in (map section_view c.as_slice-sections.result.now)) c.in_ok-draft.ensures
+assemble-requires-clause-switches c = entries_count c.in_ok-names.names c.in_ok-draft.draft (given_by (found_view c.deref-2.result.now)) c.in_ok-draft.ensures
 
 pub returns-clause-exact : goal.returns-clause-exact
 returns-clause-exact c =
-    let cs = contributions_in (map section_view c.as_slice-sections.result.now) in
-    let same : cs ≡ contributions_of (rows_view c.args.config.now) = ap (λ s. contributions_in (map section_view s)) c.as_slice-sections.ensures.value in
-    let rows = rows_view c.args.config.now in
-    is_planned rows cs same c.in_ok-names.names c.in_ok-draft.draft c.in_ok-names.ensures c.in_ok-draft.ensures ∙ ap Ok (sym c.assemble.ensures)
+    let are = c.in_ok-rows.ensures ∙ ap (λ s. rows_in (map section_view s)) c.as_slice-sections.ensures.value in
+    is_planned (rows_view c.args.config.now) c.in_ok-rows.rows.items c.deref.result.now are c.deref.ensures.value c.in_ok-names.names c.in_ok-names.ensures c.in_ok-draft.draft c.deref-2.result.now c.deref-2.ensures.value c.in_ok-draft.ensures ∙ ap Ok (sym c.assemble.ensures)
 
 pub returns-clause-plan : goal.returns-clause-plan
 returns-clause-plan c =
-    let cs = contributions_in (map section_view c.as_slice-sections.result.now) in
-    let same : cs ≡ contributions_of (rows_view c.args.config.now) = ap (λ s. contributions_in (map section_view s)) c.as_slice-sections.ensures.value in
-    let rows = rows_view c.args.config.now in
-    c.assemble.ensures ∙ is_plan rows cs same c.in_ok-names.names c.in_ok-draft.draft c.in_ok-names.ensures c.in_ok-draft.ensures
+    let are = c.in_ok-rows.ensures ∙ ap (λ s. rows_in (map section_view s)) c.as_slice-sections.ensures.value in
+    c.assemble.ensures ∙ is_plan (rows_view c.args.config.now) c.in_ok-rows.rows.items c.deref.result.now are c.deref.ensures.value c.in_ok-names.names c.in_ok-names.ensures c.in_ok-draft.draft c.deref-2.result.now c.deref-2.ensures.value c.in_ok-draft.ensures
 
 pub returns-clause-within : goal.returns-clause-within
 returns-clause-within c =
-    let cs = contributions_in (map section_view c.as_slice-sections.result.now) in
-    let same : cs ≡ contributions_of (rows_view c.args.config.now) = ap (λ s. contributions_in (map section_view s)) c.as_slice-sections.ensures.value in
-    let rows = rows_view c.args.config.now in
-    rows_within rows cs same c.in_ok-names.names c.in_ok-draft.draft c.in_ok-names.ensures c.in_ok-draft.ensures
+    let are = c.in_ok-rows.ensures ∙ ap (λ s. rows_in (map section_view s)) c.as_slice-sections.ensures.value in
+    rows_within (rows_view c.args.config.now) c.in_ok-rows.rows.items c.deref.result.now are c.deref.ensures.value c.in_ok-names.names c.in_ok-names.ensures

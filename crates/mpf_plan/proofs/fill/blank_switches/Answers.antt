@@ -1,4 +1,4 @@
-use Rattle.std.proofs.Common.{◌∙◌, sym, arith}
+use Rattle.std.proofs.Common.{arith}
 use Rattle.mpf_plan.proofs.Steps.{blank_entries}
 use Rattle.mpf_plan.proofs.fill.blank_switches.Goals as goal
 

@@ -1,4 +1,4 @@
-use Rattle.std.proofs.Common.{◌∙◌, sym, arith}
+use Rattle.std.proofs.Common.{arith}
 use Rattle.mpf_plan.proofs.Steps.{blank_marks}
 use Rattle.mpf_plan.proofs.fill.no_marks.Goals as goal
 

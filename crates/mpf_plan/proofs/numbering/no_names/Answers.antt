@@ -1,4 +1,4 @@
-use Rattle.std.proofs.Common.{◌≡◌, ◌≤◌, ℕ, ◌+◌, false, [], length, get_or, Some, refl, sym, ◌∙◌, ap, subst, arith}
+use Rattle.std.proofs.Common.{◌≡◌, ℕ, ◌+◌, false, [], length, get_or, Some, refl, sym, ◌∙◌, ap, subst, arith}
 use Rattle.std.specs.Prelude.{slice_get}
 use Rattle.std.proofs.lemmas.List.{length_push}
 use Rattle.std.proofs.lemmas.Option.{none-some}
@@ -21,12 +21,12 @@ loop-table-init c = record {
 pub loop-table-preserved : goal.loop-table-preserved
 loop-table-preserved c =
     let so_far = c.loop-table.tables.items in
-    let added : NameTable = record { set = c.new.result; limit = c.limit.result; above = false } in
+    let added : NameTable = record { set = c.with_hasher.result; limit = c.limit.result; above = false } in
     let count = c.loop-table.invariant.count in
     record {
       count = ap length c.in_ok-push.ensures.items ∙ length_push so_far added ∙ ap (λ n. n + 1) count;
       empty = λ i k at. each_pushed IsEmptyAt so_far added c.loop-table.invariant.empty
-          (c.limit.ensures ∙ ap (λ n. limit_of (get_or tables_in_order n Events)) (sym count), refl, c.new.ensures.empty) i k (subst (λ ts. slice_get ts i ≡ Some k) c.in_ok-push.ensures.items at);
+          (c.limit.ensures ∙ ap (λ n. limit_of (get_or tables_in_order n Events)) (sym count), refl, c.with_hasher.ensures.empty) i k (subst (λ ts. slice_get ts i ≡ Some k) c.in_ok-push.ensures.items at);
     }
 
 pub returns : goal.returns

@@ -1,4 +1,4 @@
-use Rattle.std.proofs.Common.{length, ◌++◌, refl, sym, ◌∙◌, ap, subst, take}
+use Rattle.std.proofs.Common.{length, ◌++◌, sym, ◌∙◌, ap, subst, take}
 use Rattle.std.specs.Option.{option_map}
 use Rattle.std.proofs.lemmas.List.{append-nil, take_all, length-set}
 use Rattle.mpf_plan.specs.Inside.{parts_text, named_view, contributions_view}

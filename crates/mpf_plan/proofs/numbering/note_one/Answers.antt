@@ -1,4 +1,4 @@
-use Rattle.std.proofs.Common.{ℕ, List, refl, sym, ◌∙◌, ap, subst}
+use Rattle.std.proofs.Common.{refl, sym, ◌∙◌, ap, subst}
 use Rattle.std.specs.Option.{option_map}
 use Rattle.mpf_plan.specs.Inside.{parts_text, named_view, contribution_view}
 use Rattle.mpf_plan.specs.Numbering.{with_name, HasNames}
