@@ -1,7 +1,7 @@
 -- What is written of a text has no byte that could end a line.
 use Rattle.std.proofs.Common.{◌≡◌, ◌≢◌, ℕ, ◌+◌, ◌/◌, ◌%◌, ◌<◌, ◌≤◌, eqb, ltb, Bool, true, false, List, [], ◌∷◌, refl, sym, ◌∙◌, true≢false, arith}
 use Rattle.std.specs.List.{All, flat_map}
-use Rattle.std.proofs.lemmas.Bool.{ltb-true, ltb-false, le-ltb, eqb-true, ne_eqb, or_from}
+use Rattle.std.proofs.lemmas.Bool.{ltb-true, le-ltb, eqb-true, ne_eqb, or_from}
 use Rattle.std.proofs.lemmas.List.Elements.{All-nil, All-cons, All-append}
 use Rattle.mpf_config.specs.Escaped.{is_control, hex_digit, escaped_byte, escaped}
 
