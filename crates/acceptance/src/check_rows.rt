@@ -140,3 +140,33 @@ fn bad_item_of_a_switch(rt: HostRuntime) -> Result<(), Fail> {
         b"error 6 BadValue config/config.yaml 4 tags\nno\n",
     )
 }
+
+#[test]
+fn line_feed_in_a_key(rt: HostRuntime) -> Result<(), Fail> {
+    assert_checks(
+        &rt,
+        b"@ config/config.yaml\n#config_version=6\nswitches:\n  s:\n    \"a\\nyes\": b\n",
+        Verdict::Refused,
+        b"error 5 UnknownSetting config/config.yaml 4 a\\x0ayes\nno\n",
+    )
+}
+
+#[test]
+fn escape_in_the_name_of_a_text(rt: HostRuntime) -> Result<(), Fail> {
+    assert_checks(
+        &rt,
+        b"@ config/config.yaml\n#config_version=6\n@ c\x1b[A\x7f\n@ c\x1b[A\x7f\n",
+        Verdict::Refused,
+        b"error 8 Duplicate c\\x1b[A\\x7f 1 -\nno\n",
+    )
+}
+
+#[test]
+fn escape_in_a_note(rt: HostRuntime) -> Result<(), Fail> {
+    assert_checks(
+        &rt,
+        b"@ config/config.yaml\n#config_version=6\nevent_player:\n  a: a\n@ c\x1b[A\x7f\n",
+        Verdict::Refused,
+        b"note c\\x1b[A\\x7f 0 unlisted c\\x1b[A\\x7f\nfault 8 Cycle a\nno\n",
+    )
+}

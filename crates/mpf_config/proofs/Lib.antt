@@ -1,4 +1,5 @@
 pub mod Writing
+pub mod InLine
 pub mod EachRead
 pub mod Pairs
 pub mod Kept

@@ -1,5 +1,5 @@
 -- Every name in the rows of a bundle is one.
-use Rattle.std.proofs.Common.{◌≡◌, ◌≢◌, ℕ, zero, suc, Bool, true, false, if◌then◌else◌, List, [], ◌∷◌, map, Option, Some, None, slice_get, Ok, refl, sym, ap, ◌∙◌, true≢false, codes}
+use Rattle.std.proofs.Common.{◌≡◌, ◌≢◌, ℕ, zero, suc, true, false, List, [], ◌∷◌, Option, Some, None, slice_get, Ok, refl, sym, ap, ◌∙◌, true≢false}
 use Rattle.std.specs.List.{All, AllByRecursion}
 use Rattle.std.specs.Str.{bytes_eq}
 use Rattle.std.proofs.lemmas.List.Elements.{All-nil, All-map, All-weaker, All-from_recursion}
@@ -13,7 +13,7 @@ use Rattle.section_tables.specs.SectionTables.{switches_name, event_player_name}
 use Rattle.section_tables.proofs.RowNames.{entries_named, players_named}
 use Rattle.section_tables.proofs.TableNames.{table_named, kinds_named}
 use Rattle.mpf_config.specs.Rows.{Written, Content, entries, players, SectionRows, Rows}
-use Rattle.mpf_config.specs.Typed.{names_of, posts_of, event_name, switch_of, event_player_of, entries_in, players_in, entries_of, players_of, switches_in, event_players_in}
+use Rattle.mpf_config.specs.Typed.{listed_names, listed_posts, event_name, switch_of, event_player_of, entries_in, players_in, entries_of, players_of, switches_in, event_players_in}
 use Rattle.mpf_config.specs.Unread.{read_of}
 use Rattle.mpf_config.specs.RowsOf.{IsContent, IsSection}
 use Rattle.mpf_config.specs.Named.{AllNames, IsNamedSwitch, IsNamedPlayer, IsNamedContent, IsNamed}
@@ -45,7 +45,7 @@ value_at_named (v ∷ vs) (suc i) h = value_at_named vs i h.1
 abbrev is_name : Written → Type 0
 is_name w = IsName w.text
 
-names_named : (o : Option Value) → IsNamedOption o → AllNames (names_of o)
+names_named : (o : Option Value) → IsNamedOption o → AllNames (listed_names o)
 names_named None h = All-nil is_name
 names_named (Some (one x)) h = All-nil is_name
 names_named (Some (names xs)) h = All-from_recursion is_name xs h
@@ -55,7 +55,7 @@ names_named (Some (steps xs)) h = All-nil is_name
 names_named (Some (maps xs)) h = All-nil is_name
 names_named (Some (keyed xs)) h = All-nil is_name
 
-posts_named : (o : Option Value) → IsNamedOption o → AllNames (posts_of o)
+posts_named : (o : Option Value) → IsNamedOption o → AllNames (listed_posts o)
 posts_named None h = All-nil is_name
 posts_named (Some (one x)) h = All-nil is_name
 posts_named (Some (names xs)) h = All-nil is_name

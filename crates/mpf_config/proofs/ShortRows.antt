@@ -1,5 +1,5 @@
 -- No list in the rows of a bundle has more than 1,024 items.
-use Rattle.std.proofs.Common.{◌≡◌, ℕ, zero, suc, ◌≤◌, Bool, true, false, List, [], ◌∷◌, length, map, Option, Some, None, slice_get, Ok, arith}
+use Rattle.std.proofs.Common.{◌≡◌, ℕ, zero, suc, ◌≤◌, List, [], ◌∷◌, length, Option, Some, None, slice_get, Ok, arith}
 use Rattle.std.specs.List.{All}
 use Rattle.std.specs.Str.{bytes_eq}
 use Rattle.std.proofs.lemmas.List.Elements.{All-nil, All-head, All-tail, All-map, All-weaker}
@@ -10,7 +10,7 @@ use Rattle.section_tables.specs.SectionTables.{switches_name, event_player_name}
 use Rattle.section_tables.proofs.RowNames.{entries_short, players_short}
 use Rattle.section_tables.proofs.TableNames.{table_short}
 use Rattle.mpf_config.specs.Rows.{Content, entries, players, SectionRows, Rows}
-use Rattle.mpf_config.specs.Typed.{names_of, posts_of, switch_of, event_player_of, entries_in, players_in, entries_of, players_of, switches_in, event_players_in}
+use Rattle.mpf_config.specs.Typed.{listed_names, listed_posts, switch_of, event_player_of, entries_in, players_in, entries_of, players_of, switches_in, event_players_in}
 use Rattle.mpf_config.specs.Unread.{read_of}
 use Rattle.mpf_config.specs.RowsOf.{IsContent, IsSection}
 use Rattle.mpf_config.specs.Short.{IsShortContent, IsShortSection, AreListsShort, IsShortSwitch, IsShortEventPlayer}
@@ -48,7 +48,7 @@ value_at_short (v ∷ vs) (suc i) h = value_at_short vs i (All-tail (IsShortValu
 none_short : 0 ≤ 1024
 none_short = omega arith
 
-names_short : (o : Option Value) → IsShortOption o → length (names_of o) ≤ 1024
+names_short : (o : Option Value) → IsShortOption o → length (listed_names o) ≤ 1024
 names_short None h = none_short
 names_short (Some (one x)) h = none_short
 names_short (Some (names xs)) h = h.0
@@ -58,7 +58,7 @@ names_short (Some (steps xs)) h = none_short
 names_short (Some (maps xs)) h = none_short
 names_short (Some (keyed xs)) h = none_short
 
-posts_short : (o : Option Value) → IsShortOption o → length (posts_of o) ≤ 1024
+posts_short : (o : Option Value) → IsShortOption o → length (listed_posts o) ≤ 1024
 posts_short None h = none_short
 posts_short (Some (one x)) h = none_short
 posts_short (Some (names xs)) h = none_short

@@ -1,9 +1,13 @@
 -- The line of a fault, as it is written piece by piece.
-use Rattle.std.proofs.Common.{◌≡◌, ℕ, List, [], ◌∷◌, ◌++◌, Option, Some, None, Result, Ok, Err, OnOk, ap, ◌∙◌, append_assoc, codes}
+use Rattle.std.proofs.Common.{◌≡◌, ℕ, ◌+◌, ◌<◌, ◌≤◌, List, [], ◌∷◌, ◌++◌, length, take, get_or, Option, Some, None, Result, Ok, Err, OnOk, sym, ap, subst, ◌∙◌, append_assoc, append-nil, codes}
+use Rattle.std.specs.List.{flat_map}
+use Rattle.std.proofs.lemmas.List.{take_more, take_all}
+use Rattle.std.proofs.lemmas.Grind.{flat_map-append}
 use Rattle.std.specs.Fmt.{decimal}
 use Rattle.std.specs.Io.KnownBytes.{Appends}
 use Rattle.mpf_config.specs.Rows.{RowsFault}
 use Rattle.section_tables.specs.FaultNames.{number_of, kind_name}
+use Rattle.mpf_config.specs.Escaped.{escaped_byte, escaped}
 use Rattle.mpf_config.specs.FaultLine.{spaced, fault_line}
 
 -- x and then y
@@ -32,13 +36,31 @@ pieces number name text line key = simp append_assoc
 
 pub written : {T E : Type 0} (r : Result T E) (f : RowsFault) (number : ℕ) (name : List ℕ) (w0 w1 w2 w3 w4 w5 : Option (List ℕ))
     → number ≡ number_of f.kind → name ≡ kind_name f.kind
-    → Appends w0 w1 (front (decimal number) name) → Appends w1 w2 f.text → Appends w2 w3 (between (decimal f.line)) → Appends w3 w4 f.key
+    → Appends w0 w1 (front (decimal number) name) → Appends w1 w2 (escaped f.text) → Appends w2 w3 (between (decimal f.line)) → Appends w3 w4 (escaped f.key)
     → OnOk r (Appends w4 w5 (10 ∷ [])) → OnOk r (Appends w0 w5 (fault_line f))
 written r f number name w0 w1 w2 w3 w4 w5 n k a b c d e =
+    let text = escaped f.text in
+    let key = escaped f.key in
     let x1 = front (decimal number) name in
-    let x2 = x1 ++ f.text in
+    let x2 = x1 ++ text in
     let x3 = x2 ++ between (decimal f.line) in
-    let line : (x3 ++ f.key) ++ 10 ∷ [] ≡ fault_line f = rw (← n, ← k) (pieces (decimal number) name f.text (decimal f.line) f.key) in
-    let one = joins w0 w1 w2 x1 f.text a b in
+    let line : (x3 ++ key) ++ 10 ∷ [] ≡ fault_line f = rw (← n, ← k) (pieces (decimal number) name text (decimal f.line) key) in
+    let one = joins w0 w1 w2 x1 text a b in
     let two = joins w0 w2 w3 x2 (between (decimal f.line)) one c in
-    ends r w0 w4 w5 (x3 ++ f.key) (10 ∷ []) (fault_line f) line (joins w0 w3 w4 x3 f.key two d) e
+    ends r w0 w4 w5 (x3 ++ key) (10 ∷ []) (fault_line f) line (joins w0 w3 w4 x3 key two d) e
+
+-- ---- byte by byte
+
+-- the bytes so far, and one more
+pub escaped_more : (text : List ℕ) (i : ℕ) (a b c : Option (List ℕ)) → i < length text
+    → Appends a b (flat_map escaped_byte (take i text)) → Appends b c (escaped_byte (get_or text i 0)) → Appends a c (flat_map escaped_byte (take (i + 1) text))
+escaped_more text i a b c within h k =
+    let last = escaped_byte (get_or text i 0) in
+    let more : flat_map escaped_byte (take (i + 1) text) ≡ flat_map escaped_byte (take i text) ++ last =
+    ap (flat_map escaped_byte) (take_more text i 0 within) ∙ flat_map-append escaped_byte (take i text) (get_or text i 0 ∷ [])
+    ∙ ap (λ (bs : List ℕ). flat_map escaped_byte (take i text) ++ bs) (append-nil last) in
+    subst (Appends a c) (sym more) (joins a b c (flat_map escaped_byte (take i text)) last h k)
+
+pub escaped_all : (text : List ℕ) (i : ℕ) (a b : Option (List ℕ)) → length text ≤ i → Appends a b (flat_map escaped_byte (take i text)) → Appends a b (escaped text)
+unfolding escaped
+escaped_all text i a b whole h = subst (λ (bs : List ℕ). Appends a b (flat_map escaped_byte bs)) (take_all i text whole) h

@@ -5,6 +5,7 @@ use Rattle.yaml_subset.specs.declared.fault.FaultKind as yaml
 use Rattle.yaml_subset.specs.declared.fault.FaultKind.TheVariants as yaml_kinds
 use Rattle.section_tables.specs.FaultNames.{number_of, kind_name}
 use Rattle.mpf_config.specs.Rows.{RowsFault}
+use Rattle.mpf_config.specs.Escaped.{escaped}
 
 -- the name of a kind of the YAML reader, which is the key of such a fault
 abbrev pub yaml_kind_name : yaml.FaultKind → List ℕ
@@ -22,8 +23,8 @@ yaml_kind_name yaml_kinds.TooLong = codes "TooLong"
 abbrev pub spaced : List ℕ → List ℕ
 spaced word = 32 ∷ word
 
--- `error NUMBER NAME TEXT LINE KEY`, and LF
+-- `error NUMBER NAME TEXT LINE KEY`, and LF; no text or key makes a line of its own
 abbrev pub fault_line : RowsFault → List ℕ
 fault_line f =
     codes "error" ++ spaced (decimal (number_of f.kind)) ++ spaced (kind_name f.kind)
-    ++ spaced f.text ++ spaced (decimal f.line) ++ spaced f.key ++ 10 ∷ []
+    ++ spaced (escaped f.text) ++ spaced (decimal f.line) ++ spaced (escaped f.key) ++ 10 ∷ []

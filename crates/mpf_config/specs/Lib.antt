@@ -9,5 +9,6 @@ pub mod Reading
 pub mod SectionView
 pub mod View
 pub mod Inside
+pub mod Escaped
 pub mod FaultLine
 pub mod NoteLine

@@ -3,6 +3,7 @@ use Rattle.std.specs.Prelude.{ℕ, List, [], ◌∷◌, ◌++◌, codes}
 use Rattle.std.specs.Fmt.{decimal}
 use Rattle.mpf_config.specs.declared.config.NoteKind.{NoteKind}
 use Rattle.mpf_config.specs.declared.config.NoteKind.TheVariants.{Skipped, Unlisted}
+use Rattle.mpf_config.specs.Escaped.{escaped}
 use Rattle.mpf_config.specs.FaultLine.{spaced}
 use Rattle.mpf_config.specs.Rows.{Note}
 
@@ -11,6 +12,6 @@ abbrev pub note_word : NoteKind → List ℕ
 note_word Skipped = codes "skipped"
 note_word Unlisted = codes "unlisted"
 
--- `note TEXT LINE WORD NAME`, and LF
+-- `note TEXT LINE WORD NAME`, and LF; no text or name makes a line of its own
 abbrev pub note_line : Note → List ℕ
-note_line n = codes "note" ++ spaced n.text ++ spaced (decimal n.line) ++ spaced (note_word n.kind) ++ spaced n.name ++ 10 ∷ []
+note_line n = codes "note" ++ spaced (escaped n.text) ++ spaced (decimal n.line) ++ spaced (note_word n.kind) ++ spaced (escaped n.name) ++ 10 ∷ []

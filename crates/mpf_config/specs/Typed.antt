@@ -24,13 +24,13 @@ setting_of table key row = value_in (found_in setting_key key table) row
 
 -- values of the kinds that their tables say; the last line of each is for rows that no table gives
 
-abbrev pub names_of : Option Value → List Written
-names_of (Some (names xs)) = xs
-names_of _ = []
+abbrev pub listed_names : Option Value → List Written
+listed_names (Some (names xs)) = xs
+listed_names _ = []
 
-abbrev pub posts_of : Option Value → List Written
-posts_of (Some (posts xs)) = xs
-posts_of _ = []
+abbrev pub listed_posts : Option Value → List Written
+listed_posts (Some (posts xs)) = xs
+listed_posts _ = []
 
 abbrev pub word_of : Option Value → List ℕ
 word_of (Some (one (word w))) = w
@@ -57,15 +57,15 @@ switch_of e = record {
   name = e.name;
   contact = contact_of (word_of (setting_of tables.switches (codes "type") e.values));
   debounce = debounce_of (word_of (setting_of tables.switches (codes "debounce") e.values));
-  tags = names_of (setting_of tables.switches (codes "tags") e.values);
-  activated = posts_of (setting_of tables.switches (codes "events_when_activated") e.values);
-  deactivated = posts_of (setting_of tables.switches (codes "events_when_deactivated") e.values);
+  tags = listed_names (setting_of tables.switches (codes "tags") e.values);
+  activated = listed_posts (setting_of tables.switches (codes "events_when_activated") e.values);
+  deactivated = listed_posts (setting_of tables.switches (codes "events_when_deactivated") e.values);
 }
 
 -- ---- `event_player`
 
 unfoldable pub event_player_of : Player → EventPlayer
-event_player_of p = record { event = event_name p.event; posts = posts_of (Some p.value) }
+event_player_of p = record { event = event_name p.event; posts = listed_posts (Some p.value) }
 
 -- ---- sections
 

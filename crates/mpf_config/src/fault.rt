@@ -6,10 +6,11 @@ ghost use Rattle.mpf_config.specs.FaultLine.{fault_line};
 ghost use Rattle.mpf_config.specs.View.{fault_view};
 
 pub use section_tables::fault::{ConfigFault, Fault, FaultKind};
+use crate::escape::write_escaped;
 use std::io::{self, Write};
 
-/// Writes the line of a fault, `error NUMBER NAME TEXT LINE KEY`. An error is the writer's; the
-/// line is then cut short somewhere.
+/// Writes the line of a fault, `error NUMBER NAME TEXT LINE KEY`, the text and the key as
+/// [`write_escaped`] does. An error is the writer's; the line is then cut short somewhere.
 pub fn write_fault<W: Write>(fault: &Fault, writer: &mut W) -> io::Result<()>
     ensures { OnOk result (Appends (W.contents writer.old) (W.contents writer.new) (fault_line (fault_view fault.now))) }
 {
@@ -19,8 +20,8 @@ pub fn write_fault<W: Write>(fault: &Fault, writer: &mut W) -> io::Result<()>
         fault.kind.number(),
         fault.kind.name()
     )?;
-    writer.write_all(&fault.text)?;
+    write_escaped(&fault.text, writer)?;
     write!(writer, " {} ", fault.line)?;
-    writer.write_all(&fault.key)?;
+    write_escaped(&fault.key, writer)?;
     writer.write_all(b"\n")
 }

@@ -3,6 +3,7 @@
 
 pub mod bundle;
 pub mod config;
+pub mod escape;
 pub mod fault;
 pub mod notes;
 mod sections;
@@ -13,6 +14,7 @@ mod unread;
 
 pub use bundle::read_bundle;
 pub use config::{Config, Contact, Content, Debounce, MachineText, Note, NoteKind, Section};
+pub use escape::{escaped_makes_no_line, write_escaped};
 pub use fault::{ConfigFault, Fault, FaultKind, write_fault};
 pub use notes::write_note;
 pub use section_tables::rows::{Entry, Fields, Guard, Handler, Keyed, Name, Plain, Player, Value};

@@ -6,6 +6,7 @@ ghost use Rattle.mpf_config.specs.NoteLine.{note_word, note_line};
 ghost use Rattle.mpf_config.specs.View.{note_view};
 
 use crate::config::{Note, NoteKind};
+use crate::escape::write_escaped;
 use std::io::{self, Write};
 
 impl NoteKind {
@@ -20,14 +21,14 @@ impl NoteKind {
     }
 }
 
-/// Writes the line of a note, `note TEXT LINE WORD NAME`. An error is the writer's; the line is
-/// then cut short somewhere.
+/// Writes the line of a note, `note TEXT LINE WORD NAME`, the text and the name as
+/// [`write_escaped`] does. An error is the writer's; the line is then cut short somewhere.
 pub fn write_note<W: Write>(note: &Note, writer: &mut W) -> io::Result<()>
     ensures { OnOk result (Appends (W.contents writer.old) (W.contents writer.new) (note_line (note_view note.now))) }
 {
     writer.write_all(b"note ")?;
-    writer.write_all(&note.text)?;
+    write_escaped(&note.text, writer)?;
     write!(writer, " {} {} ", note.line, note.kind.name())?;
-    writer.write_all(&note.name)?;
+    write_escaped(&note.name, writer)?;
     writer.write_all(b"\n")
 }

@@ -2,7 +2,7 @@
 
 ghost use Rattle.std.specs.Prelude.{◌≡◌, map, slice_get};
 ghost use Rattle.section_tables.specs.View.{name_view, plain_view, value_view, values_view, entry_view, entries_view, player_view, players_view};
-ghost use Rattle.mpf_config.specs.Typed.{names_of, posts_of, word_of, event_name, contact_of, debounce_of, switch_of, event_player_of, entries_in, players_in, entries_of, players_of, switches_in, event_players_in};
+ghost use Rattle.mpf_config.specs.Typed.{listed_names, listed_posts, word_of, event_name, contact_of, debounce_of, switch_of, event_player_of, entries_in, players_in, entries_of, players_of, switches_in, event_players_in};
 ghost use Rattle.mpf_config.specs.View.{content_view, section_view, name_at_view, switch_view, event_player_view};
 
 use crate::config::{Contact, Content, Debounce, Section};
@@ -43,7 +43,7 @@ pub struct EventPlayer<'a> {
 
 // The names at a place of a row; none where there is no list of names.
 fn names(row: &[Value], at: usize) -> &[Name]
-    ensures { map name_view result.now ≡ names_of (slice_get (values_view row.now) at) }
+    ensures { map name_view result.now ≡ listed_names (slice_get (values_view row.now) at) }
 {
     match row.get(at) {
         Some(Value::Names(names)) => names,
@@ -53,7 +53,7 @@ fn names(row: &[Value], at: usize) -> &[Name]
 
 // The posted events that a value is; none where it is no list of them.
 fn posts(value: &Value) -> &[Name]
-    ensures { map name_view result.now ≡ posts_of (Some (value_view value.now)) }
+    ensures { map name_view result.now ≡ listed_posts (Some (value_view value.now)) }
 {
     match value {
         Value::Posts(posts) => posts,
@@ -63,7 +63,7 @@ fn posts(value: &Value) -> &[Name]
 
 // The posted events at a place of a row.
 fn posts_at(row: &[Value], at: usize) -> &[Name]
-    ensures { map name_view result.now ≡ posts_of (slice_get (values_view row.now) at) }
+    ensures { map name_view result.now ≡ listed_posts (slice_get (values_view row.now) at) }
 {
     match row.get(at) {
         Some(value) => posts(value),

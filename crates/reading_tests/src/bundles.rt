@@ -50,6 +50,8 @@ switches:¶  a:¶    debounce:¶      b: c¶ => error 6 BadValue config/config.y
 event_player:¶  a{b==1}: c¶ => error 6 BadValue config/config.yaml 3 a{b==1}¶
 event_player:¶  a:¶    b/c¶ => error 6 BadValue config/config.yaml 3 a¶
 event_player:¶  a:¶    b: c¶ => error 6 BadValue config/config.yaml 3 a¶
+\"a\\nyes\":¶ => error 4 UnknownSection config/config.yaml 2 a\\x0ayes¶
+switches:¶  a:¶    \"b\\n\\tyes\": c¶ => error 5 UnknownSetting config/config.yaml 4 b\\x0a\\x09yes¶
 event_player:¶  a: b{c, d}¶ => error 6 BadValue config/config.yaml 3 a¶
 switches:¶  a:¶event_player:¶  b: c, d/¶ => error 6 BadValue config/config.yaml 5 b¶
 ";
@@ -58,6 +60,7 @@ switches:¶  a:¶event_player:¶  b: c, d/¶ => error 6 BadValue config/config.y
 const NOTES: &str = "\
 @ config/config.yaml¶#config_version=6¶ =>\u{20}
 @  modes/m/config/m.yaml ¶@ ¶#config_version=6¶coils:¶@\tconfig/config.yaml\r¶#config_version=6¶mpf-mc:¶switches:¶  a:¶lights: b¶@ c d => note config/config.yaml 2 skipped mpf-mc¶note config/config.yaml 5 skipped lights¶note modes/m/config/m.yaml 0 unlisted modes/m/config/m.yaml¶note  0 unlisted ¶note c d 0 unlisted c d¶
+@ config/config.yaml¶#config_version=6¶@ a\u{1b}[2J\u{1f}\u{7f} \u{80}¶ => note a\\x1b[2J\\x1f\\x7f \u{80} 0 unlisted a\\x1b[2J\\x1f\\x7f \u{80}¶
 ";
 
 // The rows of the machine text with these lines behind its version line.

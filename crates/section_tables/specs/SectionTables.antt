@@ -38,10 +38,23 @@ switches_name = codes "switches"
 abbrev pub event_player_name : List ℕ
 event_player_name = codes "event_player"
 
+-- the sections that have entries, each with its table
+abbrev pub entry_tables : List (List ℕ × List Setting)
+entry_tables = (switches_name, switches) ∷ []
+
+-- the players, each with the kinds of its keys and values
+abbrev pub player_tables : List (List ℕ × PlayerKinds)
+player_tables = (event_player_name, event_player) ∷ []
+
+-- what belongs to a name
+abbrev pub named_in : {A : Type 0} → List ℕ → List (List ℕ × A) → Option A
+named_in section [] = None
+named_in section (t ∷ ts) = if bytes_eq section t.0 then Some t.1 else named_in section ts
+
 -- the table of the entries of a section
 abbrev pub table_of : List ℕ → Option (List Setting)
-table_of section = if bytes_eq section switches_name then Some switches else None
+table_of section = named_in section entry_tables
 
 -- the kinds of a player's keys and values
 abbrev pub player_of : List ℕ → Option PlayerKinds
-player_of section = if bytes_eq section event_player_name then Some event_player else None
+player_of section = named_in section player_tables

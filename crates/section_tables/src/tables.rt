@@ -1,9 +1,11 @@
 //! The tables of the sections: what settings each has. The order decides which of several missing
 //! settings is reported.
 
-ghost use Rattle.std.specs.Prelude.{◌≡◌};
+ghost use Rattle.std.specs.Prelude.{◌≡◌, ℕ, List, Some};
 ghost use Rattle.yaml_subset.specs.View.{option_slice};
+ghost use Rattle.section_tables.specs.Kinds.{Setting as TableLine, PlayerKinds as PlayerTable};
 ghost use Rattle.section_tables.specs.SectionTables.{table_of, player_of};
+ghost use Rattle.section_tables.specs.TableRules.{IsTable, ArePlayerKinds};
 ghost use Rattle.section_tables.specs.Reading.{give};
 ghost use Rattle.section_tables.specs.TableView.{table_view, player_kinds_view};
 
@@ -73,3 +75,12 @@ pub fn player_of(section: &[u8]) -> Option<PlayerKinds>
     }
     None
 }
+
+/// The law of tables: no table has a key twice, each default is of the kind of its setting, and the
+/// place of a short form is within its table.
+///
+/// It does nothing: its contract is the law, over the tables of all sections.
+pub fn tables_are_right()
+    ensures entries { (section : List ℕ) (table : List TableLine) → table_of section ≡ Some table → IsTable table }
+    ensures players { (section : List ℕ) (kinds : PlayerTable) → player_of section ≡ Some kinds → ArePlayerKinds kinds }
+{}

@@ -1,0 +1,53 @@
+//! How names and keys are printed: no byte of theirs makes a line of the output.
+
+ghost use Rattle.std.specs.Prelude.{◌≡◌, ◌<◌, ℕ, List, false, OnOk};
+ghost use Rattle.std.specs.List.{All};
+ghost use Rattle.std.specs.Io.KnownBytes.{Appends};
+ghost use Rattle.mpf_config.specs.Escaped.{is_control, hex_digit, escaped_byte, escaped};
+
+use std::io::{self, Write};
+
+/// Writes a text. A byte below 32, or 127, is written as `\x` and two hexadecimal digits, in lower
+/// case. An error is the writer's; the text is then cut short somewhere.
+pub fn write_escaped<W: Write>(text: &[u8], writer: &mut W) -> io::Result<()>
+    ensures { OnOk result (Appends (W.contents writer.old) (W.contents writer.new) (escaped text.now)) }
+{
+    for byte in text {
+        write_byte(*byte, writer)?;
+    }
+    Ok(())
+}
+
+/// The law of what is written: no byte of it is below 32, or 127. So the text of a bundle makes no
+/// line of the output.
+///
+/// It does nothing: its contract is the law, over all texts.
+pub fn escaped_makes_no_line()
+    ensures { (text : List ℕ) → All (λ b. is_control b ≡ false) (escaped text) }
+{}
+
+fn write_byte<W: Write>(byte: u8, writer: &mut W) -> io::Result<()>
+    ensures { OnOk result (Appends (W.contents writer.old) (W.contents writer.new) (escaped_byte byte)) }
+{
+    if is_control(byte) {
+        let escape = [b'\\', b'x', hex_digit(byte / 16), hex_digit(byte % 16)];
+        return writer.write_all(&escape);
+    }
+    writer.write_all(&[byte])
+}
+
+fn is_control(byte: u8) -> bool
+    ensures { result ≡ is_control byte }
+{
+    byte < 32 || byte == 127
+}
+
+fn hex_digit(n: u8) -> u8
+    requires { n < 16 }
+    ensures { result ≡ hex_digit n }
+{
+    if n < 10 {
+        return b'0' + n;
+    }
+    b'a' + (n - 10)
+}

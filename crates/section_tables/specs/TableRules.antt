@@ -1,0 +1,69 @@
+-- What a table has to say so that it means what it says: no key twice, each default of the kind of its line, and the place of a short form within its table.
+use Rattle.std.specs.Prelude.{◌≡◌, ℕ, nat_le, nat_lt, Bool, true, false, not, ◌&&◌, List, [], ◌∷◌, length, map}
+use Rattle.std.specs.List.{list_any, list_all}
+use Rattle.std.specs.Str.{bytes_eq}
+use Rattle.mpf_values.specs.Reading.{is_name}
+use Rattle.section_tables.specs.Rows.{Plain, nothing, flag, number, time, power, word, name, event, Value, one, names, posts, events, maps}
+use Rattle.section_tables.specs.Kinds.{Scalar, a_flag, number_within, time_within, a_power, one_of, a_name, an_event, Absent, required, default, Field, Kind, single, name_list, post_list, event_list, map_list, keyed_maps, Setting, PlayerKinds}
+use Rattle.section_tables.specs.Tables.{field_key, setting_key}
+use Rattle.section_tables.specs.EntryOf.{within}
+
+-- no key stands twice
+abbrev pub are_apart : List (List ℕ) → Bool
+are_apart [] = true
+are_apart (k ∷ ks) = not (list_any (λ other. bytes_eq other k) ks) && are_apart ks
+
+-- ---- defaults
+
+-- a text, or nothing
+abbrev pub is_plain_of : Scalar → Plain → Bool
+is_plain_of kind nothing = true
+is_plain_of a_flag (flag b) = true
+is_plain_of (number_within least greatest) (number n) = within least greatest n
+is_plain_of (time_within least greatest) (time ms) = nat_le least ms && nat_le ms greatest
+is_plain_of a_power (power n) = nat_le n 1000
+is_plain_of (one_of words) (word w) = list_any (λ x. bytes_eq x w) words
+is_plain_of a_name (name w) = is_name w.text
+is_plain_of an_event (event h) = is_name h.event.name
+is_plain_of _ _ = false
+
+-- a text, no items, or one event
+abbrev pub is_value_of : Kind → Value → Bool
+is_value_of (single kind) (one x) = is_plain_of kind x
+is_value_of (name_list bounds) (names []) = true
+is_value_of (post_list bounds) (posts []) = true
+is_value_of (event_list bounds) (events []) = true
+is_value_of (event_list bounds) (events (h ∷ [])) = is_name h.event.name
+is_value_of (map_list table others bounds) (maps []) = true
+is_value_of _ _ = false
+
+abbrev pub is_plain_default : Scalar → Absent Plain → Bool
+is_plain_default kind required = true
+is_plain_default kind (default x) = is_plain_of kind x
+
+abbrev pub is_value_default : Kind → Absent Value → Bool
+is_value_default kind required = true
+is_value_default kind (default v) = is_value_of kind v
+
+-- ---- tables
+
+abbrev pub are_fields : List Field → Bool
+are_fields table = are_apart (map field_key table) && list_all (λ f. is_plain_default f.kind f.absent) table
+
+-- the table of a kind's maps
+abbrev pub has_fields : Kind → Bool
+has_fields (map_list table others bounds) = are_fields table
+has_fields (keyed_maps table place short) = are_fields table && nat_lt place (length table)
+has_fields _ = true
+
+abbrev pub IsTable : List Setting → Type 0
+IsTable table = (are_apart (map setting_key table) && list_all (λ s. is_value_default s.kind s.absent && has_fields s.kind) table) ≡ true
+
+-- the keys of a player are events
+abbrev pub is_event_kind : Scalar → Bool
+is_event_kind a_name = true
+is_event_kind an_event = true
+is_event_kind _ = false
+
+abbrev pub ArePlayerKinds : PlayerKinds → Type 0
+ArePlayerKinds kinds = (is_event_kind kinds.key && has_fields kinds.value) ≡ true
