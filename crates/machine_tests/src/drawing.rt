@@ -1,176 +1,148 @@
-//! Small configurations, drawn at random.
+//! Small machine texts, drawn at random.
 
-use crate::rows::{
-    PlayerRow, SwitchRow, config_of, name, player_section, switch_row, switch_section,
-};
-use mpf_config::Name;
-use mpf_config::config::{Config, Section};
 use std::alloc::{AllocError, Global};
 
-/// Numbers that look random and are the same in each run.
-#[derive(Drop)]
-pub struct Draws {
-    state: u64,
+/// A number below the limit. Numbers look random, and are the same in each run.
+fn draw(state: &mut u64, limit: usize) -> usize {
+    *state = state
+        .wrapping_mul(6_364_136_223_846_793_005)
+        .wrapping_add(1_442_695_040_888_963_407);
+    let number = (*state >> 33) as usize;
+    number.checked_rem(limit).unwrap_or(0)
 }
 
-impl Draws {
-    pub fn new() -> Draws {
-        Draws { state: 1 }
-    }
-
-    fn next(&mut self) -> usize {
-        self.state = self
-            .state
-            .wrapping_mul(6_364_136_223_846_793_005)
-            .wrapping_add(1_442_695_040_888_963_407);
-        (self.state >> 33) as usize
-    }
-
-    /// A number below the limit.
-    fn below(&mut self, limit: usize) -> usize {
-        self.next().checked_rem(limit).unwrap_or(0)
-    }
-}
-
-/// The events that a row can name: those of the second switch, of the first, and those of no switch.
+/// The events that a text can name: those of the second switch, of the first, and of no switch.
 const NAMES: &str = "y_active y_inactive x_active x_inactive a b c d e f g h";
 
-/// What the rows of a configuration are drawn from.
+/// What a text is drawn from.
 #[derive(Clone, Copy)]
 struct Shape {
-    switches: usize,
     /// The places of the names that are used: from this one ..
     first: usize,
-    /// .. to the one before this.
-    last: usize,
+    /// .. on, so many.
+    count: usize,
     /// How many places a post goes on at most.
     reach: usize,
     /// Of 32 posts so many go anywhere.
     anywhere: usize,
-    /// Whether the events have entries in turn, each of three or four posts, so that weights are great.
-    dense: bool,
+    /// How many posts an entry has at least.
+    fewest: usize,
 }
 
 /// One to eight events, half of the time with a switch or two. Posts that only go on make no cycle.
-fn draw_shape(draws: &mut Draws) -> Shape {
-    let switches = draws.below(4).saturating_sub(1).min(2);
-    let (reach, anywhere) = match draws.below(4) {
+fn draw_shape(state: &mut u64) -> Shape {
+    let (reach, anywhere) = match draw(state, 4) {
         0 => (1, 0),
         1 => (3, 0),
         2 => (2, 2),
         _ => (4, 32),
     };
+    let first = [0, 2, 4, 4][draw(state, 4) & 3];
+    let last = draw(state, 8).max(draw(state, 8)).saturating_add(5);
     Shape {
-        switches,
-        first: 4usize.saturating_sub(switches.saturating_mul(2)),
-        last: draws.below(8).max(draws.below(8)).saturating_add(5),
+        first,
+        count: last.saturating_sub(first),
         reach,
         anywhere,
-        dense: draws.below(3) == 0,
+        fewest: [0, 0, 4, 4][draw(state, 4) & 3],
     }
 }
 
-/// The place of a name, from any number.
-fn place_of(shape: Shape, number: usize) -> usize {
-    number
-        .checked_rem(shape.last.saturating_sub(shape.first))
-        .unwrap_or(0)
-        .saturating_add(shape.first)
+fn add_name(out: &mut String, place: usize) -> Result<(), AllocError> {
+    out.push_str(NAMES.split_whitespace().nth(place).unwrap_or("none"))
 }
 
 /// One post of the event, unless it goes past the last name.
-fn draw_post(draws: &mut Draws, shape: Shape, from: usize) -> Option<usize> {
-    if draws.below(32) < shape.anywhere {
-        return Some(place_of(shape, draws.next()));
-    }
-    let post = draws
-        .below(shape.reach)
-        .saturating_add(from)
-        .saturating_add(1);
-    if post < shape.last { Some(post) } else { None }
-}
-
-fn name_at(alloc: Global, place: usize) -> Result<Name, AllocError> {
-    let text = NAMES.split_whitespace().nth(place);
-    name(alloc, text.unwrap_or("none"))
-}
-
-/// What the event posts: at most so many.
-fn draw_posts(
-    alloc: Global,
-    draws: &mut Draws,
+fn add_post(
+    out: &mut String,
+    state: &mut u64,
     shape: Shape,
     from: usize,
-    count: usize,
-) -> Result<Vec<Name>, AllocError> {
-    let mut posts = Vec::new(alloc);
-    for _ in 0..count {
-        if let Some(post) = draw_post(draws, shape, from) {
-            posts.push(name_at(alloc, post)?)?;
-        }
+) -> Result<(), AllocError> {
+    out.push(' ')?;
+    if draw(state, 32) < shape.anywhere {
+        return add_name(out, draw(state, shape.count).saturating_add(shape.first));
     }
-    Ok(posts)
+    let post = draw(state, shape.reach)
+        .saturating_add(from)
+        .saturating_add(1);
+    if post < shape.first.saturating_add(shape.count) {
+        add_name(out, post)?;
+    }
+    Ok(())
 }
 
-fn draw_player(
-    alloc: Global,
-    draws: &mut Draws,
+/// What an event posts: up to four posts, and no fewer than the shape says.
+fn add_posts(
+    out: &mut String,
+    state: &mut u64,
     shape: Shape,
-    before: usize,
-) -> Result<PlayerRow, AllocError> {
-    let drawn = draws.next();
-    let from = place_of(shape, if shape.dense { before } else { drawn });
-    let count = draws.below(5).max(if shape.dense { 3 } else { 0 });
-    Ok(PlayerRow {
-        event: name_at(alloc, from)?,
-        posts: draw_posts(alloc, draws, shape, from, count)?,
-    })
-}
-
-fn draw_players(alloc: Global, draws: &mut Draws, shape: Shape) -> Result<Section, AllocError> {
-    let mut rows = Vec::new(alloc);
-    let fewest = if shape.dense { 10 } else { 0 };
-    for before in 0..draws.below(15).max(fewest) {
-        rows.push(draw_player(alloc, draws, shape, before)?)?;
+    from: usize,
+) -> Result<(), AllocError> {
+    for _ in 0..draw(state, 5).max(shape.fewest) {
+        add_post(out, state, shape, from)?;
     }
-    player_section(alloc, rows)
+    Ok(())
 }
 
-fn draw_switch(
-    alloc: Global,
-    draws: &mut Draws,
+/// Entries of events, none twice: up or down, from any of them.
+fn add_players(out: &mut String, state: &mut u64, shape: Shape) -> Result<(), AllocError> {
+    out.push_str("event_player:\n")?;
+    let start = draw(state, shape.count);
+    let step = [1, shape.count.saturating_sub(1)][draw(state, 2) & 1];
+    for number in 0..draw(state, 15)
+        .max(shape.fewest.saturating_mul(3))
+        .min(shape.count)
+    {
+        let place = number.saturating_mul(step).saturating_add(start);
+        let from = place
+            .checked_rem(shape.count)
+            .unwrap_or(0)
+            .saturating_add(shape.first);
+        out.push_str("  ")?;
+        add_name(out, from)?;
+        out.push(':')?;
+        add_posts(out, state, shape, from)?;
+        out.push('\n')?;
+    }
+    Ok(())
+}
+
+/// A switch by its entry, with what it posts first in a comment.
+fn add_switch(
+    out: &mut String,
+    state: &mut u64,
     shape: Shape,
-    text: &str,
-) -> Result<SwitchRow, AllocError> {
-    let activated = draws.below(3);
-    let deactivated = draws.below(3);
-    Ok(SwitchRow {
-        activated: draw_posts(alloc, draws, shape, 3, activated)?,
-        deactivated: draw_posts(alloc, draws, shape, 3, deactivated)?,
-        ..switch_row(alloc, name(alloc, text)?)
-    })
+    name: &str,
+) -> Result<(), AllocError> {
+    write!(out, "  {name}:\n    events_when_activated:")?;
+    add_posts(out, state, shape, 3)?;
+    write!(out, " # {name}_active\n    events_when_deactivated:")?;
+    add_posts(out, state, shape, 3)?;
+    write!(out, " # {name}_inactive\n")
 }
 
-fn draw_switches(alloc: Global, draws: &mut Draws, shape: Shape) -> Result<Section, AllocError> {
-    let mut rows = Vec::new(alloc);
-    for text in ["x", "y"].iter().take(shape.switches) {
-        rows.push(draw_switch(alloc, draws, shape, text)?)?;
+fn add_switches(out: &mut String, state: &mut u64, shape: Shape) -> Result<(), AllocError> {
+    out.push_str("switches:\n")?;
+    if shape.first < 4 {
+        add_switch(out, state, shape, "x")?;
     }
-    switch_section(alloc, rows)
+    if shape.first < 2 {
+        add_switch(out, state, shape, "y")?;
+    }
+    Ok(())
 }
 
 /// Either section can be the first.
-pub fn draw_config(alloc: Global, draws: &mut Draws) -> Result<Config, AllocError> {
-    let shape = draw_shape(draws);
-    let switches = draw_switches(alloc, draws, shape)?;
-    let players = draw_players(alloc, draws, shape)?;
-    let mut sections = Vec::new(alloc);
-    if draws.below(2) == 0 {
-        sections.push(switches)?;
-        sections.push(players)?;
+pub(crate) fn draw_machine(alloc: Global, state: &mut u64) -> Result<String, AllocError> {
+    let shape = draw_shape(state);
+    let mut out = String::new(alloc);
+    if draw(state, 2) == 0 {
+        add_switches(&mut out, state, shape)?;
+        add_players(&mut out, state, shape)?;
     } else {
-        sections.push(players)?;
-        sections.push(switches)?;
+        add_players(&mut out, state, shape)?;
+        add_switches(&mut out, state, shape)?;
     }
-    Ok(config_of(alloc, sections))
+    Ok(out)
 }

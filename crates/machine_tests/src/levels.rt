@@ -1,104 +1,130 @@
 //! Switches of a small plan, as their raw levels change.
 
-ghost use Rattle.std.specs.Prelude.{◌≡◌, ◌<◌, ◌^◌, length, IfOk};
-
-use crate::rows::{SwitchRow, config, name, switch_row};
-use mpf_config::config::{Contact, Debounce};
-use mpf_plan::{Plan, SwitchId, plan};
-use std::alloc::Global;
+use crate::cases::{Subject, assert_cases, numbers_in};
+use mpf_plan::{Plan, SwitchId};
+use std::alloc::{AllocError, Global};
+use std::marker::Model;
 use std::test::Fail;
-use switch_core::{Change, Switches};
+use switch_core::Switches;
 
-/// 0 and 2 are normal, and 1 is quick and normally closed.
-fn plan_of_three(alloc: Global) -> Result<Plan, Fail> {
-    let mut rows = Vec::new(alloc);
-    rows.push(SwitchRow {
-        debounce: Debounce::Normal,
-        ..switch_row(alloc, name(alloc, "a")?)
-    })?;
-    rows.push(SwitchRow {
-        contact: Contact::NormallyClosed,
-        debounce: Debounce::Quick,
-        ..switch_row(alloc, name(alloc, "b")?)
-    })?;
-    rows.push(SwitchRow {
-        debounce: Debounce::Normal,
-        ..switch_row(alloc, name(alloc, "c")?)
-    })?;
-    Ok(plan(alloc, &config(alloc, rows, Vec::new(alloc))?)?)
+/// Three switches.
+#[derive(Drop)]
+struct Three {
+    switches: Switches,
 }
 
-/// The switches of the plan, inactive.
-fn three(alloc: Global) -> Result<Switches, Fail>
-    ensures { IfOk result (λ s. length s.kinds ≡ 3) }
-{
-    let plan = plan_of_three(alloc)?;
+impl Model for Three {
+    ghost use Rattle.std.specs.Prelude.{◌≡◌, length};
+    ghost use Rattle.switch_core.specs.Switches.{SwitchesView};
+
+    ghost Value = { SwitchesView };
+
+    ghost view = { λ t. t.switches };
+
+    ghost invariant = { λ t. length t.switches.kinds ≡ 3 };
+}
+
+impl Three {
+    /// Changes the raw level of a switch.
+    fn change(
+        &mut self,
+        out: &mut String,
+        switch: u16,
+        level: bool,
+        now: u64,
+    ) -> Result<(), AllocError> {
+        if switch >= 3 || now >= 1 << 40 {
+            return out.push_str("no change");
+        }
+        write!(
+            out,
+            "{:?}",
+            self.switches.change(SwitchId(switch), level, now)
+        )
+    }
+
+    /// Accepts what is due next.
+    fn fire(&mut self, out: &mut String) -> Result<(), AllocError> {
+        if self.switches.due().is_none() {
+            return out.push_str("nothing due");
+        }
+        write!(out, "{:?}", self.switches.fire())
+    }
+
+    /// Adds what is due next, and which switches are active.
+    fn add_state(&self, out: &mut String) -> Result<(), AllocError> {
+        let [first, second] = [
+            self.switches.active(SwitchId(0)),
+            self.switches.active(SwitchId(1)),
+        ];
+        let third = self.switches.active(SwitchId(2));
+        write!(out, " {:?} {first} {second} {third}; ", self.switches.due())
+    }
+}
+
+/// Adds what comes of one call: `fire`, or a moment, a switch and its raw level.
+fn call(out: &mut String, three: &mut Three, text: &str) -> Result<(), AllocError> {
+    let [at, switch, level] = numbers_in(text);
+    match u16::try_from(switch) {
+        Ok(number) => three.change(out, number, level == 1, at)?,
+        Err(_) => three.fire(out)?,
+    }
+    three.add_state(out)
+}
+
+fn call_all(out: &mut String, three: &mut Three, calls: &str) -> Result<(), AllocError> {
+    for text in calls.split(',') {
+        call(out, three, text)?;
+    }
+    Ok(())
+}
+
+/// What comes of the calls in turn, each with what is due next and which switches are active.
+pub(crate) fn changed(
+    alloc: Global,
+    out: &mut String,
+    plan: &Plan,
+    calls: &str,
+) -> Result<(), Fail> {
     if plan.switch_count() != 3 {
         return Err("three switches".into());
     }
-    Ok(Switches::new(alloc, &plan)?)
+    let switches = Switches::new(alloc, plan)?;
+    let mut three = Three { switches };
+    Ok(call_all(out, &mut three, calls)?)
 }
 
-/// Changes a switch, which reports nothing.
-fn change_unheard(switches: &mut Switches, switch: SwitchId, level: bool, now: u64) -> bool
-    requires switch { switch.0 < length switches.old.kinds }
-    requires now { now < 2 ^ 40 }
-    ensures { switches.new.kinds ≡ switches.old.kinds }
-{
-    switches.change(switch, level, now).is_none()
-}
-
-/// Whether this is what is due next, accepts it, and whether that is reported.
-fn accept(switches: &mut Switches, moment: u64, switch: SwitchId, active: bool) -> bool
-    ensures { switches.new.kinds ≡ switches.old.kinds }
-{
-    let Some((at, next)) = switches.due() else {
-        return false;
-    };
-    at == moment && next == switch && switches.fire() == Change { switch, active }
-}
-
-#[test]
-fn normal_switch_waits(rt: HostRuntime) -> Result<(), Fail> {
-    let mut switches = three(rt.alloc())?;
-    let switch = SwitchId(0);
-    assert!(rt; change_unheard(&mut switches, switch, true, 100));
-    assert!(rt; !switches.active(switch));
-    assert!(rt; accept(&mut switches, 105, switch, true));
-    assert!(rt; switches.active(switch));
-    assert!(rt; change_unheard(&mut switches, switch, false, 105));
-    assert!(rt; accept(&mut switches, 110, switch, false));
-    // A bounce is forgotten.
-    assert!(rt; change_unheard(&mut switches, switch, true, 200));
-    assert!(rt; change_unheard(&mut switches, switch, false, 203));
-    assert!(rt; switches.due().is_none());
-    Ok(())
-}
+// A bounce is forgotten. The least moment is due first, and of equal ones the lowest number.
+const LEVELS: &str = "\
+switches:
+  a:
+    debounce: normal
+  b:
+    type: NC
+    debounce: quick
+  c:
+    debounce: normal
+?
+100 0 1,fire,105 0 0,fire,200 0 1,203 0 0 => \
+None Some((105, SwitchId(0))) false false false; \
+Change { switch: SwitchId(0), active: true } None true false false; \
+None Some((110, SwitchId(0))) true false false; \
+Change { switch: SwitchId(0), active: false } None false false false; \
+None Some((205, SwitchId(0))) false false false; \
+None None false false false;
+0 1 1,7 1 0 => \
+None None false false false; \
+Some(Change { switch: SwitchId(1), active: true }) None false true false;
+10 2 1,10 0 1,fire,fire,20 2 0,21 0 0,fire => \
+None Some((15, SwitchId(2))) false false false; \
+None Some((15, SwitchId(0))) false false false; \
+Change { switch: SwitchId(0), active: true } Some((15, SwitchId(2))) true false false; \
+Change { switch: SwitchId(2), active: true } None true false true; \
+None Some((25, SwitchId(2))) true false true; \
+None Some((25, SwitchId(2))) true false true; \
+Change { switch: SwitchId(2), active: false } Some((26, SwitchId(0))) true false false;";
 
 #[test]
-fn quick_switch_does_not_wait(rt: HostRuntime) -> Result<(), Fail> {
-    let mut switches = three(rt.alloc())?;
-    let switch = SwitchId(1);
-    assert!(rt; change_unheard(&mut switches, switch, true, 0));
-    let told = Change {
-        switch,
-        active: true,
-    };
-    assert!(rt; switches.change(switch, false, 7) == Some(told));
-    assert!(rt; switches.active(switch) && switches.due().is_none());
-    Ok(())
-}
-
-#[test]
-fn least_moment_and_then_least_number(rt: HostRuntime) -> Result<(), Fail> {
-    let mut switches = three(rt.alloc())?;
-    let [lower, higher] = [SwitchId(0), SwitchId(2)];
-    assert!(rt; change_unheard(&mut switches, higher, true, 10));
-    assert!(rt; change_unheard(&mut switches, lower, true, 10));
-    assert!(rt; accept(&mut switches, 15, lower, true));
-    assert!(rt; accept(&mut switches, 15, higher, true));
-    assert!(rt; change_unheard(&mut switches, higher, false, 20));
-    assert!(rt; change_unheard(&mut switches, lower, false, 21));
-    assert!(rt; accept(&mut switches, 25, higher, false));
-    Ok(())
+fn levels(rt: HostRuntime) -> Result<(), Fail> {
+    assert_cases(&rt, Subject::Levels, LEVELS)
 }

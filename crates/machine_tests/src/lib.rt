@@ -3,29 +3,21 @@
 #![tactic(auto)]
 
 #[cfg(test)]
-mod certificates;
+mod cases;
 #[cfg(test)]
 mod checks;
 #[cfg(test)]
-mod cycles;
-#[cfg(test)]
 mod drawing;
 #[cfg(test)]
-mod graph;
-#[cfg(test)]
 mod levels;
+#[cfg(test)]
+mod oracle;
 #[cfg(test)]
 mod plans;
 #[cfg(test)]
 mod queues;
 #[cfg(test)]
 mod random_plans;
-#[cfg(test)]
-mod rounds;
-#[cfg(test)]
-mod rows;
-#[cfg(test)]
-mod shown;
 #[cfg(test)]
 mod steps;
 #[cfg(test)]

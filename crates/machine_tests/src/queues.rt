@@ -1,80 +1,78 @@
 //! Queues of two sizes, and the handlers of a small plan.
 
-use crate::rows::plan_of;
-use event_queue::{Full, Handlers, Posted, Queue};
-use mpf_plan::{BindingId, EventId, Owner, Plan};
-use std::alloc::Global;
+use crate::cases::{Subject, assert_cases};
+use event_queue::{Handlers, Posted, Queue};
+use mpf_plan::{EventId, Owner, Plan};
+use std::alloc::{AllocError, Global};
 use std::test::Fail;
 
-fn posted(event: u16) -> Posted {
-    Posted {
-        event: EventId(event),
-        owner: Owner::Machine,
+/// Adds the first two handlers of the event of this name, or of an event that no plan has.
+pub(crate) fn handled(
+    alloc: Global,
+    out: &mut String,
+    plan: &Plan,
+    name: &str,
+) -> Result<(), Fail> {
+    let handlers = Handlers::new(alloc, plan)?;
+    let event = plan
+        .find_event(name.as_bytes())
+        .unwrap_or(EventId(u16::MAX));
+    let [first, second] = [handlers.nth(event, 0), handlers.nth(event, 1)];
+    Ok(write!(out, "{first:?} {second:?}")?)
+}
+
+/// Adds what comes of a call: `take`, or the number of an event to be pushed.
+fn call(out: &mut String, queue: &mut Queue, word: &str) -> Result<(), AllocError> {
+    match word.parse::<u16>() {
+        Ok(number) => {
+            let event = EventId(number);
+            let owner = Owner::Machine;
+            write!(out, " {:?};", queue.push(Posted { event, owner }))
+        }
+        Err(_) => write!(out, " {:?};", queue.take()),
     }
 }
 
-#[test]
-fn gives_events_as_they_came(rt: HostRuntime) -> Result<(), Fail> {
-    let mut queue = Queue::new(rt.alloc(), 2)?;
-    assert_eq!(rt; queue.push(posted(1)), Ok(()));
-    assert_eq!(rt; queue.push(posted(2)), Ok(()));
-    assert_eq!(rt; queue.push(posted(3)), Err(Full));
-    assert_eq!(rt; queue.take(), Some(posted(1)));
-    assert_eq!(rt; queue.push(posted(4)), Ok(()));
-    assert_eq!(rt; queue.take(), Some(posted(2)));
-    assert_eq!(rt; queue.take(), Some(posted(4)));
-    assert_eq!(rt; queue.take(), None);
+fn call_all(out: &mut String, queue: &mut Queue, calls: &str) -> Result<(), AllocError> {
+    for word in calls.split_whitespace() {
+        call(out, queue, word)?;
+    }
     Ok(())
 }
 
-#[test]
-fn queue_of_none_is_full(rt: HostRuntime) -> Result<(), Fail> {
-    let mut queue = Queue::new(rt.alloc(), 0)?;
-    assert_eq!(rt; queue.push(posted(1)), Err(Full));
-    assert_eq!(rt; queue.take(), None);
-    Ok(())
+/// Adds what comes of the calls that follow the size of a queue.
+pub(crate) fn queued(alloc: Global, out: &mut String, question: &str) -> Result<(), Fail> {
+    let (size, calls) = question.split_once(": ").ok_or("a size")?;
+    let size = size.parse::<usize>()?;
+    let mut queue = Queue::new(alloc, size)?;
+    Ok(call_all(out, &mut queue, calls)?)
 }
 
-/// Two entries of `a`, with one of `b` between them. None is of `x`, which both events post.
-fn three_entries(alloc: Global) -> Result<Plan, Fail> {
-    plan_of(alloc, "", "a: x\nb: x\na: y")
-}
+const HANDLERS: &str = "\
+event_player:
+  a: x
+  b: x
+?
+a => Some(BindingId(0)) None
+b => Some(BindingId(1)) None
+x => None None
+none => None None";
 
 #[test]
-fn counts_handlers_of_the_event(rt: HostRuntime) -> Result<(), Fail> {
-    let plan = three_entries(rt.alloc())?;
-    let handlers = Handlers::new(rt.alloc(), &plan)?;
-    let a = plan.find_event(b"a").ok_or("a")?;
-    assert_eq!(rt; handlers.nth(a, 0), Some(BindingId(0)));
-    assert_eq!(rt; handlers.nth(a, 1), Some(BindingId(2)));
-    assert_eq!(rt; handlers.nth(a, 2), None);
-    Ok(())
+fn handlers(rt: HostRuntime) -> Result<(), Fail> {
+    assert_cases(&rt, Subject::Handlers, HANDLERS)
 }
 
-#[test]
-fn event_without_handlers(rt: HostRuntime) -> Result<(), Fail> {
-    let plan = three_entries(rt.alloc())?;
-    let handlers = Handlers::new(rt.alloc(), &plan)?;
-    let x = plan.find_event(b"x").ok_or("x")?;
-    assert_eq!(rt; handlers.nth(x, 0), None);
-    Ok(())
-}
+const QUEUES: &str = "\
+?
+2: 1 2 3 take 4 take take take => \
+Ok(()); Ok(()); Err(Full); \
+Some(Posted { event: EventId(1), owner: Machine }); Ok(()); \
+Some(Posted { event: EventId(2), owner: Machine }); \
+Some(Posted { event: EventId(4), owner: Machine }); None;
+0: 1 take => Err(Full); None;";
 
 #[test]
-fn equal_entries_are_two_handlers(rt: HostRuntime) -> Result<(), Fail> {
-    let plan = plan_of(rt.alloc(), "", "b: x\na: x\na: x")?;
-    let handlers = Handlers::new(rt.alloc(), &plan)?;
-    let a = plan.find_event(b"a").ok_or("a")?;
-    assert_eq!(rt; handlers.nth(a, 0), Some(BindingId(1)));
-    assert_eq!(rt; handlers.nth(a, 1), Some(BindingId(2)));
-    assert_eq!(rt; handlers.nth(a, 2), None);
-    Ok(())
-}
-
-#[test]
-fn event_of_no_plan_has_no_handlers(rt: HostRuntime) -> Result<(), Fail> {
-    let plan = three_entries(rt.alloc())?;
-    let handlers = Handlers::new(rt.alloc(), &plan)?;
-    assert_eq!(rt; handlers.nth(EventId(u16::MAX), 0), None);
-    Ok(())
+fn queues(rt: HostRuntime) -> Result<(), Fail> {
+    assert_cases(&rt, Subject::Queue, QUEUES)
 }

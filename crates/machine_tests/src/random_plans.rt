@@ -1,217 +1,132 @@
-//! Weights and cycles of many small configurations, drawn at random, against rounds and walks over
-//! their rows.
+//! Weights and cycles of many small machine texts, drawn at random, against rounds over what they
+//! post.
 
-use crate::cycles::{all_cycles, cycle_to_tell, is_cycle};
-use crate::drawing::{Draws, draw_config};
-use crate::graph::{Graph, graph_of};
-use crate::rounds::{cost, weigh_again, weights_by_rounds};
-use crate::weights::listed;
-use cascade_rank::{RankFault, Weights, find, verify};
+use crate::cases::config_of;
+use crate::drawing::draw_machine;
+use crate::oracle::{
+    Graph, graph_of, has_cycle, to_find, to_judge, weigh_again, weight_of, weights_by_rounds,
+};
+use cascade_rank::{Weights, find, verify};
 use mpf_plan::{EventId, Plan, plan};
 use std::alloc::{AllocError, Global};
 use std::test::Fail;
 
-#[derive(Debug, Drop, PartialEq, Eq)]
-enum Found {
-    Weights(Vec<u128>),
-    Cycle(Vec<usize>),
-    TooLarge,
-}
-
-fn limited(graph: &Graph, weights: Vec<u128>) -> Found {
-    if is_above(graph, &weights) {
-        Found::TooLarge
-    } else {
-        Found::Weights(weights)
+/// The weights by `get`, up to the first event that has none.
+fn listed(alloc: Global, weights: &Weights) -> Result<String, AllocError> {
+    let mut list: Vec<u32> = Vec::new(alloc);
+    for number in 0..=u16::MAX {
+        let Some(weight) = weights.get(EventId(number)) else {
+            break;
+        };
+        list.push(weight)?;
     }
+    format!(in alloc; "{:?}", list.as_slice())
 }
 
-/// Whether a weight or the bound is above the limit.
-fn is_above(graph: &Graph, weights: &[u128]) -> bool {
-    let greatest = weights.iter().copied().max().unwrap_or(0);
-    bound_of(graph, weights).max(greatest) > 10_000
-}
-
-fn bound_of(graph: &Graph, weights: &[u128]) -> u128 {
-    let mut bound = 0u128;
-    for post in &graph.stimuli {
-        bound = bound.max(cost(&graph.stimuli, weights, post.from));
-    }
-    bound
-}
-
-/// What is to be found: weights where one more round changes nothing.
-fn to_find(alloc: Global, graph: &Graph) -> Result<Found, AllocError> {
-    let weights = weights_by_rounds(alloc, graph)?;
-    let again = weigh_again(alloc, graph, &weights)?;
-    if weights.as_slice() == again.as_slice() {
-        return Ok(limited(graph, weights));
-    }
-    Ok(Found::Cycle(cycle_to_tell(alloc, graph)?))
-}
-
-fn event_numbers(alloc: Global, events: &[EventId]) -> Result<Vec<usize>, AllocError> {
-    let mut numbers = Vec::new(alloc);
-    for event in events {
-        numbers.push(event.0 as usize)?;
-    }
-    Ok(numbers)
-}
-
-fn find_so(alloc: Global, plan: &Plan) -> Result<Found, Fail> {
+fn found(alloc: Global, plan: &Plan) -> Result<String, AllocError> {
     match find(alloc, plan) {
-        Ok(weights) => Ok(Found::Weights(listed(alloc, &weights)?)),
-        Err(RankFault::Cycle(events)) => Ok(Found::Cycle(event_numbers(alloc, &events)?)),
-        Err(RankFault::BoundTooLarge) => Ok(Found::TooLarge),
-        Err(fault) => Err(Fail::from(fault)),
+        Ok(weights) => listed(alloc, &weights),
+        Err(fault) => format!(in alloc; "{fault:?}"),
     }
 }
 
-/// Whether the found cycle is one of all, or there is none and none is found.
-fn is_of_all(alloc: Global, graph: &Graph, found: &Found) -> Result<bool, AllocError> {
-    let cycles = all_cycles(alloc, graph)?;
-    Ok(match found {
-        Found::Cycle(cycle) => cycles.contains(cycle),
-        _ => cycles.is_empty(),
-    })
-}
-
-/// Whether the rows have what is found, if that is a cycle.
-fn is_true(graph: &Graph, found: &Found) -> bool {
-    match found {
-        Found::Cycle(cycle) => is_cycle(graph, cycle),
-        _ => true,
-    }
-}
-
-#[derive(Clone, Copy, Debug, PartialEq, Eq)]
-enum Judged {
-    Bounded(u128),
-    Short(usize, u128),
-    TooLarge,
-    Other,
-}
-
-fn to_judge(graph: &Graph, weights: &[u128]) -> Judged {
-    for (event, weight) in weights.iter().enumerate() {
-        let needed = cost(&graph.posts, weights, event);
-        if *weight < needed {
-            return Judged::Short(event, needed);
-        }
-    }
-    if is_above(graph, weights) {
-        return Judged::TooLarge;
-    }
-    Judged::Bounded(bound_of(graph, weights))
-}
-
-fn verify_so(alloc: Global, plan: &Plan, weights: &[u128]) -> Result<Judged, AllocError> {
-    let mut list = Vec::new(alloc);
-    for weight in weights {
-        list.push(u32::try_from(*weight).unwrap_or(u32::MAX))?;
-    }
-    Ok(match verify(plan, &Weights::of(list)) {
-        Ok(bound) => Judged::Bounded(u128::from(bound.0)),
-        Err(RankFault::Short(event, needed)) => Judged::Short(event.0 as usize, needed),
-        Err(RankFault::BoundTooLarge) => Judged::TooLarge,
-        Err(_) => Judged::Other,
-    })
-}
-
-/// These weights, but for that of one event.
-fn with(
-    alloc: Global,
-    weights: &[u128],
-    event: usize,
-    weight: u128,
-) -> Result<Vec<u128>, AllocError> {
-    let mut list = Vec::from_slice(alloc, weights)?;
-    if let Some(place) = list.get_mut(event) {
-        *place = weight;
-    }
-    Ok(list)
-}
-
-/// Whether the weights are judged as by the rows.
-fn agrees(alloc: Global, plan: &Plan, graph: &Graph, weights: &[u128]) -> Result<bool, AllocError> {
-    Ok(verify_so(alloc, plan, weights)? == to_judge(graph, weights))
-}
-
-/// Whether least weights are judged rightly where that of one event is one less, which is `Short`,
-/// and where it is one more.
-fn agree_beside(
+/// What `verify` says of the weights, where that of the event is changed by one, as it is to be said.
+fn judged(
     alloc: Global,
     plan: &Plan,
     graph: &Graph,
-    weights: &[u128],
-) -> Result<bool, AllocError> {
-    for (event, weight) in weights.iter().enumerate() {
-        let less = with(alloc, weights, event, weight.saturating_sub(1))?;
-        let more = with(alloc, weights, event, weight.saturating_add(1))?;
-        let is_short = to_judge(graph, &less) == Judged::Short(event, *weight);
-        if !is_short || !agrees(alloc, plan, graph, &less)? || !agrees(alloc, plan, graph, &more)? {
-            return Ok(false);
+    weights: &[u32],
+    event: u16,
+    change: i32,
+) -> Result<String, Fail> {
+    let mut changed = Vec::from_slice(alloc, weights)?;
+    if let Some(weight) = changed.get_mut(event as usize) {
+        *weight = weight.saturating_add_signed(change);
+    }
+    let wanted = to_judge(alloc, graph, &changed)?;
+    let said = format!(in alloc; "{:?}", verify(plan, &Weights::of(changed)))?;
+    if said.as_str() == wanted.as_str() {
+        Ok(said)
+    } else {
+        Err("another judgement".into())
+    }
+}
+
+/// The weights are judged as they are to be, and so where one is one more, or one less. That is too
+/// little, where they are least.
+fn assert_judged(
+    alloc: Global,
+    plan: &Plan,
+    graph: &Graph,
+    weights: &[u32],
+    are_least: bool,
+) -> Result<(), Fail> {
+    for event in 0..graph.events {
+        judged(alloc, plan, graph, weights, event, 1)?;
+        let said = judged(alloc, plan, graph, weights, event, -1)?;
+        let short = format!(in alloc;
+            "Err(Short({:?}, {}))",
+            EventId(event),
+            weight_of(weights, event)
+        )?;
+        if are_least && said.as_str() != short.as_str() {
+            return Err("less than the least".into());
         }
     }
-    agrees(alloc, plan, graph, weights)
+    judged(alloc, plan, graph, weights, 0, 0)?;
+    Ok(())
 }
 
-/// Whether the found weights and those beside them are judged as by the rows, or others where none
-/// are found.
-fn verifies(alloc: Global, plan: &Plan, graph: &Graph, found: &Found) -> Result<bool, AllocError> {
-    match found {
-        Found::Weights(weights) => agree_beside(alloc, plan, graph, weights),
-        Found::Cycle(_) => agrees(
-            alloc,
-            plan,
-            graph,
-            &vec![in alloc; 5_000u128; graph.events]?,
-        ),
-        Found::TooLarge => agrees(alloc, plan, graph, &weights_by_rounds(alloc, graph)?),
+/// The kind of what was found: weights, too large ones, a cycle of one or two events, or a longer one.
+fn kind_of(found: &str) -> usize {
+    match found.split("EventId").count() {
+        1 => usize::from(found == "BoundTooLarge"),
+        2 | 3 => 2,
+        _ => 3,
     }
 }
 
-/// How many plans were found to be of each kind.
-#[derive(Clone, Copy, Default)]
-struct Tally {
-    weighed: u32,
-    endless: u32,
-    /// Those of `endless` whose cycle has more than two events.
-    long: u32,
-    large: u32,
+/// The plan is judged and weighed as it is to be, by the weights of the rounds.
+fn compared(alloc: Global, plan: &Plan, graph: &Graph, weights: &[u32]) -> Result<usize, Fail> {
+    let found = found(alloc, plan)?;
+    let kind = kind_of(&found);
+    let again = weigh_again(alloc, graph, weights)?;
+    let wanted = to_find(alloc, graph, weights, &again)?;
+    if found.as_str() != wanted.as_str() || has_cycle(graph) != (kind >= 2) {
+        return Err("other weights or another cycle".into());
+    }
+    assert_judged(alloc, plan, graph, weights, kind == 0)?;
+    Ok(kind)
 }
 
-fn counted(tally: Tally, found: &Found) -> Tally {
-    let mut tally = tally;
-    match found {
-        Found::Weights(_) => tally.weighed = tally.weighed.saturating_add(1),
-        Found::Cycle(cycle) => {
-            tally.endless = tally.endless.saturating_add(1);
-            tally.long = tally.long.saturating_add(u32::from(cycle.len() > 2));
-        }
-        Found::TooLarge => tally.large = tally.large.saturating_add(1),
-    }
-    tally
+fn tried(alloc: Global, plan: &Plan, machine: &str) -> Result<usize, Fail> {
+    let graph = graph_of(alloc, plan, machine)?;
+    let weights = weights_by_rounds(alloc, &graph)?;
+    compared(alloc, plan, &graph, &weights)
+}
+
+/// One text: the kind of what was found of it, as it is to be found.
+fn drawn(alloc: Global, state: &mut u64) -> Result<usize, Fail> {
+    let machine = draw_machine(alloc, state)?;
+    let config = config_of(alloc, &machine)?;
+    let plan = plan(alloc, &config)?;
+    tried(alloc, &plan, &machine)
 }
 
 #[test]
-fn random_plans_as_by_rounds_and_walks(rt: HostRuntime) -> Result<(), Fail> {
-    let mut draws = Draws::new();
-    let mut tally = Tally::default();
-    for number in 0..4_000u32 {
-        let config = draw_config(rt.alloc(), &mut draws)?;
-        let plan = plan(rt.alloc(), &config)?;
-        let graph = graph_of(rt.alloc(), &plan, &config)?;
-        let found = find_so(rt.alloc(), &plan)?;
-        assert_eq!(rt; found, to_find(rt.alloc(), &graph)?, "{number}");
-        assert!(rt; is_true(&graph, &found), "{number}");
-        if graph.events <= 5 {
-            assert!(rt; is_of_all(rt.alloc(), &graph, &found)?, "{number}");
+fn random_plans(rt: HostRuntime) -> Result<(), Fail> {
+    let mut state = 1u64;
+    let mut tally = [0u32; 4];
+    for _ in 0..4_000u32 {
+        let kind = drawn(rt.alloc(), &mut state)?;
+        if let Some(count) = tally.get_mut(kind) {
+            *count = count.saturating_add(1);
         }
-        assert!(rt; verifies(rt.alloc(), &plan, &graph, &found)?, "{number}");
-        tally = counted(tally, &found);
     }
-    assert!(rt; tally.weighed > 2_000 && tally.large > 200);
-    assert!(rt; tally.endless > 800 && tally.long > 100);
+    assert!(rt; tally[0] > 2_000 && tally[1] > 200, "{tally:?}");
+    assert!(rt;
+        tally[2].saturating_add(tally[3]) > 800 && tally[3] > 100,
+        "{tally:?}"
+    );
     Ok(())
 }
