@@ -1,11 +1,10 @@
 -- How many events and bindings a valid plan has at most.
 use Rattle.std.proofs.Common.{◌≤◌, length}
 use Rattle.mpf_plan.specs.PlanView.{PlanView}
-use Rattle.mpf_plan.specs.declared.fault.Table.TheVariants.{Events, Bindings}
 use Rattle.mpf_plan.specs.Valid.{IsValid}
 
 pub events-few : (plan : PlanView) → IsValid plan → length plan.events ≤ 4096
-events-few plan valid = valid.limits Events
+events-few plan valid = valid.event_limit
 
 pub bindings-few : (plan : PlanView) → IsValid plan → length plan.bindings ≤ 16384
-bindings-few plan valid = valid.limits Bindings
+bindings-few plan valid = valid.binding_limit

@@ -4,7 +4,6 @@ use Rattle.std.proofs.lemmas.Option.{none-some}
 use Rattle.std.proofs.lemmas.List.{length-map}
 use Rattle.mpf_plan.specs.PlanView.{PlanView, posts_of, list_at, binding_at}
 use Rattle.mpf_plan.specs.Valid.{IsValid}
-use Rattle.mpf_plan.specs.declared.fault.Table.TheVariants.{Switches}
 use Rattle.mpf_plan.specs.declared.entries.SwitchId.{SwitchId}
 use Rattle.mpf_plan.specs.declared.entries.BindingId.{BindingId}
 use Rattle.mpf_plan.specs.declared.entries.Owner.{Owner}
@@ -187,5 +186,5 @@ module _ (plan : PlanView) where
   complete s valid h =
       let kinds = ap (λ (ks : List _). length ks) h.kinds in
       let count = length-map plan.switches (λ s. s.kind) in
-      let few : length plan.switches ≤ 256 = valid.limits Switches in
+      let few : length plan.switches ≤ 256 = valid.switch_limit in
       record { states = omega (arith, kinds, count, h.states); limit = omega (arith, kinds, count, few) }

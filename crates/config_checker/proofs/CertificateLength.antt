@@ -10,7 +10,6 @@ use Rattle.std.proofs.lemmas.Slice.Zip.{firsts-zip, seconds-zip}
 use Rattle.mpf_config.specs.Rows.{Rows}
 use Rattle.mpf_config.specs.Reading.{rows_at}
 use Rattle.mpf_config.proofs.ShortRows.{rows_are_short}
-use Rattle.mpf_plan.specs.declared.fault.Table.TheVariants.{Events}
 use Rattle.mpf_plan.specs.PlanView.{PlanView}
 use Rattle.cascade_rank.specs.Weights.{greatest}
 use Rattle.config_checker.specs.CheckedView.{CheckedView}
@@ -59,7 +58,7 @@ text-few c accepted few =
     let names = all_seen (λ (e : List ℕ × ℕ). e.0) (λ name. length name ≤ 73) events (subst (All (λ name. length name ≤ 73)) (sym firsts) few) in
     let weights = all_seen (λ (e : List ℕ × ℕ). e.1) (λ w. w ≤ greatest) events (subst (All (λ w. w ≤ greatest)) (sym seconds) accepted.verified.limit.weights_within) in
     let many : length events ≡ length c.plan.events = sym (length-map events (λ (e : List ℕ × ℕ). e.0)) ∙ ap length firsts in
-    let limit : length c.plan.events ≤ 4096 = accepted.valid.limits Events in
+    let limit : length c.plan.events ≤ 4096 = accepted.valid.event_limit in
     let lines = lines-few events names weights in
     let below = accepted.verified.limit.bound_within in
     let stated = bound-few c.bound (omega (arith, below, accepted.verified.bound_is)) in

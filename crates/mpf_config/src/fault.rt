@@ -5,8 +5,8 @@ ghost use Rattle.std.specs.Io.KnownBytes.{Appends};
 ghost use Rattle.mpf_config.specs.FaultLine.{fault_line};
 ghost use Rattle.mpf_config.specs.View.{fault_view};
 
-pub use section_tables::fault::{ConfigFault, Fault, FaultKind};
 use crate::escape::write_escaped;
+pub use section_tables::fault::{ConfigFault, Fault, FaultKind};
 use std::io::{self, Write};
 
 /// Writes the line of a fault, `error NUMBER NAME TEXT LINE KEY`, the text and the key as

@@ -130,9 +130,14 @@ module _ (P : List ℕ → Type 0) (of : IsOfNames P) where
   unfolding switch_contributions
   switch_facts s = record {
     names = λ h. All-cons (IsFit P) _ (reads (kind_of s) ∷ map active (active_posts s) ++ map inactive (inactive_posts s)) tt (All-cons (IsFit P) _ (map active (active_posts s) ++ map inactive (inactive_posts s)) tt (fit_switch s h));
-    lists = λ h. (tt, (tt,
+    lists = λ h. (
+      tt,
+      (
+        tt,
         AreShort-append (map active (active_posts s)) (map inactive (inactive_posts s)) 1024 (omega arith)
-        (AreShort-each active (λ n cs k. (tt, k)) (active_posts s)) (AreShort-each inactive (λ n cs k. (tt, k)) (inactive_posts s))));
+            (AreShort-each active (λ n cs k. (tt, k)) (active_posts s)) (AreShort-each inactive (λ n cs k. (tt, k)) (inactive_posts s)),
+      ),
+    );
   }
 
   player_facts : (p : EventPlayer) → Facts P (IsNamedPlayer p) (length p.posts ≤ 1024) (player_contributions machine_place p)

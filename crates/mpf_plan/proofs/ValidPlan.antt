@@ -13,7 +13,7 @@ use Rattle.mpf_plan.specs.declared.entries.Action.{Action}
 use Rattle.mpf_plan.specs.declared.entries.Action.TheVariants.{Post}
 use Rattle.mpf_plan.specs.declared.entries.Binding.{Binding}
 use Rattle.mpf_plan.specs.declared.fault.Table.{Table}
-use Rattle.mpf_plan.specs.declared.fault.Table.TheVariants.{Events, Bindings}
+use Rattle.mpf_plan.specs.declared.fault.Table.TheVariants.{Events, Bindings, Switches}
 use Rattle.mpf_plan.specs.PlanView.{PlanView}
 use Rattle.mpf_plan.specs.Valid.{IsActionWithin, IsBindingWithin, IsSwitchWithin, IsValid}
 use Rattle.mpf_plan.specs.Contributions.{Contribution, gives, reads, active, inactive, binds, post, contributions_of}
@@ -127,7 +127,9 @@ IsValid-plan_from cs short within =
     let none : AreFit 1024 (blank names).plan = record { priorities = All-nil (λ (b : Binding). b.priority ≡ 0); lists = All-nil (λ (l : List Action). length l ≤ 1024); last = omega arith } in
     let fit = fit_fold names 1024 cs (blank names) short none in
     record {
-      limits = within;
+      event_limit = within Events;
+      binding_limit = limit;
+      switch_limit = within Switches;
       list_limit = omega (arith, limit, count-bindings cs, count-lists cs);
       action_limit = fit.1;
       names = λ t. subst (AllPairs (λ x y. x ≢ y)) (sym (names-from cs t)) (all_apart (named_of cs t) (named_apart cs t));

@@ -10,7 +10,7 @@ use Rattle.mpf_plan.specs.declared.entries.Target.{Target}
 use Rattle.mpf_plan.specs.declared.entries.Target.TheVariants.{Run}
 use Rattle.mpf_plan.specs.declared.entries.Binding.{Binding}
 use Rattle.mpf_plan.specs.declared.fault.Table.{Table}
-use Rattle.mpf_plan.specs.Limits.{entry_count, limit_of, names_in}
+use Rattle.mpf_plan.specs.Limits.{names_in}
 use Rattle.mpf_plan.specs.PlanView.{Switch, PlanView}
 
 abbrev pub IsEventWithin : ℕ → EventId → Type 0
@@ -32,7 +32,9 @@ abbrev pub IsSwitchWithin : ℕ → Switch → Type 0
 IsSwitchWithin events s = All (IsEventWithin events) s.active × All (IsEventWithin events) s.inactive
 
 pub record IsValid (plan : PlanView) : Type 0 where
-  pub limits : (t : Table) → entry_count plan t ≤ limit_of t
+  pub event_limit : length plan.events ≤ 4096
+  pub binding_limit : length plan.bindings ≤ 16384
+  pub switch_limit : length plan.switches ≤ 256
   pub list_limit : length plan.lists ≤ 16384
   -- no effect list has more than 1,024 actions
   pub action_limit : All (λ actions. length actions ≤ 1024) plan.lists

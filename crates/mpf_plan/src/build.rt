@@ -6,8 +6,8 @@ ghost use Rattle.mpf_plan.specs.declared.fault.Table.{Table as TableValue};
 ghost use Rattle.mpf_plan.specs.Limits.{entry_count, limit_of};
 ghost use Rattle.mpf_plan.specs.PlanOf.{plan_at, plan_of, GivesPlan, IsExceeded};
 
-use crate::fault::{PlanFault, Table};
 use crate::collect::rows_in;
+use crate::fault::{PlanFault, Table};
 use crate::fill::fill;
 use crate::numbering::number;
 use crate::placing::places_by_event;

@@ -4,7 +4,6 @@ use Rattle.std.specs.List.{All}
 use Rattle.std.proofs.lemmas.List.{length-map}
 use Rattle.std.proofs.lemmas.Result.{err_from_is_err_and}
 use Rattle.mpf_config.specs.View.{rows_view, section_view}
-use Rattle.mpf_plan.specs.declared.fault.Table.TheVariants.{Bindings}
 use Rattle.mpf_plan.specs.Contributions.{rows_in, given_by}
 use Rattle.mpf_plan.specs.Inside.{draft_view, rows_view as found_view}
 use Rattle.mpf_plan.proofs.Drafted.{entries_count}
@@ -35,7 +34,7 @@ pub places_by_event-requires-clause-bindings : goal.places_by_event-requires-cla
 places_by_event-requires-clause-bindings c =
     let are = c.in_ok-rows.ensures ∙ ap (λ s. rows_in (map section_view s)) c.as_slice-sections.ensures.value in
     let valid = is_valid (rows_view c.args.config.now) c.in_ok-rows.rows.items c.deref.result.now are c.deref.ensures.value c.in_ok-names.names c.in_ok-names.ensures c.in_ok-draft.draft c.deref-2.result.now c.deref-2.ensures.value c.in_ok-draft.ensures c.args.config.now.lists_short in
-    subst (λ bs. length bs ≤ 16384) (sym c.deref-3.ensures.value) (valid.limits Bindings)
+    subst (λ bs. length bs ≤ 16384) (sym c.deref-3.ensures.value) (valid.binding_limit)
 
 pub assemble-requires-clause-valid : goal.assemble-requires-clause-valid
 assemble-requires-clause-valid c =

@@ -8,5 +8,5 @@ pub add_all-requires : goal.add_all-requires
 add_all-requires c =
     let row = c.row-item.result in
     let here : contributions_view c.deref.result.now ≡ row_contributions machine_place (row_view (get_or c.args.rows.now c.loop-row.row-index row)) =
-        ap contributions_view c.deref.ensures.value ∙ c.in_ok-collect_row.ensures ∙ (λ i. row_contributions (c.machine_place.ensures i) (row_view (c.row-item.is i))) in
+    ap contributions_view c.deref.ensures.value ∙ c.in_ok-collect_row.ensures ∙ (λ i. row_contributions (c.machine_place.ensures i) (row_view (c.row-item.is i))) in
     row_fits c.args.names.now c.loop-row.draft c.args.rows.now c.loop-row.row-index row c.deref.result.now c.loop-row-test.true here c.loop-row.invariant c.requires

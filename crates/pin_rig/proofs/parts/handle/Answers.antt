@@ -1,5 +1,4 @@
 use Rattle.std.proofs.Common.{◌≤◌, length, arith}
-use Rattle.mpf_plan.specs.declared.fault.Table.TheVariants.{Bindings}
 use Rattle.pin_rig.proofs.Handling.{handler-place, handler-room, handler-within, handler-limit, handler-run, handlers-end}
 use Rattle.pin_rig.proofs.parts.handle.Goals as goal
 
@@ -18,7 +17,7 @@ overflow_add-k c =
     let below =
     handler-limit c.args.plan.now c.args.core.now c.loop-place.core c.requires.handlers c.args.event c.loop-place.k c.loop-place.invariant
     c.in-Some.place c.in-Some.ensures.handler in
-    let limit : length c.args.plan.now.bindings ≤ 16384 = c.binding-binding.ensures.valid.limits Bindings in
+    let limit : length c.args.plan.now.bindings ≤ 16384 = c.binding-binding.ensures.valid.binding_limit in
     omega (arith, below, limit)
 
 pub loop-place-smaller : goal.loop-place-smaller

@@ -1,26 +1,14 @@
-use Rattle.std.proofs.Common.{◌≤◌, length, take, sym, arith}
+use Rattle.std.proofs.Common.{take, sym, arith}
 use Rattle.std.proofs.lemmas.List.{length-map}
-use Rattle.mpf_plan.specs.declared.fault.Table.TheVariants.{Switches}
 use Rattle.switch_core.specs.StateView.{state_view}
 use Rattle.switch_core.proofs.Lists.{idle-next}
 use Rattle.switch_core.proofs.switches.Switches.new.Goals as goal
 
-pub overflow_cast-number : goal.overflow_cast-number
-overflow_cast-number c =
-    let limit : length c.args.plan.now.switches ≤ 256 = c.switch_count-count.ensures.valid.limits Switches in
-    omega (arith, limit, c.switch_count-count.ensures.count, c.loop-number.auto.number-end, c.loop-number-test.true)
-
-pub returns-clause-complete : goal.returns-clause-complete
-returns-clause-complete c = let limit : length c.args.plan.now.switches ≤ 256 = c.switch_count-count.ensures.valid.limits Switches in record {
-  states = omega (arith, length-map c.loop-number.states.items state_view, c.loop-number.states.ok.0, c.loop-number.kinds.ok.0, c.loop-number.invariant.kind_count, c.loop-number.invariant.state_count);
-  limit = omega (arith, c.loop-number.kinds.ok.0, c.loop-number.invariant.kind_count, c.loop-number.auto.number-end, c.switch_count-count.ensures.count, limit);
-}
-
 pub invariant_of-result : goal.invariant_of-result
-invariant_of-result c = let limit : length c.args.plan.now.switches ≤ 256 = c.switch_count-count.ensures.valid.limits Switches in record {
+invariant_of-result c = record {
   complete = record {
     states = omega (arith, length-map c.loop-number.states.items state_view, c.loop-number.states.ok.0, c.loop-number.kinds.ok.0, c.loop-number.invariant.kind_count, c.loop-number.invariant.state_count);
-    limit = omega (arith, c.loop-number.kinds.ok.0, c.loop-number.invariant.kind_count, c.loop-number.auto.number-end, c.switch_count-count.ensures.count, limit);
+    limit = omega (arith, c.loop-number.kinds.ok.0, c.loop-number.invariant.kind_count, c.loop-number.auto.number-end, c.switch_count-count.ensures.count, c.switch_count-count.ensures.valid.switch_limit);
   };
   next_is = sym (idle-next c.loop-number.kinds.items (take c.loop-number.number c.args.plan.now.switches) c.loop-number.states.items c.loop-number.invariant.states);
 }
