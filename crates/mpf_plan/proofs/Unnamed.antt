@@ -20,9 +20,9 @@ each : (f : List ℕ → Contribution) → ((n : List ℕ) → name_in Bindings 
 each f none [] = refl
 each f none (n ∷ ns) = λ i. none n i ++ each f none ns i
 
-when : (b : Bool) (cs : List Contribution) → Unnamed cs → Unnamed (cond b cs [])
-when true cs none = none
-when false cs none = refl
+when : (b : Bool) (cs ds : List Contribution) → Unnamed cs → Unnamed ds → Unnamed (cond b cs ds)
+when true cs ds none other = none
+when false cs ds none other = other
 
 -- ---- rows
 
@@ -36,11 +36,11 @@ in_player place p = each post (λ n. refl) (texts p.posts)
 
 in_entry : (section : List ℕ) (e : Entry) → Unnamed (entry_contributions section e)
 unfolding entry_contributions
-in_entry section e = when (bytes_eq section (codes "switches")) (switch_contributions (switch_of e)) (in_switch (switch_of e))
+in_entry section e = when (bytes_eq section (codes "switches")) (switch_contributions (switch_of e)) [] (in_switch (switch_of e)) refl
 
 in_player_entry : (section : List ℕ) (p : Player) → Unnamed (player_entry_contributions machine_place section p)
 unfolding player_entry_contributions
-in_player_entry section p = when (bytes_eq section (codes "event_player")) (player_contributions machine_place (event_player_of p)) (in_player machine_place (event_player_of p))
+in_player_entry section p = when (bytes_eq section (codes "event_player")) (player_contributions machine_place (event_player_of p)) [] (in_player machine_place (event_player_of p)) refl
 
 in_row : (r : Row) → Unnamed (row_contributions machine_place r)
 in_row (entry section e) = in_entry section e
