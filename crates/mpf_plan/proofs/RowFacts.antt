@@ -153,16 +153,18 @@ module _ (P : List ℕ → Type 0) (of : IsOfNames P) where
   none_facts : (Named Short : Type 0) → Facts P Named Short []
   none_facts Named Short = record { names = λ h. All-nil (IsFit P); lists = λ h. tt }
 
+  -- one of two
+  either : {Named Short : Type 0} (b : Bool) (cs ds : List Contribution) → Facts P Named Short cs → Facts P Named Short ds → Facts P Named Short (if b then cs else ds)
+  either true cs ds first other = first
+  either false cs ds first other = other
+
   entry_facts : (section : List ℕ) (e : Entry) → Facts P (IsNamedEntry e) (IsShortEntry 1024 e) (entry_contributions section e)
   unfolding entry_contributions
-  entry_facts section e = by (bytes_eq section (codes "switches"))
-    where
-      switch : Facts P (IsNamedSwitch (switch_of e)) (Unit {0}) (switch_contributions (switch_of e))
-      switch = switch_facts (switch_of e)
-
-      by : (b : Bool) → Facts P (IsNamedEntry e) (IsShortEntry 1024 e) (if b then switch_contributions (switch_of e) else [])
-      by true = record { names = λ h. switch.names (switch_named e h); lists = λ h. switch.lists tt }
-      by false = none_facts (IsNamedEntry e) (IsShortEntry 1024 e)
+  entry_facts section e =
+      let switch = switch_facts (switch_of e) in
+      either (bytes_eq section (codes "switches")) (switch_contributions (switch_of e)) []
+      (record { names = λ h. switch.names (switch_named e h); lists = λ h. switch.lists tt })
+      (none_facts (IsNamedEntry e) (IsShortEntry 1024 e))
 
   player_entry_facts : (section : List ℕ) (p : Player) → Facts P (IsNamedPlayerEntry p) (IsShortPlayer 1024 p) (player_entry_contributions machine_place section p)
   unfolding player_entry_contributions
