@@ -1,7 +1,7 @@
-"""measure.py PROGRAM PLAIN RUNS [READER ..]: what `check` and `play` cost, beside others on the same texts. bench/run
+"""measure.py PROGRAM PLAIN COLLIDE RUNS [READER ..]: what `check` and `play` cost, beside others on the same texts. bench/run
 starts it.
 
-PROGRAM is pinball, PLAIN what plain.rs is built to, and a READER reads the YAML file that its word names, each as a
+PROGRAM is pinball, PLAIN and COLLIDE what plain.rs and collide.rs are built to, and a READER reads the YAML file that its word names, each as a
 path. Each line has the wall time in ms (the median of RUNS runs, of a third as many of `play`), a ratio of times, peak
 memory in MiB, and bytes of memory for each byte of text. An exit status is in brackets. Wants Debian's
 /usr/bin/python3. What it lacks of python3-yaml and fy-tool it names, and leaves out."""
@@ -29,6 +29,7 @@ PARTS = (8, 4, 2, 1)
 class Bench:
     program: str
     plain: str
+    collide: str
     folder: pathlib.Path
     runs: int
     readers: list[str]
@@ -73,6 +74,16 @@ def checks_ordinary(bench: Bench) -> float:
 def checks_hostile(bench: Bench, base: float) -> None:
     print("\ntexts of one thing, as a ratio to the ordinary text (a time below 1 is shorter)")
     for what, text in texts.hostile().items():
+        cost = bench.check(text)
+        show(f"{what} ({cost.status})", cost, len(text), base)
+
+
+def checks_names(bench: Bench, base: float) -> None:
+    """Names that would lie at one place of a hash table whose hash is known beforehand, and as many others."""
+    print("\n4,096 names in lists of 1,000 posts, as a ratio to the ordinary text")
+    chosen = subprocess.run([bench.collide, "4096"], stdout=subprocess.PIPE, text=True, check=True).stdout.split()
+    for what, names in (("names that collide", chosen), ("other names", [f"q{n:05}" for n in range(4096)])):
+        text = texts.uses(names)
         cost = bench.check(text)
         show(f"{what} ({cost.status})", cost, len(text), base)
 
@@ -149,15 +160,16 @@ def plays_waits(bench: Bench, runs: int) -> None:
 
 
 def main() -> None:
-    if len(sys.argv) < 4:
+    if len(sys.argv) < 5:
         sys.exit(__doc__)
-    runs = int(sys.argv[3])
+    runs = int(sys.argv[4])
     cpu = next((line.split(":")[1].strip() for line in open("/proc/cpuinfo") if line.startswith("model name")), "?")
     print(f"{platform.system()} {platform.machine()}, {cpu}, {os.cpu_count()} processors, median of {runs} runs\n")
     with tempfile.TemporaryDirectory(prefix="pinball_bench") as folder:
-        bench = Bench(sys.argv[1], sys.argv[2], pathlib.Path(folder), runs, sys.argv[4:])
+        bench = Bench(sys.argv[1], sys.argv[2], sys.argv[3], pathlib.Path(folder), runs, sys.argv[5:])
         seconds = checks_ordinary(bench)
         checks_hostile(bench, seconds)
+        checks_names(bench, seconds)
         checks_growth(bench, seconds)
         checks_cascades(bench)
         plays_cascades(bench, max(runs // 3, 1))

@@ -102,6 +102,18 @@ def hostile() -> dict[str, str]:
     }
 
 
+def uses(names: list[str]) -> str:
+    """Posts of these names, 1,000 to an entry, as many as fit into 1 MiB."""
+    parts, length = [VERSION + "event_player:\n"], 0
+    for row, name in enumerate(names):
+        posts = " ".join(names[(row * 7 + post) % len(names)] for post in range(1000))
+        parts.append(f" {name}: {posts}\n")
+        length += len(parts[-1])
+        if length + len(parts[-1]) > MIB - len(parts[0]):
+            break
+    return "".join(parts)
+
+
 def bundle(text: str) -> bytes:
     """A bundle of one text."""
     return ("@ config/config.yaml\n" + text).encode()
