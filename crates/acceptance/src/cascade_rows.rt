@@ -57,7 +57,7 @@ fn cycle_is_told_from_its_first_event(rt: HostRuntime) -> Result<(), Fail> {
     )
 }
 
-/// A cycle is told before a weight above the limit.
+/// A cycle is reported before a weight above the limit.
 #[test]
 fn cycle_is_told_before_the_bound(rt: HostRuntime) -> Result<(), Fail> {
     assert_checks(

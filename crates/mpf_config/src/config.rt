@@ -75,7 +75,7 @@ pub struct Note {
 pub struct Config {
     /// What stands in the machine text.
     pub machine: MachineText,
-    /// What was not read, in the order in which it is told.
+    /// What was not read, in the order in which it is reported.
     pub notes: Vec<Note>,
     ghost lists_short: { All IsShortSection (map section_view machine.sections.items) },
 }
