@@ -2,7 +2,7 @@
 use Rattle.std.proofs.Common.{◌≡◌, ℕ, ◌<◌, List, length, sym, ◌∙◌, arith}
 use Rattle.std.proofs.lemmas.List.{ext_get_or}
 use Rattle.mpf_plan.specs.PlanView.{PlanView}
-use Rattle.mpf_plan.proofs.ValidPlan.{HasEntries}
+use Rattle.mpf_plan.specs.Valid.{HasEntries}
 use Rattle.mpf_plan.specs.declared.entries.EventId.{EventId}
 use Rattle.cascade_rank.specs.Events.{weight_of}
 use Rattle.cascade_rank.specs.Cost.{cost_of_event, cost_of_stimuli}

@@ -7,7 +7,7 @@ use Rattle.std.proofs.lemmas.List.Elements.{All-nil, All-push, All-drop}
 use Rattle.std.proofs.lemmas.List.Sums.{sum_by-set, passes_at_first, prefix_len-le-length}
 use Rattle.std.proofs.lemmas.List.Folds.{list_any-append, list_any_at, sum_by-replicate}
 use Rattle.mpf_plan.specs.PlanView.{PlanView}
-use Rattle.mpf_plan.proofs.ValidPlan.{HasEntries}
+use Rattle.mpf_plan.specs.Valid.{HasEntries}
 use Rattle.mpf_plan.specs.declared.entries.EventId.{EventId}
 use Rattle.cascade_rank.specs.Cost.{cost_of_event}
 use Rattle.cascade_rank.specs.Events.{no_event, nth_event}

@@ -5,7 +5,7 @@ use Rattle.std.proofs.lemmas.Bool.{cases_lt, or_cases, eqb-true, false≢true}
 use Rattle.std.proofs.lemmas.List.Elements.{recursion_from_All, All-get_or, All-weaker, All-nil, All-filter}
 use Rattle.std.proofs.lemmas.List.{get_or_past}
 use Rattle.mpf_plan.specs.PlanView.{PlanView, no_switch, switch_at, list_at, posts_of, bound_to}
-use Rattle.mpf_plan.specs.Valid.{IsEventWithin, IsActionWithin, IsTargetWithin, IsBindingWithin, IsSwitchWithin}
+use Rattle.mpf_plan.specs.Valid.{IsEventWithin, IsActionWithin, IsTargetWithin, IsBindingWithin, IsSwitchWithin, HasEntries}
 use Rattle.mpf_plan.specs.declared.entries.EventId.{EventId}
 use Rattle.mpf_plan.specs.declared.entries.SwitchId.{SwitchId}
 use Rattle.mpf_plan.specs.declared.entries.ListId.{ListId}
@@ -14,7 +14,6 @@ use Rattle.mpf_plan.specs.declared.entries.Action.TheVariants.{Post}
 use Rattle.mpf_plan.specs.declared.entries.Target.{Target}
 use Rattle.mpf_plan.specs.declared.entries.Target.TheVariants.{Run}
 use Rattle.mpf_plan.specs.declared.entries.Binding.{Binding}
-use Rattle.mpf_plan.proofs.ValidPlan.{HasEntries}
 use Rattle.cascade_rank.specs.Cost.{Cost, Lines, Weight, Both, Greater, mentions, each_of, dearest_of, cost_of_post, cost_of_action, cost_of_list, cost_of_target, cost_of_binding, cost_of_event, cost_of_acceptance, cost_of_switch, switches_of, cost_of_stimuli}
 use Rattle.cascade_rank.specs.Below.{IsBelow}
 

@@ -15,7 +15,7 @@ use Rattle.mpf_plan.specs.declared.entries.Binding.{Binding}
 use Rattle.mpf_plan.specs.declared.fault.Table.{Table}
 use Rattle.mpf_plan.specs.declared.fault.Table.TheVariants.{Events, Bindings, Switches}
 use Rattle.mpf_plan.specs.PlanView.{PlanView}
-use Rattle.mpf_plan.specs.Valid.{IsActionWithin, IsBindingWithin, IsSwitchWithin, IsValid}
+use Rattle.mpf_plan.specs.Valid.{IsValid, HasEntries}
 use Rattle.mpf_plan.specs.Contributions.{Contribution, gives, reads, active, inactive, binds, post, contributions_of}
 use Rattle.mpf_plan.specs.Uses.{Names, names_from, uses, first_by}
 use Rattle.mpf_plan.specs.Limits.{entry_count, limit_of}
@@ -145,12 +145,6 @@ unfolding plan_of
 IsValid-plan_of rows short within = IsValid-plan_from (contributions_of rows) (sections_short rows.machine short) within
 
 -- ---- whether lists are short or not
-
--- every number in the plan is that of an entry
-pub record HasEntries (plan : PlanView) : Type 0 where
-  pub switches : All (IsSwitchWithin (length plan.events)) plan.switches
-  pub lists : All (All (IsActionWithin plan)) plan.lists
-  pub bindings : All (IsBindingWithin plan) plan.bindings
 
 pub has_entries : (plan : PlanView) → IsValid plan → HasEntries plan
 has_entries plan valid = record { switches = valid.switches; lists = valid.lists; bindings = valid.bindings }

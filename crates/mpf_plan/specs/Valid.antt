@@ -31,6 +31,12 @@ IsBindingWithin plan b = (b.event.0 < length plan.events) × IsOwnerWithin plan 
 abbrev pub IsSwitchWithin : ℕ → Switch → Type 0
 IsSwitchWithin events s = All (IsEventWithin events) s.active × All (IsEventWithin events) s.inactive
 
+-- every number is that of an entry; the plan of any rows is so, whether its tables are within their limits or not
+pub record HasEntries (plan : PlanView) : Type 0 where
+  pub switches : All (IsSwitchWithin (length plan.events)) plan.switches
+  pub lists : All (All (IsActionWithin plan)) plan.lists
+  pub bindings : All (IsBindingWithin plan) plan.bindings
+
 pub record IsValid (plan : PlanView) : Type 0 where
   pub event_limit : length plan.events ≤ 4096
   pub binding_limit : length plan.bindings ≤ 16384

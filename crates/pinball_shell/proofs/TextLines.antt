@@ -5,8 +5,8 @@ use Rattle.std.specs.Str.Lines.{lines, lines_of_parts, strip_carriage_return}
 use Rattle.std.proofs.lemmas.List.Splits.{length-slice_split}
 use Rattle.std.proofs.lemmas.List.Sums.{fails_before_first}
 use Rattle.std.proofs.lemmas.Bool.{cond-false, ne_eqb}
-use Rattle.yaml_bytes.specs.Lines.{is_lf, line_with, cut_line}
-use Rattle.yaml_bytes.proofs.TextLines.{parts_from, parts_at}
+use Rattle.yaml_bytes.specs.Lines.{is_lf, line_with, cut_line, parts_from}
+use Rattle.yaml_bytes.proofs.TextLines.{parts_at}
 
 -- a part that another follows is a whole line
 parts-cons : (x : List ℕ) (parts : List (List ℕ)) → 0 < length parts → lines_of_parts (x ∷ parts) ≡ strip_carriage_return x ∷ lines_of_parts parts

@@ -4,14 +4,9 @@ use Rattle.std.specs.List.{slice_split, position_or_len, onto_first}
 use Rattle.std.specs.Str.Lines.{strip_carriage_return}
 use Rattle.std.proofs.Math.Seq.{take-length}
 use Rattle.std.proofs.lemmas.Bool.{or_parts}
-use Rattle.yaml_bytes.specs.Lines.{is_lf, ends_line, line_with, cut_line, lines_between, lines_of, lines_after}
+use Rattle.yaml_bytes.specs.Lines.{is_lf, ends_line, line_with, cut_line, parts_from, lines_between, lines_of, lines_after}
 
 -- ---- where a text is cut
-
--- a part, and the parts after the LF that follows it
-abbrev pub parts_from : List ℕ → List ℕ → List (List ℕ)
-parts_from part [] = part ∷ []
-parts_from part (lf ∷ after) = part ∷ slice_split is_lf after
 
 onto_parts : (b : ℕ) (part rest : List ℕ) → onto_first b (parts_from part rest) ≡ parts_from (b ∷ part) rest
 onto_parts b part [] = refl

@@ -24,6 +24,11 @@ line_with front (lf ∷ after) = (strip_carriage_return front, Some after)
 abbrev pub cut_line : List ℕ → List ℕ × Option (List ℕ)
 cut_line text = line_with (take (position_or_len is_lf text) text) (drop (position_or_len is_lf text) text)
 
+-- the parts between the LFs of a text that begins with this part: it, and those of what comes after its LF
+abbrev pub parts_from : List ℕ → List ℕ → List (List ℕ)
+parts_from part [] = part ∷ []
+parts_from part (lf ∷ after) = part ∷ slice_split is_lf after
+
 -- the lines that the parts between LFs are
 abbrev pub lines_between : List (List ℕ) → List (List ℕ)
 lines_between [] = []
