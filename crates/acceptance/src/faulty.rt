@@ -4,7 +4,7 @@ ghost use Rattle.std.specs.Prelude.{◌≤◌, length};
 
 use crate::row::ONE_SWITCH;
 use pinball_shell::{
-    BUNDLE_LIMIT, Failure, ShellFault, check_text, load_text, play_text, read_all, verify_text,
+    Failure, ShellFault, check_text, load_text, play_text, read_all, verify_text,
 };
 use std::io::{self, ErrorKind, Read, Write};
 use std::process::Abort;
@@ -109,30 +109,41 @@ fn writer_fails_at_its_second_write(rt: HostRuntime) -> Result<(), Fail> {
     Ok(())
 }
 
-/// The bundle of `verify` is read before its certificate is opened.
+/// The bundle is read first: nothing has been read of the certificate where that fails.
 #[test]
-fn bundle_reader_fails_or_never_ends(rt: HostRuntime) -> Result<(), Fail> {
-    let failing = read_all(rt.alloc(), &mut FailingReader { reads: 2 }, BUNDLE_LIMIT);
-    assert!(rt; matches!(&failing, Err(ShellFault::Read)));
-    let mut endless = EndlessReader { reads: 0 };
-    let longer = read_all(rt.alloc(), &mut endless, BUNDLE_LIMIT);
-    assert!(rt; matches!(&longer, Err(ShellFault::TooLong)));
-    assert_eq!(rt; endless.reads, 8_388_609);
+fn bundle_fails_before_its_certificate_is_read(rt: HostRuntime) -> Result<(), Fail> {
+    let mut certificate = EndlessReader { reads: 0 };
+    let mut writer: Vec<u8> = Vec::new(rt.alloc());
+    let answer = verify_text(
+        rt.alloc(),
+        &mut FailingReader { reads: 2 },
+        &mut certificate,
+        &mut writer,
+    );
+    assert_eq!(rt; answer, Err(ShellFault::Read));
+    let mut bundle = EndlessReader { reads: 0 };
+    let answer = verify_text(rt.alloc(), &mut bundle, &mut certificate, &mut writer);
+    assert_eq!(rt; answer, Err(ShellFault::TooLong));
+    assert_eq!(rt; bundle.reads, 8_388_609);
+    assert_eq!(rt; certificate.reads, 0);
+    assert!(rt; writer.is_empty());
     Ok(())
 }
 
 #[test]
 fn certificate_reader_fails_or_never_ends(rt: HostRuntime) -> Result<(), Fail> {
+    let mut bundle = ONE_SWITCH;
     let mut writer: Vec<u8> = Vec::new(rt.alloc());
     let answer = verify_text(
         rt.alloc(),
-        ONE_SWITCH,
+        &mut bundle,
         &mut FailingReader { reads: 2 },
         &mut writer,
     );
     assert_eq!(rt; answer, Err(ShellFault::Read));
+    let mut bundle = ONE_SWITCH;
     let mut certificate = EndlessReader { reads: 0 };
-    let answer = verify_text(rt.alloc(), ONE_SWITCH, &mut certificate, &mut writer);
+    let answer = verify_text(rt.alloc(), &mut bundle, &mut certificate, &mut writer);
     assert_eq!(rt; answer, Err(ShellFault::TooLong));
     assert_eq!(rt; certificate.reads, 1_048_577);
     assert!(rt; writer.is_empty());
@@ -142,10 +153,11 @@ fn certificate_reader_fails_or_never_ends(rt: HostRuntime) -> Result<(), Fail> {
 #[test]
 fn verifying_to_a_writer_that_fails(rt: HostRuntime) -> Result<(), Fail> {
     for writes in [1, 2] {
+        let mut bundle = ONE_SWITCH;
         let mut certificate: &[u8] = b"";
         let answer = verify_text(
             rt.alloc(),
-            ONE_SWITCH,
+            &mut bundle,
             &mut certificate,
             &mut FailingWriter { writes },
         );

@@ -57,10 +57,11 @@ fn bundle_of_8_mebibytes(rt: HostRuntime) -> Result<(), Fail> {
 #[test]
 fn certificate_of_a_mebibyte_and_a_byte(rt: HostRuntime) -> Result<(), Fail> {
     let certificate = vec![in rt.alloc(); b'#'; 1_048_577]?;
+    let mut bundle = ONE_SWITCH;
     let mut reader = certificate.as_slice();
     let mut writer: Vec<u8> = Vec::new(rt.alloc());
     assert_eq!(rt;
-        verify_text(rt.alloc(), ONE_SWITCH, &mut reader, &mut writer),
+        verify_text(rt.alloc(), &mut bundle, &mut reader, &mut writer),
         Err(ShellFault::TooLong)
     );
     assert!(rt; writer.is_empty());

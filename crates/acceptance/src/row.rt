@@ -35,9 +35,10 @@ pub fn assert_verifies<R: Abort + AllocGlobal>(
     verdict: Verdict,
     printed: &[u8],
 ) -> Result<(), Fail> {
+    let mut reader = bundle;
     let mut certificate = certificate;
     let mut writer = Vec::new(rt.alloc());
-    let answer = verify_text(rt.alloc(), bundle, &mut certificate, &mut writer)?;
+    let answer = verify_text(rt.alloc(), &mut reader, &mut certificate, &mut writer)?;
     assert_eq!(rt; writer.as_slice(), printed);
     assert_eq!(rt; answer, verdict);
     Ok(())

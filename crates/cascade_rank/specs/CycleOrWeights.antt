@@ -2,7 +2,7 @@
 use Rattle.std.specs.Prelude.{◌≡◌, ◌<◌, true, false, List, length}
 use Rattle.std.specs.List.{All}
 use Rattle.mpf_plan.specs.PlanView.{PlanView}
-use Rattle.mpf_plan.specs.Valid.{IsValid}
+use Rattle.mpf_plan.specs.Valid.{HasEntries}
 use Rattle.mpf_plan.specs.declared.entries.EventId.{EventId}
 use Rattle.cascade_rank.specs.Weights.{IsLeastFitting}
 use Rattle.cascade_rank.specs.LeadsTo.{is_open, IsCycle, HasNoFit}
@@ -14,7 +14,7 @@ CycleHasNoFit = (plan : PlanView) (events : List EventId) → IsCycle plan event
 
 -- where an event of the plan is not grounded, there are events that lead to each other
 abbrev pub OpenHasCycle : Type 0
-OpenHasCycle = (plan : PlanView) → IsValid plan → (e : EventId) → e.0 < length plan.events → is_open plan e ≡ true → (events : List EventId) × IsCycle plan events
+OpenHasCycle = (plan : PlanView) → HasEntries plan → (e : EventId) → e.0 < length plan.events → is_open plan e ≡ true → (events : List EventId) × IsCycle plan events
 
 -- and of events that lead to each other none is grounded
 abbrev pub CycleIsOpen : Type 0
@@ -22,4 +22,4 @@ CycleIsOpen = (plan : PlanView) (events : List EventId) → IsCycle plan events 
 
 -- where all are grounded, the ranks are the least weights that fit
 abbrev pub GroundedHasLeast : Type 0
-GroundedHasLeast = (plan : PlanView) → IsValid plan → ((e : EventId) → e.0 < length plan.events → is_open plan e ≡ false) → IsLeastFitting plan (ranks plan)
+GroundedHasLeast = (plan : PlanView) → HasEntries plan → ((e : EventId) → e.0 < length plan.events → is_open plan e ≡ false) → IsLeastFitting plan (ranks plan)

@@ -2,8 +2,8 @@
 
 ghost use Rattle.cascade_rank.specs.CycleOrWeights.{CycleHasNoFit, OpenHasCycle, CycleIsOpen, GroundedHasLeast};
 
-/// The law of weights: a valid plan has weights that fit exactly where no events of it lead to
-/// each other without end.
+/// The law of weights: a plan in which every number is that of an entry, as in every valid plan, has
+/// weights that fit exactly where no events of it lead to each other without end.
 ///
 /// Where some do, no weights fit, and one can go on without end from each of them. Wherever one
 /// can go on without end from an event, some do. And where one can from none, there are least

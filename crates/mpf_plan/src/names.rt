@@ -8,8 +8,8 @@ ghost use Rattle.mpf_plan.specs.NamesKept.{names_kept};
 use indexmap::IndexSet;
 use std::hash::{BuildHasher, DefaultHasher};
 
-/// Makes the hashers of names. They start in a state that comes from all names of the rows: another
-/// name changes every hash, so nobody can choose names whose hashes collide.
+/// Makes the hashers of names. They start in a state that comes from all names of the rows. So no
+/// hash is known before all names are chosen, and another name changes every hash.
 #[derive(Clone, Copy)]
 pub(crate) struct NameHashing {
     pub(crate) start: DefaultHasher,

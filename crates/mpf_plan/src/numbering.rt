@@ -72,12 +72,13 @@ fn hashing_of(alloc: Global, rows: &[Row]) -> Result<NameHashing, AllocError> {
     Ok(NameHashing { start })
 }
 
-/// Each name that the contributions use.
+/// Each name that the contributions use, and after it a byte that is in no name.
 fn feed(hasher: &mut DefaultHasher, contributions: &[Contribution]) {
     for contribution in contributions {
         if let Some((_, name)) = used(contribution) {
             hasher.write(name.front);
             hasher.write(name.end);
+            hasher.write(b"\n");
         }
     }
 }

@@ -77,9 +77,9 @@ fn verify<'a, R: Files + Input + AllocGlobal, W: Write>(
     let Ok(mut certificate) = fs::open(rt, path) else {
         return Err(Failure::at(ShellFault::Read, path));
     };
-    verify_text(rt.alloc(), &bundle, &mut certificate, writer).map_err(|fault| Failure::at(
-        fault, path,
-    ))
+    let mut text = bundle.as_slice();
+    verify_text(rt.alloc(), &mut text, &mut certificate, writer)
+        .map_err(|fault| Failure::at(fault, path))
 }
 
 /// Loads the bundle, and plays the log only where it is accepted.

@@ -1,6 +1,6 @@
 //! A bundle is read and checked, and the reply to it is written.
 
-ghost use Rattle.std.specs.Prelude.{◌≡◌, ◌≢◌, ◌<◌, ◌≤◌, IfOk, OnOk, IfErr, IfSome, IsSome, IsErrOf, length, map, option_map};
+ghost use Rattle.std.specs.Prelude.{◌≡◌, ◌≢◌, ◌<◌, ◌≤◌, IfOk, OnOk, IfErr, IfSome, IsSome, IsErrOf, length, map, option_map, ◌⊎◌};
 ghost use Rattle.std.specs.Io.KnownBytes.{Appends, Keeps};
 ghost use Rattle.mpf_config.specs.View.{rows_view, note_view};
 ghost use Rattle.mpf_config.specs.Reading.{rows_at};
@@ -47,26 +47,25 @@ pub fn check_text<R: Read, W: Write>(
     }
 }
 
-/// Reads the certificate of a bundle, of at most 1 MiB, and writes what `verify` prints for both: a
-/// line for each note on the bundle's rows, and then `yes` and the bound of the certificate's
-/// weights, or why they are refused and `no`. The whole certificate is read before either is
-/// checked. Nothing is written before the answer is known, so after `NoMemory`, `Read` and
-/// `TooLong` (a longer certificate) nothing has been; how much was after `Write` is not said.
-///
-/// The bundle is a text here, since it has to be read before the certificate is opened: where
-/// standard input is closed, a file that is opened takes its place.
-pub fn verify_text<Q: Read, W: Write>(
+/// Reads a bundle, of at most 8 MiB, and a certificate, of at most 1 MiB, and writes what `verify`
+/// prints for them: a line for each note on the bundle's rows, and then `yes` and the bound of the
+/// certificate's weights, or why they are refused and `no`. First the whole bundle is read, then
+/// the whole certificate, and only then is either checked. Nothing is written before the answer is
+/// known, so after `NoMemory`, `Read` and `TooLong` (a longer text) nothing has been; how much was
+/// after `Write` is not said.
+pub fn verify_text<R: Read, Q: Read, W: Write>(
     alloc: Global,
-    bundle: &[u8],
+    bundle: &mut R,
     certificate: &mut Q,
     writer: &mut W,
 ) -> Result<Verdict, ShellFault>
-    ensures verdict { IfOk result (λ v. IfSome (Q.remaining certificate.old) (λ stated. v ≡ verdict_of (reply_with stated bundle.now))) }
-    ensures written { OnOk result (IfSome (Q.remaining certificate.old)
-        (λ stated. Appends (W.contents writer.old) (W.contents writer.new) (verify_output stated bundle.now))) }
+    ensures verdict { IfOk result (λ v. IfSome (R.remaining bundle.old) (λ text. IfSome (Q.remaining certificate.old) (λ stated. v ≡ verdict_of (reply_with stated text)))) }
+    ensures written { OnOk result (IfSome (R.remaining bundle.old) (λ text. IfSome (Q.remaining certificate.old)
+        (λ stated. Appends (W.contents writer.old) (W.contents writer.new) (verify_output stated text)))) }
     ensures silent { IfErr result (λ e. e ≢ ShellFault.Write → Keeps (W.contents writer.old) (W.contents writer.new)) }
-    ensures within { OnOk result (IfSome (Q.remaining certificate.old) (λ stated. length stated ≤ CERTIFICATE_LIMIT)) }
-    ensures too_long { IsErrOf result ShellFault.TooLong → IfSome (Q.remaining certificate.old) (λ stated. CERTIFICATE_LIMIT < length stated) }
+    ensures within { OnOk result (IfSome (R.remaining bundle.old) (λ text. length text ≤ BUNDLE_LIMIT) × IfSome (Q.remaining certificate.old) (λ stated. length stated ≤ CERTIFICATE_LIMIT)) }
+    ensures too_long { IsErrOf result ShellFault.TooLong →
+        IfSome (R.remaining bundle.old) (λ text. BUNDLE_LIMIT < length text) ⊎ IfSome (Q.remaining certificate.old) (λ stated. CERTIFICATE_LIMIT < length stated) }
 {
     let reply = verify_bundle(alloc, bundle, certificate)?;
     match write_verified(&reply, writer) {
@@ -109,20 +108,22 @@ fn check_bundle<R: Read>(alloc: Global, reader: &mut R) -> Result<Reply, ShellFa
     reply_to_text(alloc, &bundle, None)
 }
 
-/// Reads a certificate, and verifies it on a bundle. Fails by memory and by the reader, and where
-/// the certificate is too long.
-fn verify_bundle<Q: Read>(
+/// Reads a bundle, then a certificate, and verifies it. Fails by memory and by the readers, and
+/// where one is too long.
+fn verify_bundle<R: Read, Q: Read>(
     alloc: Global,
-    bundle: &[u8],
+    bundle: &mut R,
     certificate: &mut Q,
 ) -> Result<Reply, ShellFault>
-    ensures exact { IfOk result (λ reply. IfSome (Q.remaining certificate.old) (λ stated. reply_with stated bundle.now ≡ reply_view reply)) }
-    ensures within { OnOk result (IfSome (Q.remaining certificate.old) (λ stated. length stated ≤ CERTIFICATE_LIMIT)) }
-    ensures too_long { IsErrOf result ShellFault.TooLong → IfSome (Q.remaining certificate.old) (λ stated. CERTIFICATE_LIMIT < length stated) }
+    ensures exact { IfOk result (λ reply. IfSome (R.remaining bundle.old) (λ text. IfSome (Q.remaining certificate.old) (λ stated. reply_with stated text ≡ reply_view reply))) }
+    ensures within { OnOk result (IfSome (R.remaining bundle.old) (λ text. length text ≤ BUNDLE_LIMIT) × IfSome (Q.remaining certificate.old) (λ stated. length stated ≤ CERTIFICATE_LIMIT)) }
+    ensures too_long { IsErrOf result ShellFault.TooLong →
+        IfSome (R.remaining bundle.old) (λ text. BUNDLE_LIMIT < length text) ⊎ IfSome (Q.remaining certificate.old) (λ stated. CERTIFICATE_LIMIT < length stated) }
     ensures reads_only { IfErr result (λ e. e ≢ ShellFault.Write) }
 {
+    let text = read_all(alloc, bundle, BUNDLE_LIMIT)?;
     let stated = read_all(alloc, certificate, CERTIFICATE_LIMIT)?;
-    reply_to_text(alloc, bundle, Some(stated.as_slice()))
+    reply_to_text(alloc, &text, Some(stated.as_slice()))
 }
 
 /// The reply to a bundle, with the weights of a certificate where there is one. Fails only by
