@@ -6,21 +6,21 @@ ghost use Rattle.mpf_plan.specs.Limits.{limit_of, order_of, tables_in_order};
 ghost use Rattle.mpf_plan.specs.NamesKept.{names_kept};
 
 use indexmap::IndexSet;
-use std::hash::{BuildHasher, DefaultHasher};
+use std::hash::{BuildHasher, FoldHasher};
 
 /// Makes the hashers of names. They start in a state that comes from all names of the rows. So no
 /// hash is known before all names are chosen, and another name changes every hash.
 #[derive(Clone, Copy)]
 pub(crate) struct NameHashing {
-    pub(crate) start: DefaultHasher,
+    pub(crate) start: FoldHasher,
 }
 
 impl BuildHasher for NameHashing {
-    type Hasher = DefaultHasher;
+    type Hasher = FoldHasher;
 
     ghost build_hasher = { λ hashing. hashing.start };
 
-    fn build_hasher(&self) -> DefaultHasher {
+    fn build_hasher(&self) -> FoldHasher {
         self.start
     }
 }

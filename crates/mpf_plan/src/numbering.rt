@@ -15,7 +15,7 @@ use crate::contribution::{Contribution, Parts, given, used, write_name};
 use crate::fault::{PlanFault, TABLES, Table};
 use crate::names::{Found, NameHashing, NameSet, NameSets, NameTable};
 use std::alloc::{AllocError, Global};
-use std::hash::{DefaultHasher, Hasher};
+use std::hash::{DefaultHasher, FoldHasher, Hasher};
 
 impl NameSets {
     /// The names of a table.
@@ -61,14 +61,16 @@ pub(crate) fn number_among(
 
 // ---- hashing
 
-/// Hashing by all names that the rows use.
+/// Hashing by all names that the rows use. Their SipHash is the first thing that is hashed.
 fn hashing_of(alloc: Global, rows: &[Row]) -> Result<NameHashing, AllocError> {
-    let mut start = DefaultHasher::new();
+    let mut all = DefaultHasher::new();
     let mut contributions = Vec::new(alloc);
     for row in rows {
         collect_row(&mut contributions, machine_place(), *row)?;
-        feed(&mut start, &contributions);
+        feed(&mut all, &contributions);
     }
+    let mut start = FoldHasher::default();
+    start.write_u64(all.finish());
     Ok(NameHashing { start })
 }
 
