@@ -3,9 +3,7 @@
 ghost use Rattle.std.specs.Prelude.{◌≤◌, length};
 
 use crate::row::ONE_SWITCH;
-use pinball_shell::{
-    Failure, ShellFault, check_text, load_text, play_text, read_all, verify_text,
-};
+use pinball_shell::{Failure, ShellFault, check_text, load_text, play_text, read_all, verify_text};
 use std::io::{self, ErrorKind, Read, Write};
 use std::process::Abort;
 use std::test::Fail;

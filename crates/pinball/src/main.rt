@@ -78,8 +78,9 @@ fn verify<'a, R: Files + Input + AllocGlobal, W: Write>(
         return Err(Failure::at(ShellFault::Read, path));
     };
     let mut text = bundle.as_slice();
-    verify_text(rt.alloc(), &mut text, &mut certificate, writer)
-        .map_err(|fault| Failure::at(fault, path))
+    verify_text(rt.alloc(), &mut text, &mut certificate, writer).map_err(|fault| Failure::at(
+        fault, path,
+    ))
 }
 
 /// Loads the bundle, and plays the log only where it is accepted.
