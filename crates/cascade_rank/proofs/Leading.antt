@@ -101,7 +101,7 @@ module _ (plan : PlanView) (places : List BindingId) (i : ℕ) where
   pub event-places : (e : EventId) → places ≡ places_of plan e → length places ≤ i → cost_of_event plan e ≡ Both (Lines 1) (Both (each_of (cost_at_place plan) (take i places)) (cost_of_work plan e))
   event-places e are whole =
       let taken : take i places ≡ places_of plan e = take_all i places whole ∙ are in
-      let bound = each_of-map (cost_of_binding plan) (λ (p : BindingId). binding_at plan p.0) (places_of plan e) ∙ ap (each_of (cost_of_binding plan)) (places_of-bound plan e) in
+      let bound = each_of-map (cost_of_binding plan) (λ (p : BindingId). binding_at plan p) (places_of plan e) ∙ ap (each_of (cost_of_binding plan)) (places_of-bound plan e) in
       sym (ap (λ (c : Cost). Both (Lines 1) (Both c (cost_of_work plan e))) (ap (each_of (cost_at_place plan)) taken ∙ bound))
 
   -- the event leads to what one place more posts

@@ -26,7 +26,7 @@ binding-within plan valid n b at =
 module _ (plan : PlanView) where
   -- what the binding at a place costs
   abbrev pub cost_at_place : BindingId → Cost
-  cost_at_place p = cost_of_binding plan (binding_at plan p.0)
+  cost_at_place p = cost_of_binding plan (binding_at plan p)
 
   -- the price of a line and of what is at the first places, and at one place more
   pub price-places_more : (w : EventId → ℕ) (places : List BindingId) (i : ℕ) (b : Binding) (total cost : ℕ) → i < length places
@@ -46,7 +46,7 @@ module _ (plan : PlanView) where
     -- there are no more places than bindings
     pub places-few : length places ≤ length plan.bindings
     places-few =
-        let same = length-map (places_of plan e) (λ (p : BindingId). binding_at plan p.0) in
+        let same = length-map (places_of plan e) (λ (p : BindingId). binding_at plan p) in
         let whole = ap length (places_of-bound plan e) in
         let passed = length-filter (λ b. b.event.0 == e.0) plan.bindings in
         let few = count_by-le-length (λ b. b.event.0 == e.0) plan.bindings in
@@ -56,6 +56,6 @@ module _ (plan : PlanView) where
     pub price-places_all : (w : EventId → ℕ) (i total : ℕ) → length places ≤ i → total ≡ 1 + price w (each_of cost_at_place (take i places)) → total ≡ price w (cost_of_event plan e)
     price-places_all w i total whole so_far =
         let taken : take i places ≡ places_of plan e = take_all i places whole ∙ are in
-        let bound = each_of-map (cost_of_binding plan) (λ (p : BindingId). binding_at plan p.0) (places_of plan e) ∙ ap (each_of (cost_of_binding plan)) (places_of-bound plan e) in
+        let bound = each_of-map (cost_of_binding plan) (λ (p : BindingId). binding_at plan p) (places_of plan e) ∙ ap (each_of (cost_of_binding plan)) (places_of-bound plan e) in
         let each = ap (price w) (ap (each_of cost_at_place) taken ∙ bound) in
         omega (arith, so_far, each)

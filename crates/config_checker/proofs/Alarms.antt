@@ -44,7 +44,7 @@ module _ (plan : PlanView) where
   switches-binding b s = switches-target b.owner b.target s
 
   switches-handler : (place : BindingId) (s : Machine) → (do_handler plan place s).switches ≡ s.switches
-  switches-handler place s = switches-binding (binding_at plan place.0) s
+  switches-handler place s = switches-binding (binding_at plan place) s
 
   pub switches-step : (s t : Machine) → EventStep plan s t → t.switches ≡ s.switches
   switches-step s t st =

@@ -15,7 +15,6 @@ use Rattle.cascade_rank.specs.Cost.{Cost, price, cost_of_acceptance}
 use Rattle.cascade_rank.specs.Events.{weight_of}
 use Rattle.cascade_rank.specs.Weights.{IsFitting, bound_of}
 use Rattle.cascade_rank.specs.Below.{IsBelow}
-use Rattle.mpf_plan.proofs.ValidPlan.{has_entries}
 use Rattle.cascade_rank.proofs.Within.{IsBelow-acceptance}
 use Rattle.cascade_rank.proofs.Switches.{acceptance-within_bound}
 use Rattle.event_queue.specs.declared.queue.Posted.{Posted}
@@ -38,11 +37,11 @@ module _ (plan : PlanView) (valid : IsValid plan) where
   -- a stimulus posts events of the plan
   accepted_below : (o : Option Acceptance) → IsBelow (length plan.events) (cost_if_accepted plan o)
   accepted_below None = tt
-  accepted_below (Some a) = IsBelow-acceptance plan (has_entries plan valid) a.switch a.active
+  accepted_below (Some a) = IsBelow-acceptance plan valid.entries a.switch a.active
 
   pub stimulus_below : (s : Machine) (stimulus : Stimulus) → IsBelow (length plan.events) (cost_of_stimulus plan s stimulus)
   stimulus_below s (Change at n level) = accepted_below (reported_by_change n level at s.switches)
-  stimulus_below s (Alarm at (switch n)) = IsBelow-acceptance plan (has_entries plan valid) n (reported (accept n s.switches) n).active
+  stimulus_below s (Alarm at (switch n)) = IsBelow-acceptance plan valid.entries n (reported (accept n s.switches) n).active
   stimulus_below s (Wait at) = tt
 
   -- each waiting event is one of the plan's

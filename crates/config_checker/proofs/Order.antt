@@ -11,7 +11,6 @@ use Rattle.mpf_plan.specs.declared.entries.Binding.{Binding}
 use Rattle.mpf_plan.proofs.BoundTo.{places_of-bound, places_of-within}
 use Rattle.cascade_rank.specs.Cost.{Cost, price, each_of, cost_of_binding}
 use Rattle.cascade_rank.specs.Weights.{need}
-use Rattle.mpf_plan.proofs.ValidPlan.{has_entries}
 use Rattle.cascade_rank.proofs.Prices.{price-each_sum}
 use Rattle.cascade_rank.specs.Below.{IsBelow}
 use Rattle.cascade_rank.proofs.Within.{each_below, IsBelow-binding}
@@ -32,10 +31,10 @@ module _ (plan : PlanView) where
   handlers_cost : (w : EventId → ℕ) (e : EventId) → price w (each_of (cost_of_handler plan) (handlers plan e)) ≤ price w (each_of (cost_of_binding plan) (bound_to plan e))
   handlers_cost w e =
       let f : BindingId → ℕ = λ p. price w (cost_of_handler plan p) in
-      let both = sum_by-filter_both (λ p. takes_part (binding_at plan p.0).owner) (λ p. not (takes_part (binding_at plan p.0).owner)) (λ p. refl) f (places_of plan e) in
+      let both = sum_by-filter_both (λ p. takes_part (binding_at plan p).owner) (λ p. not (takes_part (binding_at plan p).owner)) (λ p. refl) f (places_of plan e) in
       let kept = price-each_sum w (cost_of_handler plan) (handlers plan e) in
       let all = price-each_sum w (cost_of_handler plan) (places_of plan e) in
-      let seen = each_of-map (cost_of_binding plan) (λ p. binding_at plan p.0) (places_of plan e) w in
+      let seen = each_of-map (cost_of_binding plan) (λ p. binding_at plan p) (places_of plan e) w in
       let bound = ap (λ (bs : List Binding). price w (each_of (cost_of_binding plan) bs)) (places_of-bound plan e) in
       omega (arith, both, kept, all, seen, bound)
 
@@ -52,9 +51,9 @@ module _ (plan : PlanView) where
   order_below valid s e order h =
       let count = length plan.bindings in (
         each_below (length plan.events) (cost_of_handler plan) (λ p. p.0 < count)
-            (λ p l. IsBelow-binding plan (has_entries plan valid) (binding_at plan p.0) (All-get_or (IsBindingWithin plan) plan.bindings p.0 no_binding l valid.bindings)) order
+            (λ p l. IsBelow-binding plan valid.entries (binding_at plan p) (All-get_or (IsBindingWithin plan) plan.bindings p.0 no_binding l valid.entries.bindings)) order
             (All-permutation (λ p. p.0 < count) (handlers plan e) order h.permutation
-            (All-filter (λ p. takes_part (binding_at plan p.0).owner) (λ p. p.0 < count) (places_of plan e) (places_of-within plan e))),
+            (All-filter (λ p. takes_part (binding_at plan p).owner) (λ p. p.0 < count) (places_of plan e) (places_of-within plan e))),
         tt,
       )
 

@@ -40,10 +40,10 @@ module _ (plan : PlanView) where
   does-binding b s = does-target b.owner b.target s
 
   abbrev pub cost_of_handler : BindingId → Cost
-  cost_of_handler place = cost_of_binding plan (binding_at plan place.0)
+  cost_of_handler place = cost_of_binding plan (binding_at plan place)
 
   pub does-handler : (place : BindingId) (s : Machine) → Does (cost_of_handler place) s (do_handler plan place s)
-  does-handler place s = does-binding (binding_at plan place.0) s
+  does-handler place s = does-binding (binding_at plan place) s
 
   pub does-handlers : (order : List BindingId) (s : Machine) → Does (each_of cost_of_handler order) s (all_do (do_handler plan) order s)
   does-handlers order s = all_do-does (do_handler plan) cost_of_handler does-handler order s

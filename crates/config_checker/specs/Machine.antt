@@ -65,7 +65,7 @@ do_binding plan b s = do_target plan b.owner b.target s
 
 -- the handler at a place runs
 abbrev pub do_handler : PlanView → BindingId → Machine → Machine
-do_handler plan place s = do_binding plan (binding_at plan place.0) s
+do_handler plan place s = do_binding plan (binding_at plan place) s
 
 -- ---- switches
 

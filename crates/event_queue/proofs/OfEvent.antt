@@ -12,14 +12,14 @@ use Rattle.event_queue.specs.PlanOrder.{in_order}
 use Rattle.event_queue.proofs.Sort.{by_priority-zeros}
 
 module _ (plan : PlanView) (valid : IsValid plan) (e : EventId) where
-  on : (p : BindingId) → p.0 < length plan.bindings → (binding_at plan p.0).event.0 ≡ e.0 → e.0 < length plan.events
-  on p within is = let known = (valid.bindings p.0 no_binding within).0 in omega arith
+  on : (p : BindingId) → p.0 < length plan.bindings → (binding_at plan p).event.0 ≡ e.0 → e.0 < length plan.events
+  on p within is = let known = (valid.entries.bindings p.0 no_binding within).0 in omega arith
 
   -- an event that the plan does not have has nothing bound to it
   pub none-bound : length plan.events ≤ e.0 → [] ≡ places_of plan e
   none-bound past = by (places_of plan e) (places_of-within plan e) (places_of-on plan e)
     where
-      by : (ps : List BindingId) → All (λ p. p.0 < length plan.bindings) ps → All (λ p. (binding_at plan p.0).event.0 ≡ e.0) ps → [] ≡ ps
+      by : (ps : List BindingId) → All (λ p. p.0 < length plan.bindings) ps → All (λ p. (binding_at plan p).event.0 ≡ e.0) ps → [] ≡ ps
       by [] within is = refl
       by (p ∷ ps) within is =
           let known = on p (within 0 p (omega arith)) (is 0 p (omega arith)) in

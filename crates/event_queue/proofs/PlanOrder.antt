@@ -36,7 +36,7 @@ places-increase (n ∷ ns) h =
 
 handlers-increase : (plan : PlanView) (e : EventId) → AllPairs IsBelow (handlers plan e)
 handlers-increase plan e =
-    let on : ℕ → Bool = λ n. (binding_at plan n).event.0 == e.0 in
+    let on : ℕ → Bool = λ n. (binding_at plan (record { 0 = n })).event.0 == e.0 in
     let all = range_with_len 0 (length plan.bindings) in
     AllPairs-filter IsBelow (runs_at plan) (places_of plan e)
     (places-increase (filter on all) (AllPairs-filter (λ x y. x < y) on all (range-increases (length plan.bindings) 0)))

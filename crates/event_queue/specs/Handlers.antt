@@ -18,14 +18,14 @@ takes_part owners.Machine = true
 
 -- whether the binding at a place runs
 abbrev pub runs_at : PlanView → BindingId → Bool
-runs_at plan p = takes_part (binding_at plan p.0).owner
+runs_at plan p = takes_part (binding_at plan p).owner
 
 -- the places of an event's handlers, in plan order: of what is bound to it, the bindings whose owner takes part
 abbrev pub handlers : PlanView → EventId → List BindingId
 handlers plan e = filter (runs_at plan) (places_of plan e)
 
 abbrev pub priority_at : PlanView → BindingId → ℕ
-priority_at plan p = (binding_at plan p.0).priority
+priority_at plan p = (binding_at plan p).priority
 
 -- no binding has a greater priority than one before it
 abbrev pub IsDescending : PlanView → List BindingId → Type 0

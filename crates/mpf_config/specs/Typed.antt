@@ -9,6 +9,7 @@ use Rattle.section_tables.specs.Rows.{Written, Plain, word, name, event, Value, 
 use Rattle.section_tables.specs.Kinds.{Setting}
 use Rattle.section_tables.specs.Tables.{found_in, setting_key}
 use Rattle.section_tables.specs.SectionTables as tables
+pub use Rattle.section_tables.specs.SectionTables.{switches_name, event_player_name}
 use Rattle.section_tables.specs.Entries.{written_at}
 use Rattle.mpf_config.specs.Rows.{Switch, EventPlayer, Content, entries, players, SectionRows}
 
@@ -86,8 +87,8 @@ players_of section s = if bytes_eq s.name section then players_in s.content else
 
 -- the switches of a section: of `switches` its entries, of any other none
 unfoldable pub switches_in : SectionRows → List Switch
-switches_in s = map switch_of (entries_of tables.switches_name s)
+switches_in s = map switch_of (entries_of switches_name s)
 
 -- the entries of `event_player`, as well
 unfoldable pub event_players_in : SectionRows → List EventPlayer
-event_players_in s = map event_player_of (players_of tables.event_player_name s)
+event_players_in s = map event_player_of (players_of event_player_name s)

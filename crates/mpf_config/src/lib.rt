@@ -18,4 +18,5 @@ pub use escape::{escaped_makes_no_line, write_escaped};
 pub use fault::{ConfigFault, Fault, FaultKind, write_fault};
 pub use notes::write_note;
 pub use section_tables::rows::{Entry, Fields, Guard, Handler, Keyed, Name, Plain, Player, Value};
+pub use section_tables::tables::{EVENT_PLAYER_NAME, SWITCHES_NAME};
 pub use typed::{EventPlayer, NameAt, Switch, as_event_player, as_switch};

@@ -82,27 +82,31 @@ places_among-more bindings b e =
 -- ---- the places of what is bound to an event of a plan
 
 module _ (plan : PlanView) (e : EventId) where
-  stand : (i : ℕ) → i < length plan.bindings → binding_at plan (0 + i) ≡ get_or plan.bindings i no_binding
-  stand i within = let here : 0 + i ≡ i = omega arith in ap (binding_at plan) here
+  -- the binding of a number
+  abbrev at : ℕ → Binding
+  at n = binding_at plan (record { 0 = n })
 
-  numbers : filter (λ n. on e (binding_at plan n)) (range_with_len 0 (length plan.bindings)) ≡ numbers_from (on e) 0 plan.bindings
-  numbers = numbers-filter (on e) (binding_at plan) no_binding 0 plan.bindings stand
+  stand : (i : ℕ) → i < length plan.bindings → at (0 + i) ≡ get_or plan.bindings i no_binding
+  stand i within = let here : 0 + i ≡ i = omega arith in ap at here
+
+  numbers : filter (λ n. on e (at n)) (range_with_len 0 (length plan.bindings)) ≡ numbers_from (on e) 0 plan.bindings
+  numbers = numbers-filter (on e) at no_binding 0 plan.bindings stand
 
   pub places_of-among : places_of plan e ≡ places_among plan.bindings e
   places_of-among = ap (map (λ n. record { 0 = n })) numbers
 
   -- what stands at the places is what is bound to the event
-  pub places_of-bound : map (λ p. binding_at plan p.0) (places_of plan e) ≡ bound_to plan e
+  pub places_of-bound : map (λ p. binding_at plan p) (places_of plan e) ≡ bound_to plan e
   places_of-bound =
-      map-map (λ (p : BindingId). binding_at plan p.0) (λ n. record { 0 = n }) (filter (λ n. on e (binding_at plan n)) (range_with_len 0 (length plan.bindings)))
-      ∙ ap (map (binding_at plan)) numbers
-      ∙ numbers-map (on e) (binding_at plan) no_binding 0 plan.bindings stand
+      map-map (λ (p : BindingId). binding_at plan p) (λ n. record { 0 = n }) (filter (λ n. on e (at n)) (range_with_len 0 (length plan.bindings)))
+      ∙ ap (map at) numbers
+      ∙ numbers-map (on e) at no_binding 0 plan.bindings stand
 
   -- each is that of a binding
   pub places_of-within : All (λ p. p.0 < length plan.bindings) (places_of plan e)
   places_of-within =
       let count = length plan.bindings in
-      let bound : ℕ → Bool = λ n. on e (binding_at plan n) in
+      let bound : ℕ → Bool = λ n. on e (at n) in
       All-map (λ (p : BindingId). p.0 < count) (λ n. record { 0 = n }) (filter bound (range_with_len 0 count))
       (All-filter bound (λ n. n < count) (range_with_len 0 count)
       (All-from_get_or (λ n. n < count) (range_with_len 0 count) 0 (λ i within.
@@ -110,9 +114,9 @@ module _ (plan : PlanView) (e : EventId) where
       omega (arith, get_or-range_with_len 0 count i 0 small))))
 
   -- each is that of a binding on the event
-  pub places_of-on : All (λ p. (binding_at plan p.0).event.0 ≡ e.0) (places_of plan e)
+  pub places_of-on : All (λ p. (binding_at plan p).event.0 ≡ e.0) (places_of plan e)
   places_of-on =
-      let bound : ℕ → Bool = λ n. on e (binding_at plan n) in
+      let bound : ℕ → Bool = λ n. on e (at n) in
       let there = filter bound (range_with_len 0 (length plan.bindings)) in
-      All-map (λ (p : BindingId). (binding_at plan p.0).event.0 ≡ e.0) (λ n. record { 0 = n }) there
-      (All-weaker (λ n. bound n ≡ true) (λ n. (binding_at plan n).event.0 ≡ e.0) (λ n. eqb-true (binding_at plan n).event.0 e.0) there (filter_passes bound (range_with_len 0 (length plan.bindings))))
+      All-map (λ (p : BindingId). (binding_at plan p).event.0 ≡ e.0) (λ n. record { 0 = n }) there
+      (All-weaker (λ n. bound n ≡ true) (λ n. (at n).event.0 ≡ e.0) (λ n. eqb-true (at n).event.0 e.0) there (filter_passes bound (range_with_len 0 (length plan.bindings))))

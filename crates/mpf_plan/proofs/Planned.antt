@@ -66,4 +66,4 @@ module _ (rows : Rows) (rs numbered_of : List found.Row) (are : rows_view rs ≡
 
 -- each binding is of an event of the plan
 pub events_bound : (plan : PlanView) → IsValid plan → All (λ b. b.event.0 < length plan.events) plan.bindings
-events_bound plan valid = All-weaker (IsBindingWithin plan) (λ b. b.event.0 < length plan.events) (λ b h. h.0) plan.bindings valid.bindings
+events_bound plan valid = All-weaker (IsBindingWithin plan) (λ b. b.event.0 < length plan.events) (λ b h. h.0) plan.bindings valid.entries.bindings

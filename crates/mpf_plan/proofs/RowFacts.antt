@@ -6,7 +6,7 @@ use Rattle.std.proofs.lemmas.List.{length-map}
 use Rattle.std.proofs.lemmas.List.Elements.{All-nil, All-cons, All-head, All-tail, All-append, All-map, All-weaker}
 use Rattle.mpf_config.specs.Rows.{Written, Entry, Player, Switch, EventPlayer, Content, entries, players, SectionRows}
 use Rattle.mpf_config.specs.Named.{IsName, AllNames, IsNamedEntry, IsNamedPlayerEntry, IsNamedSwitch, IsNamedPlayer, IsNamedContent, IsNamed}
-use Rattle.mpf_config.specs.Typed.{switch_of, event_player_of}
+use Rattle.mpf_config.specs.Typed.{switches_name, event_player_name, switch_of, event_player_of}
 use Rattle.mpf_config.specs.Short.{IsShortEntry, IsShortPlayer, IsShortContent, IsShortSection}
 use Rattle.mpf_config.proofs.RowNames.{switch_named, event_player_named}
 use Rattle.mpf_config.proofs.ShortRows.{event_player_short}
@@ -162,13 +162,13 @@ module _ (P : List ℕ → Type 0) (of : IsOfNames P) where
   unfolding entry_contributions
   entry_facts section e =
       let switch = switch_facts (switch_of e) in
-      either (bytes_eq section (codes "switches")) (switch_contributions (switch_of e)) []
+      either (bytes_eq section switches_name) (switch_contributions (switch_of e)) []
       (record { names = λ h. switch.names (switch_named e h); lists = λ h. switch.lists tt })
       (none_facts (IsNamedEntry e) (IsShortEntry 1024 e))
 
   player_entry_facts : (section : List ℕ) (p : Player) → Facts P (IsNamedPlayerEntry p) (IsShortPlayer 1024 p) (player_entry_contributions machine_place section p)
   unfolding player_entry_contributions
-  player_entry_facts section p = by (bytes_eq section (codes "event_player"))
+  player_entry_facts section p = by (bytes_eq section event_player_name)
     where
       row : Facts P (IsNamedPlayer (event_player_of p)) (length (event_player_of p).posts ≤ 1024) (player_contributions machine_place (event_player_of p))
       row = player_facts (event_player_of p)

@@ -1,10 +1,9 @@
 -- Bindings have no names: nothing is given among them under one.
 use Rattle.std.proofs.Common.{◌≡◌, ℕ, Bool, true, false, cond, List, [], ◌∷◌, ◌++◌, map, refl, ◌∙◌, ap}
-use Rattle.std.specs.Prelude.{codes}
 use Rattle.std.specs.Str.{bytes_eq}
 use Rattle.std.proofs.lemmas.Grind.{flat_map-append}
 use Rattle.mpf_config.specs.Rows.{Entry, Player, Switch, EventPlayer}
-use Rattle.mpf_config.specs.Typed.{switch_of, event_player_of}
+use Rattle.mpf_config.specs.Typed.{switches_name, event_player_name, switch_of, event_player_of}
 use Rattle.mpf_plan.specs.declared.contribution.Place.{Place}
 use Rattle.mpf_plan.specs.declared.fault.Table.TheVariants.{Bindings}
 use Rattle.mpf_plan.specs.Contributions.{Contribution, active, inactive, post, texts, active_posts, inactive_posts, switch_contributions, player_contributions, Row, entry, player, entry_contributions, player_entry_contributions, row_contributions, machine_place, given_by}
@@ -36,11 +35,11 @@ in_player place p = each post (λ n. refl) (texts p.posts)
 
 in_entry : (section : List ℕ) (e : Entry) → Unnamed (entry_contributions section e)
 unfolding entry_contributions
-in_entry section e = when (bytes_eq section (codes "switches")) (switch_contributions (switch_of e)) [] (in_switch (switch_of e)) refl
+in_entry section e = when (bytes_eq section switches_name) (switch_contributions (switch_of e)) [] (in_switch (switch_of e)) refl
 
 in_player_entry : (section : List ℕ) (p : Player) → Unnamed (player_entry_contributions machine_place section p)
 unfolding player_entry_contributions
-in_player_entry section p = when (bytes_eq section (codes "event_player")) (player_contributions machine_place (event_player_of p)) [] (in_player machine_place (event_player_of p)) refl
+in_player_entry section p = when (bytes_eq section event_player_name) (player_contributions machine_place (event_player_of p)) [] (in_player machine_place (event_player_of p)) refl
 
 in_row : (r : Row) → Unnamed (row_contributions machine_place r)
 in_row (entry section e) = in_entry section e

@@ -133,9 +133,7 @@ IsValid-plan_from cs short within =
       list_limit = omega (arith, limit, count-bindings cs, count-lists cs);
       action_limit = fit.1;
       names = λ t. subst (AllPairs (λ x y. x ≢ y)) (sym (names-from cs t)) (all_apart (named_of cs t) (named_apart cs t));
-      switches = sound.switches;
-      lists = sound.lists;
-      bindings = sound.bindings;
+      entries = record { switches = sound.switches; lists = sound.lists; bindings = sound.bindings };
       priorities = fit.0;
     }
 
@@ -145,9 +143,6 @@ unfolding plan_of
 IsValid-plan_of rows short within = IsValid-plan_from (contributions_of rows) (sections_short rows.machine short) within
 
 -- ---- whether lists are short or not
-
-pub has_entries : (plan : PlanView) → IsValid plan → HasEntries plan
-has_entries plan valid = record { switches = valid.switches; lists = valid.lists; bindings = valid.bindings }
 
 HasEntries-plan_of : (rows : Rows) → HasEntries (plan_of rows)
 unfolding plan_of

@@ -5,7 +5,7 @@ use Rattle.std.specs.Str.{bytes_eq}
 use Rattle.mpf_config.specs.declared.config.Debounce.{Debounce}
 use Rattle.mpf_config.specs.declared.config.Debounce.TheVariants.{Auto, Quick, Normal}
 use Rattle.mpf_config.specs.Rows.{Written, Entry, Player, Switch, EventPlayer, Content, entries, players, SectionRows, Rows}
-use Rattle.mpf_config.specs.Typed.{switch_of, event_player_of}
+use Rattle.mpf_config.specs.Typed.{switches_name, event_player_name, switch_of, event_player_of}
 use Rattle.mpf_plan.specs.declared.entries.SwitchKind.{SwitchKind}
 use Rattle.mpf_plan.specs.declared.entries.Owner.TheVariants.{Machine}
 use Rattle.mpf_plan.specs.declared.contribution.Place.{Place}
@@ -14,9 +14,9 @@ use Rattle.mpf_plan.specs.declared.contribution.Aim.TheVariants.{Run}
 use Rattle.mpf_plan.specs.declared.fault.Table.{Table}
 use Rattle.mpf_plan.specs.declared.fault.Table.TheVariants.{Switches}
 
--- One thing that an entry gives: what stands in a table under this name; how the switch is read that was given last; an
--- event that this switch posts when it becomes active, or inactive; a binding of an event; an event that the effect list
--- posts which began last.
+-- One thing that an entry gives: an entry of a table, by its name; how the last given switch is read; an event that this
+-- switch posts when it becomes active, or inactive; a binding of an event, with which an effect list begins; an event that
+-- this list posts.
 pub data Contribution : Type 0 where
   gives : Table → List ℕ → Contribution
   reads : SwitchKind → Contribution
@@ -81,12 +81,12 @@ rows_in sections = flat_map (λ s. rows_from s.name s.content) sections
 
 -- what an entry gives, by the name of its section
 unfoldable pub entry_contributions : List ℕ → Entry → List Contribution
-entry_contributions section e = if bytes_eq section (codes "switches") then switch_contributions (switch_of e) else []
+entry_contributions section e = if bytes_eq section switches_name then switch_contributions (switch_of e) else []
 
 -- and an entry of a player
 unfoldable pub player_entry_contributions : Place → List ℕ → Player → List Contribution
 player_entry_contributions place section p =
-    if bytes_eq section (codes "event_player") then player_contributions place (event_player_of p) else []
+    if bytes_eq section event_player_name then player_contributions place (event_player_of p) else []
 
 abbrev pub row_contributions : Place → Row → List Contribution
 row_contributions place (entry section e) = entry_contributions section e

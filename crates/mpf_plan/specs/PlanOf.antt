@@ -23,30 +23,30 @@ event_of names name = record { 0 = number_among names name }
 
 -- ---- a plan that is being made
 
--- the plan so far; which switches are defined; and the switch that came last, where it was the first of its name
+-- the plan so far; which switches are defined; and the number of the last switch, or past the end where that came second by its name
 pub record DraftView : Type 0 where
   pub plan : PlanView
   pub defined : List Bool
   pub last : ℕ
 
--- the switch that came last, where it was the first of its name, is changed so
+-- the last switch is changed so
 abbrev pub last_switch : (Switch → Switch) → DraftView → DraftView
 last_switch change d =
     record d { plan = record d.plan { switches = slice_set d.plan.switches d.last (change (slice_index_or d.plan.switches d.last no_switch)) } }
 
--- the switch of the number comes last, where nothing has defined it: of two entries of one name the first counts
+-- The switch of this number becomes the last one, unless an entry has defined it already: of two entries of one name the first counts.
 abbrev pub with_switch : ℕ → DraftView → DraftView
 with_switch n d =
     cond (slice_index_or d.defined n true)
     (record d { last = length d.defined })
     (record d { defined = slice_set d.defined n true; last = n })
 
--- what stands in a table under this number; a plan has more than the name of switches alone
+-- What is given under this number of a table. Only of switches does a plan hold more than their names.
 abbrev pub with_given : Table → ℕ → DraftView → DraftView
 with_given Switches n d = with_switch n d
 with_given _ n d = d
 
--- the switch that came last is read so
+-- the last switch is read so
 abbrev pub with_kind : SwitchKind → DraftView → DraftView
 with_kind kind d = last_switch (λ s. record s { kind = kind }) d
 

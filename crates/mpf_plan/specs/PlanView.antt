@@ -64,8 +64,8 @@ abbrev pub no_binding : Binding
 no_binding = record { event = record { 0 = 0 }; owner = Machine; priority = 0; target = Run (record { 0 = 0 }) }
 
 -- a binding by its place
-abbrev pub binding_at : PlanView → ℕ → Binding
-binding_at plan n = slice_index_or plan.bindings n no_binding
+abbrev pub binding_at : PlanView → BindingId → Binding
+binding_at plan p = slice_index_or plan.bindings p.0 no_binding
 
 -- what is bound to the event, in plan order
 abbrev pub bound_to : PlanView → EventId → List Binding
@@ -73,4 +73,4 @@ bound_to plan e = filter (λ b. b.event.0 == e.0) plan.bindings
 
 -- the places of what is bound to the event, in plan order
 abbrev pub places_of : PlanView → EventId → List BindingId
-places_of plan e = map (λ n. record { 0 = n }) (filter (λ n. (binding_at plan n).event.0 == e.0) (range_with_len 0 (length plan.bindings)))
+places_of plan e = map (λ n. record { 0 = n }) (filter (λ n. (binding_at plan (record { 0 = n })).event.0 == e.0) (range_with_len 0 (length plan.bindings)))

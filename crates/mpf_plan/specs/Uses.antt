@@ -9,7 +9,7 @@ use Rattle.mpf_plan.specs.Limits.{order_of}
 
 -- ---- one contribution
 
--- the name that a contribution uses, and the table of the name; what is given under a name uses it
+-- the name that a contribution uses, and its table; giving something under a name is a use of it
 abbrev pub used : Contribution → Option (Table × List ℕ)
 used (gives table n) = Some (table, n)
 used (active n) = Some (Events, n)
@@ -23,7 +23,7 @@ abbrev pub given : Contribution → Option (Table × List ℕ)
 given (gives table n) = Some (table, n)
 given _ = None
 
--- whether a name of the table has to be given by a contribution: events are there by their use alone
+-- whether a name of the table means something only where a contribution gives it; an event exists by being used
 abbrev pub is_to_be_given : Table → Bool
 is_to_be_given Events = false
 is_to_be_given _ = true

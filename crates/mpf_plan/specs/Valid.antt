@@ -1,4 +1,4 @@
--- Every number in a plan is that of an entry, no two entries have one name, and every table is within its limit.
+-- What holds of every plan: each number in it is that of an entry, no two entries of a table have one name, and no table is above its limit.
 use Rattle.std.specs.Prelude.{ℕ, ◌≡◌, ◌<◌, ◌≤◌, ◌≢◌, length}
 use Rattle.std.specs.List.{All, AllPairs}
 use Rattle.mpf_plan.specs.declared.entries.EventId.{EventId}
@@ -31,7 +31,7 @@ IsBindingWithin plan b = (b.event.0 < length plan.events) × IsOwnerWithin plan 
 abbrev pub IsSwitchWithin : ℕ → Switch → Type 0
 IsSwitchWithin events s = All (IsEventWithin events) s.active × All (IsEventWithin events) s.inactive
 
--- every number is that of an entry; the plan of any rows is so, whether its tables are within their limits or not
+-- every number in the plan is that of an entry, whether the tables are within their limits or not
 pub record HasEntries (plan : PlanView) : Type 0 where
   pub switches : All (IsSwitchWithin (length plan.events)) plan.switches
   pub lists : All (All (IsActionWithin plan)) plan.lists
@@ -45,8 +45,6 @@ pub record IsValid (plan : PlanView) : Type 0 where
   -- no effect list has more than 1,024 actions
   pub action_limit : All (λ actions. length actions ≤ 1024) plan.lists
   pub names : (t : Table) → AllPairs (λ x y. x ≢ y) (names_in plan t)
-  pub switches : All (IsSwitchWithin (length plan.events)) plan.switches
-  pub lists : All (All (IsActionWithin plan)) plan.lists
-  pub bindings : All (IsBindingWithin plan) plan.bindings
-  -- every binding is of the machine, so that equal priorities leave the plan's own order
+  pub entries : HasEntries plan
+  -- the machine handles all events at priority 0, so that handlers run in plan order
   pub priorities : All (λ b. b.priority ≡ 0) plan.bindings

@@ -9,8 +9,8 @@ use crate::contribution::{Aim, Contribution, Parts, Place, whole};
 use crate::entries::{Owner, SwitchKind};
 use crate::fault::Table;
 use mpf_config::{
-    Content, Debounce, Entry, EventPlayer, Name, Player, Section, Switch, as_event_player,
-    as_switch,
+    Content, Debounce, EVENT_PLAYER_NAME, Entry, EventPlayer, Name, Player, SWITCHES_NAME, Section,
+    Switch, as_event_player, as_switch,
 };
 use std::alloc::{AllocError, Global};
 
@@ -74,10 +74,6 @@ fn add_players<'a>(
 
 // ---- contributions
 
-const SWITCHES: &[u8] = b"switches";
-
-const EVENT_PLAYER: &[u8] = b"event_player";
-
 /// The machine handles events, at priority 0.
 pub(crate) fn machine_place() -> Place
     ensures { result ≡ machine_place }
@@ -112,7 +108,7 @@ fn collect_entry<'a>(
 ) -> Result<(), AllocError>
     ensures { OnOk result (contributions_view contributions.new.items ≡ contributions_view contributions.old.items ++ entry_contributions section.now (entry_view entry.now)) }
 {
-    if section == SWITCHES {
+    if section == SWITCHES_NAME {
         return collect_switch(contributions, as_switch(entry));
     }
     Ok(())
@@ -128,7 +124,7 @@ fn collect_player<'a>(
 ) -> Result<(), AllocError>
     ensures { OnOk result (contributions_view contributions.new.items ≡ contributions_view contributions.old.items ++ player_entry_contributions place section.now (player_view player.now)) }
 {
-    if section == EVENT_PLAYER {
+    if section == EVENT_PLAYER_NAME {
         return collect_event_player(contributions, place, as_event_player(player));
     }
     Ok(())

@@ -29,7 +29,7 @@ length-kept p (x ∷ xs) =
 length-in_order : (plan : PlanView) (e : EventId) → length (in_order plan e) ≤ length plan.bindings
 length-in_order plan e =
     let numbers = range_with_len 0 (length plan.bindings) in
-    let bound : ℕ → Bool = λ n. (binding_at plan n).event.0 == e.0 in
+    let bound : ℕ → Bool = λ n. (binding_at plan (record { 0 = n })).event.0 == e.0 in
     let place : ℕ → BindingId = λ n. record { 0 = n } in
     let same = length_permutation (handlers plan e) (in_order plan e) (by_priority-permutes plan (handlers plan e)) in
     omega (arith, same, length-kept (runs_at plan) (places_of plan e), length-map (filter bound numbers) place, length-kept bound numbers, length-range_with_len 0 (length plan.bindings))
@@ -58,7 +58,7 @@ module _ (plan : PlanView) (start now : CoreView) (kept : start.handlers ≡ rec
     handler-limit = omega (arith, handler-within, length-in_order plan event)
 
     module _ (b : Binding) (is : slice_get plan.bindings place.0 ≡ Some b) where
-      binding-is : binding_at plan place.0 ≡ b
+      binding-is : binding_at plan place ≡ b
       binding-is = get_or_from_slice_get plan.bindings place.0 b no_binding is
 
       pub handler-room : HasRoom start.room (all_do (do_handler plan) (in_order plan event) start.machine) → HasRoom now.room (do_binding plan b now.machine)

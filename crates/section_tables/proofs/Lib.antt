@@ -4,6 +4,7 @@ pub mod Finding
 pub mod EachGiven
 pub mod Options
 pub mod ScalarTexts
+pub mod Counting
 pub mod ListValues
 pub mod RowsRead
 pub mod ValuesRead

@@ -2,7 +2,7 @@
 use Rattle.std.proofs.Common.{◌≡◌, ℕ, ◌<◌, ◌≤◌, nat_lt, Bool, true, false, if◌then◌else◌, List, length, Option, Some, Result, Ok, refl, sym, subst, inl, inr, arith}
 use Rattle.std.proofs.lemmas.Bool.{ltb-true, ltb-false}
 use Rattle.yaml_subset.specs.Node.{Node}
-use Rattle.yaml_subset.specs.View.{line_of, text_in}
+use Rattle.yaml_subset.specs.View.{line_of, text_in, items_in}
 use Rattle.mpf_values.specs.Lists.{Item}
 use Rattle.mpf_values.specs.Reading.{is_name, list_at, event_at}
 use Rattle.mpf_values.proofs.NameTexts.{IsName-from_is_name, is_name-from_IsName}
@@ -13,9 +13,10 @@ use Rattle.section_tables.specs.Rows.{Written, Handled, Plain, RowsFault}
 use Rattle.section_tables.specs.Kinds.{Scalar, Bounds, fits}
 use Rattle.section_tables.specs.Entries.{nodes_of, written_at, handled_at}
 use Rattle.section_tables.specs.EntryOf.{IsPlain, AreListed, AreNodes, IsWritten, IsHandled}
-use Rattle.section_tables.specs.Reading.{IsReadOrLong, ◌>>=◌, Spot, fault_at, refused, expect, give, each_read, scalar_of, plain_at, name_at, handled_in, count_at, items_at, listed_at, list_nodes_at, nodes_at}
+use Rattle.section_tables.specs.Reading.{IsReadOrLong, ◌>>=◌, Spot, fault_at, refused, expect, give, each_read, scalar_of, plain_at, name_at, handled_in, count_at, count_of, items_at, listed_at, list_nodes_at, nodes_at}
 use Rattle.section_tables.proofs.Steps.{bind_ok, guard_true, guard_false, ok_is, expected}
 use Rattle.section_tables.proofs.Outcomes.{then_read, each_sound, each_complete}
+use Rattle.section_tables.proofs.Counting.{count_few}
 use Rattle.section_tables.proofs.Options.{gave}
 use Rattle.section_tables.proofs.ScalarTexts.{scalar_sound, scalar_complete}
 
@@ -91,15 +92,26 @@ module _ {B : Type 0} (f : Spot → Item → Result B RowsFault) (IsOne : Item �
   unfolding items_at
   listed_sound sound bounds spot node ys e =
       let a = bind_ok (items_at bounds spot node) (each_read (f spot)) ys e in
-      let k = counted_sound bounds spot (list_at node) a.0 a.1 in
+      let g = guard_false (nat_lt 1024 (count_of (items_in node))) (counted bounds spot (list_at node)) (fault_at Limit spot) a.0 a.1 in
+      let k = counted_sound bounds spot (list_at node) a.0 g.1 in
       record { items = a.0; list = list_sound node a.0 k.0; few = k.1; fit = k.2; each = each_sound (f spot) IsOne (sound spot) a.0 ys a.2 }
 
   pub listed_complete : (longest : ℕ) → ((spot : Spot) (item : Item) (y : B) → IsOne item y → IsReadOrLong longest (f spot item) y)
       → (bounds : Bounds) (spot : Spot) (node : Node) (ys : List B) → AreListed IsOne bounds longest node ys → IsReadOrLong longest (listed_at f bounds spot node) ys
   unfolding items_at
   listed_complete longest complete bounds spot node ys h =
-      then_read longest (items_at bounds spot node) (each_read (f spot)) h.items ys
-      (counted_complete bounds spot (list_at node) longest h.items (list_complete node h.items h.list) h.few h.fit) (each_complete (f spot) IsOne longest (complete spot) h.items ys h.each)
+      then_read longest (items_at bounds spot node) (each_read (f spot)) h.items ys (by (nat_lt 1024 (count_of (items_in node))) refl)
+      (each_complete (f spot) IsOne longest (complete spot) h.items ys h.each)
+    where
+      is : list_at node ≡ Some h.items
+      is = list_complete node h.items h.list
+
+      by : (long : Bool) → nat_lt 1024 (count_of (items_in node)) ≡ long → IsReadOrLong longest (items_at bounds spot node) h.items
+      by true e =
+          let many : 1024 < count_of (items_in node) = ltb-true 1024 (count_of (items_in node)) e in
+          let above : 1024 < longest = omega (arith, many, count_few node h.items is, h.few) in
+          inr (above, rw e refl)
+      by false e = rw e (counted_complete bounds spot (list_at node) longest h.items is h.few h.fit)
 
 module _ {B : Type 0} (f : Spot → Node → Result B RowsFault) (IsOne : Node → B → Type 0) where
   pub nodes_sound : ((spot : Spot) (node : Node) (y : B) → f spot node ≡ Ok y → IsOne node y) → (bounds : Bounds) (spot : Spot) (node : Node) (ys : List B)

@@ -1,11 +1,11 @@
 -- Reading an entry by a table, from its first setting to its last, with the first fault that is met.
-use Rattle.std.specs.Prelude.{◌≡◌, ℕ, ◌<◌, nat_lt, nat_le, ◌&&◌, Bool, false, if◌then◌else◌, List, [], ◌∷◌, length, map, Option, Some, None, Result, Ok, Err, set, ◌⊎◌}
+use Rattle.std.specs.Prelude.{◌≡◌, ℕ, ◌<◌, nat_lt, nat_le, ◌==◌, ◌&&◌, not, Bool, false, if◌then◌else◌, List, [], ◌∷◌, length, map, filter, Option, Some, None, Result, Ok, Err, set, ◌⊎◌}
 use Rattle.std.specs.List.{list_any}
 use Rattle.std.specs.Result.{is_ok}
 use Rattle.std.specs.Str.{bytes_eq}
 pub use Rattle.yaml_bytes.specs.Results.{◌>>=◌}
 use Rattle.yaml_subset.specs.Node.{Node, Pair}
-use Rattle.yaml_subset.specs.View.{line_of, text_in}
+use Rattle.yaml_subset.specs.View.{line_of, text_in, items_in}
 use Rattle.mpf_values.specs.Lists.{Item}
 use Rattle.mpf_values.specs.Reading.{is_name, list_at, boolean_at, integer_at, time_at, power_at, event_at}
 use Rattle.section_tables.specs.declared.fault.FaultKind.{FaultKind}
@@ -69,6 +69,10 @@ plain_at kind spot node = expect spot (text_in node) >>= λ text. expect spot (s
 
 -- ---- lists
 
+abbrev pub is_empty : Option (List ℕ) → Bool
+is_empty (Some text) = length text == 0
+is_empty None = false
+
 unfoldable pub name_at : Spot → Item → Result Written RowsFault
 name_at spot item = if is_name item.text then Ok (written_at item.line item.text) else refused BadValue spot
 
@@ -79,9 +83,20 @@ handled_in spot item = expect spot (give (handled_at item.line) (event_at item.t
 unfoldable pub count_at : Bounds → Spot → ℕ → Result (Unit {0}) RowsFault
 count_at bounds spot n = if nat_lt 1024 n then refused Limit spot else (if fits bounds n then Ok tt else refused BadValue spot)
 
--- the items of a list
+-- whether a node of a YAML list counts as an item, good or bad: all do but the empty text
+unfoldable pub counts : Node → Bool
+counts node = not (is_empty (text_in node))
+
+-- how many items a YAML list has, good and bad
+abbrev pub count_of : Option (List Node) → ℕ
+count_of (Some nodes) = length (filter counts nodes)
+count_of None = 0
+
+-- the items of a list; it is too long first of all, whatever its items are
 unfoldable pub items_at : Bounds → Spot → Node → Result (List Item) RowsFault
-items_at bounds spot node = expect spot (list_at node) >>= λ items. count_at bounds spot (length items) >>= λ _. Ok items
+items_at bounds spot node =
+    if nat_lt 1024 (count_of (items_in node)) then refused Limit spot
+    else (expect spot (list_at node) >>= λ items. count_at bounds spot (length items) >>= λ _. Ok items)
 
 -- what f gives for each
 abbrev pub listed_at : {B : Type 0} → (Spot → Item → Result B RowsFault) → Bounds → Spot → Node → Result (List B) RowsFault

@@ -4,7 +4,7 @@ use Rattle.std.specs.List.{list_any, list_all}
 use Rattle.std.specs.Str.{bytes_eq}
 use Rattle.mpf_values.specs.Reading.{is_name}
 use Rattle.section_tables.specs.Rows.{Plain, nothing, flag, number, time, power, word, name, event, Value, one, names, posts, events, maps}
-use Rattle.section_tables.specs.Kinds.{Scalar, a_flag, number_within, time_within, a_power, one_of, a_name, an_event, Absent, required, default, Field, Kind, single, name_list, post_list, event_list, map_list, keyed_maps, Setting, PlayerKinds}
+use Rattle.section_tables.specs.Kinds.{Scalar, a_flag, number_within, time_within, a_power, one_of, a_name, an_event, Absent, required, default, fits, Field, Kind, single, name_list, post_list, event_list, map_list, keyed_maps, Setting, PlayerKinds}
 use Rattle.section_tables.specs.Tables.{field_key, setting_key}
 use Rattle.section_tables.specs.EntryOf.{within}
 
@@ -30,11 +30,11 @@ is_plain_of _ _ = false
 -- a text, no items, or one event
 abbrev pub is_value_of : Kind → Value → Bool
 is_value_of (single kind) (one x) = is_plain_of kind x
-is_value_of (name_list bounds) (names []) = true
-is_value_of (post_list bounds) (posts []) = true
-is_value_of (event_list bounds) (events []) = true
-is_value_of (event_list bounds) (events (h ∷ [])) = is_name h.event.name
-is_value_of (map_list table others bounds) (maps []) = true
+is_value_of (name_list bounds) (names []) = fits bounds 0
+is_value_of (post_list bounds) (posts []) = fits bounds 0
+is_value_of (event_list bounds) (events []) = fits bounds 0
+is_value_of (event_list bounds) (events (h ∷ [])) = fits bounds 1 && is_name h.event.name
+is_value_of (map_list table others bounds) (maps []) = fits bounds 0
 is_value_of _ _ = false
 
 abbrev pub is_plain_default : Scalar → Absent Plain → Bool

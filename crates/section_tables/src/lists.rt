@@ -1,11 +1,11 @@
 //! Values that are lists of texts.
 
-ghost use Rattle.std.specs.Prelude.{◌≡◌};
+ghost use Rattle.std.specs.Prelude.{◌≡◌, not, length, map, filter};
 ghost use Rattle.yaml_subset.specs.View.{node_view};
 ghost use Rattle.mpf_values.specs.Reading.{list_at};
 ghost use Rattle.mpf_values.specs.View.{item_view, items_view};
 ghost use Rattle.section_tables.specs.Kinds.{fits};
-ghost use Rattle.section_tables.specs.Reading.{count_at, name_at, handled_in, items_at, listed_at};
+ghost use Rattle.section_tables.specs.Reading.{count_at, counts, name_at, handled_in, items_at, listed_at};
 ghost use Rattle.section_tables.specs.TableView.{bounds_view};
 ghost use Rattle.section_tables.specs.View.{name_view, names_view, handler_view, handlers_view, spot_view, GivesRows};
 
@@ -54,7 +54,29 @@ pub fn check_count(
     Ok(())
 }
 
-// The items of a list; or BadValue at the spot where the value is none, or a fault of their number.
+// How many items a YAML list has, good and bad: empty texts are none.
+fn item_count(nodes: &[Tree]) -> usize
+    ensures { result ≡ length (filter counts (map node_view nodes.now)) }
+{
+    let mut count = 0;
+    for node in nodes {
+        if !is_empty(node) {
+            count += 1;
+        }
+    }
+    count
+}
+
+// Whether a node is the empty text.
+#[tactic(auto, unfolding(crate::specs::Reading::counts))]
+fn is_empty(node: &Tree) -> bool
+    ensures { not result ≡ counts (node_view node.now) }
+{
+    node.as_scalar().is_some_and(|text| text.is_empty())
+}
+
+// The items of a list. A fault stands at the spot: Limit where there are too many, whatever they
+// are; BadValue where the value is no list, or the bounds do not let it have so many.
 #[tactic(auto, unfolding(crate::specs::Reading::items_at))]
 fn items<'a>(
     alloc: Global,
@@ -64,6 +86,11 @@ fn items<'a>(
 ) -> Result<Vec<Item<'a>>, ConfigFault>
     ensures { GivesRows (λ items. items_view items.items) result (items_at (bounds_view bounds) (spot_view spot.entry) (node_view value.now)) }
 {
+    if let Some(nodes) = value.as_list()
+        && item_count(nodes) > MAX_ITEMS
+    {
+        return Err(ConfigFault::Bundle(spot.fault(alloc, FaultKind::Limit)?));
+    }
     let items = match list(alloc, value) {
         Ok(items) => items,
         Err(ListFault::NoMemory) => return Err(ConfigFault::NoMemory),
@@ -99,9 +126,9 @@ fn item_handler(alloc: Global, spot: Spot<'_>, item: Item<'_>) -> Result<Handler
     Ok(handler)
 }
 
-/// The names in a list, each with the line where it is written. A fault stands at the spot:
-/// BadValue where the value is no list, Limit above 1,024 items, BadValue where the bounds do not
-/// let the list have so many, and at an item that is no name.
+/// The names in a list, each with the line where it is written. A fault stands at the spot: Limit
+/// above 1,024 items, whatever they are; BadValue where the value is no list, where the bounds do
+/// not let it have so many, and where an item is no name.
 pub fn names(
     alloc: Global,
     spot: Spot<'_>,

@@ -1,5 +1,4 @@
 use Rattle.std.proofs.Common.{false, refl, arith}
-use Rattle.mpf_plan.proofs.ValidPlan.{has_entries}
 use Rattle.cascade_rank.specs.Cost.{Lines}
 use Rattle.cascade_rank.proofs.Limits.{bindings-few}
 use Rattle.cascade_rank.proofs.Places.{binding-within, place-within, places-few}
@@ -19,7 +18,7 @@ binding-target-requires c =
 
 pub add_target-requires-clause-target : goal.add_target-requires-clause-target
 add_target-requires-clause-target c =
-    (binding-within c.args.plan.now (has_entries c.args.plan.now c.binding-target.ensures.valid) _ c.binding-target.result c.binding-target.ensures.binding).2
+    (binding-within c.args.plan.now c.binding-target.ensures.valid.entries _ c.binding-target.result c.binding-target.ensures.binding).2
 
 pub overflow_add-posts : goal.overflow_add-posts
 overflow_add-posts c =

@@ -1,7 +1,6 @@
 use Rattle.std.proofs.Common.{List, ℕ, nat_lt, Option, position, Err, Ok, ap, ◌∙◌, sym, subst, arith}
 use Rattle.std.specs.Option.{option_map}
 use Rattle.mpf_plan.specs.declared.entries.EventId.{EventId}
-use Rattle.mpf_plan.proofs.ValidPlan.{has_entries}
 use Rattle.cascade_rank.specs.Weights.{IsLeastFitting, IsWithinLimit}
 use Rattle.cascade_rank.specs.Finding.{cycle, found_past}
 use Rattle.cascade_rank.specs.Lowest.{IsLeft}
@@ -16,25 +15,25 @@ pub overflow_cast-start : goal.overflow_cast-start
 overflow_cast-start c =
     let g = c.in_ok-grounding.ensures in
     let is = c.first_left.ensures ∙ ap (position (λ n. nat_lt 0 n)) c.deref.ensures.value in
-    let below = (first_is_open c.args.plan.now (has_entries c.args.plan.now g.valid) c.in_ok-grounding.grounding.left.items c.in_ok-grounding.grounding.order.items g.order c.first_left.result is c.in-Some.place c.in-Some.is).0 in
+    let below = (first_is_open c.args.plan.now g.valid.entries c.in_ok-grounding.grounding.left.items c.in_ok-grounding.grounding.order.items g.order c.first_left.result is c.in-Some.place c.in-Some.is).0 in
     omega (arith, below, events-few c.args.plan.now g.valid)
 
 pub walk-requires-clause-left : goal.walk-requires-clause-left
 walk-requires-clause-left c =
     let g = c.in_ok-grounding.ensures in
-    subst (IsLeft c.args.plan.now) (sym c.deref-in-Some.ensures.value) (left_is_open c.args.plan.now (has_entries c.args.plan.now g.valid) c.in_ok-grounding.grounding.left.items c.in_ok-grounding.grounding.order.items g.order)
+    subst (IsLeft c.args.plan.now) (sym c.deref-in-Some.ensures.value) (left_is_open c.args.plan.now g.valid.entries c.in_ok-grounding.grounding.left.items c.in_ok-grounding.grounding.order.items g.order)
 
 pub walk-requires-clause-first : goal.walk-requires-clause-first
 walk-requires-clause-first c =
     let g = c.in_ok-grounding.ensures in
     let is = c.first_left.ensures ∙ ap (position (λ n. nat_lt 0 n)) c.deref.ensures.value in
-    (first_is_open c.args.plan.now (has_entries c.args.plan.now g.valid) c.in_ok-grounding.grounding.left.items c.in_ok-grounding.grounding.order.items g.order c.first_left.result is c.in-Some.place c.in-Some.is).1
+    (first_is_open c.args.plan.now g.valid.entries c.in_ok-grounding.grounding.left.items c.in_ok-grounding.grounding.order.items g.order c.first_left.result is c.in-Some.place c.in-Some.is).1
 
 pub returns-in-Some-clause-exact : goal.returns-in-Some-clause-exact
 returns-in-Some-clause-exact c =
     let g = c.in_ok-grounding.ensures in
     let is = c.first_left.ensures ∙ ap (position (λ n. nat_lt 0 n)) c.deref.ensures.value in
-    found_past_is c.args.plan.now (has_entries c.args.plan.now g.valid) c.in_ok-grounding.grounding.left.items c.in_ok-grounding.grounding.order.items g.order c.first_left.result is
+    found_past_is c.args.plan.now g.valid.entries c.in_ok-grounding.grounding.left.items c.in_ok-grounding.grounding.order.items g.order c.first_left.result is
     ∙ ap (λ (found : Option ℕ). found_past c.args.plan.now (option_map event found)) c.in-Some.is
     ∙ ap (λ (es : List EventId). Err (cycle es)) (sym c.in_ok-walk.ensures.cycle)
 
@@ -47,7 +46,7 @@ pub weigh-requires : goal.weigh-requires
 weigh-requires c =
     let g = c.in_ok-grounding.ensures in
     let is = c.first_left.ensures ∙ ap (position (λ n. nat_lt 0 n)) c.deref.ensures.value in
-    subst (IsWholeOrder c.args.plan.now) (sym c.deref-2.ensures.value) (whole_order c.args.plan.now (has_entries c.args.plan.now g.valid) c.in_ok-grounding.grounding.left.items c.in_ok-grounding.grounding.order.items g.order c.first_left.result is c.in_default.is)
+    subst (IsWholeOrder c.args.plan.now) (sym c.deref-2.ensures.value) (whole_order c.args.plan.now g.valid.entries c.in_ok-grounding.grounding.left.items c.in_ok-grounding.grounding.order.items g.order c.first_left.result is c.in_default.is)
 
 pub returns-in-None-clause-exact : goal.returns-in-None-clause-exact
 returns-in-None-clause-exact c =
@@ -55,11 +54,11 @@ returns-in-None-clause-exact c =
     let left = c.in_ok-grounding.grounding.left.items in
     let order = c.in_ok-grounding.grounding.order.items in
     let is = c.first_left.ensures ∙ ap (position (λ n. nat_lt 0 n)) c.deref.ensures.value in
-    let all = all_grounded c.args.plan.now (has_entries c.args.plan.now g.valid) left order g.order c.first_left.result is c.in_default.is in
+    let all = all_grounded c.args.plan.now g.valid.entries left order g.order c.first_left.result is c.in_default.is in
     let above = subst (λ (ws : List ℕ). ¬ (IsWithinLimit c.args.plan.now ws)) c.deref-3.ensures.value c.in-None.ensures.above in
-    found_past_is c.args.plan.now (has_entries c.args.plan.now g.valid) left order g.order c.first_left.result is
+    found_past_is c.args.plan.now g.valid.entries left order g.order c.first_left.result is
     ∙ ap (λ (found : Option ℕ). found_past c.args.plan.now (option_map event found)) c.in_default.is
-    ∙ found_above c.args.plan.now (has_entries c.args.plan.now g.valid) all c.in_ok-weights.weights.items c.in_ok-weights.ensures above
+    ∙ found_above c.args.plan.now g.valid.entries all c.in_ok-weights.weights.items c.in_ok-weights.ensures above
 
 pub returns-in-None-clause-refused : goal.returns-in-None-clause-refused
 returns-in-None-clause-refused c =
@@ -67,9 +66,9 @@ returns-in-None-clause-refused c =
     let left = c.in_ok-grounding.grounding.left.items in
     let order = c.in_ok-grounding.grounding.order.items in
     let is = c.first_left.ensures ∙ ap (position (λ n. nat_lt 0 n)) c.deref.ensures.value in
-    let all = all_grounded c.args.plan.now (has_entries c.args.plan.now g.valid) left order g.order c.first_left.result is c.in_default.is in
+    let all = all_grounded c.args.plan.now g.valid.entries left order g.order c.first_left.result is c.in_default.is in
     let above = subst (λ (ws : List ℕ). ¬ (IsWithinLimit c.args.plan.now ws)) c.deref-3.ensures.value c.in-None.ensures.above in
-    too_dear c.args.plan.now (has_entries c.args.plan.now g.valid) all c.in_ok-weights.weights.items c.in_ok-weights.ensures above
+    too_dear c.args.plan.now g.valid.entries all c.in_ok-weights.weights.items c.in_ok-weights.ensures above
 
 pub returns-clause-exact : goal.returns-clause-exact
 returns-clause-exact c =
@@ -77,11 +76,11 @@ returns-clause-exact c =
     let left = c.in_ok-grounding.grounding.left.items in
     let order = c.in_ok-grounding.grounding.order.items in
     let is = c.first_left.ensures ∙ ap (position (λ n. nat_lt 0 n)) c.deref.ensures.value in
-    let all = all_grounded c.args.plan.now (has_entries c.args.plan.now g.valid) left order g.order c.first_left.result is c.in_default.is in
+    let all = all_grounded c.args.plan.now g.valid.entries left order g.order c.first_left.result is c.in_default.is in
     let within = subst (IsWithinLimit c.args.plan.now) c.deref-3.ensures.value c.in-Some-limited_bound.ensures.within.0 in
-    found_past_is c.args.plan.now (has_entries c.args.plan.now g.valid) left order g.order c.first_left.result is
+    found_past_is c.args.plan.now g.valid.entries left order g.order c.first_left.result is
     ∙ ap (λ (found : Option ℕ). found_past c.args.plan.now (option_map event found)) c.in_default.is
-    ∙ found_within c.args.plan.now (has_entries c.args.plan.now g.valid) all c.in_ok-weights.weights.items c.in_ok-weights.ensures within
+    ∙ found_within c.args.plan.now g.valid.entries all c.in_ok-weights.weights.items c.in_ok-weights.ensures within
     ∙ ap Ok (sym c.of.ensures)
 
 pub returns-clause-least : goal.returns-clause-least
@@ -90,6 +89,6 @@ returns-clause-least c =
     let left = c.in_ok-grounding.grounding.left.items in
     let order = c.in_ok-grounding.grounding.order.items in
     let is = c.first_left.ensures ∙ ap (position (λ n. nat_lt 0 n)) c.deref.ensures.value in
-    let all = all_grounded c.args.plan.now (has_entries c.args.plan.now g.valid) left order g.order c.first_left.result is c.in_default.is in
+    let all = all_grounded c.args.plan.now g.valid.entries left order g.order c.first_left.result is c.in_default.is in
     let within = subst (IsWithinLimit c.args.plan.now) c.deref-3.ensures.value c.in-Some-limited_bound.ensures.within.0 in
-    subst (IsLeastFitting c.args.plan.now) (sym c.of.ensures) (least_within c.args.plan.now (has_entries c.args.plan.now g.valid) all c.in_ok-weights.weights.items c.in_ok-weights.ensures within)
+    subst (IsLeastFitting c.args.plan.now) (sym c.of.ensures) (least_within c.args.plan.now g.valid.entries all c.in_ok-weights.weights.items c.in_ok-weights.ensures within)

@@ -1,5 +1,4 @@
 use Rattle.std.proofs.Common.{◌≡◌, ◌+◌, List, ℕ, min, take, set, ap, ◌∙◌, sym, subst, arith, length-set}
-use Rattle.mpf_plan.proofs.ValidPlan.{has_entries}
 use Rattle.cascade_rank.specs.Cost.{price, cost_of_event}
 use Rattle.cascade_rank.specs.Events.{nth_event, weight_of}
 use Rattle.cascade_rank.proofs.Grounding.{AreWeighed, weighs_more}
@@ -17,5 +16,5 @@ loop-event-preserved c =
       count = length-set weights (nth_event order i).0 c.min.result ∙ c.loop-event.invariant.count;
       weighed =
           subst (λ (n : ℕ). AreWeighed c.args.plan.now (take (c.loop-event.event-index + 1) c.args.order.now) (set c.loop-event.weights.items (nth_event c.args.order.now c.loop-event.event-index).0 n)) (sym capped)
-          (weighs_more plan (has_entries plan c.event_count.ensures.valid) order c.requires.grounds c.requires.short weights i c.need-needed.result c.loop-event-test.true c.loop-event.invariant.count (c.requires.below i c.loop-event-test.true) c.loop-event.invariant.weighed price_is);
+          (weighs_more plan c.event_count.ensures.valid.entries order c.requires.grounds c.requires.short weights i c.need-needed.result c.loop-event-test.true c.loop-event.invariant.count (c.requires.below i c.loop-event-test.true) c.loop-event.invariant.weighed price_is);
     }

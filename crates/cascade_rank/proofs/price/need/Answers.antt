@@ -1,5 +1,4 @@
 use Rattle.std.proofs.Common.{arith}
-use Rattle.mpf_plan.proofs.ValidPlan.{has_entries}
 use Rattle.cascade_rank.specs.Events.{weight_of}
 use Rattle.cascade_rank.proofs.Limits.{bindings-few}
 use Rattle.cascade_rank.proofs.Places.{binding-within, place-within, places-few, price-places_more, price-places_all}
@@ -11,7 +10,7 @@ binding-requires c =
 
 pub price_of_binding-total-requires-clause-binding : goal.price_of_binding-total-requires-clause-binding
 price_of_binding-total-requires-clause-binding c =
-    binding-within c.args.plan.now (has_entries c.args.plan.now c.binding.ensures.valid) _ c.binding.result c.binding.ensures.binding
+    binding-within c.args.plan.now c.binding.ensures.valid.entries _ c.binding.result c.binding.ensures.binding
 
 pub overflow_add-total : goal.overflow_add-total
 overflow_add-total c =

@@ -1,5 +1,4 @@
 use Rattle.std.proofs.Common.{nat_lt, length, ap, arith}
-use Rattle.mpf_plan.proofs.ValidPlan.{has_entries}
 use Rattle.cascade_rank.specs.Cost.{Cost}
 use Rattle.cascade_rank.specs.Lowest.{lowest}
 use Rattle.cascade_rank.specs.Order.{left_of}
@@ -14,7 +13,7 @@ binding-target-requires c =
 
 pub lowest_of_target-requires-clause-target : goal.lowest_of_target-requires-clause-target
 lowest_of_target-requires-clause-target c =
-    (binding-within c.args.plan.now (has_entries c.args.plan.now c.binding-target.ensures.valid) _ c.binding-target.result c.binding-target.ensures.binding).2
+    (binding-within c.args.plan.now c.binding-target.ensures.valid.entries _ c.binding-target.result c.binding-target.ensures.binding).2
 
 pub loop-place-preserved : goal.loop-place-preserved
 loop-place-preserved c =
@@ -26,4 +25,4 @@ loop-place-preserved c =
 
 pub returns : goal.returns
 returns c =
-    next_is c.args.plan.now (has_entries c.args.plan.now c.bindings_of-place-items.ensures.valid) c.args.left.now c.requires.left c.args.event c.bindings_of-place-items.result.now c.loop-place.place-index c.loop-place.lowest c.bindings_of-place-items.ensures.places c.loop-place-test.false c.loop-place.invariant
+    next_is c.args.plan.now c.bindings_of-place-items.ensures.valid.entries c.args.left.now c.requires.left c.args.event c.bindings_of-place-items.result.now c.loop-place.place-index c.loop-place.lowest c.bindings_of-place-items.ensures.places c.loop-place-test.false c.loop-place.invariant

@@ -2,7 +2,6 @@ use Rattle.std.proofs.Common.{◌≡◌, ◌<◌, true, false, List, [], ◌∷�
 use Rattle.std.proofs.lemmas.Result.{IfOk-weaker}
 use Rattle.std.proofs.lemmas.List.{get_or_read}
 use Rattle.mpf_plan.specs.declared.entries.EventId.{EventId}
-use Rattle.mpf_plan.proofs.ValidPlan.{has_entries}
 use Rattle.cascade_rank.specs.LeadsTo.{IsCycle}
 use Rattle.cascade_rank.specs.Cycle.{IsReportedCycle, from_first}
 use Rattle.cascade_rank.proofs.Walking.{WalkAt, walk_goes, comes_again, cycle_is, reported, cycle}
@@ -18,7 +17,7 @@ loop-passed-preserved c =
     let new : slice_index_or passed at.0 false ≡ false = sym (get_or_read passed at.0 c.index.result.now inside c.index.ensures false) ∙ c.loop-passed-test.true in
     subst (λ (es : List EventId). WalkAt c.args.plan.now c.args.start (set c.loop-passed.passed.items c.loop-passed.at.0 true) es c.next-at.result) (sym c.in_ok-push.ensures.items)
     (subst (WalkAt c.args.plan.now c.args.start (set c.loop-passed.passed.items c.loop-passed.at.0 true) (c.loop-passed.path.items ++ c.loop-passed.at ∷ [])) (sym c.next-at.ensures)
-    (walk_goes c.args.plan.now c.args.start c.requires.first passed path at w (has_entries c.args.plan.now c.event_count.ensures.valid) c.requires.left.leads_on new))
+    (walk_goes c.args.plan.now c.args.start c.requires.first passed path at w c.event_count.ensures.valid.entries c.requires.left.leads_on new))
 
 pub returns-clause-cycle : goal.returns-clause-cycle
 returns-clause-cycle c =

@@ -1,0 +1,24 @@
+use Rattle.std.proofs.Common.{◌≡◌, ◌+◌, not, length, map, filter, refl, sym, ap, ◌∙◌, arith}
+use Rattle.yaml_subset.specs.View.{node_view}
+use Rattle.mpf_values.proofs.ListNodes.{none_behind}
+use Rattle.section_tables.specs.Reading.{counts}
+use Rattle.section_tables.proofs.Counting.{counted, passed_over}
+use Rattle.section_tables.proofs.lists.item_count.Goals.{then-not-is_empty, else-not-is_empty}
+use Rattle.section_tables.proofs.lists.item_count.Goals as goal
+
+pub loop-node-preserved : goal.loop-node-preserved
+loop-node-preserved c =
+    let nodes = c.args.nodes.now in
+    let i = c.loop-node.node-index in
+    let count = c.loop-node.count in
+    let total = length (filter counts (map node_view nodes)) in
+    elim c.if-not-is_empty.branch [
+      | then-not-is_empty w ↦ rw w.count-is (omega (arith, c.loop-node.invariant.0), counted nodes i c.node-item.result c.loop-node-test.true c.node-item.is count total (sym c.is_empty.ensures ∙ ap not w.if-not-is_empty.true) c.loop-node.invariant.1)
+      | else-not-is_empty w ↦ rw w.count-is (omega (arith, c.loop-node.invariant.0), passed_over nodes i c.node-item.result c.loop-node-test.true c.node-item.is count total (sym c.is_empty.ensures ∙ ap not w.if-not-is_empty.false) c.loop-node.invariant.1)
+    ]
+
+pub returns : goal.returns
+returns c =
+    let none = none_behind c.args.nodes.now c.loop-node.node-index c.loop-node-test.false in
+    let left = ap (λ ns. length (filter counts ns)) none in
+    omega (arith, c.loop-node.invariant.1, left)
