@@ -17,7 +17,7 @@ use mpf_plan::{EventId, Plan};
 const GREATEST: u32 = 10_000;
 
 /// How many lines a stimulus leads to at most: 0 to 10,000.
-#[derive(Clone, Copy, Debug, PartialEq, Eq)]
+#[derive(Clone, Copy, Debug)]
 pub struct Bound(pub u32);
 
 /// The bound of these weights, where there is one for each event, each event weighs at least what

@@ -3,7 +3,7 @@
 use mpf_plan::entries::{EventId, Owner, SwitchId};
 
 /// What a line says.
-#[derive(Clone, Copy, Debug, PartialEq, Eq)]
+#[derive(Clone, Copy, Debug)]
 pub enum Happening {
     /// The switch was accepted as active (`true`) or inactive.
     Switch(SwitchId, bool),
@@ -12,7 +12,7 @@ pub enum Happening {
 }
 
 /// A line of a trace: the moment in milliseconds, who acted, and what happened.
-#[derive(Clone, Copy, Debug, PartialEq, Eq)]
+#[derive(Clone, Copy, Debug)]
 pub struct Line {
     pub moment: u64,
     pub owner: Owner,

@@ -7,7 +7,7 @@ use std::marker::Model;
 use thiserror::Error;
 
 /// An event that waits, and who posted it.
-#[derive(Clone, Copy, Debug, PartialEq, Eq)]
+#[derive(Clone, Copy, Debug)]
 pub struct Posted {
     /// The event that was posted.
     pub event: EventId,
@@ -16,7 +16,7 @@ pub struct Posted {
 }
 
 /// As many events wait as may.
-#[derive(Clone, Copy, Debug, PartialEq, Eq, Error)]
+#[derive(Clone, Copy, Debug, Error)]
 #[error("Full")]
 pub struct Full;
 

@@ -8,7 +8,7 @@ ghost use Rattle.mpf_config.specs.SectionView.{section_view};
 use section_tables::rows::{Entry, Player};
 
 /// How a switch's contact stands while nothing presses it.
-#[derive(Clone, Copy, Debug, PartialEq, Eq)]
+#[derive(Clone, Copy, Debug)]
 pub enum Contact {
     /// Open: raw level 1 is active.
     NormallyOpen,
@@ -17,7 +17,7 @@ pub enum Contact {
 }
 
 /// How long a raw level has to stand until it is accepted.
-#[derive(Clone, Copy, Debug, PartialEq, Eq)]
+#[derive(Clone, Copy, Debug)]
 pub enum Debounce {
     /// As the use of the switch asks: as `Normal`, since nothing asks for more yet.
     Auto,
@@ -28,7 +28,7 @@ pub enum Debounce {
 }
 
 /// What stands in a section, as written.
-#[derive(Debug, Drop)]
+#[derive(Drop)]
 pub enum Content {
     /// Entries by the table of the section.
     Entries(Vec<Entry>),
@@ -37,20 +37,20 @@ pub enum Content {
 }
 
 /// A section of a text, by its name.
-#[derive(Debug, Drop)]
+#[derive(Drop)]
 pub struct Section {
     pub name: Vec<u8>,
     pub content: Content,
 }
 
 /// The machine text: its sections as written, none twice.
-#[derive(Debug, Drop)]
+#[derive(Drop)]
 pub struct MachineText {
     pub sections: Vec<Section>,
 }
 
 /// Why a part of a bundle is not read.
-#[derive(Clone, Copy, Debug, PartialEq, Eq)]
+#[derive(Clone, Copy)]
 pub enum NoteKind {
     /// A section that is carried out nowhere.
     Skipped,
@@ -59,7 +59,7 @@ pub enum NoteKind {
 }
 
 /// A part of a bundle that is not read, and is no fault.
-#[derive(Debug, Drop)]
+#[derive(Drop)]
 pub struct Note {
     pub kind: NoteKind,
     /// The name of the text that the note is about.
@@ -71,7 +71,7 @@ pub struct Note {
 }
 
 /// The rows of a bundle: no list in them has more than 1,024 items.
-#[derive(Debug, Drop)]
+#[derive(Drop)]
 pub struct Config {
     /// What stands in the machine text.
     pub machine: MachineText,

@@ -10,14 +10,14 @@ use section_tables::rows::{Entry, Name, Plain, Player, Value};
 use section_tables::tables::{EVENT_PLAYER_NAME, SWITCHES_NAME};
 
 /// A name where it is written.
-#[derive(Clone, Copy, Debug)]
+#[derive(Clone, Copy)]
 pub struct NameAt<'a> {
     pub line: u32,
     pub text: &'a [u8],
 }
 
 /// An entry of `switches`.
-#[derive(Clone, Copy, Debug)]
+#[derive(Clone, Copy)]
 pub struct Switch<'a> {
     pub name: &'a Name,
     /// The setting `type`: NO by default.
@@ -33,7 +33,7 @@ pub struct Switch<'a> {
 }
 
 /// An entry of `event_player`: where the event is handled, the others are posted, in order.
-#[derive(Clone, Copy, Debug)]
+#[derive(Clone, Copy)]
 pub struct EventPlayer<'a> {
     pub event: NameAt<'a>,
     pub posts: &'a [Name],

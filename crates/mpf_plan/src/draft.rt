@@ -5,7 +5,7 @@ ghost use Rattle.std.specs.Prelude.{◌≡◌, length};
 use crate::entries::{Action, Binding, EventId, SwitchKind};
 
 /// How a switch is read, and what it posts when it becomes active, and when it becomes inactive.
-#[derive(Debug, Drop)]
+#[derive(Drop)]
 pub(crate) struct SwitchEntry {
     pub(crate) kind: SwitchKind,
     pub(crate) active: Vec<EventId>,

@@ -3,15 +3,15 @@
 use mpf_config::config::Contact;
 
 /// An event, by its number in order of first use: below 4,096.
-#[derive(Clone, Copy, Debug, Default, PartialEq, Eq)]
+#[derive(Clone, Copy, Debug, PartialEq, Eq)]
 pub struct EventId(pub u16);
 
 /// A switch, by its number in order of first use: below 256.
-#[derive(Clone, Copy, Debug, Default, PartialEq, Eq)]
+#[derive(Clone, Copy, Debug)]
 pub struct SwitchId(pub u16);
 
 /// How a switch's raw levels are read.
-#[derive(Clone, Copy, Debug, PartialEq, Eq)]
+#[derive(Clone, Copy, Debug)]
 pub struct SwitchKind {
     /// Which raw level is active.
     pub contact: Contact,
@@ -20,36 +20,36 @@ pub struct SwitchKind {
 }
 
 /// An effect list, by its number: below 16,384, with room for the lists of rows of devices.
-#[derive(Clone, Copy, Debug, Default, PartialEq, Eq)]
+#[derive(Clone, Copy, Debug)]
 pub struct ListId(pub u32);
 
 /// A binding, by its place in plan order: below 16,384.
-#[derive(Clone, Copy, Debug, Default, PartialEq, Eq)]
+#[derive(Clone, Copy, Debug)]
 pub struct BindingId(pub u16);
 
 /// Who acts.
-#[derive(Clone, Copy, Debug, PartialEq, Eq)]
+#[derive(Clone, Copy, Debug)]
 pub enum Owner {
     /// What stands in the machine text.
     Machine,
 }
 
 /// One thing that an effect list does.
-#[derive(Clone, Copy, Debug, PartialEq, Eq)]
+#[derive(Clone, Copy, Debug)]
 pub enum Action {
     /// The event goes to the end of the queue.
     Post(EventId),
 }
 
 /// What a binding does when its turn comes.
-#[derive(Clone, Copy, Debug, PartialEq, Eq)]
+#[derive(Clone, Copy, Debug)]
 pub enum Target {
     /// The actions of the effect list, in order.
     Run(ListId),
 }
 
 /// What is done when an event is handled.
-#[derive(Clone, Copy, Debug, PartialEq, Eq)]
+#[derive(Clone, Copy, Debug)]
 pub struct Binding {
     /// The event that is handled.
     pub event: EventId,

@@ -8,7 +8,7 @@ use std::alloc::{AllocError, AllocFailed};
 use thiserror::Error;
 
 /// A table of the plan that has a limit, in the order in which they are judged.
-#[derive(Clone, Copy, Debug, PartialEq, Eq)]
+#[derive(Clone, Copy, Debug)]
 pub enum Table {
     /// At most 4,096 events.
     Events,
@@ -53,7 +53,7 @@ impl Table {
 }
 
 /// Why rows have no plan.
-#[derive(Clone, Copy, Debug, PartialEq, Eq, Error)]
+#[derive(Clone, Copy, Debug, Error)]
 pub enum PlanFault {
     /// Memory ran out.
     #[error("NoMemory")]

@@ -7,12 +7,12 @@ use std::alloc::{AllocError, AllocFailed};
 use thiserror::Error;
 
 /// The text is no value of its kind, or one beyond its range.
-#[derive(Clone, Copy, Debug, PartialEq, Eq, Error)]
+#[derive(Clone, Copy, Debug, Error)]
 #[error("BadValue")]
 pub struct BadValue;
 
 /// Why a list was not read.
-#[derive(Clone, Copy, Debug, PartialEq, Eq, Error)]
+#[derive(Clone, Copy, Debug, Error)]
 pub enum ListFault {
     /// Memory ran out.
     #[error("NoMemory")]

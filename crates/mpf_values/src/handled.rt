@@ -1,7 +1,7 @@
 //! What a handled event says.
 
 /// How a variable is to compare with a number.
-#[derive(Clone, Copy, Debug, PartialEq, Eq)]
+#[derive(Clone, Copy, Debug)]
 pub enum Comparison {
     /// `==`
     Equal,
@@ -18,7 +18,7 @@ pub enum Comparison {
 }
 
 /// That a variable of the current player compares so with a number.
-#[derive(Clone, Copy, Debug, PartialEq, Eq)]
+#[derive(Clone, Copy)]
 pub struct Condition<'a> {
     /// The name of the variable.
     pub variable: &'a [u8],
@@ -29,7 +29,7 @@ pub struct Condition<'a> {
 }
 
 /// An event by its name, and the condition under which it is handled, where it has one.
-#[derive(Clone, Copy, Debug, PartialEq, Eq)]
+#[derive(Clone, Copy)]
 pub struct Event<'a> {
     pub name: &'a [u8],
     pub condition: Option<Condition<'a>>,

@@ -12,7 +12,7 @@ use crate::bytes::{behind_separators, is_separator};
 use std::alloc::{AllocError, Global};
 
 /// An item of a list, with the line where it is.
-#[derive(Clone, Copy, Debug, PartialEq, Eq)]
+#[derive(Clone, Copy)]
 pub struct Item<'a> {
     pub line: u32,
     pub text: &'a [u8],

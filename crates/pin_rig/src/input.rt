@@ -12,7 +12,7 @@ use thiserror::Error;
 const TOO_LATE: u64 = 1 << 40;
 
 /// What a rig is given: moments are milliseconds.
-#[derive(Clone, Copy, Debug, PartialEq, Eq)]
+#[derive(Clone, Copy)]
 pub enum Input {
     /// The raw level of a switch is this from the moment on.
     Change {
@@ -29,7 +29,7 @@ pub enum Input {
 }
 
 /// Why an input is refused: the first reason of these. Nothing has changed then.
-#[derive(Clone, Copy, Debug, PartialEq, Eq, Error)]
+#[derive(Clone, Copy, Debug, Error)]
 #[error("{}", self.name())]
 pub enum StepFault {
     /// The plan has no switch of this number.
@@ -91,7 +91,7 @@ pub fn check_moment(latest: u64, at: u64) -> Result<(), StepFault>
 }
 
 /// Why there is no rig.
-#[derive(Clone, Copy, Debug, PartialEq, Eq, Error)]
+#[derive(Clone, Copy, Debug, Error)]
 pub enum RigFault {
     /// Memory ran out.
     #[error("NoMemory")]

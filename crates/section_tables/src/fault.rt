@@ -9,7 +9,7 @@ use thiserror::Error;
 use yaml_subset::fault::FaultKind as YamlKind;
 
 /// What is wrong.
-#[derive(Clone, Copy, Debug, PartialEq, Eq)]
+#[derive(Clone, Copy, Debug)]
 pub enum FaultKind {
     /// The bundle has no line `@ NAME` first, a bad `@` line, or no machine text.
     Bundle,

@@ -5,14 +5,14 @@ use std::mem::size_of;
 
 /// A name of 1 to 64 letters, digits, `_`, `-` and `.`, with the line where it is written,
 /// counted from 1.
-#[derive(Debug, Drop)]
+#[derive(Drop)]
 pub struct Name {
     pub line: u32,
     pub text: Vec<u8>,
 }
 
 /// That a variable of the current player compares so with a number.
-#[derive(Debug, Drop)]
+#[derive(Drop)]
 pub struct Guard {
     pub variable: Vec<u8>,
     pub comparison: Comparison,
@@ -21,7 +21,7 @@ pub struct Guard {
 
 /// An event that is handled, under a condition where it has one; with the line where it is
 /// written, or 0 where it is not written but holds by default.
-#[derive(Debug, Drop)]
+#[derive(Drop)]
 pub struct Handler {
     pub line: u32,
     pub name: Vec<u8>,
@@ -29,7 +29,7 @@ pub struct Handler {
 }
 
 /// What one text says. What is large stands in a box, so that a value has 24 bytes.
-#[derive(Debug, Drop)]
+#[derive(Drop)]
 pub enum Plain {
     /// Nothing is written, and nothing holds by default.
     Nothing,
@@ -48,21 +48,21 @@ pub enum Plain {
 }
 
 /// A map in a list, with the line where it begins: its values in the order of its table.
-#[derive(Debug, Drop)]
+#[derive(Drop)]
 pub struct Fields {
     pub line: u32,
     pub values: Vec<Plain>,
 }
 
 /// A name, and the values that belong to it in the order of their table.
-#[derive(Debug, Drop)]
+#[derive(Drop)]
 pub struct Keyed {
     pub name: Name,
     pub values: Vec<Plain>,
 }
 
 /// The value of a setting, of 32 bytes.
-#[derive(Debug, Drop)]
+#[derive(Drop)]
 pub enum Value {
     One(Plain),
     /// Names of other things than events.
@@ -82,7 +82,7 @@ const _: () = prove!(size_of::<Value>() <= 32);
 const _: () = prove!(size_of::<Handler>() <= 48);
 
 /// An entry of a section: its values in the order of the section's table.
-#[derive(Debug, Drop)]
+#[derive(Drop)]
 pub struct Entry {
     pub name: Name,
     pub values: Vec<Value>,
@@ -90,7 +90,7 @@ pub struct Entry {
 
 /// An entry of a player: the event that its key is, by its name or as a handled event, and its
 /// value.
-#[derive(Debug, Drop)]
+#[derive(Drop)]
 pub struct Player {
     pub event: Plain,
     pub value: Value,

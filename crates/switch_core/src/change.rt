@@ -3,7 +3,7 @@
 use mpf_plan::entries::SwitchId;
 
 /// A switch's new level was accepted.
-#[derive(Clone, Copy, Debug, PartialEq, Eq)]
+#[derive(Clone, Copy, Debug)]
 pub struct Change {
     pub switch: SwitchId,
     /// Whether the switch is active now.

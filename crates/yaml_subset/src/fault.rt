@@ -7,7 +7,7 @@ use std::alloc::{AllocError, AllocFailed};
 use thiserror::Error;
 
 /// What is wrong with a text at a line.
-#[derive(Clone, Copy, Debug, PartialEq, Eq, Error)]
+#[derive(Clone, Copy, Debug, Error)]
 pub enum FaultKind {
     /// The bytes of the line are not UTF-8.
     #[error("NotUtf8")]
@@ -44,7 +44,7 @@ pub enum FaultKind {
 }
 
 /// A fault and the line where it is, counted from 1.
-#[derive(Clone, Copy, Debug, PartialEq, Eq, Error)]
+#[derive(Clone, Copy, Debug, Error)]
 #[error("{kind} at line {line}")]
 pub struct Fault {
     pub kind: FaultKind,
@@ -52,7 +52,7 @@ pub struct Fault {
 }
 
 /// Why a text was not read.
-#[derive(Clone, Copy, Debug, PartialEq, Eq, Error)]
+#[derive(Clone, Copy, Debug, Error)]
 pub enum YamlFault {
     /// Memory ran out.
     #[error("NoMemory")]

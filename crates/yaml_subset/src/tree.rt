@@ -4,7 +4,7 @@ ghost use Rattle.std.specs.Prelude.{◌≡◌, map};
 ghost use Rattle.yaml_subset.specs.View.{node_view, pair_view, line_of, text_in, items_in, pairs_in, option_slice};
 
 /// A key, with the line where it begins.
-#[derive(Debug, Drop)]
+#[derive(Drop)]
 pub struct Key {
     pub line: u32,
     pub text: Vec<u8>,
@@ -12,7 +12,7 @@ pub struct Key {
 
 /// A node of a text, with the line where it begins, counted from 1. Where no value
 /// is written, that is the line of the key or `-` in front of it.
-#[derive(Debug, Drop)]
+#[derive(Drop)]
 pub enum Tree {
     /// A text; the empty text where there is no value.
     Scalar(u32, Vec<u8>),
