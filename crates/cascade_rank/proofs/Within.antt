@@ -4,7 +4,7 @@ use Rattle.std.specs.List.{All, AllByRecursion}
 use Rattle.std.proofs.lemmas.Bool.{cases_lt, or_cases, eqb-true, false≢true}
 use Rattle.std.proofs.lemmas.List.Elements.{recursion_from_All, All-get_or, All-weaker, All-nil, All-filter}
 use Rattle.std.proofs.lemmas.List.{get_or_past}
-use Rattle.mpf_plan.specs.PlanView.{PlanView, no_switch, switch_at, list_at, posts_of, bound_to}
+use Rattle.mpf_plan.specs.PlanView.{PlanView, no_switch, switch_at, actions_at, posts_of, bound_to}
 use Rattle.mpf_plan.specs.Valid.{IsEventWithin, IsActionWithin, IsTargetWithin, IsBindingWithin, IsSwitchWithin, HasEntries}
 use Rattle.mpf_plan.specs.declared.entries.EventId.{EventId}
 use Rattle.mpf_plan.specs.declared.entries.SwitchId.{SwitchId}
@@ -50,7 +50,7 @@ IsBelow-action plan (Post e) h = h
 module _ (plan : PlanView) (valid : HasEntries plan) where
   pub IsBelow-list : (l : ListId) → l.0 < length plan.lists → IsBelow (length plan.events) (cost_of_list plan l)
   IsBelow-list l h =
-      each_below (length plan.events) (cost_of_action plan) (IsActionWithin plan) (IsBelow-action plan) (list_at plan l)
+      each_below (length plan.events) (cost_of_action plan) (IsActionWithin plan) (IsBelow-action plan) (actions_at plan l)
       (All-get_or (All (IsActionWithin plan)) plan.lists l.0 [] h valid.lists)
 
   pub IsBelow-target : (t : Target) → IsTargetWithin plan t → IsBelow (length plan.events) (cost_of_target plan t)

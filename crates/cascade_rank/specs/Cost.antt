@@ -1,7 +1,7 @@
 -- What a thing costs: the lines that it prints and the weights of the events that it posts, added up or compared.
 use Rattle.std.specs.Prelude.{ℕ, ◌+◌, max, Bool, true, false, ◌&&◌, ◌||◌, ◌==◌, List, [], ◌∷◌, length, map}
 use Rattle.std.specs.List.{range_with_len}
-use Rattle.mpf_plan.specs.PlanView.{PlanView, posts_of, list_at, bound_to}
+use Rattle.mpf_plan.specs.PlanView.{PlanView, posts_of, actions_at, bound_to}
 use Rattle.mpf_plan.specs.declared.entries.EventId.{EventId}
 use Rattle.mpf_plan.specs.declared.entries.SwitchId.{SwitchId}
 use Rattle.mpf_plan.specs.declared.entries.ListId.{ListId}
@@ -57,7 +57,7 @@ cost_of_action plan (Post e) = cost_of_post e
 
 -- the actions of an effect list
 abbrev pub cost_of_list : PlanView → ListId → Cost
-cost_of_list plan l = each_of (cost_of_action plan) (list_at plan l)
+cost_of_list plan l = each_of (cost_of_action plan) (actions_at plan l)
 
 abbrev pub cost_of_target : PlanView → Target → Cost
 cost_of_target plan (Run l) = cost_of_list plan l

@@ -2,7 +2,7 @@
 use Rattle.std.proofs.Common.{◌≡◌, ℕ, zero, suc, ◌≤◌, ◌<◌, ◌⊎◌, Bool, Option, Some, None, List, [], ◌∷◌, length, refl, ap, sym, ◌∙◌, subst, inl, inr, arith}
 use Rattle.std.proofs.lemmas.Option.{none-some}
 use Rattle.std.proofs.lemmas.List.{length-map}
-use Rattle.mpf_plan.specs.PlanView.{PlanView, posts_of, list_at, binding_at}
+use Rattle.mpf_plan.specs.PlanView.{PlanView, posts_of, actions_at, binding_at}
 use Rattle.mpf_plan.specs.Valid.{IsValid}
 use Rattle.mpf_plan.specs.declared.entries.SwitchId.{SwitchId}
 use Rattle.mpf_plan.specs.declared.entries.BindingId.{BindingId}
@@ -38,7 +38,7 @@ module _ (plan : PlanView) where
   switches-action owner (Post e) s = refl
 
   switches-target : (owner : Owner) (t : Target) (s : Machine) → (do_target plan owner t s).switches ≡ s.switches
-  switches-target owner (Run l) s = switches-all_do (do_action plan owner) (switches-action owner) (list_at plan l) s
+  switches-target owner (Run l) s = switches-all_do (do_action plan owner) (switches-action owner) (actions_at plan l) s
 
   switches-binding : (b : Binding) (s : Machine) → (do_binding plan b s).switches ≡ s.switches
   switches-binding b s = switches-target b.owner b.target s

@@ -10,7 +10,7 @@ use Rattle.switch_core.proofs.Lists.{due-within}
 use Rattle.config_checker.specs.declared.line.Line.{Line}
 use Rattle.config_checker.specs.Machine.{Machine}
 use Rattle.config_checker.specs.PlanOrder.{settled}
-use Rattle.config_checker.specs.Run.{Source, switch, source_due, IsNothingDueBy, IsNothingLate, IsNextAlarm, Stimulus, Alarm, begin, IsReached}
+use Rattle.config_checker.specs.Run.{Source, switch, source_due, IsNoAlarmDueBy, IsNothingLate, IsNextAlarm, Stimulus, Alarm, begin, IsReached}
 use Rattle.config_checker.specs.NextAlarm.{next_alarm, source_count, most_alarms}
 use Rattle.config_checker.specs.AlarmsBy.{due_by, alarms_by, state_after}
 use Rattle.config_checker.specs.AlarmsEnd.{AlarmsEnd}
@@ -146,7 +146,7 @@ module _ (plan : PlanView) (bound : ℕ) where
 
   -- after so many alarms nothing is due by the moment
   abbrev LeavesNothing : ℕ → ℕ → Machine → Type 0
-  LeavesNothing until k s = IsNothingDueBy (state_after plan bound (alarms_by plan bound until k s) s) until
+  LeavesNothing until k s = IsNoAlarmDueBy (state_after plan bound (alarms_by plan bound until k s) s) until
 
   module _ (until : ℕ) where
     none-due : (k : ℕ) (s : Machine) → due_by until (next_alarm s) ≡ None → alarms_by plan bound until k s ≡ []
@@ -155,7 +155,7 @@ module _ (plan : PlanView) (bound : ℕ) where
         ap (λ (o : Option (ℕ × Source)). option_map_or (λ a. Alarm a.0 a.1 ∷ alarms_by plan bound until k (after_alarm a.0 a.1 s)) o []) none
 
     -- where nothing is due no alarm comes
-    pub alarms_by-none : (k : ℕ) (s : Machine) → IsNothingDueBy s until → alarms_by plan bound until k s ≡ []
+    pub alarms_by-none : (k : ℕ) (s : Machine) → IsNoAlarmDueBy s until → alarms_by plan bound until k s ≡ []
     alarms_by-none k s nothing = none-due k s (nothing-due_by s until nothing)
 
     -- the next alarm comes first
@@ -164,18 +164,18 @@ module _ (plan : PlanView) (bound : ℕ) where
     alarms_by-more k s at source next by =
         ap (λ (o : Option (ℕ × Source)). option_map_or (λ a. Alarm a.0 a.1 ∷ alarms_by plan bound until k (after_alarm a.0 a.1 s)) o []) (some-due_by s until at source next by)
 
-    leaves-none : (k : ℕ) (s : Machine) → IsNothingDueBy s until → LeavesNothing until k s
-    leaves-none k s nothing = subst (λ (xs : List Stimulus). IsNothingDueBy (state_after plan bound xs s) until) (sym (alarms_by-none k s nothing)) nothing
+    leaves-none : (k : ℕ) (s : Machine) → IsNoAlarmDueBy s until → LeavesNothing until k s
+    leaves-none k s nothing = subst (λ (xs : List Stimulus). IsNoAlarmDueBy (state_after plan bound xs s) until) (sym (alarms_by-none k s nothing)) nothing
 
     leaves-more : (k : ℕ) (s : Machine) (at : ℕ) (source : Source) → IsNextAlarm s at source → at ≤ until → LeavesNothing until k (after_alarm at source s) → LeavesNothing until (suc k) s
     leaves-more k s at source next by h =
-        subst (λ (xs : List Stimulus). IsNothingDueBy (state_after plan bound xs s) until) (sym (alarms_by-more k s at source next by)) h
+        subst (λ (xs : List Stimulus). IsNoAlarmDueBy (state_after plan bound xs s) until) (sym (alarms_by-more k s at source next by)) h
 
     -- an alarm is due by the moment, or none is
-    due-cases : (s : Machine) → ((at : ℕ) × (source : Source) × IsNextAlarm s at source × (at ≤ until)) ⊎ IsNothingDueBy s until
+    due-cases : (s : Machine) → ((at : ℕ) × (source : Source) × IsNextAlarm s at source × (at ≤ until)) ⊎ IsNoAlarmDueBy s until
     due-cases s = by (due_by until (next_alarm s)) refl
       where
-        by : (o : Option (ℕ × Source)) → due_by until (next_alarm s) ≡ o → ((at : ℕ) × (source : Source) × IsNextAlarm s at source × (at ≤ until)) ⊎ IsNothingDueBy s until
+        by : (o : Option (ℕ × Source)) → due_by until (next_alarm s) ≡ o → ((at : ℕ) × (source : Source) × IsNextAlarm s at source × (at ≤ until)) ⊎ IsNoAlarmDueBy s until
         by None is = inr (due_by-none s until is)
         by (Some a) is = let (next, on_time) = due_by-some s until a.0 a.1 is in inl (a.0, a.1, next, on_time)
 
@@ -245,8 +245,8 @@ module _ (plan : PlanView) (bound : ℕ) where
           | inl (at, source, next, by) ↦
               let alarm = Alarm at source in
               let t = after_alarm at source s in
-              let first = subst (λ (xs : List Stimulus). IsNothingDueBy (state_after plan bound xs s) until) (alarms_by-more j s at source next by) a in
-              let second = subst (λ (xs : List Stimulus). IsNothingDueBy (state_after plan bound xs s) until) (alarms_by-more k s at source next by) b in
+              let first = subst (λ (xs : List Stimulus). IsNoAlarmDueBy (state_after plan bound xs s) until) (alarms_by-more j s at source next by) a in
+              let second = subst (λ (xs : List Stimulus). IsNoAlarmDueBy (state_after plan bound xs s) until) (alarms_by-more k s at source next by) b in
               alarms_by-more j s at source next by ∙ ap (λ (xs : List Stimulus). alarm ∷ xs) (alarms_by-same j k t first second) ∙ sym (alarms_by-more k s at source next by)
         ]
 
@@ -260,7 +260,7 @@ module _ (plan : PlanView) (bound : ℕ) where
     }
 
     -- all alarms that are due by the moment come
-    pub alarms_by-all : IsNothingDueBy (state_after plan bound (alarms_by plan bound until (most_alarms plan until s) s) s) until
+    pub alarms_by-all : IsNoAlarmDueBy (state_after plan bound (alarms_by plan bound until (most_alarms plan until s) s) s) until
     alarms_by-all = leaves-nothing until s going
 
     -- the next alarm, where it is due by the moment, and then those that are due after it
@@ -278,7 +278,7 @@ module _ (plan : PlanView) (bound : ℕ) where
         first (suc k) h =
             let t = after_alarm at source s in
             let alarm = Alarm at source in
-            let left = subst (λ (xs : List Stimulus). IsNothingDueBy (state_after plan bound xs s) until) (alarms_by-more until k s at source next by) h in
+            let left = subst (λ (xs : List Stimulus). IsNoAlarmDueBy (state_after plan bound xs s) until) (alarms_by-more until k s at source next by) h in
             alarms_by-more until k s at source next by
             ∙ ap (λ (xs : List Stimulus). alarm ∷ xs) (alarms_by-same until k (most_alarms plan until t) t left (leaves-nothing until t (alarm-goes_on at source s next going)))
 

@@ -19,7 +19,7 @@ use Rattle.config_checker.specs.declared.report.Report.TheVariants.{NoMemory, Fa
 use Rattle.config_checker.specs.CheckedView.{CheckedView}
 use Rattle.config_checker.specs.CertificateText.{Certificate, text_of, certificate_text}
 use Rattle.config_checker.specs.CertificateOf.{IsTextOf, certificate_at}
-use Rattle.config_checker.specs.Checking.{FaultView, limit, cycle, bound, certificate, bad_line, other_events, other_bound, named_fault, weighed, weighed_plan, same_names, names_in, weights_in, bounded, certified, certified_plan, alone, checked, checked_at, checked_with_at}
+use Rattle.config_checker.specs.Checking.{FaultView, limit, cycle, bound, certificate, bad_line, other_events, other_bound, named_fault, weighed, weighed_plan, same_names, certificate_names, certificate_weights, bounded, certified, certified_plan, reported_alone, checked, checked_at, checked_with_at}
 use Rattle.config_checker.specs.View.{GivesChecked, ReportsFault}
 use Rattle.config_checker.specs.Refused.{IsLimitFault, IsFaultOf, IsNoCertificate, IsCertificateOf, HasOtherEvents, HasOtherBound, HasTooMuch, HasShortEvent, IsFaultWith, Reports}
 use Rattle.config_checker.proofs.Certificates.{read-is_text, text-is_read}
@@ -85,8 +85,8 @@ module _ (rows : Rows) where
 -- the text is this certificate, which has these names and these weights
 pub record IsReadAs (text : List ℕ) (c : Certificate) (names : List (List ℕ)) (ws : List ℕ) : Type 0 where
   pub read : certificate_at text ≡ Ok c
-  pub names_are : names_in c ≡ names
-  pub weights_are : weights_in c ≡ ws
+  pub names_are : certificate_names c ≡ names
+  pub weights_are : certificate_weights c ≡ ws
 
 pub read-as : (text : List ℕ) (stated : ℕ) (names : List (List ℕ)) (weights ws : List ℕ) → length weights ≡ length names → certificate_at text ≡ Ok (record { bound = stated; events = zip names weights }) → ws ≡ weights
     → IsReadAs text (record { bound = stated; events = zip names weights }) names ws
@@ -98,9 +98,9 @@ module _ (rows : Rows) (plan : PlanView) (made : plan_at rows ≡ Ok plan) where
 
   -- ---- the least weights
 
-  found-checked : (answer : Result CheckedView FaultView) → weighed_plan plan ≡ answer → checked_at rows ≡ alone answer
+  found-checked : (answer : Result CheckedView FaultView) → weighed_plan plan ≡ answer → checked_at rows ≡ reported_alone answer
   unfolding checked_at
-  found-checked answer is = ap (checked weighed_plan) made ∙ ap alone is
+  found-checked answer is = ap (checked weighed_plan) made ∙ ap reported_alone is
 
   pub found-accepted : (ws : List ℕ) (b : ℕ) → found_at plan ≡ Ok ws → b ≡ bound_of plan (weight_of ws) → checked_at rows ≡ Ok (record { plan = plan; weights = ws; bound = b })
   unfolding weighed_plan
@@ -126,9 +126,9 @@ module _ (rows : Rows) (plan : PlanView) (made : plan_at rows ≡ Ok plan) where
   -- ---- a certificate
 
   module _ (text : List ℕ) where
-    given-checked : (answer : Result CheckedView FaultView) → certified_plan text plan ≡ answer → checked_with_at rows text ≡ alone answer
+    given-checked : (answer : Result CheckedView FaultView) → certified_plan text plan ≡ answer → checked_with_at rows text ≡ reported_alone answer
     unfolding checked_with_at
-    given-checked answer is = ap (checked (certified_plan text)) made ∙ ap alone is
+    given-checked answer is = ap (checked (certified_plan text)) made ∙ ap reported_alone is
 
     pub misread-checked : (n : ℕ) → certificate_at text ≡ Err n → checked_with_at rows text ≡ Err (certificate (bad_line n) ∷ [])
     unfolding certified_plan
@@ -177,7 +177,7 @@ module _ (rows : Rows) (plan : PlanView) (made : plan_at rows ≡ Ok plan) where
         unverified-fault (Some reported) fault is h =
             subst (IsFaultWith rows text) (some_same (named_fault plan reported) fault is) (by reported (subst (λ (v : List ℕ). IsUnverified plan v reported) (sym reading.weights_are) h))
           where
-            by : (reported : RankView) → IsUnverified plan (weights_in c) reported → IsFaultWith rows text (named_fault plan reported)
+            by : (reported : RankView) → IsUnverified plan (certificate_weights c) reported → IsFaultWith rows text (named_fault plan reported)
             by (ranks.cycle events) h = absurd h
             by ranks.bound_too_large h = subst (λ (p : PlanView). HasTooMuch p text) of_rows (record { certificate = c; of_plan = of_plan; above = h })
             by (ranks.short event needed) h =
@@ -201,7 +201,7 @@ module _ (rows : Rows) (plan : PlanView) (made : plan_at rows ≡ Ok plan) where
         pub verified-text : (b : ℕ) → b ≡ c.bound → certificate_text (record { plan = plan; weights = ws; bound = b }) ≡ text
         verified-text b is =
             let same : zip plan.events ws ≡ c.events =
-            ap (λ (ns : List (List ℕ)). zip ns ws) (sym of_plan.events) ∙ ap (zip (names_in c)) (sym reading.weights_are) ∙ zip-parts c.events in
+            ap (λ (ns : List (List ℕ)). zip ns ws) (sym of_plan.events) ∙ ap (zip (certificate_names c)) (sym reading.weights_are) ∙ zip-parts c.events in
             ap (λ (n : ℕ). text_of (record { bound = n; events = zip plan.events ws })) is
             ∙ ap (λ (events : List (List ℕ × ℕ)). text_of (record { bound = c.bound; events = events })) same
             ∙ sym text_is.1

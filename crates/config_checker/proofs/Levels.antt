@@ -6,13 +6,13 @@ use Rattle.mpf_plan.specs.declared.entries.SwitchId.{SwitchId}
 use Rattle.switch_core.specs.SwitchStep.{raw_at_rest}
 use Rattle.switch_core.specs.Switches.{SwitchesView, all_idle, active_at, IsNothingDueBy as IsNoSwitchDueBy}
 use Rattle.switch_core.specs.AcceptedLevel.{accepted_level}
-use Rattle.switch_core.specs.Calls.{Call, Fire, call_moment, after_call, after_calls, last_moment, IsInTime, AreInTime, raw_changes}
+use Rattle.switch_core.specs.Calls.{SwitchCall, Fire, call_moment, after_call, after_calls, last_moment, IsInTime, AreInTime, raw_changes}
 use Rattle.switch_core.specs.Calls as calls
 use Rattle.switch_core.proofs.DueMoments.{fire-accepts}
 use Rattle.switch_core.proofs.Following.{levels_are_accepted}
 use Rattle.config_checker.specs.declared.line.Line.{Line}
 use Rattle.config_checker.specs.Machine.{Machine, initial}
-use Rattle.config_checker.specs.Run.{switch, Stimulus, Change, Alarm, Wait, IsNothingLate, IsNothingDueBy, begin, IsRun, InEveryRun}
+use Rattle.config_checker.specs.Run.{switch, Stimulus, Change, Alarm, Wait, IsNothingLate, IsNoAlarmDueBy, begin, IsRun, InEveryRun}
 use Rattle.config_checker.specs.SwitchCalls.{switch_calls}
 use Rattle.config_checker.proofs.Alarms.{switches-steps, switches-change, switches-alarm, moment-after, not_late-after, not_late-initial, forward}
 use Rattle.config_checker.proofs.NextAlarms.{next_alarm-due}
@@ -24,7 +24,7 @@ record IsCalled (moment : ℕ) (stimuli : List (Stimulus × ℕ)) (s t : Machine
   last : last_moment moment (switch_calls stimuli) ≤ t.moment
 
 -- a stimulus that makes a call, and then others
-called-next : (moment : ℕ) (call : Call) (more : List Call) (s mid t : Machine) → moment ≤ call_moment call → IsInTime s.switches call → after_call call s.switches ≡ mid.switches
+called-next : (moment : ℕ) (call : SwitchCall) (more : List SwitchCall) (s mid t : Machine) → moment ≤ call_moment call → IsInTime s.switches call → after_call call s.switches ≡ mid.switches
     → AreInTime (call_moment call) mid.switches more → after_calls more mid.switches ≡ t.switches
     → AreInTime moment s.switches (call ∷ more) × (after_calls (call ∷ more) s.switches ≡ t.switches)
 called-next moment call more s mid t before in_time one later last = (
@@ -67,7 +67,7 @@ module _ (plan : PlanView) where
 
   -- where nothing is due each switch has the accepted level of its raw changes
   pub levels-run : InEveryRun plan (λ stimuli trace s.
-      (at : ℕ) → s.moment ≤ at → IsNothingDueBy s at → (n : SwitchId) → n.0 < length plan.switches →
+      (at : ℕ) → s.moment ≤ at → IsNoAlarmDueBy s at → (n : SwitchId) → n.0 < length plan.switches →
       active_at s.switches n ≡ accepted_level (switch_at plan n).kind at (raw_changes n (raw_at_rest (switch_at plan n).kind.contact) (switch_calls stimuli)))
   levels-run stimuli trace s run at after quiet n within =
       let called = run-called stimuli (initial plan) trace s run (not_late-initial plan) 0 (omega arith) in

@@ -6,7 +6,7 @@ use Rattle.mpf_plan.specs.declared.entries.SwitchId.{SwitchId}
 use Rattle.switch_core.specs.Switches.{IsNextDue, next_due}
 use Rattle.switch_core.proofs.NextDue.{next_due-is, next_due-least, not_due-quiet, quiet-not_due}
 use Rattle.config_checker.specs.Machine.{Machine}
-use Rattle.config_checker.specs.Run.{Source, switch, source_due, IsNotAfter, IsNothingDueBy, IsNextAlarm}
+use Rattle.config_checker.specs.Run.{Source, switch, source_due, IsNotAfter, IsNoAlarmDueBy, IsNextAlarm}
 use Rattle.config_checker.specs.NextAlarm.{next_alarm, is_due_by}
 use Rattle.config_checker.specs.AlarmsBy.{due_by}
 
@@ -52,10 +52,10 @@ is_due_by-is : (at : ℕ) (o : Option (ℕ × SwitchId)) → option_map_or (λ (
 is_due_by-is at None = refl
 is_due_by-is at (Some d) = refl
 
-pub not_due-nothing : (s : Machine) (at : ℕ) → is_due_by at s ≡ false → IsNothingDueBy s at
+pub not_due-nothing : (s : Machine) (at : ℕ) → is_due_by at s ≡ false → IsNoAlarmDueBy s at
 not_due-nothing s at h (switch n) due is = not_due-quiet s.switches at (sym (is_due_by-is at (next_due s.switches)) ∙ h) n due is
 
-pub nothing-not_due : (s : Machine) (at : ℕ) → IsNothingDueBy s at → is_due_by at s ≡ false
+pub nothing-not_due : (s : Machine) (at : ℕ) → IsNoAlarmDueBy s at → is_due_by at s ≡ false
 nothing-not_due s at h = is_due_by-is at (next_due s.switches) ∙ quiet-not_due s.switches at (λ n due is. h (switch n) due is)
 
 -- ---- one that is due by a moment
@@ -90,10 +90,10 @@ not_due-where until (Some a) h = by (nat_le a.0 until) h
     by false h = refl
 
 -- there is none just where nothing is due by the moment
-pub due_by-none : (s : Machine) (until : ℕ) → due_by until (next_alarm s) ≡ None → IsNothingDueBy s until
+pub due_by-none : (s : Machine) (until : ℕ) → due_by until (next_alarm s) ≡ None → IsNoAlarmDueBy s until
 due_by-none s until h = not_due-nothing s until (not_due-where until (next_alarm s) h)
 
-pub nothing-due_by : (s : Machine) (until : ℕ) → IsNothingDueBy s until → due_by until (next_alarm s) ≡ None
+pub nothing-due_by : (s : Machine) (until : ℕ) → IsNoAlarmDueBy s until → due_by until (next_alarm s) ≡ None
 nothing-due_by s until h = none-where until (next_alarm s) (nothing-not_due s until h)
 
 -- one is due by the moment

@@ -1,6 +1,6 @@
 -- Each part of the machine does its cost.
 use Rattle.std.proofs.Common.{ℕ, Bool, Option, Some, None, List}
-use Rattle.mpf_plan.specs.PlanView.{PlanView, posts_of, list_at, binding_at}
+use Rattle.mpf_plan.specs.PlanView.{PlanView, posts_of, actions_at, binding_at}
 use Rattle.mpf_plan.specs.declared.entries.EventId.{EventId}
 use Rattle.mpf_plan.specs.declared.entries.SwitchId.{SwitchId}
 use Rattle.mpf_plan.specs.declared.entries.ListId.{ListId}
@@ -31,7 +31,7 @@ module _ (plan : PlanView) where
   does-action owner (Post e) s = posted owner e s
 
   pub does-list : (owner : Owner) (l : ListId) (s : Machine) → Does (cost_of_list plan l) s (do_list plan owner l s)
-  does-list owner l s = all_do-does (do_action plan owner) (cost_of_action plan) (does-action owner) (list_at plan l) s
+  does-list owner l s = all_do-does (do_action plan owner) (cost_of_action plan) (does-action owner) (actions_at plan l) s
 
   pub does-target : (owner : Owner) (t : Target) (s : Machine) → Does (cost_of_target plan t) s (do_target plan owner t s)
   does-target owner (Run l) s = does-list owner l s

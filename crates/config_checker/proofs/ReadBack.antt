@@ -27,7 +27,7 @@ use Rattle.config_checker.specs.CheckedView.{CheckedView}
 use Rattle.config_checker.specs.Accepted.{IsAccepted}
 use Rattle.config_checker.specs.CertificateText.{Certificate, certificate_of, certificate_text}
 use Rattle.config_checker.specs.CertificateOf.{IsWord, IsWritable, certificate_at}
-use Rattle.config_checker.specs.Checking.{FaultView, same_names, names_in, weights_in, weighed, weighed_plan, bounded, certified, certified_plan, alone, checked, checked_at, checked_with_at}
+use Rattle.config_checker.specs.Checking.{FaultView, same_names, certificate_names, certificate_weights, weighed, weighed_plan, bounded, certified, certified_plan, reported_alone, checked, checked_at, checked_with_at}
 use Rattle.config_checker.specs.ReadAgain.{IsReadAgain}
 use Rattle.config_checker.proofs.Certificates.{text-is_read}
 use Rattle.config_checker.proofs.Names.{same_names-self, all_seen}
@@ -81,7 +81,7 @@ module _ (rows : Rows) where
       let reading = read-as text c.bound c.plan.events c.weights c.weights verified.count (text-is_read (certificate_of c) text (verified-writable c verified words, refl)) refl in
       verified-checked rows c.plan made text (certificate_of c) c.plan.events c.weights reading (same_names-self c.plan.events) c.bound (verified_at-bound c.plan c.weights c.bound verified) refl
 
-  alone_same : (r : Result CheckedView FaultView) (c : CheckedView) → alone r ≡ Ok c → r ≡ Ok c
+  alone_same : (r : Result CheckedView FaultView) (c : CheckedView) → reported_alone r ≡ Ok c → r ≡ Ok c
   alone_same (Ok x) c is = ap Ok (ok_same x c is)
   alone_same (Err e) c is = absurd (err_not_ok _ c is)
 
@@ -125,19 +125,19 @@ module _ (rows : Rows) where
   -- ---- weights of a certificate
 
   module _ (text : List ℕ) (c : CheckedView) (plan : PlanView) (made : plan_at rows ≡ Ok plan) where
-    bounded-text : (given : Certificate) → certificate_at text ≡ Ok given → same_names plan.events (names_in given) ≡ true → (verified : Result ℕ RankView) → bounded plan given verified ≡ Ok c → certificate_text c ≡ text
+    bounded-text : (given : Certificate) → certificate_at text ≡ Ok given → same_names plan.events (certificate_names given) ≡ true → (verified : Result ℕ RankView) → bounded plan given verified ≡ Ok c → certificate_text c ≡ text
     bounded-text given read named (Ok b) is =
-        let accepted : CheckedView = record { plan = plan; weights = weights_in given; bound = b } in
+        let accepted : CheckedView = record { plan = plan; weights = certificate_weights given; bound = b } in
         let right = chosen (b == given.bound) (Ok accepted) _ c is in
-        let reading : IsReadAs text given (names_in given) (weights_in given) = record { read = read; names_are = refl; weights_are = refl } in
+        let reading : IsReadAs text given (certificate_names given) (certificate_weights given) = record { read = read; names_are = refl; weights_are = refl } in
         subst (λ (v : CheckedView). certificate_text v ≡ text) (ok_same accepted c right.1)
-        (verified-text rows plan made text given (names_in given) (weights_in given) reading named b (eqb-true b given.bound right.0))
+        (verified-text rows plan made text given (certificate_names given) (certificate_weights given) reading named b (eqb-true b given.bound right.0))
     bounded-text given read named (Err fault) is = absurd (err_not_ok _ c is)
 
     certified-text : (given : Result Certificate ℕ) → certificate_at text ≡ given → certified plan given ≡ Ok c → certificate_text c ≡ text
     certified-text (Ok given) read is =
-        let named = chosen (same_names plan.events (names_in given)) (bounded plan given (verified_at plan (weights_in given))) _ c is in
-        bounded-text given read named.0 (verified_at plan (weights_in given)) named.1
+        let named = chosen (same_names plan.events (certificate_names given)) (bounded plan given (verified_at plan (certificate_weights given))) _ c is in
+        bounded-text given read named.0 (verified_at plan (certificate_weights given)) named.1
     certified-text (Err number) read is = absurd (err_not_ok _ c is)
 
   -- what was accepted with a text has that text

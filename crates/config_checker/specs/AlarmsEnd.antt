@@ -4,7 +4,7 @@ use Rattle.mpf_plan.specs.PlanView.{PlanView}
 use Rattle.config_checker.specs.declared.line.Line.{Line}
 use Rattle.config_checker.specs.Machine.{Machine}
 use Rattle.config_checker.specs.EventStep.{EventSteps}
-use Rattle.config_checker.specs.Run.{Source, source_due, IsNothingDueBy, Stimulus, Alarm, moment_of, begin, IsReached}
+use Rattle.config_checker.specs.Run.{Source, source_due, IsNoAlarmDueBy, Stimulus, Alarm, moment_of, begin, IsReached}
 use Rattle.config_checker.specs.NextAlarm.{most_alarms}
 use Rattle.config_checker.specs.AlarmsBy.{alarms_by, state_after}
 
@@ -24,4 +24,4 @@ AlarmsAreDone =
 abbrev pub AlarmsEnd : Type 0
 AlarmsEnd =
     (plan : PlanView) (bound : ℕ) (trace : List Line) (s : Machine) → IsReached plan trace s
-    → (until : ℕ) → IsNothingDueBy (state_after plan bound (alarms_by plan bound until (most_alarms plan until s) s) s) until
+    → (until : ℕ) → IsNoAlarmDueBy (state_after plan bound (alarms_by plan bound until (most_alarms plan until s) s) s) until

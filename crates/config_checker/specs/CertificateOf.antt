@@ -50,8 +50,8 @@ abbrev pub lines : List ℕ → List (List ℕ)
 lines text = parts 10 text
 
 -- the words of a line, each parted from the next by one blank
-abbrev pub words : List ℕ → List (List ℕ)
-words line = parts 32 line
+abbrev pub certificate_words : List ℕ → List (List ℕ)
+certificate_words line = parts 32 line
 
 -- `pinball-certificate 1`
 abbrev pub is_heading : List ℕ → Bool
@@ -63,7 +63,7 @@ bound_by (word ∷ number ∷ []) = if bytes_eq word (codes "bound") then number
 bound_by other = None
 
 abbrev pub bound_in : List ℕ → Option ℕ
-bound_in line = bound_by (words line)
+bound_in line = bound_by (certificate_words line)
 
 -- `event NAME WEIGHT`
 abbrev pub named : List ℕ → Option ℕ → Option (List ℕ × ℕ)
@@ -74,7 +74,7 @@ event_by (word ∷ name ∷ weight ∷ []) = if bytes_eq word (codes "event") th
 event_by other = None
 
 abbrev pub event_in : List ℕ → Option (List ℕ × ℕ)
-event_in line = event_by (words line)
+event_in line = event_by (certificate_words line)
 
 -- What is after the last line end is a bad line, unless it is empty. Each function below gives the number of the first
 -- bad line, where there is one.

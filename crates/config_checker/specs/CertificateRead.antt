@@ -7,15 +7,15 @@ use Rattle.config_checker.specs.declared.certificate_reader.ReadFault.{ReadFault
 use Rattle.config_checker.specs.declared.certificate_reader.ReadFault.TheVariants as faults
 use Rattle.config_checker.specs.CertificateText.{Certificate}
 
-abbrev pub event_view : Event → List ℕ × ℕ
-event_view event = (event.name.now, event.weight)
+abbrev pub certificate_event_view : Event → List ℕ × ℕ
+certificate_event_view event = (event.name.now, event.weight)
 
 -- the bound, and each name with the weight at its place
-abbrev pub lines_view : CertificateLines → Certificate
-lines_view lines = record { bound = lines.bound; events = zip (map (λ name. name.now) lines.names.items) lines.weights.items }
+abbrev pub certificate_lines_view : CertificateLines → Certificate
+certificate_lines_view lines = record { bound = lines.bound; events = zip (map (λ name. name.now) lines.names.items) lines.weights.items }
 
 -- An answer is what the text is, unless memory ran out.
 abbrev pub GivesCertificate : Result CertificateLines ReadFault → Result Certificate ℕ → Type 0
-GivesCertificate (Ok lines) certificate = certificate ≡ Ok (lines_view lines)
+GivesCertificate (Ok lines) certificate = certificate ≡ Ok (certificate_lines_view lines)
 GivesCertificate (Err faults.NoMemory) certificate = Unit {0}
 GivesCertificate (Err (faults.Line number)) certificate = certificate ≡ Err number

@@ -55,19 +55,19 @@ same_names (x ∷ xs) (y ∷ ys) = bytes_eq x y && same_names xs ys
 same_names [] (y ∷ ys) = false
 same_names (x ∷ xs) [] = false
 
-abbrev pub names_in : Certificate → List (List ℕ)
-names_in c = map (λ e. e.0) c.events
+abbrev pub certificate_names : Certificate → List (List ℕ)
+certificate_names c = map (λ e. e.0) c.events
 
-abbrev pub weights_in : Certificate → List ℕ
-weights_in c = map (λ e. e.1) c.events
+abbrev pub certificate_weights : Certificate → List ℕ
+certificate_weights c = map (λ e. e.1) c.events
 
 -- the weights are judged before the bound that is stated
 abbrev pub bounded : PlanView → Certificate → Result ℕ RankView → Result CheckedView FaultView
-bounded plan c (Ok b) = if b == c.bound then Ok (record { plan = plan; weights = weights_in c; bound = b }) else Err (certificate (other_bound b))
+bounded plan c (Ok b) = if b == c.bound then Ok (record { plan = plan; weights = certificate_weights c; bound = b }) else Err (certificate (other_bound b))
 bounded plan c (Err fault) = Err (named_fault plan fault)
 
 abbrev pub certified : PlanView → Result Certificate ℕ → Result CheckedView FaultView
-certified plan (Ok c) = if same_names plan.events (names_in c) then bounded plan c (verified_at plan (weights_in c)) else Err (certificate other_events)
+certified plan (Ok c) = if same_names plan.events (certificate_names c) then bounded plan c (verified_at plan (certificate_weights c)) else Err (certificate other_events)
 certified plan (Err number) = Err (certificate (bad_line number))
 
 unfoldable pub certified_plan : List ℕ → PlanView → Result CheckedView FaultView
@@ -80,24 +80,24 @@ abbrev pub faults_of_rows : Rows → List FaultView
 faults_of_rows rows = []
 
 -- A report lists them all. Only where there are none, it says what is wrong with the plan.
-abbrev pub reported : {X : Type 0} → List FaultView → Result X (List FaultView) → Result X (List FaultView)
-reported [] answer = answer
-reported (fault ∷ faults) answer = Err (fault ∷ faults)
+abbrev pub faults_first : {X : Type 0} → List FaultView → Result X (List FaultView) → Result X (List FaultView)
+faults_first [] answer = answer
+faults_first (fault ∷ faults) answer = Err (fault ∷ faults)
 
 -- a fault of a plan, or of a certificate for it, is reported alone
-abbrev pub alone : {X Y : Type 0} → Result X Y → Result X (List Y)
-alone (Ok x) = Ok x
-alone (Err y) = Err (y ∷ [])
+abbrev pub reported_alone : {X Y : Type 0} → Result X Y → Result X (List Y)
+reported_alone (Ok x) = Ok x
+reported_alone (Err y) = Err (y ∷ [])
 
 -- A table above its limit is reported before a fault of the plan. No row lacks a name yet.
 abbrev pub checked : (PlanView → Result CheckedView FaultView) → Result PlanView PlanRefusal → Result CheckedView (List FaultView)
-checked judge (Ok plan) = alone (judge plan)
+checked judge (Ok plan) = reported_alone (judge plan)
 checked judge (Err no_such_name) = Err []
 checked judge (Err (above_limit t)) = Err (limit t ∷ [])
 
 unfoldable pub checked_at : Rows → Result CheckedView (List FaultView)
-checked_at rows = reported (faults_of_rows rows) (checked weighed_plan (plan_at rows))
+checked_at rows = faults_first (faults_of_rows rows) (checked weighed_plan (plan_at rows))
 
 -- the certificate's weights are taken as they are
 unfoldable pub checked_with_at : Rows → List ℕ → Result CheckedView (List FaultView)
-checked_with_at rows text = reported (faults_of_rows rows) (checked (certified_plan text) (plan_at rows))
+checked_with_at rows text = faults_first (faults_of_rows rows) (checked (certified_plan text) (plan_at rows))

@@ -13,7 +13,7 @@ use Rattle.cascade_rank.specs.Events.{weight_of}
 use Rattle.event_queue.specs.declared.queue.Posted.{Posted}
 use Rattle.config_checker.specs.Machine.{Machine}
 use Rattle.config_checker.specs.EventStep.{EventStep}
-use Rattle.config_checker.specs.Run.{Source, switch, Stimulus, Change, Alarm, Wait, IsNothingDueBy, InEveryRun, InEveryCascade}
+use Rattle.config_checker.specs.Run.{Source, switch, Stimulus, Change, Alarm, Wait, IsNoAlarmDueBy, InEveryRun, InEveryCascade}
 use Rattle.config_checker.specs.SwitchCalls.{switch_calls}
 use Rattle.config_checker.specs.CheckedView.{CheckedView}
 
@@ -52,5 +52,5 @@ pub record IsGood (c : CheckedView) : Type 0 where
   pub ends : InEveryCascade c.plan (λ s stimulus n t. n ≤ c.bound)
   -- When nothing is due at or before a moment, each switch is active by the accepted level of its raw changes.
   pub levels : InEveryRun c.plan (λ stimuli trace s.
-      (at : ℕ) → s.moment ≤ at → IsNothingDueBy s at → (n : SwitchId) → n.0 < length c.plan.switches →
+      (at : ℕ) → s.moment ≤ at → IsNoAlarmDueBy s at → (n : SwitchId) → n.0 < length c.plan.switches →
       active_at s.switches n ≡ accepted_level (switch_at c.plan n).kind at (raw_changes n (raw_at_rest (switch_at c.plan n).kind.contact) (switch_calls stimuli)))

@@ -1,6 +1,6 @@
 -- The machine's state, and what each thing does to it.
 use Rattle.std.specs.Prelude.{ℕ, Bool, Option, Some, None, List, [], ◌∷◌, ◌++◌}
-use Rattle.mpf_plan.specs.PlanView.{PlanView, posts_of, list_at, binding_at}
+use Rattle.mpf_plan.specs.PlanView.{PlanView, posts_of, actions_at, binding_at}
 use Rattle.mpf_plan.specs.declared.entries.EventId.{EventId}
 use Rattle.mpf_plan.specs.declared.entries.SwitchId.{SwitchId}
 use Rattle.mpf_plan.specs.declared.entries.ListId.{ListId}
@@ -55,7 +55,7 @@ abbrev pub do_action : PlanView → Owner → Action → Machine → Machine
 do_action plan owner (Post e) s = post owner e s
 
 abbrev pub do_list : PlanView → Owner → ListId → Machine → Machine
-do_list plan owner l s = all_do (do_action plan owner) (list_at plan l) s
+do_list plan owner l s = all_do (do_action plan owner) (actions_at plan l) s
 
 abbrev pub do_target : PlanView → Owner → Target → Machine → Machine
 do_target plan owner (Run l) s = do_list plan owner l s

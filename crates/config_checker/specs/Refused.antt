@@ -11,7 +11,7 @@ use Rattle.config_checker.specs.declared.report.Report.{Report}
 use Rattle.config_checker.specs.declared.report.Report.TheVariants as reports
 use Rattle.config_checker.specs.CertificateText.{Certificate}
 use Rattle.config_checker.specs.CertificateOf.{IsTextOf}
-use Rattle.config_checker.specs.Checking.{CertificateFaultView, bad_line, other_events, short, other_bound, FaultView, limit, cycle, bound, certificate, names_in, weights_in, faults_of_rows}
+use Rattle.config_checker.specs.Checking.{CertificateFaultView, bad_line, other_events, short, other_bound, FaultView, limit, cycle, bound, certificate, certificate_names, certificate_weights, faults_of_rows}
 use Rattle.config_checker.specs.View.{fault_view}
 
 -- the names are those of events that lead to each other: of the cycle that is reported
@@ -42,7 +42,7 @@ IsFaultOf rows (certificate fault) = ⊥
 -- the text is a certificate, and its events are those of the plan
 pub record IsCertificateOf (plan : PlanView) (text : List ℕ) (c : Certificate) : Type 0 where
   pub text_is : IsTextOf c text
-  pub events : names_in c ≡ plan.events
+  pub events : certificate_names c ≡ plan.events
 
 -- the text is no certificate
 abbrev pub IsNoCertificate : List ℕ → Type 0
@@ -51,28 +51,28 @@ IsNoCertificate text = (c : Certificate) → ¬ (IsTextOf c text)
 pub record HasOtherEvents (plan : PlanView) (text : List ℕ) : Type 0 where
   pub certificate : Certificate
   pub text_is : IsTextOf certificate text
-  pub other : names_in certificate ≢ plan.events
+  pub other : certificate_names certificate ≢ plan.events
 
 -- of the events that weigh too little the first has this name, and needs so much
 pub record HasShortEvent (plan : PlanView) (text name : List ℕ) (needed : ℕ) : Type 0 where
   pub certificate : Certificate
   pub of_plan : IsCertificateOf plan text certificate
   pub event : EventId
-  pub first : IsFirstShort plan (weights_in certificate) event needed
+  pub first : IsFirstShort plan (certificate_weights certificate) event needed
   pub name_is : name ≡ name_of_event plan event
 
 -- the weights serve, and have another bound
 pub record HasOtherBound (plan : PlanView) (text : List ℕ) (right : ℕ) : Type 0 where
   pub certificate : Certificate
   pub of_plan : IsCertificateOf plan text certificate
-  pub verified : IsVerified plan (weights_in certificate) right
+  pub verified : IsVerified plan (certificate_weights certificate) right
   pub other : certificate.bound ≢ right
 
 -- the weights fit, and one of them or their bound is above the limit
 pub record HasTooMuch (plan : PlanView) (text : List ℕ) : Type 0 where
   pub certificate : Certificate
   pub of_plan : IsCertificateOf plan text certificate
-  pub above : IsUnverified plan (weights_in certificate) ranks.bound_too_large
+  pub above : IsUnverified plan (certificate_weights certificate) ranks.bound_too_large
 
 abbrev pub IsCertificateFault : PlanView → List ℕ → CertificateFaultView → Type 0
 IsCertificateFault plan text (bad_line number) = IsNoCertificate text

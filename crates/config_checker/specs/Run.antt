@@ -22,8 +22,8 @@ abbrev pub IsNotAfter : Source → Source → Type 0
 IsNotAfter (switch n) (switch m) = n.0 ≤ m.0
 
 -- no alarm is due at or before the moment
-abbrev pub IsNothingDueBy : Machine → ℕ → Type 0
-IsNothingDueBy s at = (source : Source) (due : ℕ) → source_due s source ≡ Some due → at < due
+abbrev pub IsNoAlarmDueBy : Machine → ℕ → Type 0
+IsNoAlarmDueBy s at = (source : Source) (due : ℕ) → source_due s source ≡ Some due → at < due
 
 -- no alarm was due before the moment of the latest stimulus
 abbrev pub IsNothingLate : Machine → Type 0
@@ -52,7 +52,7 @@ moment_of (Wait at) = at
 pub record IsTimely (s : Machine) (at : ℕ) : Type 0 where
   pub forward : s.moment ≤ at
   pub early : at < 2 ^ 40
-  pub quiet : IsNothingDueBy s at
+  pub quiet : IsNoAlarmDueBy s at
 
 -- what may come next
 abbrev pub IsAllowed : PlanView → Machine → Stimulus → Type 0

@@ -1,10 +1,10 @@
 -- The calls of the switches that stimuli make.
 use Rattle.std.specs.Prelude.{ℕ, List, [], ◌∷◌}
-use Rattle.switch_core.specs.Calls.{Call, Fire}
+use Rattle.switch_core.specs.Calls.{SwitchCall, Fire}
 use Rattle.switch_core.specs.Calls as calls
 use Rattle.config_checker.specs.Run.{Stimulus, Change, Alarm, Wait, switch}
 
-abbrev pub switch_calls : List (Stimulus × ℕ) → List Call
+abbrev pub switch_calls : List (Stimulus × ℕ) → List SwitchCall
 switch_calls [] = []
 switch_calls ((Change at n level, steps) ∷ more) = calls.Change n level at ∷ switch_calls more
 switch_calls ((Alarm at (switch n), steps) ∷ more) = Fire at ∷ switch_calls more

@@ -2,8 +2,8 @@
 
 ghost use Rattle.std.specs.Prelude.{◌≡◌, ◌<◌, ◌+◌, ◌==◌, ◌&&◌, not, ℕ, Some, Err, [], ◌∷◌, IfOk, IfSome, MatchOption, length, nat_lt, option_map, position};
 ghost use Rattle.std.specs.List.{list_all};
-ghost use Rattle.config_checker.specs.CertificateOf.{is_in_word as in_word, is_plain, number_in, parts, lines, words, bound_in, event_in, with_event, events_at, with_bound, bound_at, certificate_at};
-ghost use Rattle.config_checker.specs.CertificateRead.{event_view, GivesCertificate};
+ghost use Rattle.config_checker.specs.CertificateOf.{is_in_word as in_word, is_plain, number_in, parts, lines, certificate_words, bound_in, event_in, with_event, events_at, with_bound, bound_at, certificate_at};
+ghost use Rattle.config_checker.specs.CertificateRead.{certificate_event_view, GivesCertificate};
 ghost use Rattle.config_checker.specs.declared.certificate_reader.ReadFault.TheVariants.{NoMemory};
 
 use std::alloc::{AllocFailed, Global};
@@ -97,7 +97,7 @@ fn next_bound(text: &[u8]) -> Option<(u32, &[u8])>
 /// The event that the first line states, and the text after that line.
 fn next_event(text: &[u8]) -> Option<(Event<'_>, &[u8])>
     requires { 0 < length text.now }
-    ensures event { (n : ℕ) → MatchOption result (events_at n (lines text.now) ≡ Err n) (λ x. events_at n (lines text.now) ≡ with_event (Some (event_view x.0)) n (events_at (n + 1) (lines x.1.now))) }
+    ensures event { (n : ℕ) → MatchOption result (events_at n (lines text.now) ≡ Err n) (λ x. events_at n (lines text.now) ≡ with_event (Some (certificate_event_view x.0)) n (events_at (n + 1) (lines x.1.now))) }
     ensures shorter { IfSome result (λ x. length x.1.now < length text.now) }
 {
     let (line, rest) = first_line(text)?;
@@ -119,7 +119,7 @@ fn read_bound(line: &[u8]) -> Option<u32>
 
 /// The event that a line states: `event NAME WEIGHT`.
 fn read_event(line: &[u8]) -> Option<Event<'_>>
-    ensures { option_map event_view result ≡ event_in line.now }
+    ensures { option_map certificate_event_view result ≡ event_in line.now }
 {
     let (word, rest) = first_word(line)?;
     let (name, weight) = first_word(rest)?;
@@ -140,7 +140,7 @@ fn first_line(text: &[u8]) -> Option<(&[u8], &[u8])>
 
 /// The first word of a line and what is after its blank, if one follows.
 fn first_word(line: &[u8]) -> Option<(&[u8], &[u8])>
-    ensures { MatchOption result (words line.now ≡ line.now ∷ []) (λ x. words line.now ≡ x.0.now ∷ words x.1.now) }
+    ensures { MatchOption result (certificate_words line.now ≡ line.now ∷ []) (λ x. certificate_words line.now ≡ x.0.now ∷ certificate_words x.1.now) }
 {
     cut(line, b' ')
 }

@@ -4,7 +4,7 @@ ghost use Rattle.std.specs.Prelude.{◌≡◌, OnOk, map};
 ghost use Rattle.std.specs.Io.KnownBytes.{Appends};
 ghost use Rattle.config_checker.specs.View.{certificate_fault_view, fault_view};
 ghost use Rattle.config_checker.specs.Checking.{cycle};
-ghost use Rattle.config_checker.specs.ReportText.{certificate_fault_text, fault_line, report_text};
+ghost use Rattle.config_checker.specs.ReportText.{certificate_fault_text, report_line, report_text};
 
 use crate::report::{CertificateFault, Fault};
 use std::io::{self, Write};
@@ -21,7 +21,7 @@ pub fn write_report<W: Write>(faults: &[Fault], writer: &mut W) -> io::Result<()
 }
 
 fn write_fault<W: Write>(fault: &Fault, writer: &mut W) -> io::Result<()>
-    ensures { OnOk result (Appends (W.contents writer.old) (W.contents writer.new) (fault_line (fault_view fault.now))) }
+    ensures { OnOk result (Appends (W.contents writer.old) (W.contents writer.new) (report_line (fault_view fault.now))) }
 {
     match fault {
         Fault::Limit(table) => writeln!(writer, "fault 7 Limit {}", table.name()),
@@ -36,7 +36,7 @@ fn write_fault<W: Write>(fault: &Fault, writer: &mut W) -> io::Result<()>
 }
 
 fn write_cycle<W: Write>(events: &[Vec<u8>], writer: &mut W) -> io::Result<()>
-    ensures { OnOk result (Appends (W.contents writer.old) (W.contents writer.new) (fault_line (cycle (map (λ v. v.items) events.now)))) }
+    ensures { OnOk result (Appends (W.contents writer.old) (W.contents writer.new) (report_line (cycle (map (λ v. v.items) events.now)))) }
 {
     writer.write_all(b"fault 8 Cycle")?;
     for event in events {

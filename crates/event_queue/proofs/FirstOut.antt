@@ -2,9 +2,9 @@
 use Rattle.std.proofs.Common.{◌≡◌, ◌≤◌, List, [], ◌∷◌, ◌++◌, length, Some, None, Ok, Err, ap, sym, ◌∙◌, append-nil, append_assoc, length-append, arith}
 use Rattle.event_queue.specs.declared.queue.Posted.{Posted}
 use Rattle.event_queue.specs.Queue.{QueueView, empty}
-use Rattle.event_queue.specs.Calls.{Call, Push, Take, AreCalls, pushed, given, IsFirstInFirstOut, IsWithinSize}
+use Rattle.event_queue.specs.Calls.{QueueCall, Push, Take, AreCalls, pushed, taken_out, IsFirstInFirstOut, IsWithinSize}
 
-first_out : (calls : List Call) (old new : QueueView) → AreCalls calls old new → given calls ++ new.waiting ≡ old.waiting ++ pushed calls
+first_out : (calls : List QueueCall) (old new : QueueView) → AreCalls calls old new → taken_out calls ++ new.waiting ≡ old.waiting ++ pushed calls
 first_out [] old new same = ap (λ (q : QueueView). q.waiting) same ∙ sym (append-nil old.waiting)
 first_out (Push event (Ok done) ∷ calls) old new (mid, (less, added), more) =
     first_out calls mid new more ∙ ap (λ (q : QueueView). q.waiting ++ pushed calls) added ∙ append_assoc old.waiting (event ∷ []) (pushed calls)
@@ -16,7 +16,7 @@ first_out (Take (Some first) ∷ calls) old new (mid, (front, size), more) =
 pub first_in_first_out : IsFirstInFirstOut
 first_in_first_out size calls queue are = first_out calls (empty size) queue are
 
-within : (calls : List Call) (old new : QueueView) → AreCalls calls old new → length old.waiting ≤ old.size → (new.size ≡ old.size) × (length new.waiting ≤ old.size)
+within : (calls : List QueueCall) (old new : QueueView) → AreCalls calls old new → length old.waiting ≤ old.size → (new.size ≡ old.size) × (length new.waiting ≤ old.size)
 within [] old new same fits = let size = ap (λ (q : QueueView). q.size) same in let waiting = ap (λ (q : QueueView). length q.waiting) same in (size, omega arith)
 within (Push event (Ok done) ∷ calls) old new (mid, (less, added), more) fits =
     let size = ap (λ (q : QueueView). q.size) added in

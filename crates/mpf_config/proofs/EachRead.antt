@@ -4,7 +4,7 @@ use Rattle.std.proofs.lemmas.List.{append-nil}
 use Rattle.section_tables.specs.declared.fault.ConfigFault.{ConfigFault}
 use Rattle.section_tables.specs.declared.fault.ConfigFault.TheVariants as faults
 use Rattle.mpf_config.specs.Rows.{RowsFault}
-use Rattle.mpf_config.specs.View.{fault_view, FailsRows}
+use Rattle.mpf_config.specs.View.{rows_fault_view, FailsRows}
 use Rattle.section_tables.specs.Reading.{◌>>=◌, each_read}
 
 -- what was read before, and what is still read
@@ -33,7 +33,7 @@ module _ {A B : Type 0} (f : A → Result B RowsFault) (front : List B) (x : A) 
   unfolding each_read
   fails faults.NoMemory e h so_far = tt
   fails (faults.Bundle g) e h so_far =
-      let one : with_front front (each_read f all) ≡ Err (fault_view g) = rw (e, h) refl in
+      let one : with_front front (each_read f all) ≡ Err (rows_fault_view g) = rw (e, h) refl in
       sym so_far ∙ one
 
 -- none is left

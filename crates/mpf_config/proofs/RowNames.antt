@@ -7,8 +7,7 @@ use Rattle.yaml_subset.specs.Node.{Pair}
 use Rattle.mpf_values.specs.Bytes.{is_name_byte}
 use Rattle.mpf_values.specs.Names.{IsName}
 use Rattle.section_tables.specs.Rows.{Plain, nothing, flag, number, time, power, word, name, event, Value, one, names, posts, events, steps, maps, keyed, Entry, Player}
-use Rattle.section_tables.specs.Named.{IsNamedValue, IsNamedEvent, IsNamedEntry}
-use Rattle.section_tables.specs.Named as tables
+use Rattle.section_tables.specs.Named.{IsNamedValue, IsNamedEvent, IsNamedEntry, IsNamedPlayer}
 use Rattle.section_tables.specs.SectionTables.{switches_name, event_player_name}
 use Rattle.section_tables.proofs.RowNames.{entries_named, players_named}
 use Rattle.section_tables.proofs.TableNames.{table_named, kinds_named}
@@ -16,14 +15,14 @@ use Rattle.mpf_config.specs.Rows.{Written, Content, entries, players, SectionRow
 use Rattle.mpf_config.specs.Typed.{listed_names, listed_posts, event_name, switch_of, event_player_of, entries_in, players_in, entries_of, players_of, switches_in, event_players_in}
 use Rattle.mpf_config.specs.Unread.{read_of}
 use Rattle.mpf_config.specs.RowsOf.{IsContent, IsSection}
-use Rattle.mpf_config.specs.Named.{AllNames, IsNamedSwitch, IsNamedPlayer, IsNamedContent, IsNamed}
+use Rattle.mpf_config.specs.Named.{AllNames, IsNamedSwitch, IsNamedEventPlayer, IsNamedContent, IsNamed}
 use Rattle.mpf_config.specs.Reading.{rows_at}
 use Rattle.mpf_config.proofs.Theorem.{rows_sound}
 use Rattle.mpf_config.proofs.Each.{All-from_zip, all_where}
 
 content_named : (longest : ℕ) (p : Pair) (content : Content) → IsContent longest p content → IsNamedContent content
 content_named longest p (entries es) h = All-from_recursion IsNamedEntry es (entries_named longest h.0 p es (table_named p.key h.0 h.1) h.2)
-content_named longest p (players ps) h = All-from_recursion tables.IsNamedPlayer ps (players_named longest h.0 p ps (kinds_named p.key h.0 h.1) h.2)
+content_named longest p (players ps) h = All-from_recursion IsNamedPlayer ps (players_named longest h.0 p ps (kinds_named p.key h.0 h.1) h.2)
 
 -- Every name in the rows that are read from a bundle is one.
 pub rows_are_named : (bundle : List ℕ) (rows : Rows) → rows_at bundle ≡ Ok rows → All IsNamed rows.machine
@@ -86,7 +85,7 @@ switch_named e h = record {
 }
 
 -- Those in an entry of `event_player` are, too.
-pub event_player_named : (p : Player) → tables.IsNamedPlayer p → IsNamedPlayer (event_player_of p)
+pub event_player_named : (p : Player) → IsNamedPlayer p → IsNamedEventPlayer (event_player_of p)
 unfolding event_player_of
 event_player_named p h = record { event = event_named p.event h.event; posts = posts_named (Some p.value) h.value }
 
@@ -94,15 +93,15 @@ entries_in_named : (content : Content) → IsNamedContent content → All IsName
 entries_in_named (entries es) h = h
 entries_in_named (players ps) h = All-nil IsNamedEntry
 
-players_in_named : (content : Content) → IsNamedContent content → All tables.IsNamedPlayer (players_in content)
-players_in_named (entries es) h = All-nil tables.IsNamedPlayer
+players_in_named : (content : Content) → IsNamedContent content → All IsNamedPlayer (players_in content)
+players_in_named (entries es) h = All-nil IsNamedPlayer
 players_in_named (players ps) h = h
 
 entries_of_named : (section : List ℕ) (s : SectionRows) → IsNamed s → All IsNamedEntry (entries_of section s)
 entries_of_named section s h = all_where IsNamedEntry (bytes_eq s.name section) (entries_in s.content) (entries_in_named s.content h)
 
-players_of_named : (section : List ℕ) (s : SectionRows) → IsNamed s → All tables.IsNamedPlayer (players_of section s)
-players_of_named section s h = all_where tables.IsNamedPlayer (bytes_eq s.name section) (players_in s.content) (players_in_named s.content h)
+players_of_named : (section : List ℕ) (s : SectionRows) → IsNamed s → All IsNamedPlayer (players_of section s)
+players_of_named section s h = all_where IsNamedPlayer (bytes_eq s.name section) (players_in s.content) (players_in_named s.content h)
 
 -- The names in the switches of a section are names.
 pub switches_named : (s : SectionRows) → IsNamed s → All IsNamedSwitch (switches_in s)
@@ -112,12 +111,12 @@ switches_named s h =
     All-map IsNamedSwitch switch_of es (All-weaker IsNamedEntry (λ e. IsNamedSwitch (switch_of e)) switch_named es (entries_of_named switches_name s h))
 
 -- Those in the entries of `event_player` are, too.
-pub event_players_named : (s : SectionRows) → IsNamed s → All IsNamedPlayer (event_players_in s)
+pub event_players_named : (s : SectionRows) → IsNamed s → All IsNamedEventPlayer (event_players_in s)
 unfolding event_players_in
 event_players_named s h =
     let ps = players_of event_player_name s in
-    All-map IsNamedPlayer event_player_of ps
-    (All-weaker tables.IsNamedPlayer (λ p. IsNamedPlayer (event_player_of p)) event_player_named ps (players_of_named event_player_name s h))
+    All-map IsNamedEventPlayer event_player_of ps
+    (All-weaker IsNamedPlayer (λ p. IsNamedEventPlayer (event_player_of p)) event_player_named ps (players_of_named event_player_name s h))
 
 -- ---- what a name is not
 

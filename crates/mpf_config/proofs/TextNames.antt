@@ -13,7 +13,7 @@ use Rattle.mpf_config.specs.declared.texts.Text as texts
 use Rattle.section_tables.specs.declared.fault.FaultKind.TheVariants.{Duplicate}
 use Rattle.mpf_config.specs.BundleText.{Text, machine_name}
 use Rattle.mpf_config.specs.RowsOf.{AreNew}
-use Rattle.section_tables.specs.Reading.{fault_at}
+use Rattle.section_tables.specs.Reading.{rows_fault_at}
 use Rattle.mpf_config.specs.Reading.{line_spot, machine_at, new_at}
 use Rattle.section_tables.proofs.Steps.{guard_false, chosen, ok_is}
 use Rattle.mpf_config.specs.Inside.{texts_view}
@@ -65,7 +65,7 @@ fresh_complete names name h =
 pub new_sound : (names : List (List ℕ)) (ts : List Text) (u : Unit {0}) → new_at names ts ≡ Ok u → AreNew names ts
 new_sound names [] u e = tt
 new_sound names (t ∷ ts) u e =
-    let a = guard_false (is_among names t.name) (new_at (t.name ∷ names) ts) (fault_at Duplicate (line_spot t.name 1)) u e in
+    let a = guard_false (is_among names t.name) (new_at (t.name ∷ names) ts) (rows_fault_at Duplicate (line_spot t.name 1)) u e in
     (fresh_sound names t.name a.0, new_sound (t.name ∷ names) ts u a.1)
 
 pub new_complete : (names : List (List ℕ)) (ts : List Text) → AreNew names ts → new_at names ts ≡ Ok tt

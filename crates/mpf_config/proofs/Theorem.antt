@@ -15,12 +15,12 @@ use Rattle.section_tables.specs.declared.fault.ConfigFault.{ConfigFault}
 use Rattle.section_tables.specs.declared.fault.ConfigFault.TheVariants as faults
 use Rattle.section_tables.specs.declared.fault.FaultKind.TheVariants.{Version, Limit}
 use Rattle.mpf_config.specs.Rows.{SectionRows, Rows, RowsFault}
-use Rattle.mpf_config.specs.View.{rows_view, fault_view, GivesRows}
+use Rattle.mpf_config.specs.View.{rows_view, rows_fault_view, GivesRows}
 use Rattle.mpf_config.specs.BundleText.{Text, machine_name, behind_first_line, has_version}
 use Rattle.mpf_config.specs.Unread.{skipped_notes, unlisted_notes}
 use Rattle.mpf_config.specs.RowsOf.{AreTexts, IsRowsOf, IsAbove}
-use Rattle.section_tables.specs.Reading.{◌>>=◌, fault_at}
-use Rattle.mpf_config.specs.Reading.{line_spot, texts_at, machine_at, new_at, tree_from, tree_at, sections_in, sections_at, rows_at}
+use Rattle.section_tables.specs.Reading.{◌>>=◌, rows_fault_at}
+use Rattle.mpf_config.specs.Reading.{line_spot, texts_at, machine_at, new_at, tree_from, text_tree_at, sections_in, sections_at, rows_at}
 use Rattle.section_tables.proofs.Steps.{bind_ok, guard_true, guard_false, ok_is}
 use Rattle.mpf_config.proofs.FirstLines.{version_sound, version_complete}
 use Rattle.mpf_config.proofs.BundleTexts.{texts_sound, texts_complete}
@@ -34,14 +34,14 @@ from_yaml : (name : List ℕ) (r : Result Node yaml.Fault) (t : Node) → tree_f
 from_yaml name (Ok u) t e = let same : u ≡ t = ok_is u t e in ap (λ (v : Node). Ok v) same
 from_yaml name (Err f) t e = absurd cc
 
-tree_parts : (name text : List ℕ) (t : Node) → tree_at name text ≡ Ok t → (has_version text ≡ true) × (read_at text ≡ Ok t)
-unfolding tree_at
+tree_parts : (name text : List ℕ) (t : Node) → text_tree_at name text ≡ Ok t → (has_version text ≡ true) × (read_at text ≡ Ok t)
+unfolding text_tree_at
 tree_parts name text t e =
-    let a = guard_true (has_version text) (tree_from name (read_at text)) (fault_at Version (line_spot name 1)) t e in
+    let a = guard_true (has_version text) (tree_from name (read_at text)) (rows_fault_at Version (line_spot name 1)) t e in
     (a.0, from_yaml name (read_at text) t a.1)
 
-tree_again : (name text : List ℕ) (t : Node) → has_version text ≡ true → read_at text ≡ Ok t → tree_at name text ≡ Ok t
-unfolding tree_at
+tree_again : (name text : List ℕ) (t : Node) → has_version text ≡ true → read_at text ≡ Ok t → text_tree_at name text ≡ Ok t
+unfolding text_tree_at
 tree_again name text t v r = rw (v, r) refl
 
 -- a text that is read has no other tree
@@ -78,12 +78,12 @@ was_read bundle rows e =
     let last : List Text → List Pair → List SectionRows → Result Rows RowsFault = λ texts sections found. new_at [] texts >>= λ all_new. Ok (made found sections texts) in
     let from_sections : List Text → List Pair → Result Rows RowsFault = λ texts sections. sections_at machine_name sections >>= λ found. last texts sections found in
     let from_tree : List Text → Node → Result Rows RowsFault = λ texts tree. sections_in machine_name tree >>= λ sections. from_sections texts sections in
-    let from_text : List Text → List ℕ → Result Rows RowsFault = λ texts text. tree_at machine_name text >>= λ tree. from_tree texts tree in
+    let from_text : List Text → List ℕ → Result Rows RowsFault = λ texts text. text_tree_at machine_name text >>= λ tree. from_tree texts tree in
     let from_texts : List Text → Result Rows RowsFault = λ texts. machine_at texts >>= λ text. from_text texts text in
-    let a = guard_false (ltb (2 ^ 23) (length bundle)) (texts_at bundle >>= from_texts) (fault_at Limit (line_spot (codes "-") 1)) rows e in
+    let a = guard_false (ltb (2 ^ 23) (length bundle)) (texts_at bundle >>= from_texts) (rows_fault_at Limit (line_spot (codes "-") 1)) rows e in
     let b = bind_ok (texts_at bundle) from_texts rows a.1 in
     let c = bind_ok (machine_at b.0) (from_text b.0) rows b.2 in
-    let d = bind_ok (tree_at machine_name c.0) (from_tree b.0) rows c.2 in
+    let d = bind_ok (text_tree_at machine_name c.0) (from_tree b.0) rows c.2 in
     let f = bind_ok (sections_in machine_name d.0) (from_sections b.0) rows d.2 in
     let g = bind_ok (sections_at machine_name f.0) (last b.0 f.0) rows f.2 in
     let h = bind_ok (new_at [] b.0) (λ all_new. Ok (made g.0 f.0 b.0)) rows g.2 in
@@ -198,4 +198,4 @@ pub is_refused : (bundle : List ℕ) (r : Result Config ConfigFault) → GivesRo
     → IfErr r (λ e. e ≢ faults.NoMemory → (levels depth longest : ℕ) (rows : Rows) → IsRowsOf levels depth longest bundle rows → IsAbove levels depth longest bundle)
 is_refused bundle (Ok config) h = tt
 is_refused bundle (Err faults.NoMemory) h = λ other. absurd (other refl)
-is_refused bundle (Err (faults.Bundle f)) h = λ _. rows_refused bundle (fault_view f) h
+is_refused bundle (Err (faults.Bundle f)) h = λ _. rows_refused bundle (rows_fault_view f) h

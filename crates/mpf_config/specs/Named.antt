@@ -1,7 +1,7 @@
 -- What it means that every name in the rows of a section is one: 1 to 64 letters, digits, `_`, `-` and `.`.
 use Rattle.std.specs.Prelude.{List}
 use Rattle.std.specs.List.{All}
-pub use Rattle.section_tables.specs.Named.{IsNamedEntry, IsNamedPlayer as IsNamedPlayerEntry}
+pub use Rattle.section_tables.specs.Named.{IsNamedEntry, IsNamedPlayer}
 use Rattle.mpf_config.specs.Rows.{Written, Switch, EventPlayer, Content, entries, players, SectionRows}
 pub use Rattle.mpf_values.specs.Names.{IsName}
 
@@ -17,14 +17,14 @@ pub record IsNamedSwitch (s : Switch) : Type 0 where
   pub deactivated : AllNames s.deactivated
 
 -- the name of the event that an entry handles is one, and so are those of the events that it posts
-pub record IsNamedPlayer (p : EventPlayer) : Type 0 where
+pub record IsNamedEventPlayer (p : EventPlayer) : Type 0 where
   pub event : IsName p.event.text
   pub posts : AllNames p.posts
 
 -- so it is in each entry of a section, whatever its settings are
 abbrev pub IsNamedContent : Content → Type 0
 IsNamedContent (entries es) = All IsNamedEntry es
-IsNamedContent (players ps) = All IsNamedPlayerEntry ps
+IsNamedContent (players ps) = All IsNamedPlayer ps
 
 abbrev pub IsNamed : SectionRows → Type 0
 IsNamed s = IsNamedContent s.content

@@ -68,13 +68,13 @@ abbrev pub tree_from : List ℕ → Result Node yaml.Fault → Result Node RowsF
 tree_from text (Ok tree) = Ok tree
 tree_from text (Err f) = Err (record { kind = Yaml f.kind; text = text; line = f.line; key = yaml_kind_name f.kind })
 
-unfoldable pub tree_at : List ℕ → List ℕ → Result Node RowsFault
-tree_at name text = if has_version text then tree_from name (read_at text) else refused Version (line_spot name 1)
+unfoldable pub text_tree_at : List ℕ → List ℕ → Result Node RowsFault
+text_tree_at name text = if has_version text then tree_from name (read_at text) else refused Version (line_spot name 1)
 
 -- The rows of a bundle: its machine text is read first, and then the names of its texts are compared.
 unfoldable pub rows_at : List ℕ → Result Rows RowsFault
 rows_at bundle =
     if nat_lt (2 ^ 23) (length bundle) then refused Limit (line_spot (codes "-") 1)
-    else (texts_at bundle >>= λ texts. machine_at texts >>= λ text. tree_at machine_name text >>= λ tree. sections_in machine_name tree
+    else (texts_at bundle >>= λ texts. machine_at texts >>= λ text. text_tree_at machine_name text >>= λ tree. sections_in machine_name tree
     >>= λ sections. sections_at machine_name sections >>= λ rows. new_at [] texts
     >>= λ all_new. Ok (record { machine = rows; notes = skipped_notes machine_name sections ++ unlisted_notes texts }))

@@ -6,8 +6,7 @@ use Rattle.yaml_bytes.specs.Plain.{AreBlank, EndsInNoBlank}
 use Rattle.yaml_bytes.specs.Lines.{ends_line}
 use Rattle.yaml_subset.specs.Node.{Node, Pair}
 use Rattle.yaml_subset.specs.View.{pairs_in}
-use Rattle.yaml_subset.specs.TreeOf.{IsTreeOf}
-use Rattle.yaml_subset.specs.TreeOf as yaml
+use Rattle.yaml_subset.specs.TreeOf.{IsTreeOf, IsTextAbove}
 use Rattle.section_tables.specs.Kinds.{Setting, PlayerKinds}
 use Rattle.section_tables.specs.SectionTables.{table_of, player_of}
 use Rattle.section_tables.specs.EntryOf.{AreEntries, ArePlayers}
@@ -104,4 +103,4 @@ pub record IsRowsOf (levels depth longest : ℕ) (bundle : List ℕ) (rows : Row
 -- above the limits: a bundle of 8 MiB, those of a text, and lists of 1,024 items
 abbrev pub IsAbove : ℕ → ℕ → ℕ → List ℕ → Type 0
 IsAbove levels depth longest bundle =
-    (2 ^ 23 < length bundle) ⊎ (((text : List ℕ) × IsMachineText bundle text × yaml.IsAbove levels depth text) ⊎ (1024 < longest))
+    (2 ^ 23 < length bundle) ⊎ (((text : List ℕ) × IsMachineText bundle text × IsTextAbove levels depth text) ⊎ (1024 < longest))

@@ -7,7 +7,7 @@ use Rattle.mpf_config.specs.declared.typed.Switch as typed_switches
 use Rattle.mpf_config.specs.declared.typed.EventPlayer as typed_players
 use Rattle.mpf_config.specs.Rows.{Written, Switch, EventPlayer, Note, Rows}
 pub use Rattle.mpf_config.specs.SectionView.{content_view, section_view}
-pub use Rattle.section_tables.specs.View.{name_view, entry_view, player_view, fault_view, FailsRows, GivesRows}
+pub use Rattle.section_tables.specs.View.{name_view, entry_view, player_view, rows_fault_view, FailsRows, GivesRows}
 
 abbrev pub note_view : notes.Note → Note
 note_view n = record { kind = n.kind; text = n.text.items; line = n.line; name = n.name.items }

@@ -4,7 +4,7 @@ ghost use Rattle.std.specs.Prelude.{◌≡◌, ◌≢◌, ℕ, IfOk, IfErr};
 ghost use Rattle.yaml_subset.specs.View.{node_view};
 ghost use Rattle.mpf_config.specs.BundleText.{has_version};
 ghost use Rattle.mpf_config.specs.FaultLine.{yaml_kind_name};
-ghost use Rattle.mpf_config.specs.Reading.{tree_at, rows_at};
+ghost use Rattle.mpf_config.specs.Reading.{text_tree_at, rows_at};
 ghost use Rattle.mpf_config.specs.Rows.{Rows};
 ghost use Rattle.mpf_config.specs.RowsOf.{IsRowsOf, IsAbove};
 ghost use Rattle.mpf_config.specs.View.{rows_view, GivesRows};
@@ -53,9 +53,9 @@ fn has_version(text: &[u8]) -> bool
 }
 
 /// The tree of the text of this name; or Version, or Yaml with its kind as the key.
-#[tactic(auto, unfolding(crate::specs::Reading::tree_at))]
+#[tactic(auto, unfolding(crate::specs::Reading::text_tree_at))]
 fn tree_of(alloc: Global, name: &[u8], text: &[u8]) -> Result<Tree, ConfigFault>
-    ensures { GivesRows node_view result (tree_at name.now text.now) }
+    ensures { GivesRows node_view result (text_tree_at name.now text.now) }
 {
     if !has_version(text) {
         let fault = line_of(name, 1).fault(alloc, FaultKind::Version)?;

@@ -3,7 +3,7 @@
 ghost use Rattle.std.specs.Prelude.{OnOk};
 ghost use Rattle.std.specs.Io.KnownBytes.{Appends};
 ghost use Rattle.mpf_config.specs.FaultLine.{fault_line};
-ghost use Rattle.mpf_config.specs.View.{fault_view};
+ghost use Rattle.mpf_config.specs.View.{rows_fault_view};
 
 use crate::escape::write_escaped;
 pub use section_tables::fault::{ConfigFault, Fault, FaultKind};
@@ -12,7 +12,7 @@ use std::io::{self, Write};
 /// Writes the line of a fault, `error NUMBER NAME TEXT LINE KEY`, the text and the key as
 /// [`write_escaped`] does. An error is the writer's; the line is then cut short somewhere.
 pub fn write_fault<W: Write>(fault: &Fault, writer: &mut W) -> io::Result<()>
-    ensures { OnOk result (Appends (W.contents writer.old) (W.contents writer.new) (fault_line (fault_view fault.now))) }
+    ensures { OnOk result (Appends (W.contents writer.old) (W.contents writer.new) (fault_line (rows_fault_view fault.now))) }
 {
     write!(
         writer,

@@ -2,8 +2,6 @@
 //! lists.
 
 ghost use Rattle.std.specs.Prelude.{◌≡◌, ◌++◌, IfOk, IfErr};
-ghost use Rattle.std.specs.List.{list_any};
-ghost use Rattle.std.specs.Str.{bytes_eq};
 ghost use Rattle.yaml_subset.specs.View.{pair_view};
 ghost use Rattle.mpf_config.specs.Unread.{is_skipped, skipped_note, unlisted_note, skipped_notes, unlisted_notes};
 ghost use Rattle.section_tables.specs.declared.fault.ConfigFault.TheVariants.{NoMemory};
@@ -14,6 +12,7 @@ ghost use Rattle.mpf_config.specs.Inside.{text_view, texts_view, notes_view};
 use crate::config::{Note, NoteKind};
 use crate::fault::ConfigFault;
 use crate::texts::{MACHINE_NAME, Text};
+use section_tables::is_one_of;
 use std::alloc::{AllocError, Global};
 use yaml_subset::tree::{Key, Tree};
 
@@ -52,13 +51,6 @@ const SKIPPED: [&[u8]; 32] = [
     b"playfields",
     b"virtual_platform_start_active_switches",
 ];
-
-/// Whether a name is one of these.
-fn is_one_of(names: &[&[u8]], name: &[u8]) -> bool
-    ensures { result ≡ list_any (λ n. bytes_eq n.now name.now) names.now }
-{
-    names.iter().any(|n| *n == name)
-}
 
 /// Whether a section of this name is carried out nowhere.
 pub fn is_skipped(name: &[u8]) -> bool

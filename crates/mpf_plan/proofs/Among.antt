@@ -8,7 +8,7 @@ use Rattle.std.proofs.lemmas.Slice.Eq.{bytes_eq-Decides}
 use Rattle.mpf_plan.specs.declared.fault.Table.{Table}
 use Rattle.mpf_plan.specs.declared.fault.Table.TheVariants.{Events}
 use Rattle.mpf_plan.specs.Contributions.{Contribution, post}
-use Rattle.mpf_plan.specs.Uses.{Names, names_from, number_among, used, uses, name_in}
+use Rattle.mpf_plan.specs.Uses.{Names, names_from, number_among, used, uses, name_in_table}
 use Rattle.mpf_plan.proofs.Lacking.{any_first}
 
 place_within : {X : Type 0} (p : X → Bool) (xs : List X) → list_any p xs ≡ true → position_or_len p xs < length xs
@@ -25,20 +25,20 @@ either : (a b : Bool) → b ≡ true → (a || b) ≡ true
 either true b is = refl
 either false b is = is
 
-name_there : (t : Table) (n : List ℕ) → name_in t (Some (t, n)) ≡ n ∷ []
+name_there : (t : Table) (n : List ℕ) → name_in_table t (Some (t, n)) ≡ n ∷ []
 name_there Events n = refl
 name_there _ n = refl
 
 used_there : (t : Table) (n : List ℕ) (cs : List Contribution) (i : ℕ) (d : Contribution) → i < length cs → used (get_or cs i d) ≡ Some (t, n) → list_any (bytes_eq n) (uses t cs) ≡ true
 used_there t n [] i d within is = absurd (omega arith)
 used_there t n (c ∷ cs) zero d within is =
-    list_any-append (bytes_eq n) (name_in t (used c)) (uses t cs)
-    ∙ ap (λ o. list_any (bytes_eq n) (name_in t o) || list_any (bytes_eq n) (uses t cs)) is
+    list_any-append (bytes_eq n) (name_in_table t (used c)) (uses t cs)
+    ∙ ap (λ o. list_any (bytes_eq n) (name_in_table t o) || list_any (bytes_eq n) (uses t cs)) is
     ∙ ap (λ l. list_any (bytes_eq n) l || list_any (bytes_eq n) (uses t cs)) (name_there t n)
     ∙ ap (λ b. (b || false) || list_any (bytes_eq n) (uses t cs)) ((bytes_eq-Decides n n).1 refl)
 used_there t n (c ∷ cs) (suc i) d within is =
-    list_any-append (bytes_eq n) (name_in t (used c)) (uses t cs)
-    ∙ either (list_any (bytes_eq n) (name_in t (used c))) (list_any (bytes_eq n) (uses t cs)) (used_there t n cs i d (omega arith) is)
+    list_any-append (bytes_eq n) (name_in_table t (used c)) (uses t cs)
+    ∙ either (list_any (bytes_eq n) (name_in_table t (used c))) (list_any (bytes_eq n) (uses t cs)) (used_there t n cs i d (omega arith) is)
 
 -- ---- the name of a contribution
 

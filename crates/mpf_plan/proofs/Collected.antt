@@ -9,7 +9,7 @@ use Rattle.mpf_plan.specs.declared.collect.Row as rows
 use Rattle.mpf_plan.specs.declared.contribution.Contribution as contributions
 use Rattle.mpf_plan.specs.declared.contribution.Place.{Place}
 use Rattle.mpf_plan.specs.Contributions.{Contribution, row_contributions, machine_place, given_by}
-use Rattle.mpf_plan.specs.Inside.{contribution_view, contributions_view, row_view, rows_view}
+use Rattle.mpf_plan.specs.Inside.{contribution_view, contributions_view, row_view, row_list_view}
 use Rattle.mpf_plan.proofs.Taken.{contributions_more, rows_more}
 
 -- what two calls' clauses say together
@@ -52,8 +52,8 @@ module _ (rs : List rows.Row) (i : ℕ) (r : rows.Row) (within : i < length rs) 
 
   -- after what the first rows give
   pub row_more : {place : Place} → place ≡ machine_place → now ≡ new → contributions_view new ≡ row_contributions place (row_view r)
-      → given_by (rows_view (take i rs)) ++ contributions_view now ≡ given_by (rows_view (take (i + 1) rs))
-  row_more place_is same collected = ap (λ l. given_by (rows_view (take i rs)) ++ l) (row_is place_is same collected) ∙ sym (rows_more rs i r within)
+      → given_by (row_list_view (take i rs)) ++ contributions_view now ≡ given_by (row_list_view (take (i + 1) rs))
+  row_more place_is same collected = ap (λ l. given_by (row_list_view (take i rs)) ++ l) (row_is place_is same collected) ∙ sym (rows_more rs i r within)
 
 -- ---- the first item that passes
 

@@ -14,12 +14,12 @@ use Rattle.mpf_plan.specs.declared.entries.Binding.{Binding}
 use Rattle.mpf_plan.specs.declared.entries.Target.TheVariants as targets
 use Rattle.mpf_plan.specs.declared.fault.Table.{Table}
 use Rattle.mpf_plan.specs.declared.fault.Table.TheVariants.{Events, Bindings, Switches}
-use Rattle.mpf_plan.specs.PlanView.{Switch, no_switch, PlanView}
-use Rattle.mpf_plan.specs.Limits.{entry_count, names_in}
+use Rattle.mpf_plan.specs.PlanView.{PlanSwitch, no_switch, PlanView}
+use Rattle.mpf_plan.specs.Limits.{entry_count, entry_names}
 use Rattle.mpf_plan.specs.Contributions.{Contribution, gives, reads, active, inactive, binds, post, row_contributions, machine_place, given_by}
 use Rattle.mpf_plan.specs.Uses.{Names, names_from}
 use Rattle.mpf_plan.specs.PlanOf.{DraftView, event_of, last_switch, with_given, with_binding, with_list, with_action, with_contribution, named_switch, blank, drafted, plan_from}
-use Rattle.mpf_plan.specs.Inside.{name_sets_view, draft_view, contribution_view, contributions_view, row_view, rows_view}
+use Rattle.mpf_plan.specs.Inside.{name_sets_view, draft_view, contribution_view, contributions_view, row_view, row_list_view}
 use Rattle.mpf_plan.specs.Numbering.{bindings_given, binding_count}
 use Rattle.mpf_plan.proofs.Counts.{named_of, count_of}
 use Rattle.mpf_plan.proofs.Taken.{part_count}
@@ -30,7 +30,7 @@ use Rattle.mpf_plan.proofs.Taken.{part_count}
 pub record Counts (n : ℕ) (old new : DraftView) : Type 0 where
   pub bindings : length new.plan.bindings ≡ length old.plan.bindings + n
   pub lists : length new.plan.lists ≡ length old.plan.lists + n
-  pub names : (t : Table) → names_in new.plan t ≡ names_in old.plan t
+  pub names : (t : Table) → entry_names new.plan t ≡ entry_names old.plan t
   pub defined : length new.defined ≡ length old.defined
 
 -- a number stands in a table: nothing else changes in the plan
@@ -53,24 +53,24 @@ given_defined _ n d = refl
 given_counts : (t : Table) (n : ℕ) (d : DraftView) → Counts 0 d (with_given t n d)
 given_counts t n d =
     let same = given_plan t n d in
-    record { bindings = omega (arith, ap (λ p. length p.bindings) same); lists = omega (arith, ap (λ p. length p.lists) same); names = λ u. ap (λ p. names_in p u) same; defined = given_defined t n d }
+    record { bindings = omega (arith, ap (λ p. length p.bindings) same); lists = omega (arith, ap (λ p. length p.lists) same); names = λ u. ap (λ p. entry_names p u) same; defined = given_defined t n d }
 
-switches_names : (plan : PlanView) (switches : List Switch) → map (λ (s : Switch). s.name) switches ≡ map (λ (s : Switch). s.name) plan.switches
-    → (t : Table) → names_in (record plan { switches = switches }) t ≡ names_in plan t
+switches_names : (plan : PlanView) (switches : List PlanSwitch) → map (λ (s : PlanSwitch). s.name) switches ≡ map (λ (s : PlanSwitch). s.name) plan.switches
+    → (t : Table) → entry_names (record plan { switches = switches }) t ≡ entry_names plan t
 switches_names plan switches same Switches = same
 switches_names plan switches same _ = refl
 
-switch_counts : (change : Switch → Switch) → ((s : Switch) → (change s).name ≡ s.name) → (d : DraftView) → Counts 0 d (last_switch change d)
+switch_counts : (change : PlanSwitch → PlanSwitch) → ((s : PlanSwitch) → (change s).name ≡ s.name) → (d : DraftView) → Counts 0 d (last_switch change d)
 switch_counts change same d = record {
   bindings = omega arith;
   lists = omega arith;
   names = switches_names d.plan (slice_set d.plan.switches d.last (change (slice_index_or d.plan.switches d.last no_switch)))
-      (map-set_same (λ (s : Switch). s.name) d.plan.switches d.last (change (get_or d.plan.switches d.last no_switch)) no_switch (same (get_or d.plan.switches d.last no_switch)));
+      (map-set_same (λ (s : PlanSwitch). s.name) d.plan.switches d.last (change (get_or d.plan.switches d.last no_switch)) no_switch (same (get_or d.plan.switches d.last no_switch)));
   defined = refl;
 }
 
 -- lists and bindings have no names
-unnamed : (plan : PlanView) (lists : List (List Action)) (bindings : List Binding) (t : Table) → names_in (record plan { lists = lists; bindings = bindings }) t ≡ names_in plan t
+unnamed : (plan : PlanView) (lists : List (List Action)) (bindings : List Binding) (t : Table) → entry_names (record plan { lists = lists; bindings = bindings }) t ≡ entry_names plan t
 unnamed plan lists bindings Bindings = refl
 unnamed plan lists bindings _ = refl
 
@@ -116,7 +116,7 @@ module _ (names : Names) where
   pub counts_drafted : (cs : List Contribution) → Counts (binding_count cs) (blank names) (drafted names cs)
   counts_drafted cs = counts_fold (blank names) cs
 
-blank_switches : (ns : List (List ℕ)) → map (λ (s : Switch). s.name) (map named_switch ns) ≡ ns
+blank_switches : (ns : List (List ℕ)) → map (λ (s : PlanSwitch). s.name) (map named_switch ns) ≡ ns
 blank_switches [] = refl
 blank_switches (n ∷ ns) = ap (λ l. n ∷ l) (blank_switches ns)
 
@@ -126,12 +126,12 @@ module _ (cs : List Contribution) where
   abbrev counts : Counts (binding_count cs) (blank (names_from cs)) (drafted (names_from cs) cs)
   counts = counts_drafted (names_from cs) cs
 
-  blank_names : (t : Table) → names_in (blank (names_from cs)).plan t ≡ named_of cs t
+  blank_names : (t : Table) → entry_names (blank (names_from cs)).plan t ≡ named_of cs t
   blank_names Switches = blank_switches (names_from cs Switches)
   blank_names _ = refl
 
   -- its tables have the names that are used
-  pub names-from : (t : Table) → names_in (plan_from cs) t ≡ named_of cs t
+  pub names-from : (t : Table) → entry_names (plan_from cs) t ≡ named_of cs t
   names-from t = counts.names t ∙ blank_names t
 
   pub count-bindings : length (plan_from cs).bindings ≡ binding_count cs
@@ -143,7 +143,7 @@ module _ (cs : List Contribution) where
   -- and so many entries
   pub count-from : (t : Table) → entry_count (plan_from cs) t ≡ count_of cs t
   count-from Bindings = count-bindings
-  count-from Switches = sym (length-map (plan_from cs).switches (λ (s : Switch). s.name)) ∙ ap length (names-from Switches)
+  count-from Switches = sym (length-map (plan_from cs).switches (λ (s : PlanSwitch). s.name)) ∙ ap length (names-from Switches)
   count-from Events = ap length (names-from Events)
 
 -- ---- room for effect lists
@@ -164,10 +164,10 @@ lists_fit names old new cs i room is =
 
 -- nor than the rows give
 pub row_fits : (names : NameSets) (d : Draft) (rs : List rows.Row) (i : ℕ) (r : rows.Row) (now : List contributions.Contribution) → i < length rs
-    → contributions_view now ≡ row_contributions machine_place (row_view (get_or rs i r)) → draft_view names d ≡ drafted (name_sets_view names) (given_by (rows_view (take i rs)))
-    → binding_count (given_by (rows_view rs)) ≤ 16384 → length d.lists.items + binding_count (contributions_view now) ≤ 16384
+    → contributions_view now ≡ row_contributions machine_place (row_view (get_or rs i r)) → draft_view names d ≡ drafted (name_sets_view names) (given_by (row_list_view (take i rs)))
+    → binding_count (given_by (row_list_view rs)) ≤ 16384 → length d.lists.items + binding_count (contributions_view now) ≤ 16384
 row_fits names d rs i r now within here is room =
-    let counts = counts_drafted (name_sets_view names) (given_by (rows_view (take i rs))) in
+    let counts = counts_drafted (name_sets_view names) (given_by (row_list_view (take i rs))) in
     omega (arith, room, part_count rs i r within, ap binding_count here, ap (λ x. length x.plan.lists) is, counts.lists, length-map d.lists.items (λ v. v.items))
 
 -- each name of a switch has an entry

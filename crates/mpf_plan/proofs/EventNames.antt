@@ -7,18 +7,18 @@ use Rattle.mpf_config.specs.Named.{IsNamed}
 use Rattle.mpf_plan.specs.declared.fault.Table.{Table}
 use Rattle.mpf_plan.specs.declared.fault.Table.TheVariants.{Events}
 use Rattle.mpf_plan.specs.Contributions.{Contribution, gives, reads, active, inactive, binds, post, contributions_of}
-use Rattle.mpf_plan.specs.Uses.{used, uses, name_in}
+use Rattle.mpf_plan.specs.Uses.{used, uses, name_in_table}
 use Rattle.mpf_plan.specs.PlanOf.{plan_of}
 use Rattle.mpf_plan.proofs.Drafted.{names-from}
 use Rattle.mpf_plan.proofs.RowFacts.{IsFitName, IsFit, IsOfNames, All-flat_map, sections_fit}
 use Rattle.mpf_plan.proofs.ValidPlan.{All-first_by}
 
 module _ (P : List ℕ → Type 0) where
-  given_fit : (t : Table) (n : List ℕ) → IsFitName P t n → All P (name_in Events (used (gives t n)))
+  given_fit : (t : Table) (n : List ℕ) → IsFitName P t n → All P (name_in_table Events (used (gives t n)))
   given_fit Events n h = All-cons P n [] h (All-nil P)
   given_fit _ n h = All-nil P
 
-  name_fit : (c : Contribution) → IsFit P c → All P (name_in Events (used c))
+  name_fit : (c : Contribution) → IsFit P c → All P (name_in_table Events (used c))
   name_fit (gives t n) h = given_fit t n h
   name_fit (reads kind) h = All-nil P
   name_fit (active n) h = All-cons P n [] h (All-nil P)
@@ -27,7 +27,7 @@ module _ (P : List ℕ → Type 0) where
   name_fit (post n) h = All-cons P n [] h (All-nil P)
 
   uses_fit : (cs : List Contribution) → All (IsFit P) cs → All P (uses Events cs)
-  uses_fit cs h = All-flat_map P (λ c. name_in Events (used c)) cs (All-weaker (IsFit P) (λ c. All P (name_in Events (used c))) name_fit cs h)
+  uses_fit cs h = All-flat_map P (λ c. name_in_table Events (used c)) cs (All-weaker (IsFit P) (λ c. All P (name_in_table Events (used c))) name_fit cs h)
 
   -- where the names in the rows are names
   pub event_names : IsOfNames P → (rows : Rows) → All IsNamed rows.machine → All P (plan_of rows).events

@@ -5,7 +5,7 @@ use Rattle.std.specs.List.{list_any}
 use Rattle.std.proofs.lemmas.List.{map-append, length_push, length-map}
 use Rattle.mpf_plan.specs.declared.names.NameTable.{NameTable}
 use Rattle.mpf_plan.specs.NamesKept.{names_of}
-use Rattle.mpf_plan.specs.Numbering.{with_name, HasNames}
+use Rattle.mpf_plan.specs.Numbering.{with_name, IsNameTableOf}
 
 list_any-map : {X Y : Type 0} (p : Y → Bool) (f : X → Y) (xs : List X) → list_any p (map f xs) ≡ list_any (λ x. p (f x)) xs
 list_any-map p f [] = refl
@@ -38,20 +38,20 @@ module _ (keys : List (Vec ℕ Global)) (name : List ℕ) where
 
 module _ (all : List (List ℕ)) (name : List ℕ) where
   module _ (t : NameTable) (not_above : t.above ≡ false) where
-    pub table_there : list_any (λ k. bytes_eq name k.items) t.set.keys ≡ true → HasNames all t → HasNames (with_name all name) t
+    pub table_there : list_any (λ k. bytes_eq name k.items) t.set.keys ≡ true → IsNameTableOf all t → IsNameTableOf (with_name all name) t
     table_there there (inl (a, more)) = absurd (true≢false (sym a ∙ not_above))
     table_there there (inr (n, names, within)) =
         let same : with_name all name ≡ all = ap (λ a. with_name a name) (sym names) ∙ use_there t.set.keys name there ∙ names in
         inr (n, names ∙ sym same, subst (λ a. length a ≤ t.limit) (sym same) within)
 
-    pub table_full : (new : NameTable) → new.limit ≡ t.limit → new.above ≡ true → list_any (λ k. bytes_eq name k.items) t.set.keys ≡ false → t.limit ≤ length t.set.keys → HasNames all t → HasNames (with_name all name) new
+    pub table_full : (new : NameTable) → new.limit ≡ t.limit → new.above ≡ true → list_any (λ k. bytes_eq name k.items) t.set.keys ≡ false → t.limit ≤ length t.set.keys → IsNameTableOf all t → IsNameTableOf (with_name all name) new
     table_full new limit is absent full (inl (a, more)) = absurd (true≢false (sym a ∙ not_above))
     table_full new limit is absent full (inr (n, names, within)) =
         let longer : length (with_name all name) ≡ length t.set.keys + 1 = ap (λ a. length (with_name a name)) (sym names) ∙ length-use_new t.set.keys name absent in
         inl (is, omega (arith, longer, full, limit))
 
     pub table_more : (new : NameTable) (v : Vec ℕ Global) → new.limit ≡ t.limit → new.above ≡ false → v.items ≡ name → list_any (λ k. bytes_eq name k.items) t.set.keys ≡ false → length t.set.keys < t.limit
-        → new.set.keys ≡ cond (list_any (λ k. bytes_eq v.items k.items) t.set.keys) t.set.keys (t.set.keys ++ v ∷ []) → HasNames all t → HasNames (with_name all name) new
+        → new.set.keys ≡ cond (list_any (λ k. bytes_eq v.items k.items) t.set.keys) t.set.keys (t.set.keys ++ v ∷ []) → IsNameTableOf all t → IsNameTableOf (with_name all name) new
     table_more new v limit is same absent room added (inl (a, more)) = absurd (true≢false (sym a ∙ not_above))
     table_more new v limit is same absent room added (inr (n, names, within)) =
         let longer : length (with_name all name) ≡ length t.set.keys + 1 = ap (λ a. length (with_name a name)) (sym names) ∙ length-use_new t.set.keys name absent in

@@ -11,11 +11,11 @@ use Rattle.mpf_plan.specs.declared.fault.Table.TheVariants.{Bindings}
 use Rattle.mpf_plan.specs.declared.names.NameTable.{NameTable}
 use Rattle.mpf_plan.specs.declared.names.Found.{Found}
 use Rattle.mpf_plan.specs.Contributions.{Contribution}
-use Rattle.mpf_plan.specs.Uses.{used, name_in, uses, names_from}
+use Rattle.mpf_plan.specs.Uses.{used, name_in_table, uses, names_from}
 use Rattle.mpf_plan.specs.Limits.{entry_count, limit_of, order_of, tables_in_order, first_above}
 use Rattle.mpf_plan.specs.PlanOf.{plan_from}
 use Rattle.mpf_plan.specs.NamesKept.{names_of, names_kept}
-use Rattle.mpf_plan.specs.Numbering.{with_name, HasNames, HaveNames, bindings_given, binding_count, IsCount, HasFound}
+use Rattle.mpf_plan.specs.Numbering.{with_name, IsNameTableOf, AreNameTablesOf, bindings_given, binding_count, IsCount, HasFound}
 use Rattle.mpf_plan.proofs.Firsts.{with_names-all}
 use Rattle.mpf_plan.proofs.Counts.{count_of}
 use Rattle.mpf_plan.proofs.Drafted.{count-from}
@@ -28,21 +28,21 @@ module _ (cs : List Contribution) (d : Contribution) where
   abbrev more : List Contribution
   more = cs ++ d ∷ []
 
-  names_then : (t : Table) → fold with_name (names_from cs t) (name_in t (used d)) ≡ names_from more t
+  names_then : (t : Table) → fold with_name (names_from cs t) (name_in_table t (used d)) ≡ names_from more t
   names_then t =
-      ap (λ ns. fold with_name ns (name_in t (used d))) (sym (with_names-all (uses t cs)))
-      ∙ sym (fold-append with_name [] (uses t cs) (name_in t (used d)))
-      ∙ ap (fold with_name []) (sym (flat_map-append (λ c. name_in t (used c)) cs (d ∷ []) ∙ ap (λ l. uses t cs ++ l) (append-nil (name_in t (used d)))))
+      ap (λ ns. fold with_name ns (name_in_table t (used d))) (sym (with_names-all (uses t cs)))
+      ∙ sym (fold-append with_name [] (uses t cs) (name_in_table t (used d)))
+      ∙ ap (fold with_name []) (sym (flat_map-append (λ c. name_in_table t (used c)) cs (d ∷ []) ∙ ap (λ l. uses t cs ++ l) (append-nil (name_in_table t (used d)))))
       ∙ with_names-all (uses t more)
 
   -- one that uses no name
   names_stay : used d ≡ None → (t : Table) → names_from cs t ≡ names_from more t
-  names_stay none t = ap (λ o. fold with_name (names_from cs t) (name_in t o)) (sym none) ∙ names_then t
+  names_stay none t = ap (λ o. fold with_name (names_from cs t) (name_in_table t o)) (sym none) ∙ names_then t
 
   -- one that uses this name
   module _ (u : Table) (n : List ℕ) (is : used d ≡ Some (u, n)) where
     names_by : (t : Table) (b : Bool) → (order_of u == order_of t) ≡ b → fold with_name (names_from cs t) (cond b (n ∷ []) []) ≡ names_from more t
-    names_by t b same = sym (ap (λ o. fold with_name (names_from cs t) (name_in t o)) is ∙ ap (λ b. fold with_name (names_from cs t) (cond b (n ∷ []) [])) same) ∙ names_then t
+    names_by t b same = sym (ap (λ o. fold with_name (names_from cs t) (name_in_table t o)) is ∙ ap (λ b. fold with_name (names_from cs t) (cond b (n ∷ []) [])) same) ∙ names_then t
 
     names_here : (t : Table) → order_of t ≡ order_of u → with_name (names_from cs t) n ≡ names_from more t
     names_here t e = names_by t true (eq-eqb (order_of u) (order_of t) (sym e))
@@ -57,24 +57,24 @@ module _ (cs : List Contribution) (d : Contribution) where
     -- a contribution that uses no name
     pub found_nameless : used d ≡ None → new.tables.items ≡ old.tables.items → HasFound more new
     found_nameless none same = record {
-      tables = subst (HaveNames more) (sym same) (record {
+      tables = subst (AreNameTablesOf more) (sym same) (record {
         count = has.tables.count;
         limits = has.tables.limits;
-        names = λ t kept at. subst (λ ns. HasNames ns kept) (names_stay none t) (has.tables.names t kept at);
+        names = λ t kept at. subst (λ ns. IsNameTableOf ns kept) (names_stay none t) (has.tables.names t kept at);
       });
       bindings = count_then new.bindings (bindings (binding_count cs) has.bindings);
     }
 
     -- a contribution that uses this name
     pub found_named : (u : Table) (n : List ℕ) (p : ℕ) (was is : NameTable) → used d ≡ Some (u, n) → p ≡ order_of u → new.tables.items ≡ set old.tables.items p is → was ≡ get_or old.tables.items p was
-        → is.limit ≡ was.limit → ((all : List (List ℕ)) → HasNames all was → HasNames (with_name all n) is) → HasFound more new
+        → is.limit ≡ was.limit → ((all : List (List ℕ)) → IsNameTableOf all was → IsNameTableOf (with_name all n) is) → HasFound more new
     found_named u n p was is uses_it place changed got limit noted = record {
-      tables = subst (HaveNames more) (sym (changed ∙ ap (λ k. set old.tables.items k is) place)) (record {
+      tables = subst (AreNameTablesOf more) (sym (changed ∙ ap (λ k. set old.tables.items k is) place)) (record {
         count = length-set old.tables.items (order_of u) is ∙ has.tables.count;
         limits = each_changed (λ t k. k.limit ≡ limit_of t) (λ t k. k.limit ≡ limit_of t) u old.tables.items was is has.tables.count at (λ t e h. limit ∙ h) (λ t e k h. h) has.tables.limits;
-        names = each_changed (λ t k. HasNames (names_from cs t) k) (λ t k. HasNames (names_from more t) k) u old.tables.items was is has.tables.count at
-            (λ t e h. subst (λ ns. HasNames ns is) (names_here u n uses_it t e) (noted (names_from cs t) h))
-            (λ t e k h. subst (λ ns. HasNames ns k) (names_there u n uses_it t e) h) has.tables.names;
+        names = each_changed (λ t k. IsNameTableOf (names_from cs t) k) (λ t k. IsNameTableOf (names_from more t) k) u old.tables.items was is has.tables.count at
+            (λ t e h. subst (λ ns. IsNameTableOf ns is) (names_here u n uses_it t e) (noted (names_from cs t) h))
+            (λ t e k h. subst (λ ns. IsNameTableOf ns k) (names_there u n uses_it t e) h) has.tables.names;
       });
       bindings = count_then new.bindings (bindings (binding_count cs) has.bindings);
     }
@@ -86,7 +86,7 @@ module _ (cs : List Contribution) (d : Contribution) where
 
 -- tables with no name
 pub found_none : (tables : List NameTable) → length tables ≡ length tables_in_order
-    → ((t : Table) (k : NameTable) → slice_get tables (order_of t) ≡ Some k → (k.limit ≡ limit_of t) × (k.above ≡ false) × (k.set.keys ≡ [])) → HaveNames [] tables
+    → ((t : Table) (k : NameTable) → slice_get tables (order_of t) ≡ Some k → (k.limit ≡ limit_of t) × (k.above ≡ false) × (k.set.keys ≡ [])) → AreNameTablesOf [] tables
 found_none tables count empty = record {
   count = count;
   limits = λ t k at. (empty t k at).0;
@@ -115,7 +115,7 @@ module _ (cs : List Contribution) (found : Found) (has : HasFound cs found) wher
       count : entry_count (plan_from cs) t ≡ length (names_from cs t)
       count = count-from cs t ∙ named_count cs t other
 
-      by : HasNames (names_from cs t) k → k.above ≡ nat_lt (limit_of t) (entry_count (plan_from cs) t)
+      by : IsNameTableOf (names_from cs t) k → k.above ≡ nat_lt (limit_of t) (entry_count (plan_from cs) t)
       by (inl (above, more)) = above ∙ sym (lt-ltb (limit_of t) (entry_count (plan_from cs) t) (omega (arith, more, count, has.tables.limits t k at)))
       by (inr (below, names, within)) = below ∙ sym (le-ltb (limit_of t) (entry_count (plan_from cs) t) (omega (arith, within, count, has.tables.limits t k at)))
 
@@ -131,7 +131,7 @@ module _ (cs : List Contribution) (found : Found) (has : HasFound cs found) wher
     pub names_are_kept : (t : Table) → names_kept (slice_get found.tables.items (order_of t)) ≡ names_from cs t
     names_are_kept t = at (slice_get_cases found.tables.items (order_of t)).1
       where
-        by : (k : NameTable) → k.limit ≡ limit_of t → HasNames (names_from cs t) k → names_of k.set.keys ≡ names_from cs t
+        by : (k : NameTable) → k.limit ≡ limit_of t → IsNameTableOf (names_from cs t) k → names_of k.set.keys ≡ names_from cs t
         by k limit (inl (above, more)) = absurd (omega (arith, more, limit, names_fit t))
         by k limit (inr (below, names, within)) = names
 

@@ -11,7 +11,7 @@ use Rattle.mpf_config.specs.Rows.{Rows}
 use Rattle.mpf_plan.specs.declared.fault.Table.{Table}
 use Rattle.mpf_plan.specs.PlanView.{PlanView, no_switch}
 use Rattle.mpf_plan.specs.Contributions.{Contribution, gives, reads, contributions_of}
-use Rattle.mpf_plan.specs.Uses.{used, given, is_to_be_given, name_in, given_names, is_lacking, lacks_name}
+use Rattle.mpf_plan.specs.Uses.{used, given, is_to_be_given, name_in_table, given_names, is_lacking, lacks_name}
 use Rattle.mpf_plan.specs.Limits.{entry_count, limit_of, order_of, tables_in_order, first_above, IsFirstAbove}
 use Rattle.mpf_plan.specs.PlanOf.{plan_of, plan_at, PlanRefusal, no_such_name, above_limit, fitting, IsExceeded}
 use Rattle.mpf_plan.proofs.ByTable.{place_within, same_place, in_place}
@@ -22,14 +22,14 @@ use Rattle.mpf_plan.proofs.ByTable.{place_within, same_place, in_place}
 given_there : (cs : List Contribution) (i : ℕ) (d c : Contribution) (t : Table) (n : List ℕ) → i < length cs → get_or cs i d ≡ c → given c ≡ Some (t, n) → list_any (bytes_eq n) (given_names t cs) ≡ true
 given_there [] i d c t n within at is = absurd (omega arith)
 given_there (x ∷ cs) zero d c t n within at is =
-    list_any-append (bytes_eq n) (name_in t (given x)) (given_names t cs)
-    ∙ or_left (list_any (bytes_eq n) (name_in t (given x))) (list_any (bytes_eq n) (given_names t cs)) (ap (λ o. list_any (bytes_eq n) (name_in t o)) (ap given at ∙ is) ∙ there)
+    list_any-append (bytes_eq n) (name_in_table t (given x)) (given_names t cs)
+    ∙ or_left (list_any (bytes_eq n) (name_in_table t (given x))) (list_any (bytes_eq n) (given_names t cs)) (ap (λ o. list_any (bytes_eq n) (name_in_table t o)) (ap given at ∙ is) ∙ there)
   where
-    there : list_any (bytes_eq n) (name_in t (Some (t, n))) ≡ true
+    there : list_any (bytes_eq n) (name_in_table t (Some (t, n))) ≡ true
     there = ap (λ b. list_any (bytes_eq n) (cond b (n ∷ []) [])) (eq-eqb (order_of t) (order_of t) refl) ∙ or_left (bytes_eq n n) false ((bytes_eq-Decides n n).1 refl)
 given_there (x ∷ cs) (suc i) d c t n within at is =
-    list_any-append (bytes_eq n) (name_in t (given x)) (given_names t cs)
-    ∙ or_right (list_any (bytes_eq n) (name_in t (given x))) (list_any (bytes_eq n) (given_names t cs)) (given_there cs i d c t n (omega arith) at is)
+    list_any-append (bytes_eq n) (name_in_table t (given x)) (given_names t cs)
+    ∙ or_right (list_any (bytes_eq n) (name_in_table t (given x))) (list_any (bytes_eq n) (given_names t cs)) (given_there cs i d c t n (omega arith) at is)
 
 -- no contribution lacks a name yet: what uses a name that has to be given gives it
 named : (cs : List Contribution) (i : ℕ) (d c : Contribution) → i < length cs → get_or cs i d ≡ c → is_lacking (λ t. given_names t cs) (used c) ≡ false

@@ -14,11 +14,11 @@ use Rattle.indexmap.specs.IndexSet.{IndexSet}
 use Rattle.mpf_plan.specs.declared.collect.Row as rows
 use Rattle.mpf_plan.specs.declared.fault.Table.{Table}
 use Rattle.mpf_plan.specs.Contributions.{Contribution, row_contributions, machine_place, given_by}
-use Rattle.mpf_plan.specs.Uses.{first_uses, given, name_in, given_names, is_to_be_given, is_lacking}
+use Rattle.mpf_plan.specs.Uses.{first_uses, given, name_in_table, given_names, is_to_be_given, is_lacking}
 use Rattle.mpf_plan.specs.Limits.{order_of, tables_in_order}
-use Rattle.mpf_plan.specs.Inside.{row_view, rows_view}
+use Rattle.mpf_plan.specs.Inside.{row_view, row_list_view}
 use Rattle.mpf_plan.specs.NamesKept.{names_of}
-use Rattle.mpf_plan.specs.Numbering.{with_name, HaveGiven}
+use Rattle.mpf_plan.specs.Numbering.{with_name, HoldGivenNames}
 use Rattle.mpf_plan.proofs.Firsts.{with_names-all}
 use Rattle.mpf_plan.proofs.ByTable.{place_within, each_changed}
 
@@ -52,23 +52,23 @@ any_keys name (k ∷ ks) = ap (λ b. bytes_eq name k.items || b) (any_keys name 
 
 module _ {S : Type 0} where
   -- none
-  pub given_none : (sets : List (IndexSet (Vec ℕ Global) S)) → length sets ≡ length tables_in_order → All (λ s. s.keys ≡ []) sets → HaveGiven [] sets
+  pub given_none : (sets : List (IndexSet (Vec ℕ Global) S)) → length sets ≡ length tables_in_order → All (λ s. s.keys ≡ []) sets → HoldGivenNames [] sets
   given_none sets count empty = record {
     count = count;
     names = λ t s at. ap names_of (subst (λ (x : IndexSet (Vec ℕ Global) S). x.keys ≡ []) (get_or_from_slice_get sets (order_of t) s s at) (empty (order_of t) s (slice_get_within sets (order_of t) s at)));
   }
 
-  module _ (cs : List Contribution) (d : Contribution) (sets : List (IndexSet (Vec ℕ Global) S)) (has : HaveGiven cs sets) where
-    names_then : (t : Table) → fold with_name (fold with_name [] (given_names t cs)) (name_in t (given d)) ≡ fold with_name [] (given_names t (cs ++ d ∷ []))
+  module _ (cs : List Contribution) (d : Contribution) (sets : List (IndexSet (Vec ℕ Global) S)) (has : HoldGivenNames cs sets) where
+    names_then : (t : Table) → fold with_name (fold with_name [] (given_names t cs)) (name_in_table t (given d)) ≡ fold with_name [] (given_names t (cs ++ d ∷ []))
     names_then t =
-        sym (fold-append with_name [] (given_names t cs) (name_in t (given d)))
-        ∙ ap (fold with_name []) (sym (flat_map-append (λ c. name_in t (given c)) cs (d ∷ []) ∙ ap (λ l. given_names t cs ++ l) (append-nil (name_in t (given d)))))
+        sym (fold-append with_name [] (given_names t cs) (name_in_table t (given d)))
+        ∙ ap (fold with_name []) (sym (flat_map-append (λ c. name_in_table t (given c)) cs (d ∷ []) ∙ ap (λ l. given_names t cs ++ l) (append-nil (name_in_table t (given d)))))
 
     -- one contribution more, which gives nothing under a name
-    pub given_nameless : (now : List (IndexSet (Vec ℕ Global) S)) → given d ≡ None → now ≡ sets → HaveGiven (cs ++ d ∷ []) now
-    given_nameless now none same = subst (HaveGiven (cs ++ d ∷ [])) (sym same) (record {
+    pub given_nameless : (now : List (IndexSet (Vec ℕ Global) S)) → given d ≡ None → now ≡ sets → HoldGivenNames (cs ++ d ∷ []) now
+    given_nameless now none same = subst (HoldGivenNames (cs ++ d ∷ [])) (sym same) (record {
       count = has.count;
-      names = λ t s at. has.names t s at ∙ ap (λ o. fold with_name (fold with_name [] (given_names t cs)) (name_in t o)) (sym none) ∙ names_then t;
+      names = λ t s at. has.names t s at ∙ ap (λ o. fold with_name (fold with_name [] (given_names t cs)) (name_in_table t o)) (sym none) ∙ names_then t;
     })
 
     -- or under this name
@@ -77,14 +77,14 @@ module _ {S : Type 0} where
           → fold with_name (fold with_name [] (given_names t cs)) (cond b (n ∷ []) []) ≡ fold with_name [] (given_names t (cs ++ d ∷ []))
       names_by t b same =
           let so_far = fold with_name [] (given_names t cs) in
-          sym (ap (λ o. fold with_name so_far (name_in t o)) gives ∙ ap (λ b. fold with_name so_far (cond b (n ∷ []) [])) same) ∙ names_then t
+          sym (ap (λ o. fold with_name so_far (name_in_table t o)) gives ∙ ap (λ b. fold with_name so_far (cond b (n ∷ []) [])) same) ∙ names_then t
 
       abbrev Names : List Contribution → Table → IndexSet (Vec ℕ Global) S → Type 0
       Names ds t s = names_of s.keys ≡ fold with_name [] (given_names t ds)
 
       pub given_named : (now : List (IndexSet (Vec ℕ Global) S)) (p : ℕ) (was is : IndexSet (Vec ℕ Global) S) → p ≡ order_of u → now ≡ set sets p is → was ≡ get_or sets p was → names_of is.keys ≡ with_name (names_of was.keys) n
-          → HaveGiven (cs ++ d ∷ []) now
-      given_named now p was is place changed got noted = subst (HaveGiven (cs ++ d ∷ [])) (sym (changed ∙ ap (λ k. set sets k is) place)) (record {
+          → HoldGivenNames (cs ++ d ∷ []) now
+      given_named now p was is place changed got noted = subst (HoldGivenNames (cs ++ d ∷ [])) (sym (changed ∙ ap (λ k. set sets k is) place)) (record {
         count = length-set sets (order_of u) is ∙ has.count;
         names = each_changed (Names cs) (Names (cs ++ d ∷ [])) u sets was is has.count (got ∙ ap (λ k. get_or sets k was) place)
             (λ t e h. noted ∙ ap (λ ns. with_name ns n) h ∙ names_by t true (eq-eqb (order_of u) (order_of t) (sym e)))
@@ -92,7 +92,7 @@ module _ {S : Type 0} where
       })
 
   -- whether a name is among them
-  any_given : (cs : List Contribution) (sets : List (IndexSet (Vec ℕ Global) S)) (t : Table) (s : IndexSet (Vec ℕ Global) S) (n : List ℕ) → HaveGiven cs sets → slice_get sets (order_of t) ≡ Some s
+  any_given : (cs : List Contribution) (sets : List (IndexSet (Vec ℕ Global) S)) (t : Table) (s : IndexSet (Vec ℕ Global) S) (n : List ℕ) → HoldGivenNames cs sets → slice_get sets (order_of t) ≡ Some s
       → list_any (λ k. bytes_eq n k.items) s.keys ≡ list_any (bytes_eq n) (given_names t cs)
   any_given cs sets t s n has at =
       sym (any_keys n s.keys)
@@ -100,7 +100,7 @@ module _ {S : Type 0} where
       ∙ any_first n (given_names t cs)
 
   -- whether a contribution that uses this name lacks it
-  pub lacking_named : (cs : List Contribution) (sets : List (IndexSet (Vec ℕ Global) S)) (o : Option (Table × List ℕ)) (t : Table) (n : List ℕ) (p : ℕ) (s : IndexSet (Vec ℕ Global) S) (text : List ℕ) (there : Bool) → HaveGiven cs sets
+  pub lacking_named : (cs : List Contribution) (sets : List (IndexSet (Vec ℕ Global) S)) (o : Option (Table × List ℕ)) (t : Table) (n : List ℕ) (p : ℕ) (s : IndexSet (Vec ℕ Global) S) (text : List ℕ) (there : Bool) → HoldGivenNames cs sets
       → o ≡ Some (t, n) → is_to_be_given t ≡ true → p ≡ order_of t → s ≡ get_or sets p s → text ≡ n → there ≡ list_any (λ k. bytes_eq text k.items) s.keys → not there ≡ is_lacking (λ t. given_names t cs) o
   lacking_named cs sets o t n p s text there has uses_it needed place got same found =
       let at : slice_get sets (order_of t) ≡ Some s = slice_get_read sets (length tables_in_order) (order_of t) s (sym has.count) (place_within t) (got ∙ ap (λ k. get_or sets k s) place) in
@@ -110,11 +110,11 @@ module _ {S : Type 0} where
 
 -- ---- a contribution of one row is one of all
 
-pub any_row : (p : Contribution → Bool) (rs : List rows.Row) (i : ℕ) (r : rows.Row) → i < length rs → list_any p (row_contributions machine_place (row_view (get_or rs i r))) ≡ true → list_any p (given_by (rows_view rs)) ≡ true
+pub any_row : (p : Contribution → Bool) (rs : List rows.Row) (i : ℕ) (r : rows.Row) → i < length rs → list_any p (row_contributions machine_place (row_view (get_or rs i r))) ≡ true → list_any p (given_by (row_list_view rs)) ≡ true
 any_row p [] i r within is = absurd (omega arith)
 any_row p (x ∷ rs) zero r within is =
     let here = row_contributions machine_place (row_view x) in
-    list_any-append p here (given_by (rows_view rs)) ∙ or_left (list_any p here) (list_any p (given_by (rows_view rs))) is
+    list_any-append p here (given_by (row_list_view rs)) ∙ or_left (list_any p here) (list_any p (given_by (row_list_view rs))) is
 any_row p (x ∷ rs) (suc i) r within is =
     let here = row_contributions machine_place (row_view x) in
-    list_any-append p here (given_by (rows_view rs)) ∙ or_right (list_any p here) (list_any p (given_by (rows_view rs))) (any_row p rs i r (omega arith) is)
+    list_any-append p here (given_by (row_list_view rs)) ∙ or_right (list_any p here) (list_any p (given_by (row_list_view rs))) (any_row p rs i r (omega arith) is)

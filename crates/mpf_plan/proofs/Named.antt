@@ -6,7 +6,7 @@ use Rattle.std.specs.Option.{option_map}
 use Rattle.std.proofs.lemmas.Option.{none-some, same_Some, slice_get-get_or}
 use Rattle.mpf_plan.specs.declared.entries.EventId.{EventId}
 use Rattle.mpf_plan.specs.declared.entries.SwitchId.{SwitchId}
-use Rattle.mpf_plan.specs.PlanView.{PlanView, Switch, event_named, no_switch, switch_at, switch_named}
+use Rattle.mpf_plan.specs.PlanView.{PlanView, PlanSwitch, event_named, no_switch, switch_at, switch_named}
 use Rattle.mpf_plan.proofs.Places.{found_at, found_within, absent}
 
 module _ {X : Type 0} (number : ℕ → X) (place : X → ℕ) (back : (n : ℕ) → place (number n) ≡ n) where
@@ -39,11 +39,11 @@ module _ (plan : PlanView) (name : List ℕ) where
 
   -- the switch of a name has it
   pub switch_found : (s : SwitchId) → switch_named plan name ≡ Some s → (switch_at plan s).name ≡ name
-  switch_found s named = found_at (λ (x : Switch). x.name) name plan.switches s.0 no_switch (switch_place s named)
+  switch_found s named = found_at (λ (x : PlanSwitch). x.name) name plan.switches s.0 no_switch (switch_place s named)
 
   pub switch_within : (s : SwitchId) → switch_named plan name ≡ Some s → s.0 < length plan.switches
-  switch_within s named = found_within (λ (x : Switch). x.name) name plan.switches s.0 (switch_place s named)
+  switch_within s named = found_within (λ (x : PlanSwitch). x.name) name plan.switches s.0 (switch_place s named)
 
   -- where a name has no switch, no switch has the name
-  pub switch_absent : switch_named plan name ≡ None → (i : ℕ) (d : Switch) → i < length plan.switches → (slice_index_or plan.switches i d).name ≢ name
-  switch_absent none = absent (λ (x : Switch). x.name) name plan.switches (unnumbered (λ n. record { 0 = n }) (λ (x : SwitchId). x.0) (λ n. refl) (position (λ s. bytes_eq name s.name) plan.switches) none)
+  pub switch_absent : switch_named plan name ≡ None → (i : ℕ) (d : PlanSwitch) → i < length plan.switches → (slice_index_or plan.switches i d).name ≢ name
+  switch_absent none = absent (λ (x : PlanSwitch). x.name) name plan.switches (unnumbered (λ n. record { 0 = n }) (λ (x : SwitchId). x.0) (λ n. refl) (position (λ s. bytes_eq name s.name) plan.switches) none)

@@ -17,17 +17,17 @@ use Rattle.mpf_plan.specs.Contributions.{Contribution, rows_in, given_by, contri
 use Rattle.mpf_plan.specs.Uses.{lacks_name}
 use Rattle.mpf_plan.specs.Limits.{entry_count, limit_of, first_above}
 use Rattle.mpf_plan.specs.PlanOf.{drafted, plan_from, plan_of, plan_at, GivesPlan, IsExceeded}
-use Rattle.mpf_plan.specs.Inside.{rows_view, name_sets_view, draft_view}
+use Rattle.mpf_plan.specs.Inside.{row_list_view, name_sets_view, draft_view}
 use Rattle.mpf_plan.specs.Numbering.{Numbered}
 use Rattle.mpf_plan.proofs.Judged.{all_within, is_first, plan_at-lacking, plan_at-within, plan_at-exceeded, plan_at-Err}
 use Rattle.mpf_plan.proofs.ValidPlan.{IsValid-plan_of}
 
-module _ (rows : Rows) (rs numbered_of : List found.Row) (are : rows_view rs ≡ rows_in rows.machine) (first : numbered_of ≡ rs) where
+module _ (rows : Rows) (rs numbered_of : List found.Row) (are : row_list_view rs ≡ rows_in rows.machine) (first : numbered_of ≡ rs) where
   abbrev cs : List Contribution
-  cs = given_by (rows_view numbered_of)
+  cs = given_by (row_list_view numbered_of)
 
   same : cs ≡ contributions_of rows
-  same = ap given_by (ap rows_view first ∙ are)
+  same = ap given_by (ap row_list_view first ∙ are)
 
   from_rows : plan_from cs ≡ plan_of rows
   unfolding plan_of
@@ -54,9 +54,9 @@ module _ (rows : Rows) (rs numbered_of : List found.Row) (are : rows_view rs ≡
     rows_within = all_within (plan_of rows) (ap first_above (sym from_rows) ∙ numbered.2)
 
     -- made of the same rows
-    module _ (d : Draft) (made_of : List found.Row) (again : made_of ≡ rs) (made : draft_view names d ≡ drafted (name_sets_view names) (given_by (rows_view made_of))) where
+    module _ (d : Draft) (made_of : List found.Row) (again : made_of ≡ rs) (made : draft_view names d ≡ drafted (name_sets_view names) (given_by (row_list_view made_of))) where
       pub is_plan : (draft_view names d).plan ≡ plan_of rows
-      is_plan = ap (λ x. x.plan) (made ∙ (λ i. drafted (numbered.1 i) (given_by (rows_view ((again ∙ sym first) i))))) ∙ from_rows
+      is_plan = ap (λ x. x.plan) (made ∙ (λ i. drafted (numbered.1 i) (given_by (row_list_view ((again ∙ sym first) i))))) ∙ from_rows
 
       pub is_planned : plan_at rows ≡ Ok (draft_view names d).plan
       is_planned = plan_at-within rows rows_within ∙ ap Ok (sym is_plan)

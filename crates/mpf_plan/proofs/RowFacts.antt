@@ -5,7 +5,7 @@ use Rattle.std.specs.List.{All, flat_map}
 use Rattle.std.proofs.lemmas.List.{length-map}
 use Rattle.std.proofs.lemmas.List.Elements.{All-nil, All-cons, All-head, All-tail, All-append, All-map, All-weaker}
 use Rattle.mpf_config.specs.Rows.{Written, Entry, Player, Switch, EventPlayer, Content, entries, players, SectionRows}
-use Rattle.mpf_config.specs.Named.{IsName, AllNames, IsNamedEntry, IsNamedPlayerEntry, IsNamedSwitch, IsNamedPlayer, IsNamedContent, IsNamed}
+use Rattle.mpf_config.specs.Named.{IsName, AllNames, IsNamedEntry, IsNamedPlayer, IsNamedSwitch, IsNamedEventPlayer, IsNamedContent, IsNamed}
 use Rattle.mpf_config.specs.Typed.{switches_name, event_player_name, switch_of, event_player_of}
 use Rattle.mpf_config.specs.Short.{IsShortEntry, IsShortPlayer, IsShortContent, IsShortSection}
 use Rattle.mpf_config.proofs.RowNames.{switch_named, event_player_named}
@@ -62,7 +62,7 @@ pub record Facts (P : List ℕ → Type 0) (Named Short : Type 0) (cs : List Con
 
 abbrev pub IsNamedRow : Row → Type 0
 IsNamedRow (entry section e) = IsNamedEntry e
-IsNamedRow (player section p) = IsNamedPlayerEntry p
+IsNamedRow (player section p) = IsNamedPlayer p
 
 abbrev pub IsShortRow : Row → Type 0
 IsShortRow (entry section e) = IsShortEntry 1024 e
@@ -140,7 +140,7 @@ module _ (P : List ℕ → Type 0) (of : IsOfNames P) where
     );
   }
 
-  player_facts : (p : EventPlayer) → Facts P (IsNamedPlayer p) (length p.posts ≤ 1024) (player_contributions machine_place p)
+  player_facts : (p : EventPlayer) → Facts P (IsNamedEventPlayer p) (length p.posts ≤ 1024) (player_contributions machine_place p)
   unfolding player_contributions
   player_facts p = record {
     names = λ h. All-cons (IsFit P) _ (map post (texts p.posts)) (of.name p.event.text h.event) (All-map (IsFit P) post (texts p.posts) (all_names p.posts h.posts));
@@ -166,16 +166,16 @@ module _ (P : List ℕ → Type 0) (of : IsOfNames P) where
       (record { names = λ h. switch.names (switch_named e h); lists = λ h. switch.lists tt })
       (none_facts (IsNamedEntry e) (IsShortEntry 1024 e))
 
-  player_entry_facts : (section : List ℕ) (p : Player) → Facts P (IsNamedPlayerEntry p) (IsShortPlayer 1024 p) (player_entry_contributions machine_place section p)
+  player_entry_facts : (section : List ℕ) (p : Player) → Facts P (IsNamedPlayer p) (IsShortPlayer 1024 p) (player_entry_contributions machine_place section p)
   unfolding player_entry_contributions
   player_entry_facts section p = by (bytes_eq section event_player_name)
     where
-      row : Facts P (IsNamedPlayer (event_player_of p)) (length (event_player_of p).posts ≤ 1024) (player_contributions machine_place (event_player_of p))
+      row : Facts P (IsNamedEventPlayer (event_player_of p)) (length (event_player_of p).posts ≤ 1024) (player_contributions machine_place (event_player_of p))
       row = player_facts (event_player_of p)
 
-      by : (b : Bool) → Facts P (IsNamedPlayerEntry p) (IsShortPlayer 1024 p) (if b then player_contributions machine_place (event_player_of p) else [])
+      by : (b : Bool) → Facts P (IsNamedPlayer p) (IsShortPlayer 1024 p) (if b then player_contributions machine_place (event_player_of p) else [])
       by true = record { names = λ h. row.names (event_player_named p h); lists = λ h. row.lists (event_player_short p h) }
-      by false = none_facts (IsNamedPlayerEntry p) (IsShortPlayer 1024 p)
+      by false = none_facts (IsNamedPlayer p) (IsShortPlayer 1024 p)
 
   row_facts : (r : Row) → Facts P (IsNamedRow r) (IsShortRow r) (row_contributions machine_place r)
   row_facts (entry section e) = entry_facts section e

@@ -4,8 +4,8 @@ use Rattle.std.specs.List.{zip, position}
 use Rattle.std.specs.Str.{bytes_eq}
 use Rattle.std.proofs.lemmas.Slice.Zip.{firsts-zip}
 use Rattle.mpf_plan.specs.declared.draft.SwitchEntry.{SwitchEntry}
-use Rattle.mpf_plan.specs.PlanView.{Switch, no_switch}
-use Rattle.mpf_plan.specs.Inside.{switch_view, switches_view}
+use Rattle.mpf_plan.specs.PlanView.{PlanSwitch, no_switch}
+use Rattle.mpf_plan.specs.Inside.{switch_entry_view, switches_view}
 use Rattle.mpf_plan.proofs.Places.{position-map}
 
 -- there are as many as names
@@ -23,7 +23,7 @@ name_shown (m ∷ ms) (e ∷ es) zero count within = refl
 name_shown (m ∷ ms) (e ∷ es) (suc i) count within = name_shown ms es i (omega (arith, count)) (omega arith)
 
 -- and what the entry there says
-pub entry_shown : {X : Type 0} (seen : Switch → X) (said : SwitchEntry → X) → ((n : List ℕ) (e : SwitchEntry) → seen (switch_view (n, e)) ≡ said e)
+pub entry_shown : {X : Type 0} (seen : PlanSwitch → X) (said : SwitchEntry → X) → ((n : List ℕ) (e : SwitchEntry) → seen (switch_entry_view (n, e)) ≡ said e)
     → (names : List (List ℕ)) (entries : List SwitchEntry) (i : ℕ) (e : SwitchEntry) → length entries ≡ length names → i < length names → seen (get_or (switches_view names entries) i no_switch) ≡ said (get_or entries i e)
 entry_shown seen said same [] entries i e count within = absurd (omega arith)
 entry_shown seen said same (m ∷ ms) [] i e count within = absurd (omega (arith, count))
@@ -32,8 +32,8 @@ entry_shown seen said same (m ∷ ms) (f ∷ fs) (suc i) e count within = entry_
 
 -- a switch has the place of its name
 pub switch_position : (name : List ℕ) (names : List (List ℕ)) (entries : List SwitchEntry) → length entries ≡ length names
-    → position (λ (s : Switch). bytes_eq name s.name) (switches_view names entries) ≡ position (bytes_eq name) names
+    → position (λ (s : PlanSwitch). bytes_eq name s.name) (switches_view names entries) ≡ position (bytes_eq name) names
 switch_position name names entries count =
-    position-map switch_view (λ (s : Switch). bytes_eq name s.name) (zip names entries)
+    position-map switch_entry_view (λ (s : PlanSwitch). bytes_eq name s.name) (zip names entries)
     ∙ sym (position-map (λ e. e.0) (bytes_eq name) (zip names entries))
     ∙ ap (position (bytes_eq name)) (firsts-zip names entries count)

@@ -13,7 +13,7 @@ use Rattle.mpf_plan.specs.declared.entries.Target.{Target}
 use Rattle.mpf_plan.specs.declared.entries.Target.TheVariants as targets
 use Rattle.mpf_plan.specs.declared.entries.Binding.{Binding}
 use Rattle.mpf_plan.specs.declared.fault.Table.TheVariants.{Events, Switches}
-use Rattle.mpf_plan.specs.PlanView.{Switch, no_switch, PlanView}
+use Rattle.mpf_plan.specs.PlanView.{PlanSwitch, no_switch, PlanView}
 use Rattle.mpf_plan.specs.Valid.{IsEventWithin, IsActionWithin, IsOwnerWithin, IsTargetWithin, IsBindingWithin, IsSwitchWithin}
 use Rattle.mpf_plan.specs.Contributions.{Contribution, gives, reads, active, inactive, binds, post}
 use Rattle.mpf_plan.specs.Uses.{Names, names_from, number_among}
@@ -62,7 +62,7 @@ module _ (names : Names) (d : DraftView) (sound : IsSound names d.plan) where
   event_within : (n : List ℕ) → number_among (names Events) n < length (names Events) → number_among (names Events) n < length d.plan.events
   event_within n known = subst (λ es. number_among (names Events) n < length es) (sym sound.events) known
 
-  switch_sound : (change : Switch → Switch) → ((s : Switch) → IsSwitchWithin (length d.plan.events) s → IsSwitchWithin (length d.plan.events) (change s)) → IsSound names (last_switch change d).plan
+  switch_sound : (change : PlanSwitch → PlanSwitch) → ((s : PlanSwitch) → IsSwitchWithin (length d.plan.events) s → IsSwitchWithin (length d.plan.events) (change s)) → IsSound names (last_switch change d).plan
   switch_sound change keeps = record {
     events = sound.events;
     switches = by (nat_lt d.last (length d.plan.switches)) refl;
@@ -70,7 +70,7 @@ module _ (names : Names) (d : DraftView) (sound : IsSound names d.plan) where
     bindings = bindings_grow d.plan new grows d.plan.bindings sound.bindings;
   }
     where
-      changed : Switch
+      changed : PlanSwitch
       changed = change (get_or d.plan.switches d.last no_switch)
 
       new : PlanView

@@ -5,9 +5,9 @@ use Rattle.std.proofs.lemmas.List.{set_past, map-set, get_or-map, length-map}
 use Rattle.std.proofs.lemmas.List.Elements.{All-head, All-tail}
 use Rattle.mpf_plan.specs.declared.entries.Action.{Action}
 use Rattle.mpf_plan.specs.declared.draft.SwitchEntry.{SwitchEntry}
-use Rattle.mpf_plan.specs.PlanView.{Switch, no_switch}
+use Rattle.mpf_plan.specs.PlanView.{PlanSwitch, no_switch}
 use Rattle.mpf_plan.specs.PlanOf.{last_with, named_switch}
-use Rattle.mpf_plan.specs.Inside.{switch_view, switches_view, action_lists}
+use Rattle.mpf_plan.specs.Inside.{switch_entry_view, switches_view, action_lists}
 
 -- an item changed in its place, as it is seen
 shown_at : {X Y : Type 0} (shown : X → Y) (f : Y → Y) (xs : List X) (i : ℕ) (old new : X) (d : Y) → i < length xs → old ≡ get_or xs i old → shown new ≡ f (shown old)
@@ -31,16 +31,16 @@ same_default (x ∷ xs) (suc n) d e within = same_default xs n d e (omega arith)
 -- ---- switches
 
 -- an entry changed in its place
-pub switch_changed : (change : Switch → Switch) (old new : SwitchEntry) → ((n : List ℕ) → switch_view (n, new) ≡ change (switch_view (n, old)))
+pub switch_changed : (change : PlanSwitch → PlanSwitch) (old new : SwitchEntry) → ((n : List ℕ) → switch_entry_view (n, new) ≡ change (switch_entry_view (n, old)))
     → (names : List (List ℕ)) (entries : List SwitchEntry) (i : ℕ) → i < length entries → old ≡ get_or entries i old
     → switches_view names (set entries i new) ≡ set (switches_view names entries) i (change (get_or (switches_view names entries) i no_switch))
 switch_changed change old new changed [] entries i within is = refl
 switch_changed change old new changed (n ∷ ns) [] i within is = absurd (omega arith)
-switch_changed change old new changed (n ∷ ns) (e ∷ es) zero within is = ap (λ s. s ∷ switches_view ns es) (changed n ∙ ap (λ x. change (switch_view (n, x))) is)
-switch_changed change old new changed (n ∷ ns) (e ∷ es) (suc i) within is = ap (λ ss. switch_view (n, e) ∷ ss) (switch_changed change old new changed ns es i (omega arith) is)
+switch_changed change old new changed (n ∷ ns) (e ∷ es) zero within is = ap (λ s. s ∷ switches_view ns es) (changed n ∙ ap (λ x. change (switch_entry_view (n, x))) is)
+switch_changed change old new changed (n ∷ ns) (e ∷ es) (suc i) within is = ap (λ ss. switch_entry_view (n, e) ∷ ss) (switch_changed change old new changed ns es i (omega arith) is)
 
 -- past the last entry nothing is changed
-pub switch_unchanged : (change : Switch → Switch) (names : List (List ℕ)) (entries : List SwitchEntry) (i : ℕ) → length entries ≤ i
+pub switch_unchanged : (change : PlanSwitch → PlanSwitch) (names : List (List ℕ)) (entries : List SwitchEntry) (i : ℕ) → length entries ≤ i
     → switches_view names entries ≡ set (switches_view names entries) i (change (get_or (switches_view names entries) i no_switch))
 switch_unchanged change names entries i past =
     let seen = switches_view names entries in

@@ -6,7 +6,7 @@ use Rattle.std.proofs.lemmas.List.Sums.{fold-append, sum_by-append}
 use Rattle.mpf_plan.specs.declared.collect.Row as rows
 use Rattle.mpf_plan.specs.declared.contribution.Contribution as contributions
 use Rattle.mpf_plan.specs.Contributions.{Contribution, Row, row_contributions, machine_place, given_by}
-use Rattle.mpf_plan.specs.Inside.{contribution_view, contributions_view, row_view, rows_view}
+use Rattle.mpf_plan.specs.Inside.{contribution_view, contributions_view, row_view, row_list_view}
 use Rattle.mpf_plan.specs.Numbering.{bindings_given, binding_count}
 
 module _ (cs : List contributions.Contribution) (i : ℕ) (d : contributions.Contribution) (within : i < length cs) where
@@ -27,18 +27,18 @@ gives r = row_contributions machine_place r
 
 -- what the first rows give
 pub rows_more : (rs : List rows.Row) (i : ℕ) (d : rows.Row) → i < length rs
-    → given_by (rows_view (take (i + 1) rs)) ≡ given_by (rows_view (take i rs)) ++ row_contributions machine_place (row_view (get_or rs i d))
+    → given_by (row_list_view (take (i + 1) rs)) ≡ given_by (row_list_view (take i rs)) ++ row_contributions machine_place (row_view (get_or rs i d))
 rows_more rs i d within =
-    ap (λ l. given_by (rows_view l)) (take_more rs i d within)
+    ap (λ l. given_by (row_list_view l)) (take_more rs i d within)
     ∙ ap given_by (map-append row_view (take i rs) (get_or rs i d ∷ []))
-    ∙ flat_map-append gives (rows_view (take i rs)) (row_view (get_or rs i d) ∷ [])
-    ∙ ap (λ l. given_by (rows_view (take i rs)) ++ l) (append-nil (gives (row_view (get_or rs i d))))
+    ∙ flat_map-append gives (row_list_view (take i rs)) (row_view (get_or rs i d) ∷ [])
+    ∙ ap (λ l. given_by (row_list_view (take i rs)) ++ l) (append-nil (gives (row_view (get_or rs i d))))
 
 -- the bindings of the first rows and of the next are no more than those of all
 pub part_count : (rs : List rows.Row) (i : ℕ) (d : rows.Row) → i < length rs
-    → binding_count (given_by (rows_view (take i rs))) + binding_count (row_contributions machine_place (row_view (get_or rs i d))) ≤ binding_count (given_by (rows_view rs))
+    → binding_count (given_by (row_list_view (take i rs))) + binding_count (row_contributions machine_place (row_view (get_or rs i d))) ≤ binding_count (given_by (row_list_view rs))
 part_count [] i d within = absurd (omega arith)
-part_count (r ∷ rs) zero d within = omega (arith, sum_by-append bindings_given (gives (row_view r)) (given_by (rows_view rs)))
+part_count (r ∷ rs) zero d within = omega (arith, sum_by-append bindings_given (gives (row_view r)) (given_by (row_list_view rs)))
 part_count (r ∷ rs) (suc i) d within =
     let here = gives (row_view r) in
-    omega (arith, sum_by-append bindings_given here (given_by (rows_view rs)), sum_by-append bindings_given here (given_by (rows_view (take i rs))), part_count rs i d (omega arith))
+    omega (arith, sum_by-append bindings_given here (given_by (row_list_view rs)), sum_by-append bindings_given here (given_by (row_list_view (take i rs))), part_count rs i d (omega arith))

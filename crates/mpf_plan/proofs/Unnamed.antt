@@ -7,15 +7,15 @@ use Rattle.mpf_config.specs.Typed.{switches_name, event_player_name, switch_of, 
 use Rattle.mpf_plan.specs.declared.contribution.Place.{Place}
 use Rattle.mpf_plan.specs.declared.fault.Table.TheVariants.{Bindings}
 use Rattle.mpf_plan.specs.Contributions.{Contribution, active, inactive, post, texts, active_posts, inactive_posts, switch_contributions, player_contributions, Row, entry, player, entry_contributions, player_entry_contributions, row_contributions, machine_place, given_by}
-use Rattle.mpf_plan.specs.Uses.{used, name_in, uses, first_uses, names_from}
+use Rattle.mpf_plan.specs.Uses.{used, name_in_table, uses, first_uses, names_from}
 
 abbrev Unnamed : List Contribution → Type 0
 Unnamed cs = uses Bindings cs ≡ []
 
 both : (cs ds : List Contribution) → Unnamed cs → Unnamed ds → Unnamed (cs ++ ds)
-both cs ds a b = flat_map-append (λ c. name_in Bindings (used c)) cs ds ∙ (λ i. a i ++ b i)
+both cs ds a b = flat_map-append (λ c. name_in_table Bindings (used c)) cs ds ∙ (λ i. a i ++ b i)
 
-each : (f : List ℕ → Contribution) → ((n : List ℕ) → name_in Bindings (used (f n)) ≡ []) → (ns : List (List ℕ)) → Unnamed (map f ns)
+each : (f : List ℕ → Contribution) → ((n : List ℕ) → name_in_table Bindings (used (f n)) ≡ []) → (ns : List (List ℕ)) → Unnamed (map f ns)
 each f none [] = refl
 each f none (n ∷ ns) = λ i. none n i ++ each f none ns i
 

@@ -21,7 +21,7 @@ use Rattle.mpf_plan.specs.Contributions.{Contribution, gives, reads, active, ina
 use Rattle.mpf_plan.specs.Limits.{order_of}
 use Rattle.mpf_plan.specs.Uses.{Names}
 use Rattle.mpf_plan.specs.NamesKept.{names_kept}
-use Rattle.mpf_plan.specs.PlanView.{Switch, PlanView, places_of}
+use Rattle.mpf_plan.specs.PlanView.{PlanSwitch, PlanView, places_of}
 use Rattle.mpf_plan.specs.PlanOf.{DraftView}
 
 -- the name that the parts make
@@ -43,8 +43,8 @@ abbrev pub row_view : rows.Row → Row
 row_view (row.Entry section e) = entry section.now (entry_view e.now)
 row_view (row.Player section p) = player section.now (player_view p.now)
 
-abbrev pub rows_view : List rows.Row → List Row
-rows_view rs = map row_view rs
+abbrev pub row_list_view : List rows.Row → List Row
+row_list_view rs = map row_view rs
 
 -- a name and its table
 abbrev pub named_view : Table × Parts → Table × List ℕ
@@ -55,12 +55,12 @@ abbrev pub name_sets_view : NameSets → Names
 name_sets_view n table = names_kept (slice_get n.tables.items (order_of table))
 
 -- a switch's name, how it is read, and its posts
-abbrev pub switch_view : List ℕ × SwitchEntry → Switch
-switch_view e = record { name = e.0; kind = e.1.kind; active = e.1.active.items; inactive = e.1.inactive.items }
+abbrev pub switch_entry_view : List ℕ × SwitchEntry → PlanSwitch
+switch_entry_view e = record { name = e.0; kind = e.1.kind; active = e.1.active.items; inactive = e.1.inactive.items }
 
 -- each switch stands at the place of its name
-abbrev pub switches_view : List (List ℕ) → List SwitchEntry → List Switch
-switches_view names entries = map switch_view (zip names entries)
+abbrev pub switches_view : List (List ℕ) → List SwitchEntry → List PlanSwitch
+switches_view names entries = map switch_entry_view (zip names entries)
 
 abbrev pub action_lists : List (Vec Action Global) → List (List Action)
 action_lists lists = map (λ v. v.items) lists

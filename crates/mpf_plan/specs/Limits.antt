@@ -10,10 +10,10 @@ entry_count plan Bindings = length plan.bindings
 entry_count plan Switches = length plan.switches
 
 -- the names of a table, where its entries have names
-abbrev pub names_in : PlanView → Table → List (List ℕ)
-names_in plan Events = plan.events
-names_in plan Bindings = []
-names_in plan Switches = map (λ s. s.name) plan.switches
+abbrev pub entry_names : PlanView → Table → List (List ℕ)
+entry_names plan Events = plan.events
+entry_names plan Bindings = []
+entry_names plan Switches = map (λ s. s.name) plan.switches
 
 abbrev pub limit_of : Table → ℕ
 limit_of Events = 4096

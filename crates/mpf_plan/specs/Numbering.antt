@@ -22,8 +22,8 @@ abbrev pub with_name : List (List ℕ) → List ℕ → List (List ℕ)
 with_name names name = if list_any (λ n. bytes_eq name n) names then names else names ++ name ∷ []
 
 -- a table has all names, and they are within its limit; or there are more than that
-abbrev pub HasNames : List (List ℕ) → NameTable → Type 0
-HasNames all t = ((t.above ≡ true) × (t.limit < length all)) ⊎ ((t.above ≡ false) × (names_of t.set.keys ≡ all) × (length all ≤ t.limit))
+abbrev pub IsNameTableOf : List (List ℕ) → NameTable → Type 0
+IsNameTableOf all t = ((t.above ≡ true) × (t.limit < length all)) ⊎ ((t.above ≡ false) × (names_of t.set.keys ≡ all) × (length all ≤ t.limit))
 
 -- how many bindings a contribution gives, and how many all do
 abbrev pub bindings_given : Contribution → ℕ
@@ -38,20 +38,20 @@ abbrev pub IsCount : ℕ → ℕ → ℕ → Type 0
 IsCount limit all count = ((limit < all) × (limit < count)) ⊎ ((count ≡ all) × (all ≤ limit))
 
 -- the tables have the names of contributions, each at its place
-pub record HaveNames (cs : List Contribution) (tables : List NameTable) : Type 0 where
+pub record AreNameTablesOf (cs : List Contribution) (tables : List NameTable) : Type 0 where
   pub count : length tables ≡ length tables_in_order
   pub limits : (t : Table) (kept : NameTable) → slice_get tables (order_of t) ≡ Some kept → kept.limit ≡ limit_of t
-  pub names : (t : Table) (kept : NameTable) → slice_get tables (order_of t) ≡ Some kept → HasNames (names_from cs t) kept
+  pub names : (t : Table) (kept : NameTable) → slice_get tables (order_of t) ≡ Some kept → IsNameTableOf (names_from cs t) kept
 
 -- the sets have the names under which contributions give something, each at its place
 module _ {S : Type 0} where
-  pub record HaveGiven (cs : List Contribution) (sets : List (IndexSet (Vec ℕ Global) S)) : Type 0 where
+  pub record HoldGivenNames (cs : List Contribution) (sets : List (IndexSet (Vec ℕ Global) S)) : Type 0 where
     pub count : length sets ≡ length tables_in_order
     pub names : (t : Table) (set : IndexSet (Vec ℕ Global) S) → slice_get sets (order_of t) ≡ Some set → names_of set.keys ≡ fold with_name [] (given_names t cs)
 
 -- what is found in contributions
 pub record HasFound (cs : List Contribution) (found : Found) : Type 0 where
-  pub tables : HaveNames cs found.tables.items
+  pub tables : AreNameTablesOf cs found.tables.items
   pub bindings : IsCount 16384 (binding_count cs) found.bindings
 
 -- the names of contributions whose plan is within all limits; or they use a name that nothing has; or the first table

@@ -12,7 +12,7 @@ use Rattle.mpf_plan.specs.declared.fault.Table.{Table}
 use Rattle.mpf_plan.specs.declared.fault.Table.TheVariants.{Events, Switches}
 use Rattle.mpf_plan.specs.declared.fault.PlanFault.{PlanFault}
 use Rattle.mpf_plan.specs.declared.fault.PlanFault.TheVariants as faults
-use Rattle.mpf_plan.specs.PlanView.{Switch, no_switch, PlanView}
+use Rattle.mpf_plan.specs.PlanView.{PlanSwitch, no_switch, PlanView}
 use Rattle.mpf_plan.specs.Contributions.{Contribution, gives, reads, active, inactive, binds, post, contributions_of}
 use Rattle.mpf_plan.specs.Uses.{Names, names_from, number_among, lacks_name}
 use Rattle.mpf_plan.specs.Limits.{first_above, IsFirstAbove}
@@ -30,7 +30,7 @@ pub record DraftView : Type 0 where
   pub last : ℕ
 
 -- the last switch is changed so
-abbrev pub last_switch : (Switch → Switch) → DraftView → DraftView
+abbrev pub last_switch : (PlanSwitch → PlanSwitch) → DraftView → DraftView
 last_switch change d =
     record d { plan = record d.plan { switches = slice_set d.plan.switches d.last (change (slice_index_or d.plan.switches d.last no_switch)) } }
 
@@ -81,7 +81,7 @@ with_contribution names d (binds n place Run) =
 with_contribution names d (post n) = with_action (Post (event_of (names Events) n)) d
 
 -- a switch of which the name alone is known
-abbrev pub named_switch : List ℕ → Switch
+abbrev pub named_switch : List ℕ → PlanSwitch
 named_switch n = record no_switch { name = n }
 
 -- before anything is added, names are there alone

@@ -14,24 +14,24 @@ use Rattle.mpf_plan.specs.declared.entries.Target.TheVariants.{Run}
 use Rattle.mpf_plan.specs.declared.entries.Binding.{Binding}
 
 -- a switch: its name, how it is read, and what it posts when it becomes active and inactive
-pub record Switch : Type 0 where
+pub record PlanSwitch : Type 0 where
   pub name : List ℕ
   pub kind : SwitchKind
   pub active : List EventId
   pub inactive : List EventId
 
 -- what a switch posts when it becomes active, or inactive
-abbrev pub switch_posts : Bool → Switch → List EventId
+abbrev pub switch_posts : Bool → PlanSwitch → List EventId
 switch_posts active s = if active then s.active else s.inactive
 
 -- in place of a switch where there is none
-abbrev pub no_switch : Switch
+abbrev pub no_switch : PlanSwitch
 no_switch = record { name = []; kind = record { contact = NormallyOpen; quick = false }; active = []; inactive = [] }
 
 -- names stand at their numbers, effect lists at theirs, and bindings in plan order
 pub record PlanView : Type 0 where
   pub events : List (List ℕ)
-  pub switches : List Switch
+  pub switches : List PlanSwitch
   pub lists : List (List Action)
   pub bindings : List Binding
 
@@ -44,7 +44,7 @@ abbrev pub event_named : PlanView → List ℕ → Option EventId
 event_named plan name = option_map (λ n. record { 0 = n }) (position (bytes_eq name) plan.events)
 
 -- a switch by its number
-abbrev pub switch_at : PlanView → SwitchId → Switch
+abbrev pub switch_at : PlanView → SwitchId → PlanSwitch
 switch_at plan s = slice_index_or plan.switches s.0 no_switch
 
 -- the switch of a name, if there is one
@@ -56,8 +56,8 @@ abbrev pub posts_of : PlanView → SwitchId → Bool → List EventId
 posts_of plan s active = switch_posts active (switch_at plan s)
 
 -- the actions of an effect list
-abbrev pub list_at : PlanView → ListId → List Action
-list_at plan l = slice_index_or plan.lists l.0 []
+abbrev pub actions_at : PlanView → ListId → List Action
+actions_at plan l = slice_index_or plan.lists l.0 []
 
 -- in place of a binding where there is none
 abbrev pub no_binding : Binding

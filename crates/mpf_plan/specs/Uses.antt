@@ -31,17 +31,17 @@ is_to_be_given _ = true
 -- ---- all of them
 
 -- the name, where it is one of this table
-abbrev pub name_in : Table → Option (Table × List ℕ) → List (List ℕ)
-name_in table None = []
-name_in table (Some (t, n)) = if order_of t == order_of table then n ∷ [] else []
+abbrev pub name_in_table : Table → Option (Table × List ℕ) → List (List ℕ)
+name_in_table table None = []
+name_in_table table (Some (t, n)) = if order_of t == order_of table then n ∷ [] else []
 
 -- all names of a table that the contributions use, in turn
 abbrev pub uses : Table → List Contribution → List (List ℕ)
-uses table cs = flat_map (λ c. name_in table (used c)) cs
+uses table cs = flat_map (λ c. name_in_table table (used c)) cs
 
 -- all names of a table under which they give something
 abbrev pub given_names : Table → List Contribution → List (List ℕ)
-given_names table cs = flat_map (λ c. name_in table (given c)) cs
+given_names table cs = flat_map (λ c. name_in_table table (given c)) cs
 
 -- each item whose name no item before it has: the first, and of the rest those of other names, each where it comes first
 abbrev pub first_by : {X : Type 0} → (X → List ℕ) → List X → List X

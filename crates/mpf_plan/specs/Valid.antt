@@ -10,8 +10,8 @@ use Rattle.mpf_plan.specs.declared.entries.Target.{Target}
 use Rattle.mpf_plan.specs.declared.entries.Target.TheVariants.{Run}
 use Rattle.mpf_plan.specs.declared.entries.Binding.{Binding}
 use Rattle.mpf_plan.specs.declared.fault.Table.{Table}
-use Rattle.mpf_plan.specs.Limits.{names_in}
-use Rattle.mpf_plan.specs.PlanView.{Switch, PlanView}
+use Rattle.mpf_plan.specs.Limits.{entry_names}
+use Rattle.mpf_plan.specs.PlanView.{PlanSwitch, PlanView}
 
 abbrev pub IsEventWithin : ℕ → EventId → Type 0
 IsEventWithin events e = e.0 < events
@@ -28,7 +28,7 @@ IsOwnerWithin plan Machine = Unit {0}
 abbrev pub IsBindingWithin : PlanView → Binding → Type 0
 IsBindingWithin plan b = (b.event.0 < length plan.events) × IsOwnerWithin plan b.owner × IsTargetWithin plan b.target
 
-abbrev pub IsSwitchWithin : ℕ → Switch → Type 0
+abbrev pub IsSwitchWithin : ℕ → PlanSwitch → Type 0
 IsSwitchWithin events s = All (IsEventWithin events) s.active × All (IsEventWithin events) s.inactive
 
 -- every number in the plan is that of an entry, whether the tables are within their limits or not
@@ -44,7 +44,7 @@ pub record IsValid (plan : PlanView) : Type 0 where
   pub list_limit : length plan.lists ≤ 16384
   -- no effect list has more than 1,024 actions
   pub action_limit : All (λ actions. length actions ≤ 1024) plan.lists
-  pub names : (t : Table) → AllPairs (λ x y. x ≢ y) (names_in plan t)
+  pub names : (t : Table) → AllPairs (λ x y. x ≢ y) (entry_names plan t)
   pub entries : HasEntries plan
   -- the machine handles all events at priority 0, so that handlers run in plan order
   pub priorities : All (λ b. b.priority ≡ 0) plan.bindings

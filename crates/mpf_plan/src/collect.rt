@@ -3,7 +3,7 @@
 ghost use Rattle.std.specs.Prelude.{◌≡◌, ◌++◌, map, IfOk, OnOk};
 ghost use Rattle.mpf_config.specs.View.{switch_view as switch_row_view, event_player_view, section_view, entry_view, player_view, name_view};
 ghost use Rattle.mpf_plan.specs.Contributions.{active, inactive, post, texts, is_quick, kind_of, tag_event, active_posts, inactive_posts, switch_contributions, player_contributions, rows_in, rows_from, entry, player, entry_contributions, player_entry_contributions, row_contributions, machine_place};
-ghost use Rattle.mpf_plan.specs.Inside.{contributions_view, row_view, rows_view};
+ghost use Rattle.mpf_plan.specs.Inside.{contributions_view, row_view, row_list_view};
 
 use crate::contribution::{Aim, Contribution, Parts, Place, whole};
 use crate::entries::{Owner, SwitchKind};
@@ -28,7 +28,7 @@ pub(crate) fn rows_in<'a>(
     alloc: Global,
     sections: &'a [Section],
 ) -> Result<Vec<Row<'a>>, AllocError>
-    ensures { IfOk result (λ rows. rows_view rows.items ≡ rows_in (map section_view sections.now)) }
+    ensures { IfOk result (λ rows. row_list_view rows.items ≡ rows_in (map section_view sections.now)) }
 {
     let mut rows = Vec::new(alloc);
     for section in sections {
@@ -38,7 +38,7 @@ pub(crate) fn rows_in<'a>(
 }
 
 fn add_rows<'a>(rows: &mut Vec<Row<'a>>, section: &'a Section) -> Result<(), AllocError>
-    ensures { OnOk result (rows_view rows.new.items ≡ rows_view rows.old.items ++ rows_from (section_view section.now).name (section_view section.now).content) }
+    ensures { OnOk result (row_list_view rows.new.items ≡ row_list_view rows.old.items ++ rows_from (section_view section.now).name (section_view section.now).content) }
 {
     match &section.content {
         Content::Entries(entries) => add_entries(rows, &section.name, entries),
@@ -51,7 +51,7 @@ fn add_entries<'a>(
     section: &'a [u8],
     entries: &'a [Entry],
 ) -> Result<(), AllocError>
-    ensures { OnOk result (rows_view rows.new.items ≡ rows_view rows.old.items ++ map (entry section.now) (map entry_view entries.now)) }
+    ensures { OnOk result (row_list_view rows.new.items ≡ row_list_view rows.old.items ++ map (entry section.now) (map entry_view entries.now)) }
 {
     for entry in entries {
         rows.push(Row::Entry(section, entry))?;
@@ -64,7 +64,7 @@ fn add_players<'a>(
     section: &'a [u8],
     players: &'a [Player],
 ) -> Result<(), AllocError>
-    ensures { OnOk result (rows_view rows.new.items ≡ rows_view rows.old.items ++ map (player section.now) (map player_view players.now)) }
+    ensures { OnOk result (row_list_view rows.new.items ≡ row_list_view rows.old.items ++ map (player section.now) (map player_view players.now)) }
 {
     for player in players {
         rows.push(Row::Player(section, player))?;

@@ -7,7 +7,7 @@ ghost use Rattle.mpf_plan.specs.Contributions.{gives, active, inactive, binds, p
 ghost use Rattle.mpf_plan.specs.PlanView.{no_switch};
 ghost use Rattle.mpf_plan.specs.PlanOf.{event_of, with_switch, with_kind, with_active, with_inactive, last_with, with_contribution, named_switch, blank, drafted};
 ghost use Rattle.mpf_plan.specs.NamesKept.{names_of};
-ghost use Rattle.mpf_plan.specs.Inside.{parts_text, contribution_view, contributions_view, rows_view, name_sets_view, action_lists, switches_view, draft_view};
+ghost use Rattle.mpf_plan.specs.Inside.{parts_text, contribution_view, contributions_view, row_list_view, name_sets_view, action_lists, switches_view, draft_view};
 ghost use Rattle.mpf_plan.specs.Numbering.{binding_count};
 
 use crate::collect::{Row, collect_row, machine_place};
@@ -22,8 +22,8 @@ use std::alloc::{AllocError, Global};
 
 /// What the rows make, where names have these numbers.
 pub(crate) fn fill(alloc: Global, names: &NameSets, rows: &[Row]) -> Result<Draft, AllocError>
-    requires { binding_count (given_by (rows_view rows.now)) ≤ 16384 }
-    ensures { IfOk result (λ d. draft_view names.now d ≡ drafted (name_sets_view names.now) (given_by (rows_view rows.now))) }
+    requires { binding_count (given_by (row_list_view rows.now)) ≤ 16384 }
+    ensures { IfOk result (λ d. draft_view names.now d ≡ drafted (name_sets_view names.now) (given_by (row_list_view rows.now))) }
 {
     let mut draft = blank(alloc, names)?;
     let mut text = Vec::new(alloc);

@@ -7,8 +7,8 @@ ghost use Rattle.mpf_plan.specs.Limits.{entry_count, limit_of, tables_in_order, 
 ghost use Rattle.mpf_plan.specs.Uses.{used, given_names, number_among, is_to_be_given, is_lacking, lacks_name};
 ghost use Rattle.mpf_plan.specs.PlanOf.{plan_from};
 ghost use Rattle.mpf_plan.specs.NamesKept.{names_of};
-ghost use Rattle.mpf_plan.specs.Inside.{parts_text, name_sets_view, contribution_view, contributions_view, rows_view};
-ghost use Rattle.mpf_plan.specs.Numbering.{with_name, HasNames, HaveNames, bindings_given, IsCount, HaveGiven, HasFound, Numbered};
+ghost use Rattle.mpf_plan.specs.Inside.{parts_text, name_sets_view, contribution_view, contributions_view, row_list_view};
+ghost use Rattle.mpf_plan.specs.Numbering.{with_name, IsNameTableOf, AreNameTablesOf, bindings_given, IsCount, HoldGivenNames, HasFound, Numbered};
 
 use crate::collect::{Row, collect_row, machine_place};
 use crate::contribution::{Contribution, Parts, given, used, write_name};
@@ -29,7 +29,7 @@ impl NameSets {
 
 /// The names of the rows, by number, where the plan is within its limits.
 pub(crate) fn number(alloc: Global, rows: &[Row]) -> Result<NameSets, PlanFault>
-    ensures { Numbered (given_by (rows_view rows.now)) result }
+    ensures { Numbered (given_by (row_list_view rows.now)) result }
 {
     let hashing = hashing_of(alloc, rows)?;
     let lacking = lacks_name(alloc, hashing, rows)?;
@@ -112,7 +112,7 @@ fn is_above(found: &Found, table: Table) -> bool
 
 /// The names that the rows use, each table up to its limit, and how many bindings they give.
 fn find_names(alloc: Global, hashing: NameHashing, rows: &[Row]) -> Result<Found, AllocError>
-    ensures { IfOk result (HasFound (given_by (rows_view rows.now))) }
+    ensures { IfOk result (HasFound (given_by (row_list_view rows.now))) }
 {
     let mut found = Found {
         tables: no_names(alloc, hashing)?,
@@ -129,7 +129,7 @@ fn find_names(alloc: Global, hashing: NameHashing, rows: &[Row]) -> Result<Found
 
 fn no_names(alloc: Global, hashing: NameHashing) -> Result<Vec<NameTable>, AllocError>
     ensures count { IfOk result (λ tables. length tables.items ≡ length tables_in_order) }
-    ensures names { IfOk result (λ tables. HaveNames [] tables.items) }
+    ensures names { IfOk result (λ tables. AreNameTablesOf [] tables.items) }
 {
     let mut tables = Vec::new(alloc);
     for table in TABLES {
@@ -176,7 +176,7 @@ fn note_one(
 /// A name that is new goes last. Only then it is copied, and only up to the limit.
 fn note(alloc: Global, table: &mut NameTable, name: &[u8]) -> Result<(), AllocError>
     ensures limit { OnOk result (table.new.limit ≡ table.old.limit) }
-    ensures names { OnOk result ((all : List (List ℕ)) → HasNames all table.old → HasNames (with_name all name.now) table.new) }
+    ensures names { OnOk result ((all : List (List ℕ)) → IsNameTableOf all table.old → IsNameTableOf (with_name all name.now) table.new) }
 {
     if table.above {
         return Ok(());
@@ -212,7 +212,7 @@ fn count_binding(before: usize, contribution: &Contribution) -> usize
 
 /// Whether the rows use a name that nothing has.
 fn lacks_name(alloc: Global, hashing: NameHashing, rows: &[Row]) -> Result<bool, AllocError>
-    ensures { IfOk result (λ b. b ≡ lacks_name (given_by (rows_view rows.now))) }
+    ensures { IfOk result (λ b. b ≡ lacks_name (given_by (row_list_view rows.now))) }
 {
     let sets = given_names(alloc, hashing, rows)?;
     let mut text = Vec::new(alloc);
@@ -233,7 +233,7 @@ fn given_names(
     hashing: NameHashing,
     rows: &[Row],
 ) -> Result<Vec<NameSet>, AllocError>
-    ensures { IfOk result (λ sets. HaveGiven (given_by (rows_view rows.now)) sets.items) }
+    ensures { IfOk result (λ sets. HoldGivenNames (given_by (row_list_view rows.now)) sets.items) }
 {
     let mut sets = no_sets(alloc, hashing)?;
     let mut contributions = Vec::new(alloc);
@@ -245,7 +245,7 @@ fn given_names(
 }
 
 fn no_sets(alloc: Global, hashing: NameHashing) -> Result<Vec<NameSet>, AllocError>
-    ensures { IfOk result (λ sets. HaveGiven [] sets.items) }
+    ensures { IfOk result (λ sets. HoldGivenNames [] sets.items) }
 {
     let mut sets = Vec::new(alloc);
     for _table in TABLES {
@@ -261,7 +261,7 @@ fn note_given(
 ) -> Result<(), AllocError>
     requires { length sets.old.items ≡ length tables_in_order }
     ensures count { length sets.new.items ≡ length tables_in_order }
-    ensures names { OnOk result ((before : List ContributionValue) → HaveGiven before sets.old.items → HaveGiven (before ++ contributions_view contributions.now) sets.new.items) }
+    ensures names { OnOk result ((before : List ContributionValue) → HoldGivenNames before sets.old.items → HoldGivenNames (before ++ contributions_view contributions.now) sets.new.items) }
 {
     for contribution in contributions {
         if let Some((table, name)) = given(contribution) {
@@ -280,7 +280,7 @@ fn use_other(
     contributions: &[Contribution],
 ) -> Result<bool, AllocError>
     requires { length sets.now ≡ length tables_in_order }
-    ensures { IfOk result (λ b. (cs : List ContributionValue) → HaveGiven cs sets.now → b ≡ list_any (λ c. is_lacking (λ t. given_names t cs) (used c)) (contributions_view contributions.now)) }
+    ensures { IfOk result (λ b. (cs : List ContributionValue) → HoldGivenNames cs sets.now → b ≡ list_any (λ c. is_lacking (λ t. given_names t cs) (used c)) (contributions_view contributions.now)) }
 {
     for contribution in contributions {
         let lacking = is_other(sets, text, contribution)?;
@@ -298,7 +298,7 @@ fn is_other(
     contribution: &Contribution,
 ) -> Result<bool, AllocError>
     requires { length sets.now ≡ length tables_in_order }
-    ensures { IfOk result (λ b. (cs : List ContributionValue) → HaveGiven cs sets.now → b ≡ is_lacking (λ t. given_names t cs) (used (contribution_view contribution.now))) }
+    ensures { IfOk result (λ b. (cs : List ContributionValue) → HoldGivenNames cs sets.now → b ≡ is_lacking (λ t. given_names t cs) (used (contribution_view contribution.now))) }
 {
     let Some((table, name)) = used(contribution) else {
         return Ok(false);

@@ -36,7 +36,7 @@ impl Model for Plan {
 
 impl Plan {
     ghost use Rattle.std.specs.Prelude.{◌≡◌, ◌<◌, length, slice_get, Contains, IfSome, IfNone};
-    ghost use Rattle.mpf_plan.specs.PlanView.{name_of_event, event_named, switch_at, switch_named, posts_of, list_at, places_of};
+    ghost use Rattle.mpf_plan.specs.PlanView.{name_of_event, event_named, switch_at, switch_named, posts_of, actions_at, places_of};
     ghost use Rattle.mpf_plan.specs.declared.fault.Table.TheVariants.{Switches};
     ghost use Rattle.mpf_plan.specs.Inside.{name_sets_view, draft_view, HasPlaces};
     ghost use Rattle.mpf_plan.specs.Valid.{IsValid};
@@ -148,7 +148,7 @@ impl Plan {
     /// The actions of an effect list of the plan, in order.
     pub fn list(&self, list: ListId) -> &[Action]
         requires { list.0 < length self.now.lists }
-        ensures actions { result.now ≡ list_at self.now list }
+        ensures actions { result.now ≡ actions_at self.now list }
         ensures valid { IsValid self.now }
     {
         self.lists[list.0 as usize].as_slice()

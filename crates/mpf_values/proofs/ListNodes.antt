@@ -8,7 +8,7 @@ use Rattle.yaml_subset.specs.Node.{Node, scalar, sequence, mapping, list_nodes}
 use Rattle.yaml_subset.specs.View.{line_of, text_in, node_view}
 use Rattle.mpf_values.specs.declared.fault.ListFault.{ListFault}
 use Rattle.mpf_values.specs.declared.fault.ListFault.TheVariants as faults
-use Rattle.mpf_values.specs.Lists.{Item, item_at, has_text, scalar_of, IsList}
+use Rattle.mpf_values.specs.Lists.{Item, item_at, has_text, scalar_node, IsList}
 use Rattle.mpf_values.specs.Reading.{◌>>=◌, items_of, scalar_at, onto_list, scalars_at, list_at}
 use Rattle.mpf_values.specs.View.{GivesList}
 use Rattle.mpf_values.proofs.Steps.{bind_some}
@@ -22,11 +22,11 @@ onto_filter item items = refl
 -- the scalars that nodes are
 record Scalars (nodes : List Node) (items : List Item) : Type 0 where
   scalars : List Item
-  are : nodes ≡ map scalar_of scalars
+  are : nodes ≡ map scalar_node scalars
   kept : items ≡ filter has_text scalars
 
-scalar_sound : (node : Node) (item : Item) → scalar_at node ≡ Some item → node ≡ scalar_of item
-scalar_sound (scalar line text) item e = ap scalar_of (same_Some (item_at line text) item e)
+scalar_sound : (node : Node) (item : Item) → scalar_at node ≡ Some item → node ≡ scalar_node item
+scalar_sound (scalar line text) item e = ap scalar_node (same_Some (item_at line text) item e)
 scalar_sound (sequence line nodes) item e = absurd (none-some item e)
 scalar_sound (mapping line pairs) item e = absurd (none-some item e)
 
@@ -39,11 +39,11 @@ scalars_sound (node ∷ nodes) items e =
     let s = scalars_sound nodes b.0 b.1 in
     record {
       scalars = a.0 ∷ s.scalars;
-      are = ap (λ (n : Node). n ∷ nodes) (scalar_sound node a.0 a.1) ∙ ap (λ (ns : List Node). scalar_of a.0 ∷ ns) s.are;
+      are = ap (λ (n : Node). n ∷ nodes) (scalar_sound node a.0 a.1) ∙ ap (λ (ns : List Node). scalar_node a.0 ∷ ns) s.are;
       kept = sym (same_Some (onto_list a.0 b.0) items b.2) ∙ ap (onto_list a.0) s.kept ∙ onto_filter a.0 s.scalars;
     }
 
-scalars_complete : (scalars : List Item) → scalars_at (map scalar_of scalars) ≡ Some (filter has_text scalars)
+scalars_complete : (scalars : List Item) → scalars_at (map scalar_node scalars) ≡ Some (filter has_text scalars)
 unfolding scalars_at
 scalars_complete [] = refl
 scalars_complete (item ∷ items) = rw (scalars_complete items) (ap (λ (is : List Item). Some is) (onto_filter item items))

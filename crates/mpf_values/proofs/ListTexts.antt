@@ -4,7 +4,7 @@ use Rattle.std.proofs.lemmas.Bool.{eqb-true, and_parts}
 use Rattle.yaml_bytes.specs.Plain.{Are}
 use Rattle.mpf_values.specs.Bytes.{is_separator}
 use Rattle.mpf_values.specs.Reading.{onto_items, onto_item, items_from, items_of}
-use Rattle.mpf_values.specs.ListText.{open_after, open_behind, ends_item, IsItem, EndsBefore, IsListText}
+use Rattle.mpf_values.specs.ListText.{open_after, open_behind, ends_item, IsItemText, EndsBefore, IsListText}
 use Rattle.mpf_values.proofs.ListItems.{opens_none, separator_step, ends_step}
 
 -- no byte is a separator outside braces, where so many are open before
@@ -53,7 +53,7 @@ record Cut (n : ℕ) (text item : List ℕ) (items : List (List ℕ)) : Type 0 w
 from_cut : (text item : List ℕ) (items : List (List ℕ)) → Cut 0 text item items → IsListText text (onto_items item items)
 from_cut text [] items h = subst (λ xs. IsListText xs items) (sym h.parts) h.list
 from_cut text (b ∷ item) items h =
-    let is_item : IsItem (b ∷ item) = record { some = λ e. cc; whole = λ front rest c e. whole_at 0 (b ∷ item) front rest c h.whole e } in
+    let is_item : IsItemText (b ∷ item) = record { some = λ e. cc; whole = λ front rest c e. whole_at 0 (b ∷ item) front rest c h.whole e } in
     ([], h.behind, h.parts, tt, is_item, ends_before (b ∷ item) h.behind h.ends, h.list)
 
 -- a separator in front of a list text
@@ -97,7 +97,7 @@ piece_of n [] [] w e = refl
 piece_of n [] (b ∷ behind) w e = rw e (ap (λ (items : List (List ℕ)). ([], items)) (ends_step n b behind e))
 piece_of n (b ∷ item) behind w e = rw (w.0, piece_of (open_after n b) item behind w.1 e) refl
 
-item_in_front : (item behind : List ℕ) → IsItem item → EndsBefore item behind → items_of (item ++ behind) ≡ item ∷ items_of behind
+item_in_front : (item behind : List ℕ) → IsItemText item → EndsBefore item behind → items_of (item ++ behind) ≡ item ∷ items_of behind
 unfolding items_of
 item_in_front [] behind h e = absurd (h.some refl)
 item_in_front (b ∷ item) behind h e = rw (piece_of 0 (b ∷ item) behind (whole_from 0 (b ∷ item) h.whole) (ends_from (b ∷ item) behind e)) refl

@@ -2,7 +2,7 @@
 use Rattle.std.proofs.Common.{◌≡◌, ℕ, ◌<◌, ◌^◌, Bool, true, false, cond, ltb, Option, Some, None, refl, ◌⊎◌, inl, inr}
 use Rattle.std.proofs.lemmas.Bool.{ltb-true, lt-ltb}
 use Rattle.std.proofs.lemmas.Option.{cond_some}
-use Rattle.mpf_values.specs.Reading.{◌>>=◌, fitting}
+use Rattle.mpf_values.specs.Reading.{◌>>=◌, within_64_bits}
 
 pub bind_some : {A B : Type 0} (r : Option A) (f : A → Option B) (y : B) → (r >>= f) ≡ Some y → (x : A) × (r ≡ Some x) × (f x ≡ Some y)
 bind_some (Some x) f y e = (x, refl, e)
@@ -20,8 +20,8 @@ pub chosen : {A : Type 0} (b : Bool) (x y z : A) → cond b x y ≡ z → ((b �
 chosen true x y z e = inl (refl, e)
 chosen false x y z e = inr (refl, e)
 
-pub fitting_some : (n m : ℕ) → fitting n ≡ Some m → (n ≡ m) × (n < 2 ^ 64)
-fitting_some n m e = let h = cond_some (ltb n (2 ^ 64)) n m e in (h.1, ltb-true n (2 ^ 64) h.0)
+pub within_64_bits-some : (n m : ℕ) → within_64_bits n ≡ Some m → (n ≡ m) × (n < 2 ^ 64)
+within_64_bits-some n m e = let h = cond_some (ltb n (2 ^ 64)) n m e in (h.1, ltb-true n (2 ^ 64) h.0)
 
-pub fitting_is : (n : ℕ) → n < 2 ^ 64 → fitting n ≡ Some n
-fitting_is n h = rw (lt-ltb n (2 ^ 64) h) refl
+pub within_64_bits-is : (n : ℕ) → n < 2 ^ 64 → within_64_bits n ≡ Some n
+within_64_bits-is n h = rw (lt-ltb n (2 ^ 64) h) refl

@@ -7,8 +7,8 @@ use Rattle.std.proofs.lemmas.Bool.{or_parts, eqb-true, eq-eqb, not-false, ltb-fa
 use Rattle.std.proofs.lemmas.Option.{same_Some}
 use Rattle.std.proofs.lemmas.Slice.Eq.{bytes_eq-Decides}
 use Rattle.mpf_values.specs.Times.{IsUnit, bare, milliseconds, seconds, minutes, hours, days, IsTime}
-use Rattle.mpf_values.specs.Reading.{◌>>=◌, front, behind, fitting, decimal_at, unit_at, whole_at, time_at}
-use Rattle.mpf_values.proofs.Steps.{bind_some, guard_true, guard_false, chosen, fitting_some, fitting_is}
+use Rattle.mpf_values.specs.Reading.{◌>>=◌, front, behind, within_64_bits, decimal_at, unit_at, whole_at, time_at}
+use Rattle.mpf_values.proofs.Steps.{bind_some, guard_true, guard_false, chosen, within_64_bits-some, within_64_bits-is}
 use Rattle.mpf_values.proofs.Fronts.{begins, behind_is, begins_behind, parts, are_front}
 use Rattle.mpf_values.proofs.ByteKinds.{no_blank}
 use Rattle.mpf_values.proofs.WrittenNumbers.{decimal_sound, Ends, decimal_complete}
@@ -102,11 +102,11 @@ whole_complete ms below =
 time_sound : (text : List ℕ) (ms : ℕ) → time_at text ≡ Some ms → IsTime text ms
 unfolding time_at
 time_sound text ms e =
-    let a = bind_some (decimal_at text) (λ d. unit_at (behind is_blank d.1) >>= λ unit. fitting (d.0.thousandths * unit) >>= λ product. whole_at product) ms e in
+    let a = bind_some (decimal_at text) (λ d. unit_at (behind is_blank d.1) >>= λ unit. within_64_bits (d.0.thousandths * unit) >>= λ product. whole_at product) ms e in
     let f = decimal_sound text a.0 a.1 in
     let rest = a.0.1 in
-    let b = bind_some (unit_at (behind is_blank rest)) (λ unit. fitting (a.0.0.thousandths * unit) >>= λ product. whole_at product) ms a.2 in
-    let c = bind_some (fitting (a.0.0.thousandths * b.0)) (λ product. whole_at product) ms b.2 in
+    let b = bind_some (unit_at (behind is_blank rest)) (λ unit. within_64_bits (a.0.0.thousandths * unit) >>= λ product. whole_at product) ms a.2 in
+    let c = bind_some (within_64_bits (a.0.0.thousandths * b.0)) (λ product. whole_at product) ms b.2 in
     let w = whole_sound c.0 ms c.2 in
     record {
       number = f.number;
@@ -119,7 +119,7 @@ time_sound text ms e =
       are_blank = are_front is_blank rest;
       each = b.0;
       is_unit = unit_sound (behind is_blank rest) b.0 b.1;
-      value = w.0 ∙ sym (fitting_some (a.0.0.thousandths * b.0) c.0 c.1).0;
+      value = w.0 ∙ sym (within_64_bits-some (a.0.0.thousandths * b.0) c.0 c.1).0;
       below = w.1;
     }
 
@@ -138,7 +138,7 @@ time_complete text ms h =
     let fits : h.thousandths < 2 ^ 64 = omega arith in
     let product : h.thousandths * h.each < 2 ^ 64 = omega arith in
     let number = decimal_complete h.number rest h.thousandths h.places h.is_number fits ends in
-    rw (h.parts, number, behind_is is_blank h.blanks h.unit h.are_blank none.blank, unit_complete h.is_unit, fitting_is (h.thousandths * h.each) product, ← h.value) (whole_complete ms h.below)
+    rw (h.parts, number, behind_is is_blank h.blanks h.unit h.are_blank none.blank, unit_complete h.is_unit, within_64_bits-is (h.thousandths * h.each) product, ← h.value) (whole_complete ms h.below)
 
 pub time_computes : (text : List ℕ) → Computes (time_at text) (IsTime text)
 time_computes text = record { sound = time_sound text; complete = time_complete text }

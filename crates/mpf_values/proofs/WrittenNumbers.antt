@@ -9,8 +9,8 @@ use Rattle.mpf_values.specs.declared.decimals.Decimal.{Decimal}
 use Rattle.yaml_bytes.specs.Plain.{Are}
 use Rattle.yaml_bytes.specs.Numbers.{AreDigits}
 use Rattle.mpf_values.specs.Numbers.{decimal_text, IsDecimal}
-use Rattle.mpf_values.specs.Reading.{◌>>=◌, front, behind, fitting, worth_of, fraction_at, decimal_from, decimal_at}
-use Rattle.mpf_values.proofs.Steps.{bind_some, guard_true, chosen, fitting_some, fitting_is}
+use Rattle.mpf_values.specs.Reading.{◌>>=◌, front, behind, within_64_bits, worth_of, fraction_at, decimal_from, decimal_at}
+use Rattle.mpf_values.proofs.Steps.{bind_some, guard_true, chosen, within_64_bits-some, within_64_bits-is}
 use Rattle.mpf_values.proofs.Fronts.{begins, parts, front_is, behind_is}
 
 -- ---- decimals
@@ -44,17 +44,17 @@ record Fraction (decimals : List ℕ) (f : ℕ) : Type 0 where
 fraction_sound : (decimals : List ℕ) (f : ℕ) → fraction_at decimals ≡ Some f → Fraction decimals f
 unfolding fraction_at
 fraction_sound decimals f e =
-    let a = bind_some (worth_of (length decimals)) (λ worth. number_at decimals >>= λ n. fitting (n * worth)) f e in
+    let a = bind_some (worth_of (length decimals)) (λ worth. number_at decimals >>= λ n. within_64_bits (n * worth)) f e in
     let w = worth_sound (length decimals) a.0 a.1 in
-    let b = bind_some (number_at decimals) (λ n. fitting (n * a.0)) f a.2 in
+    let b = bind_some (number_at decimals) (λ n. within_64_bits (n * a.0)) f a.2 in
     let d = number_sound decimals b.0 b.1 in
-    record { digits = d.digits; few = w.1; value = sym (fitting_some (b.0 * a.0) f b.2).0 ∙ rw (← d.value, w.2) refl }
+    record { digits = d.digits; few = w.1; value = sym (within_64_bits-some (b.0 * a.0) f b.2).0 ∙ rw (← d.value, w.2) refl }
 
 fraction_complete : (decimals : List ℕ) → AreDigits decimals → length decimals ≤ 3 → value_of_digits decimals < 2 ^ 64 → value_of_digits decimals * 10 ^ (3 - length decimals) < 2 ^ 64
     → fraction_at decimals ≡ Some (value_of_digits decimals * 10 ^ (3 - length decimals))
 unfolding fraction_at
 fraction_complete decimals h few fits product =
-    rw (worth_complete (length decimals) h.some few, number_complete decimals (value_of_digits decimals) (record { digits = h; value = refl; fits = fits }), fitting_is (value_of_digits decimals * 10 ^ (3 - length decimals)) product) refl
+    rw (worth_complete (length decimals) h.some few, number_complete decimals (value_of_digits decimals) (record { digits = h; value = refl; fits = fits }), within_64_bits-is (value_of_digits decimals * 10 ^ (3 - length decimals)) product) refl
 
 -- a number at the front of a text
 pub record Front (text : List ℕ) (d : Decimal) (rest : List ℕ) : Type 0 where
@@ -102,13 +102,13 @@ from_sound digits (b ∷ bs) n r h value e =
     let decimals = front is_ascii_digit bs in
     let rest = behind is_ascii_digit bs in
     let last : ℕ → Option (Decimal × List ℕ) = λ (m : ℕ). Some (record { thousandths = m; places = length decimals }, rest) in
-    elim (chosen (eqb b 46) (fraction_at decimals >>= λ f. fitting (n + f) >>= last) (Some (record { thousandths = n; places = 0 }, b ∷ bs)) (Some r) e) [
+    elim (chosen (eqb b 46) (fraction_at decimals >>= λ f. within_64_bits (n + f) >>= last) (Some (record { thousandths = n; places = 0 }, b ∷ bs)) (Some r) e) [
       | inl a ↦
-          let f = bind_some (fraction_at decimals) (λ f. fitting (n + f) >>= last) r a.1 in
+          let f = bind_some (fraction_at decimals) (λ f. within_64_bits (n + f) >>= last) r a.1 in
           let k = fraction_sound decimals f.0 f.1 in
-          let m = bind_some (fitting (n + f.0)) last r f.2 in
+          let m = bind_some (within_64_bits (n + f.0)) last r f.2 in
           let point : b ≡ 46 = eqb-true b 46 a.0 in
-          let found : at_front (digits ++ b ∷ bs) (record { thousandths = m.0; places = length decimals }, rest) = point_front digits b bs n f.0 m.0 h value point k (fitting_some (n + f.0) m.0 m.1).0 in
+          let found : at_front (digits ++ b ∷ bs) (record { thousandths = m.0; places = length decimals }, rest) = point_front digits b bs n f.0 m.0 h value point k (within_64_bits-some (n + f.0) m.0 m.1).0 in
           subst (at_front (digits ++ b ∷ bs)) (same_Some (record { thousandths = m.0; places = length decimals }, rest) r m.2) found
       | inr c ↦ subst (at_front (digits ++ b ∷ bs)) (same_Some (record { thousandths = n; places = 0 }, b ∷ bs) r c.1) (plain_front digits (b ∷ bs) n h value)
     ]
@@ -118,10 +118,10 @@ unfolding decimal_at
 decimal_sound text r e =
     let digits = front is_ascii_digit text in
     let rest = behind is_ascii_digit text in
-    let a = bind_some (number_at digits) (λ n. fitting (n * 1000) >>= λ whole. decimal_from whole rest) r e in
+    let a = bind_some (number_at digits) (λ n. within_64_bits (n * 1000) >>= λ whole. decimal_from whole rest) r e in
     let d = number_sound digits a.0 a.1 in
-    let b = bind_some (fitting (a.0 * 1000)) (λ whole. decimal_from whole rest) r a.2 in
-    let value : b.0 ≡ value_of_digits digits * 1000 = sym (fitting_some (a.0 * 1000) b.0 b.1).0 ∙ rw (← d.value) refl in
+    let b = bind_some (within_64_bits (a.0 * 1000)) (λ whole. decimal_from whole rest) r a.2 in
+    let value : b.0 ≡ value_of_digits digits * 1000 = sym (within_64_bits-some (a.0 * 1000) b.0 b.1).0 ∙ rw (← d.value) refl in
     subst (λ whole. Front whole r.0 r.1) (parts is_ascii_digit text) (from_sound digits rest b.0 r d.digits value b.2)
 
 -- a number ends before what follows: no digit comes, and no point
@@ -139,7 +139,7 @@ unfolding decimal_at
 plain_complete whole rest n h value fits ends =
     let small : value_of_digits whole < 2 ^ 64 = omega arith in
     let product : value_of_digits whole * 1000 < 2 ^ 64 = omega arith in
-    rw (front_is is_ascii_digit whole rest h.each ends.digit, behind_is is_ascii_digit whole rest h.each ends.digit, number_complete whole (value_of_digits whole) (record { digits = h; value = refl; fits = small }), fitting_is (value_of_digits whole * 1000) product, ← value)
+    rw (front_is is_ascii_digit whole rest h.each ends.digit, behind_is is_ascii_digit whole rest h.each ends.digit, number_complete whole (value_of_digits whole) (record { digits = h; value = refl; fits = small }), within_64_bits-is (value_of_digits whole * 1000) product, ← value)
     (from_plain n rest ends)
 
 not_less : (n k : ℕ) → k ≤ 2 → n ≤ n * 10 ^ k
@@ -157,7 +157,7 @@ from_point whole n decimals rest h few value fits ends =
     let small : value_of_digits decimals < 2 ^ 64 = omega arith in
     let sum : whole + value_of_digits decimals * 10 ^ (3 - length decimals) < 2 ^ 64 = omega arith in
     rw (front_is is_ascii_digit decimals rest h.each ends.digit, behind_is is_ascii_digit decimals rest h.each ends.digit, fraction_complete decimals h few small product)
-    (rw (fitting_is (whole + value_of_digits decimals * 10 ^ (3 - length decimals)) sum, ← value) refl)
+    (rw (within_64_bits-is (whole + value_of_digits decimals * 10 ^ (3 - length decimals)) sum, ← value) refl)
 
 point_complete : (whole decimals rest : List ℕ) (n : ℕ) → AreDigits whole → AreDigits decimals → length decimals ≤ 3
     → n ≡ value_of_digits whole * 1000 + value_of_digits decimals * 10 ^ (3 - length decimals) → n < 2 ^ 64 → Ends rest
@@ -167,7 +167,7 @@ point_complete whole decimals rest n h d few value fits ends =
     let behind_whole : List ℕ = 46 ∷ (decimals ++ rest) in
     let small : value_of_digits whole < 2 ^ 64 = omega arith in
     let product : value_of_digits whole * 1000 < 2 ^ 64 = omega arith in
-    rw (front_is is_ascii_digit whole behind_whole h.each refl, behind_is is_ascii_digit whole behind_whole h.each refl, number_complete whole (value_of_digits whole) (record { digits = h; value = refl; fits = small }), fitting_is (value_of_digits whole * 1000) product)
+    rw (front_is is_ascii_digit whole behind_whole h.each refl, behind_is is_ascii_digit whole behind_whole h.each refl, number_complete whole (value_of_digits whole) (record { digits = h; value = refl; fits = small }), within_64_bits-is (value_of_digits whole * 1000) product)
     (from_point (value_of_digits whole * 1000) n decimals rest d few value fits ends)
 
 written_complete : (whole decimals rest : List ℕ) (n places : ℕ) → AreDigits whole → Are is_ascii_digit decimals → length decimals ≡ places → places ≤ 3

@@ -5,9 +5,6 @@ use Rattle.mpf_values.specs.declared.decimals.Decimal.{Decimal}
 use Rattle.mpf_values.specs.declared.handled.Comparison.{Comparison}
 use Rattle.mpf_values.specs.Reading.{items_of}
 
-abbrev pub rest_view : Bor (List ℕ) → List ℕ
-rest_view rest = rest.now
-
 abbrev pub decimal_view : Decimal × Bor (List ℕ) → Decimal × List ℕ
 decimal_view d = (d.0, d.1.now)
 

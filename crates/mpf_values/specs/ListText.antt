@@ -17,7 +17,7 @@ abbrev pub ends_item : ℕ → ℕ → Bool
 ends_item open_braces b = (open_braces == 0) && is_separator b
 
 -- some bytes, none of which is a separator outside braces
-pub record IsItem (item : List ℕ) : Type 0 where
+pub record IsItemText (item : List ℕ) : Type 0 where
   pub some : item ≢ []
   pub whole : (front rest : List ℕ) (b : ℕ) → item ≡ front ++ b ∷ rest → ends_item (open_behind 0 front) b ≡ false
 
@@ -30,4 +30,4 @@ EndsBefore item (b ∷ behind) = ends_item (open_behind 0 item) b ≡ true
 abbrev pub IsListText : List ℕ → List (List ℕ) → Type 0
 IsListText text [] = Are is_separator text
 IsListText text (item ∷ items) =
-    (before : List ℕ) × (behind : List ℕ) × (text ≡ before ++ (item ++ behind)) × Are is_separator before × IsItem item × EndsBefore item behind × IsListText behind items
+    (before : List ℕ) × (behind : List ℕ) × (text ≡ before ++ (item ++ behind)) × Are is_separator before × IsItemText item × EndsBefore item behind × IsListText behind items

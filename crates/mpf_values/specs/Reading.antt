@@ -31,8 +31,8 @@ behind p text = drop (prefix_len p text) text
 -- ---- numbers
 
 -- a number that fits 64 bits
-abbrev pub fitting : ℕ → Option ℕ
-fitting n = if nat_lt n (2 ^ 64) then Some n else None
+abbrev pub within_64_bits : ℕ → Option ℕ
+within_64_bits n = if nat_lt n (2 ^ 64) then Some n else None
 
 -- how many thousandths the last of so many decimals is worth
 abbrev pub worth_of : ℕ → Option ℕ
@@ -40,20 +40,20 @@ worth_of places = if places == 1 then Some 100 else (if places == 2 then Some 10
 
 -- the thousandths that decimals are
 unfoldable pub fraction_at : List ℕ → Option ℕ
-fraction_at decimals = worth_of (length decimals) >>= λ worth. number_at decimals >>= λ n. fitting (n * worth)
+fraction_at decimals = worth_of (length decimals) >>= λ worth. number_at decimals >>= λ n. within_64_bits (n * worth)
 
 -- a number of so many thousandths with the decimals after its point, where it has one
 abbrev pub decimal_from : ℕ → List ℕ → Option (Decimal × List ℕ)
 decimal_from whole [] = Some (record { thousandths = whole; places = 0 }, [])
 decimal_from whole (b ∷ bs) =
     if b == 46
-    then (fraction_at (front is_ascii_digit bs) >>= λ fraction. fitting (whole + fraction)
+    then (fraction_at (front is_ascii_digit bs) >>= λ fraction. within_64_bits (whole + fraction)
     >>= λ n. Some (record { thousandths = n; places = length (front is_ascii_digit bs) }, behind is_ascii_digit bs))
     else Some (record { thousandths = whole; places = 0 }, b ∷ bs)
 
 -- the number at the front, and what comes after it
 unfoldable pub decimal_at : List ℕ → Option (Decimal × List ℕ)
-decimal_at text = number_at (front is_ascii_digit text) >>= λ n. fitting (n * 1000) >>= λ whole. decimal_from whole (behind is_ascii_digit text)
+decimal_at text = number_at (front is_ascii_digit text) >>= λ n. within_64_bits (n * 1000) >>= λ whole. decimal_from whole (behind is_ascii_digit text)
 
 -- ---- booleans
 
@@ -91,7 +91,7 @@ abbrev pub whole_at : ℕ → Option ℕ
 whole_at product = if not (product % 1000 == 0) || nat_lt (2 ^ 32 - 1) (product / 1000) then None else Some (product / 1000)
 
 unfoldable pub time_at : List ℕ → Option ℕ
-time_at text = decimal_at text >>= λ d. unit_at (behind_blanks d.1) >>= λ unit. fitting (d.0.thousandths * unit) >>= λ product. whole_at product
+time_at text = decimal_at text >>= λ d. unit_at (behind_blanks d.1) >>= λ unit. within_64_bits (d.0.thousandths * unit) >>= λ product. whole_at product
 
 -- ---- powers
 

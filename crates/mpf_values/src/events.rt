@@ -4,7 +4,8 @@ ghost use Rattle.std.specs.Prelude.{◌≡◌, IfOk, IfErr};
 ghost use Rattle.mpf_values.specs.Events.{Event as Handled, IsEvent};
 ghost use Rattle.mpf_values.specs.Reading.{behind_word, variable_at, operator_at, comparison_at, last_integer_at, condition_at, event_at};
 ghost use Rattle.mpf_values.specs.View.{Gives, condition_view, event_view};
-ghost use Rattle.mpf_values.specs.Inside.{rest_view, slices_view, compared_view};
+ghost use Rattle.yaml_bytes.specs.View.{rest_view};
+ghost use Rattle.mpf_values.specs.Inside.{slices_view, compared_view};
 
 use crate::bytes::{split_name, split_operator, split_value};
 use crate::fault::BadValue;

@@ -3,7 +3,7 @@ use Rattle.std.proofs.Common.{◌≡◌, ℕ, suc, ◌<◌, ◌≤◌, ◌^◌, 
 use Rattle.mpf_plan.specs.PlanView.{PlanView}
 use Rattle.config_checker.specs.declared.line.Line.{Line}
 use Rattle.config_checker.specs.Machine.{Machine}
-use Rattle.config_checker.specs.Run.{Source, IsNothingDueBy, IsNextAlarm, Stimulus, Alarm, IsAllowed, IsReached}
+use Rattle.config_checker.specs.Run.{Source, IsNoAlarmDueBy, IsNextAlarm, Stimulus, Alarm, IsAllowed, IsReached}
 use Rattle.config_checker.specs.NextAlarm.{is_due_by}
 use Rattle.config_checker.specs.AlarmsBy.{alarms_by, state_after}
 use Rattle.config_checker.specs.PlanOrder.{settled}
@@ -27,10 +27,10 @@ pub comes : (s : Machine) (until : ℕ) → is_due_by until s ≡ true → Comes
 comes s until due = let (at, source, next, by) = due-comes s until due in record { at = at; source = source; next = next; by = by }
 
 -- nothing is due by the moment, or an alarm comes
-pub cases_due : (s : Machine) (until : ℕ) → IsNothingDueBy s until ⊎ ComesBy s until
+pub cases_due : (s : Machine) (until : ℕ) → IsNoAlarmDueBy s until ⊎ ComesBy s until
 cases_due s until = go (is_due_by until s) refl
   where
-    go : (b : Bool) → is_due_by until s ≡ b → IsNothingDueBy s until ⊎ ComesBy s until
+    go : (b : Bool) → is_due_by until s ≡ b → IsNoAlarmDueBy s until ⊎ ComesBy s until
     go true is = inr (comes s until is)
     go false is = inl (not_due-nothing s until is)
 
@@ -47,11 +47,11 @@ alarm-taken rig until early a = allowed-judged rig inputs.Alarm (Alarm a.at a.so
 module _ (plan : PlanView) (bound until : ℕ) where
   -- so many alarms are all: after them nothing is due by the moment
   abbrev pub AreAll : ℕ → Machine → Type 0
-  AreAll fuel s = IsNothingDueBy (state_after plan bound (alarms_by plan bound until fuel s) s) until
+  AreAll fuel s = IsNoAlarmDueBy (state_after plan bound (alarms_by plan bound until fuel s) s) until
 
   -- with those that are left after the first
   pub all-next : (fuel : ℕ) (s : Machine) (a : ComesBy s until) → AreAll (suc fuel) s → AreAll fuel (settled plan bound (Alarm a.at a.source) s)
-  all-next k s a all = subst (λ (xs : List Stimulus). IsNothingDueBy (state_after plan bound xs s) until) (alarms_by-more plan bound until k s a.at a.source a.next a.by) all
+  all-next k s a all = subst (λ (xs : List Stimulus). IsNoAlarmDueBy (state_after plan bound xs s) until) (alarms_by-more plan bound until k s a.at a.source a.next a.by) all
 
   -- of all alarms that come the first is the next one, and one fewer is left after it
   module _ (trace : List Line) (s : Machine) (reached : IsReached plan trace s) (a : ComesBy s until) where

@@ -7,7 +7,7 @@ use Rattle.mpf_plan.specs.PlanView.{PlanView, switch_named}
 use Rattle.mpf_plan.specs.declared.entries.SwitchId.{SwitchId}
 use Rattle.config_checker.specs.declared.line.Line.{Line}
 use Rattle.config_checker.specs.Machine.{Machine, initial}
-use Rattle.config_checker.specs.Run.{Source, Stimulus, Change, Alarm, Wait, moment_of, IsNothingDueBy, IsAllowed, IsReached}
+use Rattle.config_checker.specs.Run.{Source, Stimulus, Change, Alarm, Wait, moment_of, IsNoAlarmDueBy, IsAllowed, IsReached}
 use Rattle.config_checker.specs.NextAlarm.{most_alarms}
 use Rattle.config_checker.specs.AlarmsBy.{alarms_by, state_after}
 use Rattle.config_checker.specs.CheckedView.{CheckedView}
@@ -74,7 +74,7 @@ module _ (plan : PlanView) (now : ℕ) where
   given-in_time (says.Change at name level) stimulus h = given-change at (switch_named plan name) level stimulus (named_within plan name) h
 
 -- in time, and nothing is due any more: it may come
-pub may_come : (plan : PlanView) (now : ℕ) (s : Machine) (stimulus : Stimulus) → IsGivenInTime plan now stimulus → s.moment ≤ moment_of stimulus → IsNothingDueBy s (moment_of stimulus) → IsAllowed plan s stimulus
+pub may_come : (plan : PlanView) (now : ℕ) (s : Machine) (stimulus : Stimulus) → IsGivenInTime plan now stimulus → s.moment ≤ moment_of stimulus → IsNoAlarmDueBy s (moment_of stimulus) → IsAllowed plan s stimulus
 may_come plan now s (Change at n level) (forward, early, within) ahead quiet = (record { forward = ahead; early = early; quiet = quiet }, within)
 may_come plan now s (Alarm at source) none ahead quiet = absurd none
 may_come plan now s (Wait at) (forward, early) ahead quiet = record { forward = ahead; early = early; quiet = quiet }
@@ -165,10 +165,10 @@ module _ (c : CheckedView) (accepted : IsAccepted c) where
   record IsRunUntil (until : ℕ) (given : List Stimulus) (trace : List Line) (s : Machine) (stimuli : List Stimulus) : Type 0 where
     alarm : Bool
     run : IsRunGiven given alarm (trace ++ trace_of c.plan c.bound stimuli s) (state_after c.plan c.bound stimuli s)
-    quiet : IsNothingDueBy (state_after c.plan c.bound stimuli s) until
+    quiet : IsNoAlarmDueBy (state_after c.plan c.bound stimuli s) until
     moment : (state_after c.plan c.bound stimuli s).moment ≤ until
 
-  run-none : (until : ℕ) (given : List Stimulus) (alarm : Bool) (trace : List Line) (s : Machine) → IsRunGiven given alarm trace s → s.moment ≤ until → IsNothingDueBy s until → IsRunUntil until given trace s []
+  run-none : (until : ℕ) (given : List Stimulus) (alarm : Bool) (trace : List Line) (s : Machine) → IsRunGiven given alarm trace s → s.moment ≤ until → IsNoAlarmDueBy s until → IsRunUntil until given trace s []
   run-none until given alarm trace s run early quiet = record {
     alarm = alarm;
     run = subst (λ (ls : List Line). IsRunGiven given alarm ls s) (sym (append-nil trace)) run;

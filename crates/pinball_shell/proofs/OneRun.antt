@@ -4,7 +4,7 @@ use Rattle.mpf_plan.specs.PlanView.{PlanView}
 use Rattle.config_checker.specs.declared.line.Line.{Line}
 use Rattle.config_checker.specs.Machine.{Machine, initial}
 use Rattle.config_checker.specs.EventStep.{EventSteps}
-use Rattle.config_checker.specs.Run.{Source, IsNothingDueBy, IsNothingLate, IsNextAlarm, Stimulus, Change, Alarm, Wait, moment_of, IsAllowed, begin, IsRun}
+use Rattle.config_checker.specs.Run.{Source, IsNoAlarmDueBy, IsNothingLate, IsNextAlarm, Stimulus, Change, Alarm, Wait, moment_of, IsAllowed, begin, IsRun}
 use Rattle.config_checker.proofs.Alarms.{moment-after, switches-steps, switches-same, source_due-same, not_late-after}
 use Rattle.config_checker.proofs.NextAlarms.{next-unique}
 use Rattle.pinball_shell.specs.RunGiven.{without_alarms, IsRunOfLog}
@@ -40,7 +40,7 @@ next-same s t e at other a b here there =
     ap (λ (moment : ℕ). Alarm moment a) one.0 ∙ ap (λ (source : Source). Alarm other source) one.1
 
 -- an alarm that comes before something that was given would have been due by its moment
-early_alarm : (s t : Machine) → s.switches ≡ t.switches → (at until : ℕ) (source : Source) → IsNextAlarm s at source → IsNothingDueBy t until → at ≤ until → ⊥
+early_alarm : (s t : Machine) → s.switches ≡ t.switches → (at until : ℕ) (source : Source) → IsNextAlarm s at source → IsNoAlarmDueBy t until → at ≤ until → ⊥
 early_alarm s t e at until source a quiet by =
     let after = quiet source at (sym (source_due-same s t e source) ∙ a.due) in
     omega (arith, after, by)

@@ -8,7 +8,7 @@ use Rattle.std.proofs.lemmas.List.Folds.{flat_map-map}
 use Rattle.mpf_plan.specs.PlanView.{PlanView}
 use Rattle.config_checker.specs.declared.line.Line.{Line}
 use Rattle.config_checker.specs.Machine.{Machine}
-use Rattle.config_checker.specs.Run.{IsNothingDueBy, Stimulus, Alarm, moment_of, IsReached}
+use Rattle.config_checker.specs.Run.{IsNoAlarmDueBy, Stimulus, Alarm, moment_of, IsReached}
 use Rattle.config_checker.specs.NextAlarm.{most_alarms}
 use Rattle.config_checker.specs.AlarmsBy.{state_after}
 use Rattle.config_checker.specs.PlanOrder.{settled}
@@ -88,7 +88,7 @@ module _ (plan : PlanView) (bound : ℕ) where
         }
 
   -- no alarm is due any more
-  pub alarms-stop : (until : ℕ) (old s : Machine) (a b : Option (List ℕ)) (all : List Stimulus) → AreAlarmsGoing until old s a b all → IsNothingDueBy s until → IsPlayed plan bound all old s a b
+  pub alarms-stop : (until : ℕ) (old s : Machine) (a b : Option (List ℕ)) (all : List Stimulus) → AreAlarmsGoing until old s a b all → IsNoAlarmDueBy s until → IsPlayed plan bound all old s a b
   alarms-stop until old s a b all h nothing =
       let over = alarms_by-none plan bound until (most_alarms plan until s) s nothing in
       let same : h.done ≡ all = sym (append-nil h.done) ∙ sym (ap (λ (xs : List Stimulus). h.done ++ xs) over) ∙ h.whole in

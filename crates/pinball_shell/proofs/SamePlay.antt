@@ -4,7 +4,7 @@ use Rattle.std.specs.Str.Lines.{lines}
 use Rattle.mpf_plan.specs.PlanView.{PlanView}
 use Rattle.config_checker.specs.declared.line.Line.{Line}
 use Rattle.config_checker.specs.Machine.{Machine, initial}
-use Rattle.config_checker.specs.Run.{Stimulus, Alarm, moment_of, IsNothingDueBy, IsAllowed, IsReached}
+use Rattle.config_checker.specs.Run.{Stimulus, Alarm, moment_of, IsNoAlarmDueBy, IsAllowed, IsReached}
 use Rattle.config_checker.specs.NextAlarm.{most_alarms}
 use Rattle.config_checker.specs.AlarmsBy.{alarms_by, state_after}
 use Rattle.config_checker.specs.CheckedView.{CheckedView}
@@ -53,7 +53,7 @@ module _ (plan : PlanView) (ws vs : List ℕ) (a b : ℕ) where
     -- and after them nothing is due by the moment
     record AreSameUntil (until : ℕ) (s : Machine) (stimuli others : List Stimulus) : Type 0 where
       are : AreSame s stimuli others
-      quiet : IsNothingDueBy (state_after plan a stimuli s) until
+      quiet : IsNoAlarmDueBy (state_after plan a stimuli s) until
       moment : (state_after plan a stimuli s).moment ≤ until
 
     same-more : (s : Machine) (first : Stimulus) (stimuli others : List Stimulus) → settled plan b first s ≡ settled plan a first s → AreSame (settled plan a first s) stimuli others → AreSame s (first ∷ stimuli) (first ∷ others)
@@ -64,7 +64,7 @@ module _ (plan : PlanView) (ws vs : List ℕ) (a b : ℕ) where
       reached = h.reached;
     }
 
-    same-none : (until : ℕ) (s : Machine) → Reached s → IsNothingDueBy s until → s.moment ≤ until → AreSameUntil until s [] []
+    same-none : (until : ℕ) (s : Machine) → Reached s → IsNoAlarmDueBy s until → s.moment ≤ until → AreSameUntil until s [] []
     same-none until s reached nothing before = record {
       are = record { same = refl; state = refl; printed = refl; reached = reached };
       quiet = nothing;

@@ -61,8 +61,8 @@ unfoldable pub asked_at : List Text → Option AskView
 asked_at words = asked_of (subcommand_of pinball_app words)
 
 -- the words are in order
-unfoldable pub is_taken : List Text → Bool
-is_taken words = takes pinball_app words
+unfoldable pub is_command_line : List Text → Bool
+is_command_line words = takes pinball_app words
 
 -- the text begins with a hyphen, as flags do
 abbrev pub begins_with_hyphen : List ℕ → Bool

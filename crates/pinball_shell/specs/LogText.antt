@@ -47,9 +47,9 @@ said_in (moment ∷ name ∷ level ∷ []) = change (moment_in moment) name (lev
 said_in other = Unreadable
 
 -- a line that is empty, or begins with `#`
-abbrev pub is_skipped : List ℕ → Bool
-is_skipped line = length line == 0 || slice_index line 0 == byte "#"
+abbrev pub says_nothing : List ℕ → Bool
+says_nothing line = length line == 0 || slice_index line 0 == byte "#"
 
 -- what a line says
 abbrev pub said : List ℕ → Said
-said line = if is_skipped line then Nothing else if has_outer_blank line then Unreadable else said_in (words line)
+said line = if says_nothing line then Nothing else if has_outer_blank line then Unreadable else said_in (words line)

@@ -9,7 +9,7 @@ use Rattle.pinball_shell.specs.declared.reply.Reply.{Reply as HeldReply}
 use Rattle.pinball_shell.specs.Reply.{RefusalView, unread, unfit, Answer, Reply}
 
 abbrev pub refusal_view : BundleRefusal → RefusalView
-refusal_view (refusals.Unread f) = unread (rows_views.fault_view f)
+refusal_view (refusals.Unread f) = unread (rows_views.rows_fault_view f)
 refusal_view (refusals.Unfit faults) = unfit (map checked_views.fault_view faults.items)
 
 abbrev pub answer_view : Result CheckedView BundleRefusal → Answer

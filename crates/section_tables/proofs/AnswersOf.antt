@@ -4,7 +4,7 @@ use Rattle.section_tables.specs.Reading.{IsReadOrLong}
 use Rattle.section_tables.specs.declared.fault.ConfigFault.{ConfigFault}
 use Rattle.section_tables.specs.declared.fault.ConfigFault.TheVariants as faults
 use Rattle.section_tables.specs.Rows.{RowsFault}
-use Rattle.section_tables.specs.View.{fault_view, GivesRows}
+use Rattle.section_tables.specs.View.{rows_fault_view, GivesRows}
 use Rattle.section_tables.proofs.Outcomes.{only_read}
 
 -- read gives what Is relates, at lists of 1,024 items
@@ -25,4 +25,4 @@ module _ {X Y : Type 0} (view : X → Y) (read : Result Y RowsFault) (Is : ℕ �
       → IfErr r (λ e. e ≢ faults.NoMemory → (longest : ℕ) (y : Y) → Is longest y → 1024 < longest)
   is_refused complete (Ok x) h = tt
   is_refused complete (Err faults.NoMemory) h = λ other. absurd (other refl)
-  is_refused complete (Err (faults.Bundle f)) h = λ _ longest y k. too_long (fault_view f) longest y h (complete longest y k)
+  is_refused complete (Err (faults.Bundle f)) h = λ _ longest y k. too_long (rows_fault_view f) longest y h (complete longest y k)

@@ -6,10 +6,10 @@ use Rattle.mpf_values.proofs.NameTexts.{IsName-from_is_name, is_name-from_IsName
 use Rattle.section_tables.specs.declared.fault.FaultKind.TheVariants.{BadValue}
 use Rattle.section_tables.specs.Rows.{Plain, Value, Entry, Player}
 use Rattle.section_tables.specs.Kinds.{Setting, PlayerKinds}
-use Rattle.section_tables.specs.Entries.{pairs_of, is_ignored, written_at}
+use Rattle.section_tables.specs.Entries.{pairs_below, is_ignored, written_at}
 use Rattle.section_tables.specs.Tables.{setting_key, setting_default, setting_lacks}
 use Rattle.section_tables.specs.EntryOf.{IsSetting, IsEntry, AreEntries, IsPlayer, ArePlayers}
-use Rattle.section_tables.specs.Reading.{IsReadOrLong, ◌>>=◌, Spot, fault_at, key_spot, expect, each_read, scalar_of, value_at, setting_at, values_at, entry_at, entries_at, player_at, players_at}
+use Rattle.section_tables.specs.Reading.{IsReadOrLong, ◌>>=◌, Spot, rows_fault_at, key_spot, expect, each_read, scalar_of, value_at, setting_at, values_at, entry_at, entries_at, player_at, players_at}
 use Rattle.section_tables.proofs.Steps.{bind_ok, guard_true, ok_is, expected}
 use Rattle.section_tables.proofs.Outcomes.{then_read, each_sound, each_complete}
 use Rattle.section_tables.proofs.ScalarTexts.{scalar_sound, scalar_complete}
@@ -28,15 +28,15 @@ pub entry_sound : (text : List ℕ) (table : List Setting) (p : Pair) (e : Entry
 unfolding entry_at
 entry_sound text table p e is =
     let spot = key_spot text p in
-    let a = guard_true (is_name p.key) (expect spot (pairs_of p.value) >>= λ pairs. values_at spot table pairs >>= λ row. Ok (entry_made p row)) (fault_at BadValue spot) e is in
-    let b = bind_ok (expect spot (pairs_of p.value)) (λ pairs. values_at spot table pairs >>= λ row. Ok (entry_made p row)) e a.1 in
+    let a = guard_true (is_name p.key) (expect spot (pairs_below p.value) >>= λ pairs. values_at spot table pairs >>= λ row. Ok (entry_made p row)) (rows_fault_at BadValue spot) e is in
+    let b = bind_ok (expect spot (pairs_below p.value)) (λ pairs. values_at spot table pairs >>= λ row. Ok (entry_made p row)) e a.1 in
     let c = bind_ok (values_at spot table b.0) (λ row. Ok (entry_made p row)) e b.2 in
     let s = row_sound setting_key setting_at (IsSetting 1024) is_ignored setting_sound setting_default setting_lacks spot table b.0 c.0 c.1 in
     subst (IsEntry 1024 table p) (ok_is (entry_made p c.0) e c.2)
     (record {
       is_name = IsName-from_is_name p.key a.0;
       name = refl;
-      row = record { pairs = b.0; has = expected spot (pairs_of p.value) b.0 b.1; overwritten = s.0; whole = s.1 };
+      row = record { pairs = b.0; has = expected spot (pairs_below p.value) b.0 b.1; overwritten = s.0; whole = s.1 };
     })
 
 pub entry_complete : (text : List ℕ) (table : List Setting) (p : Pair) (longest : ℕ) (e : Entry) → IsEntry longest table p e → IsReadOrLong longest (entry_at text table p) e
@@ -51,8 +51,8 @@ entry_complete text table p longest e h =
 pub entries_sound : (text : List ℕ) (table : List Setting) (p : Pair) (es : List Entry) → entries_at text table p ≡ Ok es → AreEntries 1024 table p es
 unfolding entries_at
 entries_sound text table p es e =
-    let a = bind_ok (expect (key_spot text p) (pairs_of p.value)) (λ pairs. each_read (entry_at text table) pairs) es e in
-    (a.0, expected (key_spot text p) (pairs_of p.value) a.0 a.1, each_sound (entry_at text table) (IsEntry 1024 table) (entry_sound text table) a.0 es a.2)
+    let a = bind_ok (expect (key_spot text p) (pairs_below p.value)) (λ pairs. each_read (entry_at text table) pairs) es e in
+    (a.0, expected (key_spot text p) (pairs_below p.value) a.0 a.1, each_sound (entry_at text table) (IsEntry 1024 table) (entry_sound text table) a.0 es a.2)
 
 pub entries_complete : (text : List ℕ) (table : List Setting) (p : Pair) (longest : ℕ) (es : List Entry) → AreEntries longest table p es → IsReadOrLong longest (entries_at text table p) es
 unfolding entries_at
@@ -84,8 +84,8 @@ player_complete text kinds p longest row h =
 pub players_sound : (text : List ℕ) (kinds : PlayerKinds) (p : Pair) (rows : List Player) → players_at text kinds p ≡ Ok rows → ArePlayers 1024 kinds p rows
 unfolding players_at
 players_sound text kinds p rows e =
-    let a = bind_ok (expect (key_spot text p) (pairs_of p.value)) (λ pairs. each_read (player_at text kinds) pairs) rows e in
-    (a.0, expected (key_spot text p) (pairs_of p.value) a.0 a.1, each_sound (player_at text kinds) (IsPlayer 1024 kinds) (player_sound text kinds) a.0 rows a.2)
+    let a = bind_ok (expect (key_spot text p) (pairs_below p.value)) (λ pairs. each_read (player_at text kinds) pairs) rows e in
+    (a.0, expected (key_spot text p) (pairs_below p.value) a.0 a.1, each_sound (player_at text kinds) (IsPlayer 1024 kinds) (player_sound text kinds) a.0 rows a.2)
 
 pub players_complete : (text : List ℕ) (kinds : PlayerKinds) (p : Pair) (longest : ℕ) (rows : List Player) → ArePlayers longest kinds p rows → IsReadOrLong longest (players_at text kinds p) rows
 unfolding players_at

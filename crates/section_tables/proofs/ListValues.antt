@@ -11,9 +11,9 @@ use Rattle.mpf_values.proofs.ListNodes.{list_sound, list_complete}
 use Rattle.section_tables.specs.declared.fault.FaultKind.TheVariants.{BadValue, Limit}
 use Rattle.section_tables.specs.Rows.{Written, Handled, Plain, RowsFault}
 use Rattle.section_tables.specs.Kinds.{Scalar, Bounds, fits}
-use Rattle.section_tables.specs.Entries.{nodes_of, written_at, handled_at}
+use Rattle.section_tables.specs.Entries.{nodes_below, written_at, handled_at}
 use Rattle.section_tables.specs.EntryOf.{IsPlain, AreListed, AreNodes, IsWritten, IsHandled}
-use Rattle.section_tables.specs.Reading.{IsReadOrLong, ◌>>=◌, Spot, fault_at, refused, expect, give, each_read, scalar_of, plain_at, name_at, handled_in, count_at, count_of, items_at, listed_at, list_nodes_at, nodes_at}
+use Rattle.section_tables.specs.Reading.{IsReadOrLong, ◌>>=◌, Spot, rows_fault_at, refused, expect, give, each_read, scalar_of, plain_at, written_in, handled_in, count_at, count_of, list_items_at, listed_at, list_nodes_at, nodes_at}
 use Rattle.section_tables.proofs.Steps.{bind_ok, guard_true, guard_false, ok_is, expected}
 use Rattle.section_tables.proofs.Outcomes.{then_read, each_sound, each_complete}
 use Rattle.section_tables.proofs.Counting.{count_few}
@@ -32,14 +32,14 @@ pub plain_complete : (longest : ℕ) (kind : Scalar) (spot : Spot) (node : Node)
 unfolding plain_at
 plain_complete longest kind spot node v h = inl (rw (h.1, scalar_complete kind (line_of node) h.0 v h.2) refl)
 
-pub name_sound : (spot : Spot) (item : Item) (w : Written) → name_at spot item ≡ Ok w → IsWritten item w
-unfolding name_at
+pub name_sound : (spot : Spot) (item : Item) (w : Written) → written_in spot item ≡ Ok w → IsWritten item w
+unfolding written_in
 name_sound spot item w e =
-    let a = guard_true (is_name item.text) (Ok (written_at item.line item.text)) (fault_at BadValue spot) w e in
+    let a = guard_true (is_name item.text) (Ok (written_at item.line item.text)) (rows_fault_at BadValue spot) w e in
     (IsName-from_is_name item.text a.0, sym (ok_is (written_at item.line item.text) w a.1))
 
-pub name_complete : (longest : ℕ) (spot : Spot) (item : Item) (w : Written) → IsWritten item w → IsReadOrLong longest (name_at spot item) w
-unfolding name_at
+pub name_complete : (longest : ℕ) (spot : Spot) (item : Item) (w : Written) → IsWritten item w → IsReadOrLong longest (written_in spot item) w
+unfolding written_in
 name_complete longest spot item w h = inl (rw (is_name-from_IsName item.text h.0, h.1) refl)
 
 pub handled_sound : (spot : Spot) (item : Item) (w : Handled) → handled_in spot item ≡ Ok w → IsHandled item w
@@ -57,8 +57,8 @@ handled_complete longest spot item w h = inl (rw ((event_computes item.text).com
 count_sound : (bounds : Bounds) (spot : Spot) (n : ℕ) (u : Unit {0}) → count_at bounds spot n ≡ Ok u → (n ≤ 1024) × (fits bounds n ≡ true)
 unfolding count_at
 count_sound bounds spot n u e =
-    let a = guard_false (nat_lt 1024 n) (if fits bounds n then Ok tt else refused BadValue spot) (fault_at Limit spot) u e in
-    let b = guard_true (fits bounds n) (Ok tt) (fault_at BadValue spot) u a.1 in
+    let a = guard_false (nat_lt 1024 n) (if fits bounds n then Ok tt else refused BadValue spot) (rows_fault_at Limit spot) u e in
+    let b = guard_true (fits bounds n) (Ok tt) (rows_fault_at BadValue spot) u a.1 in
     (ltb-false 1024 n a.0, b.0)
 
 count_by : (longest : ℕ) (bounds : Bounds) (spot : Spot) (n : ℕ) → n ≤ longest → fits bounds n ≡ true → (long : Bool) → nat_lt 1024 n ≡ long → IsReadOrLong longest (count_at bounds spot n) tt
@@ -89,24 +89,24 @@ module _ {A : Type 0} (bounds : Bounds) (spot : Spot) (o : Option (List A)) wher
 module _ {B : Type 0} (f : Spot → Item → Result B RowsFault) (IsOne : Item → B → Type 0) where
   pub listed_sound : ((spot : Spot) (item : Item) (y : B) → f spot item ≡ Ok y → IsOne item y) → (bounds : Bounds) (spot : Spot) (node : Node) (ys : List B)
       → listed_at f bounds spot node ≡ Ok ys → AreListed IsOne bounds 1024 node ys
-  unfolding items_at
+  unfolding list_items_at
   listed_sound sound bounds spot node ys e =
-      let a = bind_ok (items_at bounds spot node) (each_read (f spot)) ys e in
-      let g = guard_false (nat_lt 1024 (count_of (items_in node))) (counted bounds spot (list_at node)) (fault_at Limit spot) a.0 a.1 in
+      let a = bind_ok (list_items_at bounds spot node) (each_read (f spot)) ys e in
+      let g = guard_false (nat_lt 1024 (count_of (items_in node))) (counted bounds spot (list_at node)) (rows_fault_at Limit spot) a.0 a.1 in
       let k = counted_sound bounds spot (list_at node) a.0 g.1 in
       record { items = a.0; list = list_sound node a.0 k.0; few = k.1; fit = k.2; each = each_sound (f spot) IsOne (sound spot) a.0 ys a.2 }
 
   pub listed_complete : (longest : ℕ) → ((spot : Spot) (item : Item) (y : B) → IsOne item y → IsReadOrLong longest (f spot item) y)
       → (bounds : Bounds) (spot : Spot) (node : Node) (ys : List B) → AreListed IsOne bounds longest node ys → IsReadOrLong longest (listed_at f bounds spot node) ys
-  unfolding items_at
+  unfolding list_items_at
   listed_complete longest complete bounds spot node ys h =
-      then_read longest (items_at bounds spot node) (each_read (f spot)) h.items ys (by (nat_lt 1024 (count_of (items_in node))) refl)
+      then_read longest (list_items_at bounds spot node) (each_read (f spot)) h.items ys (by (nat_lt 1024 (count_of (items_in node))) refl)
       (each_complete (f spot) IsOne longest (complete spot) h.items ys h.each)
     where
       is : list_at node ≡ Some h.items
       is = list_complete node h.items h.list
 
-      by : (long : Bool) → nat_lt 1024 (count_of (items_in node)) ≡ long → IsReadOrLong longest (items_at bounds spot node) h.items
+      by : (long : Bool) → nat_lt 1024 (count_of (items_in node)) ≡ long → IsReadOrLong longest (list_items_at bounds spot node) h.items
       by true e =
           let many : 1024 < count_of (items_in node) = ltb-true 1024 (count_of (items_in node)) e in
           let above : 1024 < longest = omega (arith, many, count_few node h.items is, h.few) in
@@ -119,12 +119,12 @@ module _ {B : Type 0} (f : Spot → Node → Result B RowsFault) (IsOne : Node �
   unfolding list_nodes_at
   nodes_sound sound bounds spot node ys e =
       let a = bind_ok (list_nodes_at bounds spot node) (each_read (f spot)) ys e in
-      let k = counted_sound bounds spot (nodes_of node) a.0 a.1 in
+      let k = counted_sound bounds spot (nodes_below node) a.0 a.1 in
       record { nodes = a.0; list = k.0; few = k.1; fit = k.2; each = each_sound (f spot) IsOne (sound spot) a.0 ys a.2 }
 
   pub nodes_complete : (longest : ℕ) → ((spot : Spot) (node : Node) (y : B) → IsOne node y → IsReadOrLong longest (f spot node) y)
       → (bounds : Bounds) (spot : Spot) (node : Node) (ys : List B) → AreNodes IsOne bounds longest node ys → IsReadOrLong longest (nodes_at f bounds spot node) ys
   unfolding list_nodes_at
   nodes_complete longest complete bounds spot node ys h =
-      then_read longest (list_nodes_at bounds spot node) (each_read (f spot)) h.nodes ys (counted_complete bounds spot (nodes_of node) longest h.nodes h.list h.few h.fit)
+      then_read longest (list_nodes_at bounds spot node) (each_read (f spot)) h.nodes ys (counted_complete bounds spot (nodes_below node) longest h.nodes h.list h.few h.fit)
       (each_complete (f spot) IsOne longest (complete spot) h.nodes ys h.each)

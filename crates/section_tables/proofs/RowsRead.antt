@@ -6,7 +6,7 @@ use Rattle.section_tables.specs.declared.fault.FaultKind.TheVariants.{UnknownSet
 use Rattle.section_tables.specs.Rows.{RowsFault}
 use Rattle.section_tables.specs.Tables.{found_in}
 use Rattle.section_tables.specs.EntryOf.{OverwritesAt, IsOverwritten, IsWhole}
-use Rattle.section_tables.specs.Reading.{IsReadOrLong, Spot, fault_at, key_spot, put_at, overwritten_at, lacking, whole_from, row_at}
+use Rattle.section_tables.specs.Reading.{IsReadOrLong, Spot, rows_fault_at, key_spot, put_at, overwritten_at, lacking, whole_from, row_at}
 use Rattle.section_tables.proofs.Steps.{bind_ok, guard_true, ok_is}
 use Rattle.section_tables.proofs.Outcomes.{then_read}
 
@@ -50,7 +50,7 @@ module _ {T V : Type 0} (key_of : T → List ℕ) (value_at : T → Spot → Nod
         let a = bind_ok (value_at found.1 spot p.value) (λ v. Ok (set row found.0 v)) next e in
         (a.0, sound found.1 spot p.value a.0 a.1, sym (ok_is (set row found.0 a.0) next a.2))
     put_sound b spot p row next None e =
-        let a = guard_true b (Ok row) (fault_at UnknownSetting spot) next e in
+        let a = guard_true b (Ok row) (rows_fault_at UnknownSetting spot) next e in
         (a.0, sym (ok_is row next a.1))
 
     pub overwritten_sound : (text : List ℕ) (table : List T) (ps : List Pair) (row made : List V) → overwritten_at key_of value_at passes text table ps row ≡ Ok made → IsOverwritten key_of IsOf passes table ps row made

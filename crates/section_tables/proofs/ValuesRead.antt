@@ -7,10 +7,10 @@ use Rattle.mpf_values.proofs.NameTexts.{IsName-from_is_name, is_name-from_IsName
 use Rattle.section_tables.specs.declared.fault.FaultKind.TheVariants.{BadValue}
 use Rattle.section_tables.specs.Rows.{Handled, Plain, Fields, Keyed, Value, one, names, posts, events, steps, maps, keyed, RowsFault}
 use Rattle.section_tables.specs.Kinds.{Scalar, at_least, Field, Kind, single, name_list, post_list, event_list, step_list, map_list, keyed_maps}
-use Rattle.section_tables.specs.Entries.{pairs_of, written_at}
+use Rattle.section_tables.specs.Entries.{pairs_below, written_at}
 use Rattle.section_tables.specs.Tables.{field_key, field_default, field_lacks}
 use Rattle.section_tables.specs.EntryOf.{IsWritten, IsHandled, IsField, pass, IsFieldRow, AreFields, IsKeyedRow, IsKeyed, AreKeyed, IsStep, IsValue}
-use Rattle.section_tables.specs.Reading.{IsReadOrLong, ◌>>=◌, Spot, fault_at, key_spot, expect, each_read, plain_at, name_at, handled_in, listed_at, nodes_at, field_at, fields_row_at, fields_at, keyed_row_at, keyed_at, keyed_list_at, value_at}
+use Rattle.section_tables.specs.Reading.{IsReadOrLong, ◌>>=◌, Spot, rows_fault_at, key_spot, expect, each_read, plain_at, written_in, handled_in, listed_at, nodes_at, field_at, fields_row_at, fields_at, keyed_row_at, keyed_at, keyed_list_at, value_at}
 use Rattle.section_tables.proofs.Steps.{bind_ok, guard_true, ok_is, expected}
 use Rattle.section_tables.proofs.Outcomes.{then_read, each_sound, each_complete}
 use Rattle.section_tables.proofs.ListValues.{plain_sound, plain_complete, name_sound, name_complete, handled_sound, handled_complete, listed_sound, listed_complete, nodes_sound, nodes_complete}
@@ -21,7 +21,7 @@ use Rattle.section_tables.proofs.RowsRead.{row_sound, row_complete}
 field_sound : (f : Field) (spot : Spot) (node : Node) (v : Plain) → field_at f spot node ≡ Ok v → IsField f node v
 field_sound f spot node v e = plain_sound f.kind spot node v e
 
-field_row_sound : (table : List Field) (others : Bool) (spot : Spot) (node : Node) (pairs : List Pair) (row : List Plain) → pairs_of node ≡ Some pairs → fields_row_at others spot table pairs ≡ Ok row → IsFieldRow table others node row
+field_row_sound : (table : List Field) (others : Bool) (spot : Spot) (node : Node) (pairs : List Pair) (row : List Plain) → pairs_below node ≡ Some pairs → fields_row_at others spot table pairs ≡ Ok row → IsFieldRow table others node row
 field_row_sound table others spot node pairs row has e =
     let s = row_sound field_key field_at IsField (pass others) field_sound field_default field_lacks spot table pairs row e in
     record { pairs = pairs; has = has; overwritten = s.0; whole = s.1 }
@@ -37,10 +37,10 @@ fields_sound : (table : List Field) (others : Bool) (spot : Spot) (node : Node) 
 unfolding fields_at
 fields_sound table others spot node m e =
     let at : Spot = record { text = spot.text; line = line_of node; key = spot.key } in
-    let a = bind_ok (expect spot (pairs_of node)) (λ pairs. fields_row_at others at table pairs >>= λ row. Ok (fields_made node row)) m e in
+    let a = bind_ok (expect spot (pairs_below node)) (λ pairs. fields_row_at others at table pairs >>= λ row. Ok (fields_made node row)) m e in
     let b = bind_ok (fields_row_at others at table a.0) (λ row. Ok (fields_made node row)) m a.2 in
     subst (AreFields table others node) (ok_is (fields_made node b.0) m b.2)
-    (record { line = refl; row = field_row_sound table others at node a.0 b.0 (expected spot (pairs_of node) a.0 a.1) b.1 })
+    (record { line = refl; row = field_row_sound table others at node a.0 b.0 (expected spot (pairs_below node) a.0 a.1) b.1 })
 
 fields_complete : (longest : ℕ) (table : List Field) (others : Bool) (spot : Spot) (node : Node) (m : Fields) → AreFields table others node m → IsReadOrLong longest (fields_at table others spot node) m
 unfolding fields_at
@@ -57,8 +57,8 @@ keyed_row_sound table place short spot node row (Some text) e =
     let a = bind_ok (plain_at short spot node) (λ v. Ok (set (map field_default table) place v)) row e in
     (a.0, plain_sound short spot node a.0 a.1, sym (ok_is (set (map field_default table) place a.0) row a.2))
 keyed_row_sound table place short spot node row None e =
-    let a = bind_ok (expect spot (pairs_of node)) (λ pairs. fields_row_at false spot table pairs) row e in
-    field_row_sound table false spot node a.0 row (expected spot (pairs_of node) a.0 a.1) a.2
+    let a = bind_ok (expect spot (pairs_below node)) (λ pairs. fields_row_at false spot table pairs) row e in
+    field_row_sound table false spot node a.0 row (expected spot (pairs_below node) a.0 a.1) a.2
 
 keyed_row_complete : (longest : ℕ) (table : List Field) (place : ℕ) (short : Scalar) (spot : Spot) (node : Node) (row : List Plain) (o : Option (List ℕ)) → IsKeyedRow table place short node row o
     → IsReadOrLong longest (keyed_row_at table place short spot node o) row
@@ -74,7 +74,7 @@ unfolding keyed_at
 keyed_sound text table place short p k e =
     let spot = key_spot text p in
     let row = keyed_row_at table place short spot p.value (text_in p.value) in
-    let a = guard_true (is_name p.key) (row >>= λ r. Ok (keyed_made p r)) (fault_at BadValue spot) k e in
+    let a = guard_true (is_name p.key) (row >>= λ r. Ok (keyed_made p r)) (rows_fault_at BadValue spot) k e in
     let b = bind_ok row (λ r. Ok (keyed_made p r)) k a.1 in
     subst (IsKeyed table place short p) (ok_is (keyed_made p b.0) k b.2)
     (record { is_name = IsName-from_is_name p.key a.0; name = refl; row = keyed_row_sound table place short spot p.value b.0 (text_in p.value) b.1 })
@@ -90,8 +90,8 @@ keyed_complete longest text table place short p k h =
 keyed_list_sound : (table : List Field) (place : ℕ) (short : Scalar) (spot : Spot) (node : Node) (ks : List Keyed) → keyed_list_at table place short spot node ≡ Ok ks → AreKeyed table place short node ks
 unfolding keyed_list_at
 keyed_list_sound table place short spot node ks e =
-    let a = bind_ok (expect spot (pairs_of node)) (λ pairs. each_read (keyed_at spot.text table place short) pairs) ks e in
-    (a.0, expected spot (pairs_of node) a.0 a.1, each_sound (keyed_at spot.text table place short) (IsKeyed table place short) (keyed_sound spot.text table place short) a.0 ks a.2)
+    let a = bind_ok (expect spot (pairs_below node)) (λ pairs. each_read (keyed_at spot.text table place short) pairs) ks e in
+    (a.0, expected spot (pairs_below node) a.0 a.1, each_sound (keyed_at spot.text table place short) (IsKeyed table place short) (keyed_sound spot.text table place short) a.0 ks a.2)
 
 keyed_list_complete : (longest : ℕ) (table : List Field) (place : ℕ) (short : Scalar) (spot : Spot) (node : Node) (ks : List Keyed) → AreKeyed table place short node ks → IsReadOrLong longest (keyed_list_at table place short spot node) ks
 unfolding keyed_list_at
@@ -118,9 +118,9 @@ pub value_sound : (kind : Kind) (spot : Spot) (node : Node) (v : Value) → valu
 unfolding value_at
 value_sound (single kind) spot node v e = let a = put_in (plain_at kind spot node) one v e in (a.0, plain_sound kind spot node a.0 a.1, a.2)
 value_sound (name_list bounds) spot node v e =
-    let a = put_in (listed_at name_at bounds spot node) names v e in (a.0, listed_sound name_at IsWritten name_sound bounds spot node a.0 a.1, a.2)
+    let a = put_in (listed_at written_in bounds spot node) names v e in (a.0, listed_sound written_in IsWritten name_sound bounds spot node a.0 a.1, a.2)
 value_sound (post_list bounds) spot node v e =
-    let a = put_in (listed_at name_at bounds spot node) posts v e in (a.0, listed_sound name_at IsWritten name_sound bounds spot node a.0 a.1, a.2)
+    let a = put_in (listed_at written_in bounds spot node) posts v e in (a.0, listed_sound written_in IsWritten name_sound bounds spot node a.0 a.1, a.2)
 value_sound (event_list bounds) spot node v e =
     let a = put_in (listed_at handled_in bounds spot node) events v e in (a.0, listed_sound handled_in IsHandled handled_sound bounds spot node a.0 a.1, a.2)
 value_sound (step_list bounds) spot node v e =
@@ -139,9 +139,9 @@ pub value_complete : (longest : ℕ) (kind : Kind) (spot : Spot) (node : Node) (
 unfolding value_at
 value_complete longest (single kind) spot node v h = then_put longest (plain_at kind spot node) one h.0 v (plain_complete longest kind spot node h.0 h.1) h.2
 value_complete longest (name_list bounds) spot node v h =
-    then_put longest (listed_at name_at bounds spot node) names h.0 v (listed_complete name_at IsWritten longest (name_complete longest) bounds spot node h.0 h.1) h.2
+    then_put longest (listed_at written_in bounds spot node) names h.0 v (listed_complete written_in IsWritten longest (name_complete longest) bounds spot node h.0 h.1) h.2
 value_complete longest (post_list bounds) spot node v h =
-    then_put longest (listed_at name_at bounds spot node) posts h.0 v (listed_complete name_at IsWritten longest (name_complete longest) bounds spot node h.0 h.1) h.2
+    then_put longest (listed_at written_in bounds spot node) posts h.0 v (listed_complete written_in IsWritten longest (name_complete longest) bounds spot node h.0 h.1) h.2
 value_complete longest (event_list bounds) spot node v h =
     then_put longest (listed_at handled_in bounds spot node) events h.0 v (listed_complete handled_in IsHandled longest (handled_complete longest) bounds spot node h.0 h.1) h.2
 value_complete longest (step_list bounds) spot node v h =

@@ -15,12 +15,12 @@ or_none None (Some (b ∷ bs)) = None
 or_none None None = None
 
 -- the pairs of a mapping
-unfoldable pub pairs_of : Node → Option (List Pair)
-pairs_of node = or_none (pairs_in node) (text_in node)
+unfoldable pub pairs_below : Node → Option (List Pair)
+pairs_below node = or_none (pairs_in node) (text_in node)
 
 -- the nodes of a YAML list
-unfoldable pub nodes_of : Node → Option (List Node)
-nodes_of node = or_none (items_in node) (text_in node)
+unfoldable pub nodes_below : Node → Option (List Node)
+nodes_below node = or_none (items_in node) (text_in node)
 
 -- the settings that every entry takes, and at whose values nothing looks where the section's table does not have them
 abbrev pub ignored_names : List (List ℕ)

@@ -12,7 +12,7 @@ use Rattle.mpf_values.specs.Events.{Event, IsEvent}
 use Rattle.mpf_values.specs.Lists.{Item, IsList}
 use Rattle.section_tables.specs.Rows.{Written, Handled, Plain, flag, number, time, power, word, name, event, Fields, Keyed, Value, one, names, posts, events, steps, maps, keyed, Entry, Player}
 use Rattle.section_tables.specs.Kinds.{Scalar, a_flag, number_within, time_within, a_power, one_of, a_name, an_event, Bounds, at_least, fits, Field, Kind, single, name_list, post_list, event_list, step_list, map_list, keyed_maps, Setting, PlayerKinds}
-use Rattle.section_tables.specs.Entries.{pairs_of, nodes_of, is_ignored, written_at, handled_at}
+use Rattle.section_tables.specs.Entries.{pairs_below, nodes_below, is_ignored, written_at, handled_at}
 use Rattle.section_tables.specs.Tables.{found_in, field_key, field_default, field_lacks, setting_key, setting_default, setting_lacks}
 
 -- ---- texts
@@ -52,7 +52,7 @@ pub record AreListed {B : Type 0} (IsOne : Item → B → Type 0) (bounds : Boun
 -- What the nodes of a YAML list are, of which there are at most so many, and as many as its bounds say.
 pub record AreNodes {B : Type 0} (IsOne : Node → B → Type 0) (bounds : Bounds) (longest : ℕ) (node : Node) (ys : List B) : Type 0 where
   pub nodes : List Node
-  pub list : nodes_of node ≡ Some nodes
+  pub list : nodes_below node ≡ Some nodes
   pub few : length nodes ≤ longest
   pub fit : fits bounds (length nodes) ≡ true
   pub each : AllZip IsOne nodes ys
@@ -84,7 +84,7 @@ IsWhole lacks = AllZip (λ s v. lacks s v ≡ false)
 pub record IsRow {T V : Type 0} (key_of : T → List ℕ) (IsOf : T → Node → V → Type 0) (passes : List ℕ → Bool) (default_of : T → V) (lacks : T → V → Bool)
     (table : List T) (node : Node) (row : List V) : Type 0 where
   pub pairs : List Pair
-  pub has : pairs_of node ≡ Some pairs
+  pub has : pairs_below node ≡ Some pairs
   pub overwritten : IsOverwritten key_of IsOf passes table pairs (map default_of table) row
   pub whole : IsWhole lacks table row
 
@@ -118,7 +118,7 @@ pub record IsKeyed (table : List Field) (place : ℕ) (short : Scalar) (p : Pair
   pub row : IsKeyedRow table place short p.value k.values (text_in p.value)
 
 abbrev pub AreKeyed : List Field → ℕ → Scalar → Node → List Keyed → Type 0
-AreKeyed table place short node ks = (pairs : List Pair) × (pairs_of node ≡ Some pairs) × AllZip (IsKeyed table place short) pairs ks
+AreKeyed table place short node ks = (pairs : List Pair) × (pairs_below node ≡ Some pairs) × AllZip (IsKeyed table place short) pairs ks
 
 -- ---- settings
 
@@ -149,7 +149,7 @@ pub record IsEntry (longest : ℕ) (table : List Setting) (p : Pair) (e : Entry)
 
 -- the entries of a section with this table
 abbrev pub AreEntries : ℕ → List Setting → Pair → List Entry → Type 0
-AreEntries longest table p es = (pairs : List Pair) × (pairs_of p.value ≡ Some pairs) × AllZip (IsEntry longest table) pairs es
+AreEntries longest table p es = (pairs : List Pair) × (pairs_below p.value ≡ Some pairs) × AllZip (IsEntry longest table) pairs es
 
 -- An entry of a player: what its key says, and its value.
 pub record IsPlayer (longest : ℕ) (kinds : PlayerKinds) (p : Pair) (row : Player) : Type 0 where
@@ -158,4 +158,4 @@ pub record IsPlayer (longest : ℕ) (kinds : PlayerKinds) (p : Pair) (row : Play
 
 -- the entries of a player
 abbrev pub ArePlayers : ℕ → PlayerKinds → Pair → List Player → Type 0
-ArePlayers longest kinds p rows = (pairs : List Pair) × (pairs_of p.value ≡ Some pairs) × AllZip (IsPlayer longest kinds) pairs rows
+ArePlayers longest kinds p rows = (pairs : List Pair) × (pairs_below p.value ≡ Some pairs) × AllZip (IsPlayer longest kinds) pairs rows

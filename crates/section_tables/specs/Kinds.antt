@@ -27,14 +27,14 @@ pub data Absent (V : Type 0) : Type 0 where
   default : V → Absent V
 
 -- a line of a table: a key, of which kind its value is, and what holds without it
-pub record Row (K V : Type 0) : Type 0 where
+pub record KeyRule (K V : Type 0) : Type 0 where
   pub key : List ℕ
   pub kind : K
   pub absent : Absent V
 
 -- a key of a map in a list, or of the map that belongs to a name
 abbrev pub Field : Type 0
-Field = Row Scalar Plain
+Field = KeyRule Scalar Plain
 
 -- What the value of a setting is to be: a text; a list of names, of posted events or of handled events; steps, each a list of handled events; a list of maps, in which other keys are ignored or not;
 -- or a map of names, each with a map, or with one text that stands for the value of the field at this place.
@@ -48,7 +48,7 @@ pub data Kind : Type 0 where
   keyed_maps : List Field → ℕ → Scalar → Kind
 
 abbrev pub Setting : Type 0
-Setting = Row Kind Value
+Setting = KeyRule Kind Value
 
 -- of which kind the keys and the values of a player are
 pub record PlayerKinds : Type 0 where

@@ -12,7 +12,7 @@ use Rattle.section_tables.specs.declared.fault.FaultKind.{FaultKind}
 use Rattle.section_tables.specs.declared.fault.FaultKind.TheVariants.{UnknownSetting, BadValue, Missing, Limit}
 use Rattle.section_tables.specs.Rows.{Written, Handled, Plain, flag, number, time, power, word, name, event, Fields, Keyed, Value, one, names, posts, events, steps, maps, keyed, Entry, Player, RowsFault}
 use Rattle.section_tables.specs.Kinds.{Scalar, a_flag, number_within, time_within, a_power, one_of, a_name, an_event, Bounds, at_least, fits, Field, Kind, single, name_list, post_list, event_list, step_list, map_list, keyed_maps, Setting, PlayerKinds}
-use Rattle.section_tables.specs.Entries.{pairs_of, nodes_of, is_ignored, written_at, handled_at}
+use Rattle.section_tables.specs.Entries.{pairs_below, nodes_below, is_ignored, written_at, handled_at}
 use Rattle.section_tables.specs.Tables.{found_in, field_key, field_default, field_lacks, setting_key, setting_default, setting_lacks}
 use Rattle.section_tables.specs.EntryOf.{within, pass}
 
@@ -22,11 +22,11 @@ pub record Spot : Type 0 where
   pub line : ℕ
   pub key : List ℕ
 
-abbrev pub fault_at : FaultKind → Spot → RowsFault
-fault_at kind spot = record { kind = kind; text = spot.text; line = spot.line; key = spot.key }
+abbrev pub rows_fault_at : FaultKind → Spot → RowsFault
+rows_fault_at kind spot = record { kind = kind; text = spot.text; line = spot.line; key = spot.key }
 
 abbrev pub refused : {A : Type 0} → FaultKind → Spot → Result A RowsFault
-refused kind spot = Err (fault_at kind spot)
+refused kind spot = Err (rows_fault_at kind spot)
 
 -- the key of an entry
 abbrev pub key_spot : List ℕ → Pair → Spot
@@ -73,8 +73,8 @@ abbrev pub is_empty : Option (List ℕ) → Bool
 is_empty (Some text) = length text == 0
 is_empty None = false
 
-unfoldable pub name_at : Spot → Item → Result Written RowsFault
-name_at spot item = if is_name item.text then Ok (written_at item.line item.text) else refused BadValue spot
+unfoldable pub written_in : Spot → Item → Result Written RowsFault
+written_in spot item = if is_name item.text then Ok (written_at item.line item.text) else refused BadValue spot
 
 unfoldable pub handled_in : Spot → Item → Result Handled RowsFault
 handled_in spot item = expect spot (give (handled_at item.line) (event_at item.text))
@@ -93,18 +93,18 @@ count_of (Some nodes) = length (filter counts nodes)
 count_of None = 0
 
 -- the items of a list; it is too long first of all, whatever its items are
-unfoldable pub items_at : Bounds → Spot → Node → Result (List Item) RowsFault
-items_at bounds spot node =
+unfoldable pub list_items_at : Bounds → Spot → Node → Result (List Item) RowsFault
+list_items_at bounds spot node =
     if nat_lt 1024 (count_of (items_in node)) then refused Limit spot
     else (expect spot (list_at node) >>= λ items. count_at bounds spot (length items) >>= λ _. Ok items)
 
 -- what f gives for each
 abbrev pub listed_at : {B : Type 0} → (Spot → Item → Result B RowsFault) → Bounds → Spot → Node → Result (List B) RowsFault
-listed_at f bounds spot node = items_at bounds spot node >>= λ items. each_read (f spot) items
+listed_at f bounds spot node = list_items_at bounds spot node >>= λ items. each_read (f spot) items
 
 -- the nodes of a YAML list
 unfoldable pub list_nodes_at : Bounds → Spot → Node → Result (List Node) RowsFault
-list_nodes_at bounds spot node = expect spot (nodes_of node) >>= λ nodes. count_at bounds spot (length nodes) >>= λ _. Ok nodes
+list_nodes_at bounds spot node = expect spot (nodes_below node) >>= λ nodes. count_at bounds spot (length nodes) >>= λ _. Ok nodes
 
 -- what f gives for each
 abbrev pub nodes_at : {B : Type 0} → (Spot → Node → Result B RowsFault) → Bounds → Spot → Node → Result (List B) RowsFault
@@ -148,13 +148,13 @@ fields_row_at others = row_at field_key field_at (pass others) field_default fie
 -- a map in a list: what it lacks is missing at its own line, and a node that is no map is a fault of the list
 unfoldable pub fields_at : List Field → Bool → Spot → Node → Result Fields RowsFault
 fields_at table others spot node =
-    expect spot (pairs_of node) >>= λ pairs. fields_row_at others (record { text = spot.text; line = line_of node; key = spot.key }) table pairs
+    expect spot (pairs_below node) >>= λ pairs. fields_row_at others (record { text = spot.text; line = line_of node; key = spot.key }) table pairs
     >>= λ row. Ok (record { line = line_of node; values = row })
 
 -- the values that belong to a name: one text alone, or a map
 abbrev pub keyed_row_at : List Field → ℕ → Scalar → Spot → Node → Option (List ℕ) → Result (List Plain) RowsFault
 keyed_row_at table place short spot node (Some text) = plain_at short spot node >>= λ v. Ok (set (map field_default table) place v)
-keyed_row_at table place short spot node None = expect spot (pairs_of node) >>= λ pairs. fields_row_at false spot table pairs
+keyed_row_at table place short spot node None = expect spot (pairs_below node) >>= λ pairs. fields_row_at false spot table pairs
 
 unfoldable pub keyed_at : List ℕ → List Field → ℕ → Scalar → Pair → Result Keyed RowsFault
 keyed_at text table place short p =
@@ -163,14 +163,14 @@ keyed_at text table place short p =
     else refused BadValue (key_spot text p)
 
 unfoldable pub keyed_list_at : List Field → ℕ → Scalar → Spot → Node → Result (List Keyed) RowsFault
-keyed_list_at table place short spot node = expect spot (pairs_of node) >>= λ pairs. each_read (keyed_at spot.text table place short) pairs
+keyed_list_at table place short spot node = expect spot (pairs_below node) >>= λ pairs. each_read (keyed_at spot.text table place short) pairs
 
 -- ---- settings
 
 unfoldable pub value_at : Kind → Spot → Node → Result Value RowsFault
 value_at (single kind) spot node = plain_at kind spot node >>= λ x. Ok (one x)
-value_at (name_list bounds) spot node = listed_at name_at bounds spot node >>= λ xs. Ok (names xs)
-value_at (post_list bounds) spot node = listed_at name_at bounds spot node >>= λ xs. Ok (posts xs)
+value_at (name_list bounds) spot node = listed_at written_in bounds spot node >>= λ xs. Ok (names xs)
+value_at (post_list bounds) spot node = listed_at written_in bounds spot node >>= λ xs. Ok (posts xs)
 value_at (event_list bounds) spot node = listed_at handled_in bounds spot node >>= λ xs. Ok (events xs)
 value_at (step_list bounds) spot node = nodes_at (listed_at handled_in (at_least 1)) bounds spot node >>= λ xs. Ok (steps xs)
 value_at (map_list table others bounds) spot node = nodes_at (fields_at table others) bounds spot node >>= λ xs. Ok (maps xs)
@@ -188,12 +188,12 @@ values_at = row_at setting_key setting_at is_ignored setting_default setting_lac
 unfoldable pub entry_at : List ℕ → List Setting → Pair → Result Entry RowsFault
 entry_at text table p =
     if is_name p.key
-    then (expect (key_spot text p) (pairs_of p.value) >>= λ pairs. values_at (key_spot text p) table pairs >>= λ row. Ok (record { name = written_at p.line p.key; values = row }))
+    then (expect (key_spot text p) (pairs_below p.value) >>= λ pairs. values_at (key_spot text p) table pairs >>= λ row. Ok (record { name = written_at p.line p.key; values = row }))
     else refused BadValue (key_spot text p)
 
 -- the entries of a section with this table
 unfoldable pub entries_at : List ℕ → List Setting → Pair → Result (List Entry) RowsFault
-entries_at text table p = expect (key_spot text p) (pairs_of p.value) >>= λ pairs. each_read (entry_at text table) pairs
+entries_at text table p = expect (key_spot text p) (pairs_below p.value) >>= λ pairs. each_read (entry_at text table) pairs
 
 -- an entry of a player
 unfoldable pub player_at : List ℕ → PlayerKinds → Pair → Result Player RowsFault
@@ -203,7 +203,7 @@ player_at text kinds p =
 
 -- the entries of a player
 unfoldable pub players_at : List ℕ → PlayerKinds → Pair → Result (List Player) RowsFault
-players_at text kinds p = expect (key_spot text p) (pairs_of p.value) >>= λ pairs. each_read (player_at text kinds) pairs
+players_at text kinds p = expect (key_spot text p) (pairs_below p.value) >>= λ pairs. each_read (player_at text kinds) pairs
 
 -- ---- what reading finds
 

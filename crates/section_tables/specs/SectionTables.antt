@@ -2,9 +2,9 @@
 use Rattle.std.specs.Prelude.{ℕ, if◌then◌else◌, List, [], ◌∷◌, Option, Some, None, codes}
 use Rattle.std.specs.Str.{bytes_eq}
 use Rattle.section_tables.specs.Rows.{word, one, names, posts}
-use Rattle.section_tables.specs.Kinds.{one_of, a_name, at_least, Absent, default, Row, single, name_list, post_list, Setting, PlayerKinds}
+use Rattle.section_tables.specs.Kinds.{one_of, a_name, at_least, Absent, default, KeyRule, single, name_list, post_list, Setting, PlayerKinds}
 
-abbrev row : {K V : Type 0} → List ℕ → K → Absent V → Row K V
+abbrev row : {K V : Type 0} → List ℕ → K → Absent V → KeyRule K V
 row key kind absent = record { key = key; kind = kind; absent = absent }
 
 -- posted events, none by default

@@ -107,13 +107,13 @@ players_view xs = map player_view xs.items
 abbrev pub spot_view : spots.Spot → Spot
 spot_view s = record { text = s.text.now; line = s.line; key = s.key.now }
 
-abbrev pub fault_view : Fault → RowsFault
-fault_view f = record { kind = f.kind; text = f.text.items; line = f.line; key = f.key.items }
+abbrev pub rows_fault_view : Fault → RowsFault
+rows_fault_view f = record { kind = f.kind; text = f.text.items; line = f.line; key = f.key.items }
 
 -- An answer, seen by view, is what reading gives, unless memory ran out.
 abbrev pub FailsRows : {Y : Type 0} → ConfigFault → Result Y RowsFault → Type 0
 FailsRows faults.NoMemory read = Unit {0}
-FailsRows (faults.Bundle f) read = read ≡ Err (fault_view f)
+FailsRows (faults.Bundle f) read = read ≡ Err (rows_fault_view f)
 
 abbrev pub GivesRows : {X Y : Type 0} → (X → Y) → Result X ConfigFault → Result Y RowsFault → Type 0
 GivesRows view (Ok x) read = read ≡ Ok (view x)

@@ -21,3 +21,4 @@ pub mod tables;
 
 pub use handling::players;
 pub use sections::{entries, entry};
+pub use settings::is_one_of;

@@ -5,7 +5,7 @@ ghost use Rattle.yaml_subset.specs.View.{node_view};
 ghost use Rattle.mpf_values.specs.Reading.{list_at};
 ghost use Rattle.mpf_values.specs.View.{item_view, items_view};
 ghost use Rattle.section_tables.specs.Kinds.{fits};
-ghost use Rattle.section_tables.specs.Reading.{count_at, counts, name_at, handled_in, items_at, listed_at};
+ghost use Rattle.section_tables.specs.Reading.{count_at, counts, written_in, handled_in, list_items_at, listed_at};
 ghost use Rattle.section_tables.specs.TableView.{bounds_view};
 ghost use Rattle.section_tables.specs.View.{name_view, names_view, handler_view, handlers_view, spot_view, GivesRows};
 
@@ -77,14 +77,14 @@ fn is_empty(node: &Tree) -> bool
 
 // The items of a list. A fault stands at the spot: Limit where there are too many, whatever they
 // are; BadValue where the value is no list, or the bounds do not let it have so many.
-#[tactic(auto, unfolding(crate::specs::Reading::items_at))]
+#[tactic(auto, unfolding(crate::specs::Reading::list_items_at))]
 fn items<'a>(
     alloc: Global,
     spot: Spot<'_>,
     bounds: Bounds,
     value: &'a Tree,
 ) -> Result<Vec<Item<'a>>, ConfigFault>
-    ensures { GivesRows (λ items. items_view items.items) result (items_at (bounds_view bounds) (spot_view spot.entry) (node_view value.now)) }
+    ensures { GivesRows (λ items. items_view items.items) result (list_items_at (bounds_view bounds) (spot_view spot.entry) (node_view value.now)) }
 {
     if let Some(nodes) = value.as_list()
         && item_count(nodes) > MAX_ITEMS
@@ -103,9 +103,9 @@ fn items<'a>(
 }
 
 // The name that an item of a list is; or BadValue at the spot.
-#[tactic(auto, unfolding(crate::specs::Reading::name_at))]
+#[tactic(auto, unfolding(crate::specs::Reading::written_in))]
 fn item_name(alloc: Global, spot: Spot<'_>, item: Item<'_>) -> Result<Name, ConfigFault>
-    ensures { GivesRows name_view result (name_at (spot_view spot.entry) (item_view item.entry)) }
+    ensures { GivesRows name_view result (written_in (spot_view spot.entry) (item_view item.entry)) }
 {
     if !is_name(item.text) {
         return Err(ConfigFault::Bundle(spot.fault(alloc, FaultKind::BadValue)?));
@@ -135,14 +135,14 @@ pub fn names(
     bounds: Bounds,
     value: &Tree,
 ) -> Result<Vec<Name>, ConfigFault>
-    ensures { GivesRows names_view result (listed_at name_at (bounds_view bounds) (spot_view spot.entry) (node_view value.now)) }
+    ensures { GivesRows names_view result (listed_at written_in (bounds_view bounds) (spot_view spot.entry) (node_view value.now)) }
 {
     let items = items(alloc, spot, bounds, value)?;
     each(
         alloc,
         &items,
         |item|
-            ensures { GivesRows name_view result (name_at (spot_view spot.entry) (item_view item.now)) }
+            ensures { GivesRows name_view result (written_in (spot_view spot.entry) (item_view item.now)) }
         { item_name(alloc, spot, *item) },
     )
 }

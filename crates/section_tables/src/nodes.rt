@@ -2,7 +2,7 @@
 
 ghost use Rattle.std.specs.Prelude.{◌≡◌, map};
 ghost use Rattle.yaml_subset.specs.View.{node_view, pair_view, option_slice};
-ghost use Rattle.section_tables.specs.Entries.{pairs_of, nodes_of};
+ghost use Rattle.section_tables.specs.Entries.{pairs_below, nodes_below};
 ghost use Rattle.section_tables.specs.Reading.{expect, list_nodes_at};
 ghost use Rattle.section_tables.specs.TableView.{bounds_view};
 ghost use Rattle.section_tables.specs.View.{spot_view, pairs_in_view, nodes_in_view, GivesRows};
@@ -15,9 +15,9 @@ use std::alloc::Global;
 use yaml_subset::tree::{Key, Tree};
 
 // The pairs of a mapping; the empty text is taken for a mapping without pairs.
-#[tactic(auto, unfolding(crate::specs::Entries::pairs_of))]
+#[tactic(auto, unfolding(crate::specs::Entries::pairs_below))]
 fn pairs_of(tree: &Tree) -> Option<&[(Key, Tree)]>
-    ensures { option_slice (map pair_view) result ≡ pairs_of (node_view tree.now) }
+    ensures { option_slice (map pair_view) result ≡ pairs_below (node_view tree.now) }
 {
     if let Some(pairs) = tree.as_map() {
         return Some(pairs);
@@ -29,9 +29,9 @@ fn pairs_of(tree: &Tree) -> Option<&[(Key, Tree)]>
 }
 
 // The nodes of a YAML list; the empty text is taken for a list without nodes.
-#[tactic(auto, unfolding(crate::specs::Entries::nodes_of))]
+#[tactic(auto, unfolding(crate::specs::Entries::nodes_below))]
 fn nodes_of(tree: &Tree) -> Option<&[Tree]>
-    ensures { option_slice (map node_view) result ≡ nodes_of (node_view tree.now) }
+    ensures { option_slice (map node_view) result ≡ nodes_below (node_view tree.now) }
 {
     if let Some(nodes) = tree.as_list() {
         return Some(nodes);
@@ -48,7 +48,7 @@ pub fn pairs<'a>(
     spot: Spot<'_>,
     tree: &'a Tree,
 ) -> Result<&'a [(Key, Tree)], ConfigFault>
-    ensures { GivesRows pairs_in_view result (expect (spot_view spot.entry) (pairs_of (node_view tree.now))) }
+    ensures { GivesRows pairs_in_view result (expect (spot_view spot.entry) (pairs_below (node_view tree.now))) }
 {
     match pairs_of(tree) {
         Some(pairs) => Ok(pairs),

@@ -41,7 +41,8 @@ const IGNORED: [&[u8]; 11] = [
     b"z",
 ];
 
-fn is_one_of(names: &[&[u8]], name: &[u8]) -> bool
+/// Whether a name is one of these.
+pub fn is_one_of(names: &[&[u8]], name: &[u8]) -> bool
     ensures { result ≡ list_any (λ n. bytes_eq n.now name.now) names.now }
 {
     names.iter().any(|n| *n == name)

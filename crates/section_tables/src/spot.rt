@@ -1,8 +1,8 @@
 //! Where a fault stands.
 
 ghost use Rattle.std.specs.Prelude.{◌≡◌, IfOk};
-ghost use Rattle.section_tables.specs.Reading.{fault_at};
-ghost use Rattle.section_tables.specs.View.{spot_view, fault_view};
+ghost use Rattle.section_tables.specs.Reading.{rows_fault_at};
+ghost use Rattle.section_tables.specs.View.{spot_view, rows_fault_view};
 
 use crate::fault::{Fault, FaultKind};
 use std::alloc::{AllocError, Global};
@@ -20,7 +20,7 @@ pub struct Spot<'a> {
 impl Spot<'_> {
     /// A fault that stands here.
     pub fn fault(self, alloc: Global, kind: FaultKind) -> Result<Fault, AllocError>
-        ensures { IfOk result (λ fault. fault_view fault ≡ fault_at kind (spot_view self.entry)) }
+        ensures { IfOk result (λ fault. rows_fault_view fault ≡ rows_fault_at kind (spot_view self.entry)) }
     {
         Ok(Fault {
             kind,

@@ -6,7 +6,7 @@ use Rattle.std.proofs.lemmas.Option.{none-some, same_Some}
 use Rattle.std.proofs.lemmas.List.{length-set, length-map, get_or-set_same, get_or-set_other, get_or_past, set_past}
 use Rattle.mpf_plan.specs.declared.entries.SwitchId.{SwitchId}
 use Rattle.mpf_plan.specs.declared.entries.SwitchKind.{SwitchKind}
-use Rattle.mpf_plan.specs.PlanView.{PlanView, Switch, no_switch, switch_at}
+use Rattle.mpf_plan.specs.PlanView.{PlanView, PlanSwitch, no_switch, switch_at}
 use Rattle.switch_core.specs.declared.change.Change.{Change}
 use Rattle.switch_core.specs.SwitchStep.{SwitchState, same_level, is_active, idle, accepted, awaited, changed, is_taken, fired}
 use Rattle.switch_core.specs.Switches.{SwitchesView, IsComplete, no_kind, kind_at, state_at, set_state, due_of, reported, all_idle, after_change, reported_by_change, IsNextDue, IsNothingDue, IsNothingDueBy, accept, accept_due, after_fire, reported_by_fire}
@@ -78,17 +78,17 @@ module _ (s : SwitchesView) (set : SwitchId) (x : SwitchState) where
 
 pub idle-complete : (plan : PlanView) → length plan.switches ≤ 256 → IsComplete (all_idle plan)
 idle-complete plan limit =
-    let kinds = length-map plan.switches (λ (s : Switch). s.kind) in
-    record { states = length-map plan.switches (λ (s : Switch). idle s.kind) ∙ sym kinds; limit = omega arith }
+    let kinds = length-map plan.switches (λ (s : PlanSwitch). s.kind) in
+    record { states = length-map plan.switches (λ (s : PlanSwitch). idle s.kind) ∙ sym kinds; limit = omega arith }
 
 pub idle-kind : (plan : PlanView) (n : SwitchId) → kind_at (all_idle plan) n ≡ (switch_at plan n).kind
-idle-kind plan n = get_or-map (λ (s : Switch). s.kind) plan.switches n.0 no_switch
+idle-kind plan n = get_or-map (λ (s : PlanSwitch). s.kind) plan.switches n.0 no_switch
 
 pub idle-state : (plan : PlanView) (n : SwitchId) → state_at (all_idle plan) n ≡ idle (switch_at plan n).kind
-idle-state plan n = get_or-map (λ (s : Switch). idle s.kind) plan.switches n.0 no_switch
+idle-state plan n = get_or-map (λ (s : PlanSwitch). idle s.kind) plan.switches n.0 no_switch
 
-pub idle_list-nothing_due : (kinds : List SwitchKind) (switches : List Switch) → IsNothingDue (record { kinds = kinds; states = map (λ s. idle s.kind) switches })
-idle_list-nothing_due kinds switches n = ap (λ (x : SwitchState). x.due) (get_or-map (λ (s : Switch). idle s.kind) switches n.0 no_switch)
+pub idle_list-nothing_due : (kinds : List SwitchKind) (switches : List PlanSwitch) → IsNothingDue (record { kinds = kinds; states = map (λ s. idle s.kind) switches })
+idle_list-nothing_due kinds switches n = ap (λ (x : SwitchState). x.due) (get_or-map (λ (s : PlanSwitch). idle s.kind) switches n.0 no_switch)
 
 pub idle-nothing_due : (plan : PlanView) → IsNothingDue (all_idle plan)
 idle-nothing_due plan n = idle_list-nothing_due (all_idle plan).kinds plan.switches n

@@ -5,11 +5,11 @@ use Rattle.std.proofs.lemmas.Option.{none-some, same_Some}
 use Rattle.std.proofs.lemmas.List.{length-set, length-map, get_or-map, get_or-set_same, get_or-set_other}
 use Rattle.mpf_plan.specs.declared.entries.SwitchId.{SwitchId}
 use Rattle.mpf_plan.specs.declared.entries.SwitchKind.{SwitchKind}
-use Rattle.mpf_plan.specs.PlanView.{PlanView, Switch, switch_at, no_switch}
+use Rattle.mpf_plan.specs.PlanView.{PlanView, PlanSwitch, switch_at, no_switch}
 use Rattle.switch_core.specs.SwitchStep.{SwitchState, same_level, is_active, raw_at_rest, idle, accepted, awaited, changed, fired}
 use Rattle.switch_core.specs.Switches.{SwitchesView, no_kind, kind_at, state_at, set_state, due_of, all_idle, after_change, IsNextDue, IsNothingDueBy, accept, accept_due, after_fire}
 use Rattle.switch_core.specs.AcceptedLevel.{RawChange, delay_of, accepted_level}
-use Rattle.switch_core.specs.Calls.{Call, Change, Fire, after_calls, last_moment, AreInTime, raw_changes, LevelsAreAccepted, NothingIsLate}
+use Rattle.switch_core.specs.Calls.{SwitchCall, Change, Fire, after_calls, last_moment, AreInTime, raw_changes, LevelsAreAccepted, NothingIsLate}
 use Rattle.switch_core.proofs.Levels.{accepted-push}
 use Rattle.switch_core.proofs.NextDue.{next_due-is}
 
@@ -176,11 +176,11 @@ module _ (switch : SwitchId) (kind : SwitchKind) (raw : Bool) (past : List RawCh
 -- ---- calls
 
 -- what a change adds to a switch's raw changes
-changes-none : (switch other : SwitchId) (level raw : Bool) (now : ℕ) (calls : List Call) → ((other.0 == switch.0) && not (same_level level raw)) ≡ false → raw_changes switch raw (Change other level now ∷ calls) ≡ raw_changes switch raw calls
+changes-none : (switch other : SwitchId) (level raw : Bool) (now : ℕ) (calls : List SwitchCall) → ((other.0 == switch.0) && not (same_level level raw)) ≡ false → raw_changes switch raw (Change other level now ∷ calls) ≡ raw_changes switch raw calls
 changes-none switch other level raw now calls is =
     cond-false ((other.0 == switch.0) && not (same_level level raw)) (record { at = now; level = level } ∷ raw_changes switch level calls) (raw_changes switch raw calls) is
 
-changes-one : (switch other : SwitchId) (level raw : Bool) (now : ℕ) (calls : List Call) → ((other.0 == switch.0) && not (same_level level raw)) ≡ true → raw_changes switch raw (Change other level now ∷ calls) ≡ record { at = now; level = level } ∷ raw_changes switch level calls
+changes-one : (switch other : SwitchId) (level raw : Bool) (now : ℕ) (calls : List SwitchCall) → ((other.0 == switch.0) && not (same_level level raw)) ≡ true → raw_changes switch raw (Change other level now ∷ calls) ≡ record { at = now; level = level } ∷ raw_changes switch level calls
 changes-one switch other level raw now calls is =
     cond-true ((other.0 == switch.0) && not (same_level level raw)) (record { at = now; level = level } ∷ raw_changes switch level calls) (raw_changes switch raw calls) is
 
@@ -191,7 +191,7 @@ module _ (switch : SwitchId) (kind : SwitchKind) where
   abbrev Foretold : List RawChange → SwitchesView → ℕ → Type 0
   Foretold past s moment = IsFollowed kind past (state_at s switch) moment
 
-  followed-calls : (calls : List Call) (s : SwitchesView) (moment : ℕ) (raw : Bool) (past : List RawChange) → Follows switch kind raw past s moment → AreInTime moment s calls
+  followed-calls : (calls : List SwitchCall) (s : SwitchesView) (moment : ℕ) (raw : Bool) (past : List RawChange) → Follows switch kind raw past s moment → AreInTime moment s calls
       → Foretold (past ++ raw_changes switch raw calls) (after_calls calls s) (last_moment moment calls)
   followed-calls [] s moment raw past f in_time = subst (λ (cs : List RawChange). Foretold cs s moment) (sym (append-nil past)) f.followed
   followed-calls (Fire now ∷ calls) s moment raw past f (forward, (next, is_next), more) =
@@ -226,16 +226,16 @@ module _ (plan : PlanView) (switch : SwitchId) (within : switch.0 < length plan.
   follows-new : Follows switch (switch_at plan switch).kind (raw_at_rest (switch_at plan switch).kind.contact) [] (all_idle plan) 0
   follows-new =
       let kind = (switch_at plan switch).kind in
-      let is : state_at (all_idle plan) switch ≡ idle kind = get_or-map (λ (s : Switch). idle s.kind) plan.switches switch.0 no_switch (idle no_kind) within in
-      let count = length-map plan.switches (λ (s : Switch). idle s.kind) in
+      let is : state_at (all_idle plan) switch ≡ idle kind = get_or-map (λ (s : PlanSwitch). idle s.kind) plan.switches switch.0 no_switch (idle no_kind) within in
+      let count = length-map plan.switches (λ (s : PlanSwitch). idle s.kind) in
       record {
         within = omega arith;
-        kind_is = get_or-map (λ (s : Switch). s.kind) plan.switches switch.0 no_switch no_kind within;
+        kind_is = get_or-map (λ (s : PlanSwitch). s.kind) plan.switches switch.0 no_switch no_kind within;
         raw_is = ap (λ (y : SwitchState). y.raw) is;
         followed = subst (λ (y : SwitchState). IsFollowed kind [] y 0) (sym is) (followed-idle kind);
       }
 
-  followed-new : (calls : List Call) → AreInTime 0 (all_idle plan) calls
+  followed-new : (calls : List SwitchCall) → AreInTime 0 (all_idle plan) calls
       → IsFollowed (switch_at plan switch).kind (raw_changes switch (raw_at_rest (switch_at plan switch).kind.contact) calls) (state_at (after_calls calls (all_idle plan)) switch) (last_moment 0 calls)
   followed-new calls in_time =
       followed-calls switch (switch_at plan switch).kind calls (all_idle plan) 0 (raw_at_rest (switch_at plan switch).kind.contact) [] follows-new in_time

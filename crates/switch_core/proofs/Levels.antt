@@ -6,7 +6,7 @@ use Rattle.std.proofs.lemmas.List.Folds.{list_all-append}
 use Rattle.mpf_config.specs.declared.config.Contact.{Contact}
 use Rattle.mpf_plan.specs.declared.entries.SwitchKind.{SwitchKind}
 use Rattle.switch_core.specs.SwitchStep.{is_active}
-use Rattle.switch_core.specs.AcceptedLevel.{RawChange, delay_of, standing, is_over, active_after, accepted_level}
+use Rattle.switch_core.specs.AcceptedLevel.{RawChange, delay_of, standing, is_delay_over, active_after, accepted_level}
 
 and-true : (b : Bool) → (b && true) ≡ b
 and-true true = refl
@@ -24,12 +24,12 @@ kept p fs gs end true true true is over = ap (λ xs. p ∷ xs) is
 kept p fs gs end true true false is over = absurd (false≢true (over refl))
 
 -- Of those that stood, the ones that are over at the later change stand on, and it stands itself.
-pub standing-push : (delay moment : ℕ) (past : List RawChange) (c : RawChange) → c.at ≤ moment → filter (is_over delay moment) (standing delay (past ++ c ∷ [])) ≡ filter (is_over delay c.at) (standing delay past) ++ filter (is_over delay moment) (c ∷ [])
+pub standing-push : (delay moment : ℕ) (past : List RawChange) (c : RawChange) → c.at ≤ moment → filter (is_delay_over delay moment) (standing delay (past ++ c ∷ [])) ≡ filter (is_delay_over delay c.at) (standing delay past) ++ filter (is_delay_over delay moment) (c ∷ [])
 standing-push delay moment [] c before = refl
 standing-push delay moment (p ∷ later) c before =
     let near : RawChange → Bool = λ l. nat_le (p.at + delay) l.at in
-    let f = is_over delay moment in
-    let g = is_over delay c.at in
+    let f = is_delay_over delay moment in
+    let g = is_delay_over delay c.at in
     let old = standing delay later in
     let new = standing delay (later ++ c ∷ []) in
     let rest : filter f new ≡ filter g old ++ filter f (c ∷ []) = standing-push delay moment later c before in
@@ -48,7 +48,7 @@ active-push contact xs c true = ap (active_after contact) (last-push None xs c)
 active-push contact xs c false = ap (λ (ys : List RawChange). active_after contact (last_or None ys)) (append-nil xs)
 
 -- The later change is accepted once its delay is over; until then the level is the one at its moment.
-pub accepted-push : (kind : SwitchKind) (moment : ℕ) (past : List RawChange) (c : RawChange) → c.at ≤ moment → accepted_level kind moment (past ++ c ∷ []) ≡ cond (is_over (delay_of kind) moment c) (is_active kind.contact c.level) (accepted_level kind c.at past)
+pub accepted-push : (kind : SwitchKind) (moment : ℕ) (past : List RawChange) (c : RawChange) → c.at ≤ moment → accepted_level kind moment (past ++ c ∷ []) ≡ cond (is_delay_over (delay_of kind) moment c) (is_active kind.contact c.level) (accepted_level kind c.at past)
 accepted-push kind moment past c before =
-    let changes = filter (is_over (delay_of kind) c.at) (standing (delay_of kind) past) in
-    ap (λ (cs : List RawChange). active_after kind.contact (last_or None cs)) (standing-push (delay_of kind) moment past c before) ∙ active-push kind.contact changes c (is_over (delay_of kind) moment c)
+    let changes = filter (is_delay_over (delay_of kind) c.at) (standing (delay_of kind) past) in
+    ap (λ (cs : List RawChange). active_after kind.contact (last_or None cs)) (standing-push (delay_of kind) moment past c before) ∙ active-push kind.contact changes c (is_delay_over (delay_of kind) moment c)

@@ -7,7 +7,7 @@ use Rattle.std.proofs.lemmas.Option.{none-some}
 use Rattle.std.proofs.lemmas.List.{length-map, length-set, get_or_past, get_or_read, get_or-map, get_or-set_same, map-set}
 use Rattle.mpf_plan.specs.declared.entries.SwitchId.{SwitchId}
 use Rattle.mpf_plan.specs.declared.entries.SwitchKind.{SwitchKind}
-use Rattle.mpf_plan.specs.PlanView.{Switch}
+use Rattle.mpf_plan.specs.PlanView.{PlanSwitch}
 use Rattle.switch_core.specs.declared.change.Change.{Change}
 use Rattle.switch_core.specs.declared.state.State.{State}
 use Rattle.switch_core.specs.SwitchStep.{SwitchState, idle, changed, is_taken, fired}
@@ -47,8 +47,8 @@ module _ (kinds : List SwitchKind) (states : List State) (next : Option (ℕ × 
   kept-in_kinds = let same = kept.complete.states in omega (arith, same, kept-in_states, length-map states state_view)
 
 -- nothing is due at the beginning
-pub idle-next : (kinds : List SwitchKind) (switches : List Switch) (states : List State) → map state_view states ≡ map (λ (s : Switch). idle s.kind) switches → next_due (lists_view kinds states) ≡ None
-idle-next kinds switches states is = ap (λ (xs : List SwitchState). next_due_from 0 xs) is ∙ nothing_due-is (record { kinds = kinds; states = map (λ (s : Switch). idle s.kind) switches }) (idle_list-nothing_due kinds switches)
+pub idle-next : (kinds : List SwitchKind) (switches : List PlanSwitch) (states : List State) → map state_view states ≡ map (λ (s : PlanSwitch). idle s.kind) switches → next_due (lists_view kinds states) ≡ None
+idle-next kinds switches states is = ap (λ (xs : List SwitchState). next_due_from 0 xs) is ∙ nothing_due-is (record { kinds = kinds; states = map (λ (s : PlanSwitch). idle s.kind) switches }) (idle_list-nothing_due kinds switches)
 
 -- a switch of the view has its place in both lists
 module _ (kinds : List SwitchKind) (states : List State) (s : SwitchesView) (is : lists_view kinds states ≡ s) (switch : SwitchId) (within : switch.0 < length s.kinds) where

@@ -7,40 +7,40 @@ use Rattle.switch_core.specs.Switches.{SwitchesView, all_idle, after_change, aft
 use Rattle.switch_core.specs.AcceptedLevel.{RawChange, accepted_level}
 
 -- a call of `change` or of `fire`, with its moment
-pub data Call : Type 0 where
-  Change : (switch : SwitchId) (level : Bool) (now : ℕ) → Call
-  Fire : (now : ℕ) → Call
+pub data SwitchCall : Type 0 where
+  Change : (switch : SwitchId) (level : Bool) (now : ℕ) → SwitchCall
+  Fire : (now : ℕ) → SwitchCall
 
-abbrev pub call_moment : Call → ℕ
+abbrev pub call_moment : SwitchCall → ℕ
 call_moment (Change switch level now) = now
 call_moment (Fire now) = now
 
-abbrev pub after_call : Call → SwitchesView → SwitchesView
+abbrev pub after_call : SwitchCall → SwitchesView → SwitchesView
 after_call (Change switch level now) s = after_change switch level now s
 after_call (Fire now) s = after_fire s
 
 -- after calls, one after the other
-abbrev pub after_calls : List Call → SwitchesView → SwitchesView
+abbrev pub after_calls : List SwitchCall → SwitchesView → SwitchesView
 after_calls [] s = s
 after_calls (call ∷ calls) s = after_calls calls (after_call call s)
 
 -- the moment of the last call, or without one this moment
-abbrev pub last_moment : ℕ → List Call → ℕ
+abbrev pub last_moment : ℕ → List SwitchCall → ℕ
 last_moment moment [] = moment
 last_moment moment (call ∷ calls) = last_moment (call_moment call) calls
 
 -- A change comes where nothing is due at or before its moment; what is due next is accepted at its moment.
-abbrev pub IsInTime : SwitchesView → Call → Type 0
+abbrev pub IsInTime : SwitchesView → SwitchCall → Type 0
 IsInTime s (Change switch level now) = IsNothingDueBy s now
 IsInTime s (Fire now) = (switch : SwitchId) × IsNextDue s now switch
 
 -- Each call is in time, and their moments do not go back, from this one on.
-abbrev pub AreInTime : ℕ → SwitchesView → List Call → Type 0
+abbrev pub AreInTime : ℕ → SwitchesView → List SwitchCall → Type 0
 AreInTime moment s [] = Unit {0}
 AreInTime moment s (call ∷ calls) = (moment ≤ call_moment call) × IsInTime s call × AreInTime (call_moment call) (after_call call s) calls
 
 -- a switch's raw changes among calls, where its raw level before them is this
-abbrev pub raw_changes : SwitchId → Bool → List Call → List RawChange
+abbrev pub raw_changes : SwitchId → Bool → List SwitchCall → List RawChange
 raw_changes switch raw [] = []
 raw_changes switch raw (Change other level now ∷ calls) =
     if (other.0 == switch.0) && not (same_level level raw) then record { at = now; level = level } ∷ raw_changes switch level calls else raw_changes switch raw calls
@@ -50,14 +50,14 @@ raw_changes switch raw (Fire now ∷ calls) = raw_changes switch raw calls
 -- as its raw changes say.
 abbrev pub LevelsAreAccepted : Type 0
 LevelsAreAccepted =
-    (plan : PlanView) (calls : List Call) (moment : ℕ) → AreInTime 0 (all_idle plan) calls → last_moment 0 calls ≤ moment → IsNothingDueBy (after_calls calls (all_idle plan)) moment
+    (plan : PlanView) (calls : List SwitchCall) (moment : ℕ) → AreInTime 0 (all_idle plan) calls → last_moment 0 calls ≤ moment → IsNothingDueBy (after_calls calls (all_idle plan)) moment
     → (switch : SwitchId) → switch.0 < length plan.switches
     → active_at (after_calls calls (all_idle plan)) switch ≡ accepted_level (switch_at plan switch).kind moment (raw_changes switch (raw_at_rest (switch_at plan switch).kind.contact) calls)
 
 -- No raw level is due before the last call, so that it can still be accepted at its moment.
 abbrev pub NothingIsLate : Type 0
 NothingIsLate =
-    (plan : PlanView) (calls : List Call) → AreInTime 0 (all_idle plan) calls
+    (plan : PlanView) (calls : List SwitchCall) → AreInTime 0 (all_idle plan) calls
     → (switch : SwitchId) (due : ℕ) → switch.0 < length plan.switches → due_of (after_calls calls (all_idle plan)) switch ≡ Some due → last_moment 0 calls ≤ due
 
 -- What a change leaves to be accepted was due already, or is due after the moment of the change.

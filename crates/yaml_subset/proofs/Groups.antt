@@ -14,7 +14,7 @@ use Rattle.yaml_subset.specs.Placed.{HaltsAs}
 use Rattle.yaml_subset.specs.Inside.{line_view, lines_view}
 use Rattle.yaml_subset.specs.Keys.{is_among}
 use Rattle.yaml_bytes.specs.Results.{◌>>=◌}
-use Rattle.yaml_subset.specs.Reading.{key_at, BlockReader, chunks, groups_of, hanging_len, pair_from, pair_at, pairs_at, item_at, items_at}
+use Rattle.yaml_subset.specs.Reading.{key_at, BlockReader, chunks, groups_of, hanging_len, pair_from, pair_at, pairs_at, sequence_item_at, sequence_items_at}
 
 -- ---- the lines that hang, and the groups after them
 
@@ -113,17 +113,17 @@ module _ (depth : ℕ) (block : BlockReader) (around : Option ℕ) (i : ℕ) (fr
       sym so_far ∙ one
 
 module _ (depth : ℕ) (block : BlockReader) (around : Option ℕ) (i : ℕ) (front : List Node) (groups : List Group) (g : Group) (gs : List Group) (total : Result (List Node) PlacedFault) (is : groups ≡ g ∷ gs) where
-  pub items_go_on : (t : Node) → item_at depth block around i g ≡ Ok t → with_front front (items_at depth block around i groups) ≡ total → with_front (front ++ t ∷ []) (items_at depth block around i gs) ≡ total
-  unfolding items_at
+  pub items_go_on : (t : Node) → sequence_item_at depth block around i g ≡ Ok t → with_front front (sequence_items_at depth block around i groups) ≡ total → with_front (front ++ t ∷ []) (sequence_items_at depth block around i gs) ≡ total
+  unfolding sequence_items_at
   items_go_on t h so_far =
-      let one : with_front front (items_at depth block around i groups) ≡ with_front (front ++ t ∷ []) (items_at depth block around i gs) = rw (is, h) (regroup front t (items_at depth block around i gs)) in
+      let one : with_front front (sequence_items_at depth block around i groups) ≡ with_front (front ++ t ∷ []) (sequence_items_at depth block around i gs) = rw (is, h) (regroup front t (sequence_items_at depth block around i gs)) in
       sym one ∙ so_far
 
-  pub items_stop : (e : Halt) → HaltsAs e (item_at depth block around i g) → with_front front (items_at depth block around i groups) ≡ total → HaltsAs e total
-  unfolding items_at
+  pub items_stop : (e : Halt) → HaltsAs e (sequence_item_at depth block around i g) → with_front front (sequence_items_at depth block around i groups) ≡ total → HaltsAs e total
+  unfolding sequence_items_at
   items_stop halts.NoMemory h so_far = tt
   items_stop (halts.At f) h so_far =
-      let one : with_front front (items_at depth block around i groups) ≡ Err f = rw (is, h) refl in
+      let one : with_front front (sequence_items_at depth block around i groups) ≡ Err f = rw (is, h) refl in
       sym so_far ∙ one
 
 module _ (depth : ℕ) (block : BlockReader) (around : Option ℕ) (i at : ℕ) (hangs : Line → Bool) (ls : List lines.Line) (past : length ls ≤ at) where
@@ -136,10 +136,10 @@ module _ (depth : ℕ) (block : BlockReader) (around : Option ℕ) (i at : ℕ) 
       let one : with_front front (pairs_at depth block around i seen (groups_of hangs (lines_view (drop at ls)))) ≡ Ok front = rw no_groups (ap (λ (xs : List Pair). Ok xs) (append-nil front)) in
       sym so_far ∙ one
 
-  pub items_done : (front : List Node) (total : Result (List Node) PlacedFault) → with_front front (items_at depth block around i (groups_of hangs (lines_view (drop at ls)))) ≡ total → total ≡ Ok front
-  unfolding items_at
+  pub items_done : (front : List Node) (total : Result (List Node) PlacedFault) → with_front front (sequence_items_at depth block around i (groups_of hangs (lines_view (drop at ls)))) ≡ total → total ≡ Ok front
+  unfolding sequence_items_at
   items_done front total so_far =
-      let one : with_front front (items_at depth block around i (groups_of hangs (lines_view (drop at ls)))) ≡ Ok front = rw no_groups (ap (λ (xs : List Node). Ok xs) (append-nil front)) in
+      let one : with_front front (sequence_items_at depth block around i (groups_of hangs (lines_view (drop at ls)))) ≡ Ok front = rw no_groups (ap (λ (xs : List Node). Ok xs) (append-nil front)) in
       sym so_far ∙ one
 
 pub fails_then : {A B : Type 0} (e : Halt) (read : Result A PlacedFault) (f : A → Result B PlacedFault) → HaltsAs e read → HaltsAs e (read >>= f)

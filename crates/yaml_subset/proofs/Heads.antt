@@ -9,7 +9,7 @@ use Rattle.yaml_bytes.specs.Bytes.{is_blank, is_indicator, is_mark, begins_blank
 use Rattle.yaml_subset.specs.Node.{Node, scalar}
 use Rattle.yaml_bytes.specs.Results.{◌>>=◌}
 use Rattle.yaml_bytes.specs.Plain.{ends_word}
-use Rattle.yaml_subset.specs.Values.{IsKey, IsEntry, IsNode, IsInline}
+use Rattle.yaml_subset.specs.Values.{IsKey, IsShortKey, IsNode, IsInline}
 use Rattle.yaml_subset.specs.Words.{IsWordAt, word_at}
 use Rattle.yaml_subset.specs.Flow.{IsFlow, begins_bracket, flow_at}
 use Rattle.yaml_bytes.specs.Scanning.{behind_blanks, behind_dash, before_colon}
@@ -252,14 +252,14 @@ pub key_at_complete : (n : ℕ) (text key after : List ℕ) → IsKey text key a
 unfolding key_at key_from key_in
 key_at_complete n text key after h = rw (word_complete n false text key (58 ∷ after) h) refl
 
-pub entry_sound : (text key after : List ℕ) → IsKey text key after → ltb 1024 (characters (before_colon text after)) ≡ false → IsEntry text key after
+pub entry_sound : (text key after : List ℕ) → IsKey text key after → ltb 1024 (characters (before_colon text after)) ≡ false → IsShortKey text key after
 entry_sound text key after k short =
     let f = word_parts false text key (58 ∷ after) k in
     let few : characters (before_colon text after) ≤ 1024 = ltb-false 1024 (characters (before_colon text after)) short in
     record { is_key = k; front = f.0; parts = f.1; short = subst (λ xs. characters xs ≤ 1024) (before_colon-is text f.0 after f.1) few }
 
 -- an entry's key is short
-pub entry_short : (text key after : List ℕ) → IsEntry text key after → ltb 1024 (characters (before_colon text after)) ≡ false
+pub entry_short : (text key after : List ℕ) → IsShortKey text key after → ltb 1024 (characters (before_colon text after)) ≡ false
 entry_short text key after h = rw (before_colon-is text h.front after h.parts) (le-ltb 1024 (characters h.front) h.short)
 
 -- ---- what comes after a colon

@@ -3,7 +3,7 @@ use Rattle.std.proofs.Common.{◌≡◌, ℕ, zero, suc, ◌+◌, ◌≤◌, ◌
 use Rattle.yaml_subset.specs.Node.{Node, Pair}
 use Rattle.yaml_subset.specs.Values.{IsNode, IsInline}
 use Rattle.yaml_subset.specs.TextLines.{Line}
-use Rattle.yaml_subset.specs.TreeOf.{Group, IsValue, ArePairs, IsMapping, IsItem, AreItems, IsSequence, IsAlone, IsBlock, ByLines, IsTree}
+use Rattle.yaml_subset.specs.TreeOf.{Group, IsEntryValue, ArePairs, IsMapping, IsSequenceItem, AreSequenceItems, IsSequence, IsAlone, IsBlock, ByLines, IsTree}
 use Rattle.yaml_bytes.proofs.Steps.{ok_is}
 use Rattle.yaml_subset.proofs.FlowReads.{more_flow_levels}
 use Rattle.yaml_subset.proofs.Meaning.{tree_computes}
@@ -20,7 +20,7 @@ module _ (depth limit : ℕ) (within : depth ≤ limit) where
   alone_more first others t h = record { alone = h.alone; value = node_more first.number first.text t h.value }
 
   module _ (R S : List Line → Node → Type 0) (more : (ls : List Line) (t : Node) → R ls t → S ls t) where
-    value_more : (n : ℕ) (inline : Option Node) (below : List Line) (t : Node) → IsValue R n inline below t → IsValue S n inline below t
+    value_more : (n : ℕ) (inline : Option Node) (below : List Line) (t : Node) → IsEntryValue R n inline below t → IsEntryValue S n inline below t
     value_more n (Some u) below t h = h
     value_more n None [] t h = h
     value_more n None (l ∷ ls) t h = more (l ∷ ls) t h
@@ -45,7 +45,7 @@ module _ (depth limit : ℕ) (within : depth ≤ limit) where
     mapping_more : (first : Line) (others : List Line) (t : Node) → IsMapping depth R first others t → IsMapping limit S first others t
     mapping_more first others t h = record { groups = h.groups; pairs = h.pairs; run = h.run; each = pairs_more [] h.groups h.pairs h.each; tree = h.tree }
 
-    item_more : (g : Group) (t : Node) → IsItem depth R g t → IsItem limit S g t
+    item_more : (g : Group) (t : Node) → IsSequenceItem depth R g t → IsSequenceItem limit S g t
     item_more g t h = record {
       after = h.after;
       dash = h.dash;
@@ -55,7 +55,7 @@ module _ (depth limit : ℕ) (within : depth ≤ limit) where
       ];
     }
 
-    items_more : (gs : List Group) (ts : List Node) → AreItems depth R gs ts → AreItems limit S gs ts
+    items_more : (gs : List Group) (ts : List Node) → AreSequenceItems depth R gs ts → AreSequenceItems limit S gs ts
     items_more [] [] h = tt
     items_more [] (t ∷ ts) h = h
     items_more (g ∷ gs) [] h = h

@@ -9,10 +9,10 @@ use Rattle.yaml_subset.specs.Keys.{is_among}
 use Rattle.yaml_subset.specs.Values.{IsKey, IsNode, IsInline}
 use Rattle.yaml_bytes.specs.Scanning.{behind_blanks, spaces_len, behind_spaces, behind_dash, before_colon}
 use Rattle.yaml_subset.specs.TextLines.{Line}
-use Rattle.yaml_subset.specs.TreeOf.{Group, IsRun, IsValue, IsPair, ArePairs, IsMapping, IsDash, IsInner, IsItem, AreItems, IsSequence, IsAlone, IsBlock, ByLines, IsTree}
+use Rattle.yaml_subset.specs.TreeOf.{Group, AreGroups, IsEntryValue, IsPair, ArePairs, IsMapping, IsDash, IsInner, IsSequenceItem, AreSequenceItems, IsSequence, IsAlone, IsBlock, ByLines, IsTree}
 use Rattle.yaml_bytes.specs.Results.{◌>>=◌}
 use Rattle.yaml_subset.specs.Placed.{fault_at}
-use Rattle.yaml_subset.specs.Reading.{Head, item, entry, alone, head_at, key_at, inline_at, BlockReader, hangs, groups_of, misplaced, closed_at, value_at, pair_from, pair_at, pairs_at, mapping_at, inner, item_with, item_from, item_at, items_at, sequence_at, block_from, deep_from, block_at, tree_at}
+use Rattle.yaml_subset.specs.Reading.{Head, item, entry, alone, head_at, key_at, inline_at, BlockReader, hangs, groups_of, misplaced, closed_at, entry_value_at, pair_from, pair_at, pairs_at, mapping_at, inner, item_with, item_from, sequence_item_at, sequence_items_at, sequence_at, block_from, deep_from, block_at, tree_at}
 use Rattle.yaml_bytes.proofs.Steps.{bind_ok, guard_true, guard_false, chosen, ok_is}
 use Rattle.yaml_bytes.proofs.PlainTexts.{is_behind_blanks, behind_blanks-is}
 use Rattle.yaml_subset.proofs.KeySets.{fresh_sound, fresh_complete}
@@ -81,14 +81,14 @@ inner_complete depth l after found h =
 -- ---- one level
 
 module _ (depth : ℕ) (block : BlockReader) (R : List Line → Node → Type 0) (computes : (around : Option ℕ) → Computes (block around) R) where
-  value_sound : (n i : ℕ) (inline : Option Node) (below : List Line) (t : Node) → value_at block n i inline below ≡ Ok t → IsValue R n inline below t
-  unfolding value_at
+  value_sound : (n i : ℕ) (inline : Option Node) (below : List Line) (t : Node) → entry_value_at block n i inline below ≡ Ok t → IsEntryValue R n inline below t
+  unfolding entry_value_at
   value_sound n i (Some u) below t e = closed_sound (Some i) u below t e
   value_sound n i None [] t e = sym (ok_is (scalar n []) t e)
   value_sound n i None (l ∷ ls) t e = (computes (Some i)).sound (l ∷ ls) t e
 
-  value_complete : (n i : ℕ) (inline : Option Node) (below : List Line) (t : Node) → IsValue R n inline below t → value_at block n i inline below ≡ Ok t
-  unfolding value_at
+  value_complete : (n i : ℕ) (inline : Option Node) (below : List Line) (t : Node) → IsEntryValue R n inline below t → entry_value_at block n i inline below ≡ Ok t
+  unfolding entry_value_at
   value_complete n i (Some u) below t h = closed_complete (Some i) u below t h
   value_complete n i None [] t h = rw h refl
   value_complete n i None (l ∷ ls) t h = (computes (Some i)).complete (l ∷ ls) t h
@@ -102,11 +102,11 @@ module _ (depth : ℕ) (block : BlockReader) (R : List Line → Node → Type 0)
       let n = g.head.number in
       let front = before_colon g.head.text after in
       let made : Node → Result Pair PlacedFault = λ t. Ok (record { line = n; key = key; value = t }) in
-      let read : Result Pair PlacedFault = inline_at depth n after >>= λ inline. value_at block n i inline g.below >>= made in
+      let read : Result Pair PlacedFault = inline_at depth n after >>= λ inline. entry_value_at block n i inline g.below >>= made in
       let a = guard_false (is_among before key) (cond (ltb 1024 (characters front)) (fault_at NotInSubset n (length after + 1)) read) (record { kind = DuplicateKey; line = n; left = length g.head.text }) p k in
       let c = guard_false (ltb 1024 (characters front)) read (record { kind = NotInSubset; line = n; left = length after + 1 }) p a.1 in
-      let inline = bind_ok (inline_at depth n after) (λ inline. value_at block n i inline g.below >>= made) p c.1 in
-      let b = bind_ok (value_at block n i inline.0 g.below) made p inline.2 in
+      let inline = bind_ok (inline_at depth n after) (λ inline. entry_value_at block n i inline g.below >>= made) p c.1 in
+      let b = bind_ok (entry_value_at block n i inline.0 g.below) made p inline.2 in
       subst (IsPair depth R before g) (ok_is (record { line = n; key = key; value = b.0 }) p b.2) (record {
         line = refl;
         after = after;
@@ -173,7 +173,7 @@ module _ (depth : ℕ) (block : BlockReader) (R : List Line → Node → Type 0)
       rw (ps, h.tree) refl
 
   -- a mapping begins with an entry
-  mapping_head : (first : Line) (others : List Line) (gs : List Group) (ps : List Pair) → IsRun (hangs true first.indent) first.indent (first ∷ others) gs → ArePairs depth R [] gs ps → (key : List ℕ) × (after : List ℕ) × (head_at depth first.number first.text ≡ Ok (entry key after))
+  mapping_head : (first : Line) (others : List Line) (gs : List Group) (ps : List Pair) → AreGroups (hangs true first.indent) first.indent (first ∷ others) gs → ArePairs depth R [] gs ps → (key : List ℕ) × (after : List ℕ) × (head_at depth first.number first.text ≡ Ok (entry key after))
   mapping_head first others [] ps run each = absurd cc
   mapping_head first others (g ∷ gs) [] run each = absurd each
   mapping_head first others (g ∷ gs) (p ∷ ps) run each =
@@ -183,7 +183,7 @@ module _ (depth : ℕ) (block : BlockReader) (R : List Line → Node → Type 0)
 
   -- ---- sequences
 
-  item_with_sound : (i : ℕ) (g : Group) (after : List ℕ) (h : Head) (t : Node) → IsDash g.head.text after → is_over (behind_blanks after) ≡ false → head_at depth g.head.number (behind_blanks after) ≡ Ok h → item_with depth block i g after h ≡ Ok t → IsItem depth R g t
+  item_with_sound : (i : ℕ) (g : Group) (after : List ℕ) (h : Head) (t : Node) → IsDash g.head.text after → is_over (behind_blanks after) ≡ false → head_at depth g.head.number (behind_blanks after) ≡ Ok h → item_with depth block i g after h ≡ Ok t → IsSequenceItem depth R g t
   unfolding item_with
   item_with_sound i g after (item behind) t dash some e k = absurd cc
   item_with_sound i g after (alone u) t dash some e k = record {
@@ -195,33 +195,33 @@ module _ (depth : ℕ) (block : BlockReader) (R : List Line → Node → Type 0)
       let a = guard_false (begins_blank (behind_spaces after)) (block (Some i) (inner g.head after ∷ g.below)) (record { kind = Tab; line = g.head.number; left = length (behind_spaces after) }) t k in
       record { after = after; dash = dash; node = inr (inner g.head after, inner_sound depth g.head after key behind a.0 e, (computes (Some i)).sound (inner g.head after ∷ g.below) t a.1) }
 
-  item_from_sound : (i : ℕ) (g : Group) (found : Option (List ℕ)) (t : Node) → behind_dash g.head.text ≡ found → item_from depth block i g found ≡ Ok t → IsItem depth R g t
+  item_from_sound : (i : ℕ) (g : Group) (found : Option (List ℕ)) (t : Node) → behind_dash g.head.text ≡ found → item_from depth block i g found ≡ Ok t → IsSequenceItem depth R g t
   unfolding item_from
   item_from_sound i g None t d e = absurd cc
   item_from_sound i g (Some after) t d e =
       let n = g.head.number in
       let dash = dash_sound g.head.text after d in
-      elim (chosen (is_over (behind_blanks after)) (value_at block n i None g.below) (head_at depth n (behind_blanks after) >>= λ h. item_with depth block i g after h) (Ok t) e) [
+      elim (chosen (is_over (behind_blanks after)) (entry_value_at block n i None g.below) (head_at depth n (behind_blanks after) >>= λ h. item_with depth block i g after h) (Ok t) e) [
         | inl p ↦ record { after = after; dash = dash; node = inl (None, (behind_blanks after, is_behind_blanks after, p.0), value_sound n i None g.below t p.1) }
         | inr p ↦
             let b = bind_ok (head_at depth n (behind_blanks after)) (λ h. item_with depth block i g after h) t p.1 in
             item_with_sound i g after b.0 t dash p.0 b.1 b.2
       ]
 
-  item_sound : (around : Option ℕ) (i : ℕ) (g : Group) (t : Node) → item_at depth block around i g ≡ Ok t → (g.head.indent ≡ i) × IsItem depth R g t
-  unfolding item_at
+  item_sound : (around : Option ℕ) (i : ℕ) (g : Group) (t : Node) → sequence_item_at depth block around i g ≡ Ok t → (g.head.indent ≡ i) × IsSequenceItem depth R g t
+  unfolding sequence_item_at
   item_sound around i g t e =
       let a = guard_true (g.head.indent == i) (item_from depth block i g (behind_dash g.head.text)) (record { kind = misplaced around g.head; line = g.head.number; left = length g.head.text }) t e in
       (eqb-true g.head.indent i a.0, item_from_sound i g (behind_dash g.head.text) t refl a.1)
 
   -- an item with a value as entries have them
-  valued : (i : ℕ) (g : Group) (after : List ℕ) (inline : Option Node) (t : Node) → behind_dash g.head.text ≡ Some after → IsInline depth g.head.number after inline → IsValue R g.head.number inline g.below t
+  valued : (i : ℕ) (g : Group) (after : List ℕ) (inline : Option Node) (t : Node) → behind_dash g.head.text ≡ Some after → IsInline depth g.head.number after inline → IsEntryValue R g.head.number inline g.below t
       → item_from depth block i g (behind_dash g.head.text) ≡ Ok t
   unfolding item_from item_with
   valued i g after None t d h v = rw (d, behind_blanks-is after h.0 h.1, h.2) (value_complete g.head.number i None g.below t v)
   valued i g after (Some u) t d h v = rw (d, behind_blanks-is after h.0 h.1, h.2, alone_complete depth g.head.number h.0 u h.3) (value_complete g.head.number i (Some u) g.below t v)
 
-  item_from_complete : (i : ℕ) (g : Group) (t : Node) → IsItem depth R g t → item_from depth block i g (behind_dash g.head.text) ≡ Ok t
+  item_from_complete : (i : ℕ) (g : Group) (t : Node) → IsSequenceItem depth R g t → item_from depth block i g (behind_dash g.head.text) ≡ Ok t
   unfolding item_from item_with
   item_from_complete i g t h =
       let n = g.head.number in
@@ -233,22 +233,22 @@ module _ (depth : ℕ) (block : BlockReader) (R : List Line → Node → Type 0)
             rw (d, c.1, c.2, c.3, c.0) ((computes (Some i)).complete (m.0 ∷ g.below) t m.2)
       ]
 
-  item_complete : (around : Option ℕ) (i : ℕ) (g : Group) (t : Node) → g.head.indent ≡ i → IsItem depth R g t → item_at depth block around i g ≡ Ok t
-  unfolding item_at
+  item_complete : (around : Option ℕ) (i : ℕ) (g : Group) (t : Node) → g.head.indent ≡ i → IsSequenceItem depth R g t → sequence_item_at depth block around i g ≡ Ok t
+  unfolding sequence_item_at
   item_complete around i g t at h = rw (eq-eqb g.head.indent i at) (item_from_complete i g t h)
 
-  items_sound : (around : Option ℕ) (i : ℕ) (gs : List Group) (ts : List Node) → items_at depth block around i gs ≡ Ok ts → AllStand (hangs false i) i gs × AreItems depth R gs ts
-  unfolding items_at
-  items_sound around i [] ts e = (tt, subst (AreItems depth R []) (ok_is [] ts e) tt)
+  items_sound : (around : Option ℕ) (i : ℕ) (gs : List Group) (ts : List Node) → sequence_items_at depth block around i gs ≡ Ok ts → AllStand (hangs false i) i gs × AreSequenceItems depth R gs ts
+  unfolding sequence_items_at
+  items_sound around i [] ts e = (tt, subst (AreSequenceItems depth R []) (ok_is [] ts e) tt)
   items_sound around i (g ∷ gs) ts e =
-      let a = bind_ok (item_at depth block around i g) (λ t. items_at depth block around i gs >>= λ us. Ok (t ∷ us)) ts e in
-      let b = bind_ok (items_at depth block around i gs) (λ us. Ok (a.0 ∷ us)) ts a.2 in
+      let a = bind_ok (sequence_item_at depth block around i g) (λ t. sequence_items_at depth block around i gs >>= λ us. Ok (t ∷ us)) ts e in
+      let b = bind_ok (sequence_items_at depth block around i gs) (λ us. Ok (a.0 ∷ us)) ts a.2 in
       let one = item_sound around i g a.0 a.1 in
       let more = items_sound around i gs b.0 b.1 in
-      (((one.0, hangs_not false i g.head one.0 refl), more.0), subst (AreItems depth R (g ∷ gs)) (ok_is (a.0 ∷ b.0) ts b.2) (one.1, more.1))
+      (((one.0, hangs_not false i g.head one.0 refl), more.0), subst (AreSequenceItems depth R (g ∷ gs)) (ok_is (a.0 ∷ b.0) ts b.2) (one.1, more.1))
 
-  items_complete : (around : Option ℕ) (i : ℕ) (gs : List Group) (ts : List Node) → AllStand (hangs false i) i gs → AreItems depth R gs ts → items_at depth block around i gs ≡ Ok ts
-  unfolding items_at
+  items_complete : (around : Option ℕ) (i : ℕ) (gs : List Group) (ts : List Node) → AllStand (hangs false i) i gs → AreSequenceItems depth R gs ts → sequence_items_at depth block around i gs ≡ Ok ts
+  unfolding sequence_items_at
   items_complete around i [] [] at h = refl
   items_complete around i [] (t ∷ ts) at h = absurd h
   items_complete around i (g ∷ gs) [] at h = absurd h
@@ -259,7 +259,7 @@ module _ (depth : ℕ) (block : BlockReader) (R : List Line → Node → Type 0)
   sequence_sound around first others t e =
       let i = first.indent in
       let gs = groups_of (hangs false i) (first ∷ others) in
-      let a = bind_ok (items_at depth block around i gs) (λ ts. Ok (sequence first.number (nodes_of ts))) t e in
+      let a = bind_ok (sequence_items_at depth block around i gs) (λ ts. Ok (sequence first.number (nodes_of ts))) t e in
       let b = items_sound around i gs a.0 a.1 in
       record {
         groups = gs;
@@ -274,12 +274,12 @@ module _ (depth : ℕ) (block : BlockReader) (R : List Line → Node → Type 0)
   sequence_complete around first others t h =
       let i = first.indent in
       let at = run_stands (hangs false i) i (first ∷ others) h.groups h.run in
-      let ts : items_at depth block around i (groups_of (hangs false i) (first ∷ others)) ≡ Ok h.nodes =
-      subst (λ gs. items_at depth block around i gs ≡ Ok h.nodes) (run_is_groups (hangs false i) i (first ∷ others) h.groups h.run) (items_complete around i h.groups h.nodes at h.each) in
+      let ts : sequence_items_at depth block around i (groups_of (hangs false i) (first ∷ others)) ≡ Ok h.nodes =
+      subst (λ gs. sequence_items_at depth block around i gs ≡ Ok h.nodes) (run_is_groups (hangs false i) i (first ∷ others) h.groups h.run) (items_complete around i h.groups h.nodes at h.each) in
       rw (ts, h.tree) refl
 
   -- a sequence begins with an item
-  sequence_head : (first : Line) (others : List Line) (gs : List Group) (ts : List Node) → IsRun (hangs false first.indent) first.indent (first ∷ others) gs → AreItems depth R gs ts → (after : List ℕ) × (head_at depth first.number first.text ≡ Ok (item after))
+  sequence_head : (first : Line) (others : List Line) (gs : List Group) (ts : List Node) → AreGroups (hangs false first.indent) first.indent (first ∷ others) gs → AreSequenceItems depth R gs ts → (after : List ℕ) × (head_at depth first.number first.text ≡ Ok (item after))
   sequence_head first others [] ts run each = absurd cc
   sequence_head first others (g ∷ gs) [] run each = absurd each
   sequence_head first others (g ∷ gs) (t ∷ ts) run each =

@@ -8,7 +8,7 @@ use Rattle.yaml_subset.specs.declared.place.Halt.{Halt}
 use Rattle.yaml_subset.specs.declared.place.Halt.TheVariants as halts
 use Rattle.yaml_bytes.specs.Results.{◌>>=◌}
 use Rattle.yaml_subset.specs.Placed.{fault_at, HaltsAs}
-use Rattle.yaml_subset.specs.Quoted.{IsSingleByte, unescaped, IsDoubleByte, IsWritten, begins_single, IsSingle, IsDouble, onto_value, single_at, escape_at, double_at, escaped_byte, double_byte_at}
+use Rattle.yaml_subset.specs.Quoted.{IsSingleByte, unescaped, IsDoubleByte, IsWrittenBy, begins_single, IsSingle, IsDouble, onto_value, single_at, escape_at, double_at, byte_behind_backslash, double_byte_at}
 use Rattle.yaml_bytes.proofs.Steps.{ok_is}
 use Rattle.yaml_bytes.proofs.TextLines.{none_at, after_first}
 
@@ -53,7 +53,7 @@ unfolding double_at
 double-ends n b [] e = rw e refl
 double-ends n b (c ∷ cs) e = rw e refl
 
-escape_step : (n : ℕ) (o : Option ℕ) (left : ℕ) (cs : List ℕ) → escape_at n o left (double_at n cs) ≡ (escaped_byte n o left cs >>= λ r. onto_value r.0 (double_at n r.1))
+escape_step : (n : ℕ) (o : Option ℕ) (left : ℕ) (cs : List ℕ) → escape_at n o left (double_at n cs) ≡ (byte_behind_backslash n o left cs >>= λ r. onto_value r.0 (double_at n r.1))
 escape_step n None left cs = refl
 escape_step n (Some b) left cs = refl
 
@@ -70,7 +70,7 @@ double-goes_on n b (c ∷ cs) e =
       | inr f ↦ rw (e, f) refl
     ]
 
-shorter_from : (n : ℕ) (o : Option ℕ) (left : ℕ) (after : List ℕ) (byte : ℕ) (more : List ℕ) → escaped_byte n o left after ≡ Ok (byte, more) → more ≡ after
+shorter_from : (n : ℕ) (o : Option ℕ) (left : ℕ) (after : List ℕ) (byte : ℕ) (more : List ℕ) → byte_behind_backslash n o left after ≡ Ok (byte, more) → more ≡ after
 shorter_from n None left after byte more e = absurd cc
 shorter_from n (Some b) left after byte more e = sym (ap (λ (r : ℕ × List ℕ). r.1) (ok_is (b, after) (byte, more) e))
 
@@ -201,7 +201,7 @@ single_sound n (b ∷ c ∷ cs) value after e =
           subst (λ xs. IsSingle (b ∷ c ∷ cs) xs after) (sym p.1) (single_more b (c ∷ cs) p.0 after f (single_sound n (c ∷ cs) p.0 after p.2))
     ]
 
-single_reads : (n : ℕ) (value written after : List ℕ) → IsWritten IsSingleByte value written → begins_single after ≡ false → single_at n (written ++ 39 ∷ after) ≡ Ok (value, after)
+single_reads : (n : ℕ) (value written after : List ℕ) → IsWrittenBy IsSingleByte value written → begins_single after ≡ false → single_at n (written ++ 39 ∷ after) ≡ Ok (value, after)
 single_reads n [] written after is ends = ap (λ (w : List ℕ). single_at n (w ++ 39 ∷ after)) is ∙ single-ends n 39 after refl ends
 single_reads n (b ∷ bs) written after is ends =
     let front = is.0 in
@@ -274,7 +274,7 @@ double_sound n (b ∷ c ∷ cs) value after e =
       ]
     ]
 
-double_reads : (n : ℕ) (value written after : List ℕ) → IsWritten IsDoubleByte value written → double_at n (written ++ 34 ∷ after) ≡ Ok (value, after)
+double_reads : (n : ℕ) (value written after : List ℕ) → IsWrittenBy IsDoubleByte value written → double_at n (written ++ 34 ∷ after) ≡ Ok (value, after)
 double_reads n [] written after is = ap (λ (w : List ℕ). double_at n (w ++ 34 ∷ after)) is ∙ double-ends n 34 after refl
 double_reads n (b ∷ bs) written after is =
     let front = is.0 in

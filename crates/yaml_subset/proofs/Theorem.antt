@@ -8,9 +8,9 @@ use Rattle.yaml_subset.specs.declared.fault.YamlFault.{YamlFault}
 use Rattle.yaml_subset.specs.declared.fault.YamlFault.TheVariants as faults
 use Rattle.yaml_subset.specs.declared.tree.Tree.{Tree}
 use Rattle.yaml_subset.specs.Node.{Node}
-use Rattle.yaml_subset.specs.View.{node_view, Gives}
+use Rattle.yaml_subset.specs.View.{node_view, GivesTree}
 use Rattle.yaml_bytes.specs.Lines.{lines_of}
-use Rattle.yaml_subset.specs.TreeOf.{IsTree, IsTreeOf, IsAbove}
+use Rattle.yaml_subset.specs.TreeOf.{IsTree, IsTreeOf, IsTextAbove}
 use Rattle.yaml_subset.specs.Reading.{tree_at, contents_from, unless, without_place, read_at}
 use Rattle.yaml_bytes.proofs.Steps.{guard_false, ok_is}
 use Rattle.yaml_subset.proofs.Meaning.{tree_computes}
@@ -44,11 +44,11 @@ unfolding read_at
 read_complete text t short h =
     rw (le-ltb (2 ^ 20) (length text) short, contents_complete 1 (lines_of text) h.lines h.content, (tree_computes 32 8 None).complete h.lines t h.is_tree) refl
 
-pub is_found : (text : List ℕ) (r : Result Tree YamlFault) → Gives node_view r (read_at text) → IfOk r (λ tree. IsTreeOf 32 8 text (node_view tree))
+pub is_found : (text : List ℕ) (r : Result Tree YamlFault) → GivesTree node_view r (read_at text) → IfOk r (λ tree. IsTreeOf 32 8 text (node_view tree))
 is_found text (Ok tree) h = read_sound text (node_view tree) h
 is_found text (Err e) h = tt
 
-pub is_only : (text : List ℕ) (r : Result Tree YamlFault) → Gives node_view r (read_at text) → IfOk r (λ tree. (levels depth : ℕ) (t : Node) → IsTreeOf levels depth text t → t ≡ node_view tree)
+pub is_only : (text : List ℕ) (r : Result Tree YamlFault) → GivesTree node_view r (read_at text) → IfOk r (λ tree. (levels depth : ℕ) (t : Node) → IsTreeOf levels depth text t → t ≡ node_view tree)
 is_only text (Ok tree) h = λ levels depth t k.
     let s = read_sound text (node_view tree) h in
     let same = one_content 1 (lines_of text) k.lines s.lines k.content s.content in
@@ -56,7 +56,7 @@ is_only text (Ok tree) h = λ levels depth t k.
 is_only text (Err e) h = tt
 
 -- a text that is refused has no tree within the limits
-none_within : (text : List ℕ) (f : Fault) → read_at text ≡ Err f → (levels depth : ℕ) (t : Node) → IsTreeOf levels depth text t → IsAbove levels depth text
+none_within : (text : List ℕ) (f : Fault) → read_at text ≡ Err f → (levels depth : ℕ) (t : Node) → IsTreeOf levels depth text t → IsTextAbove levels depth text
 none_within text f e levels depth t k =
     elim (cases_lt (2 ^ 20) (length text)) [
       | inl long ↦ inl long
@@ -72,7 +72,7 @@ none_within text f e levels depth t k =
       ]
     ]
 
-pub is_refused : (text : List ℕ) (r : Result Tree YamlFault) → Gives node_view r (read_at text) → IfErr r (λ e. e ≢ faults.NoMemory → (levels depth : ℕ) (t : Node) → IsTreeOf levels depth text t → IsAbove levels depth text)
+pub is_refused : (text : List ℕ) (r : Result Tree YamlFault) → GivesTree node_view r (read_at text) → IfErr r (λ e. e ≢ faults.NoMemory → (levels depth : ℕ) (t : Node) → IsTreeOf levels depth text t → IsTextAbove levels depth text)
 is_refused text (Ok tree) h = tt
 is_refused text (Err faults.NoMemory) h = λ other. absurd (other refl)
 is_refused text (Err (faults.Text f)) h = λ _. none_within text f h

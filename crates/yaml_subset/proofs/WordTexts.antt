@@ -9,7 +9,7 @@ use Rattle.yaml_bytes.specs.Bytes.{is_blank, begins_blank, begins_gap, is_flow_i
 use Rattle.yaml_bytes.specs.Plain.{IsBehindBlanks, ends_word, IsWordEnd}
 use Rattle.yaml_bytes.specs.Scanning.{trimmed, behind_blanks, word_front, word_rest}
 use Rattle.yaml_subset.specs.Quoted.{IsSingle, IsDouble, single_at, double_at}
-use Rattle.yaml_subset.specs.Words.{breaks_flow, may_follow, IsPlainAt, IsQuotedAt, IsWordAt, misfit, plain_at, behind_quote, quoted_at, word_at}
+use Rattle.yaml_subset.specs.Words.{breaks_flow, may_follow, IsPlainAt, IsQuotedAt, IsWordAt, misfit, plain_word_at, behind_quote, quoted_at, word_at}
 use Rattle.yaml_bytes.proofs.Steps.{bind_ok, guard_true, guard_false, ok_is}
 use Rattle.yaml_bytes.proofs.Steps.{chosen}
 use Rattle.yaml_bytes.proofs.PlainTexts.{plain_word, plain_word-is, is_behind_blanks, behind_blanks-is}
@@ -17,8 +17,8 @@ use Rattle.yaml_subset.proofs.QuotedTexts.{single_sound, single_complete, double
 
 -- ---- plain words
 
-plain_sound : (n : ℕ) (flow : Bool) (text value rest : List ℕ) → plain_at n flow text ≡ Ok (value, rest) → IsPlainAt flow text value rest
-unfolding plain_at
+plain_sound : (n : ℕ) (flow : Bool) (text value rest : List ℕ) → plain_word_at n flow text ≡ Ok (value, rest) → IsPlainAt flow text value rest
+unfolding plain_word_at
 plain_sound n flow text value rest e =
     let found : Result (List ℕ × List ℕ) PlacedFault = Ok (trimmed (word_front flow text), word_rest flow text) in
     let broken : PlacedFault = record { kind = Flow; line = n; left = length (word_rest flow text) } in
@@ -28,8 +28,8 @@ plain_sound n flow text value rest e =
     let p = plain_word flow text a.0 in
     subst (λ (r : List ℕ × List ℕ). IsPlainAt flow text r.0 r.1) same (record { blanks = p.0; is_plain = p.1; unbroken = b.0 })
 
-plain_complete : (n : ℕ) (flow : Bool) (text value rest : List ℕ) → IsPlainAt flow text value rest → plain_at n flow text ≡ Ok (value, rest)
-unfolding plain_at
+plain_complete : (n : ℕ) (flow : Bool) (text value rest : List ℕ) → IsPlainAt flow text value rest → plain_word_at n flow text ≡ Ok (value, rest)
+unfolding plain_word_at
 plain_complete n flow text value rest h =
     let p = plain_word-is flow text value h.blanks rest h.is_plain in
     rw (h.is_plain.begins, p.0, p.1, h.unbroken, p.2) refl
@@ -76,9 +76,9 @@ pub word_sound : (n : ℕ) (flow : Bool) (text value rest : List ℕ) → word_a
 unfolding word_at
 word_sound n flow [] value rest e = inl (plain_sound n flow [] value rest e)
 word_sound n flow (b ∷ bs) value rest e =
-    elim (chosen (b == 39) (quoted_at n flow (single_at n bs)) (cond (b == 34) (quoted_at n flow (double_at n bs)) (plain_at n flow (b ∷ bs))) (Ok (value, rest)) e) [
+    elim (chosen (b == 39) (quoted_at n flow (single_at n bs)) (cond (b == 34) (quoted_at n flow (double_at n bs)) (plain_word_at n flow (b ∷ bs))) (Ok (value, rest)) e) [
       | inl p ↦ inr (inl (quoted_sound n 39 IsSingle (single_at n) (single_sound n) flow b bs value rest p.0 p.1))
-      | inr p ↦ elim (chosen (b == 34) (quoted_at n flow (double_at n bs)) (plain_at n flow (b ∷ bs)) (Ok (value, rest)) p.1) [
+      | inr p ↦ elim (chosen (b == 34) (quoted_at n flow (double_at n bs)) (plain_word_at n flow (b ∷ bs)) (Ok (value, rest)) p.1) [
         | inl q ↦ inr (inr (quoted_sound n 34 IsDouble (double_at n) (double_sound n) flow b bs value rest q.0 q.1))
         | inr q ↦ inl (plain_sound n flow (b ∷ bs) value rest q.1)
       ]
@@ -91,10 +91,10 @@ no_quote flow b bs h = (
   ne_eqb b 34 (λ is. let k : begins_word flow (34 ∷ bs) ≡ true = subst (λ x. begins_word flow (x ∷ bs) ≡ true) is h in absurd cc),
 )
 
-plain_at-word : (n : ℕ) (flow : Bool) (text value rest : List ℕ) → IsPlainAt flow text value rest → word_at n flow text ≡ plain_at n flow text
+plain_word_at-word : (n : ℕ) (flow : Bool) (text value rest : List ℕ) → IsPlainAt flow text value rest → word_at n flow text ≡ plain_word_at n flow text
 unfolding word_at
-plain_at-word n flow [] value rest h = refl
-plain_at-word n flow (b ∷ bs) value rest h = let n = no_quote flow b bs h.is_plain.begins in rw (n.0, n.1) refl
+plain_word_at-word n flow [] value rest h = refl
+plain_word_at-word n flow (b ∷ bs) value rest h = let n = no_quote flow b bs h.is_plain.begins in rw (n.0, n.1) refl
 
 single_at-word : (n : ℕ) (flow : Bool) (inside : List ℕ) → word_at n flow (39 ∷ inside) ≡ quoted_at n flow (single_at n inside)
 unfolding word_at
@@ -107,7 +107,7 @@ double_at-word n flow inside = refl
 pub word_complete : (n : ℕ) (flow : Bool) (text value rest : List ℕ) → IsWordAt flow text value rest → word_at n flow text ≡ Ok (value, rest)
 word_complete n flow text value rest h =
     elim h [
-      | inl p ↦ plain_at-word n flow text value rest p ∙ plain_complete n flow text value rest p
+      | inl p ↦ plain_word_at-word n flow text value rest p ∙ plain_complete n flow text value rest p
       | inr q ↦ elim q [
         | inl s ↦ ap (word_at n flow) s.opens ∙ single_at-word n flow s.inside ∙ quoted_complete n 39 IsSingle (single_at n) (single_complete n) flow text value rest s
         | inr d ↦ ap (word_at n flow) d.opens ∙ double_at-word n flow d.inside ∙ quoted_complete n 34 IsDouble (double_at n) (double_complete n) flow text value rest d

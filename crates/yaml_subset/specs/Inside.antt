@@ -49,9 +49,6 @@ abbrev pub key_option_view : Option (Vec ℕ × Bor (List ℕ)) → Option (List
 key_option_view None = None
 key_option_view (Some r) = Some (word_view r)
 
-abbrev pub rest_view : Bor (List ℕ) → List ℕ
-rest_view rest = rest.now
-
 -- the keys of a set
 abbrev pub copies_view : BTreeSet (Vec ℕ) → List (List ℕ)
 copies_view s = map (λ k. k.items) s.keys

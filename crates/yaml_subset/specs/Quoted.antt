@@ -19,9 +19,9 @@ abbrev pub IsDoubleByte : ℕ → List ℕ → Type 0
 IsDoubleByte b text = ((b ≢ 34) × (b ≢ 92) × (text ≡ b ∷ [])) ⊎ ((e : ℕ) × (unescaped e ≡ Some b) × (text ≡ 92 ∷ e ∷ []))
 
 -- how a value is written: its bytes, one after the other
-abbrev pub IsWritten : (ℕ → List ℕ → Type 0) → List ℕ → List ℕ → Type 0
-IsWritten IsByte [] text = text ≡ []
-IsWritten IsByte (b ∷ bs) text = (front : List ℕ) × (rest : List ℕ) × (text ≡ front ++ rest) × IsByte b front × IsWritten IsByte bs rest
+abbrev pub IsWrittenBy : (ℕ → List ℕ → Type 0) → List ℕ → List ℕ → Type 0
+IsWrittenBy IsByte [] text = text ≡ []
+IsWrittenBy IsByte (b ∷ bs) text = (front : List ℕ) × (rest : List ℕ) × (text ≡ front ++ rest) × IsByte b front × IsWrittenBy IsByte bs rest
 
 -- whether a single quote comes first
 abbrev pub begins_single : List ℕ → Bool
@@ -31,14 +31,14 @@ begins_single (b ∷ bs) = b == 39
 -- A value, and the quote that ends it: no other follows that one.
 pub record IsSingle (text value after : List ℕ) : Type 0 where
   pub written : List ℕ
-  pub is_written : IsWritten IsSingleByte value written
+  pub is_written : IsWrittenBy IsSingleByte value written
   pub parts : text ≡ written ++ 39 ∷ after
   pub ends : begins_single after ≡ false
 
 -- a value, and the quote that ends it
 pub record IsDouble (text value after : List ℕ) : Type 0 where
   pub written : List ℕ
-  pub is_written : IsWritten IsDoubleByte value written
+  pub is_written : IsWrittenBy IsDoubleByte value written
   pub parts : text ≡ written ++ 34 ∷ after
 
 -- ---- reading it from the first byte to the last: the value, and what follows the quote that ends it
@@ -67,11 +67,11 @@ double_at n (b ∷ c ∷ cs) =
     else (if b == 92 then escape_at n (unescaped c) (length (b ∷ c ∷ cs)) (double_at n cs) else onto_value b (double_at n (c ∷ cs)))
 
 -- the byte at the front, which an escape may write, and what follows it
-abbrev pub escaped_byte : ℕ → Option ℕ → ℕ → List ℕ → Result (ℕ × List ℕ) PlacedFault
-escaped_byte n (Some b) left after = Ok (b, after)
-escaped_byte n None left after = fault_at Quote n left
+abbrev pub byte_behind_backslash : ℕ → Option ℕ → ℕ → List ℕ → Result (ℕ × List ℕ) PlacedFault
+byte_behind_backslash n (Some b) left after = Ok (b, after)
+byte_behind_backslash n None left after = fault_at Quote n left
 
 unfoldable pub double_byte_at : ℕ → List ℕ → Result (ℕ × List ℕ) PlacedFault
 double_byte_at n [] = fault_at Quote n 0
 double_byte_at n (b ∷ []) = if b == 92 then fault_at Quote n 1 else Ok (b, [])
-double_byte_at n (b ∷ c ∷ cs) = if b == 92 then escaped_byte n (unescaped c) (length (b ∷ c ∷ cs)) cs else Ok (b, c ∷ cs)
+double_byte_at n (b ∷ c ∷ cs) = if b == 92 then byte_behind_backslash n (unescaped c) (length (b ∷ c ∷ cs)) cs else Ok (b, c ∷ cs)

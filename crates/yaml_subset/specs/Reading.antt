@@ -118,10 +118,10 @@ closed_at around t [] = Ok t
 closed_at around t (l ∷ ls) = fault_of (misplaced around l) l
 
 -- the value of an entry or item at the indentation i
-unfoldable pub value_at : BlockReader → ℕ → ℕ → Option Node → List Line → Result Node PlacedFault
-value_at block n i (Some t) below = closed_at (Some i) t below
-value_at block n i None [] = Ok (scalar n [])
-value_at block n i None (l ∷ ls) = block (Some i) (l ∷ ls)
+unfoldable pub entry_value_at : BlockReader → ℕ → ℕ → Option Node → List Line → Result Node PlacedFault
+entry_value_at block n i (Some t) below = closed_at (Some i) t below
+entry_value_at block n i None [] = Ok (scalar n [])
+entry_value_at block n i None (l ∷ ls) = block (Some i) (l ∷ ls)
 
 -- The pair of a line, with the fault that comes first on it: where the line is no entry, that is at its first character.
 unfoldable pub pair_from : ℕ → BlockReader → ℕ → List (List ℕ) → Group → Option (List ℕ × List ℕ) → Result Pair PlacedFault
@@ -131,7 +131,7 @@ pair_from depth block i before g (Some k) =
     then fault_of DuplicateKey g.head
     else (if nat_lt 1024 (characters (before_colon g.head.text k.1))
     then fault_at NotInSubset g.head.number (length k.1 + 1)
-    else (inline_at depth g.head.number k.1 >>= λ inline. value_at block g.head.number i inline g.below >>= λ t. Ok (record { line = g.head.number; key = k.0; value = t })))
+    else (inline_at depth g.head.number k.1 >>= λ inline. entry_value_at block g.head.number i inline g.below >>= λ t. Ok (record { line = g.head.number; key = k.0; value = t })))
 
 unfoldable pub pair_at : ℕ → BlockReader → Option ℕ → ℕ → List (List ℕ) → Group → Result Pair PlacedFault
 pair_at depth block around i before g =
@@ -158,7 +158,7 @@ inner l after = record { number = l.number; indent = l.indent + (1 + spaces_len 
 -- after the `-` of an item, where this begins there
 unfoldable pub item_with : ℕ → BlockReader → ℕ → Group → List ℕ → Head → Result Node PlacedFault
 item_with depth block i g after (item behind) = fault_at NotInSubset g.head.number (length (behind_blanks after))
-item_with depth block i g after (alone t) = value_at block g.head.number i (Some t) g.below
+item_with depth block i g after (alone t) = entry_value_at block g.head.number i (Some t) g.below
 item_with depth block i g after (entry key behind) =
     if begins_blank (behind_spaces after) then fault_at Tab g.head.number (length (behind_spaces after)) else block (Some i) (inner g.head after ∷ g.below)
 
@@ -166,26 +166,26 @@ unfoldable pub item_from : ℕ → BlockReader → ℕ → Group → Option (Lis
 item_from depth block i g None = fault_of NotInSubset g.head
 item_from depth block i g (Some after) =
     if is_over (behind_blanks after)
-    then value_at block g.head.number i None g.below
+    then entry_value_at block g.head.number i None g.below
     else (head_at depth g.head.number (behind_blanks after) >>= λ h. item_with depth block i g after h)
 
-unfoldable pub item_at : ℕ → BlockReader → Option ℕ → ℕ → Group → Result Node PlacedFault
-item_at depth block around i g =
+unfoldable pub sequence_item_at : ℕ → BlockReader → Option ℕ → ℕ → Group → Result Node PlacedFault
+sequence_item_at depth block around i g =
     if g.head.indent == i
     then item_from depth block i g (behind_dash g.head.text)
     else fault_of (misplaced around g.head) g.head
 
-unfoldable pub items_at : ℕ → BlockReader → Option ℕ → ℕ → List Group → Result (List Node) PlacedFault
-items_at depth block around i [] = Ok []
-items_at depth block around i (g ∷ gs) = do
-  t ← item_at depth block around i g
-  ts ← items_at depth block around i gs
+unfoldable pub sequence_items_at : ℕ → BlockReader → Option ℕ → ℕ → List Group → Result (List Node) PlacedFault
+sequence_items_at depth block around i [] = Ok []
+sequence_items_at depth block around i (g ∷ gs) = do
+  t ← sequence_item_at depth block around i g
+  ts ← sequence_items_at depth block around i gs
   Ok (t ∷ ts)
 
 -- the sequence that lines are
 unfoldable pub sequence_at : ℕ → BlockReader → Option ℕ → Line → List Line → Result Node PlacedFault
 sequence_at depth block around first others =
-    items_at depth block around first.indent (groups_of (hangs false first.indent) (first ∷ others)) >>= λ ts. Ok (sequence first.number (nodes_of ts))
+    sequence_items_at depth block around first.indent (groups_of (hangs false first.indent) (first ∷ others)) >>= λ ts. Ok (sequence first.number (nodes_of ts))
 
 -- the block that lines are, by what the first of them begins
 unfoldable pub block_from : ℕ → BlockReader → Option ℕ → Line → List Line → Head → Result Node PlacedFault

@@ -13,7 +13,7 @@ pub record Line : Type 0 where
   pub text : List ℕ
 
 -- Spaces, and then a text: neither a blank comes first nor a comment, and the line is no `---` or `...`.
-pub record IsContent (raw : List ℕ) (l : Line) : Type 0 where
+pub record IsContentLine (raw : List ℕ) (l : Line) : Type 0 where
   pub parts : raw ≡ replicate l.indent 32 ++ l.text
   pub no_more : begins_blank l.text ≡ false
   pub not_over : is_over l.text ≡ false
@@ -22,7 +22,7 @@ pub record IsContent (raw : List ℕ) (l : Line) : Type 0 where
 -- What the line n holds: nothing but blanks and a comment, or content.
 abbrev pub Holds : ℕ → List ℕ → Option Line → Type 0
 Holds n raw None = (rest : List ℕ) × IsBehindBlanks raw rest × (is_over rest ≡ true)
-Holds n raw (Some l) = (l.number ≡ n) × IsContent raw l
+Holds n raw (Some l) = (l.number ≡ n) × IsContentLine raw l
 
 -- a line of UTF-8 without a forbidden character
 pub record IsTextLine (n : ℕ) (raw : List ℕ) (found : Option Line) : Type 0 where

@@ -3,7 +3,7 @@ use Rattle.std.specs.Prelude.{◌≡◌, ℕ, zero, suc, ◌<◌, ◌+◌, ◌^�
 use Rattle.std.specs.List.{Contains, AllByRecursion}
 use Rattle.yaml_bytes.specs.Bytes.{begins_gap, begins_item}
 use Rattle.yaml_subset.specs.Node.{Node, scalar, sequence, nodes_of, mapping, no_pairs, Pair, pairs_of}
-use Rattle.yaml_subset.specs.Values.{IsKey, IsEntry, IsInline, IsNode}
+use Rattle.yaml_subset.specs.Values.{IsKey, IsShortKey, IsInline, IsNode}
 use Rattle.yaml_bytes.specs.Lines.{lines_of}
 use Rattle.yaml_subset.specs.TextLines.{Line, HaveContent}
 
@@ -25,26 +25,26 @@ abbrev pub Stands : (Line → Bool) → ℕ → Line → Type 0
 Stands hangs i l = (l.indent ≡ i) × (hangs l ≡ false)
 
 -- The lines are these groups, one after the other: each a line at the indentation, and the lines that hang from it.
-abbrev pub IsRun : (Line → Bool) → ℕ → List Line → List Group → Type 0
-IsRun hangs i lines [] = lines ≡ []
-IsRun hangs i lines (g ∷ gs) =
-    (rest : List Line) × (lines ≡ g.head ∷ (g.below ++ rest)) × Stands hangs i g.head × AllByRecursion (λ l. hangs l ≡ true) g.below × IsRun hangs i rest gs
+abbrev pub AreGroups : (Line → Bool) → ℕ → List Line → List Group → Type 0
+AreGroups hangs i lines [] = lines ≡ []
+AreGroups hangs i lines (g ∷ gs) =
+    (rest : List Line) × (lines ≡ g.head ∷ (g.below ++ rest)) × Stands hangs i g.head × AllByRecursion (λ l. hangs l ≡ true) g.below × AreGroups hangs i rest gs
 
 -- The value of an entry or item on the line n: what is on its line, with nothing below; or else the block below; or else the empty text.
-abbrev pub IsValue : (List Line → Node → Type 0) → ℕ → Option Node → List Line → Node → Type 0
-IsValue IsBelow n (Some u) below t = (below ≡ []) × (t ≡ u)
-IsValue IsBelow n None [] t = t ≡ scalar n []
-IsValue IsBelow n None (l ∷ ls) t = IsBelow (l ∷ ls) t
+abbrev pub IsEntryValue : (List Line → Node → Type 0) → ℕ → Option Node → List Line → Node → Type 0
+IsEntryValue IsBelow n (Some u) below t = (below ≡ []) × (t ≡ u)
+IsEntryValue IsBelow n None [] t = t ≡ scalar n []
+IsEntryValue IsBelow n None (l ∷ ls) t = IsBelow (l ∷ ls) t
 
 -- the pair that a group is, with a key that is none of those before it
 pub record IsPair (depth : ℕ) (IsBelow : List Line → Node → Type 0) (before : List (List ℕ)) (g : Group) (p : Pair) : Type 0 where
   pub line : p.line ≡ g.head.number
   pub after : List ℕ
-  pub entry : IsEntry g.head.text p.key after
+  pub entry : IsShortKey g.head.text p.key after
   pub fresh : Contains before p.key → ⊥
   pub inline : Option Node
   pub is_inline : IsInline depth g.head.number after inline
-  pub value : IsValue IsBelow g.head.number inline g.below p.value
+  pub value : IsEntryValue IsBelow g.head.number inline g.below p.value
 
 -- the pairs that groups are, after pairs with these keys
 abbrev pub ArePairs : ℕ → (List Line → Node → Type 0) → List (List ℕ) → List Group → List Pair → Type 0
@@ -57,7 +57,7 @@ ArePairs depth IsBelow before (g ∷ gs) (p ∷ ps) = IsPair depth IsBelow befor
 pub record IsMapping (depth : ℕ) (IsBelow : List Line → Node → Type 0) (first : Line) (others : List Line) (t : Node) : Type 0 where
   pub groups : List Group
   pub pairs : List Pair
-  pub run : IsRun (hangs_from_entry first.indent) first.indent (first ∷ others) groups
+  pub run : AreGroups (hangs_from_entry first.indent) first.indent (first ∷ others) groups
   pub each : ArePairs depth IsBelow [] groups pairs
   pub tree : t ≡ mapping first.number (pairs_of pairs)
 
@@ -76,25 +76,25 @@ pub record IsInner (l : Line) (after : List ℕ) (inner : Line) : Type 0 where
   pub is_key : IsKey inner.text key behind
 
 -- The node that a group is after its `-`: a value, as entries have them, or the mapping that a key begins there.
-pub record IsItem (depth : ℕ) (IsBelow : List Line → Node → Type 0) (g : Group) (t : Node) : Type 0 where
+pub record IsSequenceItem (depth : ℕ) (IsBelow : List Line → Node → Type 0) (g : Group) (t : Node) : Type 0 where
   pub after : List ℕ
   pub dash : IsDash g.head.text after
-  pub node : ((inline : Option Node) × IsInline depth g.head.number after inline × IsValue IsBelow g.head.number inline g.below t)
+  pub node : ((inline : Option Node) × IsInline depth g.head.number after inline × IsEntryValue IsBelow g.head.number inline g.below t)
       ⊎ ((inner : Line) × IsInner g.head after inner × IsBelow (inner ∷ g.below) t)
 
 -- the nodes that groups are
-abbrev pub AreItems : ℕ → (List Line → Node → Type 0) → List Group → List Node → Type 0
-AreItems depth IsBelow [] [] = Unit {0}
-AreItems depth IsBelow [] (t ∷ ts) = ⊥
-AreItems depth IsBelow (g ∷ gs) [] = ⊥
-AreItems depth IsBelow (g ∷ gs) (t ∷ ts) = IsItem depth IsBelow g t × AreItems depth IsBelow gs ts
+abbrev pub AreSequenceItems : ℕ → (List Line → Node → Type 0) → List Group → List Node → Type 0
+AreSequenceItems depth IsBelow [] [] = Unit {0}
+AreSequenceItems depth IsBelow [] (t ∷ ts) = ⊥
+AreSequenceItems depth IsBelow (g ∷ gs) [] = ⊥
+AreSequenceItems depth IsBelow (g ∷ gs) (t ∷ ts) = IsSequenceItem depth IsBelow g t × AreSequenceItems depth IsBelow gs ts
 
 -- a run of items
 pub record IsSequence (depth : ℕ) (IsBelow : List Line → Node → Type 0) (first : Line) (others : List Line) (t : Node) : Type 0 where
   pub groups : List Group
   pub nodes : List Node
-  pub run : IsRun (is_deeper first.indent) first.indent (first ∷ others) groups
-  pub each : AreItems depth IsBelow groups nodes
+  pub run : AreGroups (is_deeper first.indent) first.indent (first ∷ others) groups
+  pub each : AreSequenceItems depth IsBelow groups nodes
   pub tree : t ≡ sequence first.number (nodes_of nodes)
 
 -- one line with one value
@@ -123,5 +123,5 @@ pub record IsTreeOf (levels depth : ℕ) (text : List ℕ) (tree : Node) : Type 
   pub is_tree : IsTree levels depth lines tree
 
 -- above the limits: 1 MiB of text, 32 sequences and mappings one inside the other, and of those on one line 8
-abbrev pub IsAbove : ℕ → ℕ → List ℕ → Type 0
-IsAbove levels depth text = (2 ^ 20 < length text) ⊎ ((32 < levels) ⊎ (8 < depth))
+abbrev pub IsTextAbove : ℕ → ℕ → List ℕ → Type 0
+IsTextAbove levels depth text = (2 ^ 20 < length text) ⊎ ((32 < levels) ⊎ (8 < depth))

@@ -11,7 +11,7 @@ abbrev pub IsKey : List ℕ → List ℕ → List ℕ → Type 0
 IsKey text key after = IsWordAt false text key (58 ∷ after)
 
 -- `KEY:`, its colon at most 1,024 characters after its begin
-pub record IsEntry (text key after : List ℕ) : Type 0 where
+pub record IsShortKey (text key after : List ℕ) : Type 0 where
   pub is_key : IsKey text key after
   pub front : List ℕ
   pub parts : text ≡ front ++ 58 ∷ after

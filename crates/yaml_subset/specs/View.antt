@@ -48,10 +48,10 @@ pairs_in (mapping n pairs) = Some (list_pairs pairs)
 pairs_in _ = None
 
 -- An answer, seen by view, is what reading gives, unless memory ran out.
-abbrev pub Fails : {Y : Type 0} → YamlFault → Result Y Fault → Type 0
-Fails faults.NoMemory read = Unit {0}
-Fails (faults.Text f) read = read ≡ Err f
+abbrev pub FailsTree : {Y : Type 0} → YamlFault → Result Y Fault → Type 0
+FailsTree faults.NoMemory read = Unit {0}
+FailsTree (faults.Text f) read = read ≡ Err f
 
-abbrev pub Gives : {X Y : Type 0} → (X → Y) → Result X YamlFault → Result Y Fault → Type 0
-Gives view (Ok x) read = read ≡ Ok (view x)
-Gives view (Err e) read = Fails e read
+abbrev pub GivesTree : {X Y : Type 0} → (X → Y) → Result X YamlFault → Result Y Fault → Type 0
+GivesTree view (Ok x) read = read ≡ Ok (view x)
+GivesTree view (Err e) read = FailsTree e read

@@ -47,8 +47,8 @@ abbrev pub misfit : Bool → List ℕ → FaultKind
 misfit flow [] = if flow then Flow else NotInSubset
 misfit flow (b ∷ after) = if flow && (is_flow_indicator b || (is_mark b && begins_flow_indicator after)) then Flow else NotInSubset
 
-unfoldable pub plain_at : ℕ → Bool → List ℕ → Result (List ℕ × List ℕ) PlacedFault
-plain_at n flow text =
+unfoldable pub plain_word_at : ℕ → Bool → List ℕ → Result (List ℕ × List ℕ) PlacedFault
+plain_word_at n flow text =
     if begins_word flow text
     then (if breaks_flow flow (word_rest flow text) then fault_at Flow n (length (word_rest flow text)) else Ok (trimmed (word_front flow text), word_rest flow text))
     else fault_at (misfit flow text) n (length text)
@@ -66,5 +66,5 @@ quoted_at n flow inside = inside >>= λ r. behind_quote n flow r.1 >>= λ rest. 
 
 -- The word at the front of a text, and what comes after it and the blanks that follow it.
 unfoldable pub word_at : ℕ → Bool → List ℕ → Result (List ℕ × List ℕ) PlacedFault
-word_at n flow [] = plain_at n flow []
-word_at n flow (b ∷ bs) = if b == 39 then quoted_at n flow (single_at n bs) else (if b == 34 then quoted_at n flow (double_at n bs) else plain_at n flow (b ∷ bs))
+word_at n flow [] = plain_word_at n flow []
+word_at n flow (b ∷ bs) = if b == 39 then quoted_at n flow (single_at n bs) else (if b == 34 then quoted_at n flow (double_at n bs) else plain_word_at n flow (b ∷ bs))

@@ -4,7 +4,7 @@ ghost use Rattle.std.specs.Prelude.{◌≡◌, ℕ, ◌≤◌, ◌||◌, List, [
 ghost use Rattle.std.specs.Str.{bytes_eq};
 ghost use Rattle.yaml_subset.specs.Keys.{is_among};
 ghost use Rattle.yaml_subset.specs.Node.{scalar};
-ghost use Rattle.yaml_subset.specs.Reading.{hangs, chunks, groups_of, hanging_len, misplaced, closed_at, value_at, pair_at, mapping_at, inner, item_at, sequence_at, tree_at};
+ghost use Rattle.yaml_subset.specs.Reading.{hangs, chunks, groups_of, hanging_len, misplaced, closed_at, entry_value_at, pair_at, mapping_at, inner, sequence_item_at, sequence_at, tree_at};
 ghost use Rattle.yaml_subset.specs.Placed.{GivesOrHalts};
 ghost use Rattle.yaml_subset.specs.View.{node_view, pair_view};
 ghost use Rattle.yaml_subset.specs.Inside.{line_view, lines_view, node_option_view, copies_view};
@@ -103,7 +103,7 @@ fn empty(alloc: Global, number: u32) -> Tree
 // The value of an entry or item at an indentation: on its line, or the block below it, or the empty
 // text.
 #[cycle(block)]
-#[tactic(auto, unfolding(crate::specs::Reading::value_at))]
+#[tactic(auto, unfolding(crate::specs::Reading::entry_value_at))]
 fn value(
     alloc: Global,
     number: u32,
@@ -112,7 +112,7 @@ fn value(
     below: &[Line],
     levels: u8,
 ) -> Result<Tree, Halt>
-    ensures { GivesOrHalts node_view result (value_at (tree_at levels 8) number indent (node_option_view inline) (lines_view below.now)) }
+    ensures { GivesOrHalts node_view result (entry_value_at (tree_at levels 8) number indent (node_option_view inline) (lines_view below.now)) }
 {
     match inline {
         Some(value) => closed(Some(indent), value, below),
@@ -204,7 +204,7 @@ fn inner<'a>(line: &Line<'a>, after: &[u8]) -> Line<'a>
 
 // A line with the deeper lines after it, as the next item of a sequence.
 #[cycle(block)]
-#[tactic(auto, unfolding(crate::specs::Reading::item_at, crate::specs::Reading::item_from, crate::specs::Reading::item_with))]
+#[tactic(auto, unfolding(crate::specs::Reading::sequence_item_at, crate::specs::Reading::item_from, crate::specs::Reading::item_with))]
 fn item<'a>(
     alloc: Global,
     around: Option<usize>,
@@ -213,7 +213,7 @@ fn item<'a>(
     below: &[Line<'a>],
     levels: u8,
 ) -> Result<Tree, Halt>
-    ensures { GivesOrHalts node_view result (item_at 8 (tree_at levels 8) around indent (record { head = line_view line.now; below = lines_view below.now })) }
+    ensures { GivesOrHalts node_view result (sequence_item_at 8 (tree_at levels 8) around indent (record { head = line_view line.now; below = lines_view below.now })) }
 {
     let number = line.number;
     if line.indent != indent {

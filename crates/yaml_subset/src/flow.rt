@@ -6,7 +6,8 @@ ghost use Rattle.yaml_subset.specs.Keys.{is_among};
 ghost use Rattle.yaml_subset.specs.Placed.{GivesOrHalts};
 ghost use Rattle.yaml_subset.specs.Flow.{begins_with, begins_colon, begins_bracket, is_ended, start_at, unexpected, behind_close_at, parted_at, behind_colon_at, flow_pair_at, flow_list_at, flow_mapping_at, bracketed_at, flow_value_at, flow_at};
 ghost use Rattle.yaml_subset.specs.View.{pair_view};
-ghost use Rattle.yaml_subset.specs.Inside.{rest_view, copies_view, flow_view, flow_pair_view};
+ghost use Rattle.yaml_bytes.specs.View.{rest_view};
+ghost use Rattle.yaml_subset.specs.Inside.{copies_view, flow_view, flow_pair_view};
 
 use crate::fault::FaultKind;
 use crate::keys::{MAX_KEY, take_copy};

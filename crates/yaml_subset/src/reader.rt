@@ -2,9 +2,9 @@
 
 ghost use Rattle.std.specs.Prelude.{◌≡◌, ◌≢◌, ℕ, IfOk, IfErr};
 ghost use Rattle.yaml_subset.specs.Node.{Node};
-ghost use Rattle.yaml_subset.specs.TreeOf.{IsTreeOf, IsAbove};
+ghost use Rattle.yaml_subset.specs.TreeOf.{IsTreeOf, IsTextAbove};
 ghost use Rattle.yaml_subset.specs.Reading.{read_at};
-ghost use Rattle.yaml_subset.specs.View.{node_view, Gives};
+ghost use Rattle.yaml_subset.specs.View.{node_view, GivesTree};
 
 use crate::block::tree;
 use crate::fault::{FaultKind, YamlFault};
@@ -23,7 +23,7 @@ const MAX_LEVELS: u8 = 32;
 // The tree of a text, or its first fault.
 #[tactic(auto, unfolding(crate::specs::Reading::read_at))]
 fn read_exactly(alloc: Global, text: &[u8]) -> Result<Tree, YamlFault>
-    ensures { Gives node_view result (read_at text.now) }
+    ensures { GivesTree node_view result (read_at text.now) }
 {
     if text.len() > MAX_BYTES {
         return Err(YamlFault::at(FaultKind::TooLong, 1));
@@ -56,10 +56,10 @@ pub fn read(alloc: Global, text: &[u8]) -> Result<Tree, YamlFault>
     ensures only { IfOk result (λ tree. (levels depth : ℕ) (t : Node) → IsTreeOf levels depth text.now t → t ≡ node_view tree) }
 
     // A text that is refused has no tree within the limits.
-    ensures refused { IfErr result (λ e. e ≢ YamlFault.NoMemory → (levels depth : ℕ) (t : Node) → IsTreeOf levels depth text.now t → IsAbove levels depth text.now) }
+    ensures refused { IfErr result (λ e. e ≢ YamlFault.NoMemory → (levels depth : ℕ) (t : Node) → IsTreeOf levels depth text.now t → IsTextAbove levels depth text.now) }
 
     // Which fault it is, and its line, is what reading line by line gives.
-    ensures exact { Gives node_view result (read_at text.now) }
+    ensures exact { GivesTree node_view result (read_at text.now) }
 {
     read_exactly(alloc, text)
 }

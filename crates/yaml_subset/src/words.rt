@@ -2,8 +2,9 @@
 
 ghost use Rattle.std.specs.Prelude.{◌≡◌};
 ghost use Rattle.yaml_subset.specs.Placed.{GivesOrHalts};
-ghost use Rattle.yaml_subset.specs.Words.{breaks_flow, may_follow, misfit, plain_at, behind_quote, word_at};
-ghost use Rattle.yaml_subset.specs.Inside.{word_view, rest_view};
+ghost use Rattle.yaml_subset.specs.Words.{breaks_flow, may_follow, misfit, plain_word_at, behind_quote, word_at};
+ghost use Rattle.yaml_bytes.specs.View.{rest_view};
+ghost use Rattle.yaml_subset.specs.Inside.{word_view};
 
 use crate::fault::FaultKind;
 use crate::place::Halt;
@@ -53,9 +54,9 @@ fn misfit(flow: bool, text: &[u8]) -> FaultKind
 }
 
 // A plain word.
-#[tactic(auto, unfolding(crate::specs::Words::plain_at))]
+#[tactic(auto, unfolding(crate::specs::Words::plain_word_at))]
 fn plain(alloc: Global, number: u32, flow: bool, text: &[u8]) -> Result<(Vec<u8>, &[u8]), Halt>
-    ensures { GivesOrHalts word_view result (plain_at number flow text.now) }
+    ensures { GivesOrHalts word_view result (plain_word_at number flow text.now) }
 {
     if !begins_word(flow, text) {
         return Err(Halt::at(misfit(flow, text), number, text.len()));

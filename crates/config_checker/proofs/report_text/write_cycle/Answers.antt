@@ -1,7 +1,7 @@
 use Rattle.std.proofs.Common.{ℕ, ◌≤◌, List, [], ◌∷◌, ◌++◌, length, map, take, Vec, Global, Option, Result, OnOk, codes, refl}
 use Rattle.std.specs.List.{flat_map}
 use Rattle.std.specs.Io.KnownBytes.{Appends}
-use Rattle.config_checker.specs.ReportText.{spaced}
+use Rattle.mpf_config.specs.FaultLine.{spaced}
 use Rattle.config_checker.proofs.Writing.{written-then, written-last, written-more, written-all, written-seen}
 use Rattle.config_checker.proofs.report_text.write_cycle.Goals as goal
 

@@ -1,7 +1,7 @@
 use Rattle.std.proofs.Common.{take}
 use Rattle.std.specs.List.{flat_map}
 use Rattle.std.specs.Io.KnownBytes.{Appends}
-use Rattle.config_checker.specs.ReportText.{spaced}
+use Rattle.mpf_config.specs.FaultLine.{spaced}
 use Rattle.config_checker.proofs.report_text.write_cycle.Given as goal
 
 -- the names so far are written

@@ -5,7 +5,7 @@ use Rattle.std.proofs.lemmas.List.{length-map}
 use Rattle.std.proofs.lemmas.Result.{err_from_is_err_and}
 use Rattle.mpf_config.specs.View.{rows_view, section_view}
 use Rattle.mpf_plan.specs.Contributions.{rows_in, given_by}
-use Rattle.mpf_plan.specs.Inside.{draft_view, rows_view as found_view}
+use Rattle.mpf_plan.specs.Inside.{draft_view, row_list_view as found_view}
 use Rattle.mpf_plan.proofs.Drafted.{entries_count}
 use Rattle.mpf_plan.proofs.Planned.{refused_exact, refused_limit, rows_within, is_plan, is_planned, is_valid, events_bound}
 use Rattle.mpf_plan.proofs.build.plan.Goals as goal

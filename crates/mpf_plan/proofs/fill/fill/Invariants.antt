@@ -1,8 +1,8 @@
 use Rattle.std.proofs.Common.{◌≡◌, take}
 use Rattle.mpf_plan.specs.Contributions.{given_by}
 use Rattle.mpf_plan.specs.PlanOf.{drafted}
-use Rattle.mpf_plan.specs.Inside.{name_sets_view, draft_view, rows_view}
+use Rattle.mpf_plan.specs.Inside.{name_sets_view, draft_view, row_list_view}
 use Rattle.mpf_plan.proofs.fill.fill.Given as goal
 
 abbrev pub invariant-loop-row : goal.invariant-loop-row
-invariant-loop-row l = draft_view l.names l.draft ≡ drafted (name_sets_view l.names) (given_by (rows_view (take l.row-index l.rows)))
+invariant-loop-row l = draft_view l.names l.draft ≡ drafted (name_sets_view l.names) (given_by (row_list_view (take l.row-index l.rows)))

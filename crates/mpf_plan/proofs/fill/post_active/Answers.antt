@@ -1,6 +1,6 @@
 use Rattle.std.proofs.Common.{[], ◌∷◌, ◌++◌, ap, arith}
 use Rattle.mpf_plan.specs.declared.fault.Table.TheVariants.{Switches}
-use Rattle.mpf_plan.specs.Inside.{name_sets_view, draft_view, switch_view}
+use Rattle.mpf_plan.specs.Inside.{name_sets_view, draft_view, switch_entry_view}
 use Rattle.mpf_plan.proofs.Steps.{switch_changed, switch_unchanged}
 use Rattle.mpf_plan.proofs.fill.post_active.Goals as goal
 
@@ -9,7 +9,7 @@ returns-in_ok-push c names =
     let d = draft_view names c.args.draft.now in
     ap (λ ss. record d { plan = record d.plan { switches = ss } })
     (switch_changed (λ s. record s { active = s.active ++ c.args.event ∷ [] }) c.index_mut.result.now (record c.index_mut.result.now { active = c.push.new.self })
-    (λ n. ap (λ items. record (switch_view (n, c.index_mut.result.now)) { active = items }) c.in_ok-push.ensures.items)
+    (λ n. ap (λ items. record (switch_entry_view (n, c.index_mut.result.now)) { active = items }) c.in_ok-push.ensures.items)
     (name_sets_view names Switches) c.args.draft.now.switches.items c.args.draft.now.last (omega (arith, c.if-last-len.true, c.len.ensures)) c.index_mut.ensures.value)
 
 pub returns-else-last-len : goal.returns-else-last-len

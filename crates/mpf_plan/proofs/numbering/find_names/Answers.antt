@@ -1,7 +1,7 @@
 use Rattle.std.proofs.Common.{inr, refl, subst, arith}
 use Rattle.std.proofs.lemmas.List.{take_all}
 use Rattle.mpf_plan.specs.Contributions.{given_by}
-use Rattle.mpf_plan.specs.Inside.{rows_view}
+use Rattle.mpf_plan.specs.Inside.{row_list_view}
 use Rattle.mpf_plan.specs.Numbering.{HasFound}
 use Rattle.mpf_plan.proofs.Collected.{row_more}
 use Rattle.mpf_plan.proofs.numbering.find_names.Goals as goal
@@ -16,4 +16,4 @@ loop-row-preserved c =
     (c.in_ok-note_all.ensures _ c.loop-row.invariant)
 
 pub returns : goal.returns
-returns c = subst (λ rs. HasFound (given_by (rows_view rs)) c.loop-row.found) (take_all c.loop-row.row-index c.args.rows.now c.loop-row-test.false) c.loop-row.invariant
+returns c = subst (λ rs. HasFound (given_by (row_list_view rs)) c.loop-row.found) (take_all c.loop-row.row-index c.args.rows.now c.loop-row-test.false) c.loop-row.invariant

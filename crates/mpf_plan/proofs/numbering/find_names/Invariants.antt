@@ -1,8 +1,8 @@
 use Rattle.std.proofs.Common.{take}
 use Rattle.mpf_plan.specs.Contributions.{given_by}
-use Rattle.mpf_plan.specs.Inside.{rows_view}
+use Rattle.mpf_plan.specs.Inside.{row_list_view}
 use Rattle.mpf_plan.specs.Numbering.{HasFound}
 use Rattle.mpf_plan.proofs.numbering.find_names.Given as goal
 
 abbrev pub invariant-loop-row : goal.invariant-loop-row
-invariant-loop-row l = HasFound (given_by (rows_view (take l.row-index l.rows))) l.found
+invariant-loop-row l = HasFound (given_by (row_list_view (take l.row-index l.rows))) l.found

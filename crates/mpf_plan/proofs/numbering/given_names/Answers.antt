@@ -1,16 +1,16 @@
 use Rattle.std.proofs.Common.{subst}
 use Rattle.std.proofs.lemmas.List.{take_all}
 use Rattle.mpf_plan.specs.Contributions.{given_by}
-use Rattle.mpf_plan.specs.Inside.{rows_view}
-use Rattle.mpf_plan.specs.Numbering.{HaveGiven}
+use Rattle.mpf_plan.specs.Inside.{row_list_view}
+use Rattle.mpf_plan.specs.Numbering.{HoldGivenNames}
 use Rattle.mpf_plan.proofs.Collected.{row_more}
 use Rattle.mpf_plan.proofs.numbering.given_names.Goals as goal
 
 pub loop-row-preserved : goal.loop-row-preserved
 loop-row-preserved c =
-    subst (λ cs. HaveGiven cs c.note_given.new.sets.items)
+    subst (λ cs. HoldGivenNames cs c.note_given.new.sets.items)
     (row_more c.args.rows.now c.loop-row.row-index c.row-item.result c.loop-row-test.true c.row-item.is c.deref.result.now c.collect_row.new.contributions.items c.machine_place.ensures c.deref.ensures.value c.in_ok-collect_row.ensures)
     (c.in_ok-note_given.ensures.names _ c.loop-row.invariant)
 
 pub returns : goal.returns
-returns c = subst (λ rs. HaveGiven (given_by (rows_view rs)) c.loop-row.sets.items) (take_all c.loop-row.row-index c.args.rows.now c.loop-row-test.false) c.loop-row.invariant
+returns c = subst (λ rs. HoldGivenNames (given_by (row_list_view rs)) c.loop-row.sets.items) (take_all c.loop-row.row-index c.args.rows.now c.loop-row-test.false) c.loop-row.invariant

@@ -1,8 +1,8 @@
 use Rattle.std.proofs.Common.{take}
 use Rattle.mpf_plan.specs.Contributions.{given_by}
-use Rattle.mpf_plan.specs.Inside.{rows_view}
-use Rattle.mpf_plan.specs.Numbering.{HaveGiven}
+use Rattle.mpf_plan.specs.Inside.{row_list_view}
+use Rattle.mpf_plan.specs.Numbering.{HoldGivenNames}
 use Rattle.mpf_plan.proofs.numbering.given_names.Given as goal
 
 abbrev pub invariant-loop-row : goal.invariant-loop-row
-invariant-loop-row l = HaveGiven (given_by (rows_view (take l.row-index l.rows))) l.sets.items
+invariant-loop-row l = HoldGivenNames (given_by (row_list_view (take l.row-index l.rows))) l.sets.items

@@ -2,8 +2,8 @@ use Rattle.std.proofs.Common.{◌≡◌, false, take}
 use Rattle.std.specs.List.{list_any}
 use Rattle.mpf_plan.specs.Contributions.{given_by}
 use Rattle.mpf_plan.specs.Uses.{used, given_names, is_lacking}
-use Rattle.mpf_plan.specs.Inside.{rows_view}
+use Rattle.mpf_plan.specs.Inside.{row_list_view}
 use Rattle.mpf_plan.proofs.numbering.lacks_name.Given as goal
 
 abbrev pub invariant-loop-row : goal.invariant-loop-row
-invariant-loop-row l = list_any (λ c. is_lacking (λ t. given_names t (given_by (rows_view l.rows))) (used c)) (given_by (rows_view (take l.row-index l.rows))) ≡ false
+invariant-loop-row l = list_any (λ c. is_lacking (λ t. given_names t (given_by (row_list_view l.rows))) (used c)) (given_by (row_list_view (take l.row-index l.rows))) ≡ false

@@ -2,7 +2,7 @@ use Rattle.std.proofs.Common.{length, ◌++◌, sym, ◌∙◌, ap, subst, take}
 use Rattle.std.specs.Option.{option_map}
 use Rattle.std.proofs.lemmas.List.{append-nil, take_all, length-set}
 use Rattle.mpf_plan.specs.Inside.{parts_text, named_view, contributions_view}
-use Rattle.mpf_plan.specs.Numbering.{HaveGiven}
+use Rattle.mpf_plan.specs.Numbering.{HoldGivenNames}
 use Rattle.mpf_plan.proofs.Collected.{one_more}
 use Rattle.mpf_plan.proofs.FirstNames.{use_inserted}
 use Rattle.mpf_plan.proofs.Lacking.{given_nameless, given_named}
@@ -10,7 +10,7 @@ use Rattle.mpf_plan.proofs.numbering.note_given.Goals.{in-Some+in_ok-write_name+
 use Rattle.mpf_plan.proofs.numbering.note_given.Goals as goal
 
 pub loop-contribution-init : goal.loop-contribution-init
-loop-contribution-init c = record { count = c.requires; names = λ before has. subst (λ cs. HaveGiven cs c.args.sets.now.items) (sym (append-nil before)) has }
+loop-contribution-init c = record { count = c.requires; names = λ before has. subst (λ cs. HoldGivenNames cs c.args.sets.now.items) (sym (append-nil before)) has }
 
 pub loop-contribution-preserved : goal.loop-contribution-preserved
 loop-contribution-preserved c =
@@ -22,7 +22,7 @@ loop-contribution-preserved c =
         | in-Some+in_ok-write_name+in_ok-insert w ↦ ap (λ v. length v.items) w.sets-is ∙ length-set sets w.index.result w.insert.new.self ∙ c.loop-contribution.invariant.count
         | in_default w ↦ ap (λ v. length v.items) w.sets-is ∙ c.loop-contribution.invariant.count
       ];
-      names = λ before has. subst (λ cs. HaveGiven cs c.match-given.sets.items) (one_more before cs i _ c.loop-contribution-test.true) (elim c.match-given.branch [
+      names = λ before has. subst (λ cs. HoldGivenNames cs c.match-given.sets.items) (one_more before cs i _ c.loop-contribution-test.true) (elim c.match-given.branch [
         | in-Some+in_ok-write_name+in_ok-insert w ↦
             let name = parts_text w.in-Some.name in
             given_named (before ++ contributions_view (take i cs)) _ sets (c.loop-contribution.invariant.names before has) w.in-Some.table name (sym c.given.ensures ∙ ap (option_map named_view) w.in-Some.is)
@@ -38,6 +38,6 @@ pub returns : goal.returns
 returns c = record {
   count = c.loop-contribution.invariant.count;
   names = λ before has.
-      subst (λ cs. HaveGiven (before ++ contributions_view cs) c.loop-contribution.sets.items) (take_all c.loop-contribution.contribution-index c.args.contributions.now c.loop-contribution-test.false)
+      subst (λ cs. HoldGivenNames (before ++ contributions_view cs) c.loop-contribution.sets.items) (take_all c.loop-contribution.contribution-index c.args.contributions.now c.loop-contribution-test.false)
       (c.loop-contribution.invariant.names before has);
 }

@@ -1,7 +1,7 @@
 use Rattle.std.proofs.Common.{refl, sym, ◌∙◌, ap, subst}
 use Rattle.std.specs.Option.{option_map}
 use Rattle.mpf_plan.specs.Inside.{parts_text, named_view, contribution_view}
-use Rattle.mpf_plan.specs.Numbering.{with_name, HasNames}
+use Rattle.mpf_plan.specs.Numbering.{with_name, IsNameTableOf}
 use Rattle.mpf_plan.proofs.Collected.{on_ok_both}
 use Rattle.mpf_plan.proofs.Found.{found_nameless, found_named}
 use Rattle.mpf_plan.proofs.numbering.note_one.Goals as goal
@@ -17,4 +17,4 @@ returns c =
     on_ok_both c.note.result (λ limit noted before has.
     found_named before (contribution_view c.args.contribution.now) c.args.found.now _ has c.count_binding-found.ensures
     c.in-Some.table (parts_text c.in-Some.name) c.index.result c.index_mut.result.now is (sym c.used.ensures ∙ ap (option_map named_view) c.in-Some.is) c.index.ensures refl c.index_mut.ensures.value limit
-    (λ all h. subst (λ n. HasNames (with_name all n) is) text (noted all h))) c.note.ensures.limit c.note.ensures.names
+    (λ all h. subst (λ n. IsNameTableOf (with_name all n) is) text (noted all h))) c.note.ensures.limit c.note.ensures.names

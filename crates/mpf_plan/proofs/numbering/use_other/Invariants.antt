@@ -3,8 +3,8 @@ use Rattle.std.specs.List.{list_any}
 use Rattle.mpf_plan.specs.Contributions.{Contribution}
 use Rattle.mpf_plan.specs.Uses.{used, given_names, is_lacking}
 use Rattle.mpf_plan.specs.Inside.{contributions_view}
-use Rattle.mpf_plan.specs.Numbering.{HaveGiven}
+use Rattle.mpf_plan.specs.Numbering.{HoldGivenNames}
 use Rattle.mpf_plan.proofs.numbering.use_other.Given as goal
 
 abbrev pub invariant-loop-contribution : goal.invariant-loop-contribution
-invariant-loop-contribution l = (cs : List Contribution) → HaveGiven cs l.sets → list_any (λ c. is_lacking (λ t. given_names t cs) (used c)) (contributions_view (take l.contribution-index l.contributions)) ≡ false
+invariant-loop-contribution l = (cs : List Contribution) → HoldGivenNames cs l.sets → list_any (λ c. is_lacking (λ t. given_names t cs) (used c)) (contributions_view (take l.contribution-index l.contributions)) ≡ false

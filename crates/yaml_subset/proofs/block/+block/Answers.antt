@@ -3,7 +3,7 @@ use Rattle.std.proofs.lemmas.Result.{err_from_is_err_and}
 use Rattle.std.proofs.lemmas.List.{map_push}
 use Rattle.yaml_subset.specs.Node.{mapping, pairs_of, sequence, nodes_of}
 use Rattle.yaml_subset.specs.TreeOf.{Group}
-use Rattle.yaml_subset.specs.Reading.{hangs, groups_of, pairs_at, mapping_at, items_at, sequence_at, tree_at}
+use Rattle.yaml_subset.specs.Reading.{hangs, groups_of, pairs_at, mapping_at, sequence_items_at, sequence_at, tree_at}
 use Rattle.yaml_subset.specs.View.{node_view, pair_view}
 use Rattle.yaml_subset.specs.Inside.{line_view, lines_view, copies_view}
 use Rattle.yaml_subset.specs.declared.line.Line as lines
@@ -65,7 +65,7 @@ mapping-returns t c =
 
 pub sequence-loop-at-init : goal.sequence-loop-at-init
 sequence-loop-at-init t c =
-    let total = items_at 8 (tree_at c.args.levels 8) c.args.around c.args.first.now.indent (groups_from false c.args.first.now.indent 0 (c.args.first.now ∷ c.args.others.now)) in
+    let total = sequence_items_at 8 (tree_at c.args.levels 8) c.args.around c.args.first.now.indent (groups_from false c.args.first.now.indent 0 (c.args.first.now ∷ c.args.others.now)) in
     rw c.new-items.ensures.items (at_start total)
 
 pub sequence-returns-in_err-next : goal.sequence-returns-in_err-next
@@ -78,7 +78,7 @@ sequence-returns-in_err-next t c =
     let line = c.line_at-line.result in
     let below = c.split_below.result.0.now in
     let gs = groups_at (hangs false i) c.loop-at.at line first c.args.others.now below c.split_below.result.1.now c.loop-at-test.true c.line_at-line.ensures c.split_below.ensures.parts c.split_below.ensures.after in
-    let total = items_at 8 (tree_at c.args.levels 8) c.args.around i (groups_from false i 0 ls) in
+    let total = sequence_items_at 8 (tree_at c.args.levels 8) c.args.around i (groups_from false i 0 ls) in
     let d = items_stop 8 (tree_at c.args.levels 8) c.args.around i (map node_view c.loop-at.items.items) (groups_from false i c.loop-at.at ls)
     (group line below) (groups_from false i (c.loop-at.at + (1 + length below)) ls) total gs
     c.in_err-next.field-0.0 c.in_err-next.ensures c.loop-at.invariant in
@@ -94,7 +94,7 @@ sequence-loop-at-preserved t c =
     let next = c.in_ok-next.next in
     let gs = groups_at (hangs false i) c.loop-at.at line first c.args.others.now below c.split_below.result.1.now c.loop-at-test.true c.line_at-line.ensures c.split_below.ensures.parts c.split_below.ensures.after in
     let e : map node_view c.push.new.self.items ≡ map node_view c.loop-at.items.items ++ node_view next ∷ [] = rw c.in_ok-push.ensures.items (map_push _ c.loop-at.items.items next) in
-    let total = items_at 8 (tree_at c.args.levels 8) c.args.around i (groups_from false i 0 ls) in
+    let total = sequence_items_at 8 (tree_at c.args.levels 8) c.args.around i (groups_from false i 0 ls) in
     rw e (items_go_on 8 (tree_at c.args.levels 8) c.args.around i (map node_view c.loop-at.items.items) (groups_from false i c.loop-at.at ls)
     (group line below) (groups_from false i (c.loop-at.at + (1 + length below)) ls) total gs
     (node_view next) c.in_ok-next.ensures c.loop-at.invariant)
@@ -105,6 +105,6 @@ sequence-returns t c =
     let first = c.args.first.now in
     let i = first.indent in
     let ls : List lines.Line = first ∷ c.args.others.now in
-    let total = items_at 8 (tree_at c.args.levels 8) c.args.around i (groups_from false i 0 ls) in
+    let total = sequence_items_at 8 (tree_at c.args.levels 8) c.args.around i (groups_from false i 0 ls) in
     let d : total ≡ Ok (map node_view c.loop-at.items.items) = items_done 8 (tree_at c.args.levels 8) c.args.around i c.loop-at.at (hangs false i) ls (omega (arith, c.loop-at-test.false)) (map node_view c.loop-at.items.items) total c.loop-at.invariant in
     rw (d, node_view-List) refl

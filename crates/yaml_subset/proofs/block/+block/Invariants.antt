@@ -1,5 +1,5 @@
 use Rattle.std.proofs.Common.{◌≡◌, ◌+◌, ◌*◌, ◌-◌, ◌∷◌, drop, length, map, true, false, []}
-use Rattle.yaml_subset.specs.Reading.{tree_at, hangs, pairs_at, items_at, groups_of}
+use Rattle.yaml_subset.specs.Reading.{tree_at, hangs, pairs_at, sequence_items_at, groups_of}
 use Rattle.yaml_subset.specs.View.{node_view, pair_view}
 use Rattle.yaml_subset.specs.Inside.{lines_view, copies_view}
 use Rattle.yaml_subset.proofs.Groups.{with_front}
@@ -33,8 +33,8 @@ decreases-mapping-loop-at l = length l.others + 1 - l.at
 
 abbrev pub invariant-sequence-loop-at : goal.invariant-sequence-loop-at
 invariant-sequence-loop-at l =
-    with_front (map node_view l.items.items) (items_at 8 (tree_at l.levels 8) l.around l.indent (groups_of (hangs false l.indent) (lines_view (drop l.at (l.first ∷ l.others)))))
-    ≡ items_at 8 (tree_at l.levels 8) l.around l.indent (groups_of (hangs false l.indent) (lines_view (l.first ∷ l.others)))
+    with_front (map node_view l.items.items) (sequence_items_at 8 (tree_at l.levels 8) l.around l.indent (groups_of (hangs false l.indent) (lines_view (drop l.at (l.first ∷ l.others)))))
+    ≡ sequence_items_at 8 (tree_at l.levels 8) l.around l.indent (groups_of (hangs false l.indent) (lines_view (l.first ∷ l.others)))
 
 abbrev pub decreases-sequence-loop-at : goal.decreases-sequence-loop-at
 decreases-sequence-loop-at l = length l.others + 1 - l.at
