@@ -43,7 +43,7 @@ abbrev pub each_of : {X : Type 0} → (X → Cost) → List X → Cost
 each_of cost [] = Lines 0
 each_of cost (x ∷ xs) = Both (cost x) (each_of cost xs)
 
--- the dearest of these
+-- the greatest of these costs
 abbrev pub dearest_of : {X : Type 0} → (X → Cost) → List X → Cost
 dearest_of cost [] = Lines 0
 dearest_of cost (x ∷ xs) = Greater (cost x) (dearest_of cost xs)
@@ -86,6 +86,6 @@ cost_of_switch plan switch = Greater (cost_of_acceptance plan switch true) (cost
 abbrev pub switches_of : PlanView → List SwitchId
 switches_of plan = map (λ n. record { 0 = n }) (range_with_len 0 (length plan.switches))
 
--- the dearest stimulus
+-- the greatest cost of a stimulus
 abbrev pub cost_of_stimuli : PlanView → Cost
 cost_of_stimuli plan = dearest_of (cost_of_switch plan) (switches_of plan)

@@ -24,7 +24,7 @@ pub record IsLeastFitting (plan : PlanView) (weights : List ℕ) : Type 0 where
   pub fits : IsFitting plan (weight_of weights)
   pub least : (v : EventId → ℕ) → IsFitting plan v → (e : EventId) → e.0 < length plan.events → weight_of weights e ≤ v e
 
--- the price of the dearest stimulus
+-- the greatest price of a stimulus
 abbrev pub bound_of : PlanView → (EventId → ℕ) → ℕ
 bound_of plan w = price w (cost_of_stimuli plan)
 

@@ -1,4 +1,4 @@
-//! Why there are no weights, or why these do not serve.
+//! Why no weights were found, or why the given ones are refused.
 
 ghost use Rattle.std.specs.Prelude.{◌≡◌};
 ghost use Rattle.cascade_rank.specs.declared.fault.RankFault.TheVariants.{NoMemory};
@@ -7,22 +7,22 @@ use mpf_plan::EventId;
 use std::alloc::{AllocError, AllocFailed};
 use thiserror::Error;
 
-/// Why there are no weights, or why these do not serve.
+/// Why no weights were found, or why the given ones are refused.
 #[derive(Debug, Drop, Error)]
 pub enum RankFault {
     /// Memory ran out.
     #[error("NoMemory")]
     NoMemory,
-    /// These events lead to each other in a ring, in this order. They are found by a walk: it
-    /// begins at the lowest-numbered event from which one can go on without end, and goes on each
-    /// time to the lowest-numbered such event that the last one leads to. The cycle is the walk
-    /// from the event on to which it comes back.
+    /// Each of these events leads to the next, and the last one to the first, so no weights fit.
+    /// A rule selects the cycle. Start at the lowest-numbered event that can reach a cycle. Go from
+    /// each event to the lowest-numbered event after it that can reach a cycle. Stop at the first
+    /// event that was passed before. The cycle is the part of this walk from that event on.
     #[error("Cycle")]
     Cycle(Vec<EventId>),
-    /// A weight, or what a stimulus leads to at most, is above 10,000.
+    /// A weight, or the most lines that one stimulus can cause, is above 10,000.
     #[error("BoundTooLarge")]
     BoundTooLarge,
-    /// The lowest-numbered event that weighs less than it needs, and what it needs.
+    /// The lowest-numbered event that weighs less than it needs, and the weight that it needs.
     #[error("Short {1}")]
     Short(EventId, u128),
     /// There are not as many weights as events.

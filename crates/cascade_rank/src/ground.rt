@@ -1,4 +1,4 @@
-//! The order in which events can be weighed: each after those to which it leads.
+//! The order in which events can be weighed: each event leads only to earlier ones.
 
 ghost use Rattle.std.specs.Prelude.{◌≡◌, [], length, IfOk};
 ghost use Rattle.mpf_plan.specs.Valid.{IsValid};
@@ -8,16 +8,16 @@ use crate::leaders::count_posts;
 use mpf_plan::{EventId, Plan};
 use std::alloc::{AllocError, Global};
 
-/// The events from which one cannot go on without end, and what is left of each event.
+/// The events that can reach no cycle, and what is left of each event.
 #[derive(Drop)]
 pub(crate) struct Grounding {
-    /// Each event after those to which it leads.
+    /// Each event comes after those to which it leads.
     pub(crate) order: Vec<EventId>,
     /// How many posts of each event are of events that are not in the order.
     pub(crate) left: Vec<u128>,
 }
 
-/// The order is at once the queue: an event goes last when all to which it leads are gone through.
+/// The order is its own queue: an event joins it when all events to which it leads are done.
 pub(crate) fn ground(alloc: Global, plan: &Plan) -> Result<Grounding, AllocError>
     ensures order { IfOk result (λ grounding. IsOrdering plan.now (length grounding.order.items) [] grounding.left.items grounding.order.items) }
     ensures valid { IfOk result (λ _. IsValid plan.now) }

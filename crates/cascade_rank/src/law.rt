@@ -2,13 +2,12 @@
 
 ghost use Rattle.cascade_rank.specs.CycleOrWeights.{CycleHasNoFit, OpenHasCycle, CycleIsOpen, GroundedHasLeast};
 
-/// The law of weights: a plan in which every number is that of an entry, as in every valid plan, has
-/// weights that fit exactly where no events of it lead to each other without end.
+/// The law of weights, for each plan in which every number is that of an entry, as in every valid
+/// plan: some weights fit exactly when no events lead to each other without end.
 ///
-/// Where some do, no weights fit, and one can go on without end from each of them. Wherever one
-/// can go on without end from an event, some do. And where one can from none, there are least
-/// weights that fit: those that `find` gives, unless one of them or their bound is above
-/// 10,000, or memory runs out.
+/// If some do, no weights fit, and each of them can reach a cycle. If an event can reach a cycle,
+/// some do. If no event can, there are least weights that fit: those that `find` gives, unless one
+/// of them or their bound is above 10,000, or memory runs out.
 ///
 /// It does nothing: its contract is the law, over plans as contracts see them.
 pub fn cycles_or_weights()

@@ -11,7 +11,7 @@ use mpf_plan::{Action, EventId, Plan, Target};
 use std::alloc::{AllocError, Global};
 use std::marker::Model;
 
-/// Which events lead to each event, each as often as it does.
+/// For each event, the events that lead to it, each as often as it does.
 #[derive(Drop)]
 pub(crate) struct Leaders {
     lists: Vec<Vec<EventId>>,

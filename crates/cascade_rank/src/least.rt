@@ -23,9 +23,12 @@ const TOO_MUCH: u32 = 10_001;
 ///
 /// # Errors
 ///
-/// `Cycle` where events lead to each other without end, so that no weights fit; else
-/// `BoundTooLarge` where one of the least weights, or what a stimulus leads to at most, is above
-/// 10,000. `NoMemory` where memory runs out. Nothing else.
+/// - `Cycle`: events lead to each other without end, so no weights fit.
+/// - `BoundTooLarge`: there is no cycle, and one of the least weights, or the most lines that one
+///   stimulus can cause, is above 10,000.
+/// - `NoMemory`: memory ran out.
+///
+/// There are no others.
 pub fn find(alloc: Global, plan: &Plan) -> Result<Weights, RankFault>
     ensures exact { GivesFound result (found_at plan.now) }
     ensures least { IfOk result (λ weights. IsLeastFitting plan.now weights) }

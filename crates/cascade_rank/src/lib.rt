@@ -1,5 +1,5 @@
-//! How much an event leads to at most: weights that bound each cascade, and the cycle that makes
-//! one endless.
+//! Weights: the most lines that each event can cause. They bound every cascade. If there are none,
+//! a cycle makes a cascade endless.
 #![tactic(auto)]
 
 pub mod fault;

@@ -87,7 +87,7 @@ fn price_of_post(weights: &[u32], event: EventId) -> u128
     u128::from(weights[event.0 as usize])
 }
 
-/// What the dearest stimulus costs.
+/// The greatest cost of any stimulus.
 pub(crate) fn bound_of(plan: &Plan, weights: &[u32]) -> u128
     requires { length weights.now ≡ length plan.now.events }
     ensures { result ≡ price (weight_of weights.now) (cost_of_stimuli plan.now) }

@@ -1,4 +1,4 @@
-//! Whether weights bound what each event leads to.
+//! Whether given weights fit, and the bound that follows from them.
 
 ghost use Rattle.std.specs.Prelude.{◌≡◌, nat_le, length, IfOk, IfErr, IfSome, IfNone};
 ghost use Rattle.std.specs.List.{list_all};
@@ -16,17 +16,20 @@ use mpf_plan::{EventId, Plan};
 /// The greatest weight and the greatest bound that are accepted.
 const GREATEST: u32 = 10_000;
 
-/// How many lines a stimulus leads to at most: 0 to 10,000.
+/// The most lines that one stimulus can cause: 0 to 10,000.
 #[derive(Clone, Copy, Debug)]
 pub struct Bound(pub u32);
 
-/// The bound of these weights, where there is one for each event, each event weighs at least what
-/// it needs, and neither a weight nor the bound is above 10,000. It takes no memory.
+/// The bound of these weights, if there is one for each event, each event weighs at least what it
+/// needs, and neither a weight nor the bound is above 10,000. It takes no memory.
 ///
 /// # Errors
 ///
-/// `WrongEvents` where there are not as many weights as events; else `Short` of the
-/// lowest-numbered event that weighs too little; else `BoundTooLarge`.
+/// The first of these that applies:
+///
+/// - `WrongEvents`: there are not as many weights as events.
+/// - `Short`: an event weighs too little; the lowest-numbered one is reported.
+/// - `BoundTooLarge`: a weight or the bound is above 10,000.
 pub fn verify(plan: &Plan, weights: &Weights) -> Result<Bound, RankFault>
     ensures exact { GivesBound result (verified_at plan.now weights.now) }
     ensures verified { IfOk result (λ bound. IsVerified plan.now weights.now bound.0) }

@@ -3,8 +3,8 @@
 use mpf_plan::EventId;
 use std::marker::Model;
 
-/// A weight for each event, in the order of their numbers: how many lines an event leads to at
-/// most, where the weights fit.
+/// A weight for each event, in the order of their numbers. If the weights fit, posting an event
+/// once causes at most as many lines as it weighs.
 #[derive(Drop)]
 pub struct Weights {
     weights: Vec<u32>,
@@ -21,14 +21,14 @@ impl Model for Weights {
 impl Weights {
     ghost use Rattle.std.specs.Prelude.{◌≡◌, slice_get};
 
-    /// These weights. Whether they fit is not looked at.
+    /// Takes these weights as they are. It does not check whether they fit.
     pub fn of(weights: Vec<u32>) -> Weights
         ensures { result ≡ weights.items }
     {
         Weights { weights }
     }
 
-    /// The weight of an event, or none where there are not so many.
+    /// The weight of an event; none if there are not so many weights.
     pub fn get(&self, event: EventId) -> Option<u32>
         ensures { result ≡ slice_get self.now event.0 }
     {

@@ -38,8 +38,7 @@ struct Event<'a> {
 pub(crate) enum ReadFault {
     /// Memory ran out.
     NoMemory,
-    /// The line of this number, the first of which is 1, is not what it has to be: the first
-    /// one that is not.
+    /// The first line that is not as it has to be, counted from 1.
     Line(usize),
 }
 

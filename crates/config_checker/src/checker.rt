@@ -20,13 +20,18 @@ use mpf_config::config::Config;
 use mpf_plan::{EventId, Plan, PlanFault};
 use std::alloc::Global;
 
-/// Checks a configuration: its plan, with the least weights that fit and the bound of a stimulus.
+/// Checks a configuration. What it accepts has a plan, the least weights that fit it, and their
+/// bound; and every run of the plan is good.
 ///
 /// # Errors
 ///
-/// The report lists one fault: `Limit` of the first table that is above its limit; else `Cycle`
-/// where events lead to each other without end, so that no weights fit; else `Bound` where one
-/// of the least weights or their bound is above 10,000. `NoMemory` says that memory ran out.
+/// The report lists one fault, the first of these:
+///
+/// - `Limit`: a table is above its limit; the first such table is reported.
+/// - `Cycle`: events lead to each other without end, so no weights fit.
+/// - `Bound`: one of the least weights or their bound is above 10,000.
+///
+/// `NoMemory`: memory ran out.
 pub fn check(alloc: Global, config: &Config) -> Result<Checked, Report>
     ensures exact { GivesChecked result (checked_at (rows_view config.now)) }
     ensures plan { IfOk result (λ c. plan_at (rows_view config.now) ≡ Ok c.plan) }
@@ -46,16 +51,21 @@ pub fn check(alloc: Global, config: &Config) -> Result<Checked, Report>
     Ok(Checked::new(plan, weights, bound.0))
 }
 
-/// Checks a configuration with a certificate: its plan, with the certificate's weights, whichever
-/// they are, and the bound that they have.
+/// Checks a configuration with a certificate. What it accepts has a plan, the weights of the
+/// certificate, whichever they are, and their bound; and every run of the plan is good.
 ///
 /// # Errors
 ///
-/// The report lists one fault, the first one in this order: `Limit` of the first table that is
-/// above its limit; of the certificate `Line` where the text is none, `Events` where its events
-/// are not the plan's, and `Short` where an event weighs less than it needs; `Bound` where a
-/// weight or the bound is above 10,000; and of the certificate `Bound` where it states another
-/// bound than that of its weights. `NoMemory` says that memory ran out.
+/// The report lists one fault, the first of these:
+///
+/// - `Limit`: a table is above its limit; the first such table is reported.
+/// - `Certificate(Line)`: the text is no certificate.
+/// - `Certificate(Events)`: its events are not those of the plan.
+/// - `Certificate(Short)`: an event weighs less than it needs.
+/// - `Bound`: a weight or the bound is above 10,000.
+/// - `Certificate(Bound)`: it states another bound than that of its weights.
+///
+/// `NoMemory`: memory ran out.
 pub fn check_with(alloc: Global, config: &Config, certificate: &[u8]) -> Result<Checked, Report>
     ensures exact { GivesChecked result (checked_with_at (rows_view config.now) certificate.now) }
     ensures plan { IfOk result (λ c. plan_at (rows_view config.now) ≡ Ok c.plan) }

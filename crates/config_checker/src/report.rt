@@ -10,18 +10,16 @@ use thiserror::Error;
 /// What is wrong with a certificate.
 #[derive(Debug, Drop, Error)]
 pub enum CertificateFault {
-    /// The line of this number, the first of which is 1, is not what it has to be: the first
-    /// one that is not.
+    /// The first line that is not as it has to be, counted from 1.
     #[error("Line {0}")]
     Line(usize),
     /// Its events are not those of the plan, in the order of their numbers.
     #[error("Events")]
     Events,
-    /// The event, by its name, weighs less than it needs: the first one that does, and what it
-    /// needs.
+    /// The first event that weighs less than it needs, by its name, and the weight that it needs.
     #[error("Short {1}")]
     Short(Vec<u8>, u128),
-    /// It states another bound than that of its weights, which is this.
+    /// It states another bound than this one, which its weights have.
     #[error("Bound {0}")]
     Bound(u32),
 }
@@ -29,16 +27,16 @@ pub enum CertificateFault {
 /// A fault of a configuration.
 #[derive(Debug, Drop, Error)]
 pub enum Fault {
-    /// The table is above its limit: the first one that is.
+    /// The first table that is above its limit.
     #[error("Limit {}", .0.name())]
     Limit(Table),
-    /// The events lead to each other without end, by their names.
+    /// Each of these events leads to the next, and the last one to the first. Here are their names.
     #[error("Cycle")]
     Cycle(Vec<Vec<u8>>),
     /// A weight or the bound of a stimulus is above 10,000.
     #[error("Bound")]
     Bound,
-    /// The certificate does not serve.
+    /// The certificate is not one of this configuration.
     #[error("Certificate {0}")]
     Certificate(CertificateFault),
 }

@@ -38,7 +38,8 @@ impl<'p> Handlers<'p> {
     }
 
     /// The place of the `k`-th handler of an event, counted from 0, in plan order: higher
-    /// priorities first, and of equal ones the lower place. None where there are not so many.
+    /// priorities first, and of equal ones the lower place. None if the event has fewer handlers,
+    /// or the plan has no such event.
     pub fn nth(&self, event: EventId, k: usize) -> Option<BindingId>
         ensures handler { result ≡ slice_get (in_order self.now.plan event) k }
         ensures within { IfSome result (λ b. b.0 < length self.now.plan.bindings) }

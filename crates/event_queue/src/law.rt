@@ -5,8 +5,8 @@ ghost use Rattle.event_queue.specs.PlanOrder.{HandlersAreInPlanOrder};
 
 /// The law of `Queue`, for every list of calls of `push` and `take` on a new queue.
 ///
-/// What `take` gave, and after it what waits, is what `push` accepted, in the order in which it
-/// was pushed. And the queue keeps its size, which is never exceeded.
+/// The events that `take` gave, followed by those that wait, are the events that `push` accepted,
+/// in order. The queue keeps its size, and never holds more.
 ///
 /// It does nothing: its contract is the law, over the steps that the calls take.
 pub fn first_in_first_out()

@@ -15,7 +15,7 @@ pub struct Posted {
     pub owner: Owner,
 }
 
-/// As many events wait as may.
+/// No more events may wait.
 #[derive(Clone, Copy, Debug, Error)]
 #[error("Full")]
 pub struct Full;
@@ -52,8 +52,11 @@ impl Queue {
         })
     }
 
-    /// Adds an event after all others. `Full` exactly where as many wait as may: nothing changes
-    /// then.
+    /// Adds an event after all others.
+    ///
+    /// # Errors
+    ///
+    /// `Full` exactly when as many events wait as may. Nothing has changed then.
     pub fn push(&mut self, event: Posted) -> Result<(), Full>
         ensures { IsPushed event result self.old self.new }
     {

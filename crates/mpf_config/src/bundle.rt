@@ -100,15 +100,21 @@ fn read_exactly(alloc: Global, bundle: &[u8]) -> Result<Config, ConfigFault>
     })
 }
 
-/// The rows of a bundle, and notes on what is not read of it. A bundle is texts, each behind a line
-/// `@ NAME`, and is read for its machine text, `config/config.yaml`; the sections that are carried
-/// out nowhere are skipped, and texts that no other lists are left unread.
+/// Reads a bundle: its rows, and notes on what is not read. A bundle is a list of texts, each after
+/// a line `@ NAME`. Of these the machine text, `config/config.yaml`, is read. Sections that are
+/// carried out nowhere are skipped with a note, and so are all other texts.
 ///
-/// An error is that memory ran out, or the first fault: a bundle above 8 MiB (Limit); a bundle that
-/// does not begin with a line `@ NAME`, has another line that begins with `@` and is none, or has no
-/// machine text (Bundle); then, in the machine text, another version (Version), text that is no YAML
-/// of the subset (Yaml), and the faults of its sections, entries and settings as written; and then a
-/// text with the name of one before it (Duplicate).
+/// # Errors
+///
+/// `NoMemory`, or the first fault. Faults are looked for in this order:
+///
+/// - `Limit`: the bundle has more than 8 MiB.
+/// - `Bundle`: the first line is not `@ NAME`; another line begins with `@` and is not `@ NAME`; or
+///   there is no machine text.
+/// - `Version`: the machine text does not begin with `#config_version=6`.
+/// - `Yaml`: the machine text is not in the subset of YAML.
+/// - The faults of its sections, entries and settings, as they are written.
+/// - `Duplicate`: a text has the name of an earlier one.
 pub fn read_bundle(alloc: Global, bundle: &[u8]) -> Result<Config, ConfigFault>
     // What is read are the rows of the bundle, with the notes.
     ensures found { IfOk result (λ config. IsRowsOf 32 8 1024 bundle.now (rows_view config)) }

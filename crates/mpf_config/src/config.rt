@@ -7,7 +7,7 @@ ghost use Rattle.mpf_config.specs.SectionView.{section_view};
 
 use section_tables::rows::{Entry, Player};
 
-/// How a switch's contact stands while nothing presses it.
+/// The state of a switch's contact while nothing presses it.
 #[derive(Clone, Copy, Debug)]
 pub enum Contact {
     /// Open: raw level 1 is active.
@@ -16,18 +16,19 @@ pub enum Contact {
     NormallyClosed,
 }
 
-/// How long a raw level has to stand until it is accepted.
+/// How long a raw level has to last before it is accepted.
 #[derive(Clone, Copy, Debug)]
 pub enum Debounce {
-    /// As the use of the switch asks: as `Normal`, since nothing asks for more yet.
+    /// As long as the use of the switch needs. Nothing asks for more than `Normal` yet, so it is
+    /// that.
     Auto,
-    /// Not at all.
+    /// It is accepted at once.
     Quick,
     /// 5 ms.
     Normal,
 }
 
-/// What stands in a section, as written.
+/// The content of a section, as written.
 #[derive(Drop)]
 pub enum Content {
     /// Entries by the table of the section.
@@ -70,10 +71,10 @@ pub struct Note {
     pub name: Vec<u8>,
 }
 
-/// The rows of a bundle: no list in them has more than 1,024 items.
+/// The rows of a bundle. No list in them has more than 1,024 items.
 #[derive(Drop)]
 pub struct Config {
-    /// What stands in the machine text.
+    /// The machine text.
     pub machine: MachineText,
     /// What was not read, in the order in which it is reported.
     pub notes: Vec<Note>,

@@ -18,8 +18,8 @@ pub fn write_escaped<W: Write>(text: &[u8], writer: &mut W) -> io::Result<()>
     Ok(())
 }
 
-/// The law of what is written: no byte of it is below 32, or 127. So the text of a bundle makes no
-/// line of the output.
+/// The law of what is written: none of its bytes is below 32, and none is 127. So no text of a
+/// bundle makes a line of the output.
 ///
 /// It does nothing: its contract is the law, over all texts.
 pub fn escaped_makes_no_line()

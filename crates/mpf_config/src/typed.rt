@@ -24,15 +24,15 @@ pub struct Switch<'a> {
     pub contact: Contact,
     /// Auto by default.
     pub debounce: Debounce,
-    /// Each tag is an event's name behind `sw_`.
+    /// For each tag `T` the switch posts `sw_T` when it becomes active.
     pub tags: &'a [Name],
-    /// Posted besides when the switch becomes active: `events_when_activated`.
+    /// Also posted when the switch becomes active: `events_when_activated`.
     pub activated: &'a [Name],
-    /// Posted besides when it becomes inactive: `events_when_deactivated`.
+    /// Also posted when it becomes inactive: `events_when_deactivated`.
     pub deactivated: &'a [Name],
 }
 
-/// An entry of `event_player`: where the event is handled, the others are posted, in order.
+/// An entry of `event_player`: when the event is handled, the others are posted, in order.
 #[derive(Clone, Copy)]
 pub struct EventPlayer<'a> {
     pub event: NameAt<'a>,

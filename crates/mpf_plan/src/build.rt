@@ -17,19 +17,21 @@ use std::alloc::Global;
 
 /// The plan of the rows.
 ///
-/// Events are numbered in the order of their first uses: sections and entries as they are
-/// written; a switch uses what it posts, first when it becomes active, then when it becomes
-/// inactive, whatever the order of its settings; an entry of `event_player` uses the event that
-/// it handles, then those that it posts.
+/// Events are numbered in the order of their first uses, as sections and entries are written. A
+/// switch uses what it posts, first when it becomes active, then when it becomes inactive, whatever
+/// the order of its settings. An entry of `event_player` uses the event that it handles, then those
+/// that it posts.
 ///
 /// When a switch becomes active, it posts `NAME_active`, then `sw_TAG` for each of its tags, then
-/// its `events_when_activated`; when it becomes inactive, `NAME_inactive`, then its
-/// `events_when_deactivated`: tags and events as they are written, each as often as it is.
+/// its `events_when_activated`. When it becomes inactive, it posts `NAME_inactive`, then its
+/// `events_when_deactivated`. Tags and events keep the order in which they are written, and each is
+/// posted as often as it is written.
 ///
 /// # Errors
 ///
-/// `NoSuchName` where a name is used that nothing has; no row does that yet. `Limit` where a table
-/// is above its limit: the first one, in the order of `Table`. `NoMemory` where memory runs out.
+/// - `NoSuchName`: a name is used that nothing has. No row does that yet.
+/// - `Limit`: a table is above its limit; the first such table in the order of `Table` is reported.
+/// - `NoMemory`: memory ran out.
 pub fn plan(alloc: Global, config: &Config) -> Result<Plan, PlanFault>
     ensures exact { GivesPlan result (plan_at (rows_view config.now)) }
     ensures plan { IfOk result (λ p. p ≡ plan_of (rows_view config.now)) }

@@ -1,4 +1,4 @@
-//! What stands in a plan's tables.
+//! The entries of a plan's tables.
 
 use mpf_config::config::Contact;
 
@@ -15,7 +15,7 @@ pub struct SwitchId(pub u16);
 pub struct SwitchKind {
     /// Which raw level is active.
     pub contact: Contact,
-    /// Whether a raw level is accepted at once, and not once it has stood for 5 ms.
+    /// Whether a raw level is accepted at once; if not, it has to last for 5 ms.
     pub quick: bool,
 }
 
@@ -30,7 +30,7 @@ pub struct BindingId(pub u16);
 /// Who acts.
 #[derive(Clone, Copy, Debug)]
 pub enum Owner {
-    /// What stands in the machine text.
+    /// What the machine text has.
     Machine,
 }
 
@@ -55,7 +55,7 @@ pub struct Binding {
     pub event: EventId,
     /// Who handles it.
     pub owner: Owner,
-    /// Of an event's handlers those of higher priority run first. 0 yet: nothing sets it.
+    /// Handlers of an event with a higher priority run first. It is always 0 yet.
     pub priority: u32,
     /// What is done.
     pub target: Target,

@@ -7,7 +7,7 @@ ghost use Rattle.mpf_plan.specs.declared.fault.PlanFault.TheVariants.{NoMemory};
 use std::alloc::{AllocError, AllocFailed};
 use thiserror::Error;
 
-/// A table of the plan that has a limit, in the order in which they are judged.
+/// A table of the plan that has a limit. Limits are checked in this order.
 #[derive(Clone, Copy, Debug)]
 pub enum Table {
     /// At most 4,096 events.
@@ -61,7 +61,7 @@ pub enum PlanFault {
     /// A name is used that nothing has.
     #[error("NoSuchName")]
     NoSuchName,
-    /// The table is above its limit: the first one that is.
+    /// The first table that is above its limit.
     #[error("Limit {}", .0.name())]
     Limit(Table),
 }

@@ -56,7 +56,7 @@ impl Plan {
         }
     }
 
-    /// How many events there are: their numbers are those below.
+    /// How many events there are. They are numbered from 0.
     pub fn event_count(&self) -> usize
         ensures count { result ≡ length self.now.events }
         ensures valid { IsValid self.now }
@@ -74,7 +74,7 @@ impl Plan {
         names[event.0 as usize].as_slice()
     }
 
-    /// The event of a name, or none where no event has it.
+    /// The event of this name; none if no event has it.
     pub fn find_event(&self, name: &[u8]) -> Option<EventId>
         ensures event { result ≡ event_named self.now name.now }
         ensures found { IfSome result (λ e. slice_get self.now.events e.0 ≡ Some name.now) }
@@ -85,7 +85,7 @@ impl Plan {
         Some(EventId(place as u16))
     }
 
-    /// How many switches there are: their numbers are those below.
+    /// How many switches there are. They are numbered from 0.
     pub fn switch_count(&self) -> usize
         ensures count { result ≡ length self.now.switches }
         ensures valid { IsValid self.now }
@@ -103,7 +103,7 @@ impl Plan {
         names[switch.0 as usize].as_slice()
     }
 
-    /// The switch of a name, or none where no switch has it.
+    /// The switch of this name; none if no switch has it.
     pub fn find_switch(&self, name: &[u8]) -> Option<SwitchId>
         ensures switch { result ≡ switch_named self.now name.now }
         ensures found { IfSome result (λ s. (switch_at self.now s).name ≡ name.now) }
@@ -137,7 +137,7 @@ impl Plan {
         }
     }
 
-    /// How many effect lists there are: their numbers are those below.
+    /// How many effect lists there are. They are numbered from 0.
     pub fn list_count(&self) -> usize
         ensures count { result ≡ length self.now.lists }
         ensures valid { IsValid self.now }
@@ -154,7 +154,7 @@ impl Plan {
         self.lists[list.0 as usize].as_slice()
     }
 
-    /// How many bindings there are: their numbers are those below.
+    /// How many bindings there are. They are numbered from 0.
     pub fn binding_count(&self) -> usize
         ensures count { result ≡ length self.now.bindings }
         ensures valid { IsValid self.now }
@@ -171,7 +171,7 @@ impl Plan {
         self.bindings[binding.0 as usize]
     }
 
-    /// What is bound to an event of the plan, by its places in plan order.
+    /// The bindings of an event of the plan, by their places, in plan order.
     pub fn bindings_of(&self, event: EventId) -> &[BindingId]
         requires { event.0 < length self.now.events }
         ensures places { result.now ≡ places_of self.now event }
@@ -180,7 +180,7 @@ impl Plan {
         self.places[event.0 as usize].as_slice()
     }
 
-    /// What is bound to events, in plan order.
+    /// All bindings, in plan order.
     pub fn bindings(&self) -> &[Binding]
         ensures bindings { result.now ≡ self.now.bindings }
         ensures valid { IsValid self.now }

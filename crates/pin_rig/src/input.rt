@@ -11,10 +11,10 @@ use thiserror::Error;
 /// The first moment that is too late, in milliseconds.
 const TOO_LATE: u64 = 1 << 40;
 
-/// What a rig is given: moments are milliseconds.
+/// What a rig is given. Moments are milliseconds.
 #[derive(Clone, Copy)]
 pub enum Input {
-    /// The raw level of a switch is this from the moment on.
+    /// From this moment on the switch has this raw level.
     Change {
         at: u64,
         switch: SwitchId,
@@ -28,7 +28,7 @@ pub enum Input {
     },
 }
 
-/// Why an input is refused: the first reason of these. Nothing has changed then.
+/// Why an input is refused. The first of these reasons is reported, and nothing has changed then.
 #[derive(Clone, Copy, Debug, Error)]
 #[error("{}", self.name())]
 pub enum StepFault {

@@ -2,12 +2,13 @@
 
 ghost use Rattle.pin_rig.specs.Steps.{StepsAreRun, TakesWhatMayCome};
 
-/// The law of `Rig`, for every list of inputs on a new rig that are not refused.
+/// The law of `Rig`, for every list of inputs on a new rig.
 ///
-/// The lines of the steps, one after the other, are the trace of a run of the plan with these
-/// inputs. The state after the steps is that of the run, and no event waits.
+/// Of the inputs that are taken, the lines of the steps, one after the other, are the trace of a
+/// run of the plan with these inputs. The state after the steps is that of the run, and no event
+/// waits.
 ///
-/// And an input is refused only where it is no stimulus that may come.
+/// An input is refused only if it is no stimulus that may come.
 ///
 /// It does nothing: its contract is the law, over what `Rig::step` promises of each step.
 pub fn steps_are_run()

@@ -10,8 +10,8 @@ use config_checker::{Checked, Line};
 use std::alloc::Global;
 use std::marker::Model;
 
-/// The machine of a configuration that was accepted, between two stimuli: no event waits, and
-/// its state is one to which a run of the plan leads. Moments are milliseconds, below 2^40.
+/// The machine of an accepted configuration, between two stimuli: no event waits, and a run of the
+/// plan leads to its state. Moments are milliseconds, below 2^40.
 #[derive(Drop)]
 pub struct Rig<'c> {
     checked: &'c Checked,
@@ -39,13 +39,13 @@ impl<'c> Rig<'c> {
     ghost use Rattle.pin_rig.specs.Inside.{stimulus_view, GivesStimulus};
     ghost use Rattle.pin_rig.specs.Lending.{LendsStep};
 
-    /// The machine of what was accepted at its beginning: moment 0, all switches inactive, and
-    /// nothing waits. Only this call takes memory: room for as many waiting events and lines as
-    /// the bound says.
+    /// The machine of an accepted configuration, as it begins: at moment 0, with all switches
+    /// inactive and no event waiting. Only this call takes memory: room for as many waiting events
+    /// and lines as the bound says.
     ///
     /// # Errors
     ///
-    /// `NoMemory` where memory runs out.
+    /// `NoMemory`: memory ran out.
     pub fn new(alloc: Global, checked: &'c Checked) -> Result<Rig<'c>, RigFault>
         ensures checked { IfOk result (λ rig. rig.checked ≡ checked.now) }
         ensures machine { IfOk result (λ rig. rig.machine ≡ initial checked.now.plan) }
@@ -56,12 +56,12 @@ impl<'c> Rig<'c> {
         Ok(Rig { checked, core })
     }
 
-    /// One input: what it does itself, and then the whole cascade that it begins, handlers of one
-    /// event in plan order. Lends the lines, first come first.
+    /// Takes one input, and runs the whole cascade that it begins, the handlers of each event in
+    /// plan order. It lends the lines of both, in the order in which they came.
     ///
     /// # Errors
     ///
-    /// The first of these that applies; nothing has changed then.
+    /// The first of these that applies. Nothing has changed then.
     ///
     /// - `NoSuchSwitch`: the input is a change of a switch that the plan does not have.
     /// - `NoAlarm`: the input is an alarm, and none is due.
@@ -93,7 +93,7 @@ impl<'c> Rig<'c> {
         Some(at)
     }
 
-    /// The lines of the latest stimulus, first come first.
+    /// The lines of the latest stimulus, in the order in which they came.
     pub fn trace(&self) -> &[Line]
         ensures lines { result.now ≡ self.now.machine.lines }
         ensures reached { IsOfRun self.now }

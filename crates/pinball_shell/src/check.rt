@@ -17,17 +17,26 @@ use mpf_config::{Config, ConfigFault, Note, read_bundle, write_note};
 use std::alloc::Global;
 use std::io::{self, Read, Write};
 
-/// How many bytes a bundle has at most: 8 MiB.
+/// The most bytes that a bundle may have: 8 MiB.
 pub const BUNDLE_LIMIT: usize = 8_388_608;
 
-/// How many bytes a certificate has at most: 1 MiB.
+/// The most bytes that a certificate may have: 1 MiB.
 pub const CERTIFICATE_LIMIT: usize = 1_048_576;
 
-/// Reads a bundle, of at most 8 MiB, and writes what `check` prints for it: a line for each note on
-/// its rows, and then `yes` and its certificate, or why it is refused and `no`. A bundle that has
-/// no rows, being refused by an `error` line, has no notes either. Nothing is written before the
-/// answer is known, so after `NoMemory`, `Read` and `TooLong` (a longer bundle) nothing has been;
-/// how much was after `Write` is not said.
+/// Reads a bundle and writes what `check` prints for it: the notes on its rows, then `yes` and the
+/// certificate, or why it is refused and `no`. If its rows cannot be read, an `error` line comes in
+/// place of the notes.
+///
+/// Nothing is written before the answer is known.
+///
+/// # Errors
+///
+/// - `TooLong`: the bundle has more than 8 MiB.
+/// - `Read`: the reader failed.
+/// - `NoMemory`: memory ran out.
+/// - `Write`: the writer failed. How much was written is not said.
+///
+/// After the first three nothing has been written.
 pub fn check_text<R: Read, W: Write>(
     alloc: Global,
     reader: &mut R,
@@ -47,12 +56,13 @@ pub fn check_text<R: Read, W: Write>(
     }
 }
 
-/// Reads a bundle, of at most 8 MiB, and a certificate, of at most 1 MiB, and writes what `verify`
-/// prints for them: a line for each note on the bundle's rows, and then `yes` and the bound of the
-/// certificate's weights, or why they are refused and `no`. First the whole bundle is read, then
-/// the whole certificate, and only then is either checked. Nothing is written before the answer is
-/// known, so after `NoMemory`, `Read` and `TooLong` (a longer text) nothing has been; how much was
-/// after `Write` is not said.
+/// Reads a bundle and a certificate, and writes what `verify` prints for them: the notes on the
+/// bundle's rows, then `yes` and the bound of the certificate's weights, or why they are refused
+/// and `no`.
+///
+/// The whole bundle is read first, then the whole certificate, and then both are checked. Nothing
+/// is written before the answer is known. The errors are those of [`check_text`]; a certificate of
+/// more than 1 MiB is `TooLong` too.
 pub fn verify_text<R: Read, Q: Read, W: Write>(
     alloc: Global,
     bundle: &mut R,
@@ -74,9 +84,9 @@ pub fn verify_text<R: Read, Q: Read, W: Write>(
     }
 }
 
-/// Reads a bundle, of at most 8 MiB, and checks it. Where it is refused, writes what `check` prints
-/// for it, its notes too, and answers nothing; where it is accepted, writes nothing, not even its
-/// notes. Its errors are those of `check_text`.
+/// Reads a bundle and checks it. For a bundle that is accepted it writes nothing, not even notes,
+/// and gives the accepted configuration. For one that is refused it writes what `check` prints, and
+/// gives nothing. The errors are those of [`check_text`].
 pub fn load_text<R: Read, W: Write>(
     alloc: Global,
     reader: &mut R,

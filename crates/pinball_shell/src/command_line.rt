@@ -26,13 +26,13 @@ pub enum Ask {
     },
 }
 
-/// Why the words ask for nothing that is done.
+/// Why the words ask for nothing that can be done.
 #[derive(Debug, Drop, thiserror::Error)]
 pub enum AskFault {
     /// Memory ran out.
     #[error("NoMemory")]
     NoMemory,
-    /// The words are not understood, or ask for help: the text that is shown then.
+    /// The words are not a command, or ask for help. This is the text to show.
     #[error("{0}")]
     Usage(String),
 }
@@ -45,8 +45,12 @@ impl From<AllocError> for AskFault {
     }
 }
 
-/// What the words after the program's name ask for: `check`, `verify CERT`, or `play LOG`. `Usage`
-/// for words that the command line does not take, and for those that ask for help.
+/// What the words after the program's name ask for: `check`, `verify CERT` or `play LOG`.
+///
+/// # Errors
+///
+/// - `Usage`: the words are not one of these, or ask for help.
+/// - `NoMemory`: memory ran out.
 pub fn command(alloc: Global, words: Vec<String>) -> Result<Ask, AskFault>
     ensures asked { IfOk result (λ ask. asked_at (map string_bytes words.items) ≡ Some (ask_view ask)) }
     ensures checks { map string_bytes words.items ≡ codes "check" ∷ [] → Asks check result }

@@ -56,8 +56,8 @@ impl ShellFault {
 }
 
 impl<'a> Failure<'a> {
-    /// Of a fault that was met while the file of this path was read. `Read` and `TooLong` are the
-    /// file's; `NoMemory` and `Write` are no file's.
+    /// The failure for a fault that came up while this file was read. `Read` and `TooLong` are
+    /// blamed on the file; `NoMemory` and `Write` are not.
     pub fn at(fault: ShellFault, path: &'a str) -> Failure<'a>
         ensures fault { result.fault ≡ fault }
         ensures file { option_map (λ p. p.now) result.file ≡ file_at_fault fault path.now }
@@ -69,8 +69,8 @@ impl<'a> Failure<'a> {
         Failure { fault, file }
     }
 
-    /// Writes what standard error gets: the line `fault: NAME`, and where a file is at fault a
-    /// second one, `file: PATH`.
+    /// Writes what standard error gets: the line `fault: NAME`, and a second one, `file: PATH`, if
+    /// a file is at fault.
     pub fn write<W: Write>(&self, writer: &mut W) -> io::Result<()>
         ensures { OnOk result (Appends (W.contents writer.old) (W.contents writer.new) (failure_text self.now.fault (option_map (λ p. p.now) self.now.file))) }
     {

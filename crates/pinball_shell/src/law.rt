@@ -6,8 +6,8 @@ ghost use Rattle.pinball_shell.specs.SamePlay.{PlaysTheSame};
 
 use crate::check::CERTIFICATE_LIMIT;
 
-/// The law of printed certificates, for all bundles. Where `check_text` says yes to a bundle, it
-/// prints the notes, `yes` and a certificate; with that certificate `verify_text` says yes to the
+/// The law of printed certificates, for all bundles. If `check_text` says yes to a bundle, it
+/// prints the notes, `yes` and a certificate. With that certificate `verify_text` says yes to the
 /// same bundle, and prints the same notes, `yes` and the certificate's bound. The certificate is
 /// within the limit of `verify_text`, 1 MiB.
 ///
@@ -18,9 +18,9 @@ pub fn printed_certificate_is_verified()
     ensures short { AcceptedIsShort CERTIFICATE_LIMIT }
 {}
 
-/// The law of certificates in play. Whatever weights and bound a plan was accepted with, those that
-/// were found or those of a certificate, `play_text` writes the same for every log, and gives the
-/// same verdict: both are functions of `printed_for_log`.
+/// The law of certificates in play. `play_text` writes the same for every log, and gives the same
+/// verdict, whatever weights and bound the plan was accepted with: those that `check` found, or
+/// those of a certificate. Both are functions of `printed_for_log`.
 ///
 /// It does nothing: its contract is the law, over what is printed for a log.
 pub fn any_certificate_plays_the_same()
@@ -28,9 +28,9 @@ pub fn any_certificate_plays_the_same()
 {}
 
 /// The law of logs. A log gives a plan one list of stimuli: its changes and waits in their order,
-/// and before each the alarms that are due by its moment. What `play_text` promises of the trace
-/// leaves open no more than the order of handlers of equal priority, and what it writes not even
-/// that.
+/// and before each the alarms that are due by its moment. So what `play_text` promises of the trace
+/// leaves only the order of handlers of equal priority open. What it writes leaves not even that
+/// open.
 ///
 /// It does nothing: its contract is the law, over the runs that a log gives.
 pub fn log_gives_one_list_of_stimuli()

@@ -14,16 +14,16 @@ use yaml_bytes::{is_blank, number, split_line};
 pub enum Said<'a> {
     /// The line is empty, or a comment.
     Nothing,
-    /// All that is due up to the moment, in milliseconds.
+    /// Wait until this moment, in milliseconds.
     Wait(u64),
-    /// At the moment the switch of that name has a new raw level.
+    /// From this moment on, the switch of this name has this raw level.
     Change(u64, &'a [u8], bool),
     /// The line is none of these.
     Unreadable,
 }
 
-/// The first line of a text that is not empty, and the text after it. A line ends with LF or
-/// CR LF, the last one of a text also with the text.
+/// The first line of a text that is not empty, and the text after it. A line ends with LF or CR LF;
+/// the last one may lack its end.
 pub fn first_line(text: &[u8]) -> (&[u8], &[u8])
     requires { 0 < length text.now }
     ensures first { lines text.now ≡ result.0.now ∷ lines result.1.now }

@@ -22,15 +22,25 @@ use pin_rig::{Input, Rig, StepFault, check_moment};
 use std::alloc::Global;
 use std::io::{self, Read, Write};
 
-/// How many bytes a log has at most: 16 MiB.
+/// The most bytes that a log may have: 16 MiB.
 pub const LOG_LIMIT: usize = 16_777_216;
 
-/// Reads a log and plays it: writes the lines of the trace as they come, and which lines of the
-/// log are refused. `Yes` where none is. The lines of the trace are those of the run of the plan
-/// that the log gives: its changes and waits in their order, before each the alarms due by its
-/// moment, and none after the last; at the end no event waits. The log is read whole, and all
-/// memory taken, before anything is written, so after `NoMemory`, `Read` and `TooLong` nothing has
-/// been; how much was after `Write` is not said. After an `Ok` the log had at most 16 MiB.
+/// Reads a log and plays it: writes the lines of the trace as they come, and a line for each line
+/// of the log that is refused. The verdict is `Yes` if none is.
+///
+/// The lines of the trace are those of the run of the plan that the log gives: its changes and
+/// waits in their order, before each the alarms that are due by its moment, and none after the
+/// last. At the end no event waits.
+///
+/// # Errors
+///
+/// - `TooLong`: the log has more than 16 MiB.
+/// - `Read`: the reader failed.
+/// - `NoMemory`: memory ran out.
+/// - `Write`: the writer failed. How much was written is not said.
+///
+/// The log is read to its end, and all memory taken, before anything is written. So after the first
+/// three nothing has been written.
 pub fn play_text<R: Read, W: Write>(
     alloc: Global,
     checked: &Checked,

@@ -10,9 +10,15 @@ use std::io::Read;
 /// How many bytes a read asks for.
 const PIECE: usize = 8192;
 
-/// All bytes that the reader gives, up to its end, which is a read of nothing. It is asked at
-/// most `limit` + 1 times. `Read` where a read fails; `TooLong` at the first read that brings
-/// more than `limit` bytes in all; `NoMemory` where there is no room for them.
+/// All bytes that the reader gives, up to its end, which is a read of nothing. The reader is asked
+/// at most `limit` + 1 times.
+///
+/// # Errors
+///
+/// - `Read`: a read failed.
+/// - `TooLong`: there are more than `limit` bytes. Nothing is read after the first read that shows
+///   this.
+/// - `NoMemory`: there is no room for them.
 pub fn read_all<R: Read>(alloc: Global, reader: &mut R, limit: usize) -> Result<Vec<u8>, ShellFault>
     ensures all { IfOk result (λ all. IfSome (R.remaining reader.old) (λ input. all.items ≡ input)) }
     ensures end { OnOk result (IsAtEnd (R.remaining reader.new)) }

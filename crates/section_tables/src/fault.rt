@@ -11,21 +11,21 @@ use yaml_subset::fault::FaultKind as YamlKind;
 /// What is wrong.
 #[derive(Clone, Copy, Debug)]
 pub enum FaultKind {
-    /// The bundle has no line `@ NAME` first, a bad `@` line, or no machine text.
+    /// The bundle does not begin with a line `@ NAME`, has a bad `@` line, or has no machine text.
     Bundle,
     /// The text does not begin with `#config_version=6`.
     Version,
-    /// The text is not read as YAML.
+    /// The text is not in the subset of YAML that is read.
     Yaml(YamlKind),
-    /// No section has this name.
+    /// No section of this name is carried out or skipped.
     UnknownSection,
     /// The section has no such setting.
     UnknownSetting,
-    /// The value is not one that the setting takes.
+    /// The value is not one that the setting takes, or a name is none.
     BadValue,
     /// A setting that is required is not written.
     Missing,
-    /// The name is taken already.
+    /// An earlier text has this name.
     Duplicate,
     /// The bundle or a list is above its limit.
     Limit,
@@ -67,8 +67,8 @@ impl FaultKind {
     }
 }
 
-/// A fault: its text's name (or `-`), the line in that text, counted from 1, and the key that
-/// it is about (or `-`). A fault of the YAML reader has the name of its kind as its key.
+/// A fault: the name of its text, the line in that text, counted from 1, and its key. A text or key
+/// of `-` means none. For a fault of the YAML reader the key is the name of its kind.
 #[derive(Debug, Drop, Error)]
 #[error("{} at line {}", .kind.name(), .line)]
 pub struct Fault {

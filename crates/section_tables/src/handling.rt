@@ -59,9 +59,12 @@ fn read_players(
     )
 }
 
-/// The entries of a player with keys and values of these kinds, in the text of this name; or the
-/// first fault: BadValue at the section where it is no mapping, and at a key that does not say
-/// what it is to say; and the faults of values, which stand at their keys as those of a setting.
+/// The entries of a player with keys and values of these kinds, in the text of this name.
+///
+/// # Errors
+///
+/// `NoMemory`, or the first fault: `BadValue` at the section if it is no mapping, and at a key that
+/// is not of its kind; and the faults of values, each at its key, like those of a setting.
 pub fn players(
     alloc: Global,
     kinds: PlayerKinds,

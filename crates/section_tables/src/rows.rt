@@ -19,8 +19,8 @@ pub struct Guard {
     pub number: i64,
 }
 
-/// An event that is handled, under a condition where it has one; with the line where it is
-/// written, or 0 where it is not written but holds by default.
+/// An event that is handled, with its condition if it has one, and the line where it is written;
+/// line 0 if it is not written and holds by default.
 #[derive(Drop)]
 pub struct Handler {
     pub line: u32,
@@ -28,7 +28,7 @@ pub struct Handler {
     pub condition: Option<Box<Guard>>,
 }
 
-/// What one text says. What is large stands in a box, so that a value has 24 bytes.
+/// What one text says. Large values are in a box, so a value has 24 bytes.
 #[derive(Drop)]
 pub enum Plain {
     /// Nothing is written, and nothing holds by default.

@@ -60,10 +60,14 @@ fn read_entries(
     )
 }
 
-/// The entry that a pair is by this table, in the text of this name: as one of the entries of a
-/// section, or as a section that is one entry itself. Its faults are BadValue where its key is no
-/// name or its value no mapping, then those of its settings as they are written, and then Missing,
-/// with the first key of the table that has to be written and is not.
+/// The entry that a pair is by this table, in the text of this name: one of the entries of a
+/// section, or a section that is one entry itself.
+///
+/// # Errors
+///
+/// `NoMemory`, or the first fault. They come in this order: `BadValue` if its key is no name or its
+/// value no mapping; the faults of its settings, as they are written; `Missing` with the first key
+/// of the table that is required and not written.
 pub fn entry(
     alloc: Global,
     table: &[Setting],
@@ -85,8 +89,12 @@ pub fn entry(
     read_entry(alloc, table, text, pair)
 }
 
-/// The entries of a section with this table, in the text of this name; or the first fault in
-/// them, as [`entry`] has it; or BadValue at the section where it is no mapping.
+/// The entries of a section by this table, in the text of this name.
+///
+/// # Errors
+///
+/// `NoMemory`; `BadValue` at the section if it is no mapping; or the first fault of an entry, as
+/// [`entry`] reports it.
 pub fn entries(
     alloc: Global,
     table: &[Setting],

@@ -2,16 +2,15 @@
 
 ghost use Rattle.switch_core.specs.Calls.{LevelsAreAccepted, NothingIsLate, ChangesArmLater};
 
-/// The law of `Switches`. It speaks of lists of calls after `new` in the order of their moments,
-/// where each `fire` comes at the moment that was due, and before each `change` all has been fired
-/// that is due by then.
+/// The law of `Switches`. It is about lists of calls after `new` in the order of their moments, if
+/// each `fire` comes at the moment that was due, and all that is due by the moment of a `change`
+/// has been fired before it.
 ///
-/// At the moment of the last call or a later one, wherever nothing is due at or before it,
-/// `active` reports of each switch the level that is accepted by its raw changes alone. And no due
-/// moment is before that of the last call.
+/// Take the moment of the last call, or a later one. If nothing is due at or before it, `active`
+/// reports for each switch the level that its past raw changes alone give. And nothing is due
+/// before the moment of the last call.
 ///
-/// A change arms nothing for its own moment: what it leaves to be accepted was due already, or is
-/// due later.
+/// A change arms nothing for its own moment: what is due after it was due before, or is due later.
 ///
 /// It does nothing: its contract is the law, over the steps that the calls take.
 pub fn levels_are_accepted()

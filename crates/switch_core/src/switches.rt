@@ -13,8 +13,8 @@ use std::marker::Model;
 
 /// The raw and the accepted level of every switch of a plan. Moments are milliseconds, below 2^40.
 ///
-/// A new raw level of a quick switch is accepted at once. That of another one is due 5 ms later,
-/// and then to be accepted by `fire`; before that a change back to the accepted level forgets it.
+/// A new raw level of a quick switch is accepted at once. For any other switch it is due 5 ms
+/// later, and `fire` then accepts it. A change back to the accepted level before that cancels it.
 #[derive(Drop)]
 pub struct Switches {
     kinds: Vec<SwitchKind>,
@@ -40,12 +40,12 @@ impl Switches {
     ghost use Rattle.std.specs.Prelude.{◌≡◌, ◌<◌, ◌^◌, length, Some, IsSome, IfOk, IfSome, IfNone};
     ghost use Rattle.switch_core.specs.Switches.{IsComplete, active_at, all_idle, after_change, reported_by_change, IsNextDue, IsNothingDue, next_due, after_fire, reported_by_fire};
 
-    /// All switches of the plan, inactive: at raw level 0, and at 1 where the contact is normally
-    /// closed. Only this call takes memory.
+    /// All switches of the plan, inactive: at raw level 0, or 1 if the contact is normally closed.
+    /// Only this call takes memory.
     ///
     /// # Errors
     ///
-    /// `AllocError` where memory runs out.
+    /// `AllocError`: memory ran out.
     pub fn new(alloc: Global, plan: &Plan) -> Result<Switches, AllocError>
         ensures idle { IfOk result (λ s. s ≡ all_idle plan.now) }
         ensures count { IfOk result (λ s. length s.kinds ≡ length plan.now.switches) }
@@ -66,11 +66,11 @@ impl Switches {
         })
     }
 
-    /// The raw level of a switch of the plan changes at the moment `now`, below 2^40 ms. Reports
-    /// the new accepted level where it is accepted at once. Where the switch has this raw level already,
+    /// Changes the raw level of a switch of the plan at the moment `now`, below 2^40 ms. Reports
+    /// the new accepted level if it is accepted at once. If the switch has this raw level already,
     /// nothing happens.
     ///
-    /// It is to be called only once everything that is due at or before `now` has been accepted.
+    /// Before this call, everything that is due at or before `now` has to be accepted (by `fire`).
     pub fn change(&mut self, switch: SwitchId, level: bool, now: u64) -> Option<Change>
         requires switch { switch.0 < length self.old.kinds }
         requires now { now < 2 ^ 40 }
@@ -90,8 +90,8 @@ impl Switches {
         old.takes(kind, level).then_some(Change { switch, active })
     }
 
-    /// The moment and the switch whose raw level is to be accepted next: the least moment, and of
-    /// equal ones the least number. None where nothing is due.
+    /// The switch whose raw level is to be accepted next, and when: the earliest moment, and at one
+    /// moment the lowest-numbered switch. None if nothing is due.
     pub fn due(&self) -> Option<(u64, SwitchId)>
         ensures next { result ≡ next_due self.now }
         ensures least { IfSome result (λ d. IsNextDue self.now d.0 d.1) }
@@ -102,8 +102,8 @@ impl Switches {
         self.next
     }
 
-    /// Accepts the raw level that is due next, which something must be, as `due` says. Reports
-    /// the new accepted level.
+    /// Accepts the raw level that is due next, and reports the new accepted level. Something has to
+    /// be due, as `due` says.
     pub fn fire(&mut self) -> Change
         requires { IsSome (next_due self.old) }
         ensures state { self.new ≡ after_fire self.old }

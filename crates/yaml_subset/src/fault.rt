@@ -12,7 +12,7 @@ pub enum FaultKind {
     /// The bytes of the line are not UTF-8.
     #[error("NotUtf8")]
     NotUtf8,
-    /// A tab is among the blanks that indent a line with content.
+    /// A tab comes before the content of a line, or between a `-` and a key.
     #[error("Tab")]
     Tab,
     /// The line belongs to no block: it is deeper than the items or entries around it, or no block
@@ -30,12 +30,13 @@ pub enum FaultKind {
     /// followed by other text.
     #[error("Flow")]
     Flow,
-    /// A line that has to be an entry or an item and is none, at its first character; a form of YAML
-    /// that is not read, a key of more than 1,024 characters, or a character that no line may have.
+    /// A line that has to be an entry or an item is not (at its first character); or the text uses
+    /// a form of YAML that is not read, a key of more than 1,024 characters, or a character that no
+    /// line may have.
     #[error("NotInSubset")]
     NotInSubset,
-    /// More than 32 sequences and mappings of lines are one inside the other, or more than 8 lists
-    /// and mappings on one line.
+    /// More than 32 blocks of lines are one inside another, or more than 8 brackets and braces on
+    /// one line.
     #[error("TooDeep")]
     TooDeep,
     /// The text has more than 1 MiB.

@@ -42,12 +42,14 @@ fn read_exactly(alloc: Global, text: &[u8]) -> Result<Tree, YamlFault>
     }
 }
 
-/// The tree of a text, or its first fault: the fault of the first line that has one, and there the
-/// left one; in the same place bytes which are not UTF-8 or a character which no line may have. A
-/// text of more than 1 MiB is `TooLong` at line 1, whatever else is wrong with it. Where no
-/// line has content, the tree is a mapping at line 1 that has no pairs.
+/// The tree of a text. If no line has content, it is a mapping without pairs, at line 1.
 ///
-/// The error is `NoMemory` where memory runs out before a fault is found.
+/// # Errors
+///
+/// `NoMemory`, or the first fault: that of the first line that has one, and on that line the
+/// leftmost. Bytes that are not UTF-8, or a character that no line may have, come before another
+/// fault at the same place. A text of more than 1 MiB is `TooLong` at line 1, whatever else is
+/// wrong with it.
 pub fn read(alloc: Global, text: &[u8]) -> Result<Tree, YamlFault>
     // What is read is the tree of the text.
     ensures found { IfOk result (λ tree. IsTreeOf 32 8 text.now (node_view tree)) }
