@@ -9,6 +9,8 @@ mod certificate_rows;
 #[cfg(test)]
 mod check_rows;
 #[cfg(test)]
+mod ends;
+#[cfg(test)]
 mod faulty;
 #[cfg(test)]
 mod hostile;

@@ -4,91 +4,79 @@ use pinball_shell::{Ask, AskFault, command};
 use std::alloc::{AllocError, Global};
 use std::test::Fail;
 
-fn words_of(alloc: Global, texts: &[&str]) -> Result<Vec<String>, AllocError> {
+// Words of a command line, where `''` is an empty one, and what they ask for.
+const ROWS: &str = "\
+check => check
+play switches.log => play of <switches.log>
+play - => play of <->
+play help => play of <help>
+play logs/today => play of <logs/today>
+play '' => play of <>
+verify lanes.certificate => verify of <lanes.certificate>
+verify - => verify of <->
+verify check => verify of <check>
+verify '' => verify of <>
+ => usage
+'' => usage
+checks => usage
+Check => usage
+check . => usage
+check check => usage
+check --log a => usage
+play => usage
+play a b => usage
+play -a => usage
+verify => usage
+verify a b => usage
+help => usage
+help play => usage
+--help => usage
+check -h => usage
+--version => usage
+-- check => usage
+";
+
+fn words_of(alloc: Global, texts: &str) -> Result<Vec<String>, AllocError> {
     let mut words = Vec::new(alloc);
-    for text in texts {
-        words.push(String::from_str(alloc, text)?)?;
+    for text in texts.split_whitespace() {
+        let word = if text == "''" { "" } else { text };
+        words.push(String::from_str(alloc, word)?)?;
     }
     Ok(words)
 }
 
-#[test]
-fn check_is_asked(rt: HostRuntime) -> Result<(), Fail> {
-    let ask = command(rt.alloc(), words_of(rt.alloc(), &["check"])?)?;
-    assert!(rt; matches!(&ask, Ask::Check));
-    Ok(())
-}
-
-#[test]
-fn play_is_asked(rt: HostRuntime) -> Result<(), Fail> {
-    for path in ["switches.log", "-", "help", "logs/today", ""] {
-        let ask = command(rt.alloc(), words_of(rt.alloc(), &["play", path])?)?;
-        match &ask {
-            Ask::Play { log } => assert_eq!(rt; log.as_str(), path),
-            Ask::Check | Ask::Verify { .. } => panic!(rt; "not a play of {path}"),
-        }
+/// What words ask for.
+fn asked(alloc: Global, texts: &str) -> Result<String, AllocError> {
+    let words = words_of(alloc, texts)?;
+    match command(alloc, words) {
+        Ok(Ask::Check) => String::from_str(alloc, "check"),
+        Ok(Ask::Play { log }) => format!(in alloc; "play of <{log}>"),
+        Ok(Ask::Verify { certificate }) => format!(in alloc; "verify of <{certificate}>"),
+        Err(AskFault::Usage(text)) if !text.is_empty() => String::from_str(alloc, "usage"),
+        Err(_) => String::from_str(alloc, "nothing"),
     }
-    Ok(())
 }
 
 #[test]
-fn verify_is_asked(rt: HostRuntime) -> Result<(), Fail> {
-    for path in ["lanes.certificate", "-", "check", ""] {
-        let ask = command(rt.alloc(), words_of(rt.alloc(), &["verify", path])?)?;
-        match &ask {
-            Ask::Verify { certificate } => assert_eq!(rt; certificate.as_str(), path),
-            Ask::Check | Ask::Play { .. } => panic!(rt; "not a verify of {path}"),
-        }
-    }
-    Ok(())
-}
-
-#[test]
-fn other_words_are_usage(rt: HostRuntime) -> Result<(), Fail> {
-    let lists: [&[&str]; 18] = [
-        &[],
-        &[""],
-        &["checks"],
-        &["Check"],
-        &["check", "."],
-        &["check", "check"],
-        &["check", "--log", "a"],
-        &["play"],
-        &["play", "a", "b"],
-        &["play", "-a"],
-        &["verify"],
-        &["verify", "a", "b"],
-        &["help"],
-        &["help", "play"],
-        &["--help"],
-        &["check", "-h"],
-        &["--version"],
-        &["--", "check"],
-    ];
-    for (number, words) in lists.iter().enumerate() {
-        let answer = command(rt.alloc(), words_of(rt.alloc(), words)?);
-        match &answer {
-            Err(AskFault::Usage(text)) => assert!(rt; !text.as_str().is_empty(), "list {number}"),
-            _ => panic!(rt; "list {number} is understood"),
-        }
+fn words_ask(rt: HostRuntime) -> Result<(), Fail> {
+    for row in ROWS.lines() {
+        let (words, wanted) = row.split_once(" => ").ok_or("a row")?;
+        let found = asked(rt.alloc(), words)?;
+        assert_eq!(rt; found.as_str(), wanted, "{row}");
     }
     Ok(())
 }
 
 #[test]
 fn usage_names_what_is_wrong(rt: HostRuntime) -> Result<(), Fail> {
-    match command(rt.alloc(), words_of(rt.alloc(), &["prove"])?) {
-        Err(AskFault::Usage(text)) => {
-            assert!(rt;
-                text.as_str().contains("unrecognized subcommand 'prove'"),
-                "{text}"
-            );
-            assert!(rt;
-                text.as_str().contains("Usage: pinball <COMMAND>"),
-                "{text}"
-            );
-        }
-        _ => panic!(rt; "prove is understood"),
+    let Err(AskFault::Usage(text)) = command(rt.alloc(), words_of(rt.alloc(), "prove")?) else {
+        return Err(Fail::from("prove is understood"));
+    };
+    for part in [
+        "unrecognized subcommand 'prove'",
+        "Usage: pinball <COMMAND>",
+    ] {
+        assert!(rt; text.as_str().contains(part), "{text}");
     }
     Ok(())
 }
