@@ -34,8 +34,8 @@ impl Bounds {
     }
 }
 
-/// A fault at the spot where a list may not have so many items: Limit above 1,024, and else
-/// BadValue.
+/// A fault at the spot, if a list may not have so many items: `Limit` above 1,024, and `BadValue`
+/// outside the bounds.
 #[tactic(auto, unfolding(crate::specs::Reading::count_at))]
 pub fn check_count(
     alloc: Global,
@@ -99,9 +99,9 @@ fn item_handler(alloc: Global, spot: Spot<'_>, item: Item<'_>) -> Result<Handler
     Ok(handler)
 }
 
-/// The names in a list, each with the line where it is written. A fault stands at the spot:
-/// BadValue where the value is no list, Limit above 1,024 items, BadValue where the bounds do not
-/// let the list have so many, and at an item that is no name.
+/// The names in a list, each with the line where it is written. The first fault is at the spot:
+/// `BadValue` if the value is no list; `Limit` if it has more than 1,024 items; `BadValue` if it
+/// has more or fewer than the bounds say, or an item is no name.
 pub fn names(
     alloc: Global,
     spot: Spot<'_>,
