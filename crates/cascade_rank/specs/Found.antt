@@ -12,8 +12,8 @@ pub record IsTooDear (plan : PlanView) : Type 0 where
   pub least : IsLeastFitting plan weights
   pub above : ¬ (IsWithinLimit plan weights)
 
--- The events of a cycle are one, the one that is to be reported, and no weights fit. Nothing else is a reason but
--- weights above the limit.
+-- A reported cycle is real, and is the one the rule selects, and no weights fit. The only other reason is weights above
+-- the limit.
 abbrev pub IsUnfound : PlanView → RankView → Type 0
 IsUnfound plan (cycle events) = IsCycle plan events × IsReportedCycle plan events × HasNoFit plan
 IsUnfound plan bound_too_large = IsTooDear plan

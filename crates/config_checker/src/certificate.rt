@@ -8,8 +8,11 @@ use crate::checked::Checked;
 use mpf_plan::entries::EventId;
 use std::io::{self, Write};
 
-/// Writes the certificate: its version, the bound, and each event with its weight. An error is
-/// the writer's; the text is then cut short somewhere.
+/// Writes the certificate: its version, the bound, and each event with its weight.
+///
+/// # Errors
+///
+/// The writer's error. Any part of the text may have been written then.
 pub fn write_certificate<W: Write>(checked: &Checked, writer: &mut W) -> io::Result<()>
     ensures { OnOk result (Appends (W.contents writer.old) (W.contents writer.new) (certificate_text checked.now)) }
 {

@@ -9,8 +9,11 @@ ghost use Rattle.config_checker.specs.ReportText.{certificate_fault_text, report
 use crate::report::{CertificateFault, Fault};
 use std::io::{self, Write};
 
-/// Writes a line for each fault, in order. An error is the writer's; the text is then cut short
-/// somewhere.
+/// Writes a line for each fault, in order.
+///
+/// # Errors
+///
+/// The writer's error. Any part of the text may have been written then.
 pub fn write_report<W: Write>(faults: &[Fault], writer: &mut W) -> io::Result<()>
     ensures { OnOk result (Appends (W.contents writer.old) (W.contents writer.new) (report_text (map fault_view faults.now))) }
 {

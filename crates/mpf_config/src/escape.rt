@@ -8,7 +8,11 @@ ghost use Rattle.mpf_config.specs.Escaped.{is_control, hex_digit, escaped_byte, 
 use std::io::{self, Write};
 
 /// Writes a text. A byte below 32, or 127, is written as `\x` and two hexadecimal digits, in lower
-/// case. An error is the writer's; the text is then cut short somewhere.
+/// case.
+///
+/// # Errors
+///
+/// The writer's error. Any part of the text may have been written then.
 pub fn write_escaped<W: Write>(text: &[u8], writer: &mut W) -> io::Result<()>
     ensures { OnOk result (Appends (W.contents writer.old) (W.contents writer.new) (escaped text.now)) }
 {

@@ -10,7 +10,11 @@ pub use section_tables::fault::{ConfigFault, Fault, FaultKind};
 use std::io::{self, Write};
 
 /// Writes the line of a fault, `error NUMBER NAME TEXT LINE KEY`, the text and the key as
-/// [`write_escaped`] does. An error is the writer's; the line is then cut short somewhere.
+/// [`write_escaped`] does.
+///
+/// # Errors
+///
+/// The writer's error. Any part of the line may have been written then.
 pub fn write_fault<W: Write>(fault: &Fault, writer: &mut W) -> io::Result<()>
     ensures { OnOk result (Appends (W.contents writer.old) (W.contents writer.new) (fault_line (rows_fault_view fault.now))) }
 {

@@ -22,7 +22,11 @@ impl NoteKind {
 }
 
 /// Writes the line of a note, `note TEXT LINE WORD NAME`, the text and the name as
-/// [`write_escaped`] does. An error is the writer's; the line is then cut short somewhere.
+/// [`write_escaped`] does.
+///
+/// # Errors
+///
+/// The writer's error. Any part of the line may have been written then.
 pub fn write_note<W: Write>(note: &Note, writer: &mut W) -> io::Result<()>
     ensures { OnOk result (Appends (W.contents writer.old) (W.contents writer.new) (note_line (note_view note.now))) }
 {

@@ -20,7 +20,7 @@ use yaml_subset::tree::{Key, Tree};
 
 // ---- rows of fields
 
-/// What holds where a text is not written.
+/// The value of a text that is not written.
 pub fn default_plain(absent: Absent) -> Plain
     ensures { plain_view result ≡ plain_default (absent_view absent) }
 {
@@ -112,7 +112,7 @@ fn overwrite(
     Ok(())
 }
 
-/// Whether nothing is written that has to be.
+/// Whether a required text is missing.
 pub fn lacks(absent: Absent, value: &Plain) -> bool
     ensures { result ≡ plain_lacks (absent_view absent) (plain_view value.now) }
 {

@@ -34,8 +34,8 @@ impl Bounds {
     }
 }
 
-/// A fault at the spot where a list may not have so many items: Limit above 1,024, and else
-/// BadValue.
+/// A fault at the spot, if a list may not have so many items: `Limit` above 1,024, and `BadValue`
+/// outside the bounds.
 #[tactic(auto, unfolding(crate::specs::Reading::count_at))]
 pub fn check_count(
     alloc: Global,
@@ -126,9 +126,9 @@ fn item_handler(alloc: Global, spot: Spot<'_>, item: Item<'_>) -> Result<Handler
     Ok(handler)
 }
 
-/// The names in a list, each with the line where it is written. A fault stands at the spot: Limit
-/// above 1,024 items, whatever they are; BadValue where the value is no list, where the bounds do
-/// not let it have so many, and where an item is no name.
+/// The names in a list, each with the line where it is written. The first fault is at the spot:
+/// `Limit` if the list has more than 1,024 items, whatever they are; `BadValue` if the value is no
+/// list, has more or fewer items than the bounds say, or an item is no name.
 pub fn names(
     alloc: Global,
     spot: Spot<'_>,

@@ -234,9 +234,9 @@ fn overwrite(
     Ok(())
 }
 
-/// The row of the pairs of an entry; or the first fault: those of the settings as they are
-/// written, and then Missing at the spot, with the first key of the table that is not written and
-/// has to be.
+/// The row of the pairs of an entry; or the first fault: those of the settings as they are written,
+/// and then `Missing` at the spot, with the first key of the table that is required and not
+/// written.
 #[tactic(auto, unfolding(crate::specs::Reading::row_at))]
 pub fn values(
     alloc: Global,

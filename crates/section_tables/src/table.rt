@@ -20,7 +20,7 @@ pub enum Scalar {
     Event,
 }
 
-/// How many items a list is to have, besides the limit of 1,024.
+/// How many items a list may have, besides the limit of 1,024.
 #[derive(Clone, Copy)]
 pub enum Bounds {
     AtLeast(usize),
@@ -28,16 +28,16 @@ pub enum Bounds {
     Between(usize, usize),
 }
 
-/// What becomes of the keys of a map that its table does not have.
+/// What to do with keys of a map that its table does not have.
 #[derive(Clone, Copy)]
 pub enum Others {
-    /// They are UnknownSetting.
+    /// Report them as `UnknownSetting`.
     Refused,
-    /// Nothing looks at their values.
+    /// Do not look at their values.
     Ignored,
 }
 
-/// What holds where a text is not written.
+/// What a text is if it is not written.
 #[derive(Clone, Copy)]
 pub enum Absent {
     /// It has to be written.
@@ -75,15 +75,15 @@ pub enum Kind {
     Steps(Bounds),
     /// A YAML list of maps with these keys.
     Maps(&'static [Field], Others, Bounds),
-    /// A map of names, each with a map with these keys, or with one text: the value of the field
-    /// at this place, where the other fields have what holds without them.
+    /// A map of names. Each has a map with these keys, or one text: the value of the field at this
+    /// place, with the defaults for the other fields.
     Keyed(&'static [Field], usize, Scalar),
 }
 
-/// What holds where a setting is not written.
+/// What a setting is if it is not written.
 #[derive(Clone, Copy)]
 pub enum Without {
-    /// What holds where a text is not written; a list too may be `Required`.
+    /// What a text is if it is not written. A list may be `Required` too.
     One(Absent),
     /// An empty list of names.
     NoNames,

@@ -7,8 +7,8 @@ ghost use Rattle.yaml_subset.specs.declared.place.Halt.TheVariants.{NoMemory};
 use crate::fault::FaultKind;
 use std::alloc::{AllocError, AllocFailed};
 
-/// A fault and its place: so many of its line's bytes are there and after it. Of two faults of a
-/// line the left one has more bytes left.
+/// A fault and its place, which is the number of its line's bytes from there to the end. Of two
+/// faults on a line, the left one has more bytes left.
 #[derive(Clone, Copy)]
 pub struct PlacedFault {
     pub kind: FaultKind,

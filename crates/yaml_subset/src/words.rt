@@ -85,13 +85,17 @@ fn behind_quote(number: u32, flow: bool, after: &[u8]) -> Result<&[u8], Halt>
     Err(Halt::at(kind, number, rest.len()))
 }
 
-/// The word at the front of a text that begins with no blank: its value, and what comes after it
-/// and the blanks that follow it. That is nothing, a comment, `:` before a gap, or in flow one of
-/// `, [ ] { }`.
+/// The word at the front of a text that does not begin with a blank: its value, and what comes
+/// after the word and its blanks. What comes after is nothing, a comment, `:` before a gap, or in
+/// flow one of `, [ ] { }`.
 ///
-/// The error is `Quote` where a text in quotes is not closed, has an unknown escape, or is followed
-/// by other text; `Flow` where in flow no word comes before one of `, [ ] { }`, or `:` comes
-/// directly before one of these; `NotInSubset` where no word begins so.
+/// # Errors
+///
+/// - `Quote`: a text in quotes is not closed, has an unknown escape, or is followed by other text.
+/// - `Flow`: in flow, no word comes before one of `, [ ] { }`, or `:` comes right before one of
+///   these.
+/// - `NotInSubset`: no word can begin with this character.
+/// - `NoMemory`: memory ran out.
 #[tactic(auto, unfolding(crate::specs::Words::word_at))]
 pub fn word(alloc: Global, number: u32, flow: bool, text: &[u8]) -> Result<(Vec<u8>, &[u8]), Halt>
     ensures { GivesOrHalts word_view result (word_at number flow text.now) }
