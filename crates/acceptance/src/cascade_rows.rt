@@ -7,7 +7,7 @@ const ROWS: &str = "
 === twice posted check
 --- check
 (twice posted)
---- Yes
+=> Yes
 yes
 pinball-certificate 1
 bound 5
@@ -22,7 +22,7 @@ event b 1
 --- log
 100 s_left 1
 200
---- Yes
+=> Yes
 105 machine switch s_left active
 105 machine event s_left_active
 105 machine event a
@@ -38,7 +38,7 @@ event_player:
   e1: e2, e2, e2, e2, e2, e2, e2, e2, e2, e2
   e2: e3, e3, e3, e3, e3, e3, e3, e3, e3, e3
   e3: e4, e4, e4, e4, e4, e4, e4, e4, e4, e4
---- Refused
+=> Refused
 fault 9 Bound
 no
 
@@ -48,7 +48,7 @@ no
 #config_version=6
 event_player:
   a: b, a
---- Refused
+=> Refused
 fault 8 Cycle a
 no
 
@@ -64,7 +64,7 @@ event_player:
   c: d
   d: b
   e: e
---- Refused
+=> Refused
 fault 8 Cycle b c d
 no
 
@@ -80,7 +80,7 @@ event_player:
   e3: e4, e4, e4, e4, e4, e4, e4, e4, e4, e4
   p: q
   q: p
---- Refused
+=> Refused
 fault 8 Cycle p q
 no
 
@@ -99,7 +99,7 @@ event_player:
   c: d
 --- log
 7 s 1
---- Yes
+=> Yes
 7 machine switch s active
 7 machine event s_active
 7 machine event a

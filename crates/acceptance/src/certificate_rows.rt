@@ -14,7 +14,7 @@ event s_left_active 2
 event s_left_inactive 1
 event a 1
 event b 1
---- Refused
+=> Refused
 fault 10 Certificate Short s_left_active 3
 no
 
@@ -28,7 +28,7 @@ event s_left_active 5
 event s_left_inactive 2
 event a 2
 event b 2
---- Yes
+=> Yes
 yes
 bound 6
 
@@ -42,7 +42,7 @@ event s_left_active 3
 event s_left_inactive 1
 event a 1
 event b 1
---- Refused
+=> Refused
 fault 10 Certificate Bound 4
 no
 
@@ -56,7 +56,7 @@ event s_left_active 2
 event s_left_inactive 1
 event a 1
 event b 2147483648
---- Refused
+=> Refused
 fault 10 Certificate Short a 4294967297
 no
 
@@ -70,7 +70,7 @@ event s_left_active 10001
 event s_left_inactive 1
 event a 1
 event b 1
---- Refused
+=> Refused
 fault 9 Bound
 no
 
@@ -84,7 +84,7 @@ event s_left_active 10001
 event s_left_inactive 1
 event a 1
 event b 0
---- Refused
+=> Refused
 fault 10 Certificate Short b 1
 no
 
@@ -98,7 +98,7 @@ event s_left_active 3
 event s_left_inactive 1
 event a 1
 event b 1
---- Refused
+=> Refused
 fault 10 Certificate Line 2
 no
 
@@ -108,7 +108,7 @@ no
 --- certificate
 pinball-certificate 1
 bound 4
---- Refused
+=> Refused
 fault 10 Certificate Events
 no
 
@@ -122,7 +122,7 @@ event s_left_active 3
 event s_left_inactive 1
 event a 1
 event b 1\
---- Refused
+=> Refused
 fault 10 Certificate Line 6
 no
 
@@ -136,7 +136,7 @@ event s_left_active 3
 event s_left_inactive 1
 event a 1
 event b\
---- Refused
+=> Refused
 fault 10 Certificate Line 6
 no
 
@@ -144,7 +144,7 @@ no
 --- verify
 (one switch)
 --- certificate
---- Refused
+=> Refused
 fault 10 Certificate Line 1
 no
 
@@ -153,7 +153,7 @@ no
 (one switch)
 --- certificate
 pinball-certificate 1
---- Refused
+=> Refused
 fault 10 Certificate Line 2
 no
 
@@ -167,7 +167,7 @@ event s_left_active 3
 event s_left_inactive 1
 event b 1
 event a 1
---- Refused
+=> Refused
 fault 10 Certificate Events
 no
 
@@ -181,7 +181,7 @@ event s_left_active 3
 event s_left_inactive 1
 event a 1
 event  b 1
---- Refused
+=> Refused
 fault 10 Certificate Line 6
 no
 
@@ -195,7 +195,7 @@ event s_left_active 3\r
 event s_left_inactive 1\r
 event a 1\r
 event b 1\r
---- Refused
+=> Refused
 fault 10 Certificate Line 1
 no
 
@@ -209,7 +209,7 @@ event s_left_active 3
 event s_left_inactive 1
 event a 1
 event b 4294967296
---- Refused
+=> Refused
 fault 10 Certificate Line 6
 no
 ";

@@ -7,7 +7,7 @@ const ROWS: &str = "
 === one switch check
 --- check
 (one switch)
---- Yes
+=> Yes
 yes
 pinball-certificate 1
 bound 4
@@ -23,7 +23,7 @@ event b 1
 coils:
   a:
   a:
---- Refused
+=> Refused
 error 3 Yaml config/config.yaml 4 DuplicateKey
 no
 
@@ -32,20 +32,20 @@ no
 @ config/config.yaml
 #config_version=6
 \tcoils:
---- Refused
+=> Refused
 error 3 Yaml config/config.yaml 2 Tab
 no
 
 === no version
 --- check
 @ config/config.yaml
---- Refused
+=> Refused
 error 2 Version config/config.yaml 1 -
 no
 
 === no bytes
 --- check
---- Refused
+=> Refused
 error 1 Bundle - 1 -
 no
 
@@ -56,7 +56,7 @@ no
 event_player:
   start: go
   stop: a/b
---- Refused
+=> Refused
 error 6 BadValue config/config.yaml 4 stop
 no
 
@@ -68,7 +68,7 @@ switches:
   s_left:
 coils:
   c_up:
---- Refused
+=> Refused
 error 4 UnknownSection config/config.yaml 4 coils
 no
 
@@ -77,7 +77,7 @@ no
 @ config/config.yaml
 #config_version=6
 coils: \"a
---- Refused
+=> Refused
 error 3 Yaml config/config.yaml 2 Quote
 no
 
@@ -89,7 +89,7 @@ Where a line has to be an entry and is none, that comes before whatever else is 
 lights:
   a: 1
   {x: 1, x: 2}
---- Refused
+=> Refused
 error 3 Yaml config/config.yaml 4 NotInSubset
 no
 
@@ -100,7 +100,7 @@ no
 lights:
   l1:
     number: 1
---- Yes
+=> Yes
 note config/config.yaml 2 skipped lights
 yes
 pinball-certificate 1
@@ -117,7 +117,7 @@ shows:
 event_player: {a: b, b: a}
 lights: [1, 2]
 @ x
---- Refused
+=> Refused
 note config/config.yaml 2 skipped shows
 note config/config.yaml 4 skipped lights
 note modes/m/config/m.yaml 0 unlisted modes/m/config/m.yaml
@@ -131,7 +131,7 @@ no
 @ config/config.yaml
 #config_version=6
 @ a
---- Refused
+=> Refused
 error 8 Duplicate a 1 -
 no
 
@@ -145,7 +145,7 @@ event_player:
   - b
   - 'c'
   e: b,c
---- Yes
+=> Yes
 yes
 pinball-certificate 1
 bound 0
@@ -164,7 +164,7 @@ switches:
     tags:
       - lane
       - a/b
---- Refused
+=> Refused
 error 6 BadValue config/config.yaml 4 tags
 no
 
@@ -175,7 +175,7 @@ no
 switches:
   s:
     \"a\\nyes\": b
---- Refused
+=> Refused
 error 5 UnknownSetting config/config.yaml 4 a\\x0ayes
 no
 
@@ -185,7 +185,7 @@ no
 #config_version=6
 @ c\u{1b}[A\u{7f}
 @ c\u{1b}[A\u{7f}
---- Refused
+=> Refused
 error 8 Duplicate c\\x1b[A\\x7f 1 -
 no
 
@@ -196,7 +196,7 @@ no
 event_player:
   a: a
 @ c\u{1b}[A\u{7f}
---- Refused
+=> Refused
 note c\\x1b[A\\x7f 0 unlisted c\\x1b[A\\x7f
 fault 8 Cycle a
 no

@@ -2,7 +2,7 @@
 
 ghost use Rattle.std.specs.Prelude.{◌≤◌, length};
 
-use std::alloc::Global;
+use std::alloc::{AllocError, Global};
 use std::io::{self, ErrorKind, Read, Write};
 
 /// One switch, whose activation posts two events.
@@ -54,11 +54,11 @@ impl<'a> Source<'a> {
         }
     }
 
-    /// How often it was read, where it is no text.
-    pub(crate) fn calls(&self) -> Option<u64> {
+    /// Shows how often it was read, where it is no text.
+    pub(crate) fn show(&self, out: &mut String) -> Result<(), AllocError> {
         match self {
-            Source::Text(_) => None,
-            Source::Bytes { reads, .. } => Some(*reads),
+            Source::Text(_) => Ok(()),
+            Source::Bytes { reads, .. } => write!(out, " {reads}"),
         }
     }
 }
@@ -115,19 +115,14 @@ impl Sink {
         }
     }
 
-    /// How often it was written to, where it fails.
-    pub(crate) fn calls(&self) -> Option<u64> {
+    /// Shows how often it was written to, where it fails, or what it kept.
+    pub(crate) fn show(&self, out: &mut String) -> Result<(), AllocError> {
         match self {
-            Sink::Kept(_) => None,
-            Sink::Failing { writes, .. } => Some(*writes),
-        }
-    }
-
-    /// What it kept.
-    pub(crate) fn printed(&self) -> &str {
-        match self {
-            Sink::Kept(bytes) => std::str::from_utf8(bytes).unwrap_or("no UTF-8"),
-            Sink::Failing { .. } => "",
+            Sink::Kept(bytes) => {
+                let text = std::str::from_utf8(bytes).unwrap_or("no UTF-8");
+                write!(out, "\n{text}")
+            }
+            Sink::Failing { writes, .. } => writeln!(out, " {writes}"),
         }
     }
 }

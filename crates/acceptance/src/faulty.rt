@@ -9,28 +9,28 @@ const FAILING: &str = "
 === reader fails at its second read
 --- check
 (fails at its second read)
---- Read 2
+=> Read 2
 
 === writer fails at its second write
 --- check
 (one switch)
 --- writer
 (fails at its second write)
---- Write 2
+=> Write 2
 
 === bundle fails before its certificate is read
 --- verify
 (fails at its second read)
 --- certificate
 (never ends)
---- Read 2 0
+=> Read 2 0
 
 === certificate reader fails at its second read
 --- verify
 (one switch)
 --- certificate
 (fails at its second read)
---- Read 2
+=> Read 2
 
 === verifying to a writer that fails at once
 --- verify
@@ -38,7 +38,7 @@ const FAILING: &str = "
 --- certificate
 --- writer
 (fails at its first write)
---- Write 1
+=> Write 1
 
 === verifying to a writer that fails later
 --- verify
@@ -46,14 +46,14 @@ const FAILING: &str = "
 --- certificate
 --- writer
 (fails at its second write)
---- Write 2
+=> Write 2
 
 === log reader fails at its second read
 --- play
 (one switch)
 --- log
 (fails at its second read)
---- Read 2
+=> Read 2
 
 === trace writer fails at its second write
 --- play
@@ -63,7 +63,7 @@ const FAILING: &str = "
 200
 --- writer
 (fails at its second write)
---- Write 2
+=> Write 2
 ";
 
 // Readers of a bundle or of a certificate that never end.
@@ -71,26 +71,26 @@ const ENDLESS: &str = "
 === reader never ends
 --- check
 (never ends)
---- TooLong 8388609
+=> TooLong 8388609
 
 === loading from a reader that never ends
 --- play
 (never ends)
---- TooLong 8388609
+=> TooLong 8388609
 
 === bundle never ends before its certificate is read
 --- verify
 (never ends)
 --- certificate
 (never ends)
---- TooLong 8388609 0
+=> TooLong 8388609 0
 
 === certificate reader never ends
 --- verify
 (one switch)
 --- certificate
 (never ends)
---- TooLong 1048577
+=> TooLong 1048577
 ";
 
 // A reader of a log that never ends.
@@ -100,7 +100,7 @@ const ENDLESS_LOG: &str = "
 (one switch)
 --- log
 (never ends)
---- TooLong 16777217
+=> TooLong 16777217
 ";
 
 #[test]

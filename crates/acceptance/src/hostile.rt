@@ -13,7 +13,7 @@ const OPEN: &str = "
 lights: \
 --- 1048000 times
 [\
---- Refused
+=> Refused
 error 3 Yaml config/config.yaml 2 TooDeep
 no
 
@@ -24,7 +24,7 @@ no
 lights:
 --- 524000 times
 - \
---- Refused
+=> Refused
 error 3 Yaml config/config.yaml 3 NotInSubset
 no
 
@@ -35,7 +35,7 @@ no
 lights: \
 --- 1048000 times
 \"\
---- Refused
+=> Refused
 error 3 Yaml config/config.yaml 2 Quote
 no
 
@@ -47,7 +47,7 @@ A quote, and quotes within it, each written twice: nothing closes it.
 lights: '\
 --- 524000 times
 ''\
---- Refused
+=> Refused
 error 3 Yaml config/config.yaml 2 Quote
 no
 ";
@@ -60,7 +60,7 @@ const LONG: &str = "
 #config_version=6
 --- 1048000 times
  \
---- Yes
+=> Yes
 yes
 pinball-certificate 1
 bound 0
@@ -72,7 +72,7 @@ The version line has 18 bytes.
 #config_version=6
 --- 1048559 times
  \
---- Refused
+=> Refused
 error 3 Yaml config/config.yaml 1 TooLong
 no
 
@@ -84,7 +84,7 @@ A mapping of keys of which each has its own number.
 lights:
 --- 100000 times
   a№:
---- Yes
+=> Yes
 note config/config.yaml 2 skipped lights
 yes
 pinball-certificate 1

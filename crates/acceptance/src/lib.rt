@@ -1,5 +1,7 @@
 //! Tests that cross the crates, over their public calls: worked bundles and logs with what is
-//! printed for them, readers and writers that fail, and the words of the command line.
+//! printed for them, readers and writers that fail, and the words of the command line. `row` says how
+//! a row of a table is written. `rt try --test` gives a test 60 seconds, which is too little for those
+//! of long texts: give it `--seconds 900`.
 #![tactic(auto)]
 
 #[cfg(test)]

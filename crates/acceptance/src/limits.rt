@@ -11,7 +11,7 @@ const ROWS: &str = "
 switches:
 --- 257 times
   s№:
---- Refused
+=> Refused
 fault 7 Limit switches
 no
 
@@ -19,13 +19,13 @@ no
 --- check
 --- 8388609 times
 #\
---- TooLong
+=> TooLong
 
 === bundle of 8 mebibytes
 --- check
 --- 8388608 times
 #\
---- Refused
+=> Refused
 error 1 Bundle - 1 -
 no
 
@@ -35,7 +35,7 @@ no
 --- certificate
 --- 1048577 times
 #\
---- TooLong
+=> TooLong
 
 === certificate of a mebibyte
 --- verify
@@ -43,7 +43,7 @@ no
 --- certificate
 --- 1048576 times
 #\
---- Refused
+=> Refused
 fault 10 Certificate Line 1
 no
 ";

@@ -10,7 +10,7 @@ const ROWS: &str = "
 --- log
 100 s_left 1
 200
---- Yes
+=> Yes
 105 machine switch s_left active
 105 machine event s_left_active
 105 machine event a
@@ -23,7 +23,7 @@ const ROWS: &str = "
 100 s_left 1
 103 s_left 0
 200
---- Yes
+=> Yes
 
 === normal switch both ways
 --- play
@@ -32,7 +32,7 @@ const ROWS: &str = "
 100 s_left 1
 105 s_left 0
 200
---- Yes
+=> Yes
 105 machine switch s_left active
 105 machine event s_left_active
 105 machine event a
@@ -47,7 +47,7 @@ const ROWS: &str = "
 100 s_left 1
 99 s_left 0
 200
---- Refused
+=> Refused
 refused 2 1 Backwards
 105 machine switch s_left active
 105 machine event s_left_active
@@ -60,7 +60,7 @@ refused 2 1 Backwards
 --- log
 5 nope 1
 x
---- Refused
+=> Refused
 refused 1 3 NoSuchSwitch
 refused 2 8 BadLine
 
@@ -71,7 +71,7 @@ refused 2 8 BadLine
 1099511627775 s_left 1
 1099511627776 s_left 0
 18446744073709551616
---- Refused
+=> Refused
 refused 2 2 TooLate
 refused 3 8 BadLine
 
@@ -89,7 +89,7 @@ switches:
 0 s_left 1
 7 s_left 0
 10
---- Yes
+=> Yes
 7 machine switch s_left active
 7 machine event s_left_active
 7 machine event sw_lane
@@ -108,7 +108,7 @@ switches:
 --- log
 3 s 1
 3 s 0
---- Yes
+=> Yes
 3 machine switch s active
 3 machine event s_active
 3 machine event sw_a
@@ -131,7 +131,7 @@ switches:
 4 s 1
 10 s 0
 20
---- Yes
+=> Yes
 15 machine switch s active
 15 machine event s_active
 ";

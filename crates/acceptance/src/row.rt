@@ -6,7 +6,7 @@
 //! - `--- check`, `--- verify` or `--- play`: what is done, with this bundle;
 //! - `--- certificate` or `--- log`: what is verified or played on it;
 //! - `--- writer`: how the writer fails, where it does (`Sink::of`);
-//! - `--- Yes`, `--- Refused` or a fault: the answer, with all that is printed.
+//! - `=> Yes`, `=> Refused` or a fault: the answer, with all that is printed.
 //!
 //! A text is written line by line. A `\` at the end of a line takes the line end away, as in every
 //! text of Rattle. What stands behind `--- N times` comes so often, each time with its number, from
@@ -22,40 +22,31 @@ use std::test::Fail;
 
 /// Each row of the table is answered and printed as it says.
 pub(crate) fn assert_rows<R: Abort + AllocGlobal>(rt: &R, table: &str) -> Result<(), Fail> {
-    let rows = table.strip_prefix("\n=== ").ok_or("a row")?;
+    let (_, rows) = table.split_once("\n=== ").ok_or("no row")?;
     for row in rows.split("\n=== ") {
-        let (title, parts) = row.split_once("\n--- ").ok_or("a title")?;
-        let (given, wanted) = parts.rsplit_once("--- ").ok_or("an answer")?;
+        let (title, given, wanted) = parts_of(row).ok_or("no row")?;
         let found = answer_to(rt.alloc(), given)?;
         assert_eq!(rt; found.as_str(), wanted, "{title}");
     }
     Ok(())
 }
 
-/// The answer to the parts of a row, and what is printed.
+/// The title of a row, what is given, and the answer with what is printed.
+fn parts_of(row: &str) -> Option<(&str, &str, &str)> {
+    let (title, parts) = row.split_once("\n--- ")?;
+    let (given, wanted) = parts.split_once("=> ")?;
+    Some((title, given, wanted))
+}
+
+/// The answer to what is given, and what is printed.
 fn answer_to(alloc: Global, given: &str) -> Result<String, Fail> {
-    let (call, texts) = given.split_once('\n').ok_or("a text")?;
-    let (texts, writer) = texts.split_once("--- writer\n").unwrap_or((texts, ""));
+    let (given, writer) = given.split_once("--- writer\n").unwrap_or((given, ""));
+    let (call, texts) = given.split_once("\n").unwrap_or((given, ""));
     let (bundle, other) = two_texts(texts);
     let bundle = written(alloc, bundle)?;
     let other = written(alloc, other)?;
-    let mut bundle = Source::of(&bundle);
-    let mut other = Source::of(&other);
-    let mut sink = Sink::of(alloc, writer);
-    let answer = match call {
-        "check" => check_text(alloc, &mut bundle, &mut sink),
-        "verify" => verify_text(alloc, &mut bundle, &mut other, &mut sink),
-        _ => play(alloc, &mut bundle, &mut other, &mut sink),
-    };
-    let mut out = String::from_str(alloc, name_of(answer))?;
-    for calls in [bundle.calls(), other.calls(), sink.calls()] {
-        if let Some(calls) = calls {
-            write!(out, " {calls}")?;
-        }
-    }
-    writeln!(out)?;
-    out.push_str(sink.printed())?;
-    Ok(out)
+    let sink = Sink::of(alloc, writer);
+    Ok(shown(alloc, call, Source::of(&bundle), Source::of(&other), sink)?)
 }
 
 /// The bundle, and the certificate or log where there is one.
@@ -66,6 +57,26 @@ fn two_texts(texts: &str) -> (&str, &str) {
         .unwrap_or((texts, ""))
 }
 
+/// What a call answers, how often it called what may fail, and what it prints.
+fn shown(
+    alloc: Global,
+    call: &str,
+    mut bundle: Source<'_>,
+    mut other: Source<'_>,
+    mut sink: Sink,
+) -> Result<String, AllocError> {
+    let answer = match call {
+        "check" => check_text(alloc, &mut bundle, &mut sink),
+        "verify" => verify_text(alloc, &mut bundle, &mut other, &mut sink),
+        _ => play(alloc, &mut bundle, &mut other, &mut sink),
+    };
+    let mut out = String::from_str(alloc, name_of(answer))?;
+    bundle.show(&mut out)?;
+    other.show(&mut out)?;
+    sink.show(&mut out)?;
+    Ok(out)
+}
+
 /// The text of a part, with what comes several times.
 fn written(alloc: Global, text: &str) -> Result<String, Fail> {
     let Some((front, repeated)) = text.split_once("--- ") else {
@@ -74,7 +85,7 @@ fn written(alloc: Global, text: &str) -> Result<String, Fail> {
     let (count, unit) = repeated.split_once(" times\n").ok_or("times")?;
     let count = count.parse::<usize>().ok().ok_or("a number")?;
     let mut whole = String::from_str(alloc, front)?;
-    match unit.split_once('№') {
+    match unit.split_once("№") {
         None => whole.push_str(&unit.repeat(alloc, count)?)?,
         Some((before, after)) => {
             for number in 0..count {
