@@ -55,8 +55,6 @@ const BUNDLES: &str = "\
 @ config/config.yaml => error 2 Version config/config.yaml 1 -¶
 @ config/config.yaml¶¶#config_version=6¶ => error 2 Version config/config.yaml 1 -¶
 @\tconfig/config.yaml \r¶#config_version=6 \t\r¶b¶ => error 6 BadValue config/config.yaml 2 -¶
-«8388608 a» => error 1 Bundle - 1 -¶
-«8388609 a» => error 9 Limit - 1 -¶
 @ config/config.yaml¶#config_version=6¶ =>\u{20}
 @  modes/m/config/m.yaml ¶@ ¶#config_version=6¶coils:¶@\tconfig/config.yaml\r¶#config_version=6¶mpf-mc:¶switches:¶  a:¶lights: b¶@ c d => switches¶ a@5; NormallyOpen Auto;;;;¶note config/config.yaml 2 skipped mpf-mc¶note config/config.yaml 5 skipped lights¶note modes/m/config/m.yaml 0 unlisted modes/m/config/m.yaml¶note  0 unlisted ¶note c d 0 unlisted c d¶
 @ config/config.yaml¶#config_version=6¶@ a\u{1b}[2J\u{1f}\u{7f} \u{80}¶ => note a\\x1b[2J\\x1f\\x7f \u{80} 0 unlisted a\\x1b[2J\\x1f\\x7f \u{80}¶
@@ -107,8 +105,8 @@ fn show_config(alloc: Global, out: &mut String, config: &Config) -> Result<(), F
 }
 
 /// Adds the sections and notes of a bundle, or its fault.
-pub(crate) fn show_bundle(alloc: Global, out: &mut String, bundle: &str) -> Result<(), Fail> {
-    match read_bundle(alloc, bundle.as_bytes()) {
+pub(crate) fn show_bundle(alloc: Global, out: &mut String, bundle: &[u8]) -> Result<(), Fail> {
+    match read_bundle(alloc, bundle) {
         Ok(config) => show_config(alloc, out, &config),
         Err(ConfigFault::Bundle(fault)) => {
             let mut line = Vec::new(alloc);
@@ -123,4 +121,17 @@ pub(crate) fn show_bundle(alloc: Global, out: &mut String, bundle: &str) -> Resu
 fn bundles(rt: HostRuntime) -> Result<(), Fail> {
     assert_rows(&rt, Subject::Machine, MACHINES)?;
     assert_rows(&rt, Subject::Bundle, BUNDLES)
+}
+
+#[test]
+fn longest_bundle(rt: HostRuntime) -> Result<(), Fail> {
+    let bundle = vec![in rt.alloc(); b'a'; 8_388_609]?;
+    let mut found = String::new(rt.alloc());
+    show_bundle(rt.alloc(), &mut found, &bundle)?;
+    show_bundle(rt.alloc(), &mut found, &bundle[1..])?;
+    assert_eq!(rt;
+        found.as_str(),
+        "error 9 Limit - 1 -\nerror 1 Bundle - 1 -\n"
+    );
+    Ok(())
 }

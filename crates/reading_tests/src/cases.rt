@@ -85,12 +85,11 @@ fn answer(alloc: Global, out: &mut String, subject: Subject, text: &str) -> Resu
         Subject::Length => show_length(alloc, out, text),
         Subject::Value(kind) => show_value(alloc, out, kind, text),
         Subject::Nodes => show_nodes(alloc, out, text),
-        Subject::Bundle => show_bundle(alloc, out, text),
-        Subject::Machine => show_bundle(
-            alloc,
-            out,
-            &format!(in alloc; "@ config/config.yaml\n#config_version=6\n{text}")?,
-        ),
+        Subject::Bundle => show_bundle(alloc, out, text.as_bytes()),
+        Subject::Machine => {
+            let bundle = format!(in alloc; "@ config/config.yaml\n#config_version=6\n{text}")?;
+            show_bundle(alloc, out, bundle.as_bytes())
+        }
         _ => show_pair(alloc, out, subject, text),
     }
 }

@@ -361,15 +361,19 @@ pub(crate) fn show_value(
     let [b'[', text @ .., b']'] = text.as_bytes() else {
         return Err("brackets".into());
     };
-    Ok(match kind {
-        Kind::Boolean => show(out, boolean(text))?,
-        Kind::Integer => show(out, integer(text))?,
-        Kind::Time => show(out, time(text))?,
-        Kind::Power => show(out, power(text))?,
-        Kind::Name => show(out, name(text).map(utf8))?,
-        Kind::Event => show_event(out, text)?,
-        Kind::List => show_items(alloc, out, &Tree::Scalar(7, Vec::from_slice(alloc, text)?))?,
-    })
+    let shown = match kind {
+        Kind::Boolean => show(out, boolean(text)),
+        Kind::Integer => show(out, integer(text)),
+        Kind::Time => show(out, time(text)),
+        Kind::Power => show(out, power(text)),
+        Kind::Name => match name(text) {
+            Ok(name) => out.push_str(utf8(name)),
+            Err(_) => out.push_str("none"),
+        },
+        Kind::Event => show_event(out, text),
+        Kind::List => show_items(alloc, out, &Tree::Scalar(7, Vec::from_slice(alloc, text)?)),
+    };
+    Ok(shown?)
 }
 
 /// Adds the items of a YAML node.

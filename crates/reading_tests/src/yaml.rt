@@ -5,7 +5,7 @@ use crate::cases::{Subject, assert_rows, utf8};
 use crate::yaml_blocks::BLOCKS;
 use crate::yaml_first_faults::{BYTES, CHARACTERS, FAULTS, NO_ENTRIES, PLACES};
 use crate::yaml_flow::FLOW;
-use crate::yaml_limits::{LENGTHS, LIMITS};
+use crate::yaml_limits::LIMITS;
 use crate::yaml_words::WORDS;
 use std::alloc::{AllocError, Global};
 use std::test::Fail;
@@ -49,6 +49,11 @@ fn show_pairs(out: &mut String, pairs: &[(Key, Tree)]) -> Result<(), AllocError>
     }
     Ok(())
 }
+
+// Texts, and how many items or keys they have.
+const LENGTHS: &str = "\
+- a¶- b¶ => 2 items
+";
 
 /// Adds the tree of a text, or its fault.
 pub(crate) fn show_yaml(alloc: Global, out: &mut String, text: &[u8]) -> Result<(), AllocError> {
