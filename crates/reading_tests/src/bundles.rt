@@ -56,7 +56,7 @@ const BUNDLES: &str = "\
 @ config/config.yaml¶¶#config_version=6¶ => error 2 Version config/config.yaml 1 -¶
 @\tconfig/config.yaml \r¶#config_version=6 \t\r¶b¶ => error 6 BadValue config/config.yaml 2 -¶
 @ config/config.yaml¶#config_version=6¶ =>\u{20}
-@  modes/m/config/m.yaml ¶@ ¶#config_version=6¶coils:¶@\tconfig/config.yaml\r¶#config_version=6¶mpf-mc:¶switches:¶  a:¶lights: b¶@ c d => switches¶ a@5; NormallyOpen Auto;;;;¶note config/config.yaml 2 skipped mpf-mc¶note config/config.yaml 5 skipped lights¶note modes/m/config/m.yaml 0 unlisted modes/m/config/m.yaml¶note  0 unlisted ¶note c d 0 unlisted c d¶
+@  modes/m/config/m.yaml ¶@ ¶#config_version=6¶coils:¶@\tconfig/config.yaml\r¶#config_version=6¶mpf-mc:¶switches:¶  a:¶lights: b¶@ c d => switches¶ a@4; NormallyOpen Auto;;;;¶note config/config.yaml 2 skipped mpf-mc¶note config/config.yaml 5 skipped lights¶note modes/m/config/m.yaml 0 unlisted modes/m/config/m.yaml¶note  0 unlisted ¶note c d 0 unlisted c d¶
 @ config/config.yaml¶#config_version=6¶@ a\u{1b}[2J\u{1f}\u{7f} \u{80}¶ => note a\\x1b[2J\\x1f\\x7f \u{80} 0 unlisted a\\x1b[2J\\x1f\\x7f \u{80}¶
 ";
 
