@@ -4,11 +4,13 @@
 #[cfg(test)]
 mod bundles;
 #[cfg(test)]
-mod row;
+mod cases;
 #[cfg(test)]
 mod tables;
 #[cfg(test)]
 mod values;
+#[cfg(test)]
+mod yaml;
 #[cfg(test)]
 mod yaml_blocks;
 #[cfg(test)]
@@ -17,7 +19,5 @@ mod yaml_first_faults;
 mod yaml_flow;
 #[cfg(test)]
 mod yaml_limits;
-#[cfg(test)]
-mod yaml_rows;
 #[cfg(test)]
 mod yaml_words;

@@ -1,10 +1,9 @@
 //! Texts and the values that they have.
 
-use crate::row::{cells, utf8};
-use mpf_values::{ListFault, boolean, event, integer, list, name, power, time};
+use crate::cases::{Subject, assert_rows, utf8};
+use mpf_values::{BadValue, ListFault, boolean, event, integer, list, name, power, time};
 use std::alloc::{AllocError, Global};
 use std::fmt::Display;
-use std::process::Abort;
 use std::test::Fail;
 use yaml_subset::{Tree, read};
 
@@ -12,287 +11,287 @@ use yaml_subset::{Tree, read};
 
 // Booleans.
 const BOOLEANS: &str = "\
-[yes] true
-[Yes] true
-[YES] true
-[true] true
-[True] true
-[TRUE] true
-[on] true
-[On] true
-[ON] true
-[no] false
-[No] false
-[NO] false
-[false] false
-[False] false
-[FALSE] false
-[off] false
-[Off] false
-[OFF] false
-[] none
-[yEs] none
-[yES] none
-[YEs] none
-[oN] none
-[oFF] none
-[oFf] none
-[nO] none
-[tRUE] none
-[TRUe] none
-[fALSE] none
-[y] none
-[n] none
-[1] none
-[0] none
-[yess] none
-[ye] none
-[yes ] none
-[ no] none
-[on!] none
+[yes] => true
+[Yes] => true
+[YES] => true
+[true] => true
+[True] => true
+[TRUE] => true
+[on] => true
+[On] => true
+[ON] => true
+[no] => false
+[No] => false
+[NO] => false
+[false] => false
+[False] => false
+[FALSE] => false
+[off] => false
+[Off] => false
+[OFF] => false
+[] => none
+[yEs] => none
+[yES] => none
+[YEs] => none
+[oN] => none
+[oFF] => none
+[oFf] => none
+[nO] => none
+[tRUE] => none
+[TRUe] => none
+[fALSE] => none
+[y] => none
+[n] => none
+[1] => none
+[0] => none
+[yess] => none
+[ye] => none
+[yes ] => none
+[ no] => none
+[on!] => none
 ";
 
 // Integers.
 const INTEGERS: &str = "\
-[0] 0
-[-0] 0
-[7] 7
-[007] 7
-[-12] -12
-[-0012] -12
-[1000000000] 1000000000
-[-1000000000] -1000000000
-[999999999] 999999999
-[00000000000000000000000000000001] 1
-[-00000000000000000000000000000000] 0
-[] none
-[-] none
-[--1] none
-[+1] none
-[1 ] none
-[ 1] none
-[- 1] none
-[1.0] none
-[1e3] none
-[0x10] none
-[1_000] none
-[12a] none
-[1-] none
-[1000000001] none
-[-1000000001] none
-[4294967297] none
-[18446744073709551617] none
-[-18446744073709551616] none
-[99999999999999999999999999] none
-[١] none
+[0] => 0
+[-0] => 0
+[7] => 7
+[007] => 7
+[-12] => -12
+[-0012] => -12
+[1000000000] => 1000000000
+[-1000000000] => -1000000000
+[999999999] => 999999999
+[00000000000000000000000000000001] => 1
+[-00000000000000000000000000000000] => 0
+[] => none
+[-] => none
+[--1] => none
+[+1] => none
+[1 ] => none
+[ 1] => none
+[- 1] => none
+[1.0] => none
+[1e3] => none
+[0x10] => none
+[1_000] => none
+[12a] => none
+[1-] => none
+[1000000001] => none
+[-1000000001] => none
+[4294967297] => none
+[18446744073709551617] => none
+[-18446744073709551616] => none
+[99999999999999999999999999] => none
+[١] => none
 ";
 
 // Times, in milliseconds.
 const TIMES: &str = "\
-[0] 0
-[10] 10
-[10ms] 10
-[007] 7
-[1.0ms] 1
-[1.000] 1
-[1.5s] 1500
-[00.5s] 500
-[0.125s] 125
-[0.0s] 0
-[0.001s] 1
-[0.001m] 60
-[0.001h] 3600
-[0.001d] 86400
-[2m] 120000
-[1.5m] 90000
-[0.5h] 1800000
-[1h] 3600000
-[1d] 86400000
-[10 s] 10000
-[10\ts] 10000
-[10 \t ms] 10
-[1.0 s] 1000
-[4294967295] 4294967295
-[4294967.295s] 4294967295
-[71582m] 4294920000
-[1193h] 4294800000
-[49d] 4233600000
-[49.710d] 4294944000
-[] none
-[s] none
-[ms] none
-[.5s] none
-[1.s] none
-[1.] none
-[.] none
-[-1] none
-[-1s] none
-[+1s] none
-[1 .5s] none
-[1. 5s] none
-[1,5s] none
-[1e3] none
-[1S] none
-[1MS] none
-[1sec] none
-[1ss] none
-[1 m s] none
-[1s ] none
-[ 1s] none
-[1us] none
-[1.5] none
-[0.5ms] none
-[1.001ms] none
-[0.0005s] none
-[1.0000s] none
-[1.5.5s] none
-[0.0001d] none
-[4294967296] none
-[4294967.296s] none
-[71583m] none
-[1194h] none
-[50d] none
-[49.711d] none
-[18446744073709551616] none
-[18446744073709551617ms] none
-[213503982335d] none
+[0] => 0
+[10] => 10
+[10ms] => 10
+[007] => 7
+[1.0ms] => 1
+[1.000] => 1
+[1.5s] => 1500
+[00.5s] => 500
+[0.125s] => 125
+[0.0s] => 0
+[0.001s] => 1
+[0.001m] => 60
+[0.001h] => 3600
+[0.001d] => 86400
+[2m] => 120000
+[1.5m] => 90000
+[0.5h] => 1800000
+[1h] => 3600000
+[1d] => 86400000
+[10 s] => 10000
+[10\ts] => 10000
+[10 \t ms] => 10
+[1.0 s] => 1000
+[4294967295] => 4294967295
+[4294967.295s] => 4294967295
+[71582m] => 4294920000
+[1193h] => 4294800000
+[49d] => 4233600000
+[49.710d] => 4294944000
+[] => none
+[s] => none
+[ms] => none
+[.5s] => none
+[1.s] => none
+[1.] => none
+[.] => none
+[-1] => none
+[-1s] => none
+[+1s] => none
+[1 .5s] => none
+[1. 5s] => none
+[1,5s] => none
+[1e3] => none
+[1S] => none
+[1MS] => none
+[1sec] => none
+[1ss] => none
+[1 m s] => none
+[1s ] => none
+[ 1s] => none
+[1us] => none
+[1.5] => none
+[0.5ms] => none
+[1.001ms] => none
+[0.0005s] => none
+[1.0000s] => none
+[1.5.5s] => none
+[0.0001d] => none
+[4294967296] => none
+[4294967.296s] => none
+[71583m] => none
+[1194h] => none
+[50d] => none
+[49.711d] => none
+[18446744073709551616] => none
+[18446744073709551617ms] => none
+[213503982335d] => none
 ";
 
 // Powers, in thousandths of full power.
 const POWERS: &str = "\
-[0] 0
-[1] 1000
-[0.0] 0
-[1.0] 1000
-[1.000] 1000
-[0.5] 500
-[0.25] 250
-[0.255] 255
-[0.001] 1
-[0.999] 999
-[00.5] 500
-[01] 1000
-[0%] 0
-[0.1%] 1
-[25%] 250
-[025%] 250
-[12.5%] 125
-[99.9%] 999
-[100%] 1000
-[100.0%] 1000
-[] none
-[%] none
-[.5] none
-[1.] none
-[.5%] none
-[5.%] none
-[-0.5] none
-[-0] none
-[+1] none
-[0,5] none
-[half] none
-[1 ] none
-[ 1] none
-[25 %] none
-[25% ] none
-[25%%] none
-[0.2505] none
-[1.0000] none
-[0.9999] none
-[1.001] none
-[1.1] none
-[2] none
-[1000] none
-[12.55%] none
-[12.50%] none
-[100.1%] none
-[101%] none
-[1000%] none
-[18446744073709551616] none
-[18446744073709551617%] none
+[0] => 0
+[1] => 1000
+[0.0] => 0
+[1.0] => 1000
+[1.000] => 1000
+[0.5] => 500
+[0.25] => 250
+[0.255] => 255
+[0.001] => 1
+[0.999] => 999
+[00.5] => 500
+[01] => 1000
+[0%] => 0
+[0.1%] => 1
+[25%] => 250
+[025%] => 250
+[12.5%] => 125
+[99.9%] => 999
+[100%] => 1000
+[100.0%] => 1000
+[] => none
+[%] => none
+[.5] => none
+[1.] => none
+[.5%] => none
+[5.%] => none
+[-0.5] => none
+[-0] => none
+[+1] => none
+[0,5] => none
+[half] => none
+[1 ] => none
+[ 1] => none
+[25 %] => none
+[25% ] => none
+[25%%] => none
+[0.2505] => none
+[1.0000] => none
+[0.9999] => none
+[1.001] => none
+[1.1] => none
+[2] => none
+[1000] => none
+[12.55%] => none
+[12.50%] => none
+[100.1%] => none
+[101%] => none
+[1000%] => none
+[18446744073709551616] => none
+[18446744073709551617%] => none
 ";
 
 // Names, which are the text itself.
 const NAMES: &str = "\
-[a] a
-[Z] Z
-[9] 9
-[_] _
-[-] -
-[.] .
-[s_left-2.b] s_left-2.b
-[abcdefghijklmnopqrstuvwxyzABCDEFGHIJKLMNOPQRSTUVWXYZ0123456789_-] abcdefghijklmnopqrstuvwxyzABCDEFGHIJKLMNOPQRSTUVWXYZ0123456789_-
-[] none
-[ ] none
-[a b] none
-[a\tb] none
-[a ] none
-[ a] none
-[a:b] none
-[a,b] none
-[a{] none
-[a/b] none
-[a!] none
-[é] none
-[abcdefghijklmnopqrstuvwxyzABCDEFGHIJKLMNOPQRSTUVWXYZ0123456789_-.] none
+[a] => a
+[Z] => Z
+[9] => 9
+[_] => _
+[-] => -
+[.] => .
+[s_left-2.b] => s_left-2.b
+[abcdefghijklmnopqrstuvwxyzABCDEFGHIJKLMNOPQRSTUVWXYZ0123456789_-] => abcdefghijklmnopqrstuvwxyzABCDEFGHIJKLMNOPQRSTUVWXYZ0123456789_-
+[] => none
+[ ] => none
+[a b] => none
+[a\tb] => none
+[a ] => none
+[ a] => none
+[a:b] => none
+[a,b] => none
+[a{] => none
+[a/b] => none
+[a!] => none
+[é] => none
+[abcdefghijklmnopqrstuvwxyzABCDEFGHIJKLMNOPQRSTUVWXYZ0123456789_-.] => none
 ";
 
 // Handled events, and behind an event its condition: the current player's variable, how it is to compare and
 // the number.
 const EVENTS: &str = "\
-[s_left.a-1_active] s_left.a-1_active
-[e{current_player.x==1}] e x Equal 1
-[e{current_player.x!=1}] e x NotEqual 1
-[e{current_player.x<1}] e x Less 1
-[e{current_player.x<=1}] e x LessOrEqual 1
-[e{current_player.x>1}] e x Greater 1
-[e{current_player.x>=1}] e x GreaterOrEqual 1
-[e{ \tcurrent_player.x == \t -1 \t}] e x Equal -1
-[e{current_player.x-1>=-2}] e x-1 GreaterOrEqual -2
-[e{current_player.a.b <1000000000}] e a.b Less 1000000000
-[] none
-[{current_player.x==1}] none
-[e ] none
-[e {current_player.x==1}] none
-[e{}] none
-[e{ }] none
-[e{current_player.x}] none
-[e{current_player.x==}] none
-[e{current_player.==1}] none
-[e{current_player.x=1}] none
-[e{current_player.x<>1}] none
-[e{current_player.x===1}] none
-[e{current_player.x< =1}] none
-[e{current_player.x==y}] none
-[e{current_player.x==+1}] none
-[e{current_player.x==1 2}] none
-[e{current_player.x y==1}] none
-[e{current_player .x==1}] none
-[e{current_player. x==1}] none
-[e{player.x==1}] none
-[e{x==1}] none
-[e{current_player.x==1000000001}] none
-[e{current_player.x==1] none
-[e{current_player.x==1}}] none
-[e{current_player.x==1} ] none
-[e{{current_player.x==1}] none
-[e}] none
-[e|2s] none
+[s_left.a-1_active] => s_left.a-1_active
+[e{current_player.x==1}] => e x Equal 1
+[e{current_player.x!=1}] => e x NotEqual 1
+[e{current_player.x<1}] => e x Less 1
+[e{current_player.x<=1}] => e x LessOrEqual 1
+[e{current_player.x>1}] => e x Greater 1
+[e{current_player.x>=1}] => e x GreaterOrEqual 1
+[e{ \tcurrent_player.x == \t -1 \t}] => e x Equal -1
+[e{current_player.x-1>=-2}] => e x-1 GreaterOrEqual -2
+[e{current_player.a.b <1000000000}] => e a.b Less 1000000000
+[] => none
+[{current_player.x==1}] => none
+[e ] => none
+[e {current_player.x==1}] => none
+[e{}] => none
+[e{ }] => none
+[e{current_player.x}] => none
+[e{current_player.x==}] => none
+[e{current_player.==1}] => none
+[e{current_player.x=1}] => none
+[e{current_player.x<>1}] => none
+[e{current_player.x===1}] => none
+[e{current_player.x< =1}] => none
+[e{current_player.x==y}] => none
+[e{current_player.x==+1}] => none
+[e{current_player.x==1 2}] => none
+[e{current_player.x y==1}] => none
+[e{current_player .x==1}] => none
+[e{current_player. x==1}] => none
+[e{player.x==1}] => none
+[e{x==1}] => none
+[e{current_player.x==1000000001}] => none
+[e{current_player.x==1] => none
+[e{current_player.x==1}}] => none
+[e{current_player.x==1} ] => none
+[e{{current_player.x==1}] => none
+[e}] => none
+[e|2s] => none
 ";
 
 // List texts at line 7: how many items they have, and each with its line.
 const LIST_TEXTS: &str = "\
-[] 0
-[ ,\t, ] 0
-[a] 1 <a>7
-[a, b] 2 <a>7 <b>7
-[a b\tc,d] 4 <a>7 <b>7 <c>7 <d>7
-[,a,,b ,] 2 <a>7 <b>7
-[a{x == 1}, b] 2 <a{x == 1}>7 <b>7
-[a{b, {c d} e} f] 2 <a{b, {c d} e}>7 <f>7
-[a} b] 2 <a}>7 <b>7
-[}{a b} c] 2 <}{a b}>7 <c>7
-[a {b c, d] 2 <a>7 <{b c, d>7
+[] => 0
+[ ,\t, ] => 0
+[a] => 1 <a>7
+[a, b] => 2 <a>7 <b>7
+[a b\tc,d] => 4 <a>7 <b>7 <c>7 <d>7
+[,a,,b ,] => 2 <a>7 <b>7
+[a{x == 1}, b] => 2 <a{x == 1}>7 <b>7
+[a{b, {c d} e} f] => 2 <a{b, {c d} e}>7 <f>7
+[a} b] => 2 <a}>7 <b>7
+[}{a b} c] => 2 <}{a b}>7 <c>7
+[a {b c, d] => 2 <a>7 <{b c, d>7
 ";
 
 // Nodes as YAML, and their items. An item that is empty is none.
@@ -303,9 +302,9 @@ const LIST_NODES: &str = "\
 [[]] => none
 ";
 
-// What the text of a row is to be read as.
+/// What a text is to be read as.
 #[derive(Clone, Copy)]
-enum Kind {
+pub(crate) enum Kind {
     Boolean,
     Integer,
     Time,
@@ -315,114 +314,86 @@ enum Kind {
     List,
 }
 
-fn show<V: Display + Drop>(alloc: Global, value: Option<V>) -> Result<String, AllocError> {
+fn show<V: Display + Drop>(out: &mut String, value: Result<V, BadValue>) -> Result<(), AllocError> {
     match value {
-        Some(value) => value.to_string(alloc),
-        None => String::from_str(alloc, "none"),
+        Ok(value) => write!(out, "{value}"),
+        Err(_) => out.push_str("none"),
     }
 }
 
-fn show_event(alloc: Global, text: &[u8]) -> Result<String, AllocError> {
+fn show_event(out: &mut String, text: &[u8]) -> Result<(), AllocError> {
     let Ok(event) = event(text) else {
-        return String::from_str(alloc, "none");
+        return out.push_str("none");
     };
-    let mut out = String::from_str(alloc, utf8(event.name))?;
-    if let Some(condition) = event.condition {
-        let variable = utf8(condition.variable);
-        write!(
-            &mut out,
-            " {variable} {:?} {}",
-            condition.comparison, condition.number
-        )?;
-    }
-    Ok(out)
+    out.push_str(utf8(event.name))?;
+    let Some(condition) = event.condition else {
+        return Ok(());
+    };
+    write!(
+        out,
+        " {} {:?} {}",
+        utf8(condition.variable),
+        condition.comparison,
+        condition.number
+    )
 }
 
-// The items of a node.
-fn show_items(alloc: Global, tree: &Tree) -> Result<String, AllocError> {
+fn show_items(alloc: Global, out: &mut String, tree: &Tree) -> Result<(), AllocError> {
     let items = match list(alloc, tree) {
         Ok(items) => items,
-        Err(ListFault::BadValue) => return String::from_str(alloc, "none"),
+        Err(ListFault::BadValue) => return out.push_str("none"),
         Err(ListFault::NoMemory) => return Err(AllocError),
     };
-    let mut out = items.len().to_string(alloc)?;
+    write!(out, "{}", items.len())?;
     for item in &items {
-        write!(&mut out, " <{}>{}", utf8(item.text), item.line)?;
+        write!(out, " <{}>{}", utf8(item.text), item.line)?;
     }
-    Ok(out)
+    Ok(())
 }
 
-// The value that a text has, as the tables have it.
-fn value_of(alloc: Global, kind: Kind, text: &[u8]) -> Result<String, AllocError> {
-    match kind {
-        Kind::Boolean => show(alloc, boolean(text).ok()),
-        Kind::Integer => show(alloc, integer(text).ok()),
-        Kind::Time => show(alloc, time(text).ok()),
-        Kind::Power => show(alloc, power(text).ok()),
+/// Adds the value of a text that stands in brackets, or `none`.
+pub(crate) fn show_value(
+    alloc: Global,
+    out: &mut String,
+    kind: Kind,
+    text: &str,
+) -> Result<(), Fail> {
+    let [b'[', text @ .., b']'] = text.as_bytes() else {
+        return Err("brackets".into());
+    };
+    let shown = match kind {
+        Kind::Boolean => show(out, boolean(text)),
+        Kind::Integer => show(out, integer(text)),
+        Kind::Time => show(out, time(text)),
+        Kind::Power => show(out, power(text)),
         Kind::Name => match name(text) {
-            Ok(name) => String::from_str(alloc, utf8(name)),
-            Err(_) => String::from_str(alloc, "none"),
+            Ok(name) => out.push_str(utf8(name)),
+            Err(_) => out.push_str("none"),
         },
-        Kind::Event => show_event(alloc, text),
-        Kind::List => show_items(alloc, &Tree::Scalar(7, Vec::from_slice(alloc, text)?)),
+        Kind::Event => show_event(out, text),
+        Kind::List => show_items(alloc, out, &Tree::Scalar(7, Vec::from_slice(alloc, text)?)),
+    };
+    Ok(shown?)
+}
+
+/// Adds the items of a YAML node.
+pub(crate) fn show_nodes(alloc: Global, out: &mut String, text: &str) -> Result<(), Fail> {
+    Ok(show_items(alloc, out, &read(alloc, text.as_bytes())?)?)
+}
+
+#[test]
+fn values(rt: HostRuntime) -> Result<(), Fail> {
+    let tables = [
+        (Kind::Boolean, BOOLEANS),
+        (Kind::Integer, INTEGERS),
+        (Kind::Time, TIMES),
+        (Kind::Power, POWERS),
+        (Kind::Name, NAMES),
+        (Kind::Event, EVENTS),
+        (Kind::List, LIST_TEXTS),
+    ];
+    for (kind, table) in tables {
+        assert_rows(&rt, Subject::Value(kind), table)?;
     }
-}
-
-// The text and the value of a row.
-fn text_and_value(row: &str) -> Option<(&str, &str)> {
-    row.strip_prefix('[')?.split_once("] ")
-}
-
-fn assert_values<R: Abort + AllocGlobal>(rt: &R, kind: Kind, table: &str) -> Result<(), Fail> {
-    for row in table.lines() {
-        let (text, value) = text_and_value(row).ok_or("a row")?;
-        let found = value_of(rt.alloc(), kind, text.as_bytes())?;
-        assert_eq!(rt; found.as_str(), value, "{row}");
-    }
-    Ok(())
-}
-
-#[test]
-fn booleans(rt: HostRuntime) -> Result<(), Fail> {
-    assert_values(&rt, Kind::Boolean, BOOLEANS)
-}
-
-#[test]
-fn integers(rt: HostRuntime) -> Result<(), Fail> {
-    assert_values(&rt, Kind::Integer, INTEGERS)
-}
-
-#[test]
-fn times(rt: HostRuntime) -> Result<(), Fail> {
-    assert_values(&rt, Kind::Time, TIMES)
-}
-
-#[test]
-fn powers(rt: HostRuntime) -> Result<(), Fail> {
-    assert_values(&rt, Kind::Power, POWERS)
-}
-
-#[test]
-fn names(rt: HostRuntime) -> Result<(), Fail> {
-    assert_values(&rt, Kind::Name, NAMES)
-}
-
-#[test]
-fn events(rt: HostRuntime) -> Result<(), Fail> {
-    assert_values(&rt, Kind::Event, EVENTS)
-}
-
-#[test]
-fn list_texts(rt: HostRuntime) -> Result<(), Fail> {
-    assert_values(&rt, Kind::List, LIST_TEXTS)
-}
-
-#[test]
-fn list_nodes(rt: HostRuntime) -> Result<(), Fail> {
-    for row in LIST_NODES.lines() {
-        let (text, wanted) = cells(rt.alloc(), row)?;
-        let found = show_items(rt.alloc(), &read(rt.alloc(), text.as_bytes())?)?;
-        assert_eq!(rt; found.as_str(), wanted.as_str(), "{row}");
-    }
-    Ok(())
+    assert_rows(&rt, Subject::Nodes, LIST_NODES)
 }

@@ -1,11 +1,7 @@
 //! Mappings and sequences of lines.
 
-use crate::yaml_rows::assert_rows;
-use std::test::Fail;
-use yaml_subset::read;
-
-// Texts with trees.
-const TREES: &str = "\
+/// Texts with trees, then texts with faults, the kind and the line of the first.
+pub(crate) const BLOCKS: &str = "\
 \u{20}=> 1{}
 ¶¶ => 1{}
 # c => 1{}
@@ -57,10 +53,6 @@ a:¶- b¶- c¶d:¶  - e¶f: g¶ => 1{<a>1=2[<b>2 <c>3] <d>4=5[<e>5] <f>6=<g>6}
 - a: 1¶  b: 2¶-   c:¶    d: 3¶ => 1[1{<a>1=<1>1 <b>2=<2>2} 3{<c>3=<>3 <d>4=<3>4}]
 - a:¶    b: 1¶- a:¶  - b¶  c:¶ => 1[1{<a>1=2{<b>2=<1>2}} 3{<a>3=4[<b>4] <c>5=<>5}]
 -¶  a: 1¶-¶  - b¶-¶  text¶ => 1[2{<a>2=<1>2} 4[<b>4] <text>6]
-";
-
-// Texts with faults, the kind and the line of the first.
-const FAULTS: &str = "\
 \ta: b => Tab 1
 \u{20}\ta: b => Tab 1
 -\ta: b => Tab 1
@@ -117,20 +109,3 @@ a:¶  - b¶- c => NotInSubset 3
 ---¶a: b => NotInSubset 1
 \u{20} a: b¶... # c => NotInSubset 2
 ";
-
-#[test]
-fn trees(rt: HostRuntime) -> Result<(), Fail> {
-    assert_rows(&rt, TREES)
-}
-
-#[test]
-fn faults(rt: HostRuntime) -> Result<(), Fail> {
-    assert_rows(&rt, FAULTS)
-}
-
-#[test]
-fn nodes_of_a_list(rt: HostRuntime) -> Result<(), Fail> {
-    let tree = read(rt.alloc(), b"- a\n- b\n")?;
-    assert_eq!(rt; tree.as_list().ok_or("a list")?.len(), 2);
-    Ok(())
-}

@@ -1,14 +1,8 @@
 //! Which fault of a text is the first: that of the first line with one, and there the left one; in the same
 //! place a character's.
 
-use crate::row::cells;
-use crate::yaml_rows::{assert_reads, assert_rows};
-use std::alloc::Global;
-use std::process::Abort;
-use std::test::Fail;
-
-// Characters that no line may have.
-const CHARACTERS: &str = "\
+/// Characters that no line may have.
+pub(crate) const CHARACTERS: &str = "\
 a: \u{1} => NotInSubset 1
 # \u{1} => NotInSubset 1
 a: \"\u{7F}\" => NotInSubset 1
@@ -24,8 +18,8 @@ a: b¶# \u{9F} => NotInSubset 2
 a: 1\r¶b: 2\rc\r¶ => NotInSubset 2
 ";
 
-// Texts with several faults.
-const FAULTS: &str = "\
+/// Texts with several faults.
+pub(crate) const FAULTS: &str = "\
 \"a\u{1} => NotInSubset 1
 a: \"b\\q\u{1} => Quote 1
 [a,, \u{1}] => Flow 1
@@ -44,9 +38,9 @@ a: \"b¶c: \u{1} => Quote 1
 a: [b, 'c => Quote 1
 ";
 
-// Texts with a line that has to be an entry or an item and is none: that is at its first character, before
-// whatever else is wrong with the line.
-const NO_ENTRIES: &str = "\
+/// Texts with a line that has to be an entry or an item and is none: that is at its first character, before
+/// whatever else is wrong with the line.
+pub(crate) const NO_ENTRIES: &str = "\
 a: 1¶{x: 1, x: 2} => NotInSubset 2
 - a¶{x: 1, x: 2} => NotInSubset 2
 a: 1¶[b => NotInSubset 2
@@ -73,9 +67,9 @@ a:¶  - b¶[ => NotInSubset 3
 a: 1¶[b¶a: 2 => NotInSubset 2
 ";
 
-// Texts with bytes that are not UTF-8. Here each character stands for the byte of its number: `ÿ` for
-// 255, which no UTF-8 text has.
-const BYTES: &str = "\
+/// Texts with bytes that are not UTF-8. Here each character stands for the byte of its number: `ÿ` for
+/// 255, which no UTF-8 text has.
+pub(crate) const BYTES: &str = "\
 ÿ => NotUtf8 1
 a: b¶\u{C3} => NotUtf8 2
 # ÿ => NotUtf8 1
@@ -115,9 +109,9 @@ a: 1¶bÿ: &c => NotUtf8 2
 - a¶ÿ => NotUtf8 2
 ";
 
-// Where on its line a fault stands. `ÿ` marks a place: directly behind the fault's place the row's fault is
-// answered; at it, or left of it, `NotUtf8`. The end of the line is a place too.
-const PLACES: &str = "\
+/// Where on its line a fault stands. `ÿ` marks a place: directly behind the fault's place the row's fault is
+/// answered; at it, or left of it, `NotUtf8`. The end of the line is a place too.
+pub(crate) const PLACES: &str = "\
 a: ,ÿ => NotInSubset 1
 a: - ÿ => NotInSubset 1
 a: @ÿ => NotInSubset 1
@@ -181,45 +175,3 @@ a: 'b' ÿ => NotUtf8 1
 ['aÿ' :] => NotUtf8 1
 ['ÿ'[b]] => NotUtf8 1
 ";
-
-#[test]
-fn characters(rt: HostRuntime) -> Result<(), Fail> {
-    assert_rows(&rt, CHARACTERS)
-}
-
-#[test]
-fn first_faults(rt: HostRuntime) -> Result<(), Fail> {
-    assert_rows(&rt, FAULTS)
-}
-
-#[test]
-fn lines_that_are_no_entries(rt: HostRuntime) -> Result<(), Fail> {
-    assert_rows(&rt, NO_ENTRIES)
-}
-
-// The bytes that the characters of a text stand for.
-fn bytes_of(alloc: Global, text: &str) -> Result<Vec<u8>, Fail> {
-    let mut bytes = Vec::new(alloc);
-    for c in text.chars() {
-        bytes.push(u8::try_from(c).ok().ok_or("a byte")?)?;
-    }
-    Ok(bytes)
-}
-
-fn assert_rows_of_bytes<R: Abort + AllocGlobal>(rt: &R, table: &str) -> Result<(), Fail> {
-    for row in table.lines() {
-        let (text, expected) = cells(rt.alloc(), row)?;
-        assert_reads(rt, row, &bytes_of(rt.alloc(), &text)?, &expected)?;
-    }
-    Ok(())
-}
-
-#[test]
-fn faults_of_bytes(rt: HostRuntime) -> Result<(), Fail> {
-    assert_rows_of_bytes(&rt, BYTES)
-}
-
-#[test]
-fn places_of_faults(rt: HostRuntime) -> Result<(), Fail> {
-    assert_rows_of_bytes(&rt, PLACES)
-}

@@ -1,10 +1,7 @@
 //! Lists in brackets and mappings in braces.
 
-use crate::yaml_rows::assert_rows;
-use std::test::Fail;
-
-// Texts with trees.
-const TREES: &str = "\
+/// Texts with trees, then texts with faults, the kind and the line of the first.
+pub(crate) const FLOW: &str = "\
 [] => 1[]
 [ ] => 1[]
 {} => 1{}
@@ -62,10 +59,6 @@ a:¶  {b: c}¶d:¶ => 1{<a>1=2{<b>2=<c>2} <d>3=<>3}
 [{a: b}, {a: b}] => 1[1{<a>1=<b>1} 1{<a>1=<b>1}]
 [[[[[[[[]]]]]]]] => 1[1[1[1[1[1[1[1[]]]]]]]]
 a: 1¶b: [c, {d: [e]}] => 1{<a>1=<1>1 <b>2=2[<c>2 2{<d>2=2[<e>2]}]}
-";
-
-// Texts with faults, the kind and the line of the first.
-const FAULTS: &str = "\
 {a: b, a: c} => DuplicateKey 1
 {a: b, \"a\": c} => DuplicateKey 1
 [{a: 1, b: 2, a: 3}] => DuplicateKey 1
@@ -160,13 +153,3 @@ a: {b: c, b: d} => DuplicateKey 1
 [[a]: b] => NotInSubset 1
 [a, &b, ]} => NotInSubset 1
 ";
-
-#[test]
-fn trees(rt: HostRuntime) -> Result<(), Fail> {
-    assert_rows(&rt, TREES)
-}
-
-#[test]
-fn faults(rt: HostRuntime) -> Result<(), Fail> {
-    assert_rows(&rt, FAULTS)
-}

@@ -1,10 +1,7 @@
 //! Keys and scalars, plain and in quotes.
 
-use crate::yaml_rows::assert_rows;
-use std::test::Fail;
-
-// Texts with trees.
-const TREES: &str = "\
+/// Texts with trees, then texts with faults, the kind and the line of the first.
+pub(crate) const WORDS: &str = "\
 a: b# c => 1{<a>1=<b# c>1}
 a: b #c => 1{<a>1=<b>1}
 a: b\t#c => 1{<a>1=<b>1}
@@ -90,10 +87,6 @@ a, [b]{c}:d : e => 1{<a, [b]{c}:d>1=<e>1}
 a: '' # c => 1{<a>1=<>1}
 a: 'b\\n: # \"c\"' => 1{<a>1=<b\\n: # \"c\">1}
 \"a\\\"b\\\\c\\nd\\te\tf\": g => 1{<a\"b\\c¶d\te\tf>1=<g>1}
-";
-
-// Texts with faults, the kind and the line of the first.
-const FAULTS: &str = "\
 a: \"b => Quote 1
 a: 'b => Quote 1
 \"a => Quote 1
@@ -151,13 +144,3 @@ a: \"b\"#c => Quote 1
 a: |¶  b => NotInSubset 1
 a: , b => NotInSubset 1
 ";
-
-#[test]
-fn trees(rt: HostRuntime) -> Result<(), Fail> {
-    assert_rows(&rt, TREES)
-}
-
-#[test]
-fn faults(rt: HostRuntime) -> Result<(), Fail> {
-    assert_rows(&rt, FAULTS)
-}
