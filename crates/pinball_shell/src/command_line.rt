@@ -10,7 +10,7 @@ use clap::{Arg, ArgAction, ArgMatches, Command, Error};
 use std::alloc::{AllocError, Global};
 
 /// What is asked for.
-#[derive(Drop)]
+#[derive(Debug, Drop)]
 pub enum Ask {
     /// To check the bundle.
     Check,

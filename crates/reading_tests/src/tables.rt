@@ -185,6 +185,9 @@ e:¶  posts: [«1025 a,»] => Limit 2 posts
 e:¶  names: [«1025 a/,»] => Limit 2 names
 e:¶  steps: [«1025 a,»] => Limit 2 steps
 e:¶  maps: [«1025 a,»] => Limit 2 maps
+e:¶  posts: [«1024 a,»{b: c}] => Limit 2 posts
+e:¶  events: [[a], «1024 a,»\"\"] => Limit 2 events
+e:¶  posts: [«1023 a,»{b: c}, \"\"] => BadValue 2 posts
 ";
 
 // Entries in which three settings have to be written, and their faults.

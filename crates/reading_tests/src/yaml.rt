@@ -30,22 +30,27 @@ fn show(out: &mut String, tree: &Tree) -> Result<(), AllocError> {
 
 #[cycle(show)]
 fn show_items(out: &mut String, items: &[Tree]) -> Result<(), AllocError> {
-    let mut between = "";
+    let mut is_first = true;
     for item in items {
-        out.push_str(between)?;
+        if !is_first {
+            out.push_str(" ")?;
+        }
         show(out, item)?;
-        between = " ";
+        is_first = false;
     }
     Ok(())
 }
 
 #[cycle(show)]
 fn show_pairs(out: &mut String, pairs: &[(Key, Tree)]) -> Result<(), AllocError> {
-    let mut between = "";
+    let mut is_first = true;
     for (key, value) in pairs {
-        write!(out, "{between}<{}>{}=", utf8(&key.text), key.line)?;
+        if !is_first {
+            out.push_str(" ")?;
+        }
+        write!(out, "<{}>{}=", utf8(&key.text), key.line)?;
         show(out, value)?;
-        between = " ";
+        is_first = false;
     }
     Ok(())
 }
