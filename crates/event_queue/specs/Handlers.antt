@@ -15,6 +15,7 @@ pub record HandlersView : Type 0 where
 -- whether the bindings of an owner run: the machine's always do
 abbrev pub takes_part : Owner → Bool
 takes_part owners.Machine = true
+takes_part (owners.Mode m) = false
 
 -- whether the binding at a place runs
 abbrev pub runs_at : PlanView → BindingId → Bool

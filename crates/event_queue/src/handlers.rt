@@ -85,5 +85,6 @@ fn takes_part(owner: Owner) -> bool
 {
     match owner {
         Owner::Machine => true,
+        Owner::Mode(_) => false,
     }
 }

@@ -16,7 +16,7 @@ use Rattle.mpf_plan.specs.declared.fault.Table.{Table}
 use Rattle.mpf_plan.specs.declared.fault.Table.TheVariants.{Events, Bindings, Switches}
 use Rattle.mpf_plan.specs.PlanView.{PlanSwitch, no_switch, PlanView}
 use Rattle.mpf_plan.specs.Limits.{entry_count, entry_names}
-use Rattle.mpf_plan.specs.Contributions.{Contribution, gives, reads, active, inactive, binds, post, row_contributions, machine_place, given_by}
+use Rattle.mpf_plan.specs.Contributions.{Contribution, gives, reads, active, inactive, binds, post, owner_at, priority_of, row_contributions, machine_place, given_by}
 use Rattle.mpf_plan.specs.Uses.{Names, names_from}
 use Rattle.mpf_plan.specs.PlanOf.{DraftView, event_of, last_switch, with_given, with_binding, with_list, with_action, with_contribution, named_switch, blank, drafted, plan_from}
 use Rattle.mpf_plan.specs.Inside.{name_sets_view, draft_view, contribution_view, contributions_view, row_view, row_list_view}
@@ -32,6 +32,7 @@ pub record Counts (n : ℕ) (old new : DraftView) : Type 0 where
   pub lists : length new.plan.lists ≡ length old.plan.lists + n
   pub names : (t : Table) → entry_names new.plan t ≡ entry_names old.plan t
   pub defined : length new.defined ≡ length old.defined
+  pub modes : new.plan.modes ≡ old.plan.modes
 
 -- a number stands in a table: nothing else changes in the plan
 pub given_plan : (t : Table) (n : ℕ) (d : DraftView) → (with_given t n d).plan ≡ d.plan
@@ -53,7 +54,7 @@ given_defined _ n d = refl
 given_counts : (t : Table) (n : ℕ) (d : DraftView) → Counts 0 d (with_given t n d)
 given_counts t n d =
     let same = given_plan t n d in
-    record { bindings = omega (arith, ap (λ p. length p.bindings) same); lists = omega (arith, ap (λ p. length p.lists) same); names = λ u. ap (λ p. entry_names p u) same; defined = given_defined t n d }
+    record { bindings = omega (arith, ap (λ p. length p.bindings) same); lists = omega (arith, ap (λ p. length p.lists) same); names = λ u. ap (λ p. entry_names p u) same; defined = given_defined t n d; modes = ap (λ p. p.modes) same }
 
 switches_names : (plan : PlanView) (switches : List PlanSwitch) → map (λ (s : PlanSwitch). s.name) switches ≡ map (λ (s : PlanSwitch). s.name) plan.switches
     → (t : Table) → entry_names (record plan { switches = switches }) t ≡ entry_names plan t
@@ -67,6 +68,7 @@ switch_counts change same d = record {
   names = switches_names d.plan (slice_set d.plan.switches d.last (change (slice_index_or d.plan.switches d.last no_switch)))
       (map-set_same (λ (s : PlanSwitch). s.name) d.plan.switches d.last (change (get_or d.plan.switches d.last no_switch)) no_switch (same (get_or d.plan.switches d.last no_switch)));
   defined = refl;
+  modes = refl;
 }
 
 -- lists and bindings have no names
@@ -76,13 +78,13 @@ unnamed plan lists bindings _ = refl
 
 binding_counts : (b : Binding) (d : DraftView) → Counts 1 d (with_list (with_binding b d))
 binding_counts b d =
-    record { bindings = length_push d.plan.bindings b; lists = length_push d.plan.lists []; names = unnamed d.plan (d.plan.lists ++ [] ∷ []) (d.plan.bindings ++ b ∷ []); defined = refl }
+    record { bindings = length_push d.plan.bindings b; lists = length_push d.plan.lists []; names = unnamed d.plan (d.plan.lists ++ [] ∷ []) (d.plan.bindings ++ b ∷ []); defined = refl; modes = refl }
 
 post_counts : (a : Action) (d : DraftView) → Counts 0 d (with_action a d)
 post_counts a d =
     let last = length d.plan.lists - 1 in
     let more = slice_set d.plan.lists last (get_or d.plan.lists last [] ++ a ∷ []) in
-    record { bindings = omega arith; lists = omega (arith, length-set d.plan.lists last (get_or d.plan.lists last [] ++ a ∷ [])); names = unnamed d.plan more d.plan.bindings; defined = refl }
+    record { bindings = omega arith; lists = omega (arith, length-set d.plan.lists last (get_or d.plan.lists last [] ++ a ∷ [])); names = unnamed d.plan more d.plan.bindings; defined = refl; modes = refl }
 
 -- ---- all contributions
 
@@ -94,7 +96,7 @@ module _ (names : Names) where
   counts_one d (active n) = switch_counts (λ s. record s { active = s.active ++ event_of (names Events) n ∷ [] }) (λ s. refl) d
   counts_one d (inactive n) = switch_counts (λ s. record s { inactive = s.inactive ++ event_of (names Events) n ∷ [] }) (λ s. refl) d
   counts_one d (binds n place Run) =
-      binding_counts (record { event = event_of (names Events) n; owner = place.owner; priority = place.priority; target = targets.Run (record { 0 = length d.plan.lists }) }) d
+      binding_counts (record { event = event_of (names Events) n; owner = owner_at place; priority = priority_of place; target = targets.Run (record { 0 = length d.plan.lists }) }) d
   counts_one d (post n) = post_counts (Post (event_of (names Events) n)) d
 
   counts_then : (n m : ℕ) (a b c : DraftView) → Counts n a b → Counts m b c → Counts (n + m) a c
@@ -103,11 +105,12 @@ module _ (names : Names) where
     lists = omega (arith, first.lists, then_.lists);
     names = λ t. then_.names t ∙ first.names t;
     defined = then_.defined ∙ first.defined;
+    modes = then_.modes ∙ first.modes;
   }
 
   -- all contributions, in turn
   pub counts_fold : (d : DraftView) (cs : List Contribution) → Counts (binding_count cs) d (fold (with_contribution names) d cs)
-  counts_fold d [] = record { bindings = omega arith; lists = omega arith; names = λ t. refl; defined = refl }
+  counts_fold d [] = record { bindings = omega arith; lists = omega arith; names = λ t. refl; defined = refl; modes = refl }
   counts_fold d (c ∷ cs) =
       subst (λ n. Counts n d (fold (with_contribution names) d (c ∷ cs))) (sym (sum_by-cons bindings_given c cs))
       (counts_then (bindings_given c) (binding_count cs) d (with_contribution names d c) (fold (with_contribution names) (with_contribution names d c) cs)
@@ -129,6 +132,10 @@ module _ (cs : List Contribution) where
   blank_names : (t : Table) → entry_names (blank (names_from cs)).plan t ≡ named_of cs t
   blank_names Switches = blank_switches (names_from cs Switches)
   blank_names _ = refl
+
+  -- it has no modes
+  pub modes-from : (plan_from cs).modes ≡ []
+  modes-from = counts.modes
 
   -- its tables have the names that are used
   pub names-from : (t : Table) → entry_names (plan_from cs) t ≡ named_of cs t

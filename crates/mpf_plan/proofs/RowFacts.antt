@@ -12,7 +12,7 @@ use Rattle.mpf_config.proofs.RowNames.{switch_named, event_player_named}
 use Rattle.mpf_config.proofs.ShortRows.{event_player_short}
 use Rattle.mpf_plan.specs.declared.fault.Table.{Table}
 use Rattle.mpf_plan.specs.declared.fault.Table.TheVariants.{Events}
-use Rattle.mpf_plan.specs.Contributions.{Contribution, gives, reads, active, inactive, binds, post, texts, kind_of, tag_event, active_posts, inactive_posts, switch_contributions, player_contributions, Row, entry, player, rows_from, rows_in, entry_contributions, player_entry_contributions, row_contributions, machine_place, given_by}
+use Rattle.mpf_plan.specs.Contributions.{Contribution, gives, reads, active, inactive, binds, post, texts, kind_of, tag_event, active_posts, inactive_posts, switch_contributions, player_contributions, Row, entry, player, rows_from, rows_in, entry_contributions, player_entry_contributions, row_contributions, machine_place, given_by, priority_of}
 
 -- ---- what contributions are like
 
@@ -38,7 +38,7 @@ posts_after n _ = n
 
 -- the priority of a binding is 0, and an effect list has room for a post
 abbrev pub IsRoomy : ℕ → Contribution → Type 0
-IsRoomy n (binds e place aim) = place.priority ≡ 0
+IsRoomy n (binds e place aim) = priority_of place ≡ 0
 IsRoomy n (post e) = n < 1024
 IsRoomy n _ = Unit {0}
 

@@ -8,14 +8,16 @@ use Rattle.mpf_plan.specs.declared.contribution.Aim.TheVariants.{Run}
 use Rattle.mpf_plan.specs.declared.entries.Action.{Action}
 use Rattle.mpf_plan.specs.declared.entries.Action.TheVariants.{Post}
 use Rattle.mpf_plan.specs.declared.entries.Owner.{Owner}
-use Rattle.mpf_plan.specs.declared.entries.Owner.TheVariants.{Machine}
+use Rattle.mpf_plan.specs.declared.entries.Owner.TheVariants.{Machine, Mode}
+use Rattle.mpf_plan.specs.declared.contribution.Place.{Place}
+use Rattle.mpf_plan.specs.declared.contribution.Place.TheVariants as places
 use Rattle.mpf_plan.specs.declared.entries.Target.{Target}
 use Rattle.mpf_plan.specs.declared.entries.Target.TheVariants as targets
 use Rattle.mpf_plan.specs.declared.entries.Binding.{Binding}
 use Rattle.mpf_plan.specs.declared.fault.Table.TheVariants.{Events, Switches}
 use Rattle.mpf_plan.specs.PlanView.{PlanSwitch, no_switch, PlanView}
-use Rattle.mpf_plan.specs.Valid.{IsEventWithin, IsActionWithin, IsOwnerWithin, IsTargetWithin, IsBindingWithin, IsSwitchWithin}
-use Rattle.mpf_plan.specs.Contributions.{Contribution, gives, reads, active, inactive, binds, post}
+use Rattle.mpf_plan.specs.Valid.{IsEventWithin, IsModeWithin, IsActionWithin, IsOwnerWithin, IsTargetWithin, IsBindingWithin, IsSwitchWithin}
+use Rattle.mpf_plan.specs.Contributions.{Contribution, gives, reads, active, inactive, binds, post, owner_at, priority_of}
 use Rattle.mpf_plan.specs.Uses.{Names, names_from, number_among}
 use Rattle.mpf_plan.specs.PlanOf.{DraftView, event_of, last_switch, with_binding, with_list, with_action, with_contribution, named_switch, blank, drafted}
 use Rattle.mpf_plan.proofs.Among.{IsKnown, all_known}
@@ -25,6 +27,7 @@ use Rattle.mpf_plan.proofs.Drafted.{given_plan}
 
 record Grows (p q : PlanView) : Type 0 where
   events : length p.events ≡ length q.events
+  modes : length p.modes ≤ length q.modes
   lists : length p.lists ≤ length q.lists
 
 module _ (p q : PlanView) (grows : Grows p q) where
@@ -33,6 +36,7 @@ module _ (p q : PlanView) (grows : Grows p q) where
 
   owner_grows : (o : Owner) → IsOwnerWithin p o → IsOwnerWithin q o
   owner_grows Machine within = tt
+  owner_grows (Mode m) within = omega (arith, within, grows.modes)
 
   target_grows : (t : Target) → IsTargetWithin p t → IsTargetWithin q t
   target_grows (targets.Run l) within = omega (arith, within, grows.lists)
@@ -51,12 +55,13 @@ module _ (p q : PlanView) (grows : Grows p q) where
 -- every number is that of an entry, and the events are the names
 pub record IsSound (names : Names) (plan : PlanView) : Type 0 where
   pub events : plan.events ≡ names Events
+  pub modes : All (IsModeWithin (length plan.events)) plan.modes
   pub switches : All (IsSwitchWithin (length plan.events)) plan.switches
   pub lists : All (All (IsActionWithin plan)) plan.lists
   pub bindings : All (IsBindingWithin plan) plan.bindings
 
-machine_within : (plan : PlanView) (o : Owner) → IsOwnerWithin plan o
-machine_within plan Machine = tt
+owner_within : (plan : PlanView) (p : Place) → IsOwnerWithin plan (owner_at p)
+owner_within plan places.Machine = tt
 
 module _ (names : Names) (d : DraftView) (sound : IsSound names d.plan) where
   event_within : (n : List ℕ) → number_among (names Events) n < length (names Events) → number_among (names Events) n < length d.plan.events
@@ -65,6 +70,7 @@ module _ (names : Names) (d : DraftView) (sound : IsSound names d.plan) where
   switch_sound : (change : PlanSwitch → PlanSwitch) → ((s : PlanSwitch) → IsSwitchWithin (length d.plan.events) s → IsSwitchWithin (length d.plan.events) (change s)) → IsSound names (last_switch change d).plan
   switch_sound change keeps = record {
     events = sound.events;
+    modes = sound.modes;
     switches = by (nat_lt d.last (length d.plan.switches)) refl;
     lists = lists_grow d.plan new grows d.plan.lists sound.lists;
     bindings = bindings_grow d.plan new grows d.plan.bindings sound.bindings;
@@ -77,7 +83,7 @@ module _ (names : Names) (d : DraftView) (sound : IsSound names d.plan) where
       new = record d.plan { switches = set d.plan.switches d.last changed }
 
       grows : Grows d.plan new
-      grows = record { events = refl; lists = omega arith }
+      grows = record { events = refl; modes = omega arith; lists = omega arith }
 
       by : (b : Bool) → nat_lt d.last (length d.plan.switches) ≡ b → All (IsSwitchWithin (length d.plan.events)) (set d.plan.switches d.last changed)
       by true is =
@@ -86,12 +92,13 @@ module _ (names : Names) (d : DraftView) (sound : IsSound names d.plan) where
       by false is = subst (All (IsSwitchWithin (length d.plan.events))) (sym (set_past d.plan.switches d.last changed (ltb-false d.last (length d.plan.switches) is))) sound.switches
 
   -- a binding that runs the list which begins
-  run_sound : (b : Binding) → b.event.0 < length d.plan.events → b.target ≡ targets.Run (record { 0 = length d.plan.lists }) → IsSound names (with_list (with_binding b d)).plan
-  run_sound b known runs = record {
+  run_sound : (b : Binding) → b.event.0 < length d.plan.events → ((plan : PlanView) → IsOwnerWithin plan b.owner) → b.target ≡ targets.Run (record { 0 = length d.plan.lists }) → IsSound names (with_list (with_binding b d)).plan
+  run_sound b known owned runs = record {
     events = sound.events;
+    modes = sound.modes;
     switches = sound.switches;
     lists = All-push (All (IsActionWithin new)) d.plan.lists [] (lists_grow d.plan new grows d.plan.lists sound.lists) (All-nil (IsActionWithin new));
-    bindings = All-push (IsBindingWithin new) d.plan.bindings b (bindings_grow d.plan new grows d.plan.bindings sound.bindings) (known, machine_within new b.owner, subst (IsTargetWithin new) (sym runs) here);
+    bindings = All-push (IsBindingWithin new) d.plan.bindings b (bindings_grow d.plan new grows d.plan.bindings sound.bindings) (known, owned new, subst (IsTargetWithin new) (sym runs) here);
   }
     where
       new : PlanView
@@ -101,7 +108,7 @@ module _ (names : Names) (d : DraftView) (sound : IsSound names d.plan) where
       longer = length_push d.plan.lists []
 
       grows : Grows d.plan new
-      grows = record { events = refl; lists = omega (arith, longer) }
+      grows = record { events = refl; modes = omega arith; lists = omega (arith, longer) }
 
       here : length d.plan.lists < length new.lists
       here = omega (arith, longer)
@@ -109,6 +116,7 @@ module _ (names : Names) (d : DraftView) (sound : IsSound names d.plan) where
   action_sound : (a : Action) → IsActionWithin d.plan a → IsSound names (with_action a d).plan
   action_sound a within = record {
     events = sound.events;
+    modes = sound.modes;
     switches = sound.switches;
     lists = lists_grow d.plan new grows (set d.plan.lists last more) (by (nat_lt last (length d.plan.lists)) refl);
     bindings = bindings_grow d.plan new grows d.plan.bindings sound.bindings;
@@ -124,7 +132,7 @@ module _ (names : Names) (d : DraftView) (sound : IsSound names d.plan) where
       new = record d.plan { lists = set d.plan.lists last more }
 
       grows : Grows d.plan new
-      grows = record { events = refl; lists = omega (arith, length-set d.plan.lists last more) }
+      grows = record { events = refl; modes = omega arith; lists = omega (arith, length-set d.plan.lists last more) }
 
       by : (b : Bool) → nat_lt last (length d.plan.lists) ≡ b → All (All (IsActionWithin d.plan)) (set d.plan.lists last more)
       by true is =
@@ -142,7 +150,7 @@ module _ (names : Names) (d : DraftView) (sound : IsSound names d.plan) where
       switch_sound (λ s. record s { inactive = s.inactive ++ event_of (names Events) n ∷ [] })
       (λ s within. (within.0, All-push (IsEventWithin (length d.plan.events)) s.inactive (event_of (names Events) n) within.1 (event_within n known)))
   sound_one (binds n place Run) known =
-      run_sound (record { event = event_of (names Events) n; owner = place.owner; priority = place.priority; target = targets.Run (record { 0 = length d.plan.lists }) }) (event_within n known) refl
+      run_sound (record { event = event_of (names Events) n; owner = owner_at place; priority = priority_of place; target = targets.Run (record { 0 = length d.plan.lists }) }) (event_within n known) (λ p. owner_within p place) refl
   sound_one (post n) known = action_sound (Post (event_of (names Events) n)) (event_within n known)
 
 -- ---- all contributions
@@ -157,6 +165,7 @@ sound_blank names =
     let within = IsSwitchWithin (length (names Events)) in
     record {
       events = refl;
+      modes = All-nil (IsModeWithin (length (names Events)));
       switches = All-map within named_switch (names Switches)
           (All-from_get_or (λ n. within (named_switch n)) (names Switches) [] (λ i inside. (All-nil (IsEventWithin (length (names Events))), All-nil (IsEventWithin (length (names Events))))));
       lists = All-nil (All (IsActionWithin (blank names).plan));

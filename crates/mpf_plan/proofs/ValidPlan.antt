@@ -21,7 +21,7 @@ use Rattle.mpf_plan.specs.Uses.{Names, names_from, uses, first_by}
 use Rattle.mpf_plan.specs.Limits.{entry_count, limit_of}
 use Rattle.mpf_plan.specs.PlanOf.{DraftView, event_of, with_contribution, blank, plan_from, plan_of, plan_at}
 use Rattle.mpf_plan.proofs.Counts.{named_of}
-use Rattle.mpf_plan.proofs.Drafted.{given_plan, names-from, count-bindings, count-lists}
+use Rattle.mpf_plan.proofs.Drafted.{given_plan, names-from, count-bindings, count-lists, modes-from}
 use Rattle.mpf_plan.proofs.Judged.{plan_at-Ok}
 use Rattle.mpf_plan.proofs.RowFacts.{AreShort, sections_short}
 use Rattle.mpf_plan.proofs.SoundDraft.{sound_drafted}
@@ -127,13 +127,14 @@ IsValid-plan_from cs short within =
     let none : AreFit 1024 (blank names).plan = record { priorities = All-nil (λ (b : Binding). b.priority ≡ 0); lists = All-nil (λ (l : List Action). length l ≤ 1024); last = omega arith } in
     let fit = fit_fold names 1024 cs (blank names) short none in
     record {
+      mode_limit = omega (arith, ap length (modes-from cs));
       event_limit = within Events;
       binding_limit = limit;
       switch_limit = within Switches;
       list_limit = omega (arith, limit, count-bindings cs, count-lists cs);
       action_limit = fit.1;
       names = λ t. subst (AllPairs (λ x y. x ≢ y)) (sym (names-from cs t)) (all_apart (named_of cs t) (named_apart cs t));
-      entries = record { switches = sound.switches; lists = sound.lists; bindings = sound.bindings };
+      entries = record { modes = sound.modes; switches = sound.switches; lists = sound.lists; bindings = sound.bindings };
       priorities = fit.0;
     }
 
@@ -148,7 +149,7 @@ HasEntries-plan_of : (rows : Rows) → HasEntries (plan_of rows)
 unfolding plan_of
 HasEntries-plan_of rows =
     let sound = sound_drafted (contributions_of rows) in
-    record { switches = sound.switches; lists = sound.lists; bindings = sound.bindings }
+    record { modes = sound.modes; switches = sound.switches; lists = sound.lists; bindings = sound.bindings }
 
 pub HasEntries-plan_at : (rows : Rows) (plan : PlanView) → plan_at rows ≡ Ok plan → HasEntries plan
 HasEntries-plan_at rows plan is = subst HasEntries (sym (plan_at-Ok rows plan is).0) (HasEntries-plan_of rows)

@@ -7,8 +7,10 @@ use Rattle.mpf_config.specs.declared.config.Debounce.TheVariants.{Auto, Quick, N
 use Rattle.mpf_config.specs.Rows.{Written, Entry, Player, Switch, EventPlayer, Content, entries, players, SectionRows, Rows}
 use Rattle.mpf_config.specs.Typed.{switches_name, event_player_name, switch_of, event_player_of}
 use Rattle.mpf_plan.specs.declared.entries.SwitchKind.{SwitchKind}
-use Rattle.mpf_plan.specs.declared.entries.Owner.TheVariants.{Machine}
+use Rattle.mpf_plan.specs.declared.entries.Owner.{Owner}
+use Rattle.mpf_plan.specs.declared.entries.Owner.TheVariants as owners
 use Rattle.mpf_plan.specs.declared.contribution.Place.{Place}
+use Rattle.mpf_plan.specs.declared.contribution.Place.TheVariants.{Machine}
 use Rattle.mpf_plan.specs.declared.contribution.Aim.{Aim}
 use Rattle.mpf_plan.specs.declared.contribution.Aim.TheVariants.{Run}
 use Rattle.mpf_plan.specs.declared.fault.Table.{Table}
@@ -92,9 +94,16 @@ abbrev pub row_contributions : Place → Row → List Contribution
 row_contributions place (entry section e) = entry_contributions section e
 row_contributions place (player section p) = player_entry_contributions place section p
 
--- the machine handles events, at priority 0
+-- the owner of a binding that has this place, and its priority
+abbrev pub owner_at : Place → Owner
+owner_at Machine = owners.Machine
+
+abbrev pub priority_of : Place → ℕ
+priority_of Machine = 0
+
+-- the machine's
 abbrev pub machine_place : Place
-machine_place = record { owner = Machine; priority = 0 }
+machine_place = Machine
 
 -- what rows of the machine give, in turn
 abbrev pub given_by : List Row → List Contribution

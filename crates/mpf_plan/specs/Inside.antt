@@ -8,6 +8,7 @@ use Rattle.mpf_plan.specs.declared.contribution.Parts.{Parts}
 use Rattle.mpf_plan.specs.declared.contribution.Contribution as contributions
 use Rattle.mpf_plan.specs.declared.contribution.Contribution.TheVariants as contribution
 use Rattle.mpf_plan.specs.declared.names.NameSets.{NameSets}
+use Rattle.mpf_plan.specs.declared.draft.ModeEntry.{ModeEntry}
 use Rattle.mpf_plan.specs.declared.draft.SwitchEntry.{SwitchEntry}
 use Rattle.mpf_plan.specs.declared.draft.Draft.{Draft}
 use Rattle.mpf_plan.specs.declared.entries.Action.{Action}
@@ -21,7 +22,7 @@ use Rattle.mpf_plan.specs.Contributions.{Contribution, gives, reads, active, ina
 use Rattle.mpf_plan.specs.Limits.{order_of}
 use Rattle.mpf_plan.specs.Uses.{Names}
 use Rattle.mpf_plan.specs.NamesKept.{names_kept}
-use Rattle.mpf_plan.specs.PlanView.{PlanSwitch, PlanView, places_of}
+use Rattle.mpf_plan.specs.PlanView.{PlanMode, PlanSwitch, PlanView, places_of}
 use Rattle.mpf_plan.specs.PlanOf.{DraftView}
 
 -- the name that the parts make
@@ -54,6 +55,10 @@ named_view p = (p.0, parts_text p.1)
 abbrev pub name_sets_view : NameSets → Names
 name_sets_view n table = names_kept (slice_get n.tables.items (order_of table))
 
+-- a mode and its name
+abbrev pub mode_entry_view : ModeEntry → PlanMode
+mode_entry_view e = record { name = e.name.items; mode = e.mode }
+
 -- a switch's name, how it is read, and its posts
 abbrev pub switch_entry_view : List ℕ × SwitchEntry → PlanSwitch
 switch_entry_view e = record { name = e.0; kind = e.1.kind; active = e.1.active.items; inactive = e.1.inactive.items }
@@ -66,8 +71,9 @@ abbrev pub action_lists : List (Vec Action Global) → List (List Action)
 action_lists lists = map (λ v. v.items) lists
 
 -- the tables as they lie in a plan's fields
-abbrev pub tables_view : NameSets → List SwitchEntry → List (Vec Action Global) → List Binding → PlanView
-tables_view names switches lists bindings = record {
+abbrev pub tables_view : List ModeEntry → NameSets → List SwitchEntry → List (Vec Action Global) → List Binding → PlanView
+tables_view modes names switches lists bindings = record {
+  modes = map mode_entry_view modes;
   events = name_sets_view names Events;
   switches = switches_view (name_sets_view names Switches) switches;
   lists = action_lists lists;
@@ -76,13 +82,13 @@ tables_view names switches lists bindings = record {
 
 abbrev pub draft_view : NameSets → Draft → DraftView
 draft_view names d = record {
-  plan = tables_view names d.switches.items d.lists.items d.bindings.items;
+  plan = tables_view d.modes.items names d.switches.items d.lists.items d.bindings.items;
   defined = d.defined.items;
   last = d.last;
 }
 
 abbrev pub plan_view : Inside → PlanView
-plan_view p = tables_view p.names p.switches.items p.lists.items p.bindings.items
+plan_view p = tables_view p.modes.items p.names p.switches.items p.lists.items p.bindings.items
 
 -- for each event of a plan the places of what is bound to it
 abbrev pub HasPlaces : PlanView → List (Vec BindingId Global) → Type 0

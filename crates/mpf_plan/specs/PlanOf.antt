@@ -13,7 +13,7 @@ use Rattle.mpf_plan.specs.declared.fault.Table.TheVariants.{Events, Switches}
 use Rattle.mpf_plan.specs.declared.fault.PlanFault.{PlanFault}
 use Rattle.mpf_plan.specs.declared.fault.PlanFault.TheVariants as faults
 use Rattle.mpf_plan.specs.PlanView.{PlanSwitch, no_switch, PlanView}
-use Rattle.mpf_plan.specs.Contributions.{Contribution, gives, reads, active, inactive, binds, post, contributions_of}
+use Rattle.mpf_plan.specs.Contributions.{Contribution, gives, reads, active, inactive, binds, post, contributions_of, owner_at, priority_of}
 use Rattle.mpf_plan.specs.Uses.{Names, names_from, number_among, lacks_name}
 use Rattle.mpf_plan.specs.Limits.{first_above, IsFirstAbove}
 
@@ -77,7 +77,7 @@ with_contribution names d (reads kind) = with_kind kind d
 with_contribution names d (active n) = with_active (event_of (names Events) n) d
 with_contribution names d (inactive n) = with_inactive (event_of (names Events) n) d
 with_contribution names d (binds n place Run) =
-    with_list (with_binding (record { event = event_of (names Events) n; owner = place.owner; priority = place.priority; target = targets.Run (record { 0 = length d.plan.lists }) }) d)
+    with_list (with_binding (record { event = event_of (names Events) n; owner = owner_at place; priority = priority_of place; target = targets.Run (record { 0 = length d.plan.lists }) }) d)
 with_contribution names d (post n) = with_action (Post (event_of (names Events) n)) d
 
 -- a switch of which the name alone is known
@@ -87,7 +87,7 @@ named_switch n = record no_switch { name = n }
 -- before anything is added, names are there alone
 abbrev pub blank : Names → DraftView
 blank names = record {
-  plan = record { events = names Events; switches = map named_switch (names Switches); lists = []; bindings = [] };
+  plan = record { modes = []; events = names Events; switches = map named_switch (names Switches); lists = []; bindings = [] };
   defined = map (λ n. false) (names Switches);
   last = length (names Switches);
 }

@@ -6,6 +6,8 @@ use Rattle.mpf_config.specs.declared.config.Contact.TheVariants.{NormallyOpen}
 use Rattle.mpf_plan.specs.declared.entries.EventId.{EventId}
 use Rattle.mpf_plan.specs.declared.entries.SwitchId.{SwitchId}
 use Rattle.mpf_plan.specs.declared.entries.SwitchKind.{SwitchKind}
+use Rattle.mpf_plan.specs.declared.entries.Mode.{Mode}
+use Rattle.mpf_plan.specs.declared.entries.ModeId.{ModeId}
 use Rattle.mpf_plan.specs.declared.entries.ListId.{ListId}
 use Rattle.mpf_plan.specs.declared.entries.BindingId.{BindingId}
 use Rattle.mpf_plan.specs.declared.entries.Owner.TheVariants.{Machine}
@@ -28,8 +30,29 @@ switch_posts active s = if active then s.active else s.inactive
 abbrev pub no_switch : PlanSwitch
 no_switch = record { name = []; kind = record { contact = NormallyOpen; quick = false }; active = []; inactive = [] }
 
--- names stand at their numbers, effect lists at theirs, and bindings in plan order
+-- a mode, with its name
+pub record PlanMode : Type 0 where
+  pub name : List ℕ
+  pub mode : Mode
+
+-- in place of an event where there is none
+abbrev pub no_event : EventId
+no_event = record { 0 = 0 }
+
+-- in place of a mode where there is none
+abbrev pub no_mode : PlanMode
+no_mode = record {
+  name = [];
+  mode = record {
+    priority = 0;
+    game = false;
+    events = record { will_start = no_event; starting = no_event; started = no_event; stopping = no_event; stopped = no_event };
+  };
+}
+
+-- names and effect lists stand at their numbers, modes in the order of the machine's list, and bindings in plan order
 pub record PlanView : Type 0 where
+  pub modes : List PlanMode
   pub events : List (List ℕ)
   pub switches : List PlanSwitch
   pub lists : List (List Action)
@@ -42,6 +65,10 @@ name_of_event plan e = slice_index_or plan.events e.0 []
 -- the event of a name, if there is one
 abbrev pub event_named : PlanView → List ℕ → Option EventId
 event_named plan name = option_map (λ n. record { 0 = n }) (position (bytes_eq name) plan.events)
+
+-- a mode by its number
+abbrev pub mode_at : PlanView → ModeId → PlanMode
+mode_at plan m = slice_index_or plan.modes m.0 no_mode
 
 -- a switch by its number
 abbrev pub switch_at : PlanView → SwitchId → PlanSwitch

@@ -3,7 +3,7 @@ use Rattle.std.specs.Prelude.{ℕ, ◌≡◌, ◌<◌, ◌≤◌, ◌≢◌, len
 use Rattle.std.specs.List.{All, AllPairs}
 use Rattle.mpf_plan.specs.declared.entries.EventId.{EventId}
 use Rattle.mpf_plan.specs.declared.entries.Owner.{Owner}
-use Rattle.mpf_plan.specs.declared.entries.Owner.TheVariants.{Machine}
+use Rattle.mpf_plan.specs.declared.entries.Owner.TheVariants.{Machine, Mode}
 use Rattle.mpf_plan.specs.declared.entries.Action.{Action}
 use Rattle.mpf_plan.specs.declared.entries.Action.TheVariants.{Post}
 use Rattle.mpf_plan.specs.declared.entries.Target.{Target}
@@ -11,10 +11,18 @@ use Rattle.mpf_plan.specs.declared.entries.Target.TheVariants.{Run}
 use Rattle.mpf_plan.specs.declared.entries.Binding.{Binding}
 use Rattle.mpf_plan.specs.declared.fault.Table.{Table}
 use Rattle.mpf_plan.specs.Limits.{entry_names}
-use Rattle.mpf_plan.specs.PlanView.{PlanSwitch, PlanView}
+use Rattle.mpf_plan.specs.PlanView.{PlanMode, PlanSwitch, PlanView}
 
 abbrev pub IsEventWithin : ℕ → EventId → Type 0
 IsEventWithin events e = e.0 < events
+
+-- the events of a mode
+pub record IsModeWithin (events : ℕ) (m : PlanMode) : Type 0 where
+  pub will_start : IsEventWithin events m.mode.events.will_start
+  pub starting : IsEventWithin events m.mode.events.starting
+  pub started : IsEventWithin events m.mode.events.started
+  pub stopping : IsEventWithin events m.mode.events.stopping
+  pub stopped : IsEventWithin events m.mode.events.stopped
 
 abbrev pub IsActionWithin : PlanView → Action → Type 0
 IsActionWithin plan (Post e) = e.0 < length plan.events
@@ -24,6 +32,7 @@ IsTargetWithin plan (Run l) = l.0 < length plan.lists
 
 abbrev pub IsOwnerWithin : PlanView → Owner → Type 0
 IsOwnerWithin plan Machine = Unit {0}
+IsOwnerWithin plan (Mode m) = m.0 < length plan.modes
 
 abbrev pub IsBindingWithin : PlanView → Binding → Type 0
 IsBindingWithin plan b = (b.event.0 < length plan.events) × IsOwnerWithin plan b.owner × IsTargetWithin plan b.target
@@ -33,11 +42,13 @@ IsSwitchWithin events s = All (IsEventWithin events) s.active × All (IsEventWit
 
 -- every number in the plan is that of an entry, whether the tables are within their limits or not
 pub record HasEntries (plan : PlanView) : Type 0 where
+  pub modes : All (IsModeWithin (length plan.events)) plan.modes
   pub switches : All (IsSwitchWithin (length plan.events)) plan.switches
   pub lists : All (All (IsActionWithin plan)) plan.lists
   pub bindings : All (IsBindingWithin plan) plan.bindings
 
 pub record IsValid (plan : PlanView) : Type 0 where
+  pub mode_limit : length plan.modes ≤ 64
   pub event_limit : length plan.events ≤ 4096
   pub binding_limit : length plan.bindings ≤ 16384
   pub switch_limit : length plan.switches ≤ 256

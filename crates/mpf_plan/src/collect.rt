@@ -6,7 +6,7 @@ ghost use Rattle.mpf_plan.specs.Contributions.{active, inactive, post, texts, is
 ghost use Rattle.mpf_plan.specs.Inside.{contributions_view, row_view, row_list_view};
 
 use crate::contribution::{Aim, Contribution, Parts, Place, whole};
-use crate::entries::{Owner, SwitchKind};
+use crate::entries::SwitchKind;
 use crate::fault::Table;
 use mpf_config::{
     Content, Debounce, EVENT_PLAYER_NAME, Entry, EventPlayer, Name, Player, SWITCHES_NAME, Section,
@@ -78,10 +78,7 @@ fn add_players<'a>(
 pub(crate) fn machine_place() -> Place
     ensures { result ≡ machine_place }
 {
-    Place {
-        owner: Owner::Machine,
-        priority: 0,
-    }
+    Place::Machine
 }
 
 /// What a row gives, in place of what was there.

@@ -2,6 +2,7 @@
 
 ghost use Rattle.std.specs.Prelude.{◌≡◌, ◌++◌, option_map, OnOk};
 ghost use Rattle.mpf_plan.specs.Uses.{used, given};
+ghost use Rattle.mpf_plan.specs.Contributions.{owner_at, priority_of};
 ghost use Rattle.mpf_plan.specs.Inside.{parts_text, named_view, contribution_view};
 
 use crate::entries::{Owner, SwitchKind};
@@ -15,11 +16,29 @@ pub(crate) struct Parts<'a> {
     pub(crate) end: &'a [u8],
 }
 
-/// Who handles an event, and at which priority.
+/// Whose a binding is.
 #[derive(Clone, Copy)]
-pub(crate) struct Place {
-    pub(crate) owner: Owner,
-    pub(crate) priority: u32,
+pub(crate) enum Place {
+    /// The machine's, at priority 0.
+    Machine,
+}
+
+impl Place {
+    pub(crate) fn owner(self) -> Owner
+        ensures { result ≡ owner_at self }
+    {
+        match self {
+            Place::Machine => Owner::Machine,
+        }
+    }
+
+    pub(crate) fn priority(self) -> u32
+        ensures { result ≡ priority_of self }
+    {
+        match self {
+            Place::Machine => 0,
+        }
+    }
 }
 
 /// What a binding is to do.

@@ -27,11 +27,43 @@ pub struct ListId(pub u32);
 #[derive(Clone, Copy, Debug)]
 pub struct BindingId(pub u16);
 
+/// A mode, by its place in the list of the machine's modes: below 64.
+#[derive(Clone, Copy, Debug)]
+pub struct ModeId(pub u16);
+
+/// The events of a mode, in the order in which they come when it starts and stops.
+#[derive(Clone, Copy)]
+pub struct ModeEvents {
+    /// `mode_NAME_will_start`: the mode is to start.
+    pub will_start: EventId,
+    /// `mode_NAME_starting`: it starts.
+    pub starting: EventId,
+    /// `mode_NAME_started`: it is active.
+    pub started: EventId,
+    /// `mode_NAME_stopping`: it stops.
+    pub stopping: EventId,
+    /// `mode_NAME_stopped`: it has stopped.
+    pub stopped: EventId,
+}
+
+/// What a plan says of a mode, besides its name.
+#[derive(Clone, Copy)]
+pub struct Mode {
+    /// The priority of its bindings: at most 1,000,000.
+    pub priority: u32,
+    /// Whether it starts only in a game.
+    pub game: bool,
+    /// The events that it posts.
+    pub events: ModeEvents,
+}
+
 /// Who acts.
 #[derive(Clone, Copy, Debug)]
 pub enum Owner {
     /// What the machine text has.
     Machine,
+    /// What the text of a mode has.
+    Mode(ModeId),
 }
 
 /// One thing that an effect list does.

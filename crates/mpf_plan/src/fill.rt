@@ -195,8 +195,8 @@ fn add_binding(
     };
     draft.bindings.push(Binding {
         event,
-        owner: place.owner,
-        priority: place.priority,
+        owner: place.owner(),
+        priority: place.priority(),
         target,
     })?;
     draft.lists.push(Vec::new(alloc))?;
@@ -237,6 +237,7 @@ fn blank(alloc: Global, names: &NameSets) -> Result<Draft, AllocError>
     let switches = blank_switches(alloc, count)?;
     let defined = no_marks(alloc, count)?;
     Ok(Draft {
+        modes: Vec::new(alloc),
         switches,
         lists: Vec::new(alloc),
         bindings: Vec::new(alloc),

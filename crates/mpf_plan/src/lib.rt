@@ -15,7 +15,8 @@ pub mod tables;
 
 pub use build::plan;
 pub use entries::{
-    Action, Binding, BindingId, EventId, ListId, Owner, SwitchId, SwitchKind, Target,
+    Action, Binding, BindingId, EventId, ListId, Mode, ModeEvents, ModeId, Owner, SwitchId,
+    SwitchKind, Target,
 };
 pub use fault::{PlanFault, Table};
 pub use tables::Plan;

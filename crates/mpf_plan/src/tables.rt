@@ -1,7 +1,9 @@
 //! The plan, and its tables read by number and by text.
 
-use crate::draft::{Draft, SwitchEntry};
-use crate::entries::{Action, Binding, BindingId, EventId, ListId, SwitchId, SwitchKind};
+use crate::draft::{Draft, ModeEntry, SwitchEntry};
+use crate::entries::{
+    Action, Binding, BindingId, EventId, ListId, Mode, ModeId, SwitchId, SwitchKind,
+};
 use crate::fault::Table;
 use crate::names::NameSets;
 use std::marker::Model;
@@ -11,6 +13,7 @@ use std::marker::Model;
 #[derive(Drop)]
 pub struct Plan {
     names: NameSets,
+    modes: Vec<ModeEntry>,
     /// At the places of their names.
     switches: Vec<SwitchEntry>,
     lists: Vec<Vec<Action>>,
@@ -36,7 +39,7 @@ impl Model for Plan {
 
 impl Plan {
     ghost use Rattle.std.specs.Prelude.{◌≡◌, ◌<◌, length, slice_get, Contains, IfSome, IfNone};
-    ghost use Rattle.mpf_plan.specs.PlanView.{name_of_event, event_named, switch_at, switch_named, posts_of, actions_at, places_of};
+    ghost use Rattle.mpf_plan.specs.PlanView.{name_of_event, event_named, mode_at, switch_at, switch_named, posts_of, actions_at, places_of};
     ghost use Rattle.mpf_plan.specs.declared.fault.Table.TheVariants.{Switches};
     ghost use Rattle.mpf_plan.specs.Inside.{name_sets_view, draft_view, HasPlaces};
     ghost use Rattle.mpf_plan.specs.Valid.{IsValid};
@@ -49,6 +52,7 @@ impl Plan {
     {
         Plan {
             names,
+            modes: draft.modes,
             switches: draft.switches,
             lists: draft.lists,
             bindings: draft.bindings,
@@ -83,6 +87,32 @@ impl Plan {
     {
         let place = self.names.of(Table::Events).get_index_of(name)?;
         Some(EventId(place as u16))
+    }
+
+    /// How many modes there are. They are numbered from 0.
+    pub fn mode_count(&self) -> usize
+        ensures count { result ≡ length self.now.modes }
+        ensures valid { IsValid self.now }
+    {
+        self.modes.len()
+    }
+
+    /// The name of a mode of the plan.
+    pub fn mode_name(&self, mode: ModeId) -> &[u8]
+        requires { mode.0 < length self.now.modes }
+        ensures name { result.now ≡ (mode_at self.now mode).name }
+        ensures valid { IsValid self.now }
+    {
+        &self.modes[mode.0 as usize].name
+    }
+
+    /// What the plan says of a mode of it.
+    pub fn mode(&self, mode: ModeId) -> Mode
+        requires { mode.0 < length self.now.modes }
+        ensures mode { result ≡ (mode_at self.now mode).mode }
+        ensures valid { IsValid self.now }
+    {
+        self.modes[mode.0 as usize].mode
     }
 
     /// How many switches there are. They are numbered from 0.

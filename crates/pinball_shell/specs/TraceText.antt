@@ -2,7 +2,7 @@
 use Rattle.std.specs.Prelude.{ℕ, Bool, true, false, if◌then◌else◌, List, [], ◌∷◌, ◌++◌, codes}
 use Rattle.std.specs.List.{flat_map, list_any}
 use Rattle.std.specs.Fmt.{decimal}
-use Rattle.mpf_plan.specs.PlanView.{PlanView, name_of_event, switch_at}
+use Rattle.mpf_plan.specs.PlanView.{PlanView, mode_at, name_of_event, switch_at}
 use Rattle.mpf_plan.specs.declared.entries.Owner.{Owner}
 use Rattle.mpf_plan.specs.declared.entries.Owner.TheVariants as owners
 use Rattle.config_checker.specs.declared.line.Line.{Line}
@@ -15,8 +15,10 @@ use Rattle.pinball_shell.specs.declared.refusal.Refusal.{Refusal}
 use Rattle.pinball_shell.specs.declared.refusal.Refusal.TheVariants as refusals
 use Rattle.pinball_shell.specs.RunOfLog.{Printed, Traced, Refused, printed_for_log}
 
-abbrev pub owner_text : Owner → List ℕ
-owner_text owners.Machine = codes "machine"
+-- the name of a mode, or `machine`
+abbrev pub owner_text : PlanView → Owner → List ℕ
+owner_text plan owners.Machine = codes "machine"
+owner_text plan (owners.Mode m) = (mode_at plan m).name
 
 abbrev pub level_text : Bool → List ℕ
 level_text active = if active then codes "active" else codes "inactive"
@@ -35,7 +37,7 @@ happening_text plan (happenings.Event e) = event_text (name_of_event plan e)
 
 -- the moment, the owner, and what happened
 abbrev pub line_text : PlanView → Line → List ℕ
-line_text plan line = decimal line.moment ++ codes " " ++ owner_text line.owner ++ codes " " ++ happening_text plan line.happening
+line_text plan line = decimal line.moment ++ codes " " ++ owner_text plan line.owner ++ codes " " ++ happening_text plan line.happening
 
 -- The number and the name of a refusal are those of the fault of the step. A line that is no line of a log has its own.
 abbrev pub refusal_number : Refusal → ℕ

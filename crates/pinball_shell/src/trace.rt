@@ -3,12 +3,12 @@
 ghost use Rattle.std.specs.Prelude.{◌≡◌, OnOk, slice_index_or};
 ghost use Rattle.std.specs.List.{flat_map};
 ghost use Rattle.std.specs.Io.KnownBytes.{Appends};
-ghost use Rattle.mpf_plan.specs.PlanView.{name_of_event, switch_at};
+ghost use Rattle.mpf_plan.specs.PlanView.{mode_at, name_of_event, switch_at};
 ghost use Rattle.pinball_shell.specs.TraceText.{owner_text, level_text, switch_text, event_text, line_text, refused_text};
 
 use crate::refusal::Refusal;
 use config_checker::{Happening, Line};
-use mpf_plan::{EventId, Owner, Plan, SwitchId};
+use mpf_plan::{EventId, ModeId, Owner, Plan, SwitchId};
 use std::io::{self, Write};
 
 /// Writes the lines of a stimulus.
@@ -36,7 +36,9 @@ pub fn write_refused<W: Write>(line: usize, refusal: Refusal, writer: &mut W) ->
 fn write_line<W: Write>(plan: &Plan, line: Line, writer: &mut W) -> io::Result<()>
     ensures { OnOk result (Appends (W.contents writer.old) (W.contents writer.new) (line_text plan.now line)) }
 {
-    write!(writer, "{} {} ", line.moment, owner_name(line.owner))?;
+    write!(writer, "{} ", line.moment)?;
+    writer.write_all(owner_name(plan, line.owner))?;
+    writer.write_all(b" ")?;
     match line.happening {
         Happening::Switch(switch, active) => {
             write_switch(switch_name(plan, switch), active, writer)
@@ -61,11 +63,23 @@ fn write_event<W: Write>(name: &[u8], writer: &mut W) -> io::Result<()>
     writer.write_all(b"\n")
 }
 
-fn owner_name(owner: Owner) -> &'static str
-    ensures { result.now ≡ owner_text owner }
+/// The name of who acts: nothing where the plan lacks the mode.
+fn owner_name(plan: &Plan, owner: Owner) -> &[u8]
+    ensures { result.now ≡ owner_text plan.now owner }
 {
     match owner {
-        Owner::Machine => "machine",
+        Owner::Machine => b"machine",
+        Owner::Mode(mode) => mode_name(plan, mode),
+    }
+}
+
+fn mode_name(plan: &Plan, mode: ModeId) -> &[u8]
+    ensures { result.now ≡ (mode_at plan.now mode).name }
+{
+    if (mode.0 as usize) < plan.mode_count() {
+        plan.mode_name(mode)
+    } else {
+        &[]
     }
 }
 
