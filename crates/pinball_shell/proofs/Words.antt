@@ -11,7 +11,7 @@ pub pinball_app_is_simple : is_simple pinball_app ≡ true
 unfolding pinball_app clap_on_literals
 pinball_app_is_simple = refl
 
-pub check_is_asked : asked_at (codes "check" ∷ []) ≡ Some check
+pub check_is_asked : asked_at (codes "check" ∷ []) ≡ Some (check None)
 unfolding asked_at pinball_app clap_on_literals
 check_is_asked = refl
 
@@ -19,7 +19,17 @@ pub check_is_command_line : is_command_line (codes "check" ∷ []) ≡ true
 unfolding is_command_line pinball_app clap_on_literals
 check_is_command_line = refl
 
-pub verify_is_asked : (path : List ℕ) → begins_with_hyphen path ≡ false → asked_at (codes "verify" ∷ path ∷ []) ≡ Some (verify path)
+pub check_folder_is_asked : (folder : List ℕ) → begins_with_hyphen folder ≡ false → asked_at (codes "check" ∷ folder ∷ []) ≡ Some (check (Some folder))
+unfolding asked_at pinball_app clap_on_literals
+check_folder_is_asked [] plain = refl
+check_folder_is_asked (x ∷ xs) plain = simp plain
+
+pub check_folder_is_command_line : (folder : List ℕ) → begins_with_hyphen folder ≡ false → is_command_line (codes "check" ∷ folder ∷ []) ≡ true
+unfolding is_command_line pinball_app clap_on_literals
+check_folder_is_command_line [] plain = refl
+check_folder_is_command_line (x ∷ xs) plain = simp plain
+
+pub verify_is_asked : (path : List ℕ) → begins_with_hyphen path ≡ false → asked_at (codes "verify" ∷ path ∷ []) ≡ Some (verify path None)
 unfolding asked_at pinball_app clap_on_literals
 verify_is_asked [] plain = refl
 verify_is_asked (x ∷ xs) plain = simp plain
@@ -29,15 +39,47 @@ unfolding is_command_line pinball_app clap_on_literals
 verify_is_command_line [] plain = refl
 verify_is_command_line (x ∷ xs) plain = simp plain
 
-pub play_is_asked : (log : List ℕ) → begins_with_hyphen log ≡ false → asked_at (codes "play" ∷ log ∷ []) ≡ Some (play log)
+pub verify_folder_is_asked : (path folder : List ℕ) → begins_with_hyphen path ≡ false → begins_with_hyphen folder ≡ false
+    → asked_at (codes "verify" ∷ path ∷ folder ∷ []) ≡ Some (verify path (Some folder))
+unfolding asked_at pinball_app clap_on_literals
+verify_folder_is_asked [] [] plain bare = refl
+verify_folder_is_asked [] (y ∷ ys) plain bare = simp bare
+verify_folder_is_asked (x ∷ xs) [] plain bare = simp plain
+verify_folder_is_asked (x ∷ xs) (y ∷ ys) plain bare = simp (plain, bare)
+
+pub verify_folder_is_command_line : (path folder : List ℕ) → begins_with_hyphen path ≡ false → begins_with_hyphen folder ≡ false
+    → is_command_line (codes "verify" ∷ path ∷ folder ∷ []) ≡ true
+unfolding is_command_line pinball_app clap_on_literals
+verify_folder_is_command_line [] [] plain bare = refl
+verify_folder_is_command_line [] (y ∷ ys) plain bare = simp bare
+verify_folder_is_command_line (x ∷ xs) [] plain bare = simp plain
+verify_folder_is_command_line (x ∷ xs) (y ∷ ys) plain bare = simp (plain, bare)
+
+pub play_is_asked : (path : List ℕ) → begins_with_hyphen path ≡ false → asked_at (codes "play" ∷ path ∷ []) ≡ Some (play path None)
 unfolding asked_at pinball_app clap_on_literals
 play_is_asked [] plain = refl
 play_is_asked (x ∷ xs) plain = simp plain
 
-pub play_is_command_line : (log : List ℕ) → begins_with_hyphen log ≡ false → is_command_line (codes "play" ∷ log ∷ []) ≡ true
+pub play_is_command_line : (path : List ℕ) → begins_with_hyphen path ≡ false → is_command_line (codes "play" ∷ path ∷ []) ≡ true
 unfolding is_command_line pinball_app clap_on_literals
 play_is_command_line [] plain = refl
 play_is_command_line (x ∷ xs) plain = simp plain
+
+pub play_folder_is_asked : (path folder : List ℕ) → begins_with_hyphen path ≡ false → begins_with_hyphen folder ≡ false
+    → asked_at (codes "play" ∷ path ∷ folder ∷ []) ≡ Some (play path (Some folder))
+unfolding asked_at pinball_app clap_on_literals
+play_folder_is_asked [] [] plain bare = refl
+play_folder_is_asked [] (y ∷ ys) plain bare = simp bare
+play_folder_is_asked (x ∷ xs) [] plain bare = simp plain
+play_folder_is_asked (x ∷ xs) (y ∷ ys) plain bare = simp (plain, bare)
+
+pub play_folder_is_command_line : (path folder : List ℕ) → begins_with_hyphen path ≡ false → begins_with_hyphen folder ≡ false
+    → is_command_line (codes "play" ∷ path ∷ folder ∷ []) ≡ true
+unfolding is_command_line pinball_app clap_on_literals
+play_folder_is_command_line [] [] plain bare = refl
+play_folder_is_command_line [] (y ∷ ys) plain bare = simp bare
+play_folder_is_command_line (x ∷ xs) [] plain bare = simp plain
+play_folder_is_command_line (x ∷ xs) (y ∷ ys) plain bare = simp (plain, bare)
 
 -- the name and the rows of what was met, each known by itself, are known together
 pub met_together : {B : Type 0} (met : Option B) (name_of : B → Text) (rows_of : B → List Row) (name : Text) (rows : List Row)

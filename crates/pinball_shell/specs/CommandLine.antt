@@ -15,46 +15,55 @@ use Rattle.pinball_shell.specs.declared.command_line.AskFault.TheVariants.{NoMem
 abbrev pub path_rule : Rule
 path_rule = record (new_rule (codes "path")) { required = true; action = Some Set; value_names = 1 }
 
+-- the folder of a configuration, which may be left out
+abbrev pub folder_rule : Rule
+folder_rule = record (new_rule (codes "folder")) { action = Some Set; value_names = 1 }
+
 abbrev pub check_app : App
-check_app = new_app (codes "check")
+check_app = with_rule (new_app (codes "check")) folder_rule
+
+-- a path, and then a folder
+abbrev pub path_app : App → App
+path_app app = with_rule (with_rule app path_rule) folder_rule
 
 abbrev pub verify_app : App
-verify_app = with_rule (new_app (codes "verify")) path_rule
+verify_app = path_app (new_app (codes "verify"))
 
 abbrev pub play_app : App
-play_app = with_rule (new_app (codes "play")) path_rule
+play_app = path_app (new_app (codes "play"))
 
 -- no word is the program's name, and what is to be done has to be named
 abbrev pub program_app : App
 program_app = on_top (λ s. record s { no_binary_name = true; subcommand_required = true }) (new_app (codes "pinball"))
 
--- `check`, `verify` and the path of a certificate, or `play` and the path of a log
+-- `check`, `verify` and the path of a certificate, or `play` and the path of a log; and then a folder, if there is one
 unfoldable pub pinball_app : App
 pinball_app = with_subcommand (with_subcommand (with_subcommand program_app check_app.top) verify_app.top) play_app.top
 
 -- ---- what is asked for
 
--- to check the bundle, to verify the certificate of a path on it, or to play the log of a path on it
+-- to check a configuration, to verify the certificate of a path on it, or to play the log of a path on it; the
+-- configuration is in a folder, or on standard input
 pub data AskView : Type 0 where
-  check : AskView
-  verify : List ℕ → AskView
-  play : List ℕ → AskView
+  check : (folder : Option Text) → AskView
+  verify : (certificate : Text) (folder : Option Text) → AskView
+  play : (log : Text) (folder : Option Text) → AskView
 
 abbrev pub ask_view : Ask → AskView
-ask_view Check = check
-ask_view (Verify certificate) = verify (string_bytes certificate)
-ask_view (Play log) = play (string_bytes log)
+ask_view (Check folder) = check (option_map string_bytes folder)
+ask_view (Verify certificate folder) = verify (string_bytes certificate) (option_map string_bytes folder)
+ask_view (Play log folder) = play (string_bytes log) (option_map string_bytes folder)
 
--- what a subcommand's name, and the value of its path, ask for
-abbrev pub asked_by : Text → Option Text → Option AskView
-asked_by name path =
-    if bytes_eq name (codes "check") then Some check
-    else (if bytes_eq name (codes "verify") then option_map verify path
-    else (if bytes_eq name (codes "play") then option_map play path else None))
+-- what a subcommand's name, and the values of its path and its folder, ask for
+abbrev pub asked_by : Text → Option Text → Option Text → Option AskView
+asked_by name path folder =
+    if bytes_eq name (codes "check") then Some (check folder)
+    else (if bytes_eq name (codes "verify") then option_map (λ p. verify p folder) path
+    else (if bytes_eq name (codes "play") then option_map (λ p. play p folder) path else None))
 
 -- what a subcommand and what was found for its arguments ask for
 abbrev pub asked_of : Option (Text × List Row) → Option AskView
-asked_of met = option_and_then (λ p. asked_by p.0 (first_of (codes "path") p.1)) met
+asked_of met = option_and_then (λ p. asked_by p.0 (first_of (codes "path") p.1) (first_of (codes "folder") p.1)) met
 
 -- what the words ask for
 unfoldable pub asked_at : List Text → Option AskView

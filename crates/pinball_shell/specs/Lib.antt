@@ -3,6 +3,7 @@ pub mod Reply
 pub mod CheckOutput
 pub mod CheckVerified
 pub mod CommandLine
+pub mod Joined
 pub mod LogText
 pub mod RunOfLog
 pub mod RunGiven

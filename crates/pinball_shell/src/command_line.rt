@@ -1,8 +1,8 @@
 //! What the words after the program's name ask for.
 
-ghost use Rattle.std.specs.Prelude.{◌≡◌, ℕ, List, [], ◌∷◌, Some, true, false, IfOk, IfErr, IsSome, map, option_map, codes, string_bytes};
+ghost use Rattle.std.specs.Prelude.{◌≡◌, ℕ, List, [], ◌∷◌, Some, true, false, IfOk, IfErr, IsSome, map, option_map, None, codes, string_bytes};
 ghost use Rattle.clap.specs.Words.{app_of, kind_of, rule_of, subcommand_rows_of};
-ghost use Rattle.pinball_shell.specs.CommandLine.{path_rule, pinball_app, check, verify, play, ask_view, asked_by, asked_of, asked_at, is_command_line, begins_with_hyphen, Asks};
+ghost use Rattle.pinball_shell.specs.CommandLine.{path_rule, folder_rule, pinball_app, check, verify, play, ask_view, asked_by, asked_of, asked_at, is_command_line, begins_with_hyphen, Asks};
 ghost use Rattle.pinball_shell.specs.declared.command_line.AskFault.TheVariants.{NoMemory};
 
 use clap::error::ErrorKind;
@@ -12,17 +12,24 @@ use std::alloc::{AllocError, Global};
 /// What is asked for.
 #[derive(Debug, Drop)]
 pub enum Ask {
-    /// To check the bundle.
-    Check,
-    /// To verify the certificate of this path on the bundle.
+    /// To check the configuration.
+    Check {
+        /// The folder of the configuration. None where the bundle is on standard input.
+        folder: Option<String>,
+    },
+    /// To verify the certificate of this path on the configuration.
     Verify {
         /// The path of the certificate.
         certificate: String,
+        /// The folder of the configuration, as of `Check`.
+        folder: Option<String>,
     },
-    /// To play the log of this path on the bundle.
+    /// To play the log of this path on the configuration.
     Play {
         /// The path of the log.
         log: String,
+        /// The folder of the configuration, as of `Check`.
+        folder: Option<String>,
     },
 }
 
@@ -45,7 +52,8 @@ impl From<AllocError> for AskFault {
     }
 }
 
-/// What the words after the program's name ask for: `check`, `verify CERT` or `play LOG`.
+/// What the words after the program's name ask for: `check`, `verify CERT` or `play LOG`, each of
+/// which may be followed by the folder of a configuration.
 ///
 /// # Errors
 ///
@@ -53,9 +61,14 @@ impl From<AllocError> for AskFault {
 /// - `NoMemory`: memory ran out.
 pub fn command(alloc: Global, words: Vec<String>) -> Result<Ask, AskFault>
     ensures asked { IfOk result (λ ask. asked_at (map string_bytes words.items) ≡ Some (ask_view ask)) }
-    ensures checks { map string_bytes words.items ≡ codes "check" ∷ [] → Asks check result }
-    ensures verifies { (path : List ℕ) → begins_with_hyphen path ≡ false → map string_bytes words.items ≡ codes "verify" ∷ path ∷ [] → Asks (verify path) result }
-    ensures plays { (log : List ℕ) → begins_with_hyphen log ≡ false → map string_bytes words.items ≡ codes "play" ∷ log ∷ [] → Asks (play log) result }
+    ensures checks { map string_bytes words.items ≡ codes "check" ∷ [] → Asks (check None) result }
+    ensures checks_folder { (folder : List ℕ) → begins_with_hyphen folder ≡ false → map string_bytes words.items ≡ codes "check" ∷ folder ∷ [] → Asks (check (Some folder)) result }
+    ensures verifies { (path : List ℕ) → begins_with_hyphen path ≡ false → map string_bytes words.items ≡ codes "verify" ∷ path ∷ [] → Asks (verify path None) result }
+    ensures verifies_folder { (path folder : List ℕ) → begins_with_hyphen path ≡ false → begins_with_hyphen folder ≡ false
+        → map string_bytes words.items ≡ codes "verify" ∷ path ∷ folder ∷ [] → Asks (verify path (Some folder)) result }
+    ensures plays { (log : List ℕ) → begins_with_hyphen log ≡ false → map string_bytes words.items ≡ codes "play" ∷ log ∷ [] → Asks (play log None) result }
+    ensures plays_folder { (log folder : List ℕ) → begins_with_hyphen log ≡ false → begins_with_hyphen folder ≡ false
+        → map string_bytes words.items ≡ codes "play" ∷ log ∷ folder ∷ [] → Asks (play log (Some folder)) result }
     ensures only { IfErr result (λ fault. is_command_line (map string_bytes words.items) ≡ true → IsSome (asked_at (map string_bytes words.items)) → fault ≡ AskFault.NoMemory) }
 {
     read_words(alloc, &words)
@@ -76,13 +89,17 @@ fn read_words(alloc: Global, words: &[String]) -> Result<Ask, AskFault>
 fn pinball<'a>(alloc: Global) -> Result<Command<'a>, AllocError>
     ensures { IfOk result (λ command. app_of command ≡ pinball_app) }
 {
-    let check = Command::new(alloc, "check").about("Checks the bundle on standard input");
+    let check = Command::new(alloc, "check")
+        .about("Checks a configuration")
+        .arg(folder_argument(alloc))?;
     let verify = Command::new(alloc, "verify")
-        .about("Verifies a certificate of the bundle on standard input")
-        .arg(path_argument(alloc, "CERT", "The file with the certificate"))?;
+        .about("Verifies a certificate of a configuration")
+        .arg(path_argument(alloc, "CERT", "The file with the certificate"))?
+        .arg(folder_argument(alloc))?;
     let play = Command::new(alloc, "play")
-        .about("Plays a log on the bundle on standard input")
-        .arg(path_argument(alloc, "LOG", "The file with the log of the switches"))?;
+        .about("Plays a log on a configuration")
+        .arg(path_argument(alloc, "LOG", "The file with the log of the switches"))?
+        .arg(folder_argument(alloc))?;
     let program = Command::new(alloc, "pinball")
         .about("Checks and plays configurations of pinball machines")
         .no_binary_name(true)
@@ -91,6 +108,16 @@ fn pinball<'a>(alloc: Global) -> Result<Command<'a>, AllocError>
         .subcommand(check)?
         .subcommand(verify)?
         .subcommand(play)
+}
+
+fn folder_argument<'a>(alloc: Global) -> Arg<'a>
+    ensures rule { rule_of result ≡ folder_rule }
+    ensures local { result.global ≡ false }
+{
+    Arg::new(alloc, "folder")
+        .help("The folder of the configuration; if there is none, its bundle is on standard input")
+        .value_name("DIR")
+        .action(ArgAction::Set)
 }
 
 fn path_argument<'a>(alloc: Global, value_name: &'a str, help: &'a str) -> Arg<'a>
@@ -109,27 +136,48 @@ fn ask_of(alloc: Global, matches: &ArgMatches<'_>) -> Result<Ask, AskFault>
     ensures only { IfErr result (λ fault. IsSome (asked_of (subcommand_rows_of matches.now)) → fault ≡ AskFault.NoMemory) }
 {
     match matches.subcommand() {
-        Some((name, found)) => ask_by(alloc, name, found.get_str("path")),
+        Some((name, found)) => {
+            let path = found.get_str("path");
+            let folder = found.get_str("folder");
+            ask_by(alloc, name, path, folder)
+        }
         None => Err(not_understood(alloc)),
     }
 }
 
-/// What a subcommand's name, and the value of its path, ask for.
-fn ask_by(alloc: Global, name: &str, path: Option<&str>) -> Result<Ask, AskFault>
-    ensures asked { IfOk result (λ ask. asked_by name.now (option_map (λ s. s.now) path.entry) ≡ Some (ask_view ask)) }
-    ensures only { IfErr result (λ fault. IsSome (asked_by name.now (option_map (λ s. s.now) path.entry)) → fault ≡ AskFault.NoMemory) }
+/// What a subcommand's name, and the values of its path and its folder, ask for.
+fn ask_by(
+    alloc: Global,
+    name: &str,
+    path: Option<&str>,
+    folder: Option<&str>,
+) -> Result<Ask, AskFault>
+    ensures asked { IfOk result (λ ask. asked_by name.now (option_map (λ s. s.now) path.entry) (option_map (λ s. s.now) folder.entry) ≡ Some (ask_view ask)) }
+    ensures only { IfErr result (λ fault. IsSome (asked_by name.now (option_map (λ s. s.now) path.entry) (option_map (λ s. s.now) folder.entry)) → fault ≡ AskFault.NoMemory) }
 {
+    let folder = copied(alloc, folder)?;
     if name == "check" {
-        return Ok(Ask::Check);
+        return Ok(Ask::Check { folder });
     }
     match path {
         Some(path) if name == "verify" => Ok(Ask::Verify {
             certificate: String::from_str(alloc, path)?,
+            folder,
         }),
         Some(path) if name == "play" => Ok(Ask::Play {
             log: String::from_str(alloc, path)?,
+            folder,
         }),
         _ => Err(not_understood(alloc)),
+    }
+}
+
+fn copied(alloc: Global, text: Option<&str>) -> Result<Option<String>, AllocError>
+    ensures { IfOk result (λ copy. option_map string_bytes copy ≡ option_map (λ s. s.now) text.entry) }
+{
+    match text {
+        Some(text) => Ok(Some(String::from_str(alloc, text)?)),
+        None => Ok(None),
     }
 }
 

@@ -19,4 +19,4 @@ pub use law::{
     any_certificate_plays_the_same, log_gives_one_list_of_stimuli, printed_certificate_is_verified,
 };
 pub use play::play_text;
-pub use text::read_all;
+pub use text::{join, read_all};

@@ -1,8 +1,10 @@
-//! A text is read whole before it is checked.
+//! A text is read whole before it is checked, and texts are joined to a bundle.
 
-ghost use Rattle.std.specs.Prelude.{◌≡◌, ◌≢◌, ◌<◌, ◌≤◌, IfOk, OnOk, IfErr, IfSome, IsErrOf, vec_len, length};
+ghost use Rattle.std.specs.Prelude.{◌≡◌, ◌≢◌, ◌<◌, ◌≤◌, IfOk, OnOk, IfErr, IfSome, IsErrOf, vec_len, length, ◌⊎◌};
 ghost use Rattle.std.specs.Io.KnownBytes.{IsAtEnd};
+ghost use Rattle.pinball_shell.specs.Joined.{joined, line_end};
 
+use crate::check::BUNDLE_LIMIT;
 use crate::fault::ShellFault;
 use std::alloc::Global;
 use std::io::Read;
@@ -40,5 +42,43 @@ pub fn read_all<R: Read>(alloc: Global, reader: &mut R, limit: usize) -> Result<
             return Err(ShellFault::TooLong);
         }
         all.extend_from_slice(&piece[..count])?;
+    }
+}
+
+/// A bundle with one text more: the bundle, the line `@ NAME`, and the text, which gets a line end
+/// where it is not empty and lacks one.
+///
+/// # Errors
+///
+/// - `TooLong`: that would have more than 8 MiB.
+/// - `NoMemory`: there is no room for it.
+pub fn join(alloc: Global, bundle: &[u8], name: &[u8], text: &[u8]) -> Result<Vec<u8>, ShellFault>
+    ensures joined { IfOk result (λ all. all.items ≡ joined bundle.now name.now text.now) }
+    ensures within { IfOk result (λ all. vec_len all ≤ BUNDLE_LIMIT) }
+    ensures too_long { IsErrOf result ShellFault.TooLong → BUNDLE_LIMIT < length (joined bundle.now name.now text.now) }
+    ensures only { IfErr result (λ e. (e ≡ ShellFault.TooLong) ⊎ (e ≡ ShellFault.NoMemory)) }
+{
+    let end = line_end(text);
+    let parts = bundle.len() as u128 + name.len() as u128 + text.len() as u128;
+    if parts + 3 + end.len() as u128 > BUNDLE_LIMIT as u128 {
+        return Err(ShellFault::TooLong);
+    }
+    let mut all = Vec::from_slice(alloc, bundle)?;
+    all.extend_from_slice(b"@ ")?;
+    all.extend_from_slice(name)?;
+    all.extend_from_slice(b"\n")?;
+    all.extend_from_slice(text)?;
+    all.extend_from_slice(end)?;
+    Ok(all)
+}
+
+/// The line end that a text lacks.
+fn line_end(text: &[u8]) -> &'static [u8]
+    ensures { result.now ≡ line_end text.now }
+{
+    if text.is_empty() || text[text.len() - 1] == b'\n' {
+        b""
+    } else {
+        b"\n"
     }
 }
