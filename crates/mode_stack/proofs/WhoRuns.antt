@@ -1,7 +1,6 @@
 -- Being told to start or to stop changes no mode from one that runs to one that does not, or back.
 use Rattle.std.proofs.Common.{◌≡◌, Bool, true, false, if◌then◌else◌, refl, sym}
 use Rattle.std.proofs.Math.Seq.{map-set_same}
-use Rattle.mpf_plan.specs.declared.entries.ModeId.{ModeId}
 use Rattle.mode_stack.specs.declared.phase.Phase.{Phase}
 use Rattle.mode_stack.specs.declared.phase.Phase.TheVariants.{Idle, Starting, Active, Stopping}
 use Rattle.mode_stack.specs.declared.phase.ModeState.{ModeState}
