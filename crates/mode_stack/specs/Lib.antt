@@ -1,0 +1,2 @@
+pub mod ModeStep
+pub mod Modes
