@@ -14,6 +14,7 @@ mod check_rows;
 mod ends;
 #[cfg(test)]
 mod faulty;
+mod joined;
 #[cfg(test)]
 mod hostile;
 #[cfg(test)]
