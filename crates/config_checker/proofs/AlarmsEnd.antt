@@ -15,7 +15,8 @@ use Rattle.config_checker.specs.NextAlarm.{next_alarm, source_count, most_alarms
 use Rattle.config_checker.specs.AlarmsBy.{due_by, alarms_by, state_after}
 use Rattle.config_checker.specs.AlarmsEnd.{AlarmsEnd}
 use Rattle.config_checker.proofs.PlanSteps.{IsSteps, plan_steps-are_steps}
-use Rattle.config_checker.proofs.Alarms.{HasSwitches, has_switches-after, arms_later, alarm-done, moment-after}
+use Rattle.config_checker.proofs.Does.{HasSwitches}
+use Rattle.config_checker.proofs.Alarms.{has_switches-after, arms_later, alarm-done, moment-after}
 use Rattle.config_checker.proofs.NextAlarms.{due_by-some, due_by-none, nothing-due_by, some-due_by}
 use Rattle.config_checker.proofs.Reached.{reached-not_late, reached-kinds, reached-states}
 
