@@ -1,5 +1,5 @@
 -- What is due: only a stimulus alters that, and no alarm comes late.
-use Rattle.std.proofs.Common.{◌≡◌, ℕ, ◌≤◌, ◌<◌, ◌⊎◌, Option, Some, List, [], ◌∷◌, length, refl, ap, sym, ◌∙◌, inl, inr, arith}
+use Rattle.std.proofs.Common.{◌≡◌, ℕ, ◌≤◌, ◌<◌, ◌⊎◌, Some, List, [], length, refl, ap, sym, ◌∙◌, inl, inr, arith}
 use Rattle.std.proofs.lemmas.Option.{none-some}
 use Rattle.std.proofs.lemmas.List.{length-map}
 use Rattle.mpf_plan.specs.PlanView.{PlanView}
@@ -11,7 +11,7 @@ use Rattle.config_checker.specs.declared.line.Line.{Line}
 use Rattle.config_checker.specs.Machine.{Machine, set_switches, initial}
 use Rattle.config_checker.specs.EventStep.{EventStep, EventSteps}
 use Rattle.config_checker.specs.PlanOrder.{settled}
-use Rattle.config_checker.specs.Run.{Source, switch, source_due, IsNothingLate, Stimulus, Change, Alarm, Wait, moment_of, IsAllowed, arrived, begin, IsRun}
+use Rattle.config_checker.specs.Run.{Source, switch, source_due, IsNothingLate, IsNextAlarm, Stimulus, Change, Alarm, Wait, moment_of, IsAllowed, arrived, begin, IsRun}
 use Rattle.config_checker.proofs.Does.{HasSwitches, moment-does, has_switches-does, switches-does}
 use Rattle.config_checker.proofs.Parts.{TakesPart, IsMachine, does-accepted, does-if_accepted, does-begin}
 use Rattle.config_checker.proofs.Keeps.{step-keeps, steps-keep, run-keeps}
@@ -100,26 +100,33 @@ module _ (plan : PlanView) where
   not_late-still : (s t : Machine) → IsStill s t → IsNothingLate s → IsNothingLate t
   not_late-still s t still h source due is = let on_time = h source due (sym (source_due-same t s still.0 source) ∙ is) in omega (arith, on_time, still.1)
 
-  -- after a stimulus that was allowed
-  not_late-begin : (stimulus : Stimulus) (s : Machine) → IsAllowed plan s stimulus → IsNothingLate (begin plan stimulus s)
-  not_late-begin stimulus s allowed source due is =
+  -- no alarm is due before the next one
+  pub next-first : (s : Machine) (at : ℕ) (first : Source) → IsNextAlarm s at first → (source : Source) (due : ℕ) → source_due s source ≡ Some due → at ≤ due
+  next-first s at first next source due is =
+      elim (next.least source due is) [
+        | inl after ↦ omega (arith, after)
+        | inr same ↦ let e = same.0 in omega (arith, e)
+      ]
+
+  -- and none before a stimulus that is allowed
+  allowed-first : (stimulus : Stimulus) (s : Machine) → IsAllowed plan s stimulus → (source : Source) (due : ℕ) → source_due s source ≡ Some due → moment_of stimulus ≤ due
+  allowed-first (Change at n level) s allowed source due is = let after = allowed.0.quiet source due is in omega arith
+  allowed-first (Alarm at first) s allowed source due is = next-first s at first allowed.0 source due is
+  allowed-first (Wait at) s allowed source due is = let after = allowed.quiet source due is in omega arith
+
+  not_late-begin : (stimulus : Stimulus) (s : Machine) → ((source : Source) (due : ℕ) → source_due s source ≡ Some due → moment_of stimulus ≤ due) → IsNothingLate (begin plan stimulus s)
+  not_late-begin stimulus s first source due is =
       elim (begin-arms_later stimulus s source due is) [
-        | inl old ↦ omega (arith, was stimulus s allowed source due old, moment-begin plan stimulus s)
+        | inl old ↦ omega (arith, first source due old, moment-begin plan stimulus s)
         | inr later ↦ omega (arith, moment-begin plan stimulus s)
       ]
-    where
-      was : (stimulus : Stimulus) (s : Machine) → IsAllowed plan s stimulus → (source : Source) (due : ℕ) → source_due s source ≡ Some due → moment_of stimulus ≤ due
-      was (Change at n level) s allowed source due is = let after = allowed.0.quiet source due is in omega arith
-      was (Alarm at first) s allowed source due is =
-          elim (allowed.0.least source due is) [
-            | inl after ↦ omega arith
-            | inr same ↦ let e = same.0 in omega arith
-          ]
-      was (Wait at) s allowed source due is = let after = allowed.quiet source due is in omega arith
 
-  -- and after its event steps
+  pub not_late-from : (stimulus : Stimulus) (s : Machine) (n : ℕ) (t : Machine) → ((source : Source) (due : ℕ) → source_due s source ≡ Some due → moment_of stimulus ≤ due) → EventSteps plan n (begin plan stimulus s) t → IsNothingLate t
+  not_late-from stimulus s n t first steps = not_late-still (begin plan stimulus s) t (still-steps plan n (begin plan stimulus s) t steps) (not_late-begin stimulus s first)
+
+  -- after a stimulus that was allowed
   pub not_late-after : (stimulus : Stimulus) (s : Machine) (n : ℕ) (t : Machine) → IsAllowed plan s stimulus → EventSteps plan n (begin plan stimulus s) t → IsNothingLate t
-  not_late-after stimulus s n t allowed steps = not_late-still (begin plan stimulus s) t (still-steps plan n (begin plan stimulus s) t steps) (not_late-begin stimulus s allowed)
+  not_late-after stimulus s n t allowed steps = not_late-from stimulus s n t (allowed-first stimulus s allowed) steps
 
   pub not_late-initial : IsNothingLate (initial plan)
   not_late-initial (switch n) due is = absurd (none-some due (sym (idle-nothing_due plan n) ∙ is))
@@ -128,7 +135,7 @@ module _ (plan : PlanView) where
   pub not_late-run : (stimuli : List (Stimulus × ℕ)) (s : Machine) (trace : List Line) (t : Machine) → IsRun plan stimuli s trace t → IsNothingLate s → IsNothingLate t
   not_late-run stimuli s trace t run h =
       (run-keeps plan (λ before. IsNothingLate) (λ before m u one k. not_late-still m u (still-step plan m m u one (refl, refl)) k)
-      (λ before stimulus m allowed empty k. not_late-begin stimulus m allowed) [] stimuli s trace t run h).1
+      (λ before stimulus m allowed empty k. not_late-begin stimulus m (allowed-first stimulus m allowed)) [] stimuli s trace t run h).1
 
   -- so no stimulus goes backwards
   pub forward : (stimulus : Stimulus) (s : Machine) → IsNothingLate s → IsAllowed plan s stimulus → s.moment ≤ moment_of stimulus

@@ -12,7 +12,7 @@ use Rattle.switch_core.specs.SwitchStep.{SwitchState}
 use Rattle.switch_core.specs.Switches.{all_idle, set_state}
 use Rattle.config_checker.specs.declared.line.Happening.{Happening}
 use Rattle.config_checker.specs.declared.line.Happening.TheVariants as lines
-use Rattle.cascade_rank.specs.Cost.{Cost, Lines, Both, Greater, price, each_of, dearest_of, cost_of_post}
+use Rattle.cascade_rank.specs.Cost.{Cost, Lines, Both, price, each_of, dearest_of, cost_of_post}
 use Rattle.event_queue.specs.declared.queue.Posted.{Posted}
 use Rattle.config_checker.specs.Machine.{Machine, write, post, set_switches, all_do}
 use Rattle.config_checker.specs.GoodRun.{weigh}
