@@ -1,6 +1,5 @@
 -- Where weights fit, no event step raises the potential. So every run of an accepted plan is good.
 use Rattle.std.proofs.Common.{◌≡◌, ℕ, zero, suc, ◌+◌, ◌≤◌, ◌<◌, Bool, true, false, if◌then◌else◌, Some, None, List, [], ◌∷◌, length, refl, ap, sym, subst, arith, length-append}
-use Rattle.std.specs.List.{AllByRecursion}
 use Rattle.mpf_plan.specs.PlanView.{PlanView}
 use Rattle.mpf_plan.specs.declared.entries.EventId.{EventId}
 use Rattle.mpf_plan.specs.Valid.{IsValid}
@@ -23,7 +22,7 @@ use Rattle.config_checker.specs.Run.{switch, Stimulus, Change, Alarm, Wait, IsAl
 use Rattle.config_checker.specs.GoodRun.{cost_if_accepted, cost_of_stimulus, weigh, IsGood}
 use Rattle.config_checker.specs.CheckedView.{CheckedView}
 use Rattle.config_checker.specs.Accepted.{IsAccepted}
-use Rattle.config_checker.proofs.Does.{potential, potential-does, WaitsInPlan, waits-does, HasSwitches}
+use Rattle.config_checker.proofs.Does.{potential, potential-does, AreOfPlan, WaitsInPlan, waits-does, HasSwitches}
 use Rattle.config_checker.proofs.Parts.{TakesPart, IsMachine, does-order, does-begin}
 use Rattle.config_checker.proofs.Growth.{event-grows}
 use Rattle.config_checker.proofs.Order.{order_cost, plan_order-step}
@@ -35,7 +34,7 @@ module _ (plan : PlanView) (valid : IsValid plan) where
   waits-step : (s t : Machine) → EventStep plan s t → WaitsInPlan plan s → WaitsInPlan plan t
   waits-step =
       step-keeps plan (λ before. WaitsInPlan plan) (λ first before. WaitsInPlan plan)
-      (λ before first rest s is h. let front : AllByRecursion (λ p. p.event.0 < length plan.events) (first ∷ rest) = subst (AllByRecursion (λ p. p.event.0 < length plan.events)) is h in front.1)
+      (λ before first rest s is h. let front : AreOfPlan plan (first ∷ rest) = subst (AreOfPlan plan) is h in front.1)
       (λ before first c s t d h. waits-does plan (TakesPart s) ⊥ valid.entries d h) (λ before first s h. h) []
 
 -- a stimulus that may come costs at most what the dearest does
@@ -68,7 +67,7 @@ module _ (plan : PlanView) where
 module _ (plan : PlanView) (valid : IsValid plan) (w : EventId → ℕ) (fits : IsFitting plan w) where
   step-potential : (s t : Machine) → EventStep plan s t → WaitsInPlan plan s → potential w t ≤ potential w s
   step-potential s t st h =
-      let front : AllByRecursion (λ p. p.event.0 < length plan.events) (st.first ∷ st.rest) = subst (AllByRecursion (λ p. p.event.0 < length plan.events)) st.waiting h in
+      let front : AreOfPlan plan (st.first ∷ st.rest) = subst (AreOfPlan plan) st.waiting h in
       let fit = fits st.first.event front.0 in
       let ready = before_handlers plan st.first st.rest s in
       let grown = potential-does plan w (does-order plan ready st.first.event st.order st.in_order) in
@@ -93,7 +92,7 @@ module _ (plan : PlanView) (valid : IsValid plan) (w : EventId → ℕ) (fits : 
   within-begin : (stimulus : Stimulus) (s : Machine) → s.waiting ≡ [] → IsWithin (price w (cost_of_stimulus plan s stimulus)) (begin plan stimulus s)
   within-begin stimulus s empty = record {
     most = let none = ap (weigh w) empty in omega (arith, potential-does plan w (does-begin plan stimulus s), none);
-    waits = waits-does plan IsMachine (Unit {0}) valid.entries (does-begin plan stimulus s) (subst (AllByRecursion (λ p. p.event.0 < length plan.events)) (sym empty) tt);
+    waits = waits-does plan IsMachine (Unit {0}) valid.entries (does-begin plan stimulus s) (subst (AreOfPlan plan) (sym empty) tt);
   }
 
   -- what a stimulus leads to stays within what it costs
@@ -114,7 +113,7 @@ module _ (plan : PlanView) (valid : IsValid plan) (w : EventId → ℕ) (fits : 
           (record { most = omega (arith, most, stimulus_cost plan w m stimulus h.1 allowed); waits = begun.waits }, has_switches-begin plan stimulus m h.1)
 
   -- each waiting event weighs at least 1
-  waiting-weigh : (ps : List Posted) → AllByRecursion (λ p. p.event.0 < length plan.events) ps → length ps ≤ weigh w ps
+  waiting-weigh : (ps : List Posted) → AreOfPlan plan ps → length ps ≤ weigh w ps
   waiting-weigh [] h = omega arith
   waiting-weigh (p ∷ ps) h =
       let fit = fits p.event h.0 in

@@ -102,12 +102,15 @@ module _ (plan : PlanView) where
   -- ---- what moves keep
 
   -- each waiting event is one of the plan's
-  abbrev pub WaitsInPlan : Machine → Type 0
-  WaitsInPlan s = AllByRecursion (λ p. p.event.0 < length plan.events) s.waiting
+  abbrev pub AreOfPlan : List Posted → Type 0
+  AreOfPlan ps = AllByRecursion (λ p. p.event.0 < length plan.events) ps
 
-  below-push : (ps : List Posted) (p : Posted) → AllByRecursion (λ q. q.event.0 < length plan.events) ps → p.event.0 < length plan.events → AllByRecursion (λ q. q.event.0 < length plan.events) (ps ++ p ∷ [])
-  below-push [] p h k = (k, tt)
-  below-push (q ∷ ps) p h k = (h.0, below-push ps p h.1 k)
+  abbrev pub WaitsInPlan : Machine → Type 0
+  WaitsInPlan s = AreOfPlan s.waiting
+
+  of_plan-push : (ps : List Posted) (p : Posted) → AreOfPlan ps → p.event.0 < length plan.events → AreOfPlan (ps ++ p ∷ [])
+  of_plan-push [] p h k = (k, tt)
+  of_plan-push (q ∷ ps) p h k = (h.0, of_plan-push ps p h.1 k)
 
   grows-move : (x : Move) (s : Machine) → Grows s (do_move plan x s)
   grows-move (Wrote owner what) s = (omega (arith, length-append s.lines (record { moment = s.moment; owner = owner; happening = what } ∷ [])), omega arith)
@@ -143,7 +146,7 @@ module _ (plan : PlanView) where
   module _ (by : Owner → Type 0) (switches : Type 0) where
     waits-move : HasEntries plan → (x : Move) (s : Machine) → MayDo plan by switches x → WaitsInPlan s → WaitsInPlan (do_move plan x s)
     waits-move entries (Wrote owner what) s may h = h
-    waits-move entries (Sent owner e) s may h = below-push s.waiting (record { event = e; owner = owner }) h (may.1 entries)
+    waits-move entries (Sent owner e) s may h = of_plan-push s.waiting (record { event = e; owner = owner }) h (may.1 entries)
     waits-move entries (Switched n switch) s may h = h
 
     pub waits-does : HasEntries plan → {c : Cost} {s t : Machine} → Does plan (MayDo plan by switches) c s t → WaitsInPlan s → WaitsInPlan t
