@@ -15,7 +15,8 @@ use Rattle.config_checker.specs.NextAlarm.{next_alarm, source_count, most_alarms
 use Rattle.config_checker.specs.AlarmsBy.{due_by, alarms_by, state_after}
 use Rattle.config_checker.specs.AlarmsEnd.{AlarmsEnd}
 use Rattle.config_checker.proofs.PlanSteps.{IsSteps, plan_steps-are_steps}
-use Rattle.config_checker.proofs.Alarms.{HasSwitches, has_switches-after, arms_later, alarm-done, moment-after}
+use Rattle.config_checker.proofs.Does.{HasSwitches}
+use Rattle.config_checker.proofs.Alarms.{has_switches-after, arms_later, alarm-done, moment-after, next-first, not_late-from}
 use Rattle.config_checker.proofs.NextAlarms.{due_by-some, due_by-none, nothing-due_by, some-due_by}
 use Rattle.config_checker.proofs.Reached.{reached-not_late, reached-kinds, reached-states}
 
@@ -112,15 +113,7 @@ module _ (plan : PlanView) (bound : ℕ) where
 
     alarm-goes_on : IsGoing s → IsGoing (after_alarm at source s)
     alarm-goes_on going = record {
-      not_late = λ other due is.
-          elim (arms_later plan (Alarm at source) s steps.count (after_alarm at source s) steps.steps other due is) [
-            | inl old ↦
-                elim (next.least other due old) [
-                  | inl after ↦ omega (arith, alarm-moment, after)
-                  | inr same ↦ let e = same.0 in omega (arith, alarm-moment, e)
-                ]
-            | inr later ↦ omega (arith, alarm-moment, later)
-          ];
+      not_late = not_late-from plan (Alarm at source) s steps.count (after_alarm at source s) (next-first plan s at source next) steps.steps;
       switches = has_switches-after plan (Alarm at source) s steps.count (after_alarm at source s) steps.steps going.switches;
     }
 

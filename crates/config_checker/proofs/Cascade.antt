@@ -1,73 +1,41 @@
 -- Where weights fit, no event step raises the potential. So every run of an accepted plan is good.
-use Rattle.std.proofs.Common.{◌≡◌, ℕ, zero, suc, ◌+◌, ◌≤◌, ◌<◌, Bool, true, false, if◌then◌else◌, Option, Some, None, List, [], ◌∷◌, length, refl, ap, sym, subst, arith, length-append}
-use Rattle.std.specs.List.{AllByRecursion}
+use Rattle.std.proofs.Common.{◌≡◌, ℕ, zero, suc, ◌+◌, ◌≤◌, ◌<◌, Bool, true, false, if◌then◌else◌, Some, None, List, [], ◌∷◌, length, refl, ap, sym, subst, arith, length-append}
 use Rattle.mpf_plan.specs.PlanView.{PlanView}
 use Rattle.mpf_plan.specs.declared.entries.EventId.{EventId}
 use Rattle.mpf_plan.specs.Valid.{IsValid}
 use Rattle.mpf_plan.specs.declared.entries.SwitchId.{SwitchId}
 use Rattle.switch_core.specs.declared.change.Change.{Change as Acceptance}
 use Rattle.switch_core.specs.SwitchStep.{is_taken}
-use Rattle.switch_core.specs.Switches.{kind_at, state_at, after_change, reported_by_change, accept, reported}
+use Rattle.switch_core.specs.Switches.{kind_at, state_at, after_change, accept, reported}
 use Rattle.switch_core.proofs.Lists.{due-within}
 use Rattle.config_checker.specs.declared.line.Line.{Line}
 use Rattle.config_checker.specs.declared.line.Happening.TheVariants as lines
-use Rattle.cascade_rank.specs.Cost.{Cost, price, cost_of_acceptance}
+use Rattle.cascade_rank.specs.Cost.{price, cost_of_acceptance}
 use Rattle.cascade_rank.specs.Events.{weight_of}
 use Rattle.cascade_rank.specs.Weights.{IsFitting, bound_of}
-use Rattle.cascade_rank.specs.Below.{IsBelow}
-use Rattle.cascade_rank.proofs.Within.{IsBelow-acceptance}
 use Rattle.cascade_rank.proofs.Switches.{acceptance-within_bound}
 use Rattle.event_queue.specs.declared.queue.Posted.{Posted}
 use Rattle.event_queue.specs.PlanOrder.{by_priority}
 use Rattle.config_checker.specs.Machine.{Machine, initial}
 use Rattle.config_checker.specs.EventStep.{before_handlers, handlers_in, EventStep, EventSteps, after_event}
-use Rattle.config_checker.specs.Run.{switch, Stimulus, Change, Alarm, Wait, IsAllowed, begin, IsRun, InEveryRun}
+use Rattle.config_checker.specs.Run.{switch, Stimulus, Change, Alarm, Wait, IsAllowed, begin, InEveryRun}
 use Rattle.config_checker.specs.GoodRun.{cost_if_accepted, cost_of_stimulus, weigh, IsGood}
 use Rattle.config_checker.specs.CheckedView.{CheckedView}
 use Rattle.config_checker.specs.Accepted.{IsAccepted}
-use Rattle.config_checker.proofs.Does.{Does, potential, potential-does, WaitsBelow, WaitsBelow-does}
-use Rattle.config_checker.proofs.Parts.{does-event, does-begin}
+use Rattle.config_checker.proofs.Does.{potential, potential-does, AreOfPlan, WaitsInPlan, waits-does, HasSwitches}
+use Rattle.config_checker.proofs.Parts.{TakesPart, IsMachine, does-order, does-begin}
 use Rattle.config_checker.proofs.Growth.{event-grows}
 use Rattle.config_checker.proofs.Order.{order_cost, plan_order-step}
-use Rattle.config_checker.proofs.Alarms.{HasSwitches, has_switches-after, has_switches-run, has_switches-initial}
+use Rattle.config_checker.proofs.Alarms.{has_switches-step, has_switches-begin, has_switches-initial}
 use Rattle.config_checker.proofs.Levels.{levels-run}
 use Rattle.config_checker.proofs.Keeps.{step-keeps, steps-keep, run-keeps}
 
 module _ (plan : PlanView) (valid : IsValid plan) where
-  -- a stimulus posts events of the plan
-  accepted_below : (o : Option Acceptance) → IsBelow (length plan.events) (cost_if_accepted plan o)
-  accepted_below None = tt
-  accepted_below (Some a) = IsBelow-acceptance plan valid.entries a.switch a.active
-
-  pub stimulus_below : (s : Machine) (stimulus : Stimulus) → IsBelow (length plan.events) (cost_of_stimulus plan s stimulus)
-  stimulus_below s (Change at n level) = accepted_below (reported_by_change n level at s.switches)
-  stimulus_below s (Alarm at (switch n)) = IsBelow-acceptance plan valid.entries n (reported (accept n s.switches) n).active
-  stimulus_below s (Wait at) = tt
-
-  -- each waiting event is one of the plan's
-  abbrev pub WaitsInPlan : Machine → Type 0
-  WaitsInPlan = WaitsBelow (length plan.events)
-
-  waits-moves : (c : Cost) (s t : Machine) → Does c s t → IsBelow (length plan.events) c → WaitsInPlan s → WaitsInPlan t
-  waits-moves c s t d below h = WaitsBelow-does (length plan.events) d below h
-
-  waits-drops : (first : Posted) (rest : List Posted) (s : Machine) → s.waiting ≡ first ∷ rest → WaitsInPlan s → WaitsInPlan (record s { waiting = rest })
-  waits-drops first rest s is h =
-      let front : AllByRecursion (λ p. p.event.0 < length plan.events) (first ∷ rest) = subst (AllByRecursion (λ p. p.event.0 < length plan.events)) is h in
-      front.1
-
-  pub waits-begin : (stimulus : Stimulus) (s : Machine) → WaitsInPlan s → WaitsInPlan (begin plan stimulus s)
-  waits-begin stimulus s h = waits-moves _ _ _ (does-begin plan stimulus s) (stimulus_below s stimulus) h
-
-  pub waits-step : (s t : Machine) → EventStep plan s t → WaitsInPlan s → WaitsInPlan t
-  waits-step = step-keeps plan valid WaitsInPlan waits-moves waits-drops
-
-  pub waits-steps : (n : ℕ) (s t : Machine) → EventSteps plan n s t → WaitsInPlan s → WaitsInPlan t
-  waits-steps = steps-keep plan valid WaitsInPlan waits-moves waits-drops
-
-  -- in every run each waiting event is one of the plan's
-  pub waits-run : InEveryRun plan (λ stimuli trace s. WaitsInPlan s)
-  waits-run stimuli trace s run = run-keeps plan valid WaitsInPlan waits-moves waits-drops (λ stimulus s allowed empty h. waits-begin stimulus s h) stimuli (initial plan) trace s run tt
+  waits-step : (s t : Machine) → EventStep plan s t → WaitsInPlan plan s → WaitsInPlan plan t
+  waits-step =
+      step-keeps plan (λ before. WaitsInPlan plan) (λ first before. WaitsInPlan plan)
+      (λ before first rest s is h. let front : AreOfPlan plan (first ∷ rest) = subst (AreOfPlan plan) is h in front.1)
+      (λ before first c s t d h. waits-does plan (TakesPart s) ⊥ valid.entries d h) (λ before first s h. h) []
 
 -- a stimulus that may come costs at most what the dearest does
 module _ (plan : PlanView) (w : EventId → ℕ) where
@@ -97,54 +65,59 @@ module _ (plan : PlanView) where
   steps-lines (suc n) s t (mid, step, more) = omega (arith, step-line s mid step, steps-lines n mid t more)
 
 module _ (plan : PlanView) (valid : IsValid plan) (w : EventId → ℕ) (fits : IsFitting plan w) where
-  pub step-potential : (s t : Machine) → EventStep plan s t → WaitsInPlan plan valid s → potential w t ≤ potential w s
+  step-potential : (s t : Machine) → EventStep plan s t → WaitsInPlan plan s → potential w t ≤ potential w s
   step-potential s t st h =
-      let front : AllByRecursion (λ p. p.event.0 < length plan.events) (st.first ∷ st.rest) = subst (AllByRecursion (λ p. p.event.0 < length plan.events)) st.waiting h in
+      let front : AreOfPlan plan (st.first ∷ st.rest) = subst (AreOfPlan plan) st.waiting h in
       let fit = fits st.first.event front.0 in
-      let grown = potential-does w (does-event plan st.first st.rest st.order s) in
-      let paid = order_cost plan w (before_handlers plan st.first st.rest s) st.first.event st.order st.in_order in
+      let ready = before_handlers plan st.first st.rest s in
+      let grown = potential-does plan w (does-order plan ready st.first.event st.order st.in_order) in
+      let paid = order_cost plan w ready st.first.event st.order st.in_order in
       let line = length-append s.lines (record { moment = s.moment; owner = st.first.owner; happening = lines.Event st.first.event } ∷ []) in
       let weighs = ap (weigh w) st.waiting in
       let is = ap (potential w) st.new_is in
       omega (arith, fit, grown, paid, line, weighs, is)
 
-  pub steps-potential : (n : ℕ) (s t : Machine) → EventSteps plan n s t → WaitsInPlan plan valid s → potential w t ≤ potential w s
-  steps-potential zero s t is h = let same = ap (potential w) is in omega (arith, same)
-  steps-potential (suc n) s t (mid, step, more) h =
-      let one = step-potential s mid step h in
-      let rest = steps-potential n mid t more (waits-step plan valid s mid step h) in
-      omega (arith, one, rest)
+  -- the potential is within k, and each waiting event is one of the plan's
+  pub record IsWithin (k : ℕ) (s : Machine) : Type 0 where
+    pub most : potential w s ≤ k
+    pub waits : WaitsInPlan plan s
+
+  within-step : (k : ℕ) (s t : Machine) → EventStep plan s t → IsWithin k s → IsWithin k t
+  within-step k s t st h = record {
+    most = let most = h.most in omega (arith, step-potential s t st h.waits, most);
+    waits = waits-step plan valid s t st h.waits;
+  }
 
   -- a stimulus begins with no more than it costs
-  pub begin-potential : (stimulus : Stimulus) (s : Machine) → s.waiting ≡ [] → potential w (begin plan stimulus s) ≤ price w (cost_of_stimulus plan s stimulus)
-  begin-potential stimulus s empty =
-      let grown = potential-does w (does-begin plan stimulus s) in
-      let none = ap (weigh w) empty in
-      omega (arith, grown, none)
+  within-begin : (stimulus : Stimulus) (s : Machine) → s.waiting ≡ [] → IsWithin (price w (cost_of_stimulus plan s stimulus)) (begin plan stimulus s)
+  within-begin stimulus s empty = record {
+    most = let none = ap (weigh w) empty in omega (arith, potential-does plan w (does-begin plan stimulus s), none);
+    waits = waits-does plan IsMachine (Unit {0}) valid.entries (does-begin plan stimulus s) (subst (AreOfPlan plan) (sym empty) tt);
+  }
+
+  -- what a stimulus leads to stays within what it costs
+  within-cascade : (stimulus : Stimulus) (s : Machine) → s.waiting ≡ [] → (n : ℕ) (t : Machine) → EventSteps plan n (begin plan stimulus s) t → IsWithin (price w (cost_of_stimulus plan s stimulus)) t
+  within-cascade stimulus s empty n t steps =
+      steps-keep plan (λ before. IsWithin (price w (cost_of_stimulus plan s stimulus))) (λ before. within-step (price w (cost_of_stimulus plan s stimulus))) [] n (begin plan stimulus s) t steps (within-begin stimulus s empty)
+
+  -- every run stays within the bound
+  pub within-run : InEveryRun plan (λ stimuli trace s. IsWithin (bound_of plan w) s × HasSwitches plan s)
+  within-run stimuli trace s run =
+      (run-keeps plan (λ before m. IsWithin (bound_of plan w) m × HasSwitches plan m) (λ before m t st h. (within-step (bound_of plan w) m t st h.0, has_switches-step plan m t st h.1)) begins [] stimuli (initial plan) trace s run
+      (record { most = omega arith; waits = tt }, has_switches-initial plan)).1
+    where
+      begins : (before : List Line) (stimulus : Stimulus) (m : Machine) → IsAllowed plan m stimulus → m.waiting ≡ [] → IsWithin (bound_of plan w) m × HasSwitches plan m → IsWithin (bound_of plan w) (begin plan stimulus m) × HasSwitches plan (begin plan stimulus m)
+      begins before stimulus m allowed empty h =
+          let begun = within-begin stimulus m empty in
+          let most = begun.most in
+          (record { most = omega (arith, most, stimulus_cost plan w m stimulus h.1 allowed); waits = begun.waits }, has_switches-begin plan stimulus m h.1)
 
   -- each waiting event weighs at least 1
-  waiting-weigh : (ps : List Posted) → AllByRecursion (λ p. p.event.0 < length plan.events) ps → length ps ≤ weigh w ps
+  waiting-weigh : (ps : List Posted) → AreOfPlan plan ps → length ps ≤ weigh w ps
   waiting-weigh [] h = omega arith
   waiting-weigh (p ∷ ps) h =
       let fit = fits p.event h.0 in
       omega (arith, fit, waiting-weigh ps h.1)
-
-  -- a run that begins within the bound stays within it
-  pub run-potential : (stimuli : List (Stimulus × ℕ)) (s : Machine) (trace : List Line) (t : Machine) → IsRun plan stimuli s trace t → potential w s ≤ bound_of plan w → WaitsInPlan plan valid s → HasSwitches plan s → potential w t ≤ bound_of plan w
-  run-potential [] s trace t (none, is) p h switches = let same = ap (potential w) is in omega (arith, same)
-  run-potential ((stimulus, n) ∷ more) s trace t (empty, allowed, (mid, rest, steps, run, lines)) p h switches =
-      let begun = waits-begin plan valid stimulus s h in
-      let started = begin-potential stimulus s empty in
-      let most = stimulus_cost plan w s stimulus switches allowed in
-      let went = steps-potential n (begin plan stimulus s) mid steps begun in
-      run-potential more mid rest t run (omega (arith, started, most, went)) (waits-steps plan valid n (begin plan stimulus s) mid steps begun) (has_switches-after plan stimulus s n mid steps switches)
-
-  -- what a stimulus leads to stays within what it costs
-  pub cascade-potential : (stimulus : Stimulus) (s : Machine) → WaitsInPlan plan valid s → s.waiting ≡ [] → (n : ℕ) (t : Machine) → EventSteps plan n (begin plan stimulus s) t → potential w t ≤ price w (cost_of_stimulus plan s stimulus)
-  cascade-potential stimulus s h empty n t steps =
-      let started = begin-potential stimulus s empty in
-      let went = steps-potential n (begin plan stimulus s) t steps (waits-begin plan valid stimulus s h) in
-      omega (arith, started, went)
 
 -- where the weights fit and the bound is theirs, every run is good
 pub fitting-is_good : (c : CheckedView) → IsValid c.plan → IsFitting c.plan (weight_of c.weights) → c.bound ≡ bound_of c.plan (weight_of c.weights) → IsGood c
@@ -152,20 +125,17 @@ fitting-is_good c valid fits bound =
     let plan = c.plan in
     let w = weight_of c.weights in
     record {
-      cascade = λ stimuli trace s run empty stimulus allowed n t steps.
-          cascade-potential plan valid w fits stimulus s (waits-run plan valid stimuli trace s run) empty n t steps;
+      cascade = λ stimuli trace s run empty stimulus allowed n t steps. (within-cascade plan valid w fits stimulus s empty n t steps).most;
       within = λ stimuli trace s run.
-          let here = waits-run plan valid stimuli trace s run in
-          let most = run-potential plan valid w fits stimuli (initial plan) trace s run (omega arith) tt (has_switches-initial plan) in
-          let heavy = waiting-weigh plan valid w fits s.waiting here in
+          let here = (within-run plan valid w fits stimuli trace s run).0 in
+          let most = here.most in
+          let heavy = waiting-weigh plan valid w fits s.waiting here.waits in
           omega (arith, most, heavy, bound);
       goes_on = λ stimuli trace s run first rest is.
           (after_event plan first rest (by_priority plan (handlers_in plan (before_handlers plan first rest s) first.event)) s, plan_order-step plan s first rest is);
       ends = λ stimuli trace s run empty stimulus allowed n t steps.
-          let here = waits-run plan valid stimuli trace s run in
-          let switches = has_switches-run plan stimuli (initial plan) trace s run (has_switches-initial plan) in
-          let most = cascade-potential plan valid w fits stimulus s here empty n t steps in
-          let cost = stimulus_cost plan w s stimulus switches allowed in
+          let most = (within-cascade plan valid w fits stimulus s empty n t steps).most in
+          let cost = stimulus_cost plan w s stimulus (within-run plan valid w fits stimuli trace s run).1 allowed in
           let lines = steps-lines plan n (begin plan stimulus s) t steps in
           omega (arith, most, cost, lines, bound);
       levels = levels-run plan;

@@ -1,29 +1,83 @@
--- What one cost pays for: single changes of the machine, one after another.
+-- What one cost pays for: single changes of the machine, one after another, each by a licence.
 use Rattle.std.proofs.Common.{◌≡◌, ℕ, zero, suc, ◌+◌, ◌≤◌, ◌<◌, List, [], ◌∷◌, ◌++◌, length, length-append, Contains, refl, sym, subst, ◌∙◌, arith}
-use Rattle.std.specs.List.{AllByRecursion}
+use Rattle.std.specs.List.{All, AllByRecursion}
 use Rattle.std.proofs.lemmas.List.{length-set}
+use Rattle.std.proofs.lemmas.List.Elements.{All-head, All-tail}
+use Rattle.mpf_plan.specs.PlanView.{PlanView}
+use Rattle.mpf_plan.specs.Valid.{HasEntries}
 use Rattle.mpf_plan.specs.declared.entries.EventId.{EventId}
 use Rattle.mpf_plan.specs.declared.entries.Owner.{Owner}
 use Rattle.mpf_plan.specs.declared.entries.SwitchId.{SwitchId}
 use Rattle.switch_core.specs.SwitchStep.{SwitchState}
-use Rattle.switch_core.specs.Switches.{set_state}
+use Rattle.switch_core.specs.Switches.{all_idle, set_state}
 use Rattle.config_checker.specs.declared.line.Happening.{Happening}
-use Rattle.cascade_rank.specs.Cost.{Cost, Lines, Both, Greater, price, each_of, dearest_of, cost_of_post}
+use Rattle.config_checker.specs.declared.line.Happening.TheVariants as lines
+use Rattle.cascade_rank.specs.Cost.{Cost, Lines, Both, price, each_of, dearest_of, cost_of_post}
 use Rattle.event_queue.specs.declared.queue.Posted.{Posted}
 use Rattle.config_checker.specs.Machine.{Machine, write, post, set_switches, all_do}
 use Rattle.config_checker.specs.GoodRun.{weigh}
-use Rattle.cascade_rank.specs.Below.{IsBelow}
 
--- From one state to another by changes that cost at most this. A new kind of change is a new constructor here, and a
--- line in each lemma below.
-pub data Does : Cost → Machine → Machine → Type 0 where
-  quiet : {c : Cost} {s : Machine} → Does c s s
-  wrote : (owner : Owner) (what : Happening) (s : Machine) → Does (Lines 1) s (write owner what s)
-  posted : (owner : Owner) (e : EventId) (s : Machine) → Does (cost_of_post e) s (post owner e s)
-  switched : {c : Cost} {t : Machine} (n : SwitchId) (switch : SwitchState) (s : Machine) → Does c (set_switches (set_state n switch s.switches) s) t → Does c s t
-  both : {a b : Cost} {s m t : Machine} → Does a s m → Does b m t → Does (Both a b) s t
-  left : {a b : Cost} {s t : Machine} → Does a s t → Does (Greater a b) s t
-  right : {a b : Cost} {s t : Machine} → Does b s t → Does (Greater a b) s t
+-- ---- single changes
+
+-- One change of the machine. A new kind of change is a new constructor here, with a line in each function by cases below.
+pub data Move : Type 0 where
+  Wrote : (owner : Owner) (what : Happening) → Move
+  Sent : (owner : Owner) (e : EventId) → Move
+  Switched : (n : SwitchId) (switch : SwitchState) → Move
+
+abbrev pub do_move : PlanView → Move → Machine → Machine
+do_move plan (Wrote owner what) s = write owner what s
+do_move plan (Sent owner e) s = post owner e s
+do_move plan (Switched n switch) s = set_switches (set_state n switch s.switches) s
+
+abbrev pub cost_of_move : PlanView → Move → Cost
+cost_of_move plan (Wrote owner what) = Lines 1
+cost_of_move plan (Sent owner e) = cost_of_post e
+cost_of_move plan (Switched n switch) = Lines 0
+
+-- the line is not that of an event: those come only as events are taken
+abbrev pub IsNoEvent : Happening → Type 0
+IsNoEvent (lines.Switch n active) = Unit {0}
+IsNoEvent (lines.Event e) = ⊥
+
+-- What these owners may do. Where the plan's numbers are those of entries, they post only events of the plan. Switches
+-- change only where that is allowed apart.
+abbrev pub MayDo : PlanView → (Owner → Type 0) → Type 0 → Move → Type 0
+MayDo plan by switches (Wrote owner what) = by owner × IsNoEvent what
+MayDo plan by switches (Sent owner e) = by owner × (HasEntries plan → e.0 < length plan.events)
+MayDo plan by switches (Switched n switch) = switches
+
+-- From one state to another by moves that are allowed, and that cost at most this.
+pub data Does (plan : PlanView) (may : Move → Type 0) : Cost → Machine → Machine → Type 0 where
+  quiet : {s : Machine} → Does plan may (Lines 0) s s
+  moved : (x : Move) (s : Machine) → may x → Does plan may (cost_of_move plan x) s (do_move plan x s)
+  both : {a b : Cost} {s m t : Machine} → Does plan may a s m → Does plan may b m t → Does plan may (Both a b) s t
+  less : {a b : Cost} {s t : Machine} → Does plan may a s t → ((w : EventId → ℕ) → price w a ≤ price w b) → Does plan may b s t
+
+module _ (plan : PlanView) (may : Move → Type 0) where
+  -- what each allowed move keeps, they all keep
+  pub does-keeps : (Inv : Machine → Type 0) → ((x : Move) (s : Machine) → may x → Inv s → Inv (do_move plan x s)) → {c : Cost} {s t : Machine} → Does plan may c s t → Inv s → Inv t
+  does-keeps Inv moves quiet h = h
+  does-keeps Inv moves (moved x s allowed) h = moves x s allowed h
+  does-keeps Inv moves (both a b) h = does-keeps Inv moves b (does-keeps Inv moves a h)
+  does-keeps Inv moves (less a fewer) h = does-keeps Inv moves a h
+
+  -- where each does its own cost, all do the costs together
+  pub all_do-does : {X : Type 0} (f : X → Machine → Machine) (cost : X → Cost) (P : X → Type 0) → ((x : X) (s : Machine) → P x → Does plan may (cost x) s (f x s)) → (xs : List X) → All P xs → (s : Machine) → Does plan may (each_of cost xs) s (all_do f xs s)
+  all_do-does f cost P each [] h s = quiet
+  all_do-does f cost P each (x ∷ xs) h s = both (each x s (All-head P x xs h)) (all_do-does f cost P each xs (All-tail P x xs h) (f x s))
+
+  -- one of several costs at most the dearest
+  pub does-dearest : {X : Type 0} (f : X → Cost) (xs : List X) (x : X) (s t : Machine) → Contains xs x → Does plan may (f x) s t → Does plan may (dearest_of f xs) s t
+  does-dearest f [] x s t (k, l, is) d = absurd (omega arith)
+  does-dearest f (y ∷ ys) x s t (zero, l, is) d = less (subst (λ (z : _). Does plan may (f z) s t) (sym is) d) (λ w. omega arith)
+  does-dearest f (y ∷ ys) x s t (suc k, l, is) d = less (does-dearest f ys x s t (k, omega arith, is) d) (λ w. omega arith)
+
+-- lines and waiting events only grow
+abbrev pub Grows : Machine → Machine → Type 0
+Grows s t = (length s.lines ≤ length t.lines) × (length s.waiting ≤ length t.waiting)
+
+-- ---- the potential grows by no more than the cost
 
 -- lines so far, and the weights of the waiting events
 abbrev pub potential : (EventId → ℕ) → Machine → ℕ
@@ -33,87 +87,77 @@ pub weigh-append : (w : EventId → ℕ) (ps qs : List Posted) → weigh w (ps +
 weigh-append w [] qs = omega arith
 weigh-append w (p ∷ ps) qs = omega (arith, weigh-append w ps qs)
 
--- the potential grows by no more than the cost
-pub potential-does : (w : EventId → ℕ) {c : Cost} {s t : Machine} → Does c s t → potential w t ≤ potential w s + price w c
-potential-does w quiet = omega arith
-potential-does w (wrote owner what s) = omega (arith, length-append s.lines (record { moment = s.moment; owner = owner; happening = what } ∷ []))
-potential-does w (posted owner e s) = omega (arith, weigh-append w s.waiting (record { event = e; owner = owner } ∷ []))
-potential-does w (switched n switch s d) = potential-does w d
-potential-does w (both a b) = omega (arith, potential-does w a, potential-does w b)
-potential-does w (left a) = omega (arith, potential-does w a)
-potential-does w (right b) = omega (arith, potential-does w b)
+module _ (plan : PlanView) where
+  potential-move : (w : EventId → ℕ) (x : Move) (s : Machine) → potential w (do_move plan x s) ≤ potential w s + price w (cost_of_move plan x)
+  potential-move w (Wrote owner what) s = omega (arith, length-append s.lines (record { moment = s.moment; owner = owner; happening = what } ∷ []))
+  potential-move w (Sent owner e) s = omega (arith, weigh-append w s.waiting (record { event = e; owner = owner } ∷ []))
+  potential-move w (Switched n switch) s = omega arith
 
--- each waiting event is below n
-abbrev pub WaitsBelow : ℕ → Machine → Type 0
-WaitsBelow n s = AllByRecursion (λ p. p.event.0 < n) s.waiting
+  pub potential-does : {may : Move → Type 0} (w : EventId → ℕ) {c : Cost} {s t : Machine} → Does plan may c s t → potential w t ≤ potential w s + price w c
+  potential-does w quiet = omega arith
+  potential-does w (moved x s allowed) = potential-move w x s
+  potential-does w (both a b) = omega (arith, potential-does w a, potential-does w b)
+  potential-does w (less a fewer) = omega (arith, potential-does w a, fewer w)
 
-pub below-push : (n : ℕ) (ps : List Posted) (p : Posted) → AllByRecursion (λ q. q.event.0 < n) ps → p.event.0 < n → AllByRecursion (λ q. q.event.0 < n) (ps ++ p ∷ [])
-below-push n [] p h k = (k, tt)
-below-push n (q ∷ ps) p h k = (h.0, below-push n ps p h.1 k)
+  -- ---- what moves keep
 
-pub WaitsBelow-does : (n : ℕ) {c : Cost} {s t : Machine} → Does c s t → IsBelow n c → WaitsBelow n s → WaitsBelow n t
-WaitsBelow-does n quiet m h = h
-WaitsBelow-does n (wrote owner what s) m h = h
-WaitsBelow-does n (posted owner e s) m h = below-push n s.waiting (record { event = e; owner = owner }) h m
-WaitsBelow-does n (switched k switch s d) m h = WaitsBelow-does n d m h
-WaitsBelow-does n (both a b) m h = WaitsBelow-does n b m.1 (WaitsBelow-does n a m.0 h)
-WaitsBelow-does n (left a) m h = WaitsBelow-does n a m.0 h
-WaitsBelow-does n (right b) m h = WaitsBelow-does n b m.1 h
+  -- each waiting event is one of the plan's
+  abbrev pub AreOfPlan : List Posted → Type 0
+  AreOfPlan ps = AllByRecursion (λ p. p.event.0 < length plan.events) ps
 
--- how the switches are read stays
-pub kinds-does : {c : Cost} {s t : Machine} → Does c s t → t.switches.kinds ≡ s.switches.kinds
-kinds-does quiet = refl
-kinds-does (wrote owner what s) = refl
-kinds-does (posted owner e s) = refl
-kinds-does (switched n switch s d) = kinds-does d
-kinds-does (both a b) = kinds-does b ∙ kinds-does a
-kinds-does (left a) = kinds-does a
-kinds-does (right b) = kinds-does b
+  abbrev pub WaitsInPlan : Machine → Type 0
+  WaitsInPlan s = AreOfPlan s.waiting
 
--- and no state comes or goes
-pub states-does : {c : Cost} {s t : Machine} → Does c s t → length t.switches.states ≡ length s.switches.states
-states-does quiet = refl
-states-does (wrote owner what s) = refl
-states-does (posted owner e s) = refl
-states-does (switched n switch s d) = states-does d ∙ length-set s.switches.states n.0 switch
-states-does (both a b) = states-does b ∙ states-does a
-states-does (left a) = states-does a
-states-does (right b) = states-does b
+  of_plan-push : (ps : List Posted) (p : Posted) → AreOfPlan ps → p.event.0 < length plan.events → AreOfPlan (ps ++ p ∷ [])
+  of_plan-push [] p h k = (k, tt)
+  of_plan-push (q ∷ ps) p h k = (h.0, of_plan-push ps p h.1 k)
 
--- the moment stays
-pub moment-does : {c : Cost} {s t : Machine} → Does c s t → t.moment ≡ s.moment
-moment-does quiet = refl
-moment-does (wrote owner what s) = refl
-moment-does (posted owner e s) = refl
-moment-does (switched n switch s d) = moment-does d
-moment-does (both a b) = moment-does b ∙ moment-does a
-moment-does (left a) = moment-does a
-moment-does (right b) = moment-does b
+  grows-move : (x : Move) (s : Machine) → Grows s (do_move plan x s)
+  grows-move (Wrote owner what) s = (omega (arith, length-append s.lines (record { moment = s.moment; owner = owner; happening = what } ∷ [])), omega arith)
+  grows-move (Sent owner e) s = (omega arith, omega (arith, length-append s.waiting (record { event = e; owner = owner } ∷ [])))
+  grows-move (Switched n switch) s = (omega arith, omega arith)
 
--- lines and waiting events only grow
-pub record Grows (s t : Machine) : Type 0 where
-  pub lines : length s.lines ≤ length t.lines
-  pub waiting : length s.waiting ≤ length t.waiting
+  moment-move : (x : Move) (s : Machine) → (do_move plan x s).moment ≡ s.moment
+  moment-move (Wrote owner what) s = refl
+  moment-move (Sent owner e) s = refl
+  moment-move (Switched n switch) s = refl
 
-pub grows-does : {c : Cost} {s t : Machine} → Does c s t → Grows s t
-grows-does quiet = record { lines = omega arith; waiting = omega arith }
-grows-does (wrote owner what s) = record { lines = omega (arith, length-append s.lines (record { moment = s.moment; owner = owner; happening = what } ∷ [])); waiting = omega arith }
-grows-does (posted owner e s) = record { lines = omega arith; waiting = omega (arith, length-append s.waiting (record { event = e; owner = owner } ∷ [])) }
-grows-does (switched n switch s d) = let g = grows-does d in record { lines = g.lines; waiting = g.waiting }
-grows-does (both a b) =
-    let g = grows-does a in
-    let h = grows-does b in
-    record { lines = omega (arith, g.lines, h.lines); waiting = omega (arith, g.waiting, h.waiting) }
-grows-does (left a) = grows-does a
-grows-does (right b) = grows-does b
+  -- the switches are read as the plan says, and each has a state
+  pub record HasSwitches (s : Machine) : Type 0 where
+    pub kinds : s.switches.kinds ≡ (all_idle plan).kinds
+    pub states : length s.switches.states ≡ length plan.switches
 
--- where each does its own cost, all do the costs together
-pub all_do-does : {X : Type 0} (f : X → Machine → Machine) (cost : X → Cost) → ((x : X) (s : Machine) → Does (cost x) s (f x s)) → (xs : List X) (s : Machine) → Does (each_of cost xs) s (all_do f xs s)
-all_do-does f cost each [] s = quiet
-all_do-does f cost each (x ∷ xs) s = both (each x s) (all_do-does f cost each xs (f x s))
+  has_switches-move : (x : Move) (s : Machine) → HasSwitches s → HasSwitches (do_move plan x s)
+  has_switches-move (Wrote owner what) s h = record { kinds = h.kinds; states = h.states }
+  has_switches-move (Sent owner e) s h = record { kinds = h.kinds; states = h.states }
+  has_switches-move (Switched n switch) s h = record { kinds = h.kinds; states = length-set s.switches.states n.0 switch ∙ h.states }
 
--- one of several costs at most the dearest
-pub does-dearest : {X : Type 0} (f : X → Cost) (xs : List X) (x : X) (s t : Machine) → Contains xs x → Does (f x) s t → Does (dearest_of f xs) s t
-does-dearest f [] x s t (k, l, is) d = absurd (omega arith)
-does-dearest f (y ∷ ys) x s t (zero, l, is) d = left (subst (λ (z : _). Does (f z) s t) (sym is) d)
-does-dearest f (y ∷ ys) x s t (suc k, l, is) d = right (does-dearest f ys x s t (k, omega arith, is) d)
+  module _ {may : Move → Type 0} {c : Cost} {s t : Machine} where
+    pub grows-does : Does plan may c s t → Grows s t
+    grows-does d =
+        does-keeps plan may (Grows s) (λ x u allowed h. let g = grows-move x u in (omega (arith, h.0, g.0), omega (arith, h.1, g.1))) d (omega arith, omega arith)
+
+    pub moment-does : Does plan may c s t → t.moment ≡ s.moment
+    moment-does d = does-keeps plan may (λ u. u.moment ≡ s.moment) (λ x u allowed h. moment-move x u ∙ h) d refl
+
+    pub has_switches-does : Does plan may c s t → HasSwitches s → HasSwitches t
+    has_switches-does d h = does-keeps plan may HasSwitches (λ x u allowed k. has_switches-move x u k) d h
+
+  module _ (by : Owner → Type 0) (switches : Type 0) where
+    waits-move : HasEntries plan → (x : Move) (s : Machine) → MayDo plan by switches x → WaitsInPlan s → WaitsInPlan (do_move plan x s)
+    waits-move entries (Wrote owner what) s may h = h
+    waits-move entries (Sent owner e) s may h = of_plan-push s.waiting (record { event = e; owner = owner }) h (may.1 entries)
+    waits-move entries (Switched n switch) s may h = h
+
+    pub waits-does : HasEntries plan → {c : Cost} {s t : Machine} → Does plan (MayDo plan by switches) c s t → WaitsInPlan s → WaitsInPlan t
+    waits-does entries d h = does-keeps plan (MayDo plan by switches) WaitsInPlan (waits-move entries) d h
+
+  -- where no switch may change
+  module _ (by : Owner → Type 0) where
+    switches-move : (x : Move) (s : Machine) → MayDo plan by ⊥ x → (do_move plan x s).switches ≡ s.switches
+    switches-move (Wrote owner what) s may = refl
+    switches-move (Sent owner e) s may = refl
+    switches-move (Switched n switch) s may = absurd may
+
+    pub switches-does : {c : Cost} {s t : Machine} → Does plan (MayDo plan by ⊥) c s t → t.switches ≡ s.switches
+    switches-does {c} {s} {t} d = does-keeps plan (MayDo plan by ⊥) (λ u. u.switches ≡ s.switches) (λ x u may h. switches-move x u may ∙ h) d refl

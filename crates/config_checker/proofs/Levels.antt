@@ -14,7 +14,7 @@ use Rattle.config_checker.specs.declared.line.Line.{Line}
 use Rattle.config_checker.specs.Machine.{Machine, initial}
 use Rattle.config_checker.specs.Run.{switch, Stimulus, Change, Alarm, Wait, IsNothingLate, IsNoAlarmDueBy, begin, IsRun, InEveryRun}
 use Rattle.config_checker.specs.SwitchCalls.{switch_calls}
-use Rattle.config_checker.proofs.Alarms.{switches-steps, switches-change, switches-alarm, moment-after, not_late-after, not_late-initial, forward}
+use Rattle.config_checker.proofs.Alarms.{switches-steps, switches-begin, moment-after, not_late-after, not_late-initial, forward}
 use Rattle.config_checker.proofs.NextAlarms.{next_alarm-due}
 
 -- The calls that stimuli make are in time, and lead from the switches of one state to those of the other.
@@ -42,7 +42,7 @@ module _ (plan : PlanView) where
   run-called ((Change at n level, k) ∷ more) s trace t (empty, allowed, (mid, rest, steps, run, lines)) on_time moment before =
       let here = moment-after plan (Change at n level) s k mid steps in
       let later = run-called more mid rest t run (not_late-after plan (Change at n level) s k mid allowed steps) at (omega (arith, here)) in
-      let there : after_call (calls.Change n level at) s.switches ≡ mid.switches = sym (switches-steps plan k (begin plan (Change at n level) s) mid steps ∙ switches-change plan at n level s) in
+      let there : after_call (calls.Change n level at) s.switches ≡ mid.switches = sym (switches-steps plan k (begin plan (Change at n level) s) mid steps ∙ switches-begin plan (Change at n level) s) in
       let past = allowed.0.forward in
       let both = called-next moment (calls.Change n level at) (switch_calls more) s mid t (omega (arith, past, before)) (λ other due is. allowed.0.quiet (switch other) due is) there later.in_time later.after in
       record { in_time = both.0; after = both.1; last = later.last }
@@ -50,7 +50,7 @@ module _ (plan : PlanView) where
       let here = moment-after plan (Alarm at (switch n)) s k mid steps in
       let later = run-called more mid rest t run (not_late-after plan (Alarm at (switch n)) s k mid allowed steps) at (omega (arith, here)) in
       let next = next_alarm-due s at n allowed.0 in
-      let there : after_call (Fire at) s.switches ≡ mid.switches = fire-accepts n s.switches at next ∙ sym (switches-steps plan k (begin plan (Alarm at (switch n)) s) mid steps ∙ switches-alarm plan at n s) in
+      let there : after_call (Fire at) s.switches ≡ mid.switches = fire-accepts n s.switches at next ∙ sym (switches-steps plan k (begin plan (Alarm at (switch n)) s) mid steps ∙ switches-begin plan (Alarm at (switch n)) s) in
       let past = forward plan (Alarm at (switch n)) s on_time allowed in
       let both = called-next moment (Fire at) (switch_calls more) s mid t (omega (arith, past, before)) (n, next) there later.in_time later.after in
       record { in_time = both.0; after = both.1; last = later.last }

@@ -1,26 +1,22 @@
 -- An order of handlers costs no more than its event.
-use Rattle.std.proofs.Common.{◌≡◌, ℕ, ◌+◌, ◌≤◌, ◌<◌, not, List, [], ◌∷◌, length, map, refl, ap, arith}
+use Rattle.std.proofs.Common.{◌≡◌, ℕ, ◌+◌, ◌≤◌, not, List, [], ◌∷◌, map, refl, ap, arith}
 use Rattle.std.proofs.lemmas.List.Filters.{sum_by-filter_both}
-use Rattle.std.proofs.lemmas.List.Sorted.{sum_by-IsPermutation, All-permutation}
-use Rattle.std.proofs.lemmas.List.Elements.{All-filter, All-get_or}
-use Rattle.mpf_plan.specs.PlanView.{PlanView, no_binding, binding_at, places_of, bound_to}
-use Rattle.mpf_plan.specs.Valid.{IsValid, IsBindingWithin}
+use Rattle.std.proofs.lemmas.List.Sorted.{sum_by-IsPermutation}
+use Rattle.mpf_plan.specs.PlanView.{PlanView, binding_at, places_of, bound_to}
 use Rattle.mpf_plan.specs.declared.entries.EventId.{EventId}
 use Rattle.mpf_plan.specs.declared.entries.BindingId.{BindingId}
 use Rattle.mpf_plan.specs.declared.entries.Binding.{Binding}
-use Rattle.mpf_plan.proofs.BoundTo.{places_of-bound, places_of-within}
-use Rattle.cascade_rank.specs.Cost.{Cost, price, each_of, cost_of_binding}
+use Rattle.mpf_plan.proofs.BoundTo.{places_of-bound}
+use Rattle.cascade_rank.specs.Cost.{Cost, price, each_of, cost_of_binding, cost_of_work}
 use Rattle.cascade_rank.specs.Weights.{need}
 use Rattle.cascade_rank.proofs.Prices.{price-each_sum}
-use Rattle.cascade_rank.specs.Below.{IsBelow}
-use Rattle.cascade_rank.proofs.Within.{each_below, IsBelow-binding}
 use Rattle.event_queue.specs.declared.queue.Posted.{Posted}
 use Rattle.event_queue.specs.Handlers.{takes_part, handlers, IsHandlerOrder}
 use Rattle.event_queue.specs.PlanOrder.{by_priority}
 use Rattle.event_queue.proofs.Sort.{by_priority-is_order}
 use Rattle.config_checker.specs.Machine.{Machine}
 use Rattle.config_checker.specs.EventStep.{before_handlers, handlers_in, EventStep, after_event}
-use Rattle.config_checker.proofs.Parts.{cost_of_handler, cost_of_handling}
+use Rattle.config_checker.proofs.Parts.{cost_of_handler}
 
 each_of-map : {X Y : Type 0} (f : Y → Cost) (g : X → Y) (xs : List X) (w : EventId → ℕ) → price w (each_of f (map g xs)) ≡ price w (each_of (λ x. f (g x)) xs)
 each_of-map f g [] w = refl
@@ -39,23 +35,12 @@ module _ (plan : PlanView) where
       omega (arith, both, kept, all, seen, bound)
 
   -- the event's line, its handlers in any order and the machine's work are within what the event costs
-  pub order_cost : (w : EventId → ℕ) (s : Machine) (e : EventId) (order : List BindingId) → IsHandlerOrder plan (handlers_in plan s e) order → 1 + price w (cost_of_handling plan e order) ≤ need plan w e
+  pub order_cost : (w : EventId → ℕ) (s : Machine) (e : EventId) (order : List BindingId) → IsHandlerOrder plan (handlers_in plan s e) order → 1 + price w (each_of (cost_of_handler plan) order) + price w (cost_of_work plan e) ≤ need plan w e
   order_cost w s e order h =
       let same = sum_by-IsPermutation (λ p. price w (cost_of_handler plan p)) (handlers plan e) order h.permutation in
       let kept = price-each_sum w (cost_of_handler plan) (handlers plan e) in
       let total = price-each_sum w (cost_of_handler plan) order in
       omega (arith, same, kept, total, handlers_cost w e)
-
-  -- the handlers of an order are bindings of the plan, so they post only events of the plan
-  pub order_below : IsValid plan → (s : Machine) (e : EventId) (order : List BindingId) → IsHandlerOrder plan (handlers_in plan s e) order → IsBelow (length plan.events) (cost_of_handling plan e order)
-  order_below valid s e order h =
-      let count = length plan.bindings in (
-        each_below (length plan.events) (cost_of_handler plan) (λ p. p.0 < count)
-            (λ p l. IsBelow-binding plan valid.entries (binding_at plan p) (All-get_or (IsBindingWithin plan) plan.bindings p.0 no_binding l valid.entries.bindings)) order
-            (All-permutation (λ p. p.0 < count) (handlers plan e) order h.permutation
-            (All-filter (λ p. takes_part (binding_at plan p).owner) (λ p. p.0 < count) (places_of plan e) (places_of-within plan e))),
-        tt,
-      )
 
   -- so an event step is there where an event waits
   pub plan_order-step : (s : Machine) (first : Posted) (rest : List Posted) → s.waiting ≡ first ∷ rest

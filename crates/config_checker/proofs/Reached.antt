@@ -11,7 +11,8 @@ use Rattle.config_checker.specs.CheckedView.{CheckedView}
 use Rattle.config_checker.specs.Accepted.{IsAccepted}
 use Rattle.config_checker.proofs.Cascade.{every_run_is_good}
 use Rattle.config_checker.proofs.PlanSteps.{settled-run, settled-idle, settled-steps, settled-same, settling-within}
-use Rattle.config_checker.proofs.Alarms.{HasSwitches, has_switches-run, has_switches-initial, complete, not_late-run, not_late-initial}
+use Rattle.config_checker.proofs.Does.{HasSwitches}
+use Rattle.config_checker.proofs.Alarms.{has_switches-run, has_switches-initial, complete, not_late-run, not_late-initial}
 
 module _ (plan : PlanView) where
   -- the state at the beginning
