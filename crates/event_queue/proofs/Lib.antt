@@ -1,5 +1,9 @@
 pub mod Sort
+mod Filtered
 pub mod PlanOrder
 mod FirstOut
 mod Counted
 mod OfEvent
+mod Ordered
+mod Sorted
+mod Walk
