@@ -1,6 +1,7 @@
 pub mod Sort
 mod Filtered
 pub mod PlanOrder
+pub mod NoneRunning
 mod FirstOut
 mod Counted
 mod OfEvent
