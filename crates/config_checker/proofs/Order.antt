@@ -24,11 +24,11 @@ each_of-map f g (x ∷ xs) w = omega (arith, each_of-map f g xs w)
 
 module _ (plan : PlanView) where
   -- the handlers of an event are among what is bound to it
-  handlers_cost : (w : EventId → ℕ) (e : EventId) → price w (each_of (cost_of_handler plan) (handlers plan e)) ≤ price w (each_of (cost_of_binding plan) (bound_to plan e))
+  handlers_cost : (w : EventId → ℕ) (e : EventId) → price w (each_of (cost_of_handler plan) (handlers plan [] e)) ≤ price w (each_of (cost_of_binding plan) (bound_to plan e))
   handlers_cost w e =
       let f : BindingId → ℕ = λ p. price w (cost_of_handler plan p) in
-      let both = sum_by-filter_both (λ p. takes_part (binding_at plan p).owner) (λ p. not (takes_part (binding_at plan p).owner)) (λ p. refl) f (places_of plan e) in
-      let kept = price-each_sum w (cost_of_handler plan) (handlers plan e) in
+      let both = sum_by-filter_both (λ p. takes_part [] (binding_at plan p).owner) (λ p. not (takes_part [] (binding_at plan p).owner)) (λ p. refl) f (places_of plan e) in
+      let kept = price-each_sum w (cost_of_handler plan) (handlers plan [] e) in
       let all = price-each_sum w (cost_of_handler plan) (places_of plan e) in
       let seen = each_of-map (cost_of_binding plan) (λ p. binding_at plan p) (places_of plan e) w in
       let bound = ap (λ (bs : List Binding). price w (each_of (cost_of_binding plan) bs)) (places_of-bound plan e) in
@@ -37,8 +37,8 @@ module _ (plan : PlanView) where
   -- the event's line, its handlers in any order and the machine's work are within what the event costs
   pub order_cost : (w : EventId → ℕ) (s : Machine) (e : EventId) (order : List BindingId) → IsHandlerOrder plan (handlers_in plan s e) order → 1 + price w (each_of (cost_of_handler plan) order) + price w (cost_of_work plan e) ≤ need plan w e
   order_cost w s e order h =
-      let same = sum_by-IsPermutation (λ p. price w (cost_of_handler plan p)) (handlers plan e) order h.permutation in
-      let kept = price-each_sum w (cost_of_handler plan) (handlers plan e) in
+      let same = sum_by-IsPermutation (λ p. price w (cost_of_handler plan p)) (handlers plan [] e) order h.permutation in
+      let kept = price-each_sum w (cost_of_handler plan) (handlers plan [] e) in
       let total = price-each_sum w (cost_of_handler plan) order in
       omega (arith, same, kept, total, handlers_cost w e)
 

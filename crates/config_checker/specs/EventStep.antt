@@ -1,5 +1,5 @@
 -- One event is taken from the queue and handled.
-use Rattle.std.specs.Prelude.{◌≡◌, ℕ, zero, suc, List, ◌∷◌}
+use Rattle.std.specs.Prelude.{◌≡◌, ℕ, zero, suc, List, [], ◌∷◌}
 use Rattle.mpf_plan.specs.PlanView.{PlanView}
 use Rattle.mpf_plan.specs.declared.entries.EventId.{EventId}
 use Rattle.mpf_plan.specs.declared.entries.BindingId.{BindingId}
@@ -27,9 +27,9 @@ before_handlers plan first rest s = work_before plan first.event (taken first re
 abbrev pub after_event : PlanView → Posted → List Posted → List BindingId → Machine → Machine
 after_event plan first rest order s = work_after plan first.event (all_do (do_handler plan) order (before_handlers plan first rest s))
 
--- the handlers of an event in a state of the machine
+-- the handlers of an event in a state of the machine: no mode runs yet
 abbrev pub handlers_in : PlanView → Machine → EventId → List BindingId
-handlers_in plan s e = handlers plan e
+handlers_in plan s e = handlers plan [] e
 
 -- The first waiting event is taken and handled, in some order of its handlers that is descending in priority.
 pub record EventStep (plan : PlanView) (old new : Machine) : Type 0 where

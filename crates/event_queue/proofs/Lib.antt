@@ -1,5 +1,10 @@
 pub mod Sort
+mod Filtered
 pub mod PlanOrder
+pub mod NoneRunning
 mod FirstOut
 mod Counted
 mod OfEvent
+mod Ordered
+mod Sorted
+mod Walk

@@ -1,6 +1,7 @@
 -- Handlers by priority are in plan order, and no other order of them is.
-use Rattle.std.proofs.Common.{◌≡◌, ℕ, zero, suc, ◌+◌, ◌<◌, ◌≤◌, ◌⊎◌, nat_lt, Bool, ◌==◌, List, [], ◌∷◌, length, map, filter, get_or, refl, ap₂, sym, subst, ◌∙◌, inl, inr, arith}
+use Rattle.std.proofs.Common.{◌≡◌, ℕ, zero, suc, ◌+◌, ◌<◌, ◌≤◌, ◌⊎◌, nat_lt, Bool, true, ◌==◌, List, [], ◌∷◌, length, map, filter, get_or, refl, ap₂, sym, subst, ◌∙◌, inl, inr, arith}
 use Rattle.std.specs.List.{All, AllPairs, range_with_len}
+use Rattle.std.specs.List.Sorted.{IsPermutation}
 use Rattle.std.proofs.lemmas.Bool.{cases_lt, cond_both, ltb-true, ltb-false}
 use Rattle.std.proofs.lemmas.List.Elements.{All-cons, All-map}
 use Rattle.std.proofs.lemmas.List.Kept.{AllPairs-cons, AllPairs-filter}
@@ -9,12 +10,13 @@ use Rattle.mpf_plan.specs.declared.entries.EventId.{EventId}
 use Rattle.mpf_plan.specs.declared.entries.BindingId.{BindingId}
 use Rattle.mpf_plan.specs.PlanView.{PlanView, binding_at, places_of}
 use Rattle.event_queue.specs.Handlers.{runs_at, handlers, priority_at}
-use Rattle.event_queue.specs.PlanOrder.{RunsBefore, IsPlanOrder, insert_place, by_priority, in_order, HandlersAreInPlanOrder}
+use Rattle.event_queue.specs.PlanOrder.{RunsBefore, IsPlanOrder, insert_place, by_priority, in_order, bound_in_order, handlers_from, HandlersAreInPlanOrder}
+use Rattle.event_queue.proofs.Filtered.{where-All, All-where}
 use Rattle.event_queue.proofs.Sort.{insert_place-permutes, by_priority-permutes, by_priority-is_order}
 
 -- ---- places in their own order
 
-abbrev IsBelow : BindingId → BindingId → Type 0
+abbrev pub IsBelow : BindingId → BindingId → Type 0
 IsBelow p q = p.0 < q.0
 
 from : (n a : ℕ) → All (λ m. a ≤ m) (range_with_len a n)
@@ -34,12 +36,14 @@ places-increase (n ∷ ns) h =
     (All-map (IsBelow (record { 0 = n })) (λ m. record { 0 = m }) ns (λ k d within. h 0 (suc k) d (omega arith) (omega arith)))
     (places-increase ns (λ i j d before within. h (suc i) (suc j) d (omega arith) (omega arith)))
 
-handlers-increase : (plan : PlanView) (e : EventId) → AllPairs IsBelow (handlers plan e)
-handlers-increase plan e =
+pub places_of-increase : (plan : PlanView) (e : EventId) → AllPairs IsBelow (places_of plan e)
+places_of-increase plan e =
     let on : ℕ → Bool = λ n. (binding_at plan (record { 0 = n })).event.0 == e.0 in
     let all = range_with_len 0 (length plan.bindings) in
-    AllPairs-filter IsBelow (runs_at plan) (places_of plan e)
-    (places-increase (filter on all) (AllPairs-filter (λ x y. x < y) on all (range-increases (length plan.bindings) 0)))
+    places-increase (filter on all) (AllPairs-filter (λ x y. x < y) on all (range-increases (length plan.bindings) 0))
+
+handlers-increase : (plan : PlanView) (running : List Bool) (e : EventId) → AllPairs IsBelow (handlers plan running e)
+handlers-increase plan running e = AllPairs-filter IsBelow (runs_at plan running) (places_of plan e) (places_of-increase plan e)
 
 -- ---- by priority, each runs before all after it
 
@@ -50,7 +54,7 @@ module _ (plan : PlanView) where
   before-trans p q r (inr a) (inl b) = let same = a.0 in inl (omega arith)
   before-trans p q r (inr a) (inr b) = let x = a.0 in let y = b.0 in let z = a.1 in let w = b.1 in inr (omega arith, omega arith)
 
-  before-or : (p q : BindingId) → priority_at plan q ≤ priority_at plan p → IsBelow p q → RunsBefore plan p q
+  pub before-or : (p q : BindingId) → priority_at plan q ≤ priority_at plan p → IsBelow p q → RunsBefore plan p q
   before-or p q le below =
       elim (cases_lt (priority_at plan q) (priority_at plan p)) [
         | inl less ↦ inl less
@@ -94,7 +98,7 @@ module _ (plan : PlanView) where
   one_way p q (inr a) (inr b) = let x = a.1 in let y = b.1 in absurd (omega arith)
 
   -- what holds of all these places holds of all those
-  abbrev AreAmong : List BindingId → List BindingId → Type 1
+  abbrev pub AreAmong : List BindingId → List BindingId → Type 1
   AreAmong ps qs = (P : BindingId → Type 0) → All P ps → All P qs
 
   starts : (p : BindingId) (ps : List BindingId) → AllPairs (RunsBefore plan) (p ∷ ps) → All (λ r. (p ≡ r) ⊎ RunsBefore plan p r) (p ∷ ps)
@@ -117,7 +121,7 @@ module _ (plan : PlanView) where
   abbrev IsNever : BindingId → Type 0
   IsNever p = p.0 < 0
 
-  one_order : (ps qs : List BindingId) → AllPairs (RunsBefore plan) ps → AllPairs (RunsBefore plan) qs → AreAmong ps qs → AreAmong qs ps → ps ≡ qs
+  pub one_order : (ps qs : List BindingId) → AllPairs (RunsBefore plan) ps → AllPairs (RunsBefore plan) qs → AreAmong ps qs → AreAmong qs ps → ps ≡ qs
   one_order [] [] h k there back = refl
   one_order [] (q ∷ qs) h k there back = let none : IsNever q = there IsNever (λ i d within. absurd (omega arith)) 0 q (omega arith) in absurd (omega arith)
   one_order (p ∷ ps) [] h k there back = let none : IsNever p = back IsNever (λ i d within. absurd (omega arith)) 0 p (omega arith) in absurd (omega arith)
@@ -132,12 +136,35 @@ module _ (plan : PlanView) where
       (λ P all. All-permutation P places qs b.permutation (All-permutation P ps places (IsPermutation-sym places ps a.permutation) all))
       (λ P all. All-permutation P places ps a.permutation (All-permutation P qs places (IsPermutation-sym places qs b.permutation) all))
 
-  pub in_order-is : (e : EventId) → IsPlanOrder plan (handlers plan e) (in_order plan e)
-  in_order-is e = record { permutation = by_priority-permutes plan (handlers plan e); ordered = by_priority-ordered (handlers plan e) (handlers-increase plan e) }
+  -- the places of all that is bound to an event are in plan order, and so are those of its handlers
+  pub bound_in_order-is : (e : EventId) → IsPlanOrder plan (places_of plan e) (bound_in_order plan e)
+  bound_in_order-is e = record { permutation = by_priority-permutes plan (places_of plan e); ordered = by_priority-ordered (places_of plan e) (places_of-increase plan e) }
+
+  pub in_order-is : (running : List Bool) (e : EventId) → IsPlanOrder plan (handlers plan running e) (in_order plan running e)
+  in_order-is running e = record { permutation = by_priority-permutes plan (handlers plan running e); ordered = by_priority-ordered (handlers plan running e) (handlers-increase plan running e) }
+
+  -- the handlers among what is bound to an event, which is in plan order, are all of them in plan order
+  module _ (running : List Bool) (e : EventId) where
+    among : (ps qs : List BindingId) → IsPermutation ps qs → AreAmong (filter (runs_at plan running) ps) (filter (runs_at plan running) qs)
+    among ps qs same P all =
+        let runs = runs_at plan running in
+        All-where runs P qs (All-permutation (λ p. runs p ≡ true → P p) ps qs same (where-All runs P ps all))
+
+    pub walk-all : handlers_from plan running e 0 ≡ in_order plan running e
+    walk-all =
+        let runs = runs_at plan running in
+        let places = places_of plan e in
+        let own = bound_in_order-is e in
+        let all = in_order-is running e in
+        let hs = handlers plan running e in
+        one_order (filter runs (bound_in_order plan e)) (in_order plan running e) (AllPairs-filter (RunsBefore plan) runs (bound_in_order plan e) own.ordered) all.ordered
+        (λ P h. All-permutation P hs (in_order plan running e) all.permutation (among (bound_in_order plan e) places (IsPermutation-sym places (bound_in_order plan e) own.permutation) P h))
+        (λ P h. among places (bound_in_order plan e) own.permutation P (All-permutation P (in_order plan running e) hs (IsPermutation-sym hs (in_order plan running e) all.permutation) h))
 
 pub handlers_are_in_plan_order : HandlersAreInPlanOrder
 handlers_are_in_plan_order = record {
   is = in_order-is;
-  only = λ plan e order is. plan_order-only plan (handlers plan e) order (in_order plan e) is (in_order-is plan e);
-  descends = λ plan e. by_priority-is_order plan (handlers plan e);
+  only = λ plan running e order is. plan_order-only plan (handlers plan running e) order (in_order plan running e) is (in_order-is plan running e);
+  descends = λ plan running e. by_priority-is_order plan (handlers plan running e);
+  walk = walk-all;
 }

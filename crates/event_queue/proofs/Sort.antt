@@ -1,9 +1,8 @@
--- Places by priority: the same places, none after one of lower priority. Where all priorities are equal they stay as they stand.
-use Rattle.std.proofs.Common.{◌≡◌, ℕ, ◌≤◌, nat_lt, List, [], ◌∷◌, refl, ap, ◌∙◌, arith}
-use Rattle.std.specs.List.{All, AllByRecursion}
+-- Places by priority: the same places, none after one of lower priority.
+use Rattle.std.proofs.Common.{ℕ, ◌≤◌, nat_lt, List, [], ◌∷◌, refl, arith}
+use Rattle.std.specs.List.{AllByRecursion}
 use Rattle.std.specs.List.Sorted.{IsPermutation}
-use Rattle.std.proofs.lemmas.Bool.{cond_both, cond-false, ltb-true, ltb-false, le-ltb}
-use Rattle.std.proofs.lemmas.List.Elements.{recursion_from_All}
+use Rattle.std.proofs.lemmas.Bool.{cond_both, ltb-true, ltb-false}
 use Rattle.std.proofs.lemmas.List.Sorted.{IsPermutation-refl, IsPermutation-cons, IsPermutation-trans, IsPermutation-swap}
 use Rattle.mpf_plan.specs.declared.entries.BindingId.{BindingId}
 use Rattle.mpf_plan.specs.PlanView.{PlanView}
@@ -62,21 +61,3 @@ module _ (plan : PlanView) where
   -- so they are in one of the orders in which handlers may run
   pub by_priority-is_order : (ps : List BindingId) → IsHandlerOrder plan ps (by_priority plan ps)
   by_priority-is_order ps = record { permutation = by_priority-permutes ps; descending = by_priority-descends ps }
-
-  -- ---- places of priority 0 alone
-
-  abbrev IsZero : BindingId → Type 0
-  IsZero p = priority_at plan p ≡ 0
-
-  insert_place-zero : (p : BindingId) (qs : List BindingId) → AllByRecursion IsZero qs → insert_place plan p qs ≡ p ∷ qs
-  insert_place-zero p [] zeros = refl
-  insert_place-zero p (q ∷ qs) zeros =
-      let here : priority_at plan q ≡ 0 = zeros.0 in
-      cond-false (nat_lt (priority_at plan p) (priority_at plan q)) (q ∷ insert_place plan p qs) (p ∷ q ∷ qs) (le-ltb (priority_at plan p) (priority_at plan q) (omega arith))
-
-  stays : (ps : List BindingId) → AllByRecursion IsZero ps → by_priority plan ps ≡ ps
-  stays [] zeros = refl
-  stays (p ∷ ps) zeros = ap (insert_place plan p) (stays ps zeros.1) ∙ insert_place-zero p ps zeros.1
-
-  pub by_priority-zeros : (ps : List BindingId) → All IsZero ps → by_priority plan ps ≡ ps
-  by_priority-zeros ps zeros = stays ps (recursion_from_All IsZero ps zeros)

@@ -1,29 +1,39 @@
 -- What handles an event: bindings, by their places in the plan.
-use Rattle.std.specs.Prelude.{ℕ, ◌≤◌, Bool, true, false, List, [], ◌∷◌, filter}
+use Rattle.std.specs.Prelude.{ℕ, ◌≤◌, Bool, true, false, List, [], ◌∷◌, length, filter, replicate, slice_index_or, slice_set}
 use Rattle.std.specs.List.{AllByRecursion}
 use Rattle.std.specs.List.Sorted.{IsPermutation}
 use Rattle.mpf_plan.specs.declared.entries.EventId.{EventId}
 use Rattle.mpf_plan.specs.declared.entries.BindingId.{BindingId}
+use Rattle.mpf_plan.specs.declared.entries.ModeId.{ModeId}
 use Rattle.mpf_plan.specs.declared.entries.Owner.{Owner}
 use Rattle.mpf_plan.specs.declared.entries.Owner.TheVariants as owners
 use Rattle.mpf_plan.specs.PlanView.{PlanView, binding_at, places_of}
 
--- the plan whose bindings handle events
+-- the plan whose bindings handle events, and for each of its modes, by number, whether it runs
 pub record HandlersView : Type 0 where
   pub plan : PlanView
+  pub running : List Bool
 
--- whether the bindings of an owner run: the machine's always do
-abbrev pub takes_part : Owner → Bool
-takes_part owners.Machine = true
-takes_part (owners.Mode m) = false
+-- no mode of the plan runs
+abbrev pub none_running : PlanView → List Bool
+none_running plan = replicate (length plan.modes) false
+
+-- from now on a mode runs, or does not
+abbrev pub set_running : HandlersView → ModeId → Bool → HandlersView
+set_running h m runs = record { plan = h.plan; running = slice_set h.running m.0 runs }
+
+-- whether the bindings of an owner run: the machine's always do, and a mode's while it runs
+abbrev pub takes_part : List Bool → Owner → Bool
+takes_part running owners.Machine = true
+takes_part running (owners.Mode m) = slice_index_or running m.0 false
 
 -- whether the binding at a place runs
-abbrev pub runs_at : PlanView → BindingId → Bool
-runs_at plan p = takes_part (binding_at plan p).owner
+abbrev pub runs_at : PlanView → List Bool → BindingId → Bool
+runs_at plan running p = takes_part running (binding_at plan p).owner
 
--- the places of an event's handlers, in plan order: of what is bound to it, the bindings whose owner takes part
-abbrev pub handlers : PlanView → EventId → List BindingId
-handlers plan e = filter (runs_at plan) (places_of plan e)
+-- the places of an event's handlers, lower places first: of what is bound to it, the bindings whose owner takes part
+abbrev pub handlers : PlanView → List Bool → EventId → List BindingId
+handlers plan running e = filter (runs_at plan running) (places_of plan e)
 
 abbrev pub priority_at : PlanView → BindingId → ℕ
 priority_at plan p = (binding_at plan p).priority

@@ -3,6 +3,7 @@
 
 pub mod handlers;
 pub mod law;
+mod orders;
 pub mod queue;
 
 pub use handlers::Handlers;

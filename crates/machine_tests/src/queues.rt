@@ -6,7 +6,8 @@ use mpf_plan::{EventId, Owner, Plan};
 use std::alloc::{AllocError, Global};
 use std::test::Fail;
 
-/// Adds the first two handlers of the event of this name, or of an event that no plan has.
+/// Adds the first two handlers of the event of this name, or of an event that no plan has, and the
+/// first step of a walk over them.
 pub(crate) fn handled(
     alloc: Global,
     out: &mut String,
@@ -18,7 +19,8 @@ pub(crate) fn handled(
         .find_event(name.as_bytes())
         .unwrap_or(EventId(u16::MAX));
     let [first, second] = [handlers.nth(event, 0), handlers.nth(event, 1)];
-    Ok(write!(out, "{first:?} {second:?}")?)
+    let step = handlers.next(event, 0);
+    Ok(write!(out, "{first:?} {second:?} {step:?}")?)
 }
 
 /// Adds what comes of a call: `take`, or the number of an event to be pushed.
@@ -53,10 +55,10 @@ event_player:
   a: x
   b: x
 ?
-a => Some(BindingId(0)) None
-b => Some(BindingId(1)) None
-x => None None
-none => None None";
+a => Some(BindingId(0)) None Some((BindingId(0), 1))
+b => Some(BindingId(1)) None Some((BindingId(1), 1))
+x => None None None
+none => None None None";
 
 #[test]
 fn handlers(rt: HostRuntime) -> Result<(), Fail> {

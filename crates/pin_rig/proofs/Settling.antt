@@ -1,5 +1,5 @@
 -- One event step more in plan order, from a core whose steps all have room.
-use Rattle.std.proofs.Common.{◌≡◌, ℕ, ◌+◌, ◌-◌, ◌<◌, List, ◌∷◌, length, ap, sym, ◌∙◌, subst, arith}
+use Rattle.std.proofs.Common.{◌≡◌, ℕ, ◌+◌, ◌-◌, ◌<◌, List, [], ◌∷◌, length, ap, sym, ◌∙◌, subst, arith}
 use Rattle.mpf_plan.specs.PlanView.{PlanView}
 use Rattle.event_queue.specs.declared.queue.Posted.{Posted}
 use Rattle.event_queue.specs.PlanOrder.{in_order}
@@ -16,7 +16,7 @@ module _ (plan : PlanView) (start now : CoreView) (stays : StaysWithin plan star
     (count : ℕ) (is : now ≡ after (plan_steps plan count) start) (first : Posted) (rest : List Posted) (waits : now.machine.waiting ≡ first ∷ rest) where
   -- it is taken and handled
   abbrev pub handled : Machine
-  handled = all_do (do_handler plan) (in_order plan first.event) (taken first rest now.machine)
+  handled = all_do (do_handler plan) (in_order plan [] first.event) (taken first rest now.machine)
 
   step-is : plan_step plan now.machine ≡ handled
   step-is = ap (λ (ps : List Posted). plan_step_from plan ps now.machine) waits
@@ -30,7 +30,7 @@ module _ (plan : PlanView) (start now : CoreView) (stays : StaysWithin plan star
       (subst (HasRoom start.room) steps-are (stays (count + 1)))
 
   pub line-more : length now.machine.lines < length handled.lines
-  line-more = (event-grows plan first rest (in_order plan first.event) now.machine).0
+  line-more = (event-grows plan first rest (in_order plan [] first.event) now.machine).0
 
   pub line-room : length now.machine.lines < now.room
   line-room = let fits = handled-room.lines in omega (arith, line-more, fits)
@@ -43,13 +43,13 @@ module _ (plan : PlanView) (start now : CoreView) (stays : StaysWithin plan star
     written-is : written ≡ after (taken first rest) now
     written-is = written_is ∙ ap (after (write first.owner (happenings.Event first.event))) took_is
 
-    pub written-room : HasRoom written.room (all_do (do_handler plan) (in_order plan first.event) written.machine)
-    written-room = subst (λ (c : CoreView). HasRoom c.room (all_do (do_handler plan) (in_order plan first.event) c.machine)) (sym written-is) handled-room
+    pub written-room : HasRoom written.room (all_do (do_handler plan) (in_order plan [] first.event) written.machine)
+    written-room = subst (λ (c : CoreView). HasRoom c.room (all_do (do_handler plan) (in_order plan [] first.event) c.machine)) (sym written-is) handled-room
 
     -- its handlers run: that is one step more, and one line more at least
-    module _ (next : CoreView) (next_is : next ≡ after (all_do (do_handler plan) (in_order plan first.event)) written) where
+    module _ (next : CoreView) (next_is : next ≡ after (all_do (do_handler plan) (in_order plan [] first.event)) written) where
       next-handled : next ≡ record now { machine = handled }
-      next-handled = next_is ∙ ap (after (all_do (do_handler plan) (in_order plan first.event))) written-is
+      next-handled = next_is ∙ ap (after (all_do (do_handler plan) (in_order plan [] first.event))) written-is
 
       pub next-steps : next ≡ after (plan_steps plan (count + 1)) start
       next-steps = next-handled ∙ ap (λ (c : CoreView). record c { machine = handled }) is ∙ ap (λ (s : Machine). record start { machine = s }) (sym steps-are)

@@ -3,7 +3,7 @@ use Rattle.std.specs.Prelude.{◌≡◌, ℕ, ◌<◌, ◌≤◌, ◌^◌, Optio
 use Rattle.mpf_plan.specs.PlanView.{PlanView}
 use Rattle.switch_core.specs.Switches.{IsComplete}
 use Rattle.event_queue.specs.declared.queue.Posted.{Posted}
-use Rattle.event_queue.specs.Handlers.{HandlersView}
+use Rattle.event_queue.specs.Handlers.{HandlersView, none_running}
 use Rattle.config_checker.specs.Machine.{Machine}
 use Rattle.config_checker.specs.Run.{Stimulus, Change, Alarm, Wait}
 use Rattle.config_checker.specs.NextAlarm.{next_alarm}
@@ -20,9 +20,9 @@ pub record CoreView : Type 0 where
 abbrev pub after : (Machine → Machine) → CoreView → CoreView
 after does c = record c { machine = does c.machine }
 
--- the machine of the plan is kept: it has its handlers and all its switches
+-- the machine of the plan is kept: it has its handlers, of which no mode runs yet, and all its switches
 pub record IsCoreOf (plan : PlanView) (c : CoreView) : Type 0 where
-  pub handlers : c.handlers ≡ record { plan = plan }
+  pub handlers : c.handlers ≡ record { plan = plan; running = none_running plan }
   pub kinds : length c.machine.switches.kinds ≡ length plan.switches
   pub complete : IsComplete c.machine.switches
 

@@ -133,7 +133,7 @@ impl<'p> Core<'p> {
 
     /// The place of the `k`-th handler of an event, counted from 0, in plan order.
     pub(crate) fn handler(&self, event: EventId, k: usize) -> Option<BindingId>
-        ensures handler { result ≡ slice_get (in_order self.now.handlers.plan event) k }
+        ensures handler { result ≡ slice_get (in_order self.now.handlers.plan self.now.handlers.running event) k }
         ensures within { IfSome result (λ b. b.0 < length self.now.handlers.plan.bindings) }
     {
         self.handlers.nth(event, k)

@@ -1,8 +1,9 @@
 //! What a stimulus does, and the event steps after it. Each part asks for room for what it
 //! leaves, and so takes no memory.
 
-ghost use Rattle.std.specs.Prelude.{◌≡◌, ◌^◌, ◌<◌, Some, length, option_map};
+ghost use Rattle.std.specs.Prelude.{◌≡◌, ◌^◌, ◌<◌, Some, [], length, option_map};
 ghost use Rattle.mpf_plan.specs.Valid.{IsTargetWithin};
+ghost use Rattle.event_queue.specs.Handlers.{none_running};
 ghost use Rattle.event_queue.specs.PlanOrder.{in_order};
 ghost use Rattle.config_checker.specs.Machine.{all_do, post, do_action, do_target, do_handler, do_accepted, change_switch};
 ghost use Rattle.config_checker.specs.Run.{begin as begun, fire as fired};
@@ -82,7 +83,7 @@ fn post_each(core: &mut Core<'_>, owner: Owner, events: &[EventId])
 
 /// Takes event steps, in plan order, as long as an event waits.
 pub(crate) fn settle(plan: &Plan, core: &mut Core<'_>)
-    requires handlers { core.old.handlers ≡ record { plan = plan.now } }
+    requires handlers { core.old.handlers ≡ record { plan = plan.now; running = none_running plan.now } }
     requires room { StaysWithin plan.now core.old.room core.old.machine }
     ensures { HasSettled plan.now core.old core.new }
 {
@@ -94,9 +95,9 @@ pub(crate) fn settle(plan: &Plan, core: &mut Core<'_>)
 
 /// Runs the handlers of an event, in plan order.
 fn handle(plan: &Plan, core: &mut Core<'_>, event: EventId)
-    requires handlers { core.old.handlers ≡ record { plan = plan.now } }
-    requires room { HasRoom core.old.room (all_do (do_handler plan.now) (in_order plan.now event) core.old.machine) }
-    ensures { core.new ≡ after (all_do (do_handler plan.now) (in_order plan.now event)) core.old }
+    requires handlers { core.old.handlers ≡ record { plan = plan.now; running = none_running plan.now } }
+    requires room { HasRoom core.old.room (all_do (do_handler plan.now) (in_order plan.now [] event) core.old.machine) }
+    ensures { core.new ≡ after (all_do (do_handler plan.now) (in_order plan.now [] event)) core.old }
 {
     let mut k = 0;
     while let Some(place) = core.handler(event, k) {

@@ -1,0 +1,26 @@
+-- Where no mode runs, the handlers are the machine's, whether the list has the modes or not.
+use Rattle.std.proofs.Common.{◌≡◌, ℕ, false, [], length, get_or, replicate, refl, ap, sym, inl, inr, arith}
+use Rattle.std.proofs.lemmas.Bool.{cases_lt}
+use Rattle.std.proofs.lemmas.List.{get_or-replicate, get_or_past, length-replicate}
+use Rattle.std.proofs.lemmas.List.Elements.{filter_agree}
+use Rattle.mpf_plan.specs.declared.entries.EventId.{EventId}
+use Rattle.mpf_plan.specs.declared.entries.Owner.{Owner}
+use Rattle.mpf_plan.specs.declared.entries.Owner.TheVariants as owners
+use Rattle.mpf_plan.specs.PlanView.{PlanView, binding_at, places_of}
+use Rattle.event_queue.specs.Handlers.{none_running, takes_part, runs_at}
+use Rattle.event_queue.specs.PlanOrder.{by_priority, in_order}
+
+never : (n i : ℕ) → get_or (replicate n false) i false ≡ false
+never n i =
+    elim (cases_lt i n) [
+      | inl within ↦ get_or-replicate n i false false within
+      | inr past ↦ get_or_past (replicate n false) i false (omega (arith, length-replicate n false))
+    ]
+
+takes_part-none : (plan : PlanView) (owner : Owner) → takes_part [] owner ≡ takes_part (none_running plan) owner
+takes_part-none plan owners.Machine = refl
+takes_part-none plan (owners.Mode m) = sym (never (length plan.modes) m.0)
+
+pub in_order-none : (plan : PlanView) (e : EventId) → in_order plan [] e ≡ in_order plan (none_running plan) e
+in_order-none plan e =
+    ap (by_priority plan) (filter_agree (runs_at plan []) (runs_at plan (none_running plan)) (λ p. takes_part-none plan (binding_at plan p).owner) (places_of plan e))

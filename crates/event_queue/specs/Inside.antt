@@ -1,0 +1,11 @@
+-- What the handlers of a plan hold.
+use Rattle.std.specs.Prelude.{◌≡◌, List, length, map, Vec}
+use Rattle.std.specs.List.{range_with_len}
+use Rattle.std.specs.Global.{Global}
+use Rattle.mpf_plan.specs.declared.entries.BindingId.{BindingId}
+use Rattle.mpf_plan.specs.PlanView.{PlanView}
+use Rattle.event_queue.specs.PlanOrder.{bound_in_order}
+
+-- for each event of a plan the places of what is bound to it, in plan order
+abbrev pub HasOrders : PlanView → List (Vec BindingId Global) → Type 0
+HasOrders plan orders = map (λ v. v.items) orders ≡ map (λ e. bound_in_order plan (record { 0 = e })) (range_with_len 0 (length plan.events))
