@@ -36,6 +36,9 @@ fn bundle_that_is_joined_has_a_limit(rt: HostRuntime) -> Result<(), Fail> {
     let joined = join(alloc, b"", b"a", &text)?;
     assert_eq!(rt; joined.len(), BUNDLE_LIMIT);
     let refused = join(alloc, b"", b"ab", &text);
-    assert!(rt; matches!(refused, Err(ShellFault::TooLong)), "one byte more");
+    assert!(rt;
+        matches!(refused, Err(ShellFault::TooLong)),
+        "one byte more"
+    );
     Ok(())
 }

@@ -14,9 +14,9 @@ mod check_rows;
 mod ends;
 #[cfg(test)]
 mod faulty;
-mod joined;
 #[cfg(test)]
 mod hostile;
+mod joined;
 #[cfg(test)]
 mod limits;
 #[cfg(test)]

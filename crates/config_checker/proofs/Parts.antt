@@ -31,7 +31,7 @@ use Rattle.config_checker.proofs.Does.{Move, Wrote, Sent, Switched, MayDo, Does,
 
 -- the owner takes part in a state
 abbrev pub TakesPart : Machine → Owner → Type 0
-TakesPart s owner = takes_part owner ≡ true
+TakesPart s owner = takes_part [] owner ≡ true
 
 abbrev pub IsMachine : Owner → Type 0
 IsMachine owner = owner ≡ owners.Machine
@@ -97,7 +97,7 @@ module _ (plan : PlanView) where
   pub does-order : (s : Machine) (e : EventId) (order : List BindingId) → IsHandlerOrder plan (handlers_in plan s e) order → Does plan (MayHandle plan s) (each_of cost_of_handler order) s (all_do (do_handler plan) order s)
   does-order s e order h =
       does-handlers (TakesPart s) ⊥ order
-      (All-permutation (λ p. TakesPart s (binding_at plan p).owner) (handlers plan e) order h.permutation (filter_passes (runs_at plan) (places_of plan e))) s
+      (All-permutation (λ p. TakesPart s (binding_at plan p).owner) (handlers plan [] e) order h.permutation (filter_passes (runs_at plan []) (places_of plan e))) s
 
   -- what a stimulus does once it has arrived
   pub does-begin : (stimulus : Stimulus) (s : Machine) → Does plan (MayBegin plan) (cost_of_stimulus plan s stimulus) (arrived (moment_of stimulus) s) (begin plan stimulus s)
