@@ -1,14 +1,17 @@
 -- What a thing costs: the lines that it prints and the weights of the events that it posts, added up or compared.
-use Rattle.std.specs.Prelude.{ℕ, ◌+◌, max, Bool, true, false, ◌&&◌, ◌||◌, ◌==◌, List, [], ◌∷◌, length, map}
+use Rattle.std.specs.Prelude.{ℕ, ◌+◌, max, Bool, true, false, ◌&&◌, ◌||◌, ◌==◌, Option, None, Some, List, [], ◌∷◌, length, map}
 use Rattle.std.specs.List.{range_with_len}
-use Rattle.mpf_plan.specs.PlanView.{PlanView, posts_of, actions_at, bound_to}
+use Rattle.mpf_plan.specs.PlanView.{PlanView, posts_of, actions_at, bound_to, mode_event, work_of}
 use Rattle.mpf_plan.specs.declared.entries.EventId.{EventId}
 use Rattle.mpf_plan.specs.declared.entries.SwitchId.{SwitchId}
 use Rattle.mpf_plan.specs.declared.entries.ListId.{ListId}
 use Rattle.mpf_plan.specs.declared.entries.Action.{Action}
 use Rattle.mpf_plan.specs.declared.entries.Action.TheVariants.{Post}
 use Rattle.mpf_plan.specs.declared.entries.Target.{Target}
-use Rattle.mpf_plan.specs.declared.entries.Target.TheVariants.{Run}
+use Rattle.mpf_plan.specs.declared.entries.Target.TheVariants.{Run, Start, Stop}
+use Rattle.mpf_plan.specs.declared.entries.ModeEvent.TheVariants.{WillStart, Starting, Started, Stopping, Stopped}
+use Rattle.mpf_plan.specs.declared.entries.Work.{Work}
+use Rattle.mpf_plan.specs.declared.entries.Work.TheVariants.{Nothing, Mode}
 use Rattle.mpf_plan.specs.declared.entries.Binding.{Binding}
 
 pub data Cost : Type 0 where
@@ -61,14 +64,30 @@ cost_of_list plan l = each_of (cost_of_action plan) (actions_at plan l)
 
 abbrev pub cost_of_target : PlanView → Target → Cost
 cost_of_target plan (Run l) = cost_of_list plan l
+cost_of_target plan (Start m) = cost_of_post (mode_event plan m WillStart)
+cost_of_target plan (Stop m) = cost_of_post (mode_event plan m Stopping)
 
 -- what a binding costs: no owner and no priority is looked at
 abbrev pub cost_of_binding : PlanView → Binding → Cost
 cost_of_binding plan b = cost_of_target plan b.target
 
--- what the machine itself does at an event, before and after its handlers: nothing yet
+-- The event that the machine itself posts as its work at an event, if it posts one. At `started` it is that of a stop
+-- that was kept.
+abbrev pub led_by : PlanView → Work → Option EventId
+led_by plan Nothing = None
+led_by plan (Mode m WillStart) = Some (mode_event plan m Starting)
+led_by plan (Mode m Starting) = Some (mode_event plan m Started)
+led_by plan (Mode m Started) = Some (mode_event plan m Stopping)
+led_by plan (Mode m Stopping) = Some (mode_event plan m Stopped)
+led_by plan (Mode m Stopped) = None
+
+abbrev pub cost_if_led : Option EventId → Cost
+cost_if_led None = Lines 0
+cost_if_led (Some e) = cost_of_post e
+
+-- what the machine itself does at an event, before and after its handlers
 abbrev pub cost_of_work : PlanView → EventId → Cost
-cost_of_work plan e = Lines 0
+cost_of_work plan e = cost_if_led (led_by plan (work_of plan e))
 
 -- an event costs its line, all that is bound to it, and the machine's work
 abbrev pub cost_of_event : PlanView → EventId → Cost

@@ -2,8 +2,10 @@
 use Rattle.mpf_plan.specs.Valid.{IsValid}
 use Rattle.cascade_rank.specs.Verified.{IsVerified}
 use Rattle.config_checker.specs.CheckedView.{CheckedView}
+use Rattle.config_checker.specs.FreePosts.{PostsAreFree}
 
--- The plan is valid, the weights fit it, neither they nor the bound are above 10,000, and the bound is theirs.
+-- The plan is valid, nothing posts an event at which the machine itself does something, the weights fit it, neither they nor the bound are above 10,000, and the bound is theirs.
 pub record IsAccepted (c : CheckedView) : Type 0 where
   pub valid : IsValid c.plan
+  pub free : PostsAreFree c.plan
   pub verified : IsVerified c.plan c.weights c.bound

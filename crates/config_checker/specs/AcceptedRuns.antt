@@ -1,7 +1,11 @@
 -- Every run of what is accepted is good, whoever found its weights.
+use Rattle.mpf_plan.specs.Valid.{IsValid}
+use Rattle.cascade_rank.specs.Verified.{IsVerified}
 use Rattle.config_checker.specs.CheckedView.{CheckedView}
 use Rattle.config_checker.specs.Accepted.{IsAccepted}
-use Rattle.config_checker.specs.GoodRun.{IsGood}
+use Rattle.config_checker.specs.GoodRun.{IsBounded, IsGood}
 
-abbrev pub AcceptedIsGood : Type 0
-AcceptedIsGood = (c : CheckedView) → IsAccepted c → IsGood c
+pub record AcceptedIsGood : Type 0 where
+  pub good : (c : CheckedView) → IsAccepted c → IsGood c
+  -- for its bounds it does not matter what the plan posts
+  pub bounded : (c : CheckedView) → IsValid c.plan → IsVerified c.plan c.weights c.bound → IsBounded c

@@ -15,6 +15,7 @@ use Rattle.config_checker.specs.Machine.{Machine}
 use Rattle.config_checker.specs.EventStep.{EventStep}
 use Rattle.config_checker.specs.Run.{Source, switch, Stimulus, Change, Alarm, Wait, IsNoAlarmDueBy, InEveryRun, InEveryCascade}
 use Rattle.config_checker.specs.SwitchCalls.{switch_calls}
+use Rattle.config_checker.specs.Silent.{IsSilent}
 use Rattle.config_checker.specs.CheckedView.{CheckedView}
 
 -- what the acceptance of a switch costs, if there is one
@@ -38,8 +39,8 @@ abbrev pub weigh : (EventId → ℕ) → List Posted → ℕ
 weigh w [] = 0
 weigh w (p ∷ ps) = w p.event + weigh w ps
 
--- Every run of the plan is good.
-pub record IsGood (c : CheckedView) : Type 0 where
+-- Every run of the plan is within bounds, and each switch is read rightly.
+pub record IsBounded (c : CheckedView) : Type 0 where
   -- After each event step the lines since the stimulus and the weights of the waiting events are at most its cost.
   pub cascade : InEveryCascade c.plan (λ s stimulus n t.
       length t.lines + weigh (weight_of c.weights) t.waiting ≤ price (weight_of c.weights) (cost_of_stimulus c.plan s stimulus))
@@ -54,3 +55,9 @@ pub record IsGood (c : CheckedView) : Type 0 where
   pub levels : InEveryRun c.plan (λ stimuli trace s.
       (at : ℕ) → s.moment ≤ at → IsNoAlarmDueBy s at → (n : SwitchId) → n.0 < length c.plan.switches →
       active_at s.switches n ≡ accepted_level (switch_at c.plan n).kind at (raw_changes n (raw_at_rest (switch_at c.plan n).kind.contact) (switch_calls stimuli)))
+
+-- Every run of the plan is good.
+pub record IsGood (c : CheckedView) : Type 0 where
+  pub bounded : IsBounded c
+  -- Nothing comes from a stopped mode.
+  pub silent : InEveryRun c.plan (λ stimuli trace s. IsSilent c.plan trace)

@@ -7,7 +7,9 @@ pub mod PlanOrder
 pub mod AlarmsBy
 pub mod AlarmsEnd
 pub mod CheckedView
+pub mod Silent
 pub mod GoodRun
+pub mod FreePosts
 pub mod Accepted
 pub mod AcceptedRuns
 pub mod CertificateText

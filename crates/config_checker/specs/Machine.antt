@@ -1,6 +1,6 @@
 -- The machine's state, and what each thing does to it.
-use Rattle.std.specs.Prelude.{ℕ, Bool, Option, Some, None, List, [], ◌∷◌, ◌++◌}
-use Rattle.mpf_plan.specs.PlanView.{PlanView, posts_of, actions_at, binding_at}
+use Rattle.std.specs.Prelude.{ℕ, Bool, true, false, if◌then◌else◌, Option, Some, None, List, [], ◌∷◌, ◌++◌, length, slice_set}
+use Rattle.mpf_plan.specs.PlanView.{PlanView, posts_of, actions_at, binding_at, mode_event}
 use Rattle.mpf_plan.specs.declared.entries.EventId.{EventId}
 use Rattle.mpf_plan.specs.declared.entries.SwitchId.{SwitchId}
 use Rattle.mpf_plan.specs.declared.entries.ListId.{ListId}
@@ -10,10 +10,18 @@ use Rattle.mpf_plan.specs.declared.entries.Owner.TheVariants as owners
 use Rattle.mpf_plan.specs.declared.entries.Action.{Action}
 use Rattle.mpf_plan.specs.declared.entries.Action.TheVariants.{Post}
 use Rattle.mpf_plan.specs.declared.entries.Target.{Target}
-use Rattle.mpf_plan.specs.declared.entries.Target.TheVariants.{Run}
+use Rattle.mpf_plan.specs.declared.entries.Target.TheVariants.{Run, Start, Stop}
+use Rattle.mpf_plan.specs.declared.entries.ModeId.{ModeId}
+use Rattle.mpf_plan.specs.declared.entries.ModeEvent.TheVariants.{WillStart, Stopping}
 use Rattle.mpf_plan.specs.declared.entries.Binding.{Binding}
 use Rattle.switch_core.specs.declared.change.Change.{Change as Acceptance}
 use Rattle.switch_core.specs.Switches.{SwitchesView, all_idle, after_change, reported_by_change, accept, reported}
+use Rattle.mode_stack.specs.declared.phase.ModeState.{ModeState}
+use Rattle.mode_stack.specs.declared.phase.StopAnswer.{StopAnswer}
+use Rattle.mode_stack.specs.declared.phase.StopAnswer.TheVariants as answers
+use Rattle.mode_stack.specs.ModeStep.{starts, started, stopped, stop_answer}
+use Rattle.mode_stack.specs.Modes.{needs_game, mode_state}
+use Rattle.mode_stack.specs.Modes as modes
 use Rattle.config_checker.specs.declared.line.Line.{Line}
 use Rattle.config_checker.specs.declared.line.Happening.{Happening}
 use Rattle.config_checker.specs.declared.line.Happening.TheVariants as lines
@@ -24,14 +32,16 @@ pub record Machine : Type 0 where
   pub moment : ℕ
   -- how each switch is read, and its state
   pub switches : SwitchesView
+  -- the state of each mode, by number
+  pub modes : List ModeState
   -- the events that wait, first posted first
   pub waiting : List Posted
   -- the lines since the latest stimulus began
   pub lines : List Line
 
--- At the beginning it is moment 0, all switches are inactive, and nothing waits.
+-- At the beginning it is moment 0, all switches are inactive, all modes idle, and nothing waits.
 abbrev pub initial : PlanView → Machine
-initial plan = record { moment = 0; switches = all_idle plan; waiting = []; lines = [] }
+initial plan = record { moment = 0; switches = all_idle plan; modes = modes.all_idle (length plan.modes); waiting = []; lines = [] }
 
 -- ---- one change each
 
@@ -44,10 +54,43 @@ post owner e s = record s { waiting = s.waiting ++ record { event = e; owner = o
 abbrev pub set_switches : SwitchesView → Machine → Machine
 set_switches switches s = record s { switches = switches }
 
+abbrev pub set_mode : ModeId → ModeState → Machine → Machine
+set_mode m state s = record s { modes = slice_set s.modes m.0 state }
+
 -- one after another
 abbrev pub all_do : {X : Type 0} → (X → Machine → Machine) → List X → Machine → Machine
 all_do does [] s = s
 all_do does (x ∷ xs) s = all_do does xs (does x s)
+
+-- ---- modes
+
+-- whether a game goes on: there is none yet
+abbrev pub has_game : Machine → Bool
+has_game s = false
+
+-- the machine posts the event where this holds
+abbrev pub post_if : Bool → EventId → Machine → Machine
+post_if true e s = post owners.Machine e s
+post_if false e s = s
+
+-- A mode is told to start. Where it starts, the event that says so is posted.
+abbrev pub start_mode : PlanView → ModeId → Machine → Machine
+start_mode plan m s =
+    let old = mode_state s.modes m in
+    let needs = needs_game plan m in
+    post_if (starts needs (has_game s) old.phase) (mode_event plan m WillStart) (set_mode m (started needs (has_game s) old) s)
+
+-- whether a stop posts an event: where it is neither kept nor ignored
+abbrev pub is_post : StopAnswer → Bool
+is_post answers.Post = true
+is_post answers.Kept = false
+is_post answers.Ignored = false
+
+-- A mode is told to stop. Where it is active, the event that says so is posted.
+abbrev pub stop_mode : PlanView → ModeId → Machine → Machine
+stop_mode plan m s =
+    let old = mode_state s.modes m in
+    post_if (is_post (stop_answer old.phase)) (mode_event plan m Stopping) (set_mode m (stopped old) s)
 
 -- ---- effect lists
 
@@ -59,6 +102,8 @@ do_list plan owner l s = all_do (do_action plan owner) (actions_at plan l) s
 
 abbrev pub do_target : PlanView → Owner → Target → Machine → Machine
 do_target plan owner (Run l) s = do_list plan owner l s
+do_target plan owner (Start m) s = start_mode plan m s
+do_target plan owner (Stop m) s = stop_mode plan m s
 
 abbrev pub do_binding : PlanView → Binding → Machine → Machine
 do_binding plan b s = do_target plan b.owner b.target s

@@ -21,3 +21,4 @@ pub mod Planned
 pub mod EventNames
 pub mod BoundTo
 pub mod Placed
+pub mod Worked

@@ -12,7 +12,7 @@ use Rattle.mpf_config.proofs.RowNames.{switch_named, event_player_named}
 use Rattle.mpf_config.proofs.ShortRows.{event_player_short}
 use Rattle.mpf_plan.specs.declared.fault.Table.{Table}
 use Rattle.mpf_plan.specs.declared.fault.Table.TheVariants.{Events}
-use Rattle.mpf_plan.specs.Contributions.{Contribution, gives, reads, active, inactive, binds, post, texts, kind_of, tag_event, active_posts, inactive_posts, switch_contributions, player_contributions, Row, entry, player, rows_from, rows_in, entry_contributions, player_entry_contributions, row_contributions, machine_place, given_by, priority_of}
+use Rattle.mpf_plan.specs.Contributions.{Contribution, gives, reads, active, inactive, binds, post, texts, kind_of, tag_event, active_posts, inactive_posts, switch_contributions, player_contributions, Row, entry, player, rows_from, rows_in, entry_contributions, player_entry_contributions, row_contributions, machine_place, given_by}
 
 -- ---- what contributions are like
 
@@ -36,9 +36,8 @@ posts_after n (binds e place aim) = 0
 posts_after n (post e) = suc n
 posts_after n _ = n
 
--- the priority of a binding is 0, and an effect list has room for a post
+-- an effect list has room for a post
 abbrev pub IsRoomy : ℕ → Contribution → Type 0
-IsRoomy n (binds e place aim) = priority_of place ≡ 0
 IsRoomy n (post e) = n < 1024
 IsRoomy n _ = Unit {0}
 
@@ -82,7 +81,6 @@ AreShort-fewer [] m n fewer h = tt
 AreShort-fewer (c ∷ cs) m n fewer h = (roomy c h.0, AreShort-fewer cs (posts_after m c) (posts_after n c) (after c) h.1)
   where
     roomy : (x : Contribution) → IsRoomy n x → IsRoomy m x
-    roomy (binds e place aim) is = is
     roomy (post e) is = omega (arith, fewer, is)
     roomy _ is = tt
 
@@ -144,7 +142,7 @@ module _ (P : List ℕ → Type 0) (of : IsOfNames P) where
   unfolding player_contributions
   player_facts p = record {
     names = λ h. All-cons (IsFit P) _ (map post (texts p.posts)) (of.name p.event.text h.event) (All-map (IsFit P) post (texts p.posts) (all_names p.posts h.posts));
-    lists = λ h. (refl, AreShort-posts 0 (texts p.posts) (omega (arith, h, length-map p.posts (λ (w : Written). w.text))));
+    lists = λ h. (tt, AreShort-posts 0 (texts p.posts) (omega (arith, h, length-map p.posts (λ (w : Written). w.text))));
   }
 
   -- ---- each row

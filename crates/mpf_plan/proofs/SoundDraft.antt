@@ -40,6 +40,8 @@ module _ (p q : PlanView) (grows : Grows p q) where
 
   target_grows : (t : Target) → IsTargetWithin p t → IsTargetWithin q t
   target_grows (targets.Run l) within = omega (arith, within, grows.lists)
+  target_grows (targets.Start m) within = omega (arith, within, grows.modes)
+  target_grows (targets.Stop m) within = omega (arith, within, grows.modes)
 
   binding_grows : (b : Binding) → IsBindingWithin p b → IsBindingWithin q b
   binding_grows b within = (let event = within.0 in omega (arith, event, grows.events), owner_grows b.owner within.1, target_grows b.target within.2)

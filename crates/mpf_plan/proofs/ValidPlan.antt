@@ -11,7 +11,6 @@ use Rattle.mpf_config.specs.Short.{AreListsShort}
 use Rattle.mpf_plan.specs.declared.contribution.Aim.TheVariants.{Run}
 use Rattle.mpf_plan.specs.declared.entries.Action.{Action}
 use Rattle.mpf_plan.specs.declared.entries.Action.TheVariants.{Post}
-use Rattle.mpf_plan.specs.declared.entries.Binding.{Binding}
 use Rattle.mpf_plan.specs.declared.fault.Table.{Table}
 use Rattle.mpf_plan.specs.declared.fault.Table.TheVariants.{Events, Bindings, Switches}
 use Rattle.mpf_plan.specs.PlanView.{PlanView}
@@ -68,7 +67,7 @@ named_apart cs Bindings = tt
 named_apart cs Events = AreApart-first_uses (uses Events cs)
 named_apart cs t = AreApart-first_uses (uses t cs)
 
--- ---- priorities, and the lengths of effect lists
+-- ---- the lengths of effect lists
 
 -- how many actions the list has that began last
 abbrev last_length : List (List Action) → ℕ
@@ -86,22 +85,20 @@ last_length-set (x ∷ xs) l n short =
     subst (λ k. length (get_or (set (x ∷ xs) at l) (k - 1) []) ≤ n) (sym (length-set (x ∷ xs) at l))
     (subst (λ y. length y ≤ n) (sym (get_or-set_same (x ∷ xs) at l [] (omega arith))) short)
 
--- no binding has a priority, and no effect list more than 1,024 actions; that which began last has at most so many
+-- no effect list has more than 1,024 actions, and that which began last has at most so many
 pub record AreFit (n : ℕ) (plan : PlanView) : Type 0 where
-  pub priorities : All (λ b. b.priority ≡ 0) plan.bindings
   pub lists : All (λ actions. length actions ≤ 1024) plan.lists
   pub last : last_length plan.lists ≤ n
 
 module _ (names : Names) where
   fit_fold : (n : ℕ) (cs : List Contribution) (d : DraftView) → AreShort n cs → AreFit n d.plan
-      → All (λ b. b.priority ≡ 0) (fold (with_contribution names) d cs).plan.bindings × All (λ actions. length actions ≤ 1024) (fold (with_contribution names) d cs).plan.lists
-  fit_fold n [] d short fit = (fit.priorities, fit.lists)
+      → All (λ actions. length actions ≤ 1024) (fold (with_contribution names) d cs).plan.lists
+  fit_fold n [] d short fit = fit.lists
   fit_fold n (gives t e ∷ cs) d short fit = fit_fold n cs (with_contribution names d (gives t e)) short.1 (subst (AreFit n) (sym (given_plan t _ d)) fit)
-  fit_fold n (reads kind ∷ cs) d short fit = fit_fold n cs (with_contribution names d (reads kind)) short.1 (record { priorities = fit.priorities; lists = fit.lists; last = fit.last })
-  fit_fold n (active e ∷ cs) d short fit = fit_fold n cs (with_contribution names d (active e)) short.1 (record { priorities = fit.priorities; lists = fit.lists; last = fit.last })
-  fit_fold n (inactive e ∷ cs) d short fit = fit_fold n cs (with_contribution names d (inactive e)) short.1 (record { priorities = fit.priorities; lists = fit.lists; last = fit.last })
+  fit_fold n (reads kind ∷ cs) d short fit = fit_fold n cs (with_contribution names d (reads kind)) short.1 (record { lists = fit.lists; last = fit.last })
+  fit_fold n (active e ∷ cs) d short fit = fit_fold n cs (with_contribution names d (active e)) short.1 (record { lists = fit.lists; last = fit.last })
+  fit_fold n (inactive e ∷ cs) d short fit = fit_fold n cs (with_contribution names d (inactive e)) short.1 (record { lists = fit.lists; last = fit.last })
   fit_fold n (binds e place Run ∷ cs) d short fit = fit_fold 0 cs (with_contribution names d (binds e place Run)) short.1 (record {
-    priorities = All-push (λ (b : Binding). b.priority ≡ 0) d.plan.bindings _ fit.priorities short.0;
     lists = All-push (λ (l : List Action). length l ≤ 1024) d.plan.lists [] fit.lists (omega arith);
     last = last_length-push d.plan.lists;
   })
@@ -111,7 +108,6 @@ module _ (names : Names) where
       let longer : length more ≤ suc n = omega (arith, fit.last, length_push (slice_index_or d.plan.lists at []) (Post (event_of (names Events) e))) in
       let room : n < 1024 = short.0 in
       fit_fold (suc n) cs (with_contribution names d (post e)) short.1 (record {
-        priorities = fit.priorities;
         lists = All-set (λ (l : List Action). length l ≤ 1024) d.plan.lists at more (omega (arith, longer, room)) fit.lists;
         last = last_length-set d.plan.lists more (suc n) longer;
       })
@@ -124,7 +120,7 @@ IsValid-plan_from cs short within =
     let names = names_from cs in
     let sound = sound_drafted cs in
     let limit : length (plan_from cs).bindings ≤ 16384 = within Bindings in
-    let none : AreFit 1024 (blank names).plan = record { priorities = All-nil (λ (b : Binding). b.priority ≡ 0); lists = All-nil (λ (l : List Action). length l ≤ 1024); last = omega arith } in
+    let none : AreFit 1024 (blank names).plan = record { lists = All-nil (λ (l : List Action). length l ≤ 1024); last = omega arith } in
     let fit = fit_fold names 1024 cs (blank names) short none in
     record {
       mode_limit = omega (arith, ap length (modes-from cs));
@@ -132,10 +128,10 @@ IsValid-plan_from cs short within =
       binding_limit = limit;
       switch_limit = within Switches;
       list_limit = omega (arith, limit, count-bindings cs, count-lists cs);
-      action_limit = fit.1;
+      action_limit = fit;
       names = λ t. subst (AllPairs (λ x y. x ≢ y)) (sym (names-from cs t)) (all_apart (named_of cs t) (named_apart cs t));
       entries = record { modes = sound.modes; switches = sound.switches; lists = sound.lists; bindings = sound.bindings };
-      priorities = fit.0;
+      works = λ m which inside. absurd (omega (arith, inside, ap length (modes-from cs)));
     }
 
 -- where each table is within its limit, and no list in the rows is too long, the plan of the rows is valid

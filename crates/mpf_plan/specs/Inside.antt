@@ -14,6 +14,7 @@ use Rattle.mpf_plan.specs.declared.draft.Draft.{Draft}
 use Rattle.mpf_plan.specs.declared.entries.Action.{Action}
 use Rattle.mpf_plan.specs.declared.entries.Binding.{Binding}
 use Rattle.mpf_plan.specs.declared.entries.BindingId.{BindingId}
+use Rattle.mpf_plan.specs.declared.entries.Work.{Work}
 use Rattle.mpf_plan.specs.declared.fault.Table.{Table}
 use Rattle.mpf_plan.specs.declared.fault.Table.TheVariants.{Events, Switches}
 use Rattle.mpf_plan.specs.declared.tables.Plan.TheInside.{Inside}
@@ -22,7 +23,7 @@ use Rattle.mpf_plan.specs.Contributions.{Contribution, gives, reads, active, ina
 use Rattle.mpf_plan.specs.Limits.{order_of}
 use Rattle.mpf_plan.specs.Uses.{Names}
 use Rattle.mpf_plan.specs.NamesKept.{names_kept}
-use Rattle.mpf_plan.specs.PlanView.{PlanMode, PlanSwitch, PlanView, places_of}
+use Rattle.mpf_plan.specs.PlanView.{PlanMode, PlanSwitch, PlanView, places_of, work_of}
 use Rattle.mpf_plan.specs.PlanOf.{DraftView}
 
 -- the name that the parts make
@@ -89,6 +90,10 @@ draft_view names d = record {
 
 abbrev pub plan_view : Inside → PlanView
 plan_view p = tables_view p.modes.items p.names p.switches.items p.lists.items p.bindings.items
+
+-- the work of each event of a plan
+abbrev pub HasWorks : PlanView → List Work → Type 0
+HasWorks plan works = works ≡ map (λ e. work_of plan (record { 0 = e })) (range_with_len 0 (length plan.events))
 
 -- for each event of a plan the places of what is bound to it
 abbrev pub HasPlaces : PlanView → List (Vec BindingId Global) → Type 0

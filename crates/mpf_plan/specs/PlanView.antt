@@ -1,5 +1,5 @@
 -- A plan, apart from where it lies in memory.
-use Rattle.std.specs.Prelude.{ℕ, ◌==◌, List, [], Bool, false, Option, if◌then◌else◌, length, map, filter, slice_index_or, position, option_map}
+use Rattle.std.specs.Prelude.{ℕ, suc, ◌==◌, List, [], ◌∷◌, Bool, false, Option, Some, None, if◌then◌else◌, length, map, filter, slice_index_or, position, option_map}
 use Rattle.std.specs.List.{range_with_len}
 use Rattle.std.specs.Str.{bytes_eq}
 use Rattle.mpf_config.specs.declared.config.Contact.TheVariants.{NormallyOpen}
@@ -8,6 +8,11 @@ use Rattle.mpf_plan.specs.declared.entries.SwitchId.{SwitchId}
 use Rattle.mpf_plan.specs.declared.entries.SwitchKind.{SwitchKind}
 use Rattle.mpf_plan.specs.declared.entries.Mode.{Mode}
 use Rattle.mpf_plan.specs.declared.entries.ModeId.{ModeId}
+use Rattle.mpf_plan.specs.declared.entries.ModeEvent.{ModeEvent}
+use Rattle.mpf_plan.specs.declared.entries.ModeEvent.TheVariants.{WillStart, Starting, Started, Stopping, Stopped}
+use Rattle.mpf_plan.specs.declared.entries.ModeEvents.{ModeEvents}
+use Rattle.mpf_plan.specs.declared.entries.Work.{Work}
+use Rattle.mpf_plan.specs.declared.entries.Work.TheVariants as works
 use Rattle.mpf_plan.specs.declared.entries.ListId.{ListId}
 use Rattle.mpf_plan.specs.declared.entries.BindingId.{BindingId}
 use Rattle.mpf_plan.specs.declared.entries.Owner.TheVariants.{Machine}
@@ -69,6 +74,40 @@ event_named plan name = option_map (λ n. record { 0 = n }) (position (bytes_eq 
 -- a mode by its number
 abbrev pub mode_at : PlanView → ModeId → PlanMode
 mode_at plan m = slice_index_or plan.modes m.0 no_mode
+
+-- this one of a mode's events
+abbrev pub event_among : ModeEvents → ModeEvent → EventId
+event_among events WillStart = events.will_start
+event_among events Starting = events.starting
+event_among events Started = events.started
+event_among events Stopping = events.stopping
+event_among events Stopped = events.stopped
+
+abbrev pub mode_event : PlanView → ModeId → ModeEvent → EventId
+mode_event plan m which = event_among (mode_at plan m).mode.events which
+
+-- which of a mode's events it is, if it is one
+abbrev pub which_event : ModeEvents → EventId → Option ModeEvent
+which_event events e =
+    if e.0 == events.will_start.0 then Some WillStart
+    else (if e.0 == events.starting.0 then Some Starting
+    else (if e.0 == events.started.0 then Some Started
+    else (if e.0 == events.stopping.0 then Some Stopping
+    else (if e.0 == events.stopped.0 then Some Stopped else None))))
+
+-- the work of an event of the mode of this number; or else this work
+abbrev pub work_or : ℕ → Option ModeEvent → Work → Work
+work_or n None rest = rest
+work_or n (Some which) rest = works.Mode (record { 0 = n }) which
+
+-- the work of an event, where these are the modes from number n on
+abbrev pub work_from : ℕ → List PlanMode → EventId → Work
+work_from n [] e = works.Nothing
+work_from n (m ∷ ms) e = work_or n (which_event m.mode.events e) (work_from (suc n) ms e)
+
+-- what the machine itself does when it takes an event
+abbrev pub work_of : PlanView → EventId → Work
+work_of plan e = work_from 0 plan.modes e
 
 -- a switch by its number
 abbrev pub switch_at : PlanView → SwitchId → PlanSwitch

@@ -7,11 +7,15 @@ use Rattle.mpf_plan.specs.declared.entries.Owner.TheVariants.{Machine, Mode}
 use Rattle.mpf_plan.specs.declared.entries.Action.{Action}
 use Rattle.mpf_plan.specs.declared.entries.Action.TheVariants.{Post}
 use Rattle.mpf_plan.specs.declared.entries.Target.{Target}
-use Rattle.mpf_plan.specs.declared.entries.Target.TheVariants.{Run}
+use Rattle.mpf_plan.specs.declared.entries.Target.TheVariants.{Run, Start, Stop}
+use Rattle.mpf_plan.specs.declared.entries.ModeId.{ModeId}
+use Rattle.mpf_plan.specs.declared.entries.ModeEvent.{ModeEvent}
+use Rattle.mpf_plan.specs.declared.entries.Work.{Work}
+use Rattle.mpf_plan.specs.declared.entries.Work.TheVariants as works
 use Rattle.mpf_plan.specs.declared.entries.Binding.{Binding}
 use Rattle.mpf_plan.specs.declared.fault.Table.{Table}
 use Rattle.mpf_plan.specs.Limits.{entry_names}
-use Rattle.mpf_plan.specs.PlanView.{PlanMode, PlanSwitch, PlanView}
+use Rattle.mpf_plan.specs.PlanView.{PlanMode, PlanSwitch, PlanView, mode_event, work_of}
 
 abbrev pub IsEventWithin : ℕ → EventId → Type 0
 IsEventWithin events e = e.0 < events
@@ -29,6 +33,8 @@ IsActionWithin plan (Post e) = e.0 < length plan.events
 
 abbrev pub IsTargetWithin : PlanView → Target → Type 0
 IsTargetWithin plan (Run l) = l.0 < length plan.lists
+IsTargetWithin plan (Start m) = m.0 < length plan.modes
+IsTargetWithin plan (Stop m) = m.0 < length plan.modes
 
 abbrev pub IsOwnerWithin : PlanView → Owner → Type 0
 IsOwnerWithin plan Machine = Unit {0}
@@ -39,6 +45,11 @@ IsBindingWithin plan b = (b.event.0 < length plan.events) × IsOwnerWithin plan 
 
 abbrev pub IsSwitchWithin : ℕ → PlanSwitch → Type 0
 IsSwitchWithin events s = All (IsEventWithin events) s.active × All (IsEventWithin events) s.inactive
+
+-- where an event has work, it is this event of a mode of the plan
+abbrev pub IsWorkAt : PlanView → EventId → Work → Type 0
+IsWorkAt plan e works.Nothing = Unit {0}
+IsWorkAt plan e (works.Mode m which) = (m.0 < length plan.modes) × (e ≡ mode_event plan m which)
 
 -- every number in the plan is that of an entry, whether the tables are within their limits or not
 pub record HasEntries (plan : PlanView) : Type 0 where
@@ -57,5 +68,5 @@ pub record IsValid (plan : PlanView) : Type 0 where
   pub action_limit : All (λ actions. length actions ≤ 1024) plan.lists
   pub names : (t : Table) → AllPairs (λ x y. x ≢ y) (entry_names plan t)
   pub entries : HasEntries plan
-  -- the machine handles all events at priority 0, so that handlers run in plan order
-  pub priorities : All (λ b. b.priority ≡ 0) plan.bindings
+  -- each mode has five events of its own
+  pub works : (m : ModeId) (which : ModeEvent) → m.0 < length plan.modes → work_of plan (mode_event plan m which) ≡ works.Mode m which

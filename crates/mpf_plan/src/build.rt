@@ -12,6 +12,7 @@ use crate::fill::fill;
 use crate::numbering::number;
 use crate::placing::places_by_event;
 use crate::tables::Plan;
+use crate::works::works_by_event;
 use mpf_config::config::Config;
 use std::alloc::Global;
 
@@ -42,6 +43,8 @@ pub fn plan(alloc: Global, config: &Config) -> Result<Plan, PlanFault>
     let rows = rows_in(alloc, sections)?;
     let names = number(alloc, &rows)?;
     let draft = fill(alloc, &names, &rows)?;
-    let places = places_by_event(alloc, names.of(Table::Events).len(), &draft.bindings)?;
-    Ok(Plan::assemble(names, draft, places))
+    let events = names.of(Table::Events).len();
+    let places = places_by_event(alloc, events, &draft.bindings)?;
+    let works = works_by_event(alloc, events, &draft.modes)?;
+    Ok(Plan::assemble(names, draft, places, works))
 }

@@ -31,6 +31,16 @@ pub struct BindingId(pub u16);
 #[derive(Clone, Copy, Debug)]
 pub struct ModeId(pub u16);
 
+/// Which of the five events of a mode.
+#[derive(Clone, Copy, Debug, PartialEq, Eq)]
+pub enum ModeEvent {
+    WillStart,
+    Starting,
+    Started,
+    Stopping,
+    Stopped,
+}
+
 /// The events of a mode, in the order in which they come when it starts and stops.
 #[derive(Clone, Copy)]
 pub struct ModeEvents {
@@ -57,6 +67,15 @@ pub struct Mode {
     pub events: ModeEvents,
 }
 
+/// What the machine itself does when it takes an event.
+#[derive(Clone, Copy, Debug)]
+pub enum Work {
+    /// Nothing: only its handlers run.
+    Nothing,
+    /// The next step in the life of the mode, of which it is this event.
+    Mode(ModeId, ModeEvent),
+}
+
 /// Who acts.
 #[derive(Clone, Copy, Debug)]
 pub enum Owner {
@@ -78,6 +97,10 @@ pub enum Action {
 pub enum Target {
     /// The actions of the effect list, in order.
     Run(ListId),
+    /// The mode is told to start.
+    Start(ModeId),
+    /// The mode is told to stop.
+    Stop(ModeId),
 }
 
 /// What is done when an event is handled.
@@ -87,7 +110,7 @@ pub struct Binding {
     pub event: EventId,
     /// Who handles it.
     pub owner: Owner,
-    /// Handlers of an event with a higher priority run first. It is always 0 yet.
+    /// Handlers of an event with a higher priority run first: at most 1,000,000.
     pub priority: u32,
     /// What is done.
     pub target: Target,

@@ -12,11 +12,12 @@ mod names;
 mod numbering;
 mod placing;
 pub mod tables;
+mod works;
 
 pub use build::plan;
 pub use entries::{
-    Action, Binding, BindingId, EventId, ListId, Mode, ModeEvents, ModeId, Owner, SwitchId,
-    SwitchKind, Target,
+    Action, Binding, BindingId, EventId, ListId, Mode, ModeEvent, ModeEvents, ModeId, Owner,
+    SwitchId, SwitchKind, Target, Work,
 };
 pub use fault::{PlanFault, Table};
 pub use tables::Plan;

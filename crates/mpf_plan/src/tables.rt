@@ -2,7 +2,7 @@
 
 use crate::draft::{Draft, ModeEntry, SwitchEntry};
 use crate::entries::{
-    Action, Binding, BindingId, EventId, ListId, Mode, ModeId, SwitchId, SwitchKind,
+    Action, Binding, BindingId, EventId, ListId, Mode, ModeId, SwitchId, SwitchKind, Work,
 };
 use crate::fault::Table;
 use crate::names::NameSets;
@@ -20,6 +20,8 @@ pub struct Plan {
     bindings: Vec<Binding>,
     /// For each event the places of what is bound to it.
     places: Vec<Vec<BindingId>>,
+    /// For each event its work.
+    works: Vec<Work>,
 }
 
 impl Model for Plan {
@@ -29,24 +31,30 @@ impl Model for Plan {
 
     ghost use Rattle.std.specs.Prelude.{◌≡◌, length};
     ghost use Rattle.mpf_plan.specs.declared.fault.Table.TheVariants.{Switches};
-    ghost use Rattle.mpf_plan.specs.Inside.{name_sets_view, plan_view, HasPlaces};
+    ghost use Rattle.mpf_plan.specs.Inside.{name_sets_view, plan_view, HasPlaces, HasWorks};
     ghost use Rattle.mpf_plan.specs.Valid.{IsValid};
 
     ghost view = { plan_view };
 
-    ghost invariant = { λ p. IsValid (plan_view p) × HasPlaces (plan_view p) p.places.items × (length p.switches.items ≡ length (name_sets_view p.names Switches)) };
+    ghost invariant = { λ p. IsValid (plan_view p) × HasPlaces (plan_view p) p.places.items × HasWorks (plan_view p) p.works.items × (length p.switches.items ≡ length (name_sets_view p.names Switches)) };
 }
 
 impl Plan {
     ghost use Rattle.std.specs.Prelude.{◌≡◌, ◌<◌, length, slice_get, Contains, IfSome, IfNone};
-    ghost use Rattle.mpf_plan.specs.PlanView.{name_of_event, event_named, mode_at, switch_at, switch_named, posts_of, actions_at, places_of};
+    ghost use Rattle.mpf_plan.specs.PlanView.{name_of_event, event_named, mode_at, switch_at, switch_named, posts_of, actions_at, places_of, work_of};
     ghost use Rattle.mpf_plan.specs.declared.fault.Table.TheVariants.{Switches};
-    ghost use Rattle.mpf_plan.specs.Inside.{name_sets_view, draft_view, HasPlaces};
-    ghost use Rattle.mpf_plan.specs.Valid.{IsValid};
+    ghost use Rattle.mpf_plan.specs.Inside.{name_sets_view, draft_view, HasPlaces, HasWorks};
+    ghost use Rattle.mpf_plan.specs.Valid.{IsValid, IsWorkAt};
 
-    pub(crate) fn assemble(names: NameSets, draft: Draft, places: Vec<Vec<BindingId>>) -> Plan
+    pub(crate) fn assemble(
+        names: NameSets,
+        draft: Draft,
+        places: Vec<Vec<BindingId>>,
+        works: Vec<Work>,
+    ) -> Plan
         requires valid { IsValid (draft_view names draft).plan }
         requires places { HasPlaces (draft_view names draft).plan places.items }
+        requires works { HasWorks (draft_view names draft).plan works.items }
         requires switches { length draft.switches.items ≡ length (name_sets_view names Switches) }
         ensures { result ≡ (draft_view names draft).plan }
     {
@@ -57,6 +65,7 @@ impl Plan {
             lists: draft.lists,
             bindings: draft.bindings,
             places,
+            works,
         }
     }
 
@@ -87,6 +96,16 @@ impl Plan {
     {
         let place = self.names.of(Table::Events).get_index_of(name)?;
         Some(EventId(place as u16))
+    }
+
+    /// What the machine itself does when it takes an event of the plan.
+    pub fn work(&self, event: EventId) -> Work
+        requires { event.0 < length self.now.events }
+        ensures work { result ≡ work_of self.now event }
+        ensures found { IsWorkAt self.now event result }
+        ensures valid { IsValid self.now }
+    {
+        self.works[event.0 as usize]
     }
 
     /// How many modes there are. They are numbered from 0.

@@ -3,7 +3,8 @@ use Rattle.std.specs.Prelude.{◌≡◌, ℕ, ◌<◌, ◌≤◌, ◌^◌, Optio
 use Rattle.mpf_plan.specs.PlanView.{PlanView}
 use Rattle.switch_core.specs.Switches.{IsComplete}
 use Rattle.event_queue.specs.declared.queue.Posted.{Posted}
-use Rattle.event_queue.specs.Handlers.{HandlersView, none_running}
+use Rattle.event_queue.specs.Handlers.{HandlersView}
+use Rattle.mode_stack.specs.Modes.{running_of}
 use Rattle.config_checker.specs.Machine.{Machine}
 use Rattle.config_checker.specs.Run.{Stimulus, Change, Alarm, Wait}
 use Rattle.config_checker.specs.NextAlarm.{next_alarm}
@@ -20,9 +21,10 @@ pub record CoreView : Type 0 where
 abbrev pub after : (Machine → Machine) → CoreView → CoreView
 after does c = record c { machine = does c.machine }
 
--- the machine of the plan is kept: it has its handlers, of which no mode runs yet, and all its switches
+-- the machine of the plan is kept: it has its modes, the handlers of those that run, and all its switches
 pub record IsCoreOf (plan : PlanView) (c : CoreView) : Type 0 where
-  pub handlers : c.handlers ≡ record { plan = plan; running = none_running plan }
+  pub modes : length c.machine.modes ≡ length plan.modes
+  pub handlers : c.handlers ≡ record { plan = plan; running = running_of c.machine.modes }
   pub kinds : length c.machine.switches.kinds ≡ length plan.switches
   pub complete : IsComplete c.machine.switches
 

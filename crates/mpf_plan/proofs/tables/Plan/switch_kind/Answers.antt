@@ -9,14 +9,14 @@ pub index-requires : goal.index-requires
 index-requires c =
     let names = name_sets_view c.self.inside.names Switches in
     let entries = c.self.inside.switches.items in
-    let count = length-switches names entries c.self.invariant.2 in
-    omega (arith, c.requires, ap (λ p. length p.switches) c.self.view_is, count, c.self.invariant.2, c.self.inside.switches.ok.0)
+    let count = length-switches names entries c.self.invariant.3 in
+    omega (arith, c.requires, ap (λ p. length p.switches) c.self.view_is, count, c.self.invariant.3, c.self.inside.switches.ok.0)
 
 pub returns-clause-kind : goal.returns-clause-kind
 returns-clause-kind c =
     let names = name_sets_view c.self.inside.names Switches in
     let entries = c.self.inside.switches.items in
-    let count = length-switches names entries c.self.invariant.2 in
+    let count = length-switches names entries c.self.invariant.3 in
     let within : c.args.switch.0 < length names = omega (arith, c.requires, ap (λ p. length p.switches) c.self.view_is, count) in
-    let at = entry_shown (λ s. s.kind) (λ e. e.kind) (λ n e. refl) names entries c.args.switch.0 c.index.result.now c.self.invariant.2 within in
+    let at = entry_shown (λ s. s.kind) (λ e. e.kind) (λ n e. refl) names entries c.args.switch.0 c.index.result.now c.self.invariant.3 within in
     subst (λ (p : PlanView). c.index.result.now.kind ≡ (switch_at p c.args.switch).kind) c.self.view_is (ap (λ e. e.kind) c.index.ensures ∙ sym at)

@@ -1,0 +1,24 @@
+-- What a plan must not post.
+use Rattle.std.specs.Prelude.{◌≡◌}
+use Rattle.std.specs.List.{All}
+use Rattle.mpf_plan.specs.PlanView.{PlanSwitch, PlanView, work_of}
+use Rattle.mpf_plan.specs.declared.entries.EventId.{EventId}
+use Rattle.mpf_plan.specs.declared.entries.Action.{Action}
+use Rattle.mpf_plan.specs.declared.entries.Action.TheVariants.{Post}
+use Rattle.mpf_plan.specs.declared.entries.Work.TheVariants.{Nothing}
+
+-- the machine itself does nothing at the event
+abbrev pub IsFree : PlanView → EventId → Type 0
+IsFree plan e = work_of plan e ≡ Nothing
+
+abbrev pub IsFreeAction : PlanView → Action → Type 0
+IsFreeAction plan (Post e) = IsFree plan e
+
+abbrev pub IsFreeSwitch : PlanView → PlanSwitch → Type 0
+IsFreeSwitch plan s = All (IsFree plan) s.active × All (IsFree plan) s.inactive
+
+-- No effect list and no switch posts an event at which the machine itself does something: only its works, starts and
+-- stops of modes post those.
+pub record PostsAreFree (plan : PlanView) : Type 0 where
+  pub lists : All (All (IsFreeAction plan)) plan.lists
+  pub switches : All (IsFreeSwitch plan) plan.switches
