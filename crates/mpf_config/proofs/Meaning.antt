@@ -10,7 +10,7 @@ use Rattle.section_tables.proofs.Steps.{bind_ok, ok_is, expected}
 use Rattle.section_tables.proofs.Outcomes.{then_read, each_sound, each_complete}
 use Rattle.section_tables.proofs.EntriesRead.{entries_sound, entries_complete, players_sound, players_complete}
 use Rattle.section_tables.proofs.TableNames.{player_has_no_table}
-use Rattle.mpf_config.specs.Rows.{Content, entries, players, SectionRows}
+use Rattle.mpf_config.specs.Rows.{Content, entries, players, entry, listed, SectionRows}
 use Rattle.mpf_config.specs.Unread.{read_of}
 use Rattle.mpf_config.specs.RowsOf.{IsContent, IsSection}
 use Rattle.mpf_config.specs.Reading.{line_spot, section_from, section_at, sections_in, sections_at}
@@ -39,6 +39,8 @@ content_complete longest text p (entries es) h =
 content_complete longest text p (players ps) h =
     rw (player_has_no_table p.key h.0 h.1, h.1)
     (then_read longest (players_at text h.0 p) (λ xs. Ok (made p (players xs))) ps (made p (players ps)) (players_complete text h.0 p longest ps h.2) (inl refl))
+content_complete longest text p (entry e) h = absurd h
+content_complete longest text p (listed ws) h = absurd h
 
 section_complete : (longest : ℕ) (text : List ℕ) (p : Pair) (s : SectionRows) → IsSection longest p s → IsReadOrLong longest (section_at text p) s
 section_complete longest text p s h =

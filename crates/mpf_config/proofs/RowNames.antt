@@ -1,8 +1,8 @@
 -- Every name in the rows of a bundle is one.
-use Rattle.std.proofs.Common.{◌≡◌, ◌≢◌, ℕ, zero, suc, true, false, List, [], ◌∷◌, Option, Some, None, slice_get, Ok, refl, sym, ap, ◌∙◌, true≢false}
+use Rattle.std.proofs.Common.{◌≡◌, ◌≢◌, ℕ, zero, suc, Bool, true, false, if◌then◌else◌, map, List, [], ◌∷◌, Option, Some, None, slice_get, Ok, refl, sym, subst, ap, ◌∙◌, true≢false}
 use Rattle.std.specs.List.{All, AllByRecursion}
 use Rattle.std.specs.Str.{bytes_eq}
-use Rattle.std.proofs.lemmas.List.Elements.{All-nil, All-map, All-weaker, All-from_recursion}
+use Rattle.std.proofs.lemmas.List.Elements.{All-nil, All-head, All-tail, All-map, All-weaker, All-from_recursion}
 use Rattle.yaml_subset.specs.Node.{Pair}
 use Rattle.mpf_values.specs.Bytes.{is_name_byte}
 use Rattle.mpf_values.specs.Names.{IsName}
@@ -11,24 +11,32 @@ use Rattle.section_tables.specs.Named.{IsNamedValue, IsNamedEvent, IsNamedEntry,
 use Rattle.section_tables.specs.SectionTables.{switches_name, event_player_name}
 use Rattle.section_tables.proofs.RowNames.{entries_named, players_named}
 use Rattle.section_tables.proofs.TableNames.{table_named, kinds_named}
-use Rattle.mpf_config.specs.Rows.{Written, Content, entries, players, SectionRows, Rows}
-use Rattle.mpf_config.specs.Typed.{listed_names, listed_posts, event_name, switch_of, event_player_of, entries_in, players_in, entries_of, players_of, switches_in, event_players_in}
+use Rattle.mpf_config.specs.Rows.{Written, ModeSettings, Content, entries, players, entry, listed, SectionRows, ModeRows, Rows}
+use Rattle.section_tables.specs.SectionTables as tables
+use Rattle.section_tables.specs.Tables.{setting_default}
+use Rattle.mpf_config.specs.Typed.{content_named, mode_row, mode_name, mode_settings_of, mode_settings, listed_names, listed_posts, event_name, switch_of, event_player_of, entries_in, players_in, entries_of, players_of, switches_in, event_players_in}
 use Rattle.mpf_config.specs.Unread.{read_of}
 use Rattle.mpf_config.specs.RowsOf.{IsContent, IsSection}
-use Rattle.mpf_config.specs.Named.{AllNames, IsNamedSwitch, IsNamedEventPlayer, IsNamedContent, IsNamed}
+use Rattle.mpf_config.specs.Named.{AllNames, IsNamedSwitch, IsNamedEventPlayer, AreNamedSettings, IsNamedContent, IsNamed, IsNamedMode}
 use Rattle.mpf_config.specs.Reading.{rows_at}
 use Rattle.mpf_config.proofs.Theorem.{rows_sound}
 use Rattle.mpf_config.proofs.Each.{All-from_zip, all_where}
 
-content_named : (longest : ℕ) (p : Pair) (content : Content) → IsContent longest p content → IsNamedContent content
-content_named longest p (entries es) h = All-from_recursion IsNamedEntry es (entries_named longest h.0 p es (table_named p.key h.0 h.1) h.2)
-content_named longest p (players ps) h = All-from_recursion IsNamedPlayer ps (players_named longest h.0 p ps (kinds_named p.key h.0 h.1) h.2)
+content_is_named : (longest : ℕ) (p : Pair) (content : Content) → IsContent longest p content → IsNamedContent content
+content_is_named longest p (entries es) h = All-from_recursion IsNamedEntry es (entries_named longest h.0 p es (table_named p.key h.0 h.1) h.2)
+content_is_named longest p (players ps) h = All-from_recursion IsNamedPlayer ps (players_named longest h.0 p ps (kinds_named p.key h.0 h.1) h.2)
+content_is_named longest p (entry e) h = absurd h
+content_is_named longest p (listed ws) h = absurd h
 
 -- Every name in the rows that are read from a bundle is one.
 pub rows_are_named : (bundle : List ℕ) (rows : Rows) → rows_at bundle ≡ Ok rows → All IsNamed rows.machine
 rows_are_named bundle rows is =
     let h = rows_sound bundle rows is in
-    All-from_zip (IsSection 1024) IsNamed (λ p s k. content_named 1024 p s.content k.content) (read_of h.sections) rows.machine h.each
+    All-from_zip (IsSection 1024) IsNamed (λ p s k. content_is_named 1024 p s.content k.content) (read_of h.sections) rows.machine h.each
+
+-- Those in the modes are, too.
+pub modes_are_named : (bundle : List ℕ) (rows : Rows) → rows_at bundle ≡ Ok rows → All IsNamedMode rows.modes
+modes_are_named bundle rows is = subst (All IsNamedMode) (sym (rows_sound bundle rows is).modes) (All-nil IsNamedMode)
 
 -- ---- by the names of settings
 
@@ -89,13 +97,48 @@ pub event_player_named : (p : Player) → IsNamedPlayer p → IsNamedEventPlayer
 unfolding event_player_of
 event_player_named p h = record { event = event_named p.event h.event; posts = posts_named (Some p.value) h.value }
 
+-- And those in what `mode` says.
+pub settings_named : (row : List Value) → AllByRecursion IsNamedValue row → AreNamedSettings (mode_settings_of row)
+unfolding mode_settings_of
+settings_named row h = record { starts = names_named (slice_get row 0) (value_at_named row 0 h); stops = names_named (slice_get row 1) (value_at_named row 1 h) }
+
+abbrev IsNamedFound : Option Content → Type 0
+IsNamedFound None = Unit {0}
+IsNamedFound (Some content) = IsNamedContent content
+
+found_named : (section : List ℕ) (sections : List SectionRows) → All IsNamed sections → IsNamedFound (content_named section sections)
+found_named section [] h = tt
+found_named section (s ∷ ss) h = by (bytes_eq s.name section) (found_named section ss (All-tail IsNamed s ss h))
+  where
+    by : (b : Bool) → IsNamedFound (content_named section ss) → IsNamedFound (if b then Some s.content else content_named section ss)
+    by true rest = All-head IsNamed s ss h
+    by false rest = rest
+
+defaults_named : AllByRecursion IsNamedValue (map setting_default tables.mode)
+defaults_named = (tt, (tt, (tt, (tt, (tt, (tt, tt))))))
+
+row_named : (o : Option Content) → IsNamedFound o → AllByRecursion IsNamedValue (mode_row o)
+row_named None h = defaults_named
+row_named (Some (entries es)) h = defaults_named
+row_named (Some (players ps)) h = defaults_named
+row_named (Some (entry e)) h = h.values
+row_named (Some (listed ws)) h = defaults_named
+
+-- so it is in what the sections of a mode say of it
+pub mode_settings_named : (sections : List SectionRows) → All IsNamed sections → AreNamedSettings (mode_settings sections)
+mode_settings_named sections h = settings_named (mode_row (content_named mode_name sections)) (row_named (content_named mode_name sections) (found_named mode_name sections h))
+
 entries_in_named : (content : Content) → IsNamedContent content → All IsNamedEntry (entries_in content)
 entries_in_named (entries es) h = h
 entries_in_named (players ps) h = All-nil IsNamedEntry
+entries_in_named (entry e) h = All-nil IsNamedEntry
+entries_in_named (listed ws) h = All-nil IsNamedEntry
 
 players_in_named : (content : Content) → IsNamedContent content → All IsNamedPlayer (players_in content)
 players_in_named (entries es) h = All-nil IsNamedPlayer
 players_in_named (players ps) h = h
+players_in_named (entry e) h = All-nil IsNamedPlayer
+players_in_named (listed ws) h = All-nil IsNamedPlayer
 
 entries_of_named : (section : List ℕ) (s : SectionRows) → IsNamed s → All IsNamedEntry (entries_of section s)
 entries_of_named section s h = all_where IsNamedEntry (bytes_eq s.name section) (entries_in s.content) (entries_in_named s.content h)

@@ -1,5 +1,5 @@
 -- No list in the rows of a bundle has more than 1,024 items.
-use Rattle.std.proofs.Common.{◌≡◌, ℕ, zero, suc, ◌≤◌, List, [], ◌∷◌, length, Option, Some, None, slice_get, Ok, arith}
+use Rattle.std.proofs.Common.{◌≡◌, ℕ, zero, suc, ◌≤◌, List, [], ◌∷◌, length, Option, Some, None, slice_get, Ok, sym, subst, arith}
 use Rattle.std.specs.List.{All}
 use Rattle.std.specs.Str.{bytes_eq}
 use Rattle.std.proofs.lemmas.List.Elements.{All-nil, All-head, All-tail, All-map, All-weaker}
@@ -9,19 +9,24 @@ use Rattle.section_tables.specs.Named.{IsShortValue, IsShortEntry, IsShortPlayer
 use Rattle.section_tables.specs.SectionTables.{switches_name, event_player_name}
 use Rattle.section_tables.proofs.RowNames.{entries_short, players_short}
 use Rattle.section_tables.proofs.TableNames.{table_short}
-use Rattle.mpf_config.specs.Rows.{Content, entries, players, SectionRows, Rows}
+use Rattle.mpf_config.specs.Rows.{Content, entries, players, entry, listed, SectionRows, Rows}
 use Rattle.mpf_config.specs.Typed.{listed_names, listed_posts, switch_of, event_player_of, entries_in, players_in, entries_of, players_of, switches_in, event_players_in}
 use Rattle.mpf_config.specs.Unread.{read_of}
 use Rattle.mpf_config.specs.RowsOf.{IsContent, IsSection}
-use Rattle.mpf_config.specs.Short.{IsShortContent, IsShortSection, AreListsShort, IsShortSwitch, IsShortEventPlayer}
+use Rattle.mpf_config.specs.Short.{IsShortContent, IsShortSection, IsShortMode, AreListsShort, IsShortSwitch, IsShortEventPlayer}
 use Rattle.mpf_config.specs.Reading.{sections_at, rows_at}
 use Rattle.mpf_config.proofs.Meaning.{sections_sound}
 use Rattle.mpf_config.proofs.Theorem.{rows_sound}
 use Rattle.mpf_config.proofs.Each.{All-from_zip, all_where}
 
+none_short : 0 ≤ 1024
+none_short = omega arith
+
 content_short : (p : Pair) (content : Content) → IsContent 1024 p content → IsShortContent content
-content_short p (entries es) h = (entries_short 1024 h.0 p es (table_short 1024 p.key h.0 h.1) h.2, All-nil (IsShortPlayer 1024))
-content_short p (players ps) h = (All-nil (IsShortEntry 1024), players_short 1024 h.0 p ps h.2)
+content_short p (entries es) h = (entries_short 1024 h.0 p es (table_short 1024 p.key h.0 h.1) h.2, All-nil (IsShortPlayer 1024), All-nil (IsShortEntry 1024), none_short)
+content_short p (players ps) h = (All-nil (IsShortEntry 1024), players_short 1024 h.0 p ps h.2, All-nil (IsShortEntry 1024), none_short)
+content_short p (entry e) h = absurd h
+content_short p (listed ws) h = absurd h
 
 -- No list in sections that are read has more items.
 pub sections_short : (text : List ℕ) (sections : List Pair) (found : List SectionRows) → sections_at text sections ≡ Ok found → All IsShortSection found
@@ -31,8 +36,10 @@ sections_short text sections found is =
 -- No list in the rows that are read from a bundle has more items.
 pub rows_are_short : (bundle : List ℕ) (rows : Rows) → rows_at bundle ≡ Ok rows → AreListsShort rows
 rows_are_short bundle rows is =
-    let h = rows_sound bundle rows is in
-    All-from_zip (IsSection 1024) IsShortSection (λ p s k. content_short p s.content k.content) (read_of h.sections) rows.machine h.each
+    let h = rows_sound bundle rows is in (
+      All-from_zip (IsSection 1024) IsShortSection (λ p s k. content_short p s.content k.content) (read_of h.sections) rows.machine h.each,
+      subst (All IsShortMode) (sym h.modes) (All-nil IsShortMode),
+    )
 
 -- ---- by the names of settings
 
@@ -44,9 +51,6 @@ value_at_short : (row : List Value) (i : ℕ) → All (IsShortValue 1024) row �
 value_at_short [] i h = tt
 value_at_short (v ∷ vs) zero h = All-head (IsShortValue 1024) v vs h
 value_at_short (v ∷ vs) (suc i) h = value_at_short vs i (All-tail (IsShortValue 1024) v vs h)
-
-none_short : 0 ≤ 1024
-none_short = omega arith
 
 names_short : (o : Option Value) → IsShortOption o → length (listed_names o) ≤ 1024
 names_short None h = none_short

@@ -54,7 +54,7 @@ only_tree text t u levels depth e k =
 -- ---- the rows
 
 abbrev made : List SectionRows → List Pair → List Text → Rows
-made rows sections texts = record { machine = rows; notes = skipped_notes machine_name sections ++ unlisted_notes texts }
+made rows sections texts = record { machine = rows; modes = []; notes = skipped_notes machine_name sections ++ unlisted_notes texts }
 
 -- the steps of a bundle that was read
 record WasRead (bundle : List ℕ) (rows : Rows) : Type 0 where
@@ -120,6 +120,7 @@ rows_sound bundle rows e =
       sections = w.sections;
       has = pairs_sound machine_name w.tree w.sections w.sections_are;
       each = sections_sound machine_name w.sections w.found w.found_are;
+      modes = refl;
       notes = refl;
     })
 
@@ -138,7 +139,7 @@ rows_only bundle rows e levels depth longest other h =
     let read : sections_at machine_name h.sections ≡ Ok w.found = ap (sections_at machine_name) sections ∙ w.found_are in
     let same = only_read longest (sections_at machine_name h.sections) w.found other.machine read (sections_complete longest machine_name h.sections other.machine h.each) in
     let notes : other.notes ≡ skipped_notes machine_name w.sections ++ unlisted_notes w.texts = h.notes ∙ (λ i. skipped_notes machine_name (sections i) ++ unlisted_notes (texts i)) in
-    (λ i. record { machine = same i; notes = notes i }) ∙ w.rows_are
+    (λ i. record { machine = same i; modes = h.modes i; notes = notes i }) ∙ w.rows_are
 
 -- ---- a bundle that is refused
 
@@ -162,7 +163,7 @@ rows_again levels depth longest bundle rows h short r s =
       s,
       new_complete [] h.texts h.all_new,
     )
-    (λ i. Ok (record { machine = rows.machine; notes = sym h.notes i }))
+    (λ i. Ok (record { machine = rows.machine; modes = sym h.modes i; notes = sym h.notes i }))
 
 -- the tree that is read has the sections of the rows, so that a list is too long
 too_long : (bundle : List ℕ) (f : RowsFault) (rows : Rows) (levels depth longest : ℕ) → rows_at bundle ≡ Err f → (h : IsRowsOf levels depth longest bundle rows) → length bundle ≤ 2 ^ 23

@@ -1,5 +1,5 @@
 -- How a bundle holds texts, and how a text begins.
-use Rattle.std.specs.Prelude.{ℕ, suc, ◌+◌, Bool, true, false, ◌&&◌, ◌==◌, if◌then◌else◌, List, [], ◌∷◌, Option, Some, None, unwrap_or, codes}
+use Rattle.std.specs.Prelude.{ℕ, suc, ◌+◌, Bool, true, false, ◌&&◌, ◌==◌, if◌then◌else◌, List, [], ◌∷◌, ◌++◌, Option, Some, None, unwrap_or, codes}
 use Rattle.std.specs.List.{count_by}
 use Rattle.std.specs.Str.{bytes_eq}
 use Rattle.yaml_bytes.specs.Bytes.{is_blank}
@@ -14,6 +14,10 @@ pub record Text : Type 0 where
 -- the name of the machine text
 abbrev pub machine_name : List ℕ
 machine_name = codes "config/config.yaml"
+
+-- the name of the text of a mode
+abbrev pub mode_text_name : List ℕ → List ℕ
+mode_text_name mode = codes "modes/" ++ mode ++ codes "/config/" ++ mode ++ codes ".yaml"
 
 -- the first line of a text, of the version that is read
 abbrev pub version_line : List ℕ

@@ -5,6 +5,7 @@ pub mod Unread
 pub mod RowsOf
 pub mod Named
 pub mod Short
+pub mod FewModes
 pub mod Reading
 pub mod SectionView
 pub mod View

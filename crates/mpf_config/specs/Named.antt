@@ -2,7 +2,7 @@
 use Rattle.std.specs.Prelude.{List}
 use Rattle.std.specs.List.{All}
 pub use Rattle.section_tables.specs.Named.{IsNamedEntry, IsNamedPlayer}
-use Rattle.mpf_config.specs.Rows.{Written, Switch, EventPlayer, Content, entries, players, SectionRows}
+use Rattle.mpf_config.specs.Rows.{Written, Switch, EventPlayer, ModeSettings, Content, entries, players, entry, listed, SectionRows, ModeRows}
 pub use Rattle.mpf_values.specs.Names.{IsName}
 
 -- each name in a list is one
@@ -21,10 +21,22 @@ pub record IsNamedEventPlayer (p : EventPlayer) : Type 0 where
   pub event : IsName p.event.text
   pub posts : AllNames p.posts
 
+-- the events that start a mode are names, and so are those that stop it
+pub record AreNamedSettings (s : ModeSettings) : Type 0 where
+  pub starts : AllNames s.starts
+  pub stops : AllNames s.stops
+
 -- so it is in each entry of a section, whatever its settings are
 abbrev pub IsNamedContent : Content → Type 0
 IsNamedContent (entries es) = All IsNamedEntry es
 IsNamedContent (players ps) = All IsNamedPlayer ps
+IsNamedContent (entry e) = IsNamedEntry e
+IsNamedContent (listed ws) = AllNames ws
 
 abbrev pub IsNamed : SectionRows → Type 0
 IsNamed s = IsNamedContent s.content
+
+-- the name of a mode is one, and so is each in its sections
+pub record IsNamedMode (m : ModeRows) : Type 0 where
+  pub name : IsName m.name
+  pub sections : All IsNamed m.sections

@@ -77,4 +77,4 @@ rows_at bundle =
     if nat_lt (2 ^ 23) (length bundle) then refused Limit (line_spot (codes "-") 1)
     else (texts_at bundle >>= λ texts. machine_at texts >>= λ text. text_tree_at machine_name text >>= λ tree. sections_in machine_name tree
     >>= λ sections. sections_at machine_name sections >>= λ rows. new_at [] texts
-    >>= λ all_new. Ok (record { machine = rows; notes = skipped_notes machine_name sections ++ unlisted_notes texts }))
+    >>= λ all_new. Ok (record { machine = rows; modes = []; notes = skipped_notes machine_name sections ++ unlisted_notes texts }))

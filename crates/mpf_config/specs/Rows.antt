@@ -1,5 +1,5 @@
 -- The rows of a bundle, apart from where they lie in memory.
-use Rattle.std.specs.Prelude.{ℕ, List}
+use Rattle.std.specs.Prelude.{ℕ, Bool, List}
 use Rattle.mpf_config.specs.declared.config.Contact.{Contact}
 use Rattle.mpf_config.specs.declared.config.Debounce.{Debounce}
 use Rattle.mpf_config.specs.declared.config.NoteKind.{NoteKind}
@@ -19,10 +19,21 @@ pub record EventPlayer : Type 0 where
   pub event : Written
   pub posts : List Written
 
--- what stands in a section, as written: entries by its table, or those of a player
+-- what `mode` says of a mode: the events that start and stop it, its priority, whether it runs only in a game, and
+-- whether it stops with the ball
+pub record ModeSettings : Type 0 where
+  pub starts : List Written
+  pub stops : List Written
+  pub priority : ℕ
+  pub game : Bool
+  pub stops_with_ball : Bool
+
+-- what stands in a section, as written: entries by its table, those of a player, one entry, or a list of names
 pub data Content : Type 0 where
   entries : List Entry → Content
   players : List Player → Content
+  entry : Entry → Content
+  listed : List Written → Content
 
 -- a section by its name
 pub record SectionRows : Type 0 where
@@ -36,7 +47,14 @@ pub record Note : Type 0 where
   pub line : ℕ
   pub name : List ℕ
 
--- the rows of a bundle: the sections of its machine text as written, and what is not read
+-- a mode by its name, with the sections of its text as written
+pub record ModeRows : Type 0 where
+  pub name : List ℕ
+  pub sections : List SectionRows
+
+-- the rows of a bundle: the sections of its machine text as written, the modes that it lists and that have a text, in the
+-- order of the list, and what is not read
 pub record Rows : Type 0 where
   pub machine : List SectionRows
+  pub modes : List ModeRows
   pub notes : List Note

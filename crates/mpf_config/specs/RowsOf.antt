@@ -10,7 +10,7 @@ use Rattle.yaml_subset.specs.TreeOf.{IsTreeOf, IsTextAbove}
 use Rattle.section_tables.specs.Kinds.{Setting, PlayerKinds}
 use Rattle.section_tables.specs.SectionTables.{table_of, player_of}
 use Rattle.section_tables.specs.EntryOf.{AreEntries, ArePlayers}
-use Rattle.mpf_config.specs.Rows.{Content, entries, players, SectionRows, Rows}
+use Rattle.mpf_config.specs.Rows.{Content, entries, players, entry, listed, SectionRows, Rows}
 use Rattle.mpf_config.specs.BundleText.{Text, machine_name, version_line}
 use Rattle.mpf_config.specs.Unread.{read_of, skipped_notes, unlisted_notes}
 
@@ -71,8 +71,10 @@ IsMachineText bundle text = (texts : List Text) × AreTexts bundle texts × Cont
 
 -- what stands in a section, by its name: entries by its table, or those of a player
 abbrev pub IsContent : ℕ → Pair → Content → Type 0
-IsContent longest entry (entries es) = (table : List Setting) × (table_of entry.key ≡ Some table) × AreEntries longest table entry es
-IsContent longest entry (players ps) = (kinds : PlayerKinds) × (player_of entry.key ≡ Some kinds) × ArePlayers longest kinds entry ps
+IsContent longest p (entries es) = (table : List Setting) × (table_of p.key ≡ Some table) × AreEntries longest table p es
+IsContent longest p (players ps) = (kinds : PlayerKinds) × (player_of p.key ≡ Some kinds) × ArePlayers longest kinds p ps
+IsContent longest p (entry e) = ⊥
+IsContent longest p (listed ws) = ⊥
 
 -- a section by its name, and a row for each of its entries
 pub record IsSection (longest : ℕ) (entry : Pair) (s : SectionRows) : Type 0 where
@@ -96,6 +98,7 @@ pub record IsRowsOf (levels depth longest : ℕ) (bundle : List ℕ) (rows : Row
   pub sections : List Pair
   pub has : pairs_in tree ≡ Some sections
   pub each : AllZip (IsSection longest) (read_of sections) rows.machine
+  pub modes : rows.modes ≡ []
   pub notes : rows.notes ≡ skipped_notes machine_name sections ++ unlisted_notes texts
 
 -- ---- limits

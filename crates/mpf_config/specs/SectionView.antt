@@ -2,12 +2,19 @@
 use Rattle.mpf_config.specs.declared.config.Content as contents
 use Rattle.mpf_config.specs.declared.config.Content.TheVariants as content
 use Rattle.mpf_config.specs.declared.config.Section.{Section}
-use Rattle.section_tables.specs.View.{entries_view, players_view}
-use Rattle.mpf_config.specs.Rows.{Content, entries, players, SectionRows}
+use Rattle.mpf_config.specs.declared.config.ModeText.{ModeText}
+use Rattle.section_tables.specs.View.{names_view, entry_view, entries_view, players_view}
+use Rattle.std.specs.Prelude.{map}
+use Rattle.mpf_config.specs.Rows.{Content, entries, players, entry, listed, SectionRows, ModeRows}
 
 abbrev pub content_view : contents.Content → Content
 content_view (content.Entries es) = entries (entries_view es)
 content_view (content.Players ps) = players (players_view ps)
+content_view (content.Entry e) = entry (entry_view e)
+content_view (content.Names ws) = listed (names_view ws)
 
 abbrev pub section_view : Section → SectionRows
 section_view s = record { name = s.name.items; content = content_view s.content }
+
+abbrev pub mode_view : ModeText → ModeRows
+mode_view m = record { name = m.name.items; sections = map section_view m.sections.items }

@@ -96,6 +96,7 @@ fn read_exactly(alloc: Global, bundle: &[u8]) -> Result<Config, ConfigFault>
     add_unlisted(alloc, &texts, &mut notes)?;
     Ok(Config {
         machine: MachineText { sections },
+        modes: Vec::new(alloc),
         notes,
     })
 }

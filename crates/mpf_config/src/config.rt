@@ -2,10 +2,11 @@
 
 ghost use Rattle.std.specs.Prelude.{map};
 ghost use Rattle.std.specs.List.{All};
-ghost use Rattle.mpf_config.specs.Short.{IsShortSection};
-ghost use Rattle.mpf_config.specs.SectionView.{section_view};
+ghost use Rattle.mpf_config.specs.FewModes.{AreFewModes};
+ghost use Rattle.mpf_config.specs.Short.{IsShortSection, IsShortMode};
+ghost use Rattle.mpf_config.specs.SectionView.{section_view, mode_view};
 
-use section_tables::rows::{Entry, Player};
+use section_tables::rows::{Entry, Name, Player};
 
 /// The state of a switch's contact while nothing presses it.
 #[derive(Clone, Copy, Debug)]
@@ -35,6 +36,10 @@ pub enum Content {
     Entries(Vec<Entry>),
     /// The entries of a player.
     Players(Vec<Player>),
+    /// The section is one entry, as `mode` is.
+    Entry(Entry),
+    /// The section is a list of names, as `modes` is.
+    Names(Vec<Name>),
 }
 
 /// A section of a text, by its name.
@@ -47,6 +52,14 @@ pub struct Section {
 /// The machine text: its sections as written, none twice.
 #[derive(Drop)]
 pub struct MachineText {
+    pub sections: Vec<Section>,
+}
+
+/// The text of a mode: its sections as written, none twice.
+#[derive(Drop)]
+pub struct ModeText {
+    /// The name of the mode, of 1 to 64 bytes.
+    pub name: Vec<u8>,
     pub sections: Vec<Section>,
 }
 
@@ -71,12 +84,16 @@ pub struct Note {
     pub name: Vec<u8>,
 }
 
-/// The rows of a bundle. No list in them has more than 1,024 items.
+/// The rows of a bundle. No list in them has more than 1,024 items. There are at most 64 modes, and
+/// no two of them have one name.
 #[derive(Drop)]
 pub struct Config {
     /// The machine text.
     pub machine: MachineText,
+    /// The modes that the machine text lists and that have a text, in the order of the list.
+    pub modes: Vec<ModeText>,
     /// What was not read, in the order in which it is reported.
     pub notes: Vec<Note>,
-    ghost lists_short: { All IsShortSection (map section_view machine.sections.items) },
+    ghost lists_short: { All IsShortSection (map section_view machine.sections.items) × All IsShortMode (map mode_view modes.items) },
+    ghost few_modes: { AreFewModes (map mode_view modes.items) },
 }

@@ -13,10 +13,16 @@ pub mod typed;
 mod unread;
 
 pub use bundle::read_bundle;
-pub use config::{Config, Contact, Content, Debounce, MachineText, Note, NoteKind, Section};
+pub use config::{
+    Config, Contact, Content, Debounce, MachineText, ModeText, Note, NoteKind, Section,
+};
 pub use escape::{escaped_makes_no_line, write_escaped};
 pub use fault::{ConfigFault, Fault, FaultKind, write_fault};
 pub use notes::write_note;
 pub use section_tables::rows::{Entry, Fields, Guard, Handler, Keyed, Name, Plain, Player, Value};
-pub use section_tables::tables::{EVENT_PLAYER_NAME, SWITCHES_NAME};
-pub use typed::{EventPlayer, NameAt, Switch, as_event_player, as_switch};
+pub use section_tables::tables::{EVENT_PLAYER_NAME, MODE_NAME, MODES_NAME, SWITCHES_NAME};
+pub use texts::{MACHINE_NAME, mode_text_name};
+pub use typed::{
+    EventPlayer, ModeSettings, NameAt, Switch, as_event_player, as_switch, listed_modes,
+    mode_settings,
+};

@@ -4,19 +4,35 @@ ghost use Rattle.std.specs.Prelude.{◌≡◌, ◌≤◌, ◌^◌, ◌||◌, ℕ
 ghost use Rattle.std.specs.Str.{bytes_eq};
 ghost use Rattle.yaml_subset.specs.Keys.{is_among};
 ghost use Rattle.yaml_subset.specs.View.{option_slice};
-ghost use Rattle.mpf_config.specs.BundleText.{name_in, piece_len, line_ends};
+ghost use Rattle.mpf_config.specs.BundleText.{mode_text_name, name_in, piece_len, line_ends};
 ghost use Rattle.mpf_config.specs.Reading.{text_at, texts_at, machine_at, new_at};
 ghost use Rattle.mpf_config.specs.View.{GivesRows};
 ghost use Rattle.mpf_config.specs.Inside.{bytes_view, text_view, texts_view, keys_view};
 
 use crate::fault::{ConfigFault, FaultKind};
 use crate::spot::{NONE, line_of};
-use std::alloc::{AllocFailed, Global};
+use std::alloc::{AllocError, AllocFailed, Global};
 use std::collections::BTreeSet;
 use yaml_bytes::{behind_blanks, is_blank, split_line, trimmed};
 
 /// The name of the machine text.
 pub const MACHINE_NAME: &[u8] = b"config/config.yaml";
+
+/// The name of the text of a mode: `modes/NAME/config/NAME.yaml`.
+///
+/// # Errors
+///
+/// `AllocError`: memory ran out.
+pub fn mode_text_name(alloc: Global, mode: &[u8]) -> Result<Vec<u8>, AllocError>
+    ensures { IfOk result (λ name. name.items ≡ mode_text_name mode.now) }
+{
+    let mut name = Vec::from_slice(alloc, b"modes/")?;
+    name.extend_from_slice(mode)?;
+    name.extend_from_slice(b"/config/")?;
+    name.extend_from_slice(mode)?;
+    name.extend_from_slice(b".yaml")?;
+    Ok(name)
+}
 
 /// A text, and the name in the line `@ NAME` in front of it.
 #[derive(Clone, Copy)]

@@ -1,13 +1,13 @@
 //! The entries of sections, by the names of their settings.
 
-ghost use Rattle.std.specs.Prelude.{◌≡◌, map, slice_get};
+ghost use Rattle.std.specs.Prelude.{◌≡◌, None, map, option_map, slice_get};
 ghost use Rattle.section_tables.specs.View.{name_view, plain_view, value_view, values_view, entry_view, entries_view, player_view, players_view};
-ghost use Rattle.mpf_config.specs.Typed.{listed_names, listed_posts, word_of, event_name, contact_of, debounce_of, switch_of, event_player_of, entries_in, players_in, entries_of, players_of, switches_in, event_players_in};
-ghost use Rattle.mpf_config.specs.View.{content_view, section_view, name_at_view, switch_view, event_player_view};
+ghost use Rattle.mpf_config.specs.Typed.{listed_names, listed_posts, word_of, flag_of, natural_of, mode_settings_of, mode_row, mode_settings, listed_modes, content_named, event_name, contact_of, debounce_of, switch_of, event_player_of, entries_in, players_in, entries_of, players_of, switches_in, event_players_in};
+ghost use Rattle.mpf_config.specs.View.{content_view, section_view, name_at_view, switch_view, event_player_view, mode_settings_view};
 
 use crate::config::{Contact, Content, Debounce, Section};
 use section_tables::rows::{Entry, Name, Plain, Player, Value};
-use section_tables::tables::{EVENT_PLAYER_NAME, SWITCHES_NAME};
+use section_tables::tables::{EVENT_PLAYER_NAME, MODE_NAME, MODES_NAME, SWITCHES_NAME};
 
 /// A name where it is written.
 #[derive(Clone, Copy)]
@@ -37,6 +37,21 @@ pub struct Switch<'a> {
 pub struct EventPlayer<'a> {
     pub event: NameAt<'a>,
     pub posts: &'a [Name],
+}
+
+/// What the section `mode` says of a mode.
+#[derive(Clone, Copy)]
+pub struct ModeSettings<'a> {
+    /// The events that start it.
+    pub starts: &'a [Name],
+    /// The events that stop it.
+    pub stops: &'a [Name],
+    /// The priority of its handlers: at most 1,000,000, 100 by default.
+    pub priority: u32,
+    /// Whether it runs only in a game: by default it does.
+    pub game: bool,
+    /// Whether it stops with the ball: by default it does.
+    pub stops_with_ball: bool,
 }
 
 // ---- values
@@ -78,6 +93,26 @@ fn word(row: &[Value], at: usize) -> &'static [u8]
     match row.get(at) {
         Some(Value::One(Plain::Word(word))) => word,
         _ => b"",
+    }
+}
+
+// The flag at a place of a row; false where there is none.
+fn flag(row: &[Value], at: usize) -> bool
+    ensures { result ≡ flag_of (slice_get (values_view row.now) at) }
+{
+    match row.get(at) {
+        Some(Value::One(Plain::Flag(flag))) => *flag,
+        _ => false,
+    }
+}
+
+// The number at a place of a row; 0 where there is none, or it is not of 32 bits.
+fn natural(row: &[Value], at: usize) -> u32
+    ensures { result ≡ natural_of (slice_get (values_view row.now) at) }
+{
+    match row.get(at) {
+        Some(Value::One(Plain::Number(number))) => u32::try_from(*number).unwrap_or(0),
+        _ => 0,
     }
 }
 
@@ -170,7 +205,84 @@ pub fn as_event_player(player: &Player) -> EventPlayer<'_>
     }
 }
 
+// ---- `mode`
+
+// The places of the settings in the section's table.
+const START_EVENTS: usize = 0;
+
+const STOP_EVENTS: usize = 1;
+
+const PRIORITY: usize = 2;
+
+const GAME_MODE: usize = 3;
+
+const STOP_ON_BALL_END: usize = 4;
+
+// What holds where no setting is written.
+#[tactic(auto, unfolding(crate::specs::Typed::mode_settings_of))]
+fn default_settings<'a>() -> ModeSettings<'a>
+    ensures { mode_settings_view result ≡ mode_settings_of (mode_row None) }
+{
+    ModeSettings {
+        starts: &[],
+        stops: &[],
+        priority: 100,
+        game: true,
+        stops_with_ball: true,
+    }
+}
+
+// The row of `mode`, by the names of its settings.
+#[tactic(auto, unfolding(crate::specs::Typed::mode_settings_of))]
+fn as_settings(row: &[Value]) -> ModeSettings<'_>
+    ensures { mode_settings_view result ≡ mode_settings_of (values_view row.now) }
+{
+    ModeSettings {
+        starts: names(row, START_EVENTS),
+        stops: names(row, STOP_EVENTS),
+        priority: natural(row, PRIORITY),
+        game: flag(row, GAME_MODE),
+        stops_with_ball: flag(row, STOP_ON_BALL_END),
+    }
+}
+
+/// What the sections of a mode say of it: its section `mode`, with the defaults for what is not
+/// written.
+pub fn mode_settings(sections: &[Section]) -> ModeSettings<'_>
+    ensures { mode_settings_view result ≡ mode_settings (map section_view sections.now) }
+{
+    match section_named(sections, MODE_NAME) {
+        Some(Content::Entry(entry)) => as_settings(&entry.values),
+        _ => default_settings(),
+    }
+}
+
+// ---- `modes`
+
+/// The names that the section `modes` lists, each with its line; none where there is no such
+/// section.
+pub fn listed_modes(sections: &[Section]) -> &[Name]
+    ensures { map name_view result.now ≡ listed_modes (map section_view sections.now) }
+{
+    match section_named(sections, MODES_NAME) {
+        Some(Content::Names(names)) => names,
+        _ => &[],
+    }
+}
+
 // ---- sections
+
+// The content of the section of this name, if there is one.
+fn section_named<'a>(sections: &'a [Section], name: &[u8]) -> Option<&'a Content>
+    ensures { option_map (λ content. content_view content.now) result ≡ content_named name.now (map section_view sections.now) }
+{
+    for section in sections {
+        if section.name.as_slice() == name {
+            return Some(&section.content);
+        }
+    }
+    None
+}
 
 impl Content {
     fn entries(&self) -> &[Entry]
@@ -178,7 +290,7 @@ impl Content {
     {
         match self {
             Content::Entries(entries) => entries,
-            Content::Players(_) => &[],
+            _ => &[],
         }
     }
 
@@ -186,8 +298,8 @@ impl Content {
         ensures { map player_view result.now ≡ players_in (content_view self.now) }
     {
         match self {
-            Content::Entries(_) => &[],
             Content::Players(players) => players,
+            _ => &[],
         }
     }
 }

@@ -5,6 +5,7 @@ use Rattle.std.specs.List.{All, flat_map}
 use Rattle.std.proofs.lemmas.List.{length-map}
 use Rattle.std.proofs.lemmas.List.Elements.{All-nil, All-cons, All-head, All-tail, All-append, All-map, All-weaker}
 use Rattle.mpf_config.specs.Rows.{Written, Entry, Player, Switch, EventPlayer, Content, entries, players, SectionRows}
+use Rattle.mpf_config.specs.Rows as sections
 use Rattle.mpf_config.specs.Named.{IsName, AllNames, IsNamedEntry, IsNamedPlayer, IsNamedSwitch, IsNamedEventPlayer, IsNamedContent, IsNamed}
 use Rattle.mpf_config.specs.Typed.{switches_name, event_player_name, switch_of, event_player_of}
 use Rattle.mpf_config.specs.Short.{IsShortEntry, IsShortPlayer, IsShortContent, IsShortSection}
@@ -199,6 +200,8 @@ rows_named s h = by s.content h
     by : (content : Content) → IsNamedContent content → All IsNamedRow (rows_from s.name content)
     by (entries es) k = All-map IsNamedRow (entry s.name) es k
     by (players ps) k = All-map IsNamedRow (player s.name) ps k
+    by (sections.entry e) k = All-nil IsNamedRow
+    by (sections.listed ws) k = All-nil IsNamedRow
 
 pub sections_fit : (P : List ℕ → Type 0) → IsOfNames P → (sections : List SectionRows) → All IsNamed sections → All (IsFit P) (given_by (rows_in sections))
 sections_fit P of sections h =
@@ -210,6 +213,8 @@ rows_short s h = by s.content h
     by : (content : Content) → IsShortContent content → All IsShortRow (rows_from s.name content)
     by (entries es) k = All-map IsShortRow (entry s.name) es k.0
     by (players ps) k = All-map IsShortRow (player s.name) ps k.1
+    by (sections.entry e) k = All-nil IsShortRow
+    by (sections.listed ws) k = All-nil IsShortRow
 
 pub sections_short : (sections : List SectionRows) → All IsShortSection sections → AreShort 1024 (given_by (rows_in sections))
 sections_short sections h =

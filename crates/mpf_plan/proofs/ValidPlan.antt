@@ -137,7 +137,7 @@ IsValid-plan_from cs short within =
 -- where each table is within its limit, and no list in the rows is too long, the plan of the rows is valid
 pub IsValid-plan_of : (rows : Rows) → AreListsShort rows → ((t : Table) → entry_count (plan_of rows) t ≤ limit_of t) → IsValid (plan_of rows)
 unfolding plan_of
-IsValid-plan_of rows short within = IsValid-plan_from (contributions_of rows) (sections_short rows.machine short) within
+IsValid-plan_of rows short within = IsValid-plan_from (contributions_of rows) (sections_short rows.machine short.0) within
 
 -- ---- whether lists are short or not
 

@@ -76,6 +76,7 @@ pub data Row : Type 0 where
 abbrev pub rows_from : List ℕ → Content → List Row
 rows_from name (entries es) = map (entry name) es
 rows_from name (players ps) = map (player name) ps
+rows_from name _ = []
 
 -- the rows of sections, as written
 abbrev pub rows_in : List SectionRows → List Row

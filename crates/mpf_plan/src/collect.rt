@@ -43,6 +43,7 @@ fn add_rows<'a>(rows: &mut Vec<Row<'a>>, section: &'a Section) -> Result<(), All
     match &section.content {
         Content::Entries(entries) => add_entries(rows, &section.name, entries),
         Content::Players(players) => add_players(rows, &section.name, players),
+        _ => Ok(()),
     }
 }
 

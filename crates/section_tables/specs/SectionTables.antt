@@ -1,11 +1,15 @@
 -- The tables of the sections: what settings each has. The order decides which of several missing settings is reported.
-use Rattle.std.specs.Prelude.{ℕ, if◌then◌else◌, List, [], ◌∷◌, Option, Some, None, codes}
+use Rattle.std.specs.Prelude.{ℕ, pos, true, if◌then◌else◌, List, [], ◌∷◌, Option, Some, None, codes}
 use Rattle.std.specs.Str.{bytes_eq}
-use Rattle.section_tables.specs.Rows.{word, one, names, posts}
-use Rattle.section_tables.specs.Kinds.{one_of, a_name, at_least, Absent, default, KeyRule, single, name_list, post_list, Setting, PlayerKinds}
+use Rattle.section_tables.specs.Rows.{flag, number, word, one, names, posts}
+use Rattle.section_tables.specs.Kinds.{a_flag, number_within, one_of, a_name, at_least, Absent, default, KeyRule, single, name_list, post_list, Setting, PlayerKinds}
 
 abbrev row : {K V : Type 0} → List ℕ → K → Absent V → KeyRule K V
 row key kind absent = record { key = key; kind = kind; absent = absent }
+
+-- names, none by default
+abbrev naming : List ℕ → Setting
+naming key = row key (name_list (at_least 0)) (default (names []))
 
 -- posted events, none by default
 abbrev posting : List ℕ → Setting
@@ -21,9 +25,24 @@ abbrev pub switches : List Setting
 switches =
     choice (codes "type") (codes "NO") (codes "NC" ∷ [])
     ∷ choice (codes "debounce") (codes "auto") (codes "quick" ∷ codes "normal" ∷ [])
-    ∷ row (codes "tags") (name_list (at_least 0)) (default (names []))
+    ∷ naming (codes "tags")
     ∷ posting (codes "events_when_activated")
     ∷ posting (codes "events_when_deactivated")
+    ∷ []
+
+-- yes by default
+abbrev yes : List ℕ → Setting
+yes key = row key (single a_flag) (default (one (flag true)))
+
+-- Of a mode itself. Its use of a wait queue can only be denied, so far.
+abbrev pub mode : List Setting
+mode =
+    naming (codes "start_events")
+    ∷ naming (codes "stop_events")
+    ∷ row (codes "priority") (single (number_within (pos 0) (pos 1000000))) (default (one (number (pos 100))))
+    ∷ yes (codes "game_mode")
+    ∷ yes (codes "stop_on_ball_end")
+    ∷ choice (codes "use_wait_queue") (codes "no") (codes "No" ∷ codes "NO" ∷ codes "false" ∷ codes "False" ∷ codes "FALSE" ∷ codes "off" ∷ codes "Off" ∷ codes "OFF" ∷ [])
     ∷ []
 
 -- an event, and what is posted where it is handled
@@ -37,6 +56,14 @@ switches_name = codes "switches"
 
 abbrev pub event_player_name : List ℕ
 event_player_name = codes "event_player"
+
+-- the list of modes
+abbrev pub modes_name : List ℕ
+modes_name = codes "modes"
+
+-- the settings of a mode itself
+abbrev pub mode_name : List ℕ
+mode_name = codes "mode"
 
 -- the sections that have entries, each with its table
 abbrev pub entry_tables : List (List ℕ × List Setting)

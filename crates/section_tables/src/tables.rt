@@ -44,6 +44,34 @@ pub const SWITCHES: &[Setting] = &[
     ),
 ];
 
+/// `mode`: the settings of a mode itself. `use_wait_queue` can only be no, so far.
+pub const MODE: &[Setting] = &[
+    setting!(b"start_events", Kind::Names(ANY), Without::NoNames),
+    setting!(b"stop_events", Kind::Names(ANY), Without::NoNames),
+    setting!(
+        b"priority",
+        Kind::One(Scalar::Number(0, 1_000_000)),
+        Without::One(Absent::Number(100))
+    ),
+    setting!(
+        b"game_mode",
+        Kind::One(Scalar::Flag),
+        Without::One(Absent::Flag(true))
+    ),
+    setting!(
+        b"stop_on_ball_end",
+        Kind::One(Scalar::Flag),
+        Without::One(Absent::Flag(true))
+    ),
+    setting!(
+        b"use_wait_queue",
+        Kind::One(Scalar::Word(&[
+            b"no", b"No", b"NO", b"false", b"False", b"FALSE", b"off", b"Off", b"OFF"
+        ])),
+        Without::One(Absent::Word(b"no"))
+    ),
+];
+
 /// `event_player`: an event, and what is posted where it is handled.
 pub const EVENT_PLAYER: PlayerKinds = PlayerKinds {
     key: Scalar::Name,
@@ -55,6 +83,12 @@ pub const SWITCHES_NAME: &[u8] = b"switches";
 
 /// The name of the section [`EVENT_PLAYER`].
 pub const EVENT_PLAYER_NAME: &[u8] = b"event_player";
+
+/// The name of the section that lists the modes.
+pub const MODES_NAME: &[u8] = b"modes";
+
+/// The name of the section [`MODE`].
+pub const MODE_NAME: &[u8] = b"mode";
 
 /// The table of the entries of a section; none where the section has no such entries.
 pub fn table_of(section: &[u8]) -> Option<&'static [Setting]>

@@ -1,0 +1,9 @@
+-- How many modes the rows of a bundle have, and by what names.
+use Rattle.std.specs.Prelude.{◌≤◌, ◌≢◌, List, length, map}
+use Rattle.std.specs.List.{AllPairs}
+use Rattle.mpf_config.specs.Rows.{ModeRows}
+
+-- there are at most 64 modes, and no two have one name
+pub record AreFewModes (modes : List ModeRows) : Type 0 where
+  pub few : length modes ≤ 64
+  pub apart : AllPairs (λ x y. x ≢ y) (map (λ m. m.name) modes)
