@@ -3,11 +3,10 @@ use Rattle.std.proofs.Common.{◌≡◌, ℕ, zero, suc, ◌+◌, ◌<◌, ◌�
 use Rattle.std.specs.List.{position_or_len}
 use Rattle.std.proofs.lemmas.Bool.{cases_lt, cases_eq, cases_Bool, lt-ltb, le-ltb, ne_eqb, and_from, and_left, and_right, or_cases, eqb-true, eq-eqb, false≢true}
 use Rattle.std.proofs.lemmas.List.Sums.{position_or_len_is, fails_before_first, passes_at_first, prefix_len-le-length}
-use Rattle.mpf_plan.specs.PlanView.{PlanView, places_of}
+use Rattle.mpf_plan.specs.PlanView.{PlanView, bound_to}
 use Rattle.mpf_plan.specs.Valid.{HasEntries}
 use Rattle.mpf_plan.specs.declared.entries.EventId.{EventId}
-use Rattle.mpf_plan.specs.declared.entries.BindingId.{BindingId}
-use Rattle.cascade_rank.specs.Cost.{Cost, Lines, Weight, Both, Greater, mentions, each_of, cost_of_event}
+use Rattle.cascade_rank.specs.Cost.{Cost, Lines, Weight, Both, Greater, mentions, each_of, cost_of_binding, cost_of_work, cost_of_event}
 use Rattle.cascade_rank.specs.Events.{events_of, no_event}
 use Rattle.cascade_rank.specs.LeadsTo.{is_open}
 use Rattle.cascade_rank.specs.Cycle.{IsFirst, next_open}
@@ -16,8 +15,6 @@ use Rattle.cascade_rank.specs.Order.{left_of}
 use Rattle.cascade_rank.specs.Below.{IsBelow}
 use Rattle.cascade_rank.proofs.Events.{event, same_event, tested_event, length-events, event_number}
 use Rattle.cascade_rank.proofs.Within.{IsBelow-event}
-use Rattle.cascade_rank.proofs.Places.{cost_at_place}
-use Rattle.cascade_rank.proofs.Leading.{event-places}
 
 -- ---- the lowest event of a cost
 
@@ -148,15 +145,13 @@ is_left n = elim (cases_eq n 0) [
   | inr other ↦ lt-ltb 0 n (omega (arith, other)) ∙ sym (ap not (ne_eqb n 0 other))
 ]
 
--- the lowest of those that are at the places of what is bound to it
-pub next_is : (plan : PlanView) → HasEntries plan → (left : List ℕ) → IsLeft plan left → (e : EventId) (places : List BindingId) (i found : ℕ) → places ≡ places_of plan e → length places ≤ i →
-    found ≡ lowest (length left) (λ f. nat_lt 0 (left_of left f)) (each_of (cost_at_place plan) (take i places)) → event found ≡ next_open plan e
-next_is plan valid left l e places i found are whole is =
-    let n = length plan.events in
-    let cost = event-places plan places i e are whole in
-    let below = subst (IsBelow (length plan.events)) cost (IsBelow-event plan valid e) in
+-- the lowest of those to which what is bound to it leads, and the machine's work
+pub next_is : (plan : PlanView) → HasEntries plan → (left : List ℕ) → IsLeft plan left → (e : EventId) (bound work : ℕ) → bound ≡ lowest (length left) (λ f. nat_lt 0 (left_of left f)) (each_of (cost_of_binding plan) (bound_to plan e))
+    → work ≡ lowest (length left) (λ f. nat_lt 0 (left_of left f)) (cost_of_work plan e) → event (min bound work) ≡ next_open plan e
+next_is plan valid left l e bound work bound_is work_is =
     let first = lowest-first_event plan (λ f. nat_lt 0 (left_of left f)) (is_open plan) (cost_of_event plan e) (IsBelow-event plan valid e) (λ f k. is_left (left_of left f) ∙ ap not (sym (l.grounded_is f k))) in
-    let whole_cost = ap (lowest (length plan.events) (λ f. nat_lt 0 (left_of left f))) cost in
-    let most = lowest-at_most (length plan.events) (λ f. nat_lt 0 (left_of left f)) (each_of (cost_at_place plan) (take i places)) below.1.0 in
-    let count = ap (λ (m : ℕ). lowest m (λ f. nat_lt 0 (left_of left f)) (each_of (cost_at_place plan) (take i places))) l.count in
-    same_event (event found) (next_open plan e) (omega (arith, first, whole_cost, most, count, is))
+    let below : IsBelow (length plan.events) (cost_of_event plan e) = IsBelow-event plan valid e in
+    let most = lowest-at_most (length plan.events) (λ f. nat_lt 0 (left_of left f)) (cost_of_work plan e) below.1.1 in
+    let bindings = ap (λ (m : ℕ). lowest m (λ f. nat_lt 0 (left_of left f)) (each_of (cost_of_binding plan) (bound_to plan e))) l.count in
+    let works = ap (λ (m : ℕ). lowest m (λ f. nat_lt 0 (left_of left f)) (cost_of_work plan e)) l.count in
+    same_event (event (min bound work)) (next_open plan e) (omega (arith, first, most, bindings, works, bound_is, work_is))

@@ -5,7 +5,7 @@ use Rattle.std.proofs.lemmas.Option.{get_or_from_slice_get}
 use Rattle.std.proofs.lemmas.Bool.{cases_lt, cases_eq, eq-eqb, ne_eqb, lt-ltb, le-ltb}
 use Rattle.std.proofs.lemmas.List.{get_or-replicate, length-replicate, get_or_append_left, get_or_push, length_push, get_or_read}
 use Rattle.std.proofs.lemmas.List.Sums.{sum_by_push}
-use Rattle.mpf_plan.specs.PlanView.{PlanView, no_binding, binding_at, places_of}
+use Rattle.mpf_plan.specs.PlanView.{PlanView, no_binding, binding_at, places_of, bound_to}
 use Rattle.mpf_plan.specs.declared.entries.EventId.{EventId}
 use Rattle.mpf_plan.specs.declared.entries.BindingId.{BindingId}
 use Rattle.mpf_plan.specs.declared.entries.Binding.{Binding}
@@ -97,12 +97,12 @@ module _ (plan : PlanView) (places : List BindingId) (i : ℕ) where
   pub place-cost : (b : Binding) → slice_get plan.bindings (get_or places i (record { 0 = 0 })).0 ≡ Some b → cost_at_place plan (get_or places i (record { 0 = 0 })) ≡ cost_of_binding plan b
   place-cost b at = ap (cost_of_binding plan) (get_or_from_slice_get plan.bindings (get_or places i (record { 0 = 0 })).0 b no_binding at)
 
-  -- an event costs its line, what is at the places of what is bound to it, and the machine's work
-  pub event-places : (e : EventId) → places ≡ places_of plan e → length places ≤ i → cost_of_event plan e ≡ Both (Lines 1) (Both (each_of (cost_at_place plan) (take i places)) (cost_of_work plan e))
-  event-places e are whole =
+  -- what is bound to an event costs what is at the places of it
+  pub bound-places : (e : EventId) → places ≡ places_of plan e → length places ≤ i → each_of (cost_of_binding plan) (bound_to plan e) ≡ each_of (cost_at_place plan) (take i places)
+  bound-places e are whole =
       let taken : take i places ≡ places_of plan e = take_all i places whole ∙ are in
       let bound = each_of-map (cost_of_binding plan) (λ (p : BindingId). binding_at plan p) (places_of plan e) ∙ ap (each_of (cost_of_binding plan)) (places_of-bound plan e) in
-      sym (ap (λ (c : Cost). Both (Lines 1) (Both c (cost_of_work plan e))) (ap (each_of (cost_at_place plan)) taken ∙ bound))
+      sym (ap (each_of (cost_at_place plan)) taken ∙ bound)
 
   -- the event leads to what one place more posts
   pub adds-place : (leader : EventId) (b : Binding) (old mid new : List (List EventId)) → i < length places → slice_get plan.bindings (get_or places i (record { 0 = 0 })).0 ≡ Some b →
@@ -114,16 +114,19 @@ module _ (plan : PlanView) (places : List BindingId) (i : ℕ) where
       unmet p (each_of (cost_at_place plan) (take (i + 1) places)) ≡ unmet p (each_of (cost_at_place plan) (take i places)) + unmet p (cost_of_binding plan b)
   unmet-place p b l at = unmet-each_more p (cost_at_place plan) places i (record { 0 = 0 }) l ∙ ap (λ (c : Cost). unmet p (each_of (cost_at_place plan) (take i places)) + unmet p c) (place-cost b at)
 
-  pub adds-event : (e : EventId) (old new : List (List EventId)) → places ≡ places_of plan e → length places ≤ i →
-      AddsLeader e (each_of (cost_at_place plan) (take i places)) old new → AddsLeader e (cost_of_event plan e) old new
-  adds-event e old new are whole adds = subst (λ (c : Cost). AddsLeader e c old new) (sym (event-places e are whole))
-      (adds-both e (Lines 1) (each_of (cost_at_place plan) (take i places)) (Both (Lines 1) (Both (each_of (cost_at_place plan) (take i places)) (cost_of_work plan e))) old old new (λ f. omega arith) (adds-none e (Lines 1) old (λ f. refl)) adds)
+  pub adds-bound : (e : EventId) (old new : List (List EventId)) → places ≡ places_of plan e → length places ≤ i →
+      AddsLeader e (each_of (cost_at_place plan) (take i places)) old new → AddsLeader e (each_of (cost_of_binding plan) (bound_to plan e)) old new
+  adds-bound e old new are whole adds = subst (λ (c : Cost). AddsLeader e c old new) (sym (bound-places e are whole)) adds
 
-  pub unmet-event : (p : EventId → Bool) (e : EventId) → places ≡ places_of plan e → length places ≤ i → unmet p (each_of (cost_at_place plan) (take i places)) ≡ unmet p (cost_of_event plan e)
-  unmet-event p e are whole = zero-plus (unmet p (each_of (cost_at_place plan) (take i places))) ∙ sym (ap (unmet p) (event-places e are whole))
-    where
-      zero-plus : (n : ℕ) → n ≡ 0 + (n + 0)
-      zero-plus n = omega arith
+  pub unmet-bound : (p : EventId → Bool) (e : EventId) → places ≡ places_of plan e → length places ≤ i → unmet p (each_of (cost_at_place plan) (take i places)) ≡ unmet p (each_of (cost_of_binding plan) (bound_to plan e))
+  unmet-bound p e are whole = sym (ap (unmet p) (bound-places e are whole))
+
+-- an event leads to what is bound to it and to the machine's work
+pub adds-event : (plan : PlanView) (e : EventId) (old mid new : List (List EventId)) → AddsLeader e (each_of (cost_of_binding plan) (bound_to plan e)) old mid → AddsLeader e (cost_of_work plan e) mid new
+    → AddsLeader e (cost_of_event plan e) old new
+adds-event plan e old mid new bound work =
+    let bindings = each_of (cost_of_binding plan) (bound_to plan e) in
+    adds-both e bindings (cost_of_work plan e) (Both (Lines 1) (Both bindings (cost_of_work plan e))) old mid new (λ f. omega arith) bound work
 
 -- ---- all events
 

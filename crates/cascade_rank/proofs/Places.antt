@@ -5,13 +5,13 @@ use Rattle.std.proofs.lemmas.Option.{get_or_from_slice_get, slice_get_within}
 use Rattle.std.proofs.lemmas.List.{length-map, take_all}
 use Rattle.std.proofs.lemmas.List.Elements.{All-get_or}
 use Rattle.std.proofs.lemmas.List.Sums.{length-filter, count_by-le-length}
-use Rattle.mpf_plan.specs.PlanView.{PlanView, no_binding, binding_at, places_of}
+use Rattle.mpf_plan.specs.PlanView.{PlanView, no_binding, binding_at, places_of, bound_to}
 use Rattle.mpf_plan.specs.Valid.{IsBindingWithin, HasEntries}
 use Rattle.mpf_plan.specs.declared.entries.EventId.{EventId}
 use Rattle.mpf_plan.specs.declared.entries.BindingId.{BindingId}
 use Rattle.mpf_plan.specs.declared.entries.Binding.{Binding}
 use Rattle.mpf_plan.proofs.BoundTo.{places_of-bound, places_of-within}
-use Rattle.cascade_rank.specs.Cost.{Cost, Both, price, each_of, cost_of_binding, cost_of_event}
+use Rattle.cascade_rank.specs.Cost.{Cost, Both, price, each_of, cost_of_binding}
 use Rattle.cascade_rank.proofs.Prices.{price-each_more}
 
 pub each_of-map : {X Y : Type 0} (f : Y → Cost) (g : X → Y) (xs : List X) → each_of (λ x. f (g x)) xs ≡ each_of f (map g xs)
@@ -53,7 +53,7 @@ module _ (plan : PlanView) where
         omega (arith, ap length are, same, whole, passed, few)
 
     -- once all places are gone through
-    pub price-places_all : (w : EventId → ℕ) (i total : ℕ) → length places ≤ i → total ≡ 1 + price w (each_of cost_at_place (take i places)) → total ≡ price w (cost_of_event plan e)
+    pub price-places_all : (w : EventId → ℕ) (i total : ℕ) → length places ≤ i → total ≡ 1 + price w (each_of cost_at_place (take i places)) → total ≡ 1 + price w (each_of (cost_of_binding plan) (bound_to plan e))
     price-places_all w i total whole so_far =
         let taken : take i places ≡ places_of plan e = take_all i places whole ∙ are in
         let bound = each_of-map (cost_of_binding plan) (λ (p : BindingId). binding_at plan p) (places_of plan e) ∙ ap (each_of (cost_of_binding plan)) (places_of-bound plan e) in

@@ -4,17 +4,23 @@ use Rattle.std.specs.List.{All, AllByRecursion}
 use Rattle.std.proofs.lemmas.Bool.{cases_lt, or_cases, eqb-true, false≢true}
 use Rattle.std.proofs.lemmas.List.Elements.{recursion_from_All, All-get_or, All-weaker, All-nil, All-filter}
 use Rattle.std.proofs.lemmas.List.{get_or_past}
-use Rattle.mpf_plan.specs.PlanView.{PlanView, no_switch, switch_at, actions_at, posts_of, bound_to}
-use Rattle.mpf_plan.specs.Valid.{IsEventWithin, IsActionWithin, IsTargetWithin, IsBindingWithin, IsSwitchWithin, HasEntries}
+use Rattle.mpf_plan.specs.PlanView.{PlanView, no_mode, mode_at, mode_event, work_of, no_switch, switch_at, actions_at, posts_of, bound_to}
+use Rattle.mpf_plan.specs.declared.entries.ModeId.{ModeId}
+use Rattle.mpf_plan.specs.declared.entries.ModeEvent.{ModeEvent}
+use Rattle.mpf_plan.specs.declared.entries.ModeEvent.TheVariants.{WillStart, Starting, Started, Stopping, Stopped}
+use Rattle.mpf_plan.specs.declared.entries.Work.{Work}
+use Rattle.mpf_plan.specs.declared.entries.Work.TheVariants as works
+use Rattle.mpf_plan.proofs.Worked.{work_found}
+use Rattle.mpf_plan.specs.Valid.{IsEventWithin, IsModeWithin, IsWorkAt, IsActionWithin, IsTargetWithin, IsBindingWithin, IsSwitchWithin, HasEntries}
 use Rattle.mpf_plan.specs.declared.entries.EventId.{EventId}
 use Rattle.mpf_plan.specs.declared.entries.SwitchId.{SwitchId}
 use Rattle.mpf_plan.specs.declared.entries.ListId.{ListId}
 use Rattle.mpf_plan.specs.declared.entries.Action.{Action}
 use Rattle.mpf_plan.specs.declared.entries.Action.TheVariants.{Post}
 use Rattle.mpf_plan.specs.declared.entries.Target.{Target}
-use Rattle.mpf_plan.specs.declared.entries.Target.TheVariants.{Run}
+use Rattle.mpf_plan.specs.declared.entries.Target.TheVariants.{Run, Start, Stop}
 use Rattle.mpf_plan.specs.declared.entries.Binding.{Binding}
-use Rattle.cascade_rank.specs.Cost.{Cost, Lines, Weight, Both, Greater, mentions, each_of, dearest_of, cost_of_post, cost_of_action, cost_of_list, cost_of_target, cost_of_binding, cost_of_event, cost_of_acceptance, cost_of_switch, switches_of, cost_of_stimuli}
+use Rattle.cascade_rank.specs.Cost.{Cost, Lines, Weight, Both, Greater, mentions, each_of, dearest_of, cost_of_post, cost_of_action, cost_of_list, cost_of_target, cost_of_binding, led_by, cost_if_led, cost_of_work, cost_of_event, cost_of_acceptance, cost_of_switch, switches_of, cost_of_stimuli}
 use Rattle.cascade_rank.specs.Below.{IsBelow}
 
 pub IsBelow-mentioned : (n : ℕ) (c : Cost) (e : EventId) → IsBelow n c → mentions e c ≡ true → e.0 < n
@@ -53,8 +59,33 @@ module _ (plan : PlanView) (valid : HasEntries plan) where
       each_below (length plan.events) (cost_of_action plan) (IsActionWithin plan) (IsBelow-action plan) (actions_at plan l)
       (All-get_or (All (IsActionWithin plan)) plan.lists l.0 [] h valid.lists)
 
+  -- the events of a mode are events of the plan
+  pub mode_event-within : (m : ModeId) (which : ModeEvent) → m.0 < length plan.modes → (mode_event plan m which).0 < length plan.events
+  mode_event-within m which inside = by which (All-get_or (IsModeWithin (length plan.events)) plan.modes m.0 no_mode inside valid.modes)
+    where
+      by : (w : ModeEvent) → IsModeWithin (length plan.events) (mode_at plan m) → (mode_event plan m w).0 < length plan.events
+      by WillStart h = h.will_start
+      by Starting h = h.starting
+      by Started h = h.started
+      by Stopping h = h.stopping
+      by Stopped h = h.stopped
+
+  -- so is that which the machine's work posts
+  IsBelow-led : (w : Work) (e : EventId) → IsWorkAt plan e w → IsBelow (length plan.events) (cost_if_led (led_by plan w))
+  IsBelow-led works.Nothing e h = tt
+  IsBelow-led (works.Mode m WillStart) e h = mode_event-within m Starting h.0
+  IsBelow-led (works.Mode m Starting) e h = mode_event-within m Started h.0
+  IsBelow-led (works.Mode m Started) e h = mode_event-within m Stopping h.0
+  IsBelow-led (works.Mode m Stopping) e h = mode_event-within m Stopped h.0
+  IsBelow-led (works.Mode m Stopped) e h = tt
+
+  pub IsBelow-work : (e : EventId) → IsBelow (length plan.events) (cost_of_work plan e)
+  IsBelow-work e = IsBelow-led (work_of plan e) e (work_found plan e)
+
   pub IsBelow-target : (t : Target) → IsTargetWithin plan t → IsBelow (length plan.events) (cost_of_target plan t)
   IsBelow-target (Run l) h = IsBelow-list l h
+  IsBelow-target (Start m) h = mode_event-within m WillStart h
+  IsBelow-target (Stop m) h = mode_event-within m Stopping h
 
   pub IsBelow-binding : (b : Binding) → IsBindingWithin plan b → IsBelow (length plan.events) (cost_of_binding plan b)
   IsBelow-binding b h = IsBelow-target b.target h.2
@@ -65,7 +96,7 @@ module _ (plan : PlanView) (valid : HasEntries plan) where
     (
       each_below (length plan.events) (cost_of_binding plan) (IsBindingWithin plan) IsBelow-binding (bound_to plan e)
           (All-filter (λ b. b.event.0 == e.0) (IsBindingWithin plan) plan.bindings valid.bindings),
-      tt,
+      IsBelow-work e,
     ),
   )
 

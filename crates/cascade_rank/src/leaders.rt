@@ -3,10 +3,12 @@
 ghost use Rattle.std.specs.Prelude.{◌≡◌, ◌^◌, ◌<◌, ◌≤◌, false, length, IfOk};
 ghost use Rattle.std.specs.List.{All};
 ghost use Rattle.mpf_plan.specs.Valid.{IsActionWithin, IsTargetWithin};
-ghost use Rattle.cascade_rank.specs.Cost.{each_of, cost_of_action, cost_of_target, cost_of_event};
+ghost use Rattle.mpf_plan.specs.PlanView.{bound_to};
+ghost use Rattle.cascade_rank.specs.Cost.{each_of, cost_of_post, cost_of_action, cost_of_target, cost_of_binding, cost_of_work, cost_of_event};
 ghost use Rattle.cascade_rank.specs.Order.{unmet};
 ghost use Rattle.cascade_rank.specs.Leaders.{AddsLeader, HasLeaders};
 
+use crate::work::led_by;
 use mpf_plan::{Action, EventId, Plan, Target};
 use std::alloc::{AllocError, Global};
 use std::marker::Model;
@@ -72,12 +74,40 @@ pub(crate) fn count_posts(alloc: Global, plan: &Plan) -> Result<(Leaders, Vec<u1
     Ok((leaders, left))
 }
 
-/// The event leads to what is posted by what is bound to it. How many posts these are.
+/// The event leads to what is posted by what is bound to it, and by the machine's work. How many
+/// posts these are.
 fn add_event(leaders: &mut Leaders, plan: &Plan, event: EventId) -> Result<u128, AllocError>
     requires event { event.0 < length plan.now.events }
     requires leaders { length leaders.old ≡ length plan.now.events }
     ensures leaders { IfOk result (λ _. AddsLeader event (cost_of_event plan.now event) leaders.old leaders.new) }
     ensures posts { IfOk result (λ posts. posts ≡ unmet (λ _. false) (cost_of_event plan.now event)) }
+{
+    let bound = add_bound(leaders, plan, event)?;
+    let work = add_work(leaders, plan, event)?;
+    Ok(bound + work)
+}
+
+/// The event leads to what the machine itself posts.
+fn add_work(leaders: &mut Leaders, plan: &Plan, event: EventId) -> Result<u128, AllocError>
+    requires event { event.0 < length plan.now.events }
+    requires leaders { length leaders.old ≡ length plan.now.events }
+    ensures leaders { IfOk result (λ _. AddsLeader event (cost_of_work plan.now event) leaders.old leaders.new) }
+    ensures posts { IfOk result (λ posts. posts ≡ unmet (λ _. false) (cost_of_work plan.now event)) }
+    ensures small { IfOk result (λ posts. posts ≤ 1) }
+{
+    match led_by(plan, event) {
+        Some(led) => add_post(leaders, event, led),
+        None => Ok(0),
+    }
+}
+
+/// The event leads to what is posted by what is bound to it.
+fn add_bound(leaders: &mut Leaders, plan: &Plan, event: EventId) -> Result<u128, AllocError>
+    requires event { event.0 < length plan.now.events }
+    requires leaders { length leaders.old ≡ length plan.now.events }
+    ensures leaders { IfOk result (λ _. AddsLeader event (each_of (cost_of_binding plan.now) (bound_to plan.now event)) leaders.old leaders.new) }
+    ensures posts { IfOk result (λ posts. posts ≡ unmet (λ _. false) (each_of (cost_of_binding plan.now) (bound_to plan.now event))) }
+    ensures small { IfOk result (λ posts. posts < 2 ^ 80) }
 {
     let mut posts = 0u128;
     for place in plan.bindings_of(event) {
@@ -102,6 +132,8 @@ fn add_target(
 {
     match target {
         Target::Run(list) => add_actions(leaders, plan, event, plan.list(list)),
+        Target::Start(mode) => add_post(leaders, event, plan.mode(mode).events.will_start),
+        Target::Stop(mode) => add_post(leaders, event, plan.mode(mode).events.stopping),
     }
 }
 
@@ -138,7 +170,17 @@ fn add_action(
     ensures small { IfOk result (λ posts. posts ≤ 1) }
 {
     match action {
-        Action::Post(posted) => leaders.add(posted, event)?,
+        Action::Post(posted) => add_post(leaders, event, posted),
     }
+}
+
+/// One post.
+fn add_post(leaders: &mut Leaders, event: EventId, posted: EventId) -> Result<u128, AllocError>
+    requires { posted.0 < length leaders.old }
+    ensures leaders { IfOk result (λ _. AddsLeader event (cost_of_post posted) leaders.old leaders.new) }
+    ensures posts { IfOk result (λ posts. posts ≡ unmet (λ _. false) (cost_of_post posted)) }
+    ensures small { IfOk result (λ posts. posts ≤ 1) }
+{
+    leaders.add(posted, event)?;
     Ok(1)
 }

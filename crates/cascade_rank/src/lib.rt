@@ -10,6 +10,7 @@ pub mod least;
 mod price;
 pub mod verdict;
 mod walk;
+mod work;
 pub mod weights;
 
 pub use fault::RankFault;

@@ -3,20 +3,47 @@
 //! Nothing is cut off: a weight is below 2^32, and a plan has too few bindings for a sum of
 //! their prices to reach 2^111.
 
-ghost use Rattle.std.specs.Prelude.{◌≡◌, ◌^◌, ◌<◌, length};
+ghost use Rattle.std.specs.Prelude.{◌≡◌, ◌+◌, ◌^◌, ◌<◌, length};
 ghost use Rattle.std.specs.List.{All};
 ghost use Rattle.mpf_plan.specs.Valid.{IsActionWithin, IsTargetWithin, IsBindingWithin, IsEventWithin};
+ghost use Rattle.mpf_plan.specs.PlanView.{bound_to};
 ghost use Rattle.cascade_rank.specs.Events.{weight_of};
-ghost use Rattle.cascade_rank.specs.Cost.{price, each_of, cost_of_post, cost_of_action, cost_of_list, cost_of_target, cost_of_binding, cost_of_event, cost_of_switch, cost_of_stimuli};
+ghost use Rattle.cascade_rank.specs.Cost.{price, each_of, cost_of_post, cost_of_action, cost_of_list, cost_of_target, cost_of_binding, cost_of_work, cost_of_event, cost_of_switch, cost_of_stimuli};
 
+use crate::work::led_by;
 use mpf_plan::{Action, Binding, EventId, ListId, Plan, SwitchId, Target};
 
-/// What an event costs: its line, and all that is bound to it.
+/// What an event costs: its line, all that is bound to it, and the machine's work.
 pub(crate) fn need(plan: &Plan, weights: &[u32], event: EventId) -> u128
     requires event { event.0 < length plan.now.events }
     requires weights { length weights.now ≡ length plan.now.events }
     ensures price { result ≡ price (weight_of weights.now) (cost_of_event plan.now event) }
     ensures small { result < 2 ^ 111 }
+{
+    let bound = price_of_bound(plan, weights, event);
+    let work = price_of_work(plan, weights, event);
+    bound + work
+}
+
+/// What the machine itself does at an event.
+fn price_of_work(plan: &Plan, weights: &[u32], event: EventId) -> u128
+    requires event { event.0 < length plan.now.events }
+    requires weights { length weights.now ≡ length plan.now.events }
+    ensures price { result ≡ price (weight_of weights.now) (cost_of_work plan.now event) }
+    ensures small { result < 2 ^ 32 }
+{
+    match led_by(plan, event) {
+        Some(led) => price_of_post(weights, led),
+        None => 0,
+    }
+}
+
+/// A line, and all that is bound to an event.
+fn price_of_bound(plan: &Plan, weights: &[u32], event: EventId) -> u128
+    requires event { event.0 < length plan.now.events }
+    requires weights { length weights.now ≡ length plan.now.events }
+    ensures price { result ≡ 1 + price (weight_of weights.now) (each_of (cost_of_binding plan.now) (bound_to plan.now event)) }
+    ensures small { result < 2 ^ 110 + 2 }
 {
     let mut total = 1u128;
     for place in plan.bindings_of(event) {
@@ -43,6 +70,8 @@ fn price_of_target(plan: &Plan, weights: &[u32], target: Target) -> u128
 {
     match target {
         Target::Run(list) => price_of_list(plan, weights, list),
+        Target::Start(mode) => price_of_post(weights, plan.mode(mode).events.will_start),
+        Target::Stop(mode) => price_of_post(weights, plan.mode(mode).events.stopping),
     }
 }
 

@@ -2,13 +2,15 @@
 
 ghost use Rattle.std.specs.Prelude.{◌≡◌, ◌<◌, ◌==◌, nat_lt, length, position, IfOk};
 ghost use Rattle.std.specs.List.{All};
-ghost use Rattle.mpf_plan.specs.Valid.{IsActionWithin, IsTargetWithin};
-ghost use Rattle.cascade_rank.specs.Cost.{each_of, cost_of_action, cost_of_target};
+ghost use Rattle.mpf_plan.specs.Valid.{IsActionWithin, IsTargetWithin, IsValid};
+ghost use Rattle.mpf_plan.specs.PlanView.{bound_to};
+ghost use Rattle.cascade_rank.specs.Cost.{each_of, cost_of_post, cost_of_action, cost_of_target, cost_of_binding, cost_of_work};
 ghost use Rattle.cascade_rank.specs.LeadsTo.{is_open, IsCycle};
 ghost use Rattle.cascade_rank.specs.Cycle.{IsFirst, IsReportedCycle, next_open, from_first, cycle_of};
 ghost use Rattle.cascade_rank.specs.Lowest.{lowest, IsLeft};
 ghost use Rattle.cascade_rank.specs.Order.{left_of};
 
+use crate::work::led_by;
 use mpf_plan::{Action, EventId, Plan, Target};
 use std::alloc::{AllocError, Global};
 
@@ -66,12 +68,36 @@ fn next(plan: &Plan, left: &[u128], event: EventId) -> EventId
     requires within { event.0 < length plan.now.events }
     ensures { result ≡ next_open plan.now event }
 {
+    let bound = lowest_of_bound(plan, left, event);
+    let work = lowest_of_work(plan, left, event);
+    EventId(bound.min(work))
+}
+
+/// That of the machine's work, or the number of events where it posts none of them.
+fn lowest_of_work(plan: &Plan, left: &[u128], event: EventId) -> u16
+    requires event { event.0 < length plan.now.events }
+    requires left { length left.now ≡ length plan.now.events }
+    ensures lowest { result ≡ lowest (length left.now) (λ e. nat_lt 0 (left_of left.now e)) (cost_of_work plan.now event) }
+    ensures valid { IsValid plan.now }
+{
+    match led_by(plan, event) {
+        Some(led) => lowest_of_post(left, led),
+        None => left.len() as u16,
+    }
+}
+
+/// The lowest of those that are posted by what is bound to the event, or the number of events.
+fn lowest_of_bound(plan: &Plan, left: &[u128], event: EventId) -> u16
+    requires left { IsLeft plan.now left.now }
+    requires within { event.0 < length plan.now.events }
+    ensures { result ≡ lowest (length left.now) (λ e. nat_lt 0 (left_of left.now e)) (each_of (cost_of_binding plan.now) (bound_to plan.now event)) }
+{
     let mut lowest = plan.event_count() as u16;
     for place in plan.bindings_of(event) {
         let target = plan.binding(*place).target;
         lowest = lowest.min(lowest_of_target(plan, left, target));
     }
-    EventId(lowest)
+    lowest
 }
 
 /// The lowest of those that the target posts, or the number of events where there is none.
@@ -83,6 +109,8 @@ fn lowest_of_target(plan: &Plan, left: &[u128], target: Target) -> u16
 {
     match target {
         Target::Run(list) => lowest_of_actions(plan, left, plan.list(list)),
+        Target::Start(mode) => lowest_of_post(left, plan.mode(mode).events.will_start),
+        Target::Stop(mode) => lowest_of_post(left, plan.mode(mode).events.stopping),
     }
 }
 
@@ -106,7 +134,18 @@ fn lowest_of_action(plan: &Plan, left: &[u128], action: Action) -> u16
     ensures { result ≡ lowest (length left.now) (λ e. nat_lt 0 (left_of left.now e)) (cost_of_action plan.now action) }
 {
     match action {
-        Action::Post(event) if left[event.0 as usize] > 0 => event.0,
-        Action::Post(_) => left.len() as u16,
+        Action::Post(event) => lowest_of_post(left, event),
+    }
+}
+
+fn lowest_of_post(left: &[u128], event: EventId) -> u16
+    requires event { event.0 < length left.now }
+    requires small { length left.now < 65536 }
+    ensures { result ≡ lowest (length left.now) (λ e. nat_lt 0 (left_of left.now e)) (cost_of_post event) }
+{
+    if left[event.0 as usize] > 0 {
+        event.0
+    } else {
+        left.len() as u16
     }
 }

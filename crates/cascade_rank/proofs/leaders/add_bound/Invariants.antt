@@ -3,7 +3,7 @@ use Rattle.cascade_rank.specs.Cost.{each_of}
 use Rattle.cascade_rank.specs.Order.{unmet}
 use Rattle.cascade_rank.specs.Leaders.{AddsLeader}
 use Rattle.cascade_rank.proofs.Places.{cost_at_place}
-use Rattle.cascade_rank.proofs.leaders.add_event.Given as goal
+use Rattle.cascade_rank.proofs.leaders.add_bound.Given as goal
 
 -- the event leads to what is at the places so far, each fewer than 2^64 posts
 abbrev pub invariant-loop-place : goal.invariant-loop-place

@@ -2,7 +2,7 @@ use Rattle.std.proofs.Common.{◌≡◌, ◌+◌, ◌*◌, ◌^◌, ◌≤◌, t
 use Rattle.cascade_rank.specs.Events.{weight_of}
 use Rattle.cascade_rank.specs.Cost.{price, each_of}
 use Rattle.cascade_rank.proofs.Places.{cost_at_place}
-use Rattle.cascade_rank.proofs.price.need.Given as goal
+use Rattle.cascade_rank.proofs.price.price_of_bound.Given as goal
 
 -- a line, and the price of what is at the places so far, at each of which it is below 2^96
 abbrev pub invariant-loop-place : goal.invariant-loop-place

@@ -2,7 +2,7 @@ use Rattle.std.proofs.Common.{arith}
 use Rattle.cascade_rank.specs.Events.{weight_of}
 use Rattle.cascade_rank.proofs.Limits.{bindings-few}
 use Rattle.cascade_rank.proofs.Places.{binding-within, place-within, places-few, price-places_more, price-places_all}
-use Rattle.cascade_rank.proofs.price.need.Goals as goal
+use Rattle.cascade_rank.proofs.price.price_of_bound.Goals as goal
 
 pub binding-requires : goal.binding-requires
 binding-requires c =

@@ -1,0 +1,39 @@
+//! What the machine itself leads to at an event.
+
+ghost use Rattle.std.specs.Prelude.{◌≡◌, ◌<◌, length, IfSome};
+ghost use Rattle.mpf_plan.specs.declared.entries.Work.TheVariants as works;
+ghost use Rattle.mpf_plan.specs.PlanView.{work_of};
+ghost use Rattle.mpf_plan.specs.Valid.{IsValid};
+ghost use Rattle.cascade_rank.specs.Cost.{led_by};
+
+use mpf_plan::{EventId, ModeEvent, ModeId, Plan, Work};
+
+/// The event that the machine itself posts as its work at an event, if it posts one.
+pub(crate) fn led_by(plan: &Plan, event: EventId) -> Option<EventId>
+    requires { event.0 < length plan.now.events }
+    ensures led { result ≡ led_by plan.now (work_of plan.now event) }
+    ensures within { IfSome result (λ e. e.0 < length plan.now.events) }
+    ensures valid { IsValid plan.now }
+{
+    match plan.work(event) {
+        Work::Nothing => None,
+        Work::Mode(mode, which) => next_event(plan, mode, which),
+    }
+}
+
+/// The event with which a mode goes on from this one, if it goes on. From `started` it goes on
+/// where a stop was kept.
+fn next_event(plan: &Plan, mode: ModeId, which: ModeEvent) -> Option<EventId>
+    requires { mode.0 < length plan.now.modes }
+    ensures led { result ≡ led_by plan.now (works.Mode mode which) }
+    ensures within { IfSome result (λ e. e.0 < length plan.now.events) }
+{
+    let events = plan.mode(mode).events;
+    match which {
+        ModeEvent::WillStart => Some(events.starting),
+        ModeEvent::Starting => Some(events.started),
+        ModeEvent::Started => Some(events.stopping),
+        ModeEvent::Stopping => Some(events.stopped),
+        ModeEvent::Stopped => None,
+    }
+}
