@@ -1,19 +1,22 @@
 -- What is due: only a stimulus alters that, and no alarm comes late.
 use Rattle.std.proofs.Common.{◌≡◌, ℕ, ◌≤◌, ◌<◌, ◌⊎◌, Some, List, [], length, refl, ap, sym, ◌∙◌, inl, inr, arith}
 use Rattle.std.proofs.lemmas.Option.{none-some}
-use Rattle.std.proofs.lemmas.List.{length-map}
-use Rattle.mpf_plan.specs.PlanView.{PlanView}
+use Rattle.std.proofs.lemmas.List.{length-map, length-replicate}
+use Rattle.mode_stack.specs.declared.phase.Phase.TheVariants.{Idle}
+use Rattle.mode_stack.specs.ModeStep.{in_phase}
+use Rattle.mpf_plan.specs.PlanView.{PlanView, work_of}
 use Rattle.mpf_plan.specs.Valid.{IsValid}
 use Rattle.switch_core.specs.SwitchStep.{idle}
 use Rattle.switch_core.specs.Switches.{SwitchesView, IsComplete, due_of, after_change, reported_by_change, accept, reported}
 use Rattle.switch_core.proofs.DueMoments.{changes_arm_later, accept-due, accept-done, idle-nothing_due}
 use Rattle.config_checker.specs.declared.line.Line.{Line}
 use Rattle.config_checker.specs.Machine.{Machine, set_switches, initial}
-use Rattle.config_checker.specs.EventStep.{EventStep, EventSteps}
+use Rattle.config_checker.specs.EventStep.{taken, EventStep, EventSteps}
 use Rattle.config_checker.specs.PlanOrder.{settled}
 use Rattle.config_checker.specs.Run.{Source, switch, source_due, IsNothingLate, IsNextAlarm, Stimulus, Change, Alarm, Wait, moment_of, IsAllowed, arrived, begin, IsRun}
-use Rattle.config_checker.proofs.Does.{HasSwitches, moment-does, has_switches-does, switches-does}
-use Rattle.config_checker.proofs.Parts.{TakesPart, IsMachine, does-accepted, does-if_accepted, does-begin}
+use Rattle.cascade_rank.specs.Cost.{Cost}
+use Rattle.config_checker.proofs.Does.{Does, HasStates, moment-does, has_states-does, switches-does}
+use Rattle.config_checker.proofs.Parts.{TakesPart, IsMachine, ordinary, working, MayWork, does-accepted, does-if_accepted, does-begin, does-before, does-after}
 use Rattle.config_checker.proofs.Keeps.{step-keeps, steps-keep, run-keeps}
 use Rattle.config_checker.proofs.PlanSteps.{plan_steps-event_steps}
 
@@ -25,8 +28,12 @@ IsStill s t = (t.switches ≡ s.switches) × (t.moment ≡ s.moment)
 module _ (plan : PlanView) where
   still-step : (s m t : Machine) → EventStep plan m t → IsStill s m → IsStill s t
   still-step s =
-      step-keeps plan (λ before. IsStill s) (λ first before. IsStill s) (λ before first rest m is h. h)
-      (λ before first c m t d h. (switches-does plan (TakesPart m) d ∙ h.0, moment-does plan d ∙ h.1)) (λ before first m h. h) []
+      step-keeps plan (λ before. IsStill s) (λ first before. IsStill s) (λ before first rest m is h. still-work (does-before plan (work_of plan first.event) (taken first rest m)) h)
+      (λ before first c m t d h. (switches-does plan (ordinary plan (TakesPart m) ⊥) (λ none. none) d ∙ h.0, moment-does plan d ∙ h.1))
+      (λ before first kept m h. still-work (does-after plan kept first.event m) h) []
+    where
+      still-work : {c : Cost} {m t : Machine} → Does plan (MayWork plan) c m t → IsStill s m → IsStill s t
+      still-work d h = (switches-does plan working (λ none. none) d ∙ h.0, moment-does plan d ∙ h.1)
 
   still-steps : (n : ℕ) (s t : Machine) → EventSteps plan n s t → IsStill s t
   still-steps n s t steps = steps-keep plan (λ before. IsStill s) (λ before. still-step s) [] n s t steps (refl, refl)
@@ -56,9 +63,9 @@ module _ (plan : PlanView) where
 
   pub switches-begin : (stimulus : Stimulus) (s : Machine) → (begin plan stimulus s).switches ≡ switched stimulus s.switches
   switches-begin (Change at n level) s =
-      switches-does plan IsMachine (does-if_accepted plan IsMachine ⊥ refl (reported_by_change n level at s.switches) (set_switches (after_change n level at s.switches) (arrived at s)))
+      switches-does plan (ordinary plan IsMachine ⊥) (λ none. none) (does-if_accepted plan IsMachine ⊥ refl (reported_by_change n level at s.switches) (set_switches (after_change n level at s.switches) (arrived at s)))
   switches-begin (Alarm at (switch n)) s =
-      switches-does plan IsMachine (does-accepted plan IsMachine ⊥ refl (reported (accept n s.switches) n) (set_switches (accept n s.switches) (arrived at s)))
+      switches-does plan (ordinary plan IsMachine ⊥) (λ none. none) (does-accepted plan IsMachine ⊥ refl (reported (accept n s.switches) n) (set_switches (accept n s.switches) (arrived at s)))
   switches-begin (Wait at) s = refl
 
   -- so they do the same with the same switches
@@ -145,27 +152,27 @@ module _ (plan : PlanView) where
 
   -- ---- every switch has a state
 
-  pub has_switches-step : (s t : Machine) → EventStep plan s t → HasSwitches plan s → HasSwitches plan t
-  has_switches-step =
-      step-keeps plan (λ before. HasSwitches plan) (λ first before. HasSwitches plan) (λ before first rest s is h. record { kinds = h.kinds; states = h.states })
-      (λ before first c s t d h. has_switches-does plan d h) (λ before first s h. h) []
+  pub has_states-step : (s t : Machine) → EventStep plan s t → HasStates plan s → HasStates plan t
+  has_states-step =
+      step-keeps plan (λ before. HasStates plan) (λ first before. HasStates plan) (λ before first rest s is h. has_states-does plan (does-before plan (work_of plan first.event) (taken first rest s)) (record { kinds = h.kinds; switches = h.switches; modes = h.modes }))
+      (λ before first c s t d h. has_states-does plan d h) (λ before first kept s h. has_states-does plan (does-after plan kept first.event s) h) []
 
-  pub has_switches-begin : (stimulus : Stimulus) (s : Machine) → HasSwitches plan s → HasSwitches plan (begin plan stimulus s)
-  has_switches-begin stimulus s h = has_switches-does plan (does-begin plan stimulus s) (record { kinds = h.kinds; states = h.states })
+  pub has_states-begin : (stimulus : Stimulus) (s : Machine) → HasStates plan s → HasStates plan (begin plan stimulus s)
+  has_states-begin stimulus s h = has_states-does plan (does-begin plan stimulus s) (record { kinds = h.kinds; switches = h.switches; modes = h.modes })
 
-  pub has_switches-after : (stimulus : Stimulus) (s : Machine) (n : ℕ) (t : Machine) → EventSteps plan n (begin plan stimulus s) t → HasSwitches plan s → HasSwitches plan t
-  has_switches-after stimulus s n t steps h = steps-keep plan (λ before. HasSwitches plan) (λ before. has_switches-step) [] n (begin plan stimulus s) t steps (has_switches-begin stimulus s h)
+  pub has_states-after : (stimulus : Stimulus) (s : Machine) (n : ℕ) (t : Machine) → EventSteps plan n (begin plan stimulus s) t → HasStates plan s → HasStates plan t
+  has_states-after stimulus s n t steps h = steps-keep plan (λ before. HasStates plan) (λ before. has_states-step) [] n (begin plan stimulus s) t steps (has_states-begin stimulus s h)
 
-  pub has_switches-run : (stimuli : List (Stimulus × ℕ)) (s : Machine) (trace : List Line) (t : Machine) → IsRun plan stimuli s trace t → HasSwitches plan s → HasSwitches plan t
-  has_switches-run stimuli s trace t run h =
-      (run-keeps plan (λ before. HasSwitches plan) (λ before. has_switches-step) (λ before stimulus m allowed empty k. has_switches-begin stimulus m k) [] stimuli s trace t run h).1
+  pub has_states-run : (stimuli : List (Stimulus × ℕ)) (s : Machine) (trace : List Line) (t : Machine) → IsRun plan stimuli s trace t → HasStates plan s → HasStates plan t
+  has_states-run stimuli s trace t run h =
+      (run-keeps plan (λ before. HasStates plan) (λ before. has_states-step) (λ before stimulus m allowed empty k. has_states-begin stimulus m k) [] stimuli s trace t run h).1
 
-  pub has_switches-initial : HasSwitches plan (initial plan)
-  has_switches-initial = record { kinds = refl; states = length-map plan.switches (λ s. idle s.kind) }
+  pub has_states-initial : HasStates plan (initial plan)
+  has_states-initial = record { kinds = refl; switches = length-map plan.switches (λ s. idle s.kind); modes = length-replicate (length plan.modes) (in_phase Idle) }
 
-  pub complete : (s : Machine) → IsValid plan → HasSwitches plan s → IsComplete s.switches
+  pub complete : (s : Machine) → IsValid plan → HasStates plan s → IsComplete s.switches
   complete s valid h =
       let kinds = ap (λ (ks : List _). length ks) h.kinds in
       let count = length-map plan.switches (λ s. s.kind) in
       let few : length plan.switches ≤ 256 = valid.switch_limit in
-      record { states = omega (arith, kinds, count, h.states); limit = omega (arith, kinds, count, few) }
+      record { states = omega (arith, kinds, count, h.switches); limit = omega (arith, kinds, count, few) }

@@ -15,10 +15,10 @@ use Rattle.config_checker.specs.NextAlarm.{next_alarm, source_count, most_alarms
 use Rattle.config_checker.specs.AlarmsBy.{due_by, alarms_by, state_after}
 use Rattle.config_checker.specs.AlarmsEnd.{AlarmsEnd}
 use Rattle.config_checker.proofs.PlanSteps.{IsSteps, plan_steps-are_steps}
-use Rattle.config_checker.proofs.Does.{HasSwitches}
-use Rattle.config_checker.proofs.Alarms.{has_switches-after, arms_later, alarm-done, moment-after, next-first, not_late-from}
+use Rattle.config_checker.proofs.Does.{HasStates}
+use Rattle.config_checker.proofs.Alarms.{has_states-after, arms_later, alarm-done, moment-after, next-first, not_late-from}
 use Rattle.config_checker.proofs.NextAlarms.{due_by-some, due_by-none, nothing-due_by, some-due_by}
-use Rattle.config_checker.proofs.Reached.{reached-not_late, reached-kinds, reached-states}
+use Rattle.config_checker.proofs.Reached.{reached-not_late, reached-has_states}
 
 -- ---- counting
 
@@ -82,10 +82,10 @@ module _ (plan : PlanView) (bound : ℕ) where
   sources-count : length sources ≡ source_count plan
   sources-count = length-map (switches_of plan) switch ∙ length-switches plan
 
-  sources-all : (s : Machine) (source : Source) (due : ℕ) → HasSwitches plan s → source_due s source ≡ Some due → Contains sources source
+  sources-all : (s : Machine) (source : Source) (due : ℕ) → HasStates plan s → source_due s source ≡ Some due → Contains sources source
   sources-all s (switch n) due h is =
       let there = due-within s.switches n due is in
-      let states = h.states in
+      let states = h.switches in
       let within : n.0 < length plan.switches = omega (arith, there, states) in
       let listed : n.0 < length (switches_of plan) = omega (arith, within, length-switches plan) in
       (n.0, omega (arith, listed, length-map (switches_of plan) switch), get_or-map switch (switches_of plan) n.0 n (switch n) listed ∙ ap switch (switch_of plan n.0 n within))
@@ -98,7 +98,7 @@ module _ (plan : PlanView) (bound : ℕ) where
   -- what stays so from alarm to alarm
   record IsGoing (s : Machine) : Type 0 where
     not_late : IsNothingLate s
-    switches : HasSwitches plan s
+    switches : HasStates plan s
 
   -- how many sources are due at the moment of the state
   abbrev due_now : Machine → ℕ
@@ -114,7 +114,7 @@ module _ (plan : PlanView) (bound : ℕ) where
     alarm-goes_on : IsGoing s → IsGoing (after_alarm at source s)
     alarm-goes_on going = record {
       not_late = not_late-from plan (Alarm at source) s steps.count (after_alarm at source s) (next-first plan s at source next) steps.steps;
-      switches = has_switches-after plan (Alarm at source) s steps.count (after_alarm at source s) steps.steps going.switches;
+      switches = has_states-after plan (Alarm at source) s steps.count (after_alarm at source s) steps.steps going.switches;
     }
 
     -- where it comes at the moment of the state, one source fewer is due then
@@ -249,7 +249,7 @@ module _ (plan : PlanView) (bound : ℕ) where
     going : IsGoing s
     going = record {
       not_late = reached-not_late plan trace s reached;
-      switches = record { kinds = reached-kinds plan trace s reached; states = reached-states plan trace s reached };
+      switches = reached-has_states plan trace s reached;
     }
 
     -- all alarms that are due by the moment come

@@ -1,6 +1,6 @@
 -- Where weights fit, no event step raises the potential. So every run of an accepted plan is good.
 use Rattle.std.proofs.Common.{◌≡◌, ℕ, zero, suc, ◌+◌, ◌≤◌, ◌<◌, Bool, true, false, if◌then◌else◌, Some, None, List, [], ◌∷◌, length, refl, ap, sym, subst, arith, length-append}
-use Rattle.mpf_plan.specs.PlanView.{PlanView}
+use Rattle.mpf_plan.specs.PlanView.{PlanView, work_of}
 use Rattle.mpf_plan.specs.declared.entries.EventId.{EventId}
 use Rattle.mpf_plan.specs.Valid.{IsValid}
 use Rattle.mpf_plan.specs.declared.entries.SwitchId.{SwitchId}
@@ -16,17 +16,17 @@ use Rattle.cascade_rank.specs.Weights.{IsFitting, bound_of}
 use Rattle.cascade_rank.proofs.Switches.{acceptance-within_bound}
 use Rattle.event_queue.specs.declared.queue.Posted.{Posted}
 use Rattle.event_queue.specs.PlanOrder.{by_priority}
-use Rattle.config_checker.specs.Machine.{Machine, initial}
-use Rattle.config_checker.specs.EventStep.{before_handlers, handlers_in, EventStep, EventSteps, after_event}
+use Rattle.config_checker.specs.Machine.{Machine, initial, all_do, do_handler}
+use Rattle.config_checker.specs.EventStep.{taken, is_kept, before_handlers, handlers_in, EventStep, EventSteps, after_event}
 use Rattle.config_checker.specs.Run.{switch, Stimulus, Change, Alarm, Wait, IsAllowed, begin, InEveryRun}
-use Rattle.config_checker.specs.GoodRun.{cost_if_accepted, cost_of_stimulus, weigh, IsGood}
+use Rattle.config_checker.specs.GoodRun.{cost_if_accepted, cost_of_stimulus, weigh, IsBounded}
 use Rattle.config_checker.specs.CheckedView.{CheckedView}
-use Rattle.config_checker.specs.Accepted.{IsAccepted}
-use Rattle.config_checker.proofs.Does.{potential, potential-does, AreOfPlan, WaitsInPlan, waits-does, HasSwitches}
-use Rattle.config_checker.proofs.Parts.{TakesPart, IsMachine, does-order, does-begin}
+use Rattle.cascade_rank.specs.Verified.{IsVerified}
+use Rattle.config_checker.proofs.Does.{potential, potential-does, AreOfPlan, WaitsInPlan, waits-does, HasStates}
+use Rattle.config_checker.proofs.Parts.{TakesPart, IsMachine, ordinary, working, does-order, does-begin, does-before, does-after}
 use Rattle.config_checker.proofs.Growth.{event-grows}
 use Rattle.config_checker.proofs.Order.{order_cost, plan_order-step}
-use Rattle.config_checker.proofs.Alarms.{has_switches-step, has_switches-begin, has_switches-initial}
+use Rattle.config_checker.proofs.Alarms.{has_states-step, has_states-begin, has_states-initial}
 use Rattle.config_checker.proofs.Levels.{levels-run}
 use Rattle.config_checker.proofs.Keeps.{step-keeps, steps-keep, run-keeps}
 
@@ -34,8 +34,11 @@ module _ (plan : PlanView) (valid : IsValid plan) where
   waits-step : (s t : Machine) → EventStep plan s t → WaitsInPlan plan s → WaitsInPlan plan t
   waits-step =
       step-keeps plan (λ before. WaitsInPlan plan) (λ first before. WaitsInPlan plan)
-      (λ before first rest s is h. let front : AreOfPlan plan (first ∷ rest) = subst (AreOfPlan plan) is h in front.1)
-      (λ before first c s t d h. waits-does plan (TakesPart s) ⊥ valid.entries d h) (λ before first s h. h) []
+      (λ before first rest s is h.
+      let front : AreOfPlan plan (first ∷ rest) = subst (AreOfPlan plan) is h in
+      waits-does plan working valid.entries (does-before plan (work_of plan first.event) (taken first rest s)) front.1)
+      (λ before first c s t d h. waits-does plan (ordinary plan (TakesPart s) ⊥) valid.entries d h)
+      (λ before first kept s h. waits-does plan working valid.entries (does-after plan kept first.event s) h) []
 
 -- a stimulus that may come costs at most what the dearest does
 module _ (plan : PlanView) (w : EventId → ℕ) where
@@ -43,12 +46,12 @@ module _ (plan : PlanView) (w : EventId → ℕ) where
   accepted_cost n true a is l = subst (λ (m : SwitchId). price w (cost_of_acceptance plan m a.active) ≤ bound_of plan w) (sym is) (acceptance-within_bound plan w n a.active l)
   accepted_cost n false a is l = omega arith
 
-  pub stimulus_cost : (s : Machine) (stimulus : Stimulus) → HasSwitches plan s → IsAllowed plan s stimulus → price w (cost_of_stimulus plan s stimulus) ≤ bound_of plan w
+  pub stimulus_cost : (s : Machine) (stimulus : Stimulus) → HasStates plan s → IsAllowed plan s stimulus → price w (cost_of_stimulus plan s stimulus) ≤ bound_of plan w
   stimulus_cost s (Change at n level) h allowed =
       accepted_cost n (is_taken (kind_at s.switches n) level (state_at s.switches n)) (reported (after_change n level at s.switches) n) refl allowed.1
   stimulus_cost s (Alarm at (switch n)) h allowed =
       let there = due-within s.switches n at allowed.0.due in
-      let count = h.states in
+      let count = h.switches in
       acceptance-within_bound plan w n (reported (accept n s.switches) n).active (omega arith)
   stimulus_cost s (Wait at) h allowed = omega arith
 
@@ -71,11 +74,13 @@ module _ (plan : PlanView) (valid : IsValid plan) (w : EventId → ℕ) (fits : 
       let fit = fits st.first.event front.0 in
       let ready = before_handlers plan st.first st.rest s in
       let grown = potential-does plan w (does-order plan ready st.first.event st.order st.in_order) in
+      let before = potential-does plan w (does-before plan (work_of plan st.first.event) (taken st.first st.rest s)) in
+      let after = potential-does plan w (does-after plan (is_kept (work_of plan st.first.event) s) st.first.event (all_do (do_handler plan) st.order ready)) in
       let paid = order_cost plan w ready st.first.event st.order st.in_order in
       let line = length-append s.lines (record { moment = s.moment; owner = st.first.owner; happening = lines.Event st.first.event } ∷ []) in
       let weighs = ap (weigh w) st.waiting in
       let is = ap (potential w) st.new_is in
-      omega (arith, fit, grown, paid, line, weighs, is)
+      omega (arith, fit, grown, before, after, paid, line, weighs, is)
 
   -- the potential is within k, and each waiting event is one of the plan's
   pub record IsWithin (k : ℕ) (s : Machine) : Type 0 where
@@ -92,7 +97,7 @@ module _ (plan : PlanView) (valid : IsValid plan) (w : EventId → ℕ) (fits : 
   within-begin : (stimulus : Stimulus) (s : Machine) → s.waiting ≡ [] → IsWithin (price w (cost_of_stimulus plan s stimulus)) (begin plan stimulus s)
   within-begin stimulus s empty = record {
     most = let none = ap (weigh w) empty in omega (arith, potential-does plan w (does-begin plan stimulus s), none);
-    waits = waits-does plan IsMachine (Unit {0}) valid.entries (does-begin plan stimulus s) (subst (AreOfPlan plan) (sym empty) tt);
+    waits = waits-does plan (ordinary plan IsMachine (Unit {0})) valid.entries (does-begin plan stimulus s) (subst (AreOfPlan plan) (sym empty) tt);
   }
 
   -- what a stimulus leads to stays within what it costs
@@ -101,16 +106,16 @@ module _ (plan : PlanView) (valid : IsValid plan) (w : EventId → ℕ) (fits : 
       steps-keep plan (λ before. IsWithin (price w (cost_of_stimulus plan s stimulus))) (λ before. within-step (price w (cost_of_stimulus plan s stimulus))) [] n (begin plan stimulus s) t steps (within-begin stimulus s empty)
 
   -- every run stays within the bound
-  pub within-run : InEveryRun plan (λ stimuli trace s. IsWithin (bound_of plan w) s × HasSwitches plan s)
+  pub within-run : InEveryRun plan (λ stimuli trace s. IsWithin (bound_of plan w) s × HasStates plan s)
   within-run stimuli trace s run =
-      (run-keeps plan (λ before m. IsWithin (bound_of plan w) m × HasSwitches plan m) (λ before m t st h. (within-step (bound_of plan w) m t st h.0, has_switches-step plan m t st h.1)) begins [] stimuli (initial plan) trace s run
-      (record { most = omega arith; waits = tt }, has_switches-initial plan)).1
+      (run-keeps plan (λ before m. IsWithin (bound_of plan w) m × HasStates plan m) (λ before m t st h. (within-step (bound_of plan w) m t st h.0, has_states-step plan m t st h.1)) begins [] stimuli (initial plan) trace s run
+      (record { most = omega arith; waits = tt }, has_states-initial plan)).1
     where
-      begins : (before : List Line) (stimulus : Stimulus) (m : Machine) → IsAllowed plan m stimulus → m.waiting ≡ [] → IsWithin (bound_of plan w) m × HasSwitches plan m → IsWithin (bound_of plan w) (begin plan stimulus m) × HasSwitches plan (begin plan stimulus m)
+      begins : (before : List Line) (stimulus : Stimulus) (m : Machine) → IsAllowed plan m stimulus → m.waiting ≡ [] → IsWithin (bound_of plan w) m × HasStates plan m → IsWithin (bound_of plan w) (begin plan stimulus m) × HasStates plan (begin plan stimulus m)
       begins before stimulus m allowed empty h =
           let begun = within-begin stimulus m empty in
           let most = begun.most in
-          (record { most = omega (arith, most, stimulus_cost plan w m stimulus h.1 allowed); waits = begun.waits }, has_switches-begin plan stimulus m h.1)
+          (record { most = omega (arith, most, stimulus_cost plan w m stimulus h.1 allowed); waits = begun.waits }, has_states-begin plan stimulus m h.1)
 
   -- each waiting event weighs at least 1
   waiting-weigh : (ps : List Posted) → AreOfPlan plan ps → length ps ≤ weigh w ps
@@ -119,9 +124,9 @@ module _ (plan : PlanView) (valid : IsValid plan) (w : EventId → ℕ) (fits : 
       let fit = fits p.event h.0 in
       omega (arith, fit, waiting-weigh ps h.1)
 
--- where the weights fit and the bound is theirs, every run is good
-pub fitting-is_good : (c : CheckedView) → IsValid c.plan → IsFitting c.plan (weight_of c.weights) → c.bound ≡ bound_of c.plan (weight_of c.weights) → IsGood c
-fitting-is_good c valid fits bound =
+-- where the weights fit and the bound is theirs, every run is bounded
+pub fitting-is_bounded : (c : CheckedView) → IsValid c.plan → IsFitting c.plan (weight_of c.weights) → c.bound ≡ bound_of c.plan (weight_of c.weights) → IsBounded c
+fitting-is_bounded c valid fits bound =
     let plan = c.plan in
     let w = weight_of c.weights in
     record {
@@ -141,6 +146,6 @@ fitting-is_good c valid fits bound =
       levels = levels-run plan;
     }
 
--- Every run of an accepted plan is good.
-pub every_run_is_good : (c : CheckedView) → IsAccepted c → IsGood c
-every_run_is_good c accepted = fitting-is_good c accepted.valid accepted.verified.fits accepted.verified.bound_is
+-- So is every run of a plan whose weights were verified.
+pub verified-is_bounded : (c : CheckedView) → IsValid c.plan → IsVerified c.plan c.weights c.bound → IsBounded c
+verified-is_bounded c valid verified = fitting-is_bounded c valid verified.fits verified.bound_is

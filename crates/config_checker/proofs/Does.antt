@@ -1,20 +1,28 @@
 -- What one cost pays for: single changes of the machine, one after another, each by a licence.
-use Rattle.std.proofs.Common.{◌≡◌, ℕ, zero, suc, ◌+◌, ◌≤◌, ◌<◌, List, [], ◌∷◌, ◌++◌, length, length-append, Contains, refl, sym, subst, ◌∙◌, arith}
+use Rattle.std.proofs.Common.{◌≡◌, ℕ, zero, suc, ◌+◌, ◌≤◌, ◌<◌, Bool, true, false, List, [], ◌∷◌, ◌++◌, length, length-append, Contains, refl, sym, subst, ◌∙◌, arith}
 use Rattle.std.specs.List.{All, AllByRecursion}
 use Rattle.std.proofs.lemmas.List.{length-set}
 use Rattle.std.proofs.lemmas.List.Elements.{All-head, All-tail}
-use Rattle.mpf_plan.specs.PlanView.{PlanView}
+use Rattle.mpf_plan.specs.PlanView.{PlanView, mode_event}
 use Rattle.mpf_plan.specs.Valid.{HasEntries}
 use Rattle.mpf_plan.specs.declared.entries.EventId.{EventId}
 use Rattle.mpf_plan.specs.declared.entries.Owner.{Owner}
 use Rattle.mpf_plan.specs.declared.entries.SwitchId.{SwitchId}
+use Rattle.mpf_plan.specs.declared.entries.ModeId.{ModeId}
+use Rattle.mpf_plan.specs.declared.entries.ModeEvent.TheVariants.{WillStart, Stopping}
+use Rattle.mpf_plan.specs.declared.entries.Owner.TheVariants as owners
+use Rattle.mode_stack.specs.declared.phase.ModeState.{ModeState}
+use Rattle.mode_stack.specs.ModeStep.{starts, started, stopped, stop_answer}
+use Rattle.mode_stack.specs.Modes.{needs_game, mode_state}
+use Rattle.cascade_rank.proofs.Within.{mode_event-within}
 use Rattle.switch_core.specs.SwitchStep.{SwitchState}
 use Rattle.switch_core.specs.Switches.{all_idle, set_state}
 use Rattle.config_checker.specs.declared.line.Happening.{Happening}
 use Rattle.config_checker.specs.declared.line.Happening.TheVariants as lines
 use Rattle.cascade_rank.specs.Cost.{Cost, Lines, Both, price, each_of, dearest_of, cost_of_post}
 use Rattle.event_queue.specs.declared.queue.Posted.{Posted}
-use Rattle.config_checker.specs.Machine.{Machine, write, post, set_switches, all_do}
+use Rattle.config_checker.specs.Machine.{Machine, write, post, set_switches, set_mode, has_game, is_post, post_if, start_mode, stop_mode, all_do}
+use Rattle.config_checker.specs.FreePosts.{PostsAreFree, IsFree}
 use Rattle.config_checker.specs.GoodRun.{weigh}
 
 -- ---- single changes
@@ -24,28 +32,52 @@ pub data Move : Type 0 where
   Wrote : (owner : Owner) (what : Happening) → Move
   Sent : (owner : Owner) (e : EventId) → Move
   Switched : (n : SwitchId) (switch : SwitchState) → Move
+  -- a mode is told to start, or to stop
+  Began : (m : ModeId) → Move
+  Ended : (m : ModeId) → Move
+  -- a mode has this state from now on
+  Marked : (m : ModeId) (state : ModeState) → Move
 
 abbrev pub do_move : PlanView → Move → Machine → Machine
 do_move plan (Wrote owner what) s = write owner what s
 do_move plan (Sent owner e) s = post owner e s
 do_move plan (Switched n switch) s = set_switches (set_state n switch s.switches) s
+do_move plan (Began m) s = start_mode plan m s
+do_move plan (Ended m) s = stop_mode plan m s
+do_move plan (Marked m state) s = set_mode m state s
 
 abbrev pub cost_of_move : PlanView → Move → Cost
 cost_of_move plan (Wrote owner what) = Lines 1
 cost_of_move plan (Sent owner e) = cost_of_post e
 cost_of_move plan (Switched n switch) = Lines 0
+cost_of_move plan (Began m) = cost_of_post (mode_event plan m WillStart)
+cost_of_move plan (Ended m) = cost_of_post (mode_event plan m Stopping)
+cost_of_move plan (Marked m state) = Lines 0
 
 -- the line is not that of an event: those come only as events are taken
 abbrev pub IsNoEvent : Happening → Type 0
 IsNoEvent (lines.Switch n active) = Unit {0}
 IsNoEvent (lines.Event e) = ⊥
 
--- What these owners may do. Where the plan's numbers are those of entries, they post only events of the plan. Switches
--- change only where that is allowed apart.
-abbrev pub MayDo : PlanView → (Owner → Type 0) → Type 0 → Move → Type 0
-MayDo plan by switches (Wrote owner what) = by owner × IsNoEvent what
-MayDo plan by switches (Sent owner e) = by owner × (HasEntries plan → e.0 < length plan.events)
-MayDo plan by switches (Switched n switch) = switches
+-- A licence: by which owners lines and events may come, which events, and whether switches may change and modes be marked.
+pub record Licence : Type 1 where
+  pub by : Owner → Type 0
+  pub posts : EventId → Type 0
+  pub switches : Type 0
+  pub marks : Type 0
+
+-- What a licence allows. Where the plan's numbers are those of entries, only events and modes of the plan are touched.
+abbrev pub MayDo : PlanView → Licence → Move → Type 0
+MayDo plan l (Wrote owner what) = l.by owner × IsNoEvent what
+MayDo plan l (Sent owner e) = l.by owner × (HasEntries plan → e.0 < length plan.events) × l.posts e
+MayDo plan l (Switched n switch) = l.switches
+MayDo plan l (Began m) = HasEntries plan → m.0 < length plan.modes
+MayDo plan l (Ended m) = HasEntries plan → m.0 < length plan.modes
+MayDo plan l (Marked m state) = l.marks
+
+-- where nothing in the plan posts an event at which the machine itself does something, the event is none
+abbrev pub IsFreeThere : PlanView → EventId → Type 0
+IsFreeThere plan e = PostsAreFree plan → IsFree plan e
 
 -- From one state to another by moves that are allowed, and that cost at most this.
 pub data Does (plan : PlanView) (may : Move → Type 0) : Cost → Machine → Machine → Type 0 where
@@ -77,6 +109,26 @@ module _ (plan : PlanView) (may : Move → Type 0) where
 abbrev pub Grows : Machine → Machine → Type 0
 Grows s t = (length s.lines ≤ length t.lines) × (length s.waiting ≤ length t.waiting)
 
+-- what holds whether an event is posted or not
+pub post_if-by : (P : Machine → Type 0) (e : EventId) (s : Machine) → P (post owners.Machine e s) → P s → (b : Bool) → P (post_if b e s)
+post_if-by P e s posted not true = posted
+post_if-by P e s posted not false = not
+
+module _ (plan : PlanView) (m : ModeId) (s : Machine) where
+  -- a mode that is told to start, and its event
+  abbrev pub begun_mode : Machine
+  begun_mode = set_mode m (started (needs_game plan m) (has_game s) (mode_state s.modes m)) s
+
+  pub start-by : (P : Machine → Type 0) → P (post owners.Machine (mode_event plan m WillStart) begun_mode) → P begun_mode → P (start_mode plan m s)
+  start-by P posted not = post_if-by P (mode_event plan m WillStart) begun_mode posted not (starts (needs_game plan m) (has_game s) (mode_state s.modes m).phase)
+
+  -- or to stop
+  abbrev pub ended_mode : Machine
+  ended_mode = set_mode m (stopped (mode_state s.modes m)) s
+
+  pub stop-by : (P : Machine → Type 0) → P (post owners.Machine (mode_event plan m Stopping) ended_mode) → P ended_mode → P (stop_mode plan m s)
+  stop-by P posted not = post_if-by P (mode_event plan m Stopping) ended_mode posted not (is_post (stop_answer (mode_state s.modes m).phase))
+
 -- ---- the potential grows by no more than the cost
 
 -- lines so far, and the weights of the waiting events
@@ -87,11 +139,19 @@ pub weigh-append : (w : EventId → ℕ) (ps qs : List Posted) → weigh w (ps +
 weigh-append w [] qs = omega arith
 weigh-append w (p ∷ ps) qs = omega (arith, weigh-append w ps qs)
 
+potential-post : (w : EventId → ℕ) (owner : Owner) (e : EventId) (s : Machine) → potential w (post owner e s) ≤ potential w s + w e
+potential-post w owner e s = omega (arith, weigh-append w s.waiting (record { event = e; owner = owner } ∷ []))
+
 module _ (plan : PlanView) where
   potential-move : (w : EventId → ℕ) (x : Move) (s : Machine) → potential w (do_move plan x s) ≤ potential w s + price w (cost_of_move plan x)
   potential-move w (Wrote owner what) s = omega (arith, length-append s.lines (record { moment = s.moment; owner = owner; happening = what } ∷ []))
-  potential-move w (Sent owner e) s = omega (arith, weigh-append w s.waiting (record { event = e; owner = owner } ∷ []))
+  potential-move w (Sent owner e) s = potential-post w owner e s
   potential-move w (Switched n switch) s = omega arith
+  potential-move w (Began m) s =
+      start-by plan m s (λ t. potential w t ≤ potential w s + w (mode_event plan m WillStart)) (potential-post w owners.Machine (mode_event plan m WillStart) (begun_mode plan m s)) (omega arith)
+  potential-move w (Ended m) s =
+      stop-by plan m s (λ t. potential w t ≤ potential w s + w (mode_event plan m Stopping)) (potential-post w owners.Machine (mode_event plan m Stopping) (ended_mode plan m s)) (omega arith)
+  potential-move w (Marked m state) s = omega arith
 
   pub potential-does : {may : Move → Type 0} (w : EventId → ℕ) {c : Cost} {s t : Machine} → Does plan may c s t → potential w t ≤ potential w s + price w c
   potential-does w quiet = omega arith
@@ -116,21 +176,41 @@ module _ (plan : PlanView) where
   grows-move (Wrote owner what) s = (omega (arith, length-append s.lines (record { moment = s.moment; owner = owner; happening = what } ∷ [])), omega arith)
   grows-move (Sent owner e) s = (omega arith, omega (arith, length-append s.waiting (record { event = e; owner = owner } ∷ [])))
   grows-move (Switched n switch) s = (omega arith, omega arith)
+  grows-move (Began m) s = start-by plan m s (Grows s) (omega arith, omega (arith, length-append s.waiting (record { event = mode_event plan m WillStart; owner = owners.Machine } ∷ []))) (omega arith, omega arith)
+  grows-move (Ended m) s = stop-by plan m s (Grows s) (omega arith, omega (arith, length-append s.waiting (record { event = mode_event plan m Stopping; owner = owners.Machine } ∷ []))) (omega arith, omega arith)
+  grows-move (Marked m state) s = (omega arith, omega arith)
 
   moment-move : (x : Move) (s : Machine) → (do_move plan x s).moment ≡ s.moment
   moment-move (Wrote owner what) s = refl
   moment-move (Sent owner e) s = refl
   moment-move (Switched n switch) s = refl
+  moment-move (Began m) s = start-by plan m s (λ t. t.moment ≡ s.moment) refl refl
+  moment-move (Ended m) s = stop-by plan m s (λ t. t.moment ≡ s.moment) refl refl
+  moment-move (Marked m state) s = refl
 
-  -- the switches are read as the plan says, and each has a state
-  pub record HasSwitches (s : Machine) : Type 0 where
+  -- the switches are read as the plan says, and each has a state, as each mode has
+  pub record HasStates (s : Machine) : Type 0 where
     pub kinds : s.switches.kinds ≡ (all_idle plan).kinds
-    pub states : length s.switches.states ≡ length plan.switches
+    pub switches : length s.switches.states ≡ length plan.switches
+    pub modes : length s.modes ≡ length plan.modes
 
-  has_switches-move : (x : Move) (s : Machine) → HasSwitches s → HasSwitches (do_move plan x s)
-  has_switches-move (Wrote owner what) s h = record { kinds = h.kinds; states = h.states }
-  has_switches-move (Sent owner e) s h = record { kinds = h.kinds; states = h.states }
-  has_switches-move (Switched n switch) s h = record { kinds = h.kinds; states = length-set s.switches.states n.0 switch ∙ h.states }
+  marked-has_states : (m : ModeId) (state : ModeState) (s : Machine) → HasStates s → HasStates (set_mode m state s)
+  marked-has_states m state s h = record { kinds = h.kinds; switches = h.switches; modes = length-set s.modes m.0 state ∙ h.modes }
+
+  posted-has_states : (owner : Owner) (e : EventId) (s : Machine) → HasStates s → HasStates (post owner e s)
+  posted-has_states owner e s h = record { kinds = h.kinds; switches = h.switches; modes = h.modes }
+
+  has_states-move : (x : Move) (s : Machine) → HasStates s → HasStates (do_move plan x s)
+  has_states-move (Wrote owner what) s h = record { kinds = h.kinds; switches = h.switches; modes = h.modes }
+  has_states-move (Sent owner e) s h = posted-has_states owner e s h
+  has_states-move (Switched n switch) s h = record { kinds = h.kinds; switches = length-set s.switches.states n.0 switch ∙ h.switches; modes = h.modes }
+  has_states-move (Began m) s h =
+      let told = marked-has_states m _ s h in
+      start-by plan m s HasStates (posted-has_states owners.Machine (mode_event plan m WillStart) (begun_mode plan m s) told) told
+  has_states-move (Ended m) s h =
+      let told = marked-has_states m _ s h in
+      stop-by plan m s HasStates (posted-has_states owners.Machine (mode_event plan m Stopping) (ended_mode plan m s) told) told
+  has_states-move (Marked m state) s h = marked-has_states m state s h
 
   module _ {may : Move → Type 0} {c : Cost} {s t : Machine} where
     pub grows-does : Does plan may c s t → Grows s t
@@ -140,24 +220,31 @@ module _ (plan : PlanView) where
     pub moment-does : Does plan may c s t → t.moment ≡ s.moment
     moment-does d = does-keeps plan may (λ u. u.moment ≡ s.moment) (λ x u allowed h. moment-move x u ∙ h) d refl
 
-    pub has_switches-does : Does plan may c s t → HasSwitches s → HasSwitches t
-    has_switches-does d h = does-keeps plan may HasSwitches (λ x u allowed k. has_switches-move x u k) d h
+    pub has_states-does : Does plan may c s t → HasStates s → HasStates t
+    has_states-does d h = does-keeps plan may HasStates (λ x u allowed k. has_states-move x u k) d h
 
-  module _ (by : Owner → Type 0) (switches : Type 0) where
-    waits-move : HasEntries plan → (x : Move) (s : Machine) → MayDo plan by switches x → WaitsInPlan s → WaitsInPlan (do_move plan x s)
+  module _ (l : Licence) where
+    waits-move : HasEntries plan → (x : Move) (s : Machine) → MayDo plan l x → WaitsInPlan s → WaitsInPlan (do_move plan x s)
     waits-move entries (Wrote owner what) s may h = h
     waits-move entries (Sent owner e) s may h = of_plan-push s.waiting (record { event = e; owner = owner }) h (may.1 entries)
     waits-move entries (Switched n switch) s may h = h
+    waits-move entries (Began m) s may h =
+        start-by plan m s WaitsInPlan (of_plan-push s.waiting (record { event = mode_event plan m WillStart; owner = owners.Machine }) h (mode_event-within plan entries m WillStart (may entries))) h
+    waits-move entries (Ended m) s may h =
+        stop-by plan m s WaitsInPlan (of_plan-push s.waiting (record { event = mode_event plan m Stopping; owner = owners.Machine }) h (mode_event-within plan entries m Stopping (may entries))) h
+    waits-move entries (Marked m state) s may h = h
 
-    pub waits-does : HasEntries plan → {c : Cost} {s t : Machine} → Does plan (MayDo plan by switches) c s t → WaitsInPlan s → WaitsInPlan t
-    waits-does entries d h = does-keeps plan (MayDo plan by switches) WaitsInPlan (waits-move entries) d h
+    pub waits-does : HasEntries plan → {c : Cost} {s t : Machine} → Does plan (MayDo plan l) c s t → WaitsInPlan s → WaitsInPlan t
+    waits-does entries d h = does-keeps plan (MayDo plan l) WaitsInPlan (waits-move entries) d h
 
-  -- where no switch may change
-  module _ (by : Owner → Type 0) where
-    switches-move : (x : Move) (s : Machine) → MayDo plan by ⊥ x → (do_move plan x s).switches ≡ s.switches
-    switches-move (Wrote owner what) s may = refl
-    switches-move (Sent owner e) s may = refl
-    switches-move (Switched n switch) s may = absurd may
+    -- where no switch may change
+    switches-move : (l.switches → ⊥) → (x : Move) (s : Machine) → MayDo plan l x → (do_move plan x s).switches ≡ s.switches
+    switches-move none (Wrote owner what) s may = refl
+    switches-move none (Sent owner e) s may = refl
+    switches-move none (Switched n switch) s may = absurd (none may)
+    switches-move none (Began m) s may = start-by plan m s (λ t. t.switches ≡ s.switches) refl refl
+    switches-move none (Ended m) s may = stop-by plan m s (λ t. t.switches ≡ s.switches) refl refl
+    switches-move none (Marked m state) s may = refl
 
-    pub switches-does : {c : Cost} {s t : Machine} → Does plan (MayDo plan by ⊥) c s t → t.switches ≡ s.switches
-    switches-does {c} {s} {t} d = does-keeps plan (MayDo plan by ⊥) (λ u. u.switches ≡ s.switches) (λ x u may h. switches-move x u may ∙ h) d refl
+    pub switches-does : (l.switches → ⊥) → {c : Cost} {s t : Machine} → Does plan (MayDo plan l) c s t → t.switches ≡ s.switches
+    switches-does none {c} {s} {t} d = does-keeps plan (MayDo plan l) (λ u. u.switches ≡ s.switches) (λ x u may h. switches-move none x u may ∙ h) d refl

@@ -1,6 +1,6 @@
 -- What the machine does only adds to its lines and waiting events.
 use Rattle.std.proofs.Common.{◌≤◌, ◌<◌, List, [], ◌∷◌, length, length-append, arith}
-use Rattle.mpf_plan.specs.PlanView.{PlanView, posts_of}
+use Rattle.mpf_plan.specs.PlanView.{PlanView, posts_of, work_of}
 use Rattle.mpf_plan.specs.declared.entries.EventId.{EventId}
 use Rattle.mpf_plan.specs.declared.entries.BindingId.{BindingId}
 use Rattle.mpf_plan.specs.declared.entries.Owner.{Owner}
@@ -12,9 +12,9 @@ use Rattle.config_checker.specs.declared.line.Line.{Line}
 use Rattle.config_checker.specs.declared.line.Happening.TheVariants as lines
 use Rattle.event_queue.specs.declared.queue.Posted.{Posted}
 use Rattle.config_checker.specs.Machine.{Machine, write, post, all_do, do_action, do_handler, do_accepted}
-use Rattle.config_checker.specs.EventStep.{before_handlers, after_event}
+use Rattle.config_checker.specs.EventStep.{taken, is_kept, before_handlers, after_event}
 use Rattle.config_checker.proofs.Does.{Grows, grows-does}
-use Rattle.config_checker.proofs.Parts.{does-handler}
+use Rattle.config_checker.proofs.Parts.{does-handler, does-before, does-after}
 
 -- where each adds, all do
 pub all_do-grows : {X : Type 0} (f : X → Machine → Machine) → ((x : X) (s : Machine) → Grows s (f x s)) → (xs : List X) (s : Machine) → Grows s (all_do f xs s)
@@ -47,5 +47,9 @@ module _ (plan : PlanView) where
       → (length s.lines < length (after_event plan first rest order s).lines) × (length rest ≤ length (after_event plan first rest order s).waiting)
   event-grows first rest order s =
       let written : Line = record { moment = s.moment; owner = first.owner; happening = lines.Event first.event } in
-      let g = all_do-grows (do_handler plan) handler-grows order (before_handlers plan first rest s) in
-      (omega (arith, g.0, length-append s.lines (written ∷ [])), g.1)
+      let opened = before_handlers plan first rest s in
+      let handled = all_do (do_handler plan) order opened in
+      let before = grows-does plan (does-before plan (work_of plan first.event) (taken first rest s)) in
+      let g = all_do-grows (do_handler plan) handler-grows order opened in
+      let after = grows-does plan (does-after plan (is_kept (work_of plan first.event) s) first.event handled) in
+      (omega (arith, before.0, g.0, after.0, length-append s.lines (written ∷ [])), omega (arith, before.1, g.1, after.1))

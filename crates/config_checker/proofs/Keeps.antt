@@ -1,27 +1,28 @@
 -- What the parts of an event step and the beginning of a stimulus keep, each run keeps, with the trace so far.
-use Rattle.std.proofs.Common.{◌≡◌, ℕ, zero, suc, List, [], ◌∷◌, ◌++◌, ap, sym, ◌∙◌, subst, append_assoc}
+use Rattle.std.proofs.Common.{◌≡◌, ℕ, zero, suc, Bool, List, [], ◌∷◌, ◌++◌, ap, sym, ◌∙◌, subst, append_assoc}
 use Rattle.std.proofs.lemmas.List.{append-nil}
 use Rattle.mpf_plan.specs.PlanView.{PlanView}
 use Rattle.config_checker.specs.declared.line.Line.{Line}
 use Rattle.cascade_rank.specs.Cost.{Cost}
 use Rattle.event_queue.specs.declared.queue.Posted.{Posted}
 use Rattle.config_checker.specs.Machine.{Machine}
-use Rattle.config_checker.specs.EventStep.{before_handlers, work_after, EventStep, EventSteps}
+use Rattle.mpf_plan.specs.PlanView.{work_of}
+use Rattle.config_checker.specs.EventStep.{before_handlers, is_kept, do_after, EventStep, EventSteps}
 use Rattle.config_checker.specs.Run.{Stimulus, IsAllowed, begin, IsRun}
 use Rattle.config_checker.proofs.Does.{Does}
 use Rattle.config_checker.proofs.Parts.{MayHandle, does-order}
 
 -- Inv holds between event steps, and During while an event is handled: from the machine's work before its handlers until
--- that after them. The lines since the latest stimulus stand behind the earlier ones.
+-- that after them, whether a stop was kept or not. The lines since the latest stimulus stand behind the earlier ones.
 module _ (plan : PlanView) (Inv : List Line → Machine → Type 0) (During : Posted → List Line → Machine → Type 0)
     (opens : (before : List Line) (first : Posted) (rest : List Posted) (s : Machine) → s.waiting ≡ first ∷ rest → Inv before s → During first before (before_handlers plan first rest s))
     (moves : (before : List Line) (first : Posted) (c : Cost) (s t : Machine) → Does plan (MayHandle plan s) c s t → During first before s → During first before t)
-    (closes : (before : List Line) (first : Posted) (s : Machine) → During first before s → Inv before (work_after plan first.event s)) where
+    (closes : (before : List Line) (first : Posted) (kept : Bool) (s : Machine) → During first before s → Inv before (do_after plan kept (work_of plan first.event) s)) where
   pub step-keeps : (before : List Line) (s t : Machine) → EventStep plan s t → Inv before s → Inv before t
   step-keeps before s t st h =
       let ready = before_handlers plan st.first st.rest s in
       let handled = moves before st.first _ ready _ (does-order plan ready st.first.event st.order st.in_order) (opens before st.first st.rest s st.waiting h) in
-      subst (Inv before) (sym st.new_is) (closes before st.first _ handled)
+      subst (Inv before) (sym st.new_is) (closes before st.first (is_kept (work_of plan st.first.event) s) _ handled)
 
 -- what each event step keeps, all event steps keep
 module _ (plan : PlanView) (Inv : List Line → Machine → Type 0) (step : (before : List Line) (s t : Machine) → EventStep plan s t → Inv before s → Inv before t) where

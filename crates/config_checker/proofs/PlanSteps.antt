@@ -10,7 +10,7 @@ use Rattle.config_checker.specs.Machine.{Machine, initial}
 use Rattle.config_checker.specs.EventStep.{before_handlers, handlers_in, EventStep, EventSteps, after_event}
 use Rattle.config_checker.specs.PlanOrder.{plan_step_from, plan_step, plan_steps}
 use Rattle.config_checker.specs.Run.{Stimulus, IsAllowed, begin, IsRun}
-use Rattle.config_checker.specs.GoodRun.{IsGood}
+use Rattle.config_checker.specs.GoodRun.{IsBounded}
 use Rattle.config_checker.specs.CheckedView.{CheckedView}
 use Rattle.config_checker.proofs.Order.{plan_order-step}
 
@@ -103,7 +103,7 @@ module _ (plan : PlanView) where
       (empty, first_allowed, (mid, rest ++ t.lines, went, IsRun-push more mid rest m stimulus n t run idle allowed steps, ap (λ (ls : List Line). ls ++ t.lines) lines ∙ append_assoc mid.lines rest t.lines))
 
 -- After a run of a good plan at whose end no event waits, and a stimulus that may come next:
-module _ (c : CheckedView) (good : IsGood c) (stimuli : List (Stimulus × ℕ)) (trace : List Line) (s : Machine) (run : IsRun c.plan stimuli (initial c.plan) trace s) (empty : s.waiting ≡ []) (stimulus : Stimulus) (allowed : IsAllowed c.plan s stimulus) where
+module _ (c : CheckedView) (good : IsBounded c) (stimuli : List (Stimulus × ℕ)) (trace : List Line) (s : Machine) (run : IsRun c.plan stimuli (initial c.plan) trace s) (empty : s.waiting ≡ []) (stimulus : Stimulus) (allowed : IsAllowed c.plan s stimulus) where
   abbrev pub begun : Machine
   begun = begin c.plan stimulus s
 

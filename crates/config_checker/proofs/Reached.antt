@@ -9,10 +9,10 @@ use Rattle.config_checker.specs.PlanOrder.{plan_steps, settled}
 use Rattle.config_checker.specs.Run.{IsNothingLate, Stimulus, IsAllowed, begin, IsReached}
 use Rattle.config_checker.specs.CheckedView.{CheckedView}
 use Rattle.config_checker.specs.Accepted.{IsAccepted}
-use Rattle.config_checker.proofs.Cascade.{every_run_is_good}
+use Rattle.config_checker.proofs.Cascade.{verified-is_bounded}
 use Rattle.config_checker.proofs.PlanSteps.{settled-run, settled-idle, settled-steps, settled-same, settling-within}
-use Rattle.config_checker.proofs.Does.{HasSwitches}
-use Rattle.config_checker.proofs.Alarms.{has_switches-run, has_switches-initial, complete, not_late-run, not_late-initial}
+use Rattle.config_checker.proofs.Does.{HasStates}
+use Rattle.config_checker.proofs.Alarms.{has_states-run, has_states-initial, complete, not_late-run, not_late-initial}
 
 module _ (plan : PlanView) where
   -- the state at the beginning
@@ -20,18 +20,22 @@ module _ (plan : PlanView) where
   reached-initial = record { stimuli = []; run = (refl, refl); idle = refl }
 
   module _ (trace : List Line) (s : Machine) (reached : IsReached plan trace s) where
-    has_switches : HasSwitches plan s
-    has_switches = has_switches-run plan reached.stimuli (initial plan) trace s reached.run (has_switches-initial plan)
+    pub reached-has_states : HasStates plan s
+    reached-has_states = has_states-run plan reached.stimuli (initial plan) trace s reached.run (has_states-initial plan)
 
     -- the switches are read as the plan says, and each has a state
     pub reached-kinds : s.switches.kinds ≡ (all_idle plan).kinds
-    reached-kinds = has_switches.kinds
+    reached-kinds = reached-has_states.kinds
 
     pub reached-states : length s.switches.states ≡ length plan.switches
-    reached-states = has_switches.states
+    reached-states = reached-has_states.switches
+
+    -- and so has each mode
+    pub reached-modes : length s.modes ≡ length plan.modes
+    reached-modes = reached-has_states.modes
 
     pub reached-complete : IsValid plan → IsComplete s.switches
-    reached-complete valid = complete plan s valid has_switches
+    reached-complete valid = complete plan s valid reached-has_states
 
     -- and no alarm is late
     pub reached-not_late : IsNothingLate s
@@ -42,7 +46,7 @@ module _ (c : CheckedView) (accepted : IsAccepted c) (trace : List Line) (s : Ma
   -- after an allowed stimulus and its event steps too, with their lines at the end of the trace
   pub reached-next : IsReached c.plan (trace ++ (settled c.plan c.bound stimulus s).lines) (settled c.plan c.bound stimulus s)
   reached-next =
-      let good = every_run_is_good c accepted in
+      let good = verified-is_bounded c accepted.valid accepted.verified in
       record {
         stimuli = reached.stimuli ++ (stimulus, (settled-steps c good reached.stimuli trace s reached.run reached.idle stimulus allowed).0) ∷ [];
         run = settled-run c good reached.stimuli trace s reached.run reached.idle stimulus allowed;
@@ -51,8 +55,8 @@ module _ (c : CheckedView) (accepted : IsAccepted c) (trace : List Line) (s : Ma
 
   -- on the way there are never more lines and waiting events than the bound
   pub reached-within : (n : ℕ) → length (plan_steps c.plan n (begin c.plan stimulus s)).lines + length (plan_steps c.plan n (begin c.plan stimulus s)).waiting ≤ c.bound
-  reached-within n = settling-within c (every_run_is_good c accepted) reached.stimuli trace s reached.run reached.idle stimulus allowed n
+  reached-within n = settling-within c (verified-is_bounded c accepted.valid accepted.verified) reached.stimuli trace s reached.run reached.idle stimulus allowed n
 
   -- any number of event steps after which no event waits gives the same state
   pub reached-same : (n : ℕ) → (plan_steps c.plan n (begin c.plan stimulus s)).waiting ≡ [] → plan_steps c.plan n (begin c.plan stimulus s) ≡ settled c.plan c.bound stimulus s
-  reached-same n idle = settled-same c (every_run_is_good c accepted) reached.stimuli trace s reached.run reached.idle stimulus allowed n idle
+  reached-same n idle = settled-same c (verified-is_bounded c accepted.valid accepted.verified) reached.stimuli trace s reached.run reached.idle stimulus allowed n idle
