@@ -19,3 +19,8 @@ pub mod Judging
 pub mod EventWords
 pub mod ReadBack
 pub mod CertificateLength
+pub mod Cycles
+pub mod Hearing
+pub mod Speaking
+pub mod Silence
+pub mod Good

@@ -1,1 +1,1 @@
-mod WhoRuns
+pub mod WhoRuns

@@ -9,7 +9,7 @@ use Rattle.config_checker.specs.GoodRun.{IsGood}
 use Rattle.config_checker.specs.View.{GivesChecked, fault_view}
 use Rattle.config_checker.specs.Checking.{checked_at}
 use Rattle.config_checker.specs.Refused.{IsLimitFault, IsFaultOf}
-use Rattle.config_checker.proofs.Cascade.{every_run_is_good}
+use Rattle.config_checker.proofs.Good.{every_run_is_good}
 use Rattle.config_checker.proofs.Judging.{one-gives, reports-gives, reports-there, limit-found, unfound-checked, unfound-fault, found-accepted}
 use Rattle.config_checker.proofs.checker.check.Goals as goal
 

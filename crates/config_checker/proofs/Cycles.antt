@@ -1,0 +1,95 @@
+-- A mode's own five events come in turn: which of them wait, by its phase.
+use Rattle.std.proofs.Common.{◌≡◌, ℕ, Bool, true, false, ◌==◌, cond, List, [], ◌∷◌, ◌++◌, refl, ap, ◌∙◌, rules}
+use Rattle.std.specs.List.{AllByRecursion}
+use Rattle.mpf_plan.specs.PlanView.{PlanView, work_of}
+use Rattle.mpf_plan.specs.declared.entries.ModeId.{ModeId}
+use Rattle.mpf_plan.specs.declared.entries.ModeEvent.{ModeEvent}
+use Rattle.mpf_plan.specs.declared.entries.ModeEvent.TheVariants.{WillStart, Starting, Started, Stopping, Stopped}
+use Rattle.mpf_plan.specs.declared.entries.Work.{Work}
+use Rattle.mpf_plan.specs.declared.entries.Work.TheVariants.{Nothing, Mode}
+use Rattle.mode_stack.specs.declared.phase.Phase.{Phase}
+use Rattle.mode_stack.specs.declared.phase.Phase.TheVariants as phases
+use Rattle.mode_stack.specs.ModeStep.{is_running}
+use Rattle.event_queue.specs.declared.queue.Posted.{Posted}
+
+-- those of the mode: of one event, and of the events that wait
+abbrev pub mine : ModeId → Work → List ModeEvent → List ModeEvent
+mine m Nothing rest = rest
+mine m (Mode k which) rest = cond (k.0 == m.0) (which ∷ rest) rest
+
+abbrev pub waiting_of : PlanView → ModeId → List Posted → List ModeEvent
+waiting_of plan m [] = []
+waiting_of plan m (p ∷ ps) = mine m (work_of plan p.event) (waiting_of plan m ps)
+
+-- Which of them may wait in a phase. The first is the one that is being handled, as long as its work is still to come.
+pub data IsTurn : Phase → List ModeEvent → Type 0 where
+  idle : IsTurn phases.Idle []
+  ends : IsTurn phases.Idle (Stopped ∷ [])
+  first : IsTurn phases.Starting (WillStart ∷ [])
+  again : IsTurn phases.Starting (Stopped ∷ WillStart ∷ [])
+  second : IsTurn phases.Starting (Starting ∷ [])
+  third : IsTurn phases.Starting (Started ∷ [])
+  active : IsTurn phases.Active []
+  stops : IsTurn phases.Stopping (Stopping ∷ [])
+
+mine-push : (m : ModeId) (w : Work) (xs ys : List ModeEvent) → mine m w (xs ++ ys) ≡ mine m w xs ++ ys
+mine-push m Nothing xs ys = refl
+mine-push m (Mode k which) xs ys = pick (k.0 == m.0) which xs ys
+  where
+    pick : (b : Bool) (which : ModeEvent) (xs ys : List ModeEvent) → cond b (which ∷ xs ++ ys) (xs ++ ys) ≡ cond b (which ∷ xs) xs ++ ys
+    pick true which xs ys = refl
+    pick false which xs ys = refl
+
+-- one event more waits
+pub waiting_of-push : (plan : PlanView) (m : ModeId) (ps : List Posted) (p : Posted) → waiting_of plan m (ps ++ p ∷ []) ≡ waiting_of plan m ps ++ mine m (work_of plan p.event) []
+waiting_of-push plan m [] p = refl
+waiting_of-push plan m (q ∷ ps) p =
+    ap (λ (xs : List ModeEvent). mine m (work_of plan q.event) xs) (waiting_of-push plan m ps p) ∙ mine-push m (work_of plan q.event) (waiting_of plan m ps) (mine m (work_of plan p.event) [])
+
+-- ---- from one phase to the next
+
+pub turn-start : (l : List ModeEvent) → IsTurn phases.Idle l → IsTurn phases.Starting (l ++ WillStart ∷ [])
+turn-start l idle = first
+turn-start l ends = again
+
+pub turn-stop : (l : List ModeEvent) → IsTurn phases.Active l → IsTurn phases.Stopping (l ++ Stopping ∷ [])
+turn-stop l active = stops
+
+pub turn-will_start : (p : Phase) (q : List ModeEvent) → IsTurn p (WillStart ∷ q) → IsTurn p (q ++ Starting ∷ [])
+turn-will_start p q first = second
+
+pub turn-starting : (p : Phase) (q : List ModeEvent) → IsTurn p (Starting ∷ q) → IsTurn p (q ++ Started ∷ [])
+turn-starting p q second = third
+
+pub turn-started : (p : Phase) (q : List ModeEvent) → IsTurn p (Started ∷ q) → IsTurn phases.Active q
+turn-started p q third = active
+
+pub turn-stopping : (p : Phase) (q : List ModeEvent) → IsTurn p (Stopping ∷ q) → IsTurn phases.Idle (q ++ Stopped ∷ [])
+turn-stopping p q stops = ends
+
+pub turn-stopped : (p : Phase) (q : List ModeEvent) → IsTurn p (Stopped ∷ q) → IsTurn p q
+turn-stopped p q ends = idle
+turn-stopped p q again = first
+
+pub stopped-quiet : (p : Phase) (q : List ModeEvent) → IsTurn p (Stopped ∷ q) → is_running p ≡ false
+stopped-quiet p q ends = refl
+stopped-quiet p q again = refl
+
+-- an event that is not the last of a mode's
+abbrev pub IsNoEnd : ModeEvent → Type 0
+IsNoEnd WillStart = Unit {0}
+IsNoEnd Starting = Unit {0}
+IsNoEnd Started = Unit {0}
+IsNoEnd Stopping = Unit {0}
+IsNoEnd Stopped = ⊥
+
+-- where the mode runs, its last event does not wait
+pub running-no_end : (p : Phase) (l : List ModeEvent) → IsTurn p l → is_running p ≡ true → AllByRecursion IsNoEnd l
+running-no_end p l active is = tt
+running-no_end p l stops is = (tt, tt)
+running-no_end p l idle is = absurd (search rules)
+running-no_end p l ends is = absurd (search rules)
+running-no_end p l first is = absurd (search rules)
+running-no_end p l again is = absurd (search rules)
+running-no_end p l second is = absurd (search rules)
+running-no_end p l third is = absurd (search rules)
