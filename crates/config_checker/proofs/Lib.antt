@@ -24,3 +24,4 @@ pub mod Hearing
 pub mod Speaking
 pub mod Silence
 pub mod Good
+pub mod PlanFree

@@ -10,6 +10,7 @@ use Rattle.config_checker.specs.View.{GivesChecked, fault_view}
 use Rattle.config_checker.specs.Checking.{checked_at}
 use Rattle.config_checker.specs.Refused.{IsLimitFault, IsFaultOf}
 use Rattle.config_checker.proofs.Good.{every_run_is_good}
+use Rattle.config_checker.proofs.PlanFree.{plan_free}
 use Rattle.config_checker.proofs.Judging.{one-gives, reports-gives, reports-there, limit-found, unfound-checked, unfound-fault, found-accepted}
 use Rattle.config_checker.proofs.checker.check.Goals as goal
 
@@ -42,4 +43,13 @@ returns-clause-exact c =
 pub returns-clause-good : goal.returns-clause-good
 returns-clause-good c =
     let valid = IsValid-plan_at (rows_view c.args.config.now) c.args.config.now.lists_short c.in_ok-plan.plan c.in_ok-plan.ensures.plan in
-    subst IsGood (sym c.new.ensures) (every_run_is_good _ (record { valid = valid; verified = c.in-Ok-verify.ensures.verified }))
+    subst IsGood (sym c.new.ensures) (every_run_is_good _ (record { valid = valid; free = plan_free (rows_view c.args.config.now) c.in_ok-plan.plan c.in_ok-plan.ensures.plan; verified = c.in-Ok-verify.ensures.verified }))
+
+pub new-requires : goal.new-requires
+new-requires c =
+    let rows = rows_view c.args.config.now in
+    record {
+      valid = IsValid-plan_at rows c.args.config.now.lists_short c.in_ok-plan.plan c.in_ok-plan.ensures.plan;
+      free = plan_free rows c.in_ok-plan.plan c.in_ok-plan.ensures.plan;
+      verified = c.in-Ok-verify.ensures.verified;
+    }

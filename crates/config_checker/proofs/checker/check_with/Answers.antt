@@ -13,6 +13,7 @@ use Rattle.config_checker.specs.View.{GivesChecked, fault_view}
 use Rattle.config_checker.specs.Checking.{certificate, bad_line, other_events, other_bound, same_names, checked_with_at}
 use Rattle.config_checker.specs.Refused.{IsLimitFault, IsFaultWith}
 use Rattle.config_checker.proofs.Good.{every_run_is_good}
+use Rattle.config_checker.proofs.PlanFree.{plan_free}
 use Rattle.config_checker.proofs.Judging.{one-gives, reports-gives, reports-there, limit-given, misread-checked, misread-fault, read-as, other_events-checked, other_events-fault, unverified-checked, unverified-fault, verified-checked, verified-text, other_bound-checked, other_bound-fault}
 use Rattle.config_checker.proofs.checker.check_with.Goals as goal
 
@@ -118,7 +119,7 @@ returns-in-Ok-2-clause-refused c =
 -- ---- accepted
 
 pub new-requires : goal.new-requires
-new-requires c = record { valid = IsValid-plan_at (rows_view c.args.config.now) c.args.config.now.lists_short c.in_ok-plan.plan c.in_ok-plan.ensures.plan; verified = c.in-Ok-verify.ensures.verified }
+new-requires c = record { valid = IsValid-plan_at (rows_view c.args.config.now) c.args.config.now.lists_short c.in_ok-plan.plan c.in_ok-plan.ensures.plan; free = plan_free (rows_view c.args.config.now) c.in_ok-plan.plan c.in_ok-plan.ensures.plan; verified = c.in-Ok-verify.ensures.verified }
 
 pub returns-in-Ok-verify-clause-exact : goal.returns-in-Ok-verify-clause-exact
 returns-in-Ok-verify-clause-exact c =
@@ -145,4 +146,4 @@ returns-in-Ok-verify-clause-text c =
 pub returns-in-Ok-verify-clause-good : goal.returns-in-Ok-verify-clause-good
 returns-in-Ok-verify-clause-good c =
     let valid = IsValid-plan_at (rows_view c.args.config.now) c.args.config.now.lists_short c.in_ok-plan.plan c.in_ok-plan.ensures.plan in
-    subst IsGood (sym c.new.ensures) (every_run_is_good _ (record { valid = valid; verified = c.in-Ok-verify.ensures.verified }))
+    subst IsGood (sym c.new.ensures) (every_run_is_good _ (record { valid = valid; free = plan_free (rows_view c.args.config.now) c.in_ok-plan.plan c.in_ok-plan.ensures.plan; verified = c.in-Ok-verify.ensures.verified }))
