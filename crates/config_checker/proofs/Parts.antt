@@ -1,5 +1,5 @@
 -- What each part of the machine does, and by which licence.
-use Rattle.std.proofs.Common.{◌≡◌, ◌<◌, Bool, true, false, if◌then◌else◌, Option, Some, None, List, [], length, refl, sym, subst, inl, inr, arith}
+use Rattle.std.proofs.Common.{◌≡◌, ◌<◌, ◌≤◌, Bool, true, false, if◌then◌else◌, Option, Some, None, List, [], length, refl, sym, ap, subst, inl, inr, arith}
 use Rattle.std.specs.List.{All}
 use Rattle.std.proofs.lemmas.Bool.{cases_lt}
 use Rattle.std.proofs.lemmas.List.{get_or_past}
@@ -197,3 +197,14 @@ module _ (plan : PlanView) where
   -- whether a stop was kept or not
   pub does-after : (kept : Bool) (e : EventId) (s : Machine) → Does plan (MayWork plan) (cost_of_work plan e) s (do_after plan kept (work_of plan e) s)
   does-after kept e s = does-after_work kept (work_of plan e) e (work_found plan e) s
+
+  -- there is no work beyond the events of the plan
+  pub no_work-past : HasEntries plan → (e : EventId) → length plan.events ≤ e.0 → Nothing ≡ work_of plan e
+  no_work-past entries e past = by (work_of plan e) (work_found plan e)
+    where
+      by : (w : Work) → IsWorkAt plan e w → Nothing ≡ w
+      by Nothing h = refl
+      by (Mode m which) h =
+          let within = mode_event-within plan entries m which h.0 in
+          let same = ap (λ (x : EventId). x.0) h.1 in
+          absurd (omega (arith, within, same, past))

@@ -23,15 +23,17 @@ use Rattle.mode_stack.proofs.WhoRuns.{starting_keeps_who_runs}
 use Rattle.cascade_rank.specs.Cost.{Cost}
 use Rattle.event_queue.specs.declared.queue.Posted.{Posted}
 use Rattle.event_queue.specs.Handlers.{takes_part}
+use Rattle.event_queue.specs.PlanOrder.{by_priority}
+use Rattle.event_queue.proofs.Sort.{by_priority-is_order}
 use Rattle.config_checker.specs.declared.line.Line.{Line}
 use Rattle.config_checker.specs.declared.line.Happening.TheVariants as lines
 use Rattle.config_checker.specs.FreePosts.{PostsAreFree}
-use Rattle.config_checker.specs.Machine.{Machine, initial, post, set_mode, has_game, stop_mode}
-use Rattle.config_checker.specs.EventStep.{taken, before_handlers, do_before, do_after}
+use Rattle.config_checker.specs.Machine.{Machine, initial, post, set_mode, has_game, stop_mode, all_do, do_handler}
+use Rattle.config_checker.specs.EventStep.{taken, before_handlers, handlers_in, do_before, do_after}
 use Rattle.config_checker.specs.Run.{Stimulus, moment_of, IsAllowed, arrived, begin, IsRun}
 use Rattle.config_checker.specs.Silent.{HasStarted, IsSilent}
 use Rattle.config_checker.proofs.Does.{Move, Wrote, Sent, Switched, Began, Ended, Marked, do_move, start-by, stop-by, MayDo, Does, does-keeps}
-use Rattle.config_checker.proofs.Parts.{TakesPart, IsMachine, ordinary, MayHandle, MayBegin, does-begin}
+use Rattle.config_checker.proofs.Parts.{TakesPart, IsMachine, ordinary, MayHandle, MayBegin, does-order, does-begin}
 use Rattle.config_checker.proofs.Keeps.{step-keeps, run-keeps}
 use Rattle.config_checker.proofs.Cycles.{mine, waiting_of, IsTurn, idle, turn-will_start, turn-starting, turn-started, turn-stopping, turn-stopped, stopped-quiet}
 use Rattle.config_checker.proofs.Hearing.{Said, written, all_written, awaited, all_awaited, heard_at, heard_after, heard, IsFine, heard-push, fine-push, fine-silent}
@@ -55,6 +57,14 @@ module _ (plan : PlanView) (by : Owner → Type 0) (switches : Type 0) where
   pub still-does : {c : Cost} {s t : Machine} → Does plan (MayDo plan (ordinary plan by switches)) c s t → running_of t.modes ≡ running_of s.modes
   still-does {c} {s} {t} d =
       does-keeps plan (MayDo plan (ordinary plan by switches)) (λ u. running_of u.modes ≡ running_of s.modes) (λ x u may h. still-move x u may ∙ h) d refl
+
+module _ (plan : PlanView) where
+  -- nor does it while they run in plan order, nor at the beginning of a stimulus
+  pub handlers-still : (s : Machine) (e : EventId) → running_of (all_do (do_handler plan) (by_priority plan (handlers_in plan s e)) s).modes ≡ running_of s.modes
+  handlers-still s e = still-does plan (TakesPart s) ⊥ (does-order plan s e (by_priority plan (handlers_in plan s e)) (by_priority-is_order plan (handlers_in plan s e)))
+
+  pub begin-still : (stimulus : Stimulus) (s : Machine) → running_of (begin plan stimulus s).modes ≡ running_of s.modes
+  begin-still stimulus s = still-does plan IsMachine (Unit {0}) (does-begin plan stimulus s)
 
 -- an event of the mode is being handled until its work is done
 abbrev pub still_due : ModeEvent → List ModeEvent

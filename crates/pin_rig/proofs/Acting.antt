@@ -10,9 +10,11 @@ use Rattle.config_checker.specs.Run.{Stimulus, Change, Alarm, Wait, IsAllowed, b
 use Rattle.config_checker.specs.CheckedView.{CheckedView}
 use Rattle.config_checker.specs.Accepted.{IsAccepted}
 use Rattle.config_checker.proofs.PlanSteps.{plan_steps-event_steps}
-use Rattle.config_checker.proofs.Reached.{reached-next, reached-within, reached-same, reached-kinds, reached-complete}
+use Rattle.config_checker.proofs.Reached.{reached-next, reached-within, reached-same, reached-kinds, reached-complete, reached-modes}
+use Rattle.config_checker.proofs.Silence.{begin-still}
 use Rattle.pin_rig.specs.declared.input.Input.{Input}
-use Rattle.pin_rig.specs.Core.{CoreView, IsPlayable, HasRoom, StaysWithin, HasSettled, after}
+use Rattle.pin_rig.specs.Core.{CoreView, HandlesFor, IsPlayable, HasRoom, StaysWithin, HasSettled, after}
+use Rattle.pin_rig.proofs.Settling.{follows-handles}
 use Rattle.pin_rig.specs.Rig.{RigView, stimulus_at, RigStep}
 use Rattle.pin_rig.specs.Inside.{IsHeld}
 use Rattle.pin_rig.proofs.Judging.{judged-allowed, judged-asks, AsksFor}
@@ -42,6 +44,10 @@ module _ (c : CheckedView) (core : CoreView) (held : IsHeld c core) (accepted : 
       let within = reached-within c accepted held.reached.0 core.machine held.reached.1 stimulus allowed n in
       let room = held.room in
       record { waiting = omega (arith, within, room); lines = omega (arith, within, room) }
+
+  -- the same modes run once the stimulus has begun
+  begun-handles : HandlesFor c.plan (after (begin c.plan stimulus) core)
+  begun-handles = held.core_is.handlers ∙ (λ i. record { plan = c.plan; running = sym (begin-still c.plan stimulus core.machine) i })
 
   module _ (new : CoreView) (settled : HasSettled c.plan (after (begin c.plan stimulus) core) new) where
     -- as many steps as the bound allows lead to the same state
@@ -76,7 +82,8 @@ module _ (c : CheckedView) (core : CoreView) (held : IsHeld c core) (accepted : 
         let trace = held.reached.0 ++ (plan_steps c.plan c.bound begun).lines in
         record {
           core_is = record {
-            handlers = ap (λ (v : CoreView). v.handlers) settled.new_is ∙ held.core_is.handlers;
+            modes = reached-modes c.plan trace new.machine reached;
+            handlers = follows-handles c.plan (plan_steps c.plan settled.count) (after (begin c.plan stimulus) core) new begun-handles settled.new_is;
             kinds = ap (λ (kinds : List SwitchKind). length kinds) (reached-kinds c.plan trace new.machine reached) ∙ length-map c.plan.switches (λ s. s.kind);
             complete = reached-complete c.plan trace new.machine reached accepted.valid;
           };
@@ -90,6 +97,11 @@ module _ (c : CheckedView) (core : CoreView) (held : IsHeld c core) (accepted : 
     begun-room = subst (λ (p : PlanView). HasRoom core.room (begin p stimulus core.machine)) (sym plan_is) (stays 0)
 
     module _ (begun_core : CoreView) (begun_is : begun_core ≡ after (begin plan stimulus) core) where
+      pub begun_core-handles : HandlesFor plan begun_core
+      begun_core-handles =
+          subst (HandlesFor plan) (sym begun_is)
+          (subst (λ (p : PlanView). HandlesFor p (after (begin p stimulus) core)) (sym plan_is) begun-handles)
+
       pub begun-stays : StaysWithin plan begun_core.room begun_core.machine
       begun-stays =
           subst (λ (v : CoreView). StaysWithin plan v.room v.machine) (sym begun_is)

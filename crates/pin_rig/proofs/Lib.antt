@@ -2,6 +2,8 @@ pub mod Alarms
 pub mod Judging
 pub mod Room
 pub mod Handling
+pub mod Stepping
 pub mod Settling
 pub mod Acting
 pub mod Running
+pub mod Following

@@ -15,7 +15,7 @@ use Rattle.pin_rig.specs.Core.{CoreView, TakesFirst, HasRoom, after}
 abbrev pub Grows : Machine → Machine → Type 0
 Grows s t = (length s.lines ≤ length t.lines) × (length s.waiting ≤ length t.waiting)
 
-room-before : (room : ℕ) (s t : Machine) → Grows s t → HasRoom room t → HasRoom room s
+pub room-before : (room : ℕ) (s t : Machine) → Grows s t → HasRoom room t → HasRoom room s
 room-before room s t g h =
     let lines = g.0 in
     let waiting = g.1 in

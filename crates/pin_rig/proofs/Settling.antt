@@ -1,38 +1,69 @@
 -- One event step more in plan order, from a core whose steps all have room.
-use Rattle.std.proofs.Common.{◌≡◌, ℕ, ◌+◌, ◌-◌, ◌<◌, List, [], ◌∷◌, length, ap, sym, ◌∙◌, subst, arith}
-use Rattle.mpf_plan.specs.PlanView.{PlanView}
+use Rattle.std.proofs.Common.{◌≡◌, ℕ, ◌+◌, ◌-◌, ◌<◌, List, [], ◌∷◌, length, refl, ap, sym, ◌∙◌, subst, arith}
+use Rattle.mpf_plan.specs.PlanView.{PlanView, work_of}
+use Rattle.mpf_plan.specs.declared.entries.ModeEvent.TheVariants.{WillStart, Starting, Started, Stopping, Stopped}
+use Rattle.mpf_plan.specs.declared.entries.Work.{Work}
+use Rattle.mpf_plan.specs.declared.entries.Work.TheVariants.{Nothing, Mode}
+use Rattle.mode_stack.specs.Modes.{running_of}
 use Rattle.event_queue.specs.declared.queue.Posted.{Posted}
-use Rattle.event_queue.specs.PlanOrder.{in_order}
+use Rattle.event_queue.specs.PlanOrder.{by_priority}
 use Rattle.config_checker.specs.declared.line.Happening.TheVariants as happenings
 use Rattle.config_checker.specs.Machine.{Machine, write, all_do, do_handler}
-use Rattle.config_checker.specs.EventStep.{taken}
+use Rattle.config_checker.specs.EventStep.{taken, is_kept, do_after, before_handlers, handlers_in}
 use Rattle.config_checker.specs.PlanOrder.{plan_step_from, plan_step, plan_steps}
 use Rattle.config_checker.proofs.Growth.{event-grows}
 use Rattle.config_checker.proofs.PlanSteps.{plan_steps-more}
-use Rattle.pin_rig.specs.Core.{CoreView, HasRoom, StaysWithin, after}
+use Rattle.pin_rig.specs.Core.{CoreView, HandlesFor, HasRoom, StaysWithin, after, follow, after_taken}
+
+-- whether a stop was kept is the same before and after the event is taken
+kept-same : (w : Work) (first : Posted) (rest : List Posted) (s : Machine) → is_kept w (taken first rest s) ≡ is_kept w s
+kept-same Nothing first rest s = refl
+kept-same (Mode m WillStart) first rest s = refl
+kept-same (Mode m Starting) first rest s = refl
+kept-same (Mode m Started) first rest s = refl
+kept-same (Mode m Stopping) first rest s = refl
+kept-same (Mode m Stopped) first rest s = refl
+
+-- an event that is taken, and what is done then, is an event step
+taken-step : (plan : PlanView) (first : Posted) (rest : List Posted) (s : Machine) → after_taken plan first.event (taken first rest s) ≡ plan_step_from plan (first ∷ rest) s
+taken-step plan first rest s =
+    let ready = before_handlers plan first rest s in
+    ap (λ kept. do_after plan kept (work_of plan first.event) (all_do (do_handler plan) (by_priority plan (handlers_in plan ready first.event)) ready)) (kept-same (work_of plan first.event) first rest s)
+
+-- a core that went on so has the handlers of the modes that run
+pub follows-handles : (plan : PlanView) (does : Machine → Machine) (start now : CoreView) → HandlesFor plan start → now ≡ follow does start → HandlesFor plan now
+follows-handles plan does start now was is = subst (HandlesFor plan) (sym is) (λ i. record { plan = (was i).plan; running = running_of (does start.machine).modes })
+
+-- after no step it is the same core
+pub follow-none : (plan : PlanView) (c : CoreView) → HandlesFor plan c → c ≡ follow (plan_steps plan 0) c
+follow-none plan c was = λ i. record { handlers = record { plan = c.handlers.plan; running = (ap (λ h. h.running) was) i }; machine = c.machine; room = c.room }
 
 -- After so many event steps of a core that has room for all of them, an event waits.
-module _ (plan : PlanView) (start now : CoreView) (stays : StaysWithin plan start.room start.machine)
-    (count : ℕ) (is : now ≡ after (plan_steps plan count) start) (first : Posted) (rest : List Posted) (waits : now.machine.waiting ≡ first ∷ rest) where
+module _ (plan : PlanView) (start now : CoreView) (was : HandlesFor plan start) (stays : StaysWithin plan start.room start.machine)
+    (count : ℕ) (is : now ≡ follow (plan_steps plan count) start) (first : Posted) (rest : List Posted) (waits : now.machine.waiting ≡ first ∷ rest) where
   -- it is taken and handled
   abbrev pub handled : Machine
-  handled = all_do (do_handler plan) (in_order plan [] first.event) (taken first rest now.machine)
+  handled = after_taken plan first.event (taken first rest now.machine)
 
   step-is : plan_step plan now.machine ≡ handled
-  step-is = ap (λ (ps : List Posted). plan_step_from plan ps now.machine) waits
+  step-is = ap (λ (ps : List Posted). plan_step_from plan ps now.machine) waits ∙ sym (taken-step plan first rest now.machine)
 
   steps-are : plan_steps plan (count + 1) start.machine ≡ handled
   steps-are = plan_steps-more plan count start.machine ∙ ap (λ (c : CoreView). plan_step plan c.machine) (sym is) ∙ step-is
 
-  pub handled-room : HasRoom now.room handled
+  handled-room : HasRoom now.room handled
   handled-room =
       subst (λ (room : ℕ). HasRoom room handled) (ap (λ (c : CoreView). c.room) (sym is))
       (subst (HasRoom start.room) steps-are (stays (count + 1)))
 
-  pub line-more : length now.machine.lines < length handled.lines
-  line-more = (event-grows plan first rest (in_order plan [] first.event) now.machine).0
+  line-more : length now.machine.lines < length handled.lines
+  line-more =
+      let ready = before_handlers plan first rest now.machine in
+      let grown = (event-grows plan first rest (by_priority plan (handlers_in plan ready first.event)) now.machine).0 in
+      let same = ap (λ (s : Machine). length s.lines) (taken-step plan first rest now.machine) in
+      omega (arith, grown, same)
 
-  pub line-room : length now.machine.lines < now.room
+  line-room : length now.machine.lines < now.room
   line-room = let fits = handled-room.lines in omega (arith, line-more, fits)
 
   -- its line is written
@@ -43,16 +74,22 @@ module _ (plan : PlanView) (start now : CoreView) (stays : StaysWithin plan star
     written-is : written ≡ after (taken first rest) now
     written-is = written_is ∙ ap (after (write first.owner (happenings.Event first.event))) took_is
 
-    pub written-room : HasRoom written.room (all_do (do_handler plan) (in_order plan [] first.event) written.machine)
-    written-room = subst (λ (c : CoreView). HasRoom c.room (all_do (do_handler plan) (in_order plan [] first.event) c.machine)) (sym written-is) handled-room
+    pub written-handles : HandlesFor plan written
+    written-handles = subst (HandlesFor plan) (sym written-is) (follows-handles plan (plan_steps plan count) start now was is)
 
-    -- its handlers run: that is one step more, and one line more at least
-    module _ (next : CoreView) (next_is : next ≡ after (all_do (do_handler plan) (in_order plan [] first.event)) written) where
-      next-handled : next ≡ record now { machine = handled }
-      next-handled = next_is ∙ ap (after (all_do (do_handler plan) (in_order plan [] first.event))) written-is
+    pub written-room : HasRoom written.room (after_taken plan first.event written.machine)
+    written-room = subst (λ (c : CoreView). HasRoom c.room (after_taken plan first.event c.machine)) (sym written-is) handled-room
 
-      pub next-steps : next ≡ after (plan_steps plan (count + 1)) start
-      next-steps = next-handled ∙ ap (λ (c : CoreView). record c { machine = handled }) is ∙ ap (λ (s : Machine). record start { machine = s }) (sym steps-are)
+    -- what is done then is one step more, and one line more at least
+    module _ (next : CoreView) (next_is : next ≡ follow (after_taken plan first.event) written) where
+      next-handled : next ≡ record { handlers = record { plan = now.handlers.plan; running = running_of handled.modes }; machine = handled; room = now.room }
+      next-handled = next_is ∙ ap (follow (after_taken plan first.event)) written-is
+
+      pub next-steps : next ≡ follow (plan_steps plan (count + 1)) start
+      next-steps =
+          next-handled
+          ∙ (λ i. record { handlers = record { plan = (is i).handlers.plan; running = running_of handled.modes }; machine = handled; room = (is i).room })
+          ∙ (λ i. record { handlers = record { plan = start.handlers.plan; running = running_of (sym steps-are i).modes }; machine = sym steps-are i; room = start.room })
 
       pub next-smaller : next.room - length next.machine.lines < now.room - length now.machine.lines
       next-smaller =

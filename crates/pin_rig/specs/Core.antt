@@ -1,11 +1,16 @@
 -- The state that a rig keeps, and what is done with it.
 use Rattle.std.specs.Prelude.{◌≡◌, ℕ, ◌<◌, ◌≤◌, ◌^◌, Option, Some, None, List, [], ◌∷◌, length}
 use Rattle.mpf_plan.specs.PlanView.{PlanView}
+use Rattle.mpf_plan.specs.declared.entries.Work.{Work}
+use Rattle.mpf_plan.specs.declared.entries.Work.TheVariants.{Nothing, Mode}
 use Rattle.switch_core.specs.Switches.{IsComplete}
 use Rattle.event_queue.specs.declared.queue.Posted.{Posted}
 use Rattle.event_queue.specs.Handlers.{HandlersView}
 use Rattle.mode_stack.specs.Modes.{running_of}
-use Rattle.config_checker.specs.Machine.{Machine}
+use Rattle.mpf_plan.specs.declared.entries.EventId.{EventId}
+use Rattle.event_queue.specs.PlanOrder.{by_priority}
+use Rattle.config_checker.specs.Machine.{Machine, all_do, do_handler}
+use Rattle.config_checker.specs.EventStep.{work_before, work_after, handlers_in}
 use Rattle.config_checker.specs.Run.{Stimulus, Change, Alarm, Wait}
 use Rattle.config_checker.specs.NextAlarm.{next_alarm}
 use Rattle.config_checker.specs.PlanOrder.{plan_steps}
@@ -21,10 +26,33 @@ pub record CoreView : Type 0 where
 abbrev pub after : (Machine → Machine) → CoreView → CoreView
 after does c = record c { machine = does c.machine }
 
+-- the same, where which modes run may have changed: its handlers are those of the modes that run now
+abbrev pub follow : (Machine → Machine) → CoreView → CoreView
+follow does c = record {
+  handlers = record { plan = c.handlers.plan; running = running_of (does c.machine).modes };
+  machine = does c.machine;
+  room = c.room;
+}
+
+-- it has the handlers of the modes that run
+abbrev pub HandlesFor : PlanView → CoreView → Type 0
+HandlesFor plan c = c.handlers ≡ record { plan = plan; running = running_of c.machine.modes }
+
+-- the work is none, or that of a mode of the plan
+abbrev pub IsWorkOf : PlanView → Work → Type 0
+IsWorkOf plan Nothing = Unit {0}
+IsWorkOf plan (Mode m which) = m.0 < length plan.modes
+
+-- what is done in plan order at an event that was taken
+abbrev pub after_taken : PlanView → EventId → Machine → Machine
+after_taken plan e s =
+    let ready = work_before plan e s in
+    work_after plan e s (all_do (do_handler plan) (by_priority plan (handlers_in plan ready e)) ready)
+
 -- the machine of the plan is kept: it has its modes, the handlers of those that run, and all its switches
 pub record IsCoreOf (plan : PlanView) (c : CoreView) : Type 0 where
   pub modes : length c.machine.modes ≡ length plan.modes
-  pub handlers : c.handlers ≡ record { plan = plan; running = running_of c.machine.modes }
+  pub handlers : HandlesFor plan c
   pub kinds : length c.machine.switches.kinds ≡ length plan.switches
   pub complete : IsComplete c.machine.switches
 
@@ -51,5 +79,5 @@ StaysWithin plan room s = (n : ℕ) → HasRoom room (plan_steps plan n s)
 -- so many event steps in plan order that nothing waits any more
 pub record HasSettled (plan : PlanView) (old new : CoreView) : Type 0 where
   pub count : ℕ
-  pub new_is : new ≡ after (plan_steps plan count) old
+  pub new_is : new ≡ follow (plan_steps plan count) old
   pub settles : new.machine.waiting ≡ []

@@ -1,9 +1,12 @@
 //! The state of a machine, with room for the events that wait and the lines.
 
-ghost use Rattle.std.specs.Prelude.{◌≡◌, ◌^◌, ◌<◌, Some, IfOk, IfSome, IsSome, length, option_map, slice_get};
-ghost use Rattle.event_queue.specs.PlanOrder.{in_order};
+ghost use Rattle.std.specs.Prelude.{◌≡◌, ◌^◌, ◌<◌, ◌≤◌, Some, true, false, IfOk, IfSome, IsSome, length, option_map};
+ghost use Rattle.event_queue.specs.Handlers.{set_running};
+ghost use Rattle.event_queue.specs.PlanOrder.{bound_in_order, GoesOn};
+ghost use Rattle.mode_stack.specs.ModeStep.{starts, started, stopped, stop_answer, entered, ended};
+ghost use Rattle.mode_stack.specs.Modes.{needs_game, mode_state};
 ghost use Rattle.switch_core.specs.Switches.{after_change, reported_by_change, next_due, after_fire, reported_by_fire};
-ghost use Rattle.config_checker.specs.Machine.{initial, write, post, set_switches};
+ghost use Rattle.config_checker.specs.Machine.{initial, write, post, set_switches, set_mode, is_post};
 ghost use Rattle.config_checker.specs.Run.{arrived};
 ghost use Rattle.config_checker.specs.NextAlarm.{next_alarm, is_due_by};
 ghost use Rattle.pin_rig.specs.Core.{IsCoreOf, TakesFirst, after};
@@ -12,40 +15,42 @@ ghost use Rattle.pin_rig.specs.Inside.{alarm_view};
 use crate::stimulus::Source;
 use config_checker::{Happening, Line};
 use event_queue::{Handlers, Posted, Queue};
-use mpf_plan::{BindingId, EventId, Owner, Plan, SwitchId};
+use mode_stack::{Modes, StopAnswer};
+use mpf_plan::{BindingId, EventId, ModeId, Owner, Plan, SwitchId};
 use std::alloc::{AllocError, Global};
 use std::marker::Model;
 use switch_core::{Change, Switches};
 
-/// The moment of the latest stimulus, the switches, the events that wait and what handles them,
-/// and the lines of the latest stimulus. Only `new` takes memory.
+/// The moment of the latest stimulus, the switches, the modes, the events that wait and what
+/// handles them, and the lines of the latest stimulus. Only `new` takes memory.
 #[derive(Drop)]
 pub(crate) struct Core<'p> {
     moment: u64,
     switches: Switches,
+    modes: Modes<'p>,
     queue: Queue,
     handlers: Handlers<'p>,
     lines: Vec<Line>,
 }
 
 impl<'p> Model for Core<'p> {
-    ghost use Rattle.std.specs.Prelude.{◌≤◌, vec_capacity};
+    ghost use Rattle.std.specs.Prelude.{◌≡◌, ◌≤◌, vec_capacity};
     ghost use Rattle.pin_rig.specs.Core.{CoreView};
 
     ghost Value = { CoreView };
 
     ghost view = { λ c. record {
       handlers = c.handlers;
-      machine = record { moment = c.moment; switches = c.switches; waiting = c.queue.waiting; lines = c.lines.items };
+      machine = record { moment = c.moment; switches = c.switches; modes = c.modes.modes; waiting = c.queue.waiting; lines = c.lines.items };
       room = c.queue.size;
     } };
 
-    ghost invariant = { λ c. c.queue.size ≤ vec_capacity c.lines };
+    ghost invariant = { λ c. (c.queue.size ≤ vec_capacity c.lines) × (c.modes.plan ≡ c.handlers.plan) };
 }
 
 impl<'p> Core<'p> {
-    /// The plan's machine at moment 0, with all switches inactive, and with room for so many
-    /// events that wait and so many lines.
+    /// The plan's machine at moment 0, with all switches inactive and all modes idle, and with room
+    /// for so many events that wait and so many lines.
     pub(crate) fn new(alloc: Global, plan: &'p Plan, room: usize) -> Result<Core<'p>, AllocError>
         ensures machine { IfOk result (λ c. c.machine ≡ initial plan.now) }
         ensures plan { IfOk result (λ c. IsCoreOf plan.now c) }
@@ -54,6 +59,7 @@ impl<'p> Core<'p> {
         Ok(Core {
             moment: 0,
             switches: Switches::new(alloc, plan)?,
+            modes: Modes::new(alloc, plan)?,
             queue: Queue::new(alloc, room)?,
             handlers: Handlers::new(alloc, plan)?,
             lines: Vec::with_capacity(alloc, room)?,
@@ -131,12 +137,54 @@ impl<'p> Core<'p> {
         self.queue.take()
     }
 
-    /// The place of the `k`-th handler of an event, counted from 0, in plan order.
-    pub(crate) fn handler(&self, event: EventId, k: usize) -> Option<BindingId>
-        ensures handler { result ≡ slice_get (in_order self.now.handlers.plan self.now.handlers.running event) k }
-        ensures within { IfSome result (λ b. b.0 < length self.now.handlers.plan.bindings) }
+    /// The place of the next handler of an event in plan order, and where the walk over them goes
+    /// on. It begins with `from` as 0.
+    pub(crate) fn handler(&self, event: EventId, from: usize) -> Option<(BindingId, usize)>
+        ensures walk { GoesOn self.now.handlers.plan self.now.handlers.running event from result }
+        ensures further { IfSome result (λ step. (from < step.1) × (step.1 ≤ length (bound_in_order self.now.handlers.plan event))) }
+        ensures within { IfSome result (λ step. step.0.0 < length self.now.handlers.plan.bindings) }
     {
-        self.handlers.nth(event, k)
+        self.handlers.next(event, from)
+    }
+
+    /// A mode is told to start. Reports whether it starts.
+    pub(crate) fn start(&mut self, mode: ModeId) -> bool
+        requires { mode.0 < length self.old.handlers.plan.modes }
+        ensures started { self.new ≡ after (set_mode mode (started (needs_game self.old.handlers.plan mode) false (mode_state self.old.machine.modes mode))) self.old }
+        ensures starts { result ≡ starts (needs_game self.old.handlers.plan mode) false (mode_state self.old.machine.modes mode).phase }
+    {
+        self.modes.start(mode, false)
+    }
+
+    /// A mode is told to stop. Reports whether its event for that is to be posted.
+    pub(crate) fn stop(&mut self, mode: ModeId) -> bool
+        requires { mode.0 < length self.old.handlers.plan.modes }
+        ensures stopped { self.new ≡ after (set_mode mode (stopped (mode_state self.old.machine.modes mode))) self.old }
+        ensures posts { result ≡ is_post (stop_answer (mode_state self.old.machine.modes mode).phase) }
+    {
+        match self.modes.stop(mode) {
+            StopAnswer::Post => true,
+            StopAnswer::Kept | StopAnswer::Ignored => false,
+        }
+    }
+
+    /// A mode is active, and its bindings are handlers. Reports whether a stop was kept for it.
+    pub(crate) fn enter(&mut self, mode: ModeId) -> bool
+        requires { mode.0 < length self.old.handlers.plan.modes }
+        ensures entered { self.new ≡ record self.old { machine = set_mode mode (entered (mode_state self.old.machine.modes mode)) self.old.machine; handlers = set_running self.old.handlers mode true } }
+        ensures kept { result ≡ (mode_state self.old.machine.modes mode).kept }
+    {
+        self.handlers.add_owner(mode);
+        self.modes.entered(mode)
+    }
+
+    /// A mode is idle, and its bindings are no handlers.
+    pub(crate) fn end(&mut self, mode: ModeId)
+        requires { mode.0 < length self.old.handlers.plan.modes }
+        ensures { self.new ≡ record self.old { machine = set_mode mode (ended (mode_state self.old.machine.modes mode)) self.old.machine; handlers = set_running self.old.handlers mode false } }
+    {
+        self.handlers.drop_owner(mode);
+        self.modes.ended(mode);
     }
 
     /// A switch that there is has a new raw level. Reports where it is accepted at once.

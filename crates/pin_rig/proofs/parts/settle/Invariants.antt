@@ -1,11 +1,11 @@
 use Rattle.std.proofs.Common.{◌≡◌, ℕ, ◌-◌, length}
 use Rattle.config_checker.specs.PlanOrder.{plan_steps}
-use Rattle.pin_rig.specs.Core.{after}
+use Rattle.pin_rig.specs.Core.{follow}
 use Rattle.pin_rig.proofs.parts.settle.Given as goal
 
 -- so many event steps in plan order were taken
 abbrev pub invariant-loop-first : goal.invariant-loop-first
-invariant-loop-first l = (count : ℕ) × (l.core ≡ after (plan_steps l.plan count) l.fn.core)
+invariant-loop-first l = (count : ℕ) × (l.core ≡ follow (plan_steps l.plan count) l.fn.core)
 
 -- each gives a line
 abbrev pub decreases-loop-first : goal.decreases-loop-first

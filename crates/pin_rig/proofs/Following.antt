@@ -1,0 +1,63 @@
+-- What is done with the modes, and with the handlers of those that run.
+use Rattle.std.proofs.Common.{◌≡◌, ℕ, zero, suc, Bool, true, false, List, ◌∷◌, length, set, replicate, refl, sym, ap, ◌∙◌}
+use Rattle.std.proofs.lemmas.List.{map-set}
+use Rattle.mpf_plan.specs.PlanView.{PlanView, mode_event}
+use Rattle.mpf_plan.specs.declared.entries.ModeEvent.TheVariants.{Started, Stopping, Stopped}
+use Rattle.mpf_plan.specs.declared.entries.Owner.TheVariants as owners
+use Rattle.mpf_plan.specs.declared.entries.Work.TheVariants.{Mode}
+use Rattle.mpf_plan.specs.declared.entries.ModeId.{ModeId}
+use Rattle.mode_stack.specs.declared.phase.Phase.TheVariants as phases
+use Rattle.mode_stack.specs.declared.phase.ModeState.{ModeState}
+use Rattle.mode_stack.specs.ModeStep.{in_phase, is_running, entered, ended}
+use Rattle.mode_stack.specs.Modes.{mode_state, running_of}
+use Rattle.mode_stack.specs.Modes as modes
+use Rattle.mode_stack.proofs.WhoRuns.{starting_keeps_who_runs}
+use Rattle.event_queue.specs.Handlers.{none_running, set_running}
+use Rattle.config_checker.specs.Machine.{Machine, post, set_mode, stop_mode}
+use Rattle.config_checker.specs.EventStep.{do_before, do_after}
+use Rattle.config_checker.proofs.Does.{stop-by}
+use Rattle.pin_rig.specs.Core.{CoreView, after, follow}
+
+-- where the same modes run, the handlers are the same
+pub follow-still : (does : Machine → Machine) (c : CoreView) → c.handlers.running ≡ running_of c.machine.modes → running_of (does c.machine).modes ≡ running_of c.machine.modes → after does c ≡ follow does c
+follow-still does c was still = λ i. record { handlers = record { plan = c.handlers.plan; running = (was ∙ sym still) i }; machine = does c.machine; room = c.room }
+
+-- a mode that is told to stop goes on running, if it ran
+pub stop-still : (plan : PlanView) (m : ModeId) (s : Machine) → running_of (stop_mode plan m s).modes ≡ running_of s.modes
+stop-still plan m s =
+    let same = starting_keeps_who_runs.stop s.modes m in
+    stop-by plan m s (λ t. running_of t.modes ≡ running_of s.modes) same same
+
+abbrev runs : ModeState → Bool
+runs s = is_running s.phase
+
+-- a mode that is entered runs, and one that has ended does not
+pub entered-runs : (states : List ModeState) (m : ModeId) (running : List Bool) → running ≡ running_of states → set running m.0 true ≡ running_of (set states m.0 (entered (mode_state states m)))
+entered-runs states m running is = ap (λ (bs : List Bool). set bs m.0 true) is ∙ sym (map-set runs states m.0 (in_phase phases.Active))
+
+pub ended-runs : (states : List ModeState) (m : ModeId) (running : List Bool) → running ≡ running_of states → set running m.0 false ≡ running_of (set states m.0 (ended (mode_state states m)))
+ended-runs states m running is = ap (λ (bs : List Bool). set bs m.0 false) is ∙ sym (map-set runs states m.0 (in_phase phases.Idle))
+
+-- at the beginning none runs
+none_runs : (n : ℕ) → replicate n false ≡ running_of (modes.all_idle n)
+none_runs zero = refl
+none_runs (suc n) = ap (λ (bs : List Bool). false ∷ bs) (none_runs n)
+
+pub idle-runs : (plan : PlanView) → none_running plan ≡ running_of (modes.all_idle (length plan.modes))
+idle-runs plan = none_runs (length plan.modes)
+
+-- the core of a mode that is entered, and of one that has ended
+pub entered-follows : (c : CoreView) (m : ModeId) → c.handlers.running ≡ running_of c.machine.modes
+    → record c { machine = set_mode m (entered (mode_state c.machine.modes m)) c.machine; handlers = set_running c.handlers m true } ≡ follow (do_before (Mode m Started)) c
+entered-follows c m is =
+    λ i. record { handlers = record { plan = c.handlers.plan; running = entered-runs c.machine.modes m c.handlers.running is i }; machine = set_mode m (entered (mode_state c.machine.modes m)) c.machine; room = c.room }
+
+pub ended-follows : (plan : PlanView) (kept : Bool) (c : CoreView) (m : ModeId) → c.handlers.running ≡ running_of c.machine.modes
+    → after (post owners.Machine (mode_event plan m Stopped)) (record c { machine = set_mode m (ended (mode_state c.machine.modes m)) c.machine; handlers = set_running c.handlers m false })
+    ≡ follow (do_after plan kept (Mode m Stopping)) c
+ended-follows plan kept c m is =
+    λ i. record {
+      handlers = record { plan = c.handlers.plan; running = ended-runs c.machine.modes m c.handlers.running is i };
+      machine = post owners.Machine (mode_event plan m Stopped) (set_mode m (ended (mode_state c.machine.modes m)) c.machine);
+      room = c.room;
+    }

@@ -1,0 +1,28 @@
+use Rattle.std.proofs.Common.{◌∙◌, ap, sym}
+use Rattle.mpf_plan.specs.declared.entries.EventId.{EventId}
+use Rattle.mpf_plan.specs.declared.entries.Mode.{Mode as ModeValue}
+use Rattle.mpf_plan.specs.declared.entries.Owner.TheVariants.{Machine}
+use Rattle.mpf_plan.specs.declared.entries.Work.{Work}
+use Rattle.mpf_plan.specs.declared.entries.Work.TheVariants.{Mode}
+use Rattle.config_checker.specs.Machine.{post, stop_mode}
+use Rattle.config_checker.specs.EventStep.{do_after}
+use Rattle.pin_rig.specs.Core.{CoreView, after, follow}
+use Rattle.pin_rig.proofs.Following.{follow-still, stop-still, ended-follows}
+use Rattle.pin_rig.proofs.parts.work_after.Goals as goal
+
+pub returns-then-kept : goal.returns-then-kept
+returns-then-kept c =
+    let m = c.in-Mode.mode in
+    let plan = c.args.plan.now in
+    c.stop.ensures
+    ∙ follow-still (stop_mode plan m) c.args.core.now (ap (λ h. h.running) c.requires.handlers) (stop-still plan m c.args.core.now.machine)
+    ∙ (λ i. follow (do_after c.args.plan.now (sym c.if-kept.true i) (sym (c.in-Mode.is ∙ ap (Mode c.in-Mode.mode) c.in-Started.is) i)) c.args.core.now)
+
+pub returns-in-Stopping : goal.returns-in-Stopping
+returns-in-Stopping c =
+    let m = c.in-Mode.mode in
+    let plan = c.args.plan.now in
+    c.post-in-Stopping.ensures
+    ∙ (λ i. after (post Machine (c.mode.ensures.mode i).events.stopped) (c.end.ensures i))
+    ∙ ended-follows plan c.args.kept c.args.core.now m (ap (λ h. h.running) c.requires.handlers)
+    ∙ ap (λ (w : Work). follow (do_after c.args.plan.now c.args.kept w) c.args.core.now) (sym (c.in-Mode.is ∙ ap (Mode c.in-Mode.mode) c.in-Stopping.is))
