@@ -94,19 +94,21 @@ stopper event = binds event Control Stop
 abbrev pub stopper_where : Bool → List ℕ → List Contribution
 stopper_where holds event = if holds then stopper event ∷ [] else []
 
--- A mode, with its other four events; then what starts it and what stops it, as it is written; then the end of the ball,
--- and of the game, where they stop it.
-unfoldable pub mode_contributions : List ℕ → ModeSettings → List Contribution
-mode_contributions name s =
-    mode name s.priority s.game
-    ∷ mode_event Starting name
-    ∷ mode_event Started name
-    ∷ mode_event Stopping name
-    ∷ mode_event Stopped name
-    ∷ map starter (texts s.starts)
+-- the other four events of a mode
+abbrev pub later_events : List ℕ → List Contribution
+later_events name = mode_event Starting name ∷ mode_event Started name ∷ mode_event Stopping name ∷ mode_event Stopped name ∷ []
+
+-- what starts a mode and what stops it, as it is written; then the end of the ball, and of the game, where they stop it
+abbrev pub controls : ModeSettings → List Contribution
+controls s =
+    map starter (texts s.starts)
     ++ map stopper (texts s.stops)
     ++ stopper_where s.stops_with_ball (codes "ball_ending")
     ++ stopper_where s.game (codes "game_ending")
+
+-- a mode with its events, and then what starts and stops it
+unfoldable pub mode_contributions : List ℕ → ModeSettings → List Contribution
+mode_contributions name s = mode name s.priority s.game ∷ later_events name ++ controls s
 
 -- ---- rows
 

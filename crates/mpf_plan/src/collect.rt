@@ -2,7 +2,7 @@
 
 ghost use Rattle.std.specs.Prelude.{◌≡◌, ◌++◌, map, codes, IfOk, OnOk};
 ghost use Rattle.mpf_config.specs.View.{switch_view as switch_row_view, event_player_view, mode_settings_view, section_view, mode_view, rows_view, entry_view, player_view, name_view};
-ghost use Rattle.mpf_plan.specs.Contributions.{active, inactive, post, texts, is_quick, kind_of, tag_event, active_posts, inactive_posts, switch_contributions, player_contributions, starter, stopper, stopper_where, mode_contributions, rows_in, rows_from, mode_rows, rows_of, entry, player, entry_contributions, player_entry_contributions, row_contributions};
+ghost use Rattle.mpf_plan.specs.Contributions.{active, inactive, post, texts, is_quick, kind_of, tag_event, active_posts, inactive_posts, switch_contributions, player_contributions, starter, stopper, stopper_where, later_events, controls, mode_contributions, rows_in, rows_from, mode_rows, rows_of, entry, player, entry_contributions, player_entry_contributions, row_contributions};
 ghost use Rattle.mpf_plan.specs.Inside.{contributions_view, row_view, row_list_view};
 
 use crate::contribution::{Aim, Contribution, Parts, Place, whole};
@@ -31,10 +31,11 @@ pub(crate) enum Row<'a> {
 pub(crate) fn rows_of<'a>(alloc: Global, config: &'a Config) -> Result<Vec<Row<'a>>, AllocError>
     ensures { IfOk result (λ rows. row_list_view rows.items ≡ rows_of (rows_view config.now)) }
 {
-    let mut rows = Vec::new(alloc);
-    let sections = config.machine.sections.as_slice();
+    let mut rows: Vec<Row<'a>> = Vec::new(alloc);
+    let sections: &'a [Section] = config.machine.sections.as_slice();
+    let modes: &'a [ModeText] = config.modes.as_slice();
     add_sections(&mut rows, Place::Machine, sections)?;
-    for mode in &config.modes {
+    for mode in modes {
         add_mode(&mut rows, mode)?;
     }
     Ok(rows)
@@ -283,14 +284,37 @@ fn collect_mode<'a>(
     ensures { OnOk result (contributions_view contributions.new.items ≡ contributions_view contributions.old.items ++ mode_contributions name.now (mode_settings_view settings.entry)) }
 {
     contributions.push(Contribution::Mode(name, settings.priority, settings.game))?;
+    collect_later_events(contributions, name)?;
+    collect_controls(contributions, settings)?;
+    Ok(())
+}
+
+/// The other four events of a mode.
+fn collect_later_events<'a>(
+    contributions: &mut Vec<Contribution<'a>>,
+    name: &'a [u8],
+) -> Result<(), AllocError>
+    ensures { OnOk result (contributions_view contributions.new.items ≡ contributions_view contributions.old.items ++ later_events name.now) }
+{
     contributions.push(Contribution::ModeEvent(ModeEvent::Starting, name))?;
     contributions.push(Contribution::ModeEvent(ModeEvent::Started, name))?;
     contributions.push(Contribution::ModeEvent(ModeEvent::Stopping, name))?;
     contributions.push(Contribution::ModeEvent(ModeEvent::Stopped, name))?;
+    Ok(())
+}
+
+/// What starts a mode, and what stops it.
+fn collect_controls<'a>(
+    contributions: &mut Vec<Contribution<'a>>,
+    settings: ModeSettings<'a>,
+) -> Result<(), AllocError>
+    ensures { OnOk result (contributions_view contributions.new.items ≡ contributions_view contributions.old.items ++ controls (mode_settings_view settings.entry)) }
+{
     collect_starts(contributions, settings.starts)?;
     collect_stops(contributions, settings.stops)?;
     collect_stop_where(contributions, settings.stops_with_ball, b"ball_ending")?;
-    collect_stop_where(contributions, settings.game, b"game_ending")
+    collect_stop_where(contributions, settings.game, b"game_ending")?;
+    Ok(())
 }
 
 /// The events start the mode that came last.
