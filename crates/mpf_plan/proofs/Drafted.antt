@@ -136,7 +136,7 @@ module _ (names : Names) where
 
   -- ---- modes
 
-  modes_one : (d : DraftView) (c : Contribution) → length (with_contribution names d c).plan.modes ≡ length d.plan.modes + modes_given c
+  pub modes_one : (d : DraftView) (c : Contribution) → length (with_contribution names d c).plan.modes ≡ length d.plan.modes + modes_given c
   modes_one d (gives t n) = omega (arith, ap (λ p. length p.modes) (given_plan t (number_among (names t) n) d))
   modes_one d (mode n priority game) = length_push d.plan.modes (new_mode n priority game (event_of (names Events) (mode_event_name WillStart n)))
   modes_one d (mode_event which n) =
@@ -165,7 +165,7 @@ module _ (cs : List Contribution) where
 
   -- it has the modes that are given
   pub modes-from : length (plan_from cs).modes ≡ mode_count cs
-  modes-from = modes_fold (names_from cs) (blank (names_from cs)) cs
+  modes-from = omega (arith, modes_fold (names_from cs) (blank (names_from cs)) cs)
 
   -- its tables have the names that are used
   pub names-from : (t : Table) → entry_names (plan_from cs) t ≡ named_of cs t

@@ -14,8 +14,11 @@ pub mod Unnamed
 pub mod Found
 pub mod Among
 pub mod Lacking
-pub mod SoundDraft
+pub mod Posted
 pub mod RowFacts
+pub mod SoundDraft
+-- ModeNames
+-- ModesMade
 pub mod ValidPlan
 pub mod Planned
 pub mod EventNames

@@ -241,8 +241,8 @@ fn set_event(modes: &mut Vec<ModeEntry>, which: ModeEvent, event: EventId)
 {
     let count = modes.len();
     if count > 0 {
-        let events = modes[count - 1].mode.events;
-        modes[count - 1].mode.events = with_event(events, which, event);
+        let entry = &mut modes[count - 1];
+        entry.mode.events = with_event(entry.mode.events, which, event);
     }
 }
 
