@@ -17,8 +17,9 @@ pub mod Lacking
 pub mod Posted
 pub mod RowFacts
 pub mod SoundDraft
--- ModeNames
--- ModesMade
+pub mod ModeNames
+pub mod ModesMade
+pub mod ModeWorks
 pub mod ValidPlan
 pub mod Planned
 pub mod EventNames

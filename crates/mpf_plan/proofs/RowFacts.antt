@@ -155,7 +155,7 @@ AreShort-posts n (e ∷ es) room = (omega (arith, room), AreShort-posts (suc n) 
 -- more modes have come
 AreOpened-more : (cs : List Contribution) (m n : ℕ) → m ≤ n → AreOpened m cs → AreOpened n cs
 AreOpened-more [] m n more h = tt
-AreOpened-more (c ∷ cs) m n more h = (open c h.0, AreOpened-more cs (modes_after m c) (modes_after n c) (after c) h.1)
+AreOpened-more (c ∷ cs) m n more h = (opened c h.0, AreOpened-more cs (modes_after m c) (modes_after n c) (after c) h.1)
   where
     place_open : (place : Place) → IsOpenPlace m place → IsOpenPlace n place
     place_open Machine is = tt
@@ -167,9 +167,9 @@ AreOpened-more (c ∷ cs) m n more h = (open c h.0, AreOpened-more cs (modes_aft
     aim_open Start is = omega (arith, more, is)
     aim_open Stop is = omega (arith, more, is)
 
-    open : (x : Contribution) → IsOpen m x → IsOpen n x
-    open (binds e place aim) is = (place_open place is.0, aim_open aim is.1)
-    open _ is = tt
+    opened : (x : Contribution) → IsOpen m x → IsOpen n x
+    opened (binds e place aim) is = (place_open place is.0, aim_open aim is.1)
+    opened _ is = tt
 
     after : (x : Contribution) → modes_after m x ≤ modes_after n x
     after (mode name priority game) = omega (arith, more)
@@ -253,8 +253,10 @@ module _ (P : List ℕ → Type 0) (of : IsOfNames P) (n : ℕ) where
             let fit_ball = fit_where s.stops_with_ball (codes "ball_ending") of.ball in
             let fit_game = fit_where s.game (codes "game_ending") of.game in
             All-cons (IsFit P) (mode name s.priority s.game) (later_events name ++ controls s) (event WillStart)
-            (All-cons (IsFit P) (mode_event Starting name) _ (event Starting) (All-cons (IsFit P) (mode_event Started name) _ (event Started)
-            (All-cons (IsFit P) (mode_event Stopping name) _ (event Stopping) (All-cons (IsFit P) (mode_event Stopped name) (controls s) (event Stopped)
+            (All-cons (IsFit P) (mode_event Starting name) (mode_event Started name ∷ mode_event Stopping name ∷ mode_event Stopped name ∷ controls s) (event Starting)
+            (All-cons (IsFit P) (mode_event Started name) (mode_event Stopping name ∷ mode_event Stopped name ∷ controls s) (event Started)
+            (All-cons (IsFit P) (mode_event Stopping name) (mode_event Stopped name ∷ controls s) (event Stopping)
+            (All-cons (IsFit P) (mode_event Stopped name) (controls s) (event Stopped)
             (All-append (IsFit P) (starts ++ stops ++ ball) game (All-append (IsFit P) (starts ++ stops) ball (All-append (IsFit P) starts stops fit_starts fit_stops) fit_ball) fit_game)))));
         lists = λ h.
             let few : 1024 ≤ 1024 = omega arith in
@@ -268,10 +270,10 @@ module _ (P : List ℕ → Type 0) (of : IsOfNames P) (n : ℕ) where
             let same : m ≤ m = omega arith in
             let open_starts = AreOpened-each m starter (λ e cs k. ((some, some), k)) (texts s.starts) in
             let open_stops = AreOpened-each m stopper (λ e cs k. ((some, some), k)) (texts s.stops) in
-            let open = AreOpened-append (starts ++ stops ++ ball) game m m same
+            let opened = AreOpened-append (starts ++ stops ++ ball) game m m same
             (AreOpened-append (starts ++ stops) ball m m same (AreOpened-append starts stops m m same open_starts open_stops) (open_where m some s.stops_with_ball (codes "ball_ending")))
             (open_where m some s.game (codes "game_ending")) in
-            (tt, (tt, (tt, (tt, (tt, open)))));
+            (tt, (tt, (tt, (tt, (tt, opened)))));
       }
 
   -- ---- each row
@@ -359,18 +361,18 @@ rows_short place s h = by s.content h
 
 -- each row of a place is open where the place is
 rows_open : (n : ℕ) (place : Place) → IsOpenPlace n place → (name : List ℕ) (content : Content) → All (IsOpenRow n) (rows_from place name content)
-rows_open n place open name (entries es) = All-map (IsOpenRow n) (entry name) es (all_tt es)
+rows_open n place opened name (entries es) = All-map (IsOpenRow n) (entry name) es (all_tt es)
   where
     all_tt : (es : List Entry) → All (λ e. IsOpenRow n (entry name e)) es
     all_tt es i d within = tt
-rows_open n place open name (players ps) = All-map (IsOpenRow n) (player place name) ps (λ i d within. open)
-rows_open n place open name (sections.entry e) = All-nil (IsOpenRow n)
-rows_open n place open name (sections.listed ws) = All-nil (IsOpenRow n)
+rows_open n place opened name (players ps) = All-map (IsOpenRow n) (player place name) ps (λ i d within. opened)
+rows_open n place opened name (sections.entry e) = All-nil (IsOpenRow n)
+rows_open n place opened name (sections.listed ws) = All-nil (IsOpenRow n)
 
 -- what rows of sections give
 sections_open : (n : ℕ) (place : Place) → IsOpenPlace n place → (sections : List SectionRows) → AreOpened n (given_by (rows_in place sections))
-sections_open n place open sections =
-    all_open n (rows_in place sections) (sections_each (IsOpenRow n) (λ s. Unit {0}) place (λ s h. rows_open n place open s.name s.content) sections (λ i d within. tt))
+sections_open n place opened sections =
+    all_open n (rows_in place sections) (sections_each (IsOpenRow n) (λ s. Unit {0}) place (λ s h. rows_open n place opened s.name s.content) sections (λ i d within. tt))
 
 -- ---- the rows of a bundle
 

@@ -62,9 +62,9 @@ pub record IsSound (names : Names) (plan : PlanView) : Type 0 where
 
 -- a mode came before
 owner_within : (plan : PlanView) (n : ℕ) (place : Place) → n ≤ length plan.modes → IsOpenPlace n place → IsOwnerWithin plan (owner_at (last_mode plan) place)
-owner_within plan n places.Machine few open = tt
-owner_within plan n places.Control few open = tt
-owner_within plan n places.Mode few open = omega (arith, few, open)
+owner_within plan n places.Machine few opened = tt
+owner_within plan n places.Control few opened = tt
+owner_within plan n places.Mode few opened = omega (arith, few, opened)
 
 module _ (count : ℕ) (m : PlanMode) (e : EventId) (known : e.0 < count) (within : IsModeWithin count m) where
   event_set : (which : ModeEvent) → IsModeWithin count (with_event_in which e m)
@@ -114,9 +114,9 @@ module _ (names : Names) (d : DraftView) (sound : IsSound names d.plan) where
 
   module _ (n : ℕ) (few : n ≤ length d.plan.modes) where
     target_within : (aim : Aim) (plan : PlanView) → IsOpenAim n aim → length plan.modes ≡ length d.plan.modes → plan.lists ≡ lists_for aim d.plan.lists → IsTargetWithin plan (target_at d.plan aim)
-    target_within aims.Run plan open same lists = omega (arith, ap length lists, length_push d.plan.lists [])
-    target_within aims.Start plan open same lists = omega (arith, few, open, same)
-    target_within aims.Stop plan open same lists = omega (arith, few, open, same)
+    target_within aims.Run plan opened same lists = omega (arith, ap length lists, length_push d.plan.lists [])
+    target_within aims.Start plan opened same lists = omega (arith, few, opened, same)
+    target_within aims.Stop plan opened same lists = omega (arith, few, opened, same)
 
     longer : (aim : Aim) → length d.plan.lists ≤ length (lists_for aim d.plan.lists)
     longer aims.Run = omega (arith, length_push d.plan.lists [])
@@ -135,17 +135,17 @@ module _ (names : Names) (d : DraftView) (sound : IsSound names d.plan) where
         }
 
     sound_one : (c : Contribution) → IsOpen n c → IsKnown names c → IsSound names (with_contribution names d c).plan
-    sound_one (gives t x) open known = subst (IsSound names) (sym (given_plan t (number_among (names t) x) d)) sound
-    sound_one (reads kind) open known = same_sound (with_contribution names d (reads kind)).plan.switches d.plan.lists (omega arith)
-    sound_one (active x) open known = same_sound (with_contribution names d (active x)).plan.switches d.plan.lists (omega arith)
-    sound_one (inactive x) open known = same_sound (with_contribution names d (inactive x)).plan.switches d.plan.lists (omega arith)
-    sound_one (mode x priority game) open known =
+    sound_one (gives t x) opened known = subst (IsSound names) (sym (given_plan t (number_among (names t) x) d)) sound
+    sound_one (reads kind) opened known = same_sound (with_contribution names d (reads kind)).plan.switches d.plan.lists (omega arith)
+    sound_one (active x) opened known = same_sound (with_contribution names d (active x)).plan.switches d.plan.lists (omega arith)
+    sound_one (inactive x) opened known = same_sound (with_contribution names d (inactive x)).plan.switches d.plan.lists (omega arith)
+    sound_one (mode x priority game) opened known =
         let here = event_within (mode_event_name WillStart x) known in
         let some : 0 < length d.plan.events = omega (arith, here) in
         mode_added (new_mode x priority game (event_of (names Events) (mode_event_name WillStart x))) (record { will_start = here; starting = some; started = some; stopping = some; stopped = some })
-    sound_one (mode_event which x) open known = mode_changed which (event_of (names Events) (mode_event_name which x)) (event_within (mode_event_name which x) known)
-    sound_one (binds x place aim) open known = binding_sound (event_of (names Events) x) place aim (event_within x known) open.0 open.1
-    sound_one (post x) open known =
+    sound_one (mode_event which x) opened known = mode_changed which (event_of (names Events) (mode_event_name which x)) (event_within (mode_event_name which x) known)
+    sound_one (binds x place aim) opened known = binding_sound (event_of (names Events) x) place aim (event_within x known) opened.0 opened.1
+    sound_one (post x) opened known =
         let lists = (with_contribution names d (post x)).plan.lists in
         same_sound d.plan.switches lists (omega (arith, length-set d.plan.lists (length d.plan.lists - 1) (get_or d.plan.lists (length d.plan.lists - 1) [] ++ Post (event_of (names Events) x) ∷ [])))
 
@@ -160,10 +160,10 @@ module _ (names : Names) where
   more_modes n d _ few = few
 
   sound_fold : (cs : List Contribution) (n : ℕ) (d : DraftView) → n ≤ length d.plan.modes → AreOpened n cs → All (IsKnown names) cs → IsSound names d.plan → IsSound names (fold (with_contribution names) d cs).plan
-  sound_fold [] n d few open known sound = sound
-  sound_fold (c ∷ cs) n d few open known sound =
-      sound_fold cs (modes_after n c) (with_contribution names d c) (more_modes n d c few) open.1 (All-tail (IsKnown names) c cs known)
-      (sound_one names d sound n few c open.0 (All-head (IsKnown names) c cs known))
+  sound_fold [] n d few opened known sound = sound
+  sound_fold (c ∷ cs) n d few opened known sound =
+      sound_fold cs (modes_after n c) (with_contribution names d c) (more_modes n d c few) opened.1 (All-tail (IsKnown names) c cs known)
+      (sound_one names d sound n few c opened.0 (All-head (IsKnown names) c cs known))
 
   sound_blank : IsSound names (blank names).plan
   sound_blank = record { events = refl; modes = All-nil (IsModeWithin (length (names Events))); bindings = All-nil (IsBindingWithin (blank names).plan) }
@@ -177,13 +177,13 @@ module _ (names : Names) where
 
 -- what contributions make is sound, where a mode came before what is of one
 pub sound_drafted : (cs : List Contribution) → AreOpened 0 cs → IsSound (names_from cs) (drafted (names_from cs) cs).plan
-sound_drafted cs open = sound_fold (names_from cs) cs 0 (blank (names_from cs)) (omega arith) open (all_known cs) (sound_blank (names_from cs))
+sound_drafted cs opened = sound_fold (names_from cs) cs 0 (blank (names_from cs)) (omega arith) opened (all_known cs) (sound_blank (names_from cs))
 
 pub has_entries : (cs : List Contribution) → AreOpened 0 cs → HasEntries (drafted (names_from cs) cs).plan
-has_entries cs open =
+has_entries cs opened =
     let names = names_from cs in
     let plan = (drafted names cs).plan in
-    let sound = sound_drafted cs open in
+    let sound = sound_drafted cs opened in
     let posts = meet_drafted (IsEventWithin (length (names Events))) names cs (All-weaker (IsKnown names) (PostMeets (IsEventWithin (length (names Events))) names) (posts_known names) cs (all_known cs)) in
     let meet = subst (λ es. PostsMeet (IsEventWithin (length es)) plan) (sym sound.events) posts in
     record {
