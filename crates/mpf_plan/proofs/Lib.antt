@@ -23,6 +23,8 @@ pub mod ModeWorks
 pub mod ValidPlan
 pub mod Planned
 pub mod EventNames
+pub mod ModeEventNames
+pub mod PostNames
 pub mod BoundTo
 pub mod Placed
 pub mod Worked

@@ -31,13 +31,13 @@ use Rattle.mpf_plan.proofs.Worked.{work_found}
 -- a name stands at its number
 pub at_number : (names : List (List ℕ)) (n : List ℕ) → number_among names n < length names → get_or names (number_among names n) [] ≡ n
 at_number [] n within = absurd (omega arith)
-at_number (x ∷ xs) n within = by (bytes_eq n x) refl within
+at_number (x ∷ xs) n within = by (at_number xs n) (bytes_eq n x) refl within
   where
-    by : (b : Bool) → bytes_eq n x ≡ b → cond (not b) (1 + position_or_len (bytes_eq n) xs) 0 < suc (length xs) → get_or (x ∷ xs) (cond (not b) (1 + position_or_len (bytes_eq n) xs) 0) [] ≡ n
-    by true same inside = sym ((bytes_eq-Decides n x).0 same)
-    by false other inside =
+    by : (position_or_len (bytes_eq n) xs < length xs → get_or xs (position_or_len (bytes_eq n) xs) [] ≡ n) → (b : Bool) → bytes_eq n x ≡ b → cond (not b) (1 + position_or_len (bytes_eq n) xs) 0 < suc (length xs) → get_or (x ∷ xs) (cond (not b) (1 + position_or_len (bytes_eq n) xs) 0) [] ≡ n
+    by rest true same inside = sym ((bytes_eq-Decides n x).0 same)
+    by rest false other inside =
         let next : 1 + position_or_len (bytes_eq n) xs ≡ suc (position_or_len (bytes_eq n) xs) = omega arith in
-        ap (λ k. get_or (x ∷ xs) k []) next ∙ at_number xs n (omega (arith, inside))
+        ap (λ k. get_or (x ∷ xs) k []) next ∙ rest (omega (arith, inside))
 
 -- ---- an event of a mode has work
 
