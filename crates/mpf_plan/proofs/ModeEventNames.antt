@@ -1,5 +1,5 @@
 -- The names of the modes of a plan that planning gives, and of their events.
-use Rattle.std.proofs.Common.{◌≡◌, ◌<◌, ℕ, List, length, map, Ok, Contains, sym, subst}
+use Rattle.std.proofs.Common.{◌≡◌, ◌<◌, length, map, Ok, Contains, sym, subst}
 use Rattle.mpf_config.specs.Rows.{ModeRows, Rows}
 use Rattle.mpf_plan.specs.declared.entries.ModeId.{ModeId}
 use Rattle.mpf_plan.specs.declared.entries.ModeEvent.{ModeEvent}

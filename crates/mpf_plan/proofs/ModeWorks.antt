@@ -1,7 +1,7 @@
 -- The events of the modes of a plan: each has the name that its mode gives it, and no two modes share one.
 use Rattle.std.proofs.Common.{◌≡◌, ◌≢◌, ℕ, zero, suc, ◌+◌, ◌<◌, ◌≤◌, ◌==◌, ◌⊎◌, inl, inr, Bool, true, false, cond, not, List, [], ◌∷◌, length, map, get_or, slice_index_or, Option, Some, None, Contains, refl, sym, ◌∙◌, ap, subst, arith}
 use Rattle.std.specs.Str.{bytes_eq}
-use Rattle.std.specs.List.{All, AllPairs, position_or_len}
+use Rattle.std.specs.List.{AllPairs, position_or_len}
 use Rattle.std.proofs.lemmas.Bool.{cases_lt, eq-eqb}
 use Rattle.std.proofs.lemmas.List.{length-map, get_or-map}
 use Rattle.std.proofs.lemmas.List.Elements.{All-get_or}
@@ -18,14 +18,14 @@ use Rattle.mpf_plan.specs.declared.entries.Work.TheVariants as works
 use Rattle.mpf_plan.specs.declared.fault.Table.TheVariants.{Events}
 use Rattle.mpf_plan.specs.PlanView.{PlanMode, PlanView, no_mode, name_of_event, event_among, mode_at, mode_event, which_event, work_or, work_from, work_of}
 use Rattle.mpf_plan.specs.Valid.{IsModeWithin, IsWorkAt}
-use Rattle.mpf_plan.specs.Contributions.{Contribution, mode_event_name, contributions_of}
+use Rattle.mpf_plan.specs.Contributions.{mode_event_name, contributions_of}
 use Rattle.mpf_plan.specs.Uses.{Names, names_from, number_among}
-use Rattle.mpf_plan.specs.PlanOf.{event_of, plan_from}
+use Rattle.mpf_plan.specs.PlanOf.{plan_from}
 use Rattle.mpf_plan.proofs.Drafted.{names-from}
 use Rattle.mpf_plan.proofs.RowFacts.{rows_are_open}
 use Rattle.mpf_plan.proofs.SoundDraft.{has_entries}
 use Rattle.mpf_plan.proofs.ModeNames.{same_which, same_mode}
-use Rattle.mpf_plan.proofs.ModesMade.{event_for, made, made-event, modes-made}
+use Rattle.mpf_plan.proofs.ModesMade.{made, made-event, modes-made}
 use Rattle.mpf_plan.proofs.Worked.{work_found}
 
 -- a name stands at its number

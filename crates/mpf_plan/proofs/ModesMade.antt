@@ -1,5 +1,5 @@
 -- The modes of a plan: one for each mode of the rows, with the events of its name.
-use Rattle.std.proofs.Common.{◌≡◌, ℕ, ◌+◌, ◌-◌, ◌<◌, ◌≤◌, Bool, true, false, if◌then◌else◌, List, [], ◌∷◌, ◌++◌, length, map, fold, get_or, set, refl, sym, ◌∙◌, ap, arith, codes}
+use Rattle.std.proofs.Common.{◌≡◌, ℕ, ◌-◌, Bool, true, false, if◌then◌else◌, List, [], ◌∷◌, ◌++◌, length, map, fold, set, refl, sym, ◌∙◌, ap, arith, codes}
 use Rattle.std.specs.Str.{bytes_eq}
 use Rattle.std.specs.List.{flat_map}
 use Rattle.std.proofs.lemmas.Grind.{flat_map-append}
@@ -15,7 +15,7 @@ use Rattle.mpf_plan.specs.declared.entries.ModeEvent.{ModeEvent}
 use Rattle.mpf_plan.specs.declared.entries.ModeEvent.TheVariants.{WillStart, Starting, Started, Stopping, Stopped}
 use Rattle.mpf_plan.specs.declared.fault.Table.TheVariants.{Events}
 use Rattle.mpf_plan.specs.PlanView.{PlanMode, no_mode, event_among}
-use Rattle.mpf_plan.specs.Contributions.{Contribution, gives, reads, active, inactive, mode, mode_event, mode_event_name, binds, post, texts, active_posts, inactive_posts, switch_contributions, player_contributions, starter, stopper, stopper_where, later_events, controls, mode_contributions, Row, entry, player, of_mode, rows_from, rows_in, mode_rows, rows_of, entry_contributions, player_entry_contributions, row_contributions, given_by, contributions_of}
+use Rattle.mpf_plan.specs.Contributions.{Contribution, gives, active, inactive, mode, mode_event, mode_event_name, post, texts, active_posts, inactive_posts, switch_contributions, player_contributions, starter, stopper, stopper_where, later_events, controls, mode_contributions, Row, entry, player, of_mode, rows_from, rows_in, mode_rows, rows_of, entry_contributions, player_entry_contributions, row_contributions, given_by, contributions_of}
 use Rattle.mpf_plan.specs.Uses.{Names, names_from, number_among}
 use Rattle.mpf_plan.specs.PlanOf.{DraftView, event_of, new_mode, with_event_in, last_with_event, with_contribution, blank, drafted, plan_from}
 use Rattle.mpf_plan.proofs.Drafted.{given_plan}

@@ -1,5 +1,5 @@
 -- What holds of the name of each event that the rows post holds of the name of each that their plan posts.
-use Rattle.std.proofs.Common.{◌≡◌, ◌<◌, ℕ, Bool, true, false, if◌then◌else◌, List, [], ◌∷◌, ◌++◌, length, map, get_or, slice_index_or, zero, suc, Ok, arith, refl, sym, ◌∙◌, ap, subst, codes}
+use Rattle.std.proofs.Common.{◌≡◌, ◌<◌, ℕ, Bool, true, false, if◌then◌else◌, List, [], ◌∷◌, ◌++◌, length, map, get_or, slice_index_or, zero, suc, Ok, arith, sym, subst, codes}
 use Rattle.std.specs.Str.{bytes_eq}
 use Rattle.std.specs.List.{All, flat_map}
 use Rattle.std.proofs.lemmas.List.Elements.{All-nil, All-cons, All-append, All-map, All-weaker, All-head, All-tail}
@@ -11,8 +11,8 @@ use Rattle.mpf_plan.specs.declared.contribution.Place.TheVariants.{Machine, Mode
 use Rattle.mpf_plan.specs.declared.entries.EventId.{EventId}
 use Rattle.mpf_plan.specs.declared.fault.Table.TheVariants.{Events}
 use Rattle.mpf_plan.specs.PlanView.{PlanView, name_of_event}
-use Rattle.mpf_plan.specs.Contributions.{Contribution, gives, reads, active, inactive, mode, mode_event, binds, post, texts, active_posts, inactive_posts, switch_contributions, player_contributions, starter, stopper, stopper_where, later_events, controls, mode_contributions, Row, entry, player, of_mode, rows_from, rows_in, mode_rows, rows_of, entry_contributions, player_entry_contributions, row_contributions, given_by, contributions_of}
-use Rattle.mpf_plan.specs.Uses.{Names, names_from, number_among}
+use Rattle.mpf_plan.specs.Contributions.{Contribution, reads, active, inactive, mode, post, texts, active_posts, inactive_posts, switch_contributions, player_contributions, starter, stopper, stopper_where, later_events, controls, mode_contributions, Row, entry, player, of_mode, rows_from, rows_in, mode_rows, rows_of, entry_contributions, player_entry_contributions, row_contributions, contributions_of}
+use Rattle.mpf_plan.specs.Uses.{names_from, number_among}
 use Rattle.mpf_plan.specs.PlanOf.{event_of, plan_from, plan_of, plan_at}
 use Rattle.mpf_plan.proofs.Among.{IsKnown, all_known}
 use Rattle.mpf_plan.proofs.Drafted.{names-from}

@@ -1,5 +1,5 @@
 -- What contributions make has entries for all its numbers, where a mode came before what is of one.
-use Rattle.std.proofs.Common.{◌≡◌, ℕ, suc, ◌+◌, ◌-◌, ◌<◌, ◌≤◌, Bool, true, false, nat_lt, List, [], ◌∷◌, ◌++◌, length, fold, set, get_or, refl, sym, ap, subst, arith}
+use Rattle.std.proofs.Common.{◌≡◌, ℕ, ◌-◌, ◌<◌, ◌≤◌, Bool, true, false, nat_lt, List, [], ◌∷◌, ◌++◌, length, fold, set, get_or, refl, sym, ap, subst, arith}
 use Rattle.std.specs.List.{All}
 use Rattle.std.proofs.lemmas.Bool.{ltb-true, ltb-false}
 use Rattle.std.proofs.lemmas.List.{length_push, length-set, set_past}
@@ -26,7 +26,7 @@ use Rattle.mpf_plan.specs.Uses.{Names, names_from, number_among}
 use Rattle.mpf_plan.specs.PlanOf.{DraftView, event_of, new_mode, with_event_in, with_mode, with_mode_event, last_mode, owner_at, target_at, next_binding, lists_for, with_list_for, with_binding, with_contribution, blank, drafted}
 use Rattle.mpf_plan.proofs.Among.{IsKnown, all_known}
 use Rattle.mpf_plan.proofs.Drafted.{given_plan, modes_one}
-use Rattle.mpf_plan.proofs.Posted.{IsPost, ArePosts, PostMeets, PostsMeet, meet_drafted}
+use Rattle.mpf_plan.proofs.Posted.{IsPost, PostMeets, PostsMeet, meet_drafted}
 use Rattle.mpf_plan.proofs.RowFacts.{IsOpenPlace, IsOpenAim, IsOpen, modes_after, AreOpened}
 
 -- ---- a plan with more lists and modes

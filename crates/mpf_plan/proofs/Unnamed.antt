@@ -6,7 +6,7 @@ use Rattle.mpf_config.specs.Rows.{Entry, Player, Switch, EventPlayer, ModeSettin
 use Rattle.mpf_config.specs.Typed.{switches_name, event_player_name, switch_of, event_player_of}
 use Rattle.mpf_plan.specs.declared.contribution.Place.{Place}
 use Rattle.mpf_plan.specs.declared.fault.Table.TheVariants.{Bindings}
-use Rattle.mpf_plan.specs.Contributions.{Contribution, active, inactive, post, texts, active_posts, inactive_posts, switch_contributions, player_contributions, starter, stopper, stopper_where, later_events, controls, mode_contributions, Row, entry, player, of_mode, entry_contributions, player_entry_contributions, row_contributions, given_by}
+use Rattle.mpf_plan.specs.Contributions.{Contribution, active, inactive, post, texts, active_posts, inactive_posts, switch_contributions, player_contributions, starter, stopper, stopper_where, controls, mode_contributions, Row, entry, player, of_mode, entry_contributions, player_entry_contributions, row_contributions, given_by}
 use Rattle.mpf_plan.specs.Uses.{used, name_in_table, uses, first_uses, names_from}
 
 abbrev Unnamed : List Contribution → Type 0

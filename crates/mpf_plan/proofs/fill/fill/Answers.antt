@@ -1,6 +1,3 @@
-use Rattle.std.proofs.Common.{◌≡◌, get_or, ap, ◌∙◌}
-use Rattle.mpf_plan.specs.Contributions.{row_contributions}
-use Rattle.mpf_plan.specs.Inside.{contributions_view, row_view}
 use Rattle.mpf_plan.proofs.Collected.{row_is}
 use Rattle.mpf_plan.proofs.Drafted.{row_fits, row_modes_fit}
 use Rattle.mpf_plan.proofs.fill.fill.Goals as goal
