@@ -1,4 +1,4 @@
--- What holds of each event that is posted: where it holds of those that contributions post, it holds in the plan that they make.
+-- What holds of each event that is posted: where it holds of those that contributions post, it holds in their plan.
 use Rattle.std.proofs.Common.{◌≡◌, ℕ, ◌-◌, Bool, true, false, List, [], ◌∷◌, ◌++◌, length, fold, set, get_or, nat_lt, refl, sym, subst}
 use Rattle.std.specs.List.{All}
 use Rattle.std.proofs.lemmas.Bool.{ltb-true, ltb-false}

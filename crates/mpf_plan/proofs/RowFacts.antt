@@ -90,8 +90,8 @@ pub record IsOfNames (P : List ℕ → Type 0) : Type 0 where
   pub ball : P (codes "ball_ending")
   pub game : P (codes "game_ending")
 
--- what contributions are like, where the names of their row are names, where its lists are short, and where so many modes
--- have come before what is of one
+-- what contributions are like, where the names of their row are names, where its lists are short, and where so many
+-- modes have come before what is of one
 pub record Facts (P : List ℕ → Type 0) (n : ℕ) (Named Short Open : Type 0) (cs : List Contribution) : Type 0 where
   pub names : Named → All (IsFit P) cs
   pub lists : Short → AreShort 1024 cs

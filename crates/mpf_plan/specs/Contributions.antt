@@ -17,9 +17,9 @@ use Rattle.mpf_plan.specs.declared.fault.Table.{Table}
 use Rattle.mpf_plan.specs.declared.fault.Table.TheVariants.{Switches}
 
 -- One thing that a row gives: an entry of a table, by its name; how the last given switch is read; an event that this
--- switch posts when it becomes active, or inactive; a mode by its name, with its priority, and whether it starts only in a
--- game; an event of the mode that came last, which has this name; a binding of an event, with which an effect list begins
--- where it is to run one; an event that the last list posts.
+-- switch posts when it becomes active, or inactive; a mode by its name, with its priority, and whether it starts only
+-- in a game; an event of the mode that came last, which has this name; a binding of an event, with which an effect list
+-- begins where it is to run one; an event that the last list posts.
 pub data Contribution : Type 0 where
   gives : Table → List ℕ → Contribution
   reads : SwitchKind → Contribution
