@@ -23,8 +23,8 @@ use std::alloc::Global;
 /// order of their first uses, as sections and entries are written. A switch uses what it posts,
 /// first when it becomes active, then when it becomes inactive, whatever the order of its settings.
 /// An entry of `event_player` uses the event that it handles, then those that it posts. A mode uses
-/// its five events before anything in its text does, in the order of [`crate::ModeEvents`], and then
-/// what starts it and what stops it.
+/// its five events in the order of [`crate::ModeEvents`], then the events that start it, then those
+/// that stop it. The rows of its text come after these.
 ///
 /// When a switch becomes active, it posts `NAME_active`, then `sw_TAG` for each of its tags, then
 /// its `events_when_activated`. When it becomes inactive, it posts `NAME_inactive`, then its
