@@ -7,8 +7,7 @@ use Rattle.std.proofs.lemmas.List.{append_assoc, drop_more}
 use Rattle.std.proofs.lemmas.List.Folds.{list_any-append, list_any_at}
 use Rattle.mpf_plan.specs.declared.collect.Row as rows
 use Rattle.mpf_plan.specs.declared.contribution.Contribution as contributions
-use Rattle.mpf_plan.specs.declared.contribution.Place.{Place}
-use Rattle.mpf_plan.specs.Contributions.{Contribution, row_contributions, machine_place, given_by}
+use Rattle.mpf_plan.specs.Contributions.{Contribution, row_contributions, given_by}
 use Rattle.mpf_plan.specs.Inside.{contribution_view, contributions_view, row_view, row_list_view}
 use Rattle.mpf_plan.proofs.Taken.{contributions_more, rows_more}
 
@@ -46,14 +45,12 @@ module _ (p : Contribution → Bool) where
 
 module _ (rs : List rows.Row) (i : ℕ) (r : rows.Row) (within : i < length rs) (at : r ≡ get_or rs i r) (now new : List contributions.Contribution) where
   -- what is collected of a row
-  pub row_is : {place : Place} → place ≡ machine_place → now ≡ new → contributions_view new ≡ row_contributions place (row_view r)
-      → contributions_view now ≡ row_contributions machine_place (row_view (get_or rs i r))
-  row_is place_is same collected = ap contributions_view same ∙ collected ∙ (λ j. row_contributions (place_is j) (row_view (at j)))
+  pub row_is : now ≡ new → contributions_view new ≡ row_contributions (row_view r) → contributions_view now ≡ row_contributions (row_view (get_or rs i r))
+  row_is same collected = ap contributions_view same ∙ collected ∙ ap (λ x. row_contributions (row_view x)) at
 
   -- after what the first rows give
-  pub row_more : {place : Place} → place ≡ machine_place → now ≡ new → contributions_view new ≡ row_contributions place (row_view r)
-      → given_by (row_list_view (take i rs)) ++ contributions_view now ≡ given_by (row_list_view (take (i + 1) rs))
-  row_more place_is same collected = ap (λ l. given_by (row_list_view (take i rs)) ++ l) (row_is place_is same collected) ∙ sym (rows_more rs i r within)
+  pub row_more : now ≡ new → contributions_view new ≡ row_contributions (row_view r) → given_by (row_list_view (take i rs)) ++ contributions_view now ≡ given_by (row_list_view (take (i + 1) rs))
+  row_more same collected = ap (λ l. given_by (row_list_view (take i rs)) ++ l) (row_is same collected) ∙ sym (rows_more rs i r within)
 
 -- ---- the first item that passes
 

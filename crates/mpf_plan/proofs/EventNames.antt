@@ -3,14 +3,15 @@ use Rattle.std.proofs.Common.{List, [], sym, subst, ℕ}
 use Rattle.std.specs.List.{All}
 use Rattle.std.proofs.lemmas.List.Elements.{All-nil, All-cons, All-weaker}
 use Rattle.mpf_config.specs.Rows.{Rows}
-use Rattle.mpf_config.specs.Named.{IsNamed}
+use Rattle.mpf_config.specs.Named.{IsNamed, IsNamedMode}
+use Rattle.mpf_plan.specs.declared.entries.ModeEvent.TheVariants.{WillStart}
 use Rattle.mpf_plan.specs.declared.fault.Table.{Table}
 use Rattle.mpf_plan.specs.declared.fault.Table.TheVariants.{Events}
-use Rattle.mpf_plan.specs.Contributions.{Contribution, gives, reads, active, inactive, binds, post, contributions_of}
+use Rattle.mpf_plan.specs.Contributions.{Contribution, gives, reads, active, inactive, mode, mode_event, mode_event_name, binds, post, contributions_of}
 use Rattle.mpf_plan.specs.Uses.{used, uses, name_in_table}
 use Rattle.mpf_plan.specs.PlanOf.{plan_of}
 use Rattle.mpf_plan.proofs.Drafted.{names-from}
-use Rattle.mpf_plan.proofs.RowFacts.{IsFitName, IsFit, IsOfNames, All-flat_map, sections_fit}
+use Rattle.mpf_plan.proofs.RowFacts.{IsFitName, IsFit, IsOfNames, All-flat_map, rows_fit}
 use Rattle.mpf_plan.proofs.ValidPlan.{All-first_by}
 
 module _ (P : List ℕ → Type 0) where
@@ -23,6 +24,8 @@ module _ (P : List ℕ → Type 0) where
   name_fit (reads kind) h = All-nil P
   name_fit (active n) h = All-cons P n [] h (All-nil P)
   name_fit (inactive n) h = All-cons P n [] h (All-nil P)
+  name_fit (mode n priority game) h = All-cons P (mode_event_name WillStart n) [] h (All-nil P)
+  name_fit (mode_event which n) h = All-cons P (mode_event_name which n) [] h (All-nil P)
   name_fit (binds n place aim) h = All-cons P n [] h (All-nil P)
   name_fit (post n) h = All-cons P n [] h (All-nil P)
 
@@ -30,8 +33,8 @@ module _ (P : List ℕ → Type 0) where
   uses_fit cs h = All-flat_map P (λ c. name_in_table Events (used c)) cs (All-weaker (IsFit P) (λ c. All P (name_in_table Events (used c))) name_fit cs h)
 
   -- where the names in the rows are names
-  pub event_names : IsOfNames P → (rows : Rows) → All IsNamed rows.machine → All P (plan_of rows).events
+  pub event_names : IsOfNames P → (rows : Rows) → All IsNamed rows.machine → All IsNamedMode rows.modes → All P (plan_of rows).events
   unfolding plan_of
-  event_names of rows named =
+  event_names of rows machine modes =
       let cs = contributions_of rows in
-      subst (All P) (sym (names-from cs Events)) (All-first_by P (λ name. name) (uses Events cs) (uses_fit cs (sections_fit P of rows.machine named)))
+      subst (All P) (sym (names-from cs Events)) (All-first_by P (λ name. name) (uses Events cs) (uses_fit cs (rows_fit P of rows machine modes)))

@@ -13,7 +13,7 @@ use Rattle.std.proofs.lemmas.Slice.Eq.{bytes_eq-Decides}
 use Rattle.indexmap.specs.IndexSet.{IndexSet}
 use Rattle.mpf_plan.specs.declared.collect.Row as rows
 use Rattle.mpf_plan.specs.declared.fault.Table.{Table}
-use Rattle.mpf_plan.specs.Contributions.{Contribution, row_contributions, machine_place, given_by}
+use Rattle.mpf_plan.specs.Contributions.{Contribution, row_contributions, given_by}
 use Rattle.mpf_plan.specs.Uses.{first_uses, given, name_in_table, given_names, is_to_be_given, is_lacking}
 use Rattle.mpf_plan.specs.Limits.{order_of, tables_in_order}
 use Rattle.mpf_plan.specs.Inside.{row_view, row_list_view}
@@ -110,11 +110,11 @@ module _ {S : Type 0} where
 
 -- ---- a contribution of one row is one of all
 
-pub any_row : (p : Contribution → Bool) (rs : List rows.Row) (i : ℕ) (r : rows.Row) → i < length rs → list_any p (row_contributions machine_place (row_view (get_or rs i r))) ≡ true → list_any p (given_by (row_list_view rs)) ≡ true
+pub any_row : (p : Contribution → Bool) (rs : List rows.Row) (i : ℕ) (r : rows.Row) → i < length rs → list_any p (row_contributions (row_view (get_or rs i r))) ≡ true → list_any p (given_by (row_list_view rs)) ≡ true
 any_row p [] i r within is = absurd (omega arith)
 any_row p (x ∷ rs) zero r within is =
-    let here = row_contributions machine_place (row_view x) in
+    let here = row_contributions (row_view x) in
     list_any-append p here (given_by (row_list_view rs)) ∙ or_left (list_any p here) (list_any p (given_by (row_list_view rs))) is
 any_row p (x ∷ rs) (suc i) r within is =
-    let here = row_contributions machine_place (row_view x) in
+    let here = row_contributions (row_view x) in
     list_any-append p here (given_by (row_list_view rs)) ∙ or_right (list_any p here) (list_any p (given_by (row_list_view rs))) (any_row p rs i r (omega arith) is)

@@ -1,10 +1,11 @@
 -- What was numbered and made of rows is their plan, or why there is none.
-use Rattle.std.proofs.Common.{◌≡◌, ◌<◌, ◌≤◌, List, length, sym, ◌∙◌, ap, subst}
+use Rattle.std.proofs.Common.{◌≡◌, ◌<◌, ◌≤◌, List, length, sym, ◌∙◌, ap, subst, arith}
 use Rattle.std.specs.Prelude.{Result, Ok, Err}
 use Rattle.std.specs.List.{All}
 use Rattle.std.proofs.lemmas.List.Elements.{All-weaker}
 use Rattle.mpf_config.specs.Rows.{Rows}
 use Rattle.mpf_config.specs.Short.{AreListsShort}
+use Rattle.mpf_config.specs.FewModes.{AreFewModes}
 use Rattle.mpf_plan.specs.declared.collect.Row as found
 use Rattle.mpf_plan.specs.declared.names.NameSets.{NameSets}
 use Rattle.mpf_plan.specs.declared.draft.Draft.{Draft}
@@ -13,16 +14,18 @@ use Rattle.mpf_plan.specs.declared.fault.PlanFault.{PlanFault}
 use Rattle.mpf_plan.specs.declared.fault.PlanFault.TheVariants as faults
 use Rattle.mpf_plan.specs.PlanView.{PlanView}
 use Rattle.mpf_plan.specs.Valid.{IsBindingWithin, IsValid}
-use Rattle.mpf_plan.specs.Contributions.{Contribution, rows_in, given_by, contributions_of}
+use Rattle.mpf_plan.specs.Contributions.{Contribution, rows_of, given_by, contributions_of}
 use Rattle.mpf_plan.specs.Uses.{lacks_name}
 use Rattle.mpf_plan.specs.Limits.{entry_count, limit_of, first_above}
 use Rattle.mpf_plan.specs.PlanOf.{drafted, plan_from, plan_of, plan_at, GivesPlan, IsExceeded}
 use Rattle.mpf_plan.specs.Inside.{row_list_view, name_sets_view, draft_view}
-use Rattle.mpf_plan.specs.Numbering.{Numbered}
+use Rattle.mpf_plan.specs.Numbering.{mode_count, Numbered}
 use Rattle.mpf_plan.proofs.Judged.{all_within, is_first, plan_at-lacking, plan_at-within, plan_at-exceeded, plan_at-Err}
 use Rattle.mpf_plan.proofs.ValidPlan.{IsValid-plan_of}
+use Rattle.mpf_plan.proofs.Drafted.{modes-from}
+use Rattle.mpf_plan.proofs.ModeWorks.{modes-count}
 
-module _ (rows : Rows) (rs numbered_of : List found.Row) (are : row_list_view rs ≡ rows_in rows.machine) (first : numbered_of ≡ rs) where
+module _ (rows : Rows) (rs numbered_of : List found.Row) (are : row_list_view rs ≡ rows_of rows) (first : numbered_of ≡ rs) where
   abbrev cs : List Contribution
   cs = given_by (row_list_view numbered_of)
 
@@ -61,8 +64,13 @@ module _ (rows : Rows) (rs numbered_of : List found.Row) (are : row_list_view rs
       pub is_planned : plan_at rows ≡ Ok (draft_view names d).plan
       is_planned = plan_at-within rows rows_within ∙ ap Ok (sym is_plan)
 
-      pub is_valid : AreListsShort rows → IsValid (draft_view names d).plan
-      is_valid short = subst IsValid (sym is_plan) (IsValid-plan_of rows short rows_within)
+      pub is_valid : AreListsShort rows → AreFewModes rows.modes → IsValid (draft_view names d).plan
+      is_valid short few = subst IsValid (sym is_plan) (IsValid-plan_of rows short few rows_within)
+
+-- rows give as many modes as there are in the texts
+pub modes_few : (rows : Rows) (rs made_of : List found.Row) → row_list_view rs ≡ rows_of rows → made_of ≡ rs → AreFewModes rows.modes → mode_count (given_by (row_list_view made_of)) ≤ 64
+modes_few rows rs made_of are again few =
+    omega (arith, few.few, modes-count rows, modes-from (contributions_of rows), ap (λ r. mode_count (given_by r)) (ap row_list_view again ∙ are))
 
 -- each binding is of an event of the plan
 pub events_bound : (plan : PlanView) → IsValid plan → All (λ b. b.event.0 < length plan.events) plan.bindings

@@ -5,9 +5,10 @@ use Rattle.std.proofs.lemmas.List.{set_past, map-set, get_or-map, length-map}
 use Rattle.std.proofs.lemmas.List.Elements.{All-head, All-tail}
 use Rattle.mpf_plan.specs.declared.entries.Action.{Action}
 use Rattle.mpf_plan.specs.declared.draft.SwitchEntry.{SwitchEntry}
-use Rattle.mpf_plan.specs.PlanView.{PlanSwitch, no_switch}
+use Rattle.mpf_plan.specs.declared.draft.ModeEntry.{ModeEntry}
+use Rattle.mpf_plan.specs.PlanView.{PlanSwitch, no_switch, PlanMode, no_mode}
 use Rattle.mpf_plan.specs.PlanOf.{last_with, named_switch}
-use Rattle.mpf_plan.specs.Inside.{switch_entry_view, switches_view, action_lists}
+use Rattle.mpf_plan.specs.Inside.{mode_entry_view, switch_entry_view, switches_view, action_lists}
 
 -- an item changed in its place, as it is seen
 shown_at : {X Y : Type 0} (shown : X → Y) (f : Y → Y) (xs : List X) (i : ℕ) (old new : X) (d : Y) → i < length xs → old ≡ get_or xs i old → shown new ≡ f (shown old)
@@ -21,6 +22,15 @@ pub action_pushed : (lists : List (Vec Action Global)) (n : ℕ) (old new : Vec 
 action_pushed lists n old new a count some is pushed =
     shown_at (λ v. v.items) (λ l. l ++ a ∷ []) lists (n - 1) old new [] (omega (arith, count, some)) is pushed
     ∙ ap (λ k. set (action_lists lists) (k - 1) (get_or (action_lists lists) (k - 1) [] ++ a ∷ [])) (count ∙ sym (length-map lists (λ (v : Vec Action Global). v.items)))
+
+-- the last of the modes changed
+pub last_mode_changed : (change : PlanMode → PlanMode) (modes : List ModeEntry) (n : ℕ) (old new : ModeEntry) → n ≡ length modes → 0 < n → old ≡ get_or modes (n - 1) old → mode_entry_view new ≡ change (mode_entry_view old)
+    → map mode_entry_view (set modes (n - 1) new)
+    ≡ set (map mode_entry_view modes) (length (map mode_entry_view modes) - 1) (change (get_or (map mode_entry_view modes) (length (map mode_entry_view modes) - 1) no_mode))
+last_mode_changed change modes n old new count some is changed =
+    let seen = map mode_entry_view modes in
+    shown_at mode_entry_view change modes (n - 1) old new no_mode (omega (arith, count, some)) is changed
+    ∙ ap (λ k. set seen (k - 1) (change (get_or seen (k - 1) no_mode))) (count ∙ sym (length-map modes mode_entry_view))
 
 -- within a list the default does not matter
 pub same_default : {X : Type 0} (xs : List X) (n : ℕ) (d e : X) → n < length xs → get_or xs n d ≡ get_or xs n e

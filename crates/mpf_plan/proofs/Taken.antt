@@ -1,13 +1,14 @@
 -- The first of the contributions, and of the rows: one more.
 use Rattle.std.proofs.Common.{◌≡◌, ℕ, ◌+◌, ◌<◌, ◌≤◌, zero, suc, List, [], ◌∷◌, ◌++◌, length, fold, take, get_or, sym, ◌∙◌, ap, arith}
+use Rattle.std.specs.List.{sum_by}
 use Rattle.std.proofs.lemmas.Grind.{flat_map-append}
 use Rattle.std.proofs.lemmas.List.{take_more, map-append, append-nil}
 use Rattle.std.proofs.lemmas.List.Sums.{fold-append, sum_by-append}
 use Rattle.mpf_plan.specs.declared.collect.Row as rows
 use Rattle.mpf_plan.specs.declared.contribution.Contribution as contributions
-use Rattle.mpf_plan.specs.Contributions.{Contribution, Row, row_contributions, machine_place, given_by}
+use Rattle.mpf_plan.specs.Contributions.{Contribution, row_contributions, given_by}
 use Rattle.mpf_plan.specs.Inside.{contribution_view, contributions_view, row_view, row_list_view}
-use Rattle.mpf_plan.specs.Numbering.{bindings_given, binding_count}
+use Rattle.mpf_plan.specs.Numbering.{bindings_given, binding_count, modes_given, mode_count}
 
 module _ (cs : List contributions.Contribution) (i : ℕ) (d : contributions.Contribution) (within : i < length cs) where
   pub contributions_more : contributions_view (take (i + 1) cs) ≡ contributions_view (take i cs) ++ contribution_view (get_or cs i d) ∷ []
@@ -22,23 +23,29 @@ module _ (cs : List contributions.Contribution) (i : ℕ) (d : contributions.Con
 
 -- ---- rows
 
-abbrev gives : Row → List Contribution
-gives r = row_contributions machine_place r
-
 -- what the first rows give
 pub rows_more : (rs : List rows.Row) (i : ℕ) (d : rows.Row) → i < length rs
-    → given_by (row_list_view (take (i + 1) rs)) ≡ given_by (row_list_view (take i rs)) ++ row_contributions machine_place (row_view (get_or rs i d))
+    → given_by (row_list_view (take (i + 1) rs)) ≡ given_by (row_list_view (take i rs)) ++ row_contributions (row_view (get_or rs i d))
 rows_more rs i d within =
     ap (λ l. given_by (row_list_view l)) (take_more rs i d within)
     ∙ ap given_by (map-append row_view (take i rs) (get_or rs i d ∷ []))
-    ∙ flat_map-append gives (row_list_view (take i rs)) (row_view (get_or rs i d) ∷ [])
-    ∙ ap (λ l. given_by (row_list_view (take i rs)) ++ l) (append-nil (gives (row_view (get_or rs i d))))
+    ∙ flat_map-append row_contributions (row_list_view (take i rs)) (row_view (get_or rs i d) ∷ [])
+    ∙ ap (λ l. given_by (row_list_view (take i rs)) ++ l) (append-nil (row_contributions (row_view (get_or rs i d))))
 
--- the bindings of the first rows and of the next are no more than those of all
-pub part_count : (rs : List rows.Row) (i : ℕ) (d : rows.Row) → i < length rs
-    → binding_count (given_by (row_list_view (take i rs))) + binding_count (row_contributions machine_place (row_view (get_or rs i d))) ≤ binding_count (given_by (row_list_view rs))
-part_count [] i d within = absurd (omega arith)
-part_count (r ∷ rs) zero d within = omega (arith, sum_by-append bindings_given (gives (row_view r)) (given_by (row_list_view rs)))
-part_count (r ∷ rs) (suc i) d within =
-    let here = gives (row_view r) in
-    omega (arith, sum_by-append bindings_given here (given_by (row_list_view rs)), sum_by-append bindings_given here (given_by (row_list_view (take i rs))), part_count rs i d (omega arith))
+-- what the first rows and the next give together is no more than what all give
+module _ (f : Contribution → ℕ) where
+  part_sum : (rs : List rows.Row) (i : ℕ) (d : rows.Row) → i < length rs
+      → sum_by f (given_by (row_list_view (take i rs))) + sum_by f (row_contributions (row_view (get_or rs i d))) ≤ sum_by f (given_by (row_list_view rs))
+  part_sum [] i d within = absurd (omega arith)
+  part_sum (r ∷ rs) zero d within = omega (arith, sum_by-append f (row_contributions (row_view r)) (given_by (row_list_view rs)))
+  part_sum (r ∷ rs) (suc i) d within =
+      let here = row_contributions (row_view r) in
+      omega (arith, sum_by-append f here (given_by (row_list_view rs)), sum_by-append f here (given_by (row_list_view (take i rs))), part_sum rs i d (omega arith))
+
+module _ (rs : List rows.Row) (i : ℕ) (d : rows.Row) (within : i < length rs) where
+  -- so it is with bindings, and with modes
+  pub part_count : binding_count (given_by (row_list_view (take i rs))) + binding_count (row_contributions (row_view (get_or rs i d))) ≤ binding_count (given_by (row_list_view rs))
+  part_count = part_sum bindings_given rs i d within
+
+  pub part_modes : mode_count (given_by (row_list_view (take i rs))) + mode_count (row_contributions (row_view (get_or rs i d))) ≤ mode_count (given_by (row_list_view rs))
+  part_modes = part_sum modes_given rs i d within

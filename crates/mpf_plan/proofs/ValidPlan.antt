@@ -8,22 +8,24 @@ use Rattle.std.proofs.lemmas.List.Elements.{All-nil, All-cons, All-head, All-tai
 use Rattle.std.proofs.lemmas.Slice.Eq.{bytes_eq-Decides}
 use Rattle.mpf_config.specs.Rows.{Rows}
 use Rattle.mpf_config.specs.Short.{AreListsShort}
-use Rattle.mpf_plan.specs.declared.contribution.Aim.TheVariants.{Run}
+use Rattle.mpf_config.specs.FewModes.{AreFewModes}
+use Rattle.mpf_plan.specs.declared.contribution.Aim.TheVariants.{Run, Start, Stop}
 use Rattle.mpf_plan.specs.declared.entries.Action.{Action}
 use Rattle.mpf_plan.specs.declared.entries.Action.TheVariants.{Post}
 use Rattle.mpf_plan.specs.declared.fault.Table.{Table}
 use Rattle.mpf_plan.specs.declared.fault.Table.TheVariants.{Events, Bindings, Switches}
 use Rattle.mpf_plan.specs.PlanView.{PlanView}
 use Rattle.mpf_plan.specs.Valid.{IsValid, HasEntries}
-use Rattle.mpf_plan.specs.Contributions.{Contribution, gives, reads, active, inactive, binds, post, contributions_of}
+use Rattle.mpf_plan.specs.Contributions.{Contribution, gives, reads, active, inactive, mode, mode_event, binds, post, contributions_of}
 use Rattle.mpf_plan.specs.Uses.{Names, names_from, uses, first_by}
 use Rattle.mpf_plan.specs.Limits.{entry_count, limit_of}
 use Rattle.mpf_plan.specs.PlanOf.{DraftView, event_of, with_contribution, blank, plan_from, plan_of, plan_at}
 use Rattle.mpf_plan.proofs.Counts.{named_of}
-use Rattle.mpf_plan.proofs.Drafted.{given_plan, names-from, count-bindings, count-lists, modes-from}
+use Rattle.mpf_plan.proofs.Drafted.{given_plan, names-from, count-bindings, count-lists}
 use Rattle.mpf_plan.proofs.Judged.{plan_at-Ok}
-use Rattle.mpf_plan.proofs.RowFacts.{AreShort, sections_short}
-use Rattle.mpf_plan.proofs.SoundDraft.{sound_drafted}
+use Rattle.mpf_plan.proofs.RowFacts.{AreShort, rows_are_short, rows_are_open}
+use Rattle.mpf_plan.proofs.SoundDraft.{has_entries}
+use Rattle.mpf_plan.proofs.ModeWorks.{modes-count, works_are}
 
 pub All-first_by : {X : Type 0} (P : X → Type 0) (name : X → List ℕ) (xs : List X) → All P xs → All P (first_by name xs)
 All-first_by P name [] all = all
@@ -98,6 +100,10 @@ module _ (names : Names) where
   fit_fold n (reads kind ∷ cs) d short fit = fit_fold n cs (with_contribution names d (reads kind)) short.1 (record { lists = fit.lists; last = fit.last })
   fit_fold n (active e ∷ cs) d short fit = fit_fold n cs (with_contribution names d (active e)) short.1 (record { lists = fit.lists; last = fit.last })
   fit_fold n (inactive e ∷ cs) d short fit = fit_fold n cs (with_contribution names d (inactive e)) short.1 (record { lists = fit.lists; last = fit.last })
+  fit_fold n (mode e priority game ∷ cs) d short fit = fit_fold n cs (with_contribution names d (mode e priority game)) short.1 (record { lists = fit.lists; last = fit.last })
+  fit_fold n (mode_event which e ∷ cs) d short fit = fit_fold n cs (with_contribution names d (mode_event which e)) short.1 (record { lists = fit.lists; last = fit.last })
+  fit_fold n (binds e place Start ∷ cs) d short fit = fit_fold n cs (with_contribution names d (binds e place Start)) short.1 (record { lists = fit.lists; last = fit.last })
+  fit_fold n (binds e place Stop ∷ cs) d short fit = fit_fold n cs (with_contribution names d (binds e place Stop)) short.1 (record { lists = fit.lists; last = fit.last })
   fit_fold n (binds e place Run ∷ cs) d short fit = fit_fold 0 cs (with_contribution names d (binds e place Run)) short.1 (record {
     lists = All-push (λ (l : List Action). length l ≤ 1024) d.plan.lists [] fit.lists (omega arith);
     last = last_length-push d.plan.lists;
@@ -114,44 +120,40 @@ module _ (names : Names) where
 
 -- ---- the plan
 
--- where each table is within its limit, and each effect list, the plan of contributions is valid
-IsValid-plan_from : (cs : List Contribution) → AreShort 1024 cs → ((t : Table) → entry_count (plan_from cs) t ≤ limit_of t) → IsValid (plan_from cs)
-IsValid-plan_from cs short within =
+-- Where each table is within its limit, no list in the rows is too long, and there are few modes, the plan is valid.
+valid_from : (rows : Rows) → AreListsShort rows → AreFewModes rows.modes → ((t : Table) → entry_count (plan_from (contributions_of rows)) t ≤ limit_of t) → IsValid (plan_from (contributions_of rows))
+valid_from rows short few within =
+    let cs = contributions_of rows in
     let names = names_from cs in
-    let sound = sound_drafted cs in
     let limit : length (plan_from cs).bindings ≤ 16384 = within Bindings in
     let none : AreFit 1024 (blank names).plan = record { lists = All-nil (λ (l : List Action). length l ≤ 1024); last = omega arith } in
-    let fit = fit_fold names 1024 cs (blank names) short none in
     record {
-      mode_limit = omega (arith, ap length (modes-from cs));
+      mode_limit = omega (arith, few.few, modes-count rows);
       event_limit = within Events;
       binding_limit = limit;
       switch_limit = within Switches;
       list_limit = omega (arith, limit, count-bindings cs, count-lists cs);
-      action_limit = fit;
+      action_limit = fit_fold names 1024 cs (blank names) (rows_are_short rows short) none;
       names = λ t. subst (AllPairs (λ x y. x ≢ y)) (sym (names-from cs t)) (all_apart (named_of cs t) (named_apart cs t));
-      entries = record { modes = sound.modes; switches = sound.switches; lists = sound.lists; bindings = sound.bindings };
-      works = λ m which inside. absurd (omega (arith, inside, ap length (modes-from cs)));
+      entries = has_entries cs (rows_are_open rows);
+      works = works_are rows few.apart;
     }
 
--- where each table is within its limit, and no list in the rows is too long, the plan of the rows is valid
-pub IsValid-plan_of : (rows : Rows) → AreListsShort rows → ((t : Table) → entry_count (plan_of rows) t ≤ limit_of t) → IsValid (plan_of rows)
+pub IsValid-plan_of : (rows : Rows) → AreListsShort rows → AreFewModes rows.modes → ((t : Table) → entry_count (plan_of rows) t ≤ limit_of t) → IsValid (plan_of rows)
 unfolding plan_of
-IsValid-plan_of rows short within = IsValid-plan_from (contributions_of rows) (sections_short rows.machine short.0) within
+IsValid-plan_of rows short few within = valid_from rows short few within
 
--- ---- whether lists are short or not
+-- ---- whatever the rows are
 
 HasEntries-plan_of : (rows : Rows) → HasEntries (plan_of rows)
 unfolding plan_of
-HasEntries-plan_of rows =
-    let sound = sound_drafted (contributions_of rows) in
-    record { modes = sound.modes; switches = sound.switches; lists = sound.lists; bindings = sound.bindings }
+HasEntries-plan_of rows = has_entries (contributions_of rows) (rows_are_open rows)
 
 pub HasEntries-plan_at : (rows : Rows) (plan : PlanView) → plan_at rows ≡ Ok plan → HasEntries plan
 HasEntries-plan_at rows plan is = subst HasEntries (sym (plan_at-Ok rows plan is).0) (HasEntries-plan_of rows)
 
--- a plan that planning gives is valid, where no list in the rows is too long
-pub IsValid-plan_at : (rows : Rows) → AreListsShort rows → (plan : PlanView) → plan_at rows ≡ Ok plan → IsValid plan
-IsValid-plan_at rows short plan is =
+-- A plan that planning gives is valid, where no list in the rows is too long, and there are few modes.
+pub IsValid-plan_at : (rows : Rows) → AreListsShort rows → AreFewModes rows.modes → (plan : PlanView) → plan_at rows ≡ Ok plan → IsValid plan
+IsValid-plan_at rows short few plan is =
     let given = plan_at-Ok rows plan is in
-    subst IsValid (sym given.0) (IsValid-plan_of rows short (subst (λ p. (t : Table) → entry_count p t ≤ limit_of t) given.0 given.1))
+    subst IsValid (sym given.0) (IsValid-plan_of rows short few (subst (λ p. (t : Table) → entry_count p t ≤ limit_of t) given.0 given.1))

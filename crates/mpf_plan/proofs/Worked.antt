@@ -1,5 +1,5 @@
 -- The work of each event, one event after the other.
-use Rattle.std.proofs.Common.{◌≡◌, ℕ, zero, suc, ◌+◌, ◌<◌, ◌-◌, ◌≤◌, ◌==◌, Bool, true, false, cond, List, [], ◌∷◌, length, get_or, Option, Some, None, unwrap_or, rules, refl, sym, ◌∙◌, ap, subst, arith}
+use Rattle.std.proofs.Common.{◌≡◌, ℕ, suc, ◌+◌, ◌<◌, ◌-◌, ◌≤◌, ◌==◌, Bool, true, false, cond, List, [], ◌∷◌, length, get_or, Option, Some, None, unwrap_or, rules, refl, ◌∙◌, ap, arith}
 use Rattle.std.proofs.lemmas.Bool.{eqb-true}
 use Rattle.std.proofs.lemmas.List.FromFn.{length-map-range_with_len, get_or-map-range_with_len}
 use Rattle.mpf_plan.specs.declared.entries.EventId.{EventId}
@@ -9,7 +9,7 @@ use Rattle.mpf_plan.specs.declared.entries.ModeEvent.TheVariants.{WillStart, Sta
 use Rattle.mpf_plan.specs.declared.entries.ModeEvents.{ModeEvents}
 use Rattle.mpf_plan.specs.declared.entries.Work.{Work}
 use Rattle.mpf_plan.specs.declared.entries.Work.TheVariants as works
-use Rattle.mpf_plan.specs.PlanView.{PlanMode, PlanView, no_mode, event_among, mode_event, which_event, work_or, work_from, work_of}
+use Rattle.mpf_plan.specs.PlanView.{PlanMode, PlanView, no_mode, event_among, which_event, work_or, work_from, work_of}
 use Rattle.mpf_plan.specs.Valid.{IsWorkAt}
 use Rattle.mpf_plan.specs.Inside.{HasWorks}
 

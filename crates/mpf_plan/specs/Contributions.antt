@@ -4,26 +4,29 @@ use Rattle.std.specs.List.{flat_map}
 use Rattle.std.specs.Str.{bytes_eq}
 use Rattle.mpf_config.specs.declared.config.Debounce.{Debounce}
 use Rattle.mpf_config.specs.declared.config.Debounce.TheVariants.{Auto, Quick, Normal}
-use Rattle.mpf_config.specs.Rows.{Written, Entry, Player, Switch, EventPlayer, Content, entries, players, SectionRows, Rows}
-use Rattle.mpf_config.specs.Typed.{switches_name, event_player_name, switch_of, event_player_of}
+use Rattle.mpf_config.specs.Rows.{Written, Entry, Player, Switch, EventPlayer, ModeSettings, Content, entries, players, SectionRows, ModeRows, Rows}
+use Rattle.mpf_config.specs.Typed.{switches_name, event_player_name, switch_of, event_player_of, mode_settings}
 use Rattle.mpf_plan.specs.declared.entries.SwitchKind.{SwitchKind}
-use Rattle.mpf_plan.specs.declared.entries.Owner.{Owner}
-use Rattle.mpf_plan.specs.declared.entries.Owner.TheVariants as owners
+use Rattle.mpf_plan.specs.declared.entries.ModeEvent.{ModeEvent}
+use Rattle.mpf_plan.specs.declared.entries.ModeEvent.TheVariants.{WillStart, Starting, Started, Stopping, Stopped}
 use Rattle.mpf_plan.specs.declared.contribution.Place.{Place}
-use Rattle.mpf_plan.specs.declared.contribution.Place.TheVariants.{Machine}
+use Rattle.mpf_plan.specs.declared.contribution.Place.TheVariants.{Machine, Control, Mode}
 use Rattle.mpf_plan.specs.declared.contribution.Aim.{Aim}
-use Rattle.mpf_plan.specs.declared.contribution.Aim.TheVariants.{Run}
+use Rattle.mpf_plan.specs.declared.contribution.Aim.TheVariants.{Run, Start, Stop}
 use Rattle.mpf_plan.specs.declared.fault.Table.{Table}
 use Rattle.mpf_plan.specs.declared.fault.Table.TheVariants.{Switches}
 
--- One thing that an entry gives: an entry of a table, by its name; how the last given switch is read; an event that this
--- switch posts when it becomes active, or inactive; a binding of an event, with which an effect list begins; an event that
--- this list posts.
+-- One thing that a row gives: an entry of a table, by its name; how the last given switch is read; an event that this
+-- switch posts when it becomes active, or inactive; a mode by its name, with its priority, and whether it starts only
+-- in a game; an event of the mode that came last, which has this name; a binding of an event, with which an effect list
+-- begins where it is to run one; an event that the last list posts.
 pub data Contribution : Type 0 where
   gives : Table → List ℕ → Contribution
   reads : SwitchKind → Contribution
   active : List ℕ → Contribution
   inactive : List ℕ → Contribution
+  mode : List ℕ → ℕ → Bool → Contribution
+  mode_event : ModeEvent → List ℕ → Contribution
   binds : List ℕ → Place → Aim → Contribution
   post : List ℕ → Contribution
 
@@ -66,21 +69,72 @@ switch_contributions s =
 unfoldable pub player_contributions : Place → EventPlayer → List Contribution
 player_contributions place p = binds p.event.text place Run ∷ map post (texts p.posts)
 
+-- ---- modes
+
+-- how the name of an event of a mode ends
+abbrev pub event_ending : ModeEvent → List ℕ
+event_ending WillStart = codes "_will_start"
+event_ending Starting = codes "_starting"
+event_ending Started = codes "_started"
+event_ending Stopping = codes "_stopping"
+event_ending Stopped = codes "_stopped"
+
+-- the name of this event of the mode of this name
+abbrev pub mode_event_name : ModeEvent → List ℕ → List ℕ
+mode_event_name which name = codes "mode_" ++ name ++ event_ending which
+
+-- what starts and what stops the mode that came last
+abbrev pub starter : List ℕ → Contribution
+starter event = binds event Control Start
+
+abbrev pub stopper : List ℕ → Contribution
+stopper event = binds event Control Stop
+
+-- the event stops the mode, where this holds
+abbrev pub stopper_where : Bool → List ℕ → List Contribution
+stopper_where holds event = if holds then stopper event ∷ [] else []
+
+-- the other four events of a mode
+abbrev pub later_events : List ℕ → List Contribution
+later_events name = mode_event Starting name ∷ mode_event Started name ∷ mode_event Stopping name ∷ mode_event Stopped name ∷ []
+
+-- what starts a mode and what stops it, as it is written; then the end of the ball, and of the game, where they stop it
+abbrev pub controls : ModeSettings → List Contribution
+controls s =
+    map starter (texts s.starts)
+    ++ map stopper (texts s.stops)
+    ++ stopper_where s.stops_with_ball (codes "ball_ending")
+    ++ stopper_where s.game (codes "game_ending")
+
+-- a mode with its events, and then what starts and stops it
+unfoldable pub mode_contributions : List ℕ → ModeSettings → List Contribution
+mode_contributions name s = mode name s.priority s.game ∷ later_events name ++ controls s
+
 -- ---- rows
 
--- an entry, or an entry of a player, in the section of this name
+-- An entry in the section of this name; or an entry of a player, whose bindings have this place; or a mode by its name,
+-- with what its text says of it.
 pub data Row : Type 0 where
   entry : List ℕ → Entry → Row
-  player : List ℕ → Player → Row
+  player : Place → List ℕ → Player → Row
+  of_mode : List ℕ → ModeSettings → Row
 
-abbrev pub rows_from : List ℕ → Content → List Row
-rows_from name (entries es) = map (entry name) es
-rows_from name (players ps) = map (player name) ps
-rows_from name _ = []
+abbrev pub rows_from : Place → List ℕ → Content → List Row
+rows_from place name (entries es) = map (entry name) es
+rows_from place name (players ps) = map (player place name) ps
+rows_from place name _ = []
 
 -- the rows of sections, as written
-abbrev pub rows_in : List SectionRows → List Row
-rows_in sections = flat_map (λ s. rows_from s.name s.content) sections
+abbrev pub rows_in : Place → List SectionRows → List Row
+rows_in place sections = flat_map (λ s. rows_from place s.name s.content) sections
+
+-- a mode, and then the rows of its sections
+abbrev pub mode_rows : ModeRows → List Row
+mode_rows m = of_mode m.name (mode_settings m.sections) ∷ rows_in Mode m.sections
+
+-- the rows of the machine, and then those of one mode after the other
+abbrev pub rows_of : Rows → List Row
+rows_of rows = rows_in Machine rows.machine ++ flat_map mode_rows rows.modes
 
 -- what an entry gives, by the name of its section
 unfoldable pub entry_contributions : List ℕ → Entry → List Contribution
@@ -91,24 +145,14 @@ unfoldable pub player_entry_contributions : Place → List ℕ → Player → Li
 player_entry_contributions place section p =
     if bytes_eq section event_player_name then player_contributions place (event_player_of p) else []
 
-abbrev pub row_contributions : Place → Row → List Contribution
-row_contributions place (entry section e) = entry_contributions section e
-row_contributions place (player section p) = player_entry_contributions place section p
+abbrev pub row_contributions : Row → List Contribution
+row_contributions (entry section e) = entry_contributions section e
+row_contributions (player place section p) = player_entry_contributions place section p
+row_contributions (of_mode name s) = mode_contributions name s
 
--- the owner of a binding that has this place, and its priority
-abbrev pub owner_at : Place → Owner
-owner_at Machine = owners.Machine
-
-abbrev pub priority_of : Place → ℕ
-priority_of Machine = 0
-
--- the machine's
-abbrev pub machine_place : Place
-machine_place = Machine
-
--- what rows of the machine give, in turn
+-- what rows give, in turn
 abbrev pub given_by : List Row → List Contribution
-given_by rows = flat_map (row_contributions machine_place) rows
+given_by rows = flat_map row_contributions rows
 
 abbrev pub contributions_of : Rows → List Contribution
-contributions_of rows = given_by (rows_in rows.machine)
+contributions_of rows = given_by (rows_of rows)

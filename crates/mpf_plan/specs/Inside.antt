@@ -18,8 +18,8 @@ use Rattle.mpf_plan.specs.declared.entries.Work.{Work}
 use Rattle.mpf_plan.specs.declared.fault.Table.{Table}
 use Rattle.mpf_plan.specs.declared.fault.Table.TheVariants.{Events, Switches}
 use Rattle.mpf_plan.specs.declared.tables.Plan.TheInside.{Inside}
-use Rattle.mpf_config.specs.View.{entry_view, player_view}
-use Rattle.mpf_plan.specs.Contributions.{Contribution, gives, reads, active, inactive, binds, post, Row, entry, player}
+use Rattle.mpf_config.specs.View.{entry_view, player_view, mode_settings_view}
+use Rattle.mpf_plan.specs.Contributions.{Contribution, gives, reads, active, inactive, mode, mode_event, binds, post, Row, entry, player, of_mode}
 use Rattle.mpf_plan.specs.Limits.{order_of}
 use Rattle.mpf_plan.specs.Uses.{Names}
 use Rattle.mpf_plan.specs.NamesKept.{names_kept}
@@ -28,13 +28,15 @@ use Rattle.mpf_plan.specs.PlanOf.{DraftView}
 
 -- the name that the parts make
 abbrev pub parts_text : Parts → List ℕ
-parts_text p = p.front.now ++ p.end.now
+parts_text p = p.front.now ++ p.middle.now ++ p.end.now
 
 abbrev pub contribution_view : contributions.Contribution → Contribution
 contribution_view (contribution.Gives table n) = gives table n.now
 contribution_view (contribution.Reads kind) = reads kind
 contribution_view (contribution.Active n) = active (parts_text n)
 contribution_view (contribution.Inactive n) = inactive (parts_text n)
+contribution_view (contribution.Mode n priority game) = mode n.now priority game
+contribution_view (contribution.ModeEvent which n) = mode_event which n.now
 contribution_view (contribution.Binds n place aim) = binds n.now place aim
 contribution_view (contribution.Post n) = post (parts_text n)
 
@@ -43,7 +45,8 @@ contributions_view cs = map contribution_view cs
 
 abbrev pub row_view : rows.Row → Row
 row_view (row.Entry section e) = entry section.now (entry_view e.now)
-row_view (row.Player section p) = player section.now (player_view p.now)
+row_view (row.Player place section p) = player place section.now (player_view p.now)
+row_view (row.Mode name s) = of_mode name.now (mode_settings_view s)
 
 abbrev pub row_list_view : List rows.Row → List Row
 row_list_view rs = map row_view rs

@@ -10,7 +10,7 @@ use Rattle.mpf_plan.specs.declared.fault.PlanFault.{PlanFault}
 use Rattle.mpf_plan.specs.declared.fault.PlanFault.TheVariants as faults
 use Rattle.mpf_plan.specs.declared.fault.Table.{Table}
 use Rattle.mpf_plan.specs.declared.names.Found.{Found}
-use Rattle.mpf_plan.specs.Contributions.{Contribution, binds}
+use Rattle.mpf_plan.specs.Contributions.{Contribution, mode, binds}
 use Rattle.mpf_plan.specs.Uses.{given_names, names_from, lacks_name}
 use Rattle.mpf_plan.specs.Limits.{limit_of, order_of, tables_in_order, first_above}
 use Rattle.mpf_plan.specs.PlanOf.{plan_from}
@@ -32,6 +32,14 @@ bindings_given _ = 0
 
 abbrev pub binding_count : List Contribution → ℕ
 binding_count cs = sum_by bindings_given cs
+
+-- how many modes, as well
+abbrev pub modes_given : Contribution → ℕ
+modes_given (mode n priority game) = 1
+modes_given _ = 0
+
+abbrev pub mode_count : List Contribution → ℕ
+mode_count cs = sum_by modes_given cs
 
 -- all are counted, or both numbers are above the limit
 abbrev pub IsCount : ℕ → ℕ → ℕ → Type 0

@@ -3,17 +3,27 @@ use Rattle.std.specs.Prelude.{◌≡◌, ℕ, ◌-◌, Bool, true, false, cond, 
 use Rattle.mpf_config.specs.Rows.{Rows}
 use Rattle.mpf_plan.specs.declared.entries.EventId.{EventId}
 use Rattle.mpf_plan.specs.declared.entries.SwitchKind.{SwitchKind}
+use Rattle.mpf_plan.specs.declared.entries.ModeId.{ModeId}
+use Rattle.mpf_plan.specs.declared.entries.ModeEvent.{ModeEvent}
+use Rattle.mpf_plan.specs.declared.entries.ModeEvent.TheVariants.{WillStart, Starting, Started, Stopping, Stopped}
+use Rattle.mpf_plan.specs.declared.entries.ModeEvents.{ModeEvents}
+use Rattle.mpf_plan.specs.declared.entries.Owner.{Owner}
+use Rattle.mpf_plan.specs.declared.entries.Owner.TheVariants as owners
 use Rattle.mpf_plan.specs.declared.entries.Action.{Action}
 use Rattle.mpf_plan.specs.declared.entries.Action.TheVariants.{Post}
+use Rattle.mpf_plan.specs.declared.entries.Target.{Target}
 use Rattle.mpf_plan.specs.declared.entries.Target.TheVariants as targets
 use Rattle.mpf_plan.specs.declared.entries.Binding.{Binding}
-use Rattle.mpf_plan.specs.declared.contribution.Aim.TheVariants.{Run}
+use Rattle.mpf_plan.specs.declared.contribution.Place.{Place}
+use Rattle.mpf_plan.specs.declared.contribution.Place.TheVariants.{Machine, Control, Mode}
+use Rattle.mpf_plan.specs.declared.contribution.Aim.{Aim}
+use Rattle.mpf_plan.specs.declared.contribution.Aim.TheVariants.{Run, Start, Stop}
 use Rattle.mpf_plan.specs.declared.fault.Table.{Table}
 use Rattle.mpf_plan.specs.declared.fault.Table.TheVariants.{Events, Switches}
 use Rattle.mpf_plan.specs.declared.fault.PlanFault.{PlanFault}
 use Rattle.mpf_plan.specs.declared.fault.PlanFault.TheVariants as faults
-use Rattle.mpf_plan.specs.PlanView.{PlanSwitch, no_switch, PlanView}
-use Rattle.mpf_plan.specs.Contributions.{Contribution, gives, reads, active, inactive, binds, post, contributions_of, owner_at, priority_of}
+use Rattle.mpf_plan.specs.PlanView.{PlanSwitch, no_switch, PlanMode, no_event, no_mode, PlanView}
+use Rattle.mpf_plan.specs.Contributions.{Contribution, gives, reads, active, inactive, mode, mode_event, mode_event_name, binds, post, contributions_of}
 use Rattle.mpf_plan.specs.Uses.{Names, names_from, number_among, lacks_name}
 use Rattle.mpf_plan.specs.Limits.{first_above, IsFirstAbove}
 
@@ -56,12 +66,76 @@ with_active e d = last_switch (λ s. record s { active = s.active ++ e ∷ [] })
 abbrev pub with_inactive : EventId → DraftView → DraftView
 with_inactive e d = last_switch (λ s. record s { inactive = s.inactive ++ e ∷ [] }) d
 
+-- the events of a mode, and a mode, of which the first event alone is known
+abbrev pub first_event : EventId → ModeEvents
+first_event e = record { will_start = e; starting = no_event; started = no_event; stopping = no_event; stopped = no_event }
+
+abbrev pub new_mode : List ℕ → ℕ → Bool → EventId → PlanMode
+new_mode name priority game e = record { name = name; mode = record { priority = priority; game = game; events = first_event e } }
+
+abbrev pub with_mode : PlanMode → DraftView → DraftView
+with_mode m d = record d { plan = record d.plan { modes = d.plan.modes ++ m ∷ [] } }
+
+-- one event of a mode is this
+abbrev pub with_event : ModeEvent → EventId → ModeEvents → ModeEvents
+with_event WillStart e events = record events { will_start = e }
+with_event Starting e events = record events { starting = e }
+with_event Started e events = record events { started = e }
+with_event Stopping e events = record events { stopping = e }
+with_event Stopped e events = record events { stopped = e }
+
+abbrev pub with_event_in : ModeEvent → EventId → PlanMode → PlanMode
+with_event_in which e m = record m { mode = record m.mode { events = with_event which e m.mode.events } }
+
+-- the last of the modes has this event
+abbrev pub last_with_event : ModeEvent → EventId → List PlanMode → List PlanMode
+last_with_event which e modes = slice_set modes (length modes - 1) (with_event_in which e (slice_index_or modes (length modes - 1) no_mode))
+
+abbrev pub with_mode_event : ModeEvent → EventId → DraftView → DraftView
+with_mode_event which e d = record d { plan = record d.plan { modes = last_with_event which e d.plan.modes } }
+
+-- the mode that came last, and its priority
+abbrev pub last_mode : PlanView → ModeId
+last_mode plan = record { 0 = length plan.modes - 1 }
+
+abbrev pub last_priority : List PlanMode → ℕ
+last_priority modes = (slice_index_or modes (length modes - 1) no_mode).mode.priority
+
+-- who owns a binding that has this place, where this mode came last; and its priority, where this is that of the mode
+abbrev pub owner_at : ModeId → Place → Owner
+owner_at last Machine = owners.Machine
+owner_at last Control = owners.Machine
+owner_at last Mode = owners.Mode last
+
+abbrev pub priority_at : ℕ → Place → ℕ
+priority_at of_last Machine = 0
+priority_at of_last Control = of_last
+priority_at of_last Mode = of_last
+
+-- what a binding does that is next: it runs the next effect list, or starts or stops the mode that came last
+abbrev pub target_at : PlanView → Aim → Target
+target_at plan Run = targets.Run (record { 0 = length plan.lists })
+target_at plan Start = targets.Start (last_mode plan)
+target_at plan Stop = targets.Stop (last_mode plan)
+
+abbrev pub next_binding : PlanView → EventId → Place → Aim → Binding
+next_binding plan event place aim = record {
+  event = event;
+  owner = owner_at (last_mode plan) place;
+  priority = priority_at (last_priority plan.modes) place;
+  target = target_at plan aim;
+}
+
 abbrev pub with_binding : Binding → DraftView → DraftView
 with_binding b d = record d { plan = record d.plan { bindings = d.plan.bindings ++ b ∷ [] } }
 
--- the next effect list begins
-abbrev pub with_list : DraftView → DraftView
-with_list d = record d { plan = record d.plan { lists = d.plan.lists ++ [] ∷ [] } }
+-- the next effect list begins, where a binding is to run it
+abbrev pub lists_for : Aim → List (List Action) → List (List Action)
+lists_for Run lists = lists ++ [] ∷ []
+lists_for _ lists = lists
+
+abbrev pub with_list_for : Aim → DraftView → DraftView
+with_list_for aim d = record d { plan = record d.plan { lists = lists_for aim d.plan.lists } }
 
 -- the last of the lists has one action more
 abbrev pub last_with : Action → List (List Action) → List (List Action)
@@ -76,8 +150,9 @@ with_contribution names d (gives table n) = with_given table (number_among (name
 with_contribution names d (reads kind) = with_kind kind d
 with_contribution names d (active n) = with_active (event_of (names Events) n) d
 with_contribution names d (inactive n) = with_inactive (event_of (names Events) n) d
-with_contribution names d (binds n place Run) =
-    with_list (with_binding (record { event = event_of (names Events) n; owner = owner_at place; priority = priority_of place; target = targets.Run (record { 0 = length d.plan.lists }) }) d)
+with_contribution names d (mode n priority game) = with_mode (new_mode n priority game (event_of (names Events) (mode_event_name WillStart n))) d
+with_contribution names d (mode_event which n) = with_mode_event which (event_of (names Events) (mode_event_name which n)) d
+with_contribution names d (binds n place aim) = with_list_for aim (with_binding (next_binding d.plan (event_of (names Events) n) place aim) d)
 with_contribution names d (post n) = with_action (Post (event_of (names Events) n)) d
 
 -- a switch of which the name alone is known

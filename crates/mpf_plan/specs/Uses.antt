@@ -2,9 +2,10 @@
 use Rattle.std.specs.Prelude.{ℕ, ◌==◌, Bool, true, false, if◌then◌else◌, not, ◌&&◌, List, [], ◌∷◌, Option, None, Some, filter}
 use Rattle.std.specs.List.{flat_map, list_any, position_or_len}
 use Rattle.std.specs.Str.{bytes_eq}
+use Rattle.mpf_plan.specs.declared.entries.ModeEvent.TheVariants.{WillStart}
 use Rattle.mpf_plan.specs.declared.fault.Table.{Table}
 use Rattle.mpf_plan.specs.declared.fault.Table.TheVariants.{Events}
-use Rattle.mpf_plan.specs.Contributions.{Contribution, gives, active, inactive, binds, post}
+use Rattle.mpf_plan.specs.Contributions.{Contribution, gives, active, inactive, mode, mode_event, mode_event_name, binds, post}
 use Rattle.mpf_plan.specs.Limits.{order_of}
 
 -- ---- one contribution
@@ -14,6 +15,8 @@ abbrev pub used : Contribution → Option (Table × List ℕ)
 used (gives table n) = Some (table, n)
 used (active n) = Some (Events, n)
 used (inactive n) = Some (Events, n)
+used (mode n priority game) = Some (Events, mode_event_name WillStart n)
+used (mode_event which n) = Some (Events, mode_event_name which n)
 used (binds n place aim) = Some (Events, n)
 used (post n) = Some (Events, n)
 used _ = None

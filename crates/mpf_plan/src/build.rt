@@ -6,7 +6,7 @@ ghost use Rattle.mpf_plan.specs.declared.fault.Table.{Table as TableValue};
 ghost use Rattle.mpf_plan.specs.Limits.{entry_count, limit_of};
 ghost use Rattle.mpf_plan.specs.PlanOf.{plan_at, plan_of, GivesPlan, IsExceeded};
 
-use crate::collect::rows_in;
+use crate::collect::rows_of;
 use crate::fault::{PlanFault, Table};
 use crate::fill::fill;
 use crate::numbering::number;
@@ -18,15 +18,23 @@ use std::alloc::Global;
 
 /// The plan of the rows.
 ///
-/// Events are numbered in the order of their first uses, as sections and entries are written. A
-/// switch uses what it posts, first when it becomes active, then when it becomes inactive, whatever
-/// the order of its settings. An entry of `event_player` uses the event that it handles, then those
-/// that it posts.
+/// The rows of the machine text come first, then those of one mode after the other, in the order of
+/// the modes. Bindings are in this order, and modes are numbered in it. Events are numbered in the
+/// order of their first uses, as sections and entries are written. A switch uses what it posts,
+/// first when it becomes active, then when it becomes inactive, whatever the order of its settings.
+/// An entry of `event_player` uses the event that it handles, then those that it posts. A mode uses
+/// its five events in the order of [`crate::ModeEvents`], then the events that start it, then those
+/// that stop it. The rows of its text come after these.
 ///
 /// When a switch becomes active, it posts `NAME_active`, then `sw_TAG` for each of its tags, then
 /// its `events_when_activated`. When it becomes inactive, it posts `NAME_inactive`, then its
 /// `events_when_deactivated`. Tags and events keep the order in which they are written, and each is
 /// posted as often as it is written.
+///
+/// Each event in `start_events` of a mode is bound to its start, and each in `stop_events` to its
+/// stop. So is `ball_ending` to its stop where `stop_on_ball_end` holds, and `game_ending` where
+/// `game_mode` holds. These bindings are the machine's, at the mode's priority. The entries of
+/// `event_player` in the mode's text are bindings of the mode, at its priority.
 ///
 /// # Errors
 ///
@@ -39,8 +47,7 @@ pub fn plan(alloc: Global, config: &Config) -> Result<Plan, PlanFault>
     ensures within { IfOk result (λ _. (t : TableValue) → entry_count (plan_of (rows_view config.now)) t ≤ limit_of t) }
     ensures limit { (t : TableValue) → result ≡ Err (PlanFault.Limit t) → IsExceeded (rows_view config.now) t }
 {
-    let sections = config.machine.sections.as_slice();
-    let rows = rows_in(alloc, sections)?;
+    let rows = rows_of(alloc, config)?;
     let names = number(alloc, &rows)?;
     let draft = fill(alloc, &names, &rows)?;
     let events = names.of(Table::Events).len();

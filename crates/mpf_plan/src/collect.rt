@@ -1,48 +1,79 @@
 //! What rows give to a plan, by names and in plan order.
 
-ghost use Rattle.std.specs.Prelude.{◌≡◌, ◌++◌, map, IfOk, OnOk};
-ghost use Rattle.mpf_config.specs.View.{switch_view as switch_row_view, event_player_view, section_view, entry_view, player_view, name_view};
-ghost use Rattle.mpf_plan.specs.Contributions.{active, inactive, post, texts, is_quick, kind_of, tag_event, active_posts, inactive_posts, switch_contributions, player_contributions, rows_in, rows_from, entry, player, entry_contributions, player_entry_contributions, row_contributions, machine_place};
+ghost use Rattle.std.specs.Prelude.{◌≡◌, ◌++◌, map, codes, IfOk, OnOk};
+ghost use Rattle.mpf_config.specs.View.{switch_view as switch_row_view, event_player_view, mode_settings_view, section_view, mode_view, rows_view, entry_view, player_view, name_view};
+ghost use Rattle.mpf_plan.specs.Contributions.{active, inactive, post, texts, is_quick, kind_of, tag_event, active_posts, inactive_posts, switch_contributions, player_contributions, starter, stopper, stopper_where, later_events, controls, mode_contributions, rows_in, rows_from, mode_rows, rows_of, entry, player, entry_contributions, player_entry_contributions, row_contributions};
 ghost use Rattle.mpf_plan.specs.Inside.{contributions_view, row_view, row_list_view};
 
 use crate::contribution::{Aim, Contribution, Parts, Place, whole};
-use crate::entries::SwitchKind;
+use crate::entries::{ModeEvent, SwitchKind};
 use crate::fault::Table;
 use mpf_config::{
-    Content, Debounce, EVENT_PLAYER_NAME, Entry, EventPlayer, Name, Player, SWITCHES_NAME, Section,
-    Switch, as_event_player, as_switch,
+    Config, Content, Debounce, EVENT_PLAYER_NAME, Entry, EventPlayer, ModeSettings, ModeText, Name,
+    Player, SWITCHES_NAME, Section, Switch, as_event_player, as_switch, mode_settings,
 };
 use std::alloc::{AllocError, Global};
 
-/// An entry, or an entry of a player, in the section of this name.
+/// A row of a text.
 #[derive(Clone, Copy)]
 pub(crate) enum Row<'a> {
+    /// An entry in the section of this name.
     Entry(&'a [u8], &'a Entry),
-    Player(&'a [u8], &'a Player),
+    /// An entry of a player in the section of this name, whose bindings have this place.
+    Player(Place, &'a [u8], &'a Player),
+    /// A mode by its name, with what its text says of it.
+    Mode(&'a [u8], ModeSettings<'a>),
 }
 
 // ---- rows
 
-/// The rows of sections, as written.
-pub(crate) fn rows_in<'a>(
-    alloc: Global,
-    sections: &'a [Section],
-) -> Result<Vec<Row<'a>>, AllocError>
-    ensures { IfOk result (λ rows. row_list_view rows.items ≡ rows_in (map section_view sections.now)) }
+/// The rows of the machine text, and then those of one mode after the other.
+pub(crate) fn rows_of<'a>(alloc: Global, config: &'a Config) -> Result<Vec<Row<'a>>, AllocError>
+    ensures { IfOk result (λ rows. row_list_view rows.items ≡ rows_of (rows_view config.now)) }
 {
-    let mut rows = Vec::new(alloc);
-    for section in sections {
-        add_rows(&mut rows, section)?;
+    let mut rows: Vec<Row<'a>> = Vec::new(alloc);
+    let sections: &'a [Section] = config.machine.sections.as_slice();
+    let modes: &'a [ModeText] = config.modes.as_slice();
+    add_sections(&mut rows, Place::Machine, sections)?;
+    for mode in modes {
+        add_mode(&mut rows, mode)?;
     }
     Ok(rows)
 }
 
-fn add_rows<'a>(rows: &mut Vec<Row<'a>>, section: &'a Section) -> Result<(), AllocError>
-    ensures { OnOk result (row_list_view rows.new.items ≡ row_list_view rows.old.items ++ rows_from (section_view section.now).name (section_view section.now).content) }
+/// A mode, and then the rows of its sections.
+fn add_mode<'a>(rows: &mut Vec<Row<'a>>, mode: &'a ModeText) -> Result<(), AllocError>
+    ensures { OnOk result (row_list_view rows.new.items ≡ row_list_view rows.old.items ++ mode_rows (mode_view mode.now)) }
+{
+    let sections = mode.sections.as_slice();
+    rows.push(Row::Mode(&mode.name, mode_settings(sections)))?;
+    add_sections(rows, Place::Mode, sections)
+}
+
+/// The rows of sections, as written.
+fn add_sections<'a>(
+    rows: &mut Vec<Row<'a>>,
+    place: Place,
+    sections: &'a [Section],
+) -> Result<(), AllocError>
+    ensures { OnOk result (row_list_view rows.new.items ≡ row_list_view rows.old.items ++ rows_in place (map section_view sections.now)) }
+{
+    for section in sections {
+        add_rows(rows, place, section)?;
+    }
+    Ok(())
+}
+
+fn add_rows<'a>(
+    rows: &mut Vec<Row<'a>>,
+    place: Place,
+    section: &'a Section,
+) -> Result<(), AllocError>
+    ensures { OnOk result (row_list_view rows.new.items ≡ row_list_view rows.old.items ++ rows_from place (section_view section.now).name (section_view section.now).content) }
 {
     match &section.content {
         Content::Entries(entries) => add_entries(rows, &section.name, entries),
-        Content::Players(players) => add_players(rows, &section.name, players),
+        Content::Players(players) => add_players(rows, place, &section.name, players),
         _ => Ok(()),
     }
 }
@@ -62,38 +93,34 @@ fn add_entries<'a>(
 
 fn add_players<'a>(
     rows: &mut Vec<Row<'a>>,
+    place: Place,
     section: &'a [u8],
     players: &'a [Player],
 ) -> Result<(), AllocError>
-    ensures { OnOk result (row_list_view rows.new.items ≡ row_list_view rows.old.items ++ map (player section.now) (map player_view players.now)) }
+    ensures { OnOk result (row_list_view rows.new.items ≡ row_list_view rows.old.items ++ map (player place section.now) (map player_view players.now)) }
 {
     for player in players {
-        rows.push(Row::Player(section, player))?;
+        rows.push(Row::Player(place, section, player))?;
     }
     Ok(())
 }
 
 // ---- contributions
 
-/// The machine handles events, at priority 0.
-pub(crate) fn machine_place() -> Place
-    ensures { result ≡ machine_place }
-{
-    Place::Machine
-}
-
 /// What a row gives, in place of what was there.
 pub(crate) fn collect_row<'a>(
     contributions: &mut Vec<Contribution<'a>>,
-    place: Place,
     row: Row<'a>,
 ) -> Result<(), AllocError>
-    ensures { OnOk result (contributions_view contributions.new.items ≡ row_contributions place (row_view row.entry)) }
+    ensures { OnOk result (contributions_view contributions.new.items ≡ row_contributions (row_view row.entry)) }
 {
     contributions.clear();
     match row {
         Row::Entry(section, entry) => collect_entry(contributions, section, entry),
-        Row::Player(section, player) => collect_player(contributions, place, section, player),
+        Row::Player(place, section, player) => {
+            collect_player(contributions, place, section, player)
+        }
+        Row::Mode(name, settings) => collect_mode(contributions, name, settings),
     }
 }
 
@@ -174,6 +201,7 @@ fn collect_active<'a>(
 {
     contributions.push(Contribution::Active(Parts {
         front: &row.name.text,
+        middle: b"",
         end: b"_active",
     }))?;
     collect_tags(contributions, row.tags)?;
@@ -192,6 +220,7 @@ fn collect_tags<'a>(
     for tag in tags {
         contributions.push(Contribution::Active(Parts {
             front: b"sw_",
+            middle: b"",
             end: &tag.text,
         }))?;
     }
@@ -207,6 +236,7 @@ fn collect_inactive<'a>(
 {
     contributions.push(Contribution::Inactive(Parts {
         front: &row.name.text,
+        middle: b"",
         end: b"_inactive",
     }))?;
     for name in row.deactivated {
@@ -238,6 +268,91 @@ fn collect_posts<'a>(
 {
     for name in names {
         contributions.push(Contribution::Post(whole(&name.text)))?;
+    }
+    Ok(())
+}
+
+// ---- modes
+
+/// A mode, and what starts and stops it, after what is there.
+#[tactic(auto, unfolding(crate::specs::Contributions::mode_contributions))]
+fn collect_mode<'a>(
+    contributions: &mut Vec<Contribution<'a>>,
+    name: &'a [u8],
+    settings: ModeSettings<'a>,
+) -> Result<(), AllocError>
+    ensures { OnOk result (contributions_view contributions.new.items ≡ contributions_view contributions.old.items ++ mode_contributions name.now (mode_settings_view settings.entry)) }
+{
+    contributions.push(Contribution::Mode(name, settings.priority, settings.game))?;
+    collect_later_events(contributions, name)?;
+    collect_controls(contributions, settings)?;
+    Ok(())
+}
+
+/// The other four events of a mode.
+fn collect_later_events<'a>(
+    contributions: &mut Vec<Contribution<'a>>,
+    name: &'a [u8],
+) -> Result<(), AllocError>
+    ensures { OnOk result (contributions_view contributions.new.items ≡ contributions_view contributions.old.items ++ later_events name.now) }
+{
+    contributions.push(Contribution::ModeEvent(ModeEvent::Starting, name))?;
+    contributions.push(Contribution::ModeEvent(ModeEvent::Started, name))?;
+    contributions.push(Contribution::ModeEvent(ModeEvent::Stopping, name))?;
+    contributions.push(Contribution::ModeEvent(ModeEvent::Stopped, name))?;
+    Ok(())
+}
+
+/// What starts a mode, and what stops it.
+fn collect_controls<'a>(
+    contributions: &mut Vec<Contribution<'a>>,
+    settings: ModeSettings<'a>,
+) -> Result<(), AllocError>
+    ensures { OnOk result (contributions_view contributions.new.items ≡ contributions_view contributions.old.items ++ controls (mode_settings_view settings.entry)) }
+{
+    collect_starts(contributions, settings.starts)?;
+    collect_stops(contributions, settings.stops)?;
+    collect_stop_where(contributions, settings.stops_with_ball, b"ball_ending")?;
+    collect_stop_where(contributions, settings.game, b"game_ending")?;
+    Ok(())
+}
+
+/// The events start the mode that came last.
+fn collect_starts<'a>(
+    contributions: &mut Vec<Contribution<'a>>,
+    names: &'a [Name],
+) -> Result<(), AllocError>
+    ensures { OnOk result (contributions_view contributions.new.items ≡ contributions_view contributions.old.items ++ map starter (texts (map name_view names.now))) }
+{
+    for name in names {
+        contributions.push(Contribution::Binds(&name.text, Place::Control, Aim::Start))?;
+    }
+    Ok(())
+}
+
+/// The events stop it.
+fn collect_stops<'a>(
+    contributions: &mut Vec<Contribution<'a>>,
+    names: &'a [Name],
+) -> Result<(), AllocError>
+    ensures { OnOk result (contributions_view contributions.new.items ≡ contributions_view contributions.old.items ++ map stopper (texts (map name_view names.now))) }
+{
+    for name in names {
+        contributions.push(Contribution::Binds(&name.text, Place::Control, Aim::Stop))?;
+    }
+    Ok(())
+}
+
+/// The event stops it, where this holds.
+fn collect_stop_where<'a>(
+    contributions: &mut Vec<Contribution<'a>>,
+    holds: bool,
+    event: &'a [u8],
+) -> Result<(), AllocError>
+    ensures { OnOk result (contributions_view contributions.new.items ≡ contributions_view contributions.old.items ++ stopper_where holds event.now) }
+{
+    if holds {
+        contributions.push(Contribution::Binds(event, Place::Control, Aim::Stop))?;
     }
     Ok(())
 }

@@ -1,18 +1,20 @@
-//! What entries give to a plan, by names.
+//! What rows give to a plan, by names.
 
 ghost use Rattle.std.specs.Prelude.{◌≡◌, ◌++◌, option_map, OnOk};
 ghost use Rattle.mpf_plan.specs.Uses.{used, given};
-ghost use Rattle.mpf_plan.specs.Contributions.{owner_at, priority_of};
+ghost use Rattle.mpf_plan.specs.Contributions.{event_ending, mode_event_name};
+ghost use Rattle.mpf_plan.specs.PlanOf.{owner_at, priority_at};
 ghost use Rattle.mpf_plan.specs.Inside.{parts_text, named_view, contribution_view};
 
-use crate::entries::{Owner, SwitchKind};
+use crate::entries::{ModeEvent, ModeId, Owner, SwitchKind};
 use crate::fault::Table;
 use std::alloc::AllocError;
 
-/// A name in two parts, which lie where they are written.
+/// A name in three parts, which lie where they are written.
 #[derive(Clone, Copy)]
 pub(crate) struct Parts<'a> {
     pub(crate) front: &'a [u8],
+    pub(crate) middle: &'a [u8],
     pub(crate) end: &'a [u8],
 }
 
@@ -21,22 +23,32 @@ pub(crate) struct Parts<'a> {
 pub(crate) enum Place {
     /// The machine's, at priority 0.
     Machine,
+    /// The machine's, at the priority of the mode that came last: it starts or stops that mode.
+    Control,
+    /// That of the mode that came last.
+    Mode,
 }
 
 impl Place {
-    pub(crate) fn owner(self) -> Owner
-        ensures { result ≡ owner_at self }
+    /// The owner of a binding, where this mode came last.
+    pub(crate) fn owner(self, last: ModeId) -> Owner
+        ensures { result ≡ owner_at last self }
     {
         match self {
             Place::Machine => Owner::Machine,
+            Place::Control => Owner::Machine,
+            Place::Mode => Owner::Mode(last),
         }
     }
 
-    pub(crate) fn priority(self) -> u32
-        ensures { result ≡ priority_of self }
+    /// The priority of a binding, where the mode that came last has this one.
+    pub(crate) fn priority(self, of_last: u32) -> u32
+        ensures { result ≡ priority_at of_last self }
     {
         match self {
             Place::Machine => 0,
+            Place::Control => of_last,
+            Place::Mode => of_last,
         }
     }
 }
@@ -46,9 +58,13 @@ impl Place {
 pub(crate) enum Aim {
     /// Run the effect list that begins with it.
     Run,
+    /// Start the mode that came last.
+    Start,
+    /// Stop the mode that came last.
+    Stop,
 }
 
-/// One thing that an entry gives to a plan.
+/// One thing that a row gives to a plan.
 #[derive(Clone, Copy)]
 pub(crate) enum Contribution<'a> {
     /// What stands in the table under this name.
@@ -59,6 +75,10 @@ pub(crate) enum Contribution<'a> {
     Active(Parts<'a>),
     /// It posts the event when it becomes inactive.
     Inactive(Parts<'a>),
+    /// A mode: its name, its priority, and whether it starts only in a game.
+    Mode(&'a [u8], u32, bool),
+    /// An event of the mode that came last, which has this name.
+    ModeEvent(ModeEvent, &'a [u8]),
     /// A binding of the event.
     Binds(&'a [u8], Place, Aim),
     /// The effect list that began last posts the event.
@@ -70,8 +90,33 @@ pub(crate) fn whole(name: &[u8]) -> Parts<'_>
     ensures { parts_text result ≡ name.now }
 {
     Parts {
-        front: name,
-        end: b"",
+        front: b"",
+        middle: b"",
+        end: name,
+    }
+}
+
+/// How the name of an event of a mode ends.
+fn event_ending(which: ModeEvent) -> &'static [u8]
+    ensures { result.now ≡ event_ending which }
+{
+    match which {
+        ModeEvent::WillStart => b"_will_start",
+        ModeEvent::Starting => b"_starting",
+        ModeEvent::Started => b"_started",
+        ModeEvent::Stopping => b"_stopping",
+        ModeEvent::Stopped => b"_stopped",
+    }
+}
+
+/// The name of this event of the mode of this name.
+pub(crate) fn mode_event_name(which: ModeEvent, name: &[u8]) -> Parts<'_>
+    ensures { parts_text result ≡ mode_event_name which name.now }
+{
+    Parts {
+        front: b"mode_",
+        middle: name,
+        end: event_ending(which),
     }
 }
 
@@ -81,6 +126,7 @@ pub(crate) fn write_name(text: &mut Vec<u8>, name: Parts) -> Result<(), AllocErr
 {
     text.clear();
     text.extend_from_slice(name.front)?;
+    text.extend_from_slice(name.middle)?;
     text.extend_from_slice(name.end)
 }
 
@@ -92,6 +138,10 @@ pub(crate) fn used<'a>(contribution: &Contribution<'a>) -> Option<(Table, Parts<
         Contribution::Gives(table, name) => Some((table, whole(name))),
         Contribution::Active(name) => Some((Table::Events, name)),
         Contribution::Inactive(name) => Some((Table::Events, name)),
+        Contribution::Mode(name, _, _) => {
+            Some((Table::Events, mode_event_name(ModeEvent::WillStart, name)))
+        }
+        Contribution::ModeEvent(which, name) => Some((Table::Events, mode_event_name(which, name))),
         Contribution::Binds(name, _, _) => Some((Table::Events, whole(name))),
         Contribution::Post(name) => Some((Table::Events, name)),
         _ => None,

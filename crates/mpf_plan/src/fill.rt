@@ -3,17 +3,19 @@
 ghost use Rattle.std.specs.Prelude.{◌≡◌, ◌<◌, ◌≤◌, ◌+◌, List, ℕ, false, length, map, fold, IfOk, OnOk};
 ghost use Rattle.mpf_plan.specs.declared.names.NameSets.{NameSets as NameSetsValue};
 ghost use Rattle.mpf_plan.specs.declared.fault.Table.TheVariants.{Events, Switches};
-ghost use Rattle.mpf_plan.specs.Contributions.{gives, active, inactive, binds, post, given_by};
+ghost use Rattle.mpf_plan.specs.Contributions.{gives, active, inactive, mode, mode_event, binds, post, given_by};
 ghost use Rattle.mpf_plan.specs.PlanView.{no_switch};
-ghost use Rattle.mpf_plan.specs.PlanOf.{event_of, with_switch, with_kind, with_active, with_inactive, last_with, with_contribution, named_switch, blank, drafted};
+ghost use Rattle.mpf_plan.specs.PlanOf.{event_of, with_switch, with_kind, with_active, with_inactive, first_event, with_event, last_with_event, next_binding, last_priority, lists_for, last_with, with_contribution, named_switch, blank, drafted};
 ghost use Rattle.mpf_plan.specs.NamesKept.{names_of};
-ghost use Rattle.mpf_plan.specs.Inside.{parts_text, contribution_view, contributions_view, row_list_view, name_sets_view, action_lists, switches_view, draft_view};
-ghost use Rattle.mpf_plan.specs.Numbering.{binding_count};
+ghost use Rattle.mpf_plan.specs.Inside.{parts_text, contribution_view, contributions_view, row_list_view, name_sets_view, mode_entry_view, action_lists, switches_view, draft_view};
+ghost use Rattle.mpf_plan.specs.Numbering.{binding_count, mode_count};
 
-use crate::collect::{Row, collect_row, machine_place};
-use crate::contribution::{Aim, Contribution, Parts, Place, whole};
-use crate::draft::{Draft, SwitchEntry};
-use crate::entries::{Action, Binding, EventId, ListId, SwitchKind, Target};
+use crate::collect::{Row, collect_row};
+use crate::contribution::{Aim, Contribution, Parts, Place, mode_event_name, whole};
+use crate::draft::{Draft, ModeEntry, SwitchEntry};
+use crate::entries::{
+    Action, Binding, EventId, ListId, Mode, ModeEvent, ModeEvents, ModeId, SwitchKind, Target,
+};
 use crate::fault::Table;
 use crate::names::NameSets;
 use crate::numbering::number_among;
@@ -22,14 +24,15 @@ use std::alloc::{AllocError, Global};
 
 /// What the rows make, where names have these numbers.
 pub(crate) fn fill(alloc: Global, names: &NameSets, rows: &[Row]) -> Result<Draft, AllocError>
-    requires { binding_count (given_by (row_list_view rows.now)) ≤ 16384 }
+    requires bindings { binding_count (given_by (row_list_view rows.now)) ≤ 16384 }
+    requires modes { mode_count (given_by (row_list_view rows.now)) ≤ 64 }
     ensures { IfOk result (λ d. draft_view names.now d ≡ drafted (name_sets_view names.now) (given_by (row_list_view rows.now))) }
 {
     let mut draft = blank(alloc, names)?;
     let mut text = Vec::new(alloc);
     let mut contributions = Vec::new(alloc);
     for row in rows {
-        collect_row(&mut contributions, machine_place(), *row)?;
+        collect_row(&mut contributions, *row)?;
         add_all(alloc, names, &mut text, &mut draft, &contributions)?;
     }
     Ok(draft)
@@ -42,7 +45,8 @@ fn add_all(
     draft: &mut Draft,
     contributions: &[Contribution],
 ) -> Result<(), AllocError>
-    requires { length draft.old.lists.items + binding_count (contributions_view contributions.now) ≤ 16384 }
+    requires lists { length draft.old.lists.items + binding_count (contributions_view contributions.now) ≤ 16384 }
+    requires modes { length draft.old.modes.items + mode_count (contributions_view contributions.now) ≤ 64 }
     ensures { OnOk result (draft_view names.now draft.new ≡ fold (with_contribution (name_sets_view names.now)) (draft_view names.now draft.old) (contributions_view contributions.now)) }
 {
     for contribution in contributions {
@@ -58,7 +62,8 @@ fn add(
     draft: &mut Draft,
     contribution: &Contribution,
 ) -> Result<(), AllocError>
-    requires { length draft.old.lists.items ≤ 16384 }
+    requires lists { length draft.old.lists.items ≤ 16384 }
+    requires modes { length draft.old.modes.items ≤ 64 }
     ensures { OnOk result (draft_view names.now draft.new ≡ with_contribution (name_sets_view names.now) (draft_view names.now draft.old) (contribution_view contribution.now)) }
 {
     match *contribution {
@@ -69,6 +74,10 @@ fn add(
         }
         Contribution::Active(name) => add_active(names, text, draft, name),
         Contribution::Inactive(name) => add_inactive(names, text, draft, name),
+        Contribution::Mode(name, priority, game) => {
+            add_mode(alloc, names, text, draft, name, priority, game)
+        }
+        Contribution::ModeEvent(which, name) => add_mode_event(names, text, draft, which, name),
         Contribution::Binds(name, place, aim) => {
             add_binding(alloc, names, text, draft, name, place, aim)
         }
@@ -174,9 +183,100 @@ fn post_inactive(draft: &mut Draft, event: EventId) -> Result<(), AllocError>
     Ok(())
 }
 
+// ---- modes
+
+/// A mode, of which the first event alone is known.
+fn add_mode(
+    alloc: Global,
+    names: &NameSets,
+    text: &mut Vec<u8>,
+    draft: &mut Draft,
+    name: &[u8],
+    priority: u32,
+    game: bool,
+) -> Result<(), AllocError>
+    ensures { OnOk result (draft_view names.now draft.new ≡ with_contribution (name_sets_view names.now) (draft_view names.now draft.old) (mode name.now priority game)) }
+{
+    let event = event_of(names, text, mode_event_name(ModeEvent::WillStart, name))?;
+    let mode = Mode {
+        priority,
+        game,
+        events: first_event(event),
+    };
+    let name = Vec::from_slice(alloc, name)?;
+    draft.modes.push(ModeEntry { name, mode })?;
+    Ok(())
+}
+
+/// The events of a mode, of which the first alone is known.
+fn first_event(will_start: EventId) -> ModeEvents
+    ensures { result ≡ first_event will_start }
+{
+    ModeEvents {
+        will_start,
+        starting: EventId(0),
+        started: EventId(0),
+        stopping: EventId(0),
+        stopped: EventId(0),
+    }
+}
+
+fn add_mode_event(
+    names: &NameSets,
+    text: &mut Vec<u8>,
+    draft: &mut Draft,
+    which: ModeEvent,
+    name: &[u8],
+) -> Result<(), AllocError>
+    ensures { OnOk result (draft_view names.now draft.new ≡ with_contribution (name_sets_view names.now) (draft_view names.now draft.old) (mode_event which name.now)) }
+{
+    let event = event_of(names, text, mode_event_name(which, name))?;
+    set_event(&mut draft.modes, which, event);
+    Ok(())
+}
+
+/// The mode that came last has this event.
+fn set_event(modes: &mut Vec<ModeEntry>, which: ModeEvent, event: EventId)
+    ensures { map mode_entry_view modes.new.items ≡ last_with_event which event (map mode_entry_view modes.old.items) }
+{
+    let count = modes.len();
+    if count > 0 {
+        let entry = &mut modes[count - 1];
+        entry.mode.events = with_event(entry.mode.events, which, event);
+    }
+}
+
+/// One event of a mode is this.
+fn with_event(events: ModeEvents, which: ModeEvent, event: EventId) -> ModeEvents
+    ensures { result ≡ with_event which event events }
+{
+    match which {
+        ModeEvent::WillStart => ModeEvents {
+            will_start: event,
+            ..events
+        },
+        ModeEvent::Starting => ModeEvents {
+            starting: event,
+            ..events
+        },
+        ModeEvent::Started => ModeEvents {
+            started: event,
+            ..events
+        },
+        ModeEvent::Stopping => ModeEvents {
+            stopping: event,
+            ..events
+        },
+        ModeEvent::Stopped => ModeEvents {
+            stopped: event,
+            ..events
+        },
+    }
+}
+
 // ---- bindings and effect lists
 
-/// A binding, and the effect list that it runs.
+/// A binding, and the effect list that begins with it, where it is to run one.
 fn add_binding(
     alloc: Global,
     names: &NameSets,
@@ -186,20 +286,55 @@ fn add_binding(
     place: Place,
     aim: Aim,
 ) -> Result<(), AllocError>
-    requires { length draft.old.lists.items ≤ 16384 }
+    requires lists { length draft.old.lists.items ≤ 16384 }
+    requires modes { length draft.old.modes.items ≤ 64 }
     ensures { OnOk result (draft_view names.now draft.new ≡ with_contribution (name_sets_view names.now) (draft_view names.now draft.old) (binds name.now place aim)) }
 {
     let event = event_of(names, text, whole(name))?;
+    let binding = next_binding(draft, event, place, aim);
+    draft.bindings.push(binding)?;
+    begin_list(alloc, &mut draft.lists, aim)
+}
+
+/// The binding of the event that is next.
+fn next_binding(draft: &Draft, event: EventId, place: Place, aim: Aim) -> Binding
+    requires lists { length draft.now.lists.items ≤ 16384 }
+    requires modes { length draft.now.modes.items ≤ 64 }
+    ensures { (names : NameSetsValue) → result ≡ next_binding (draft_view names draft.now).plan event place aim }
+{
+    let last = ModeId(draft.modes.len().saturating_sub(1) as u16);
+    let priority = last_priority(&draft.modes);
     let target = match aim {
         Aim::Run => Target::Run(ListId(draft.lists.len() as u32)),
+        Aim::Start => Target::Start(last),
+        Aim::Stop => Target::Stop(last),
     };
-    draft.bindings.push(Binding {
+    Binding {
         event,
-        owner: place.owner(),
-        priority: place.priority(),
+        owner: place.owner(last),
+        priority: place.priority(priority),
         target,
-    })?;
-    draft.lists.push(Vec::new(alloc))?;
+    }
+}
+
+/// The priority of the mode that came last; 0 where there is none.
+fn last_priority(modes: &[ModeEntry]) -> u32
+    ensures { result ≡ last_priority (map mode_entry_view modes.now) }
+{
+    match modes.last() {
+        Some(entry) => entry.mode.priority,
+        None => 0,
+    }
+}
+
+/// The next effect list begins, where a binding is to run it.
+fn begin_list(alloc: Global, lists: &mut Vec<Vec<Action>>, aim: Aim) -> Result<(), AllocError>
+    ensures { OnOk result (action_lists lists.new.items ≡ lists_for aim (action_lists lists.old.items)) }
+{
+    match aim {
+        Aim::Run => lists.push(Vec::new(alloc))?,
+        _ => (),
+    }
     Ok(())
 }
 

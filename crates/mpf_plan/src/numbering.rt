@@ -10,7 +10,7 @@ ghost use Rattle.mpf_plan.specs.NamesKept.{names_of};
 ghost use Rattle.mpf_plan.specs.Inside.{parts_text, name_sets_view, contribution_view, contributions_view, row_list_view};
 ghost use Rattle.mpf_plan.specs.Numbering.{with_name, IsNameTableOf, AreNameTablesOf, bindings_given, IsCount, HoldGivenNames, HasFound, Numbered};
 
-use crate::collect::{Row, collect_row, machine_place};
+use crate::collect::{Row, collect_row};
 use crate::contribution::{Contribution, Parts, given, used, write_name};
 use crate::fault::{PlanFault, TABLES, Table};
 use crate::names::{Found, NameHashing, NameSet, NameSets, NameTable};
@@ -66,7 +66,7 @@ fn hashing_of(alloc: Global, rows: &[Row]) -> Result<NameHashing, AllocError> {
     let mut all = DefaultHasher::new();
     let mut contributions = Vec::new(alloc);
     for row in rows {
-        collect_row(&mut contributions, machine_place(), *row)?;
+        collect_row(&mut contributions, *row)?;
         feed(&mut all, &contributions);
     }
     let mut start = FoldHasher::default();
@@ -79,6 +79,7 @@ fn feed(hasher: &mut DefaultHasher, contributions: &[Contribution]) {
     for contribution in contributions {
         if let Some((_, name)) = used(contribution) {
             hasher.write(name.front);
+            hasher.write(name.middle);
             hasher.write(name.end);
             hasher.write(b"\n");
         }
@@ -121,7 +122,7 @@ fn find_names(alloc: Global, hashing: NameHashing, rows: &[Row]) -> Result<Found
     let mut text = Vec::new(alloc);
     let mut contributions = Vec::new(alloc);
     for row in rows {
-        collect_row(&mut contributions, machine_place(), *row)?;
+        collect_row(&mut contributions, *row)?;
         note_all(alloc, &mut found, &mut text, &contributions)?;
     }
     Ok(found)
@@ -218,7 +219,7 @@ fn lacks_name(alloc: Global, hashing: NameHashing, rows: &[Row]) -> Result<bool,
     let mut text = Vec::new(alloc);
     let mut contributions = Vec::new(alloc);
     for row in rows {
-        collect_row(&mut contributions, machine_place(), *row)?;
+        collect_row(&mut contributions, *row)?;
         let lacking = use_other(&sets, &mut text, &contributions)?;
         if lacking {
             return Ok(true);
@@ -238,7 +239,7 @@ fn given_names(
     let mut sets = no_sets(alloc, hashing)?;
     let mut contributions = Vec::new(alloc);
     for row in rows {
-        collect_row(&mut contributions, machine_place(), *row)?;
+        collect_row(&mut contributions, *row)?;
         note_given(alloc, &mut sets, &contributions)?;
     }
     Ok(sets)

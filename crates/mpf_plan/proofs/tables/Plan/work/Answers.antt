@@ -1,4 +1,4 @@
-use Rattle.std.proofs.Common.{◌≡◌, ◌<◌, length, sym, subst, ◌∙◌, arith}
+use Rattle.std.proofs.Common.{◌≡◌, ◌<◌, length, sym, subst, arith}
 use Rattle.mpf_plan.specs.PlanView.{PlanView, work_of}
 use Rattle.mpf_plan.specs.Valid.{IsWorkAt}
 use Rattle.mpf_plan.specs.Inside.{plan_view}

@@ -1,0 +1,177 @@
+-- The events of the modes of a plan: each has the name that its mode gives it, and no two modes share one.
+use Rattle.std.proofs.Common.{◌≡◌, ◌≢◌, ℕ, zero, suc, ◌+◌, ◌<◌, ◌≤◌, ◌==◌, ◌⊎◌, inl, inr, Bool, true, false, cond, not, List, [], ◌∷◌, length, map, get_or, slice_index_or, Option, Some, None, Contains, refl, sym, ◌∙◌, ap, subst, arith}
+use Rattle.std.specs.Str.{bytes_eq}
+use Rattle.std.specs.List.{AllPairs, position_or_len}
+use Rattle.std.proofs.lemmas.Bool.{cases_lt, eq-eqb}
+use Rattle.std.proofs.lemmas.List.{length-map, get_or-map}
+use Rattle.std.proofs.lemmas.List.Elements.{All-get_or}
+use Rattle.std.proofs.lemmas.Option.{none-some}
+use Rattle.std.proofs.lemmas.Slice.Eq.{bytes_eq-Decides}
+use Rattle.mpf_config.specs.Rows.{ModeRows, Rows}
+use Rattle.mpf_plan.specs.declared.entries.EventId.{EventId}
+use Rattle.mpf_plan.specs.declared.entries.ModeId.{ModeId}
+use Rattle.mpf_plan.specs.declared.entries.ModeEvent.{ModeEvent}
+use Rattle.mpf_plan.specs.declared.entries.ModeEvent.TheVariants.{WillStart, Starting, Started, Stopping, Stopped}
+use Rattle.mpf_plan.specs.declared.entries.ModeEvents.{ModeEvents}
+use Rattle.mpf_plan.specs.declared.entries.Work.{Work}
+use Rattle.mpf_plan.specs.declared.entries.Work.TheVariants as works
+use Rattle.mpf_plan.specs.declared.fault.Table.TheVariants.{Events}
+use Rattle.mpf_plan.specs.PlanView.{PlanMode, PlanView, no_mode, name_of_event, event_among, mode_at, mode_event, which_event, work_or, work_from, work_of}
+use Rattle.mpf_plan.specs.Valid.{IsModeWithin, IsWorkAt}
+use Rattle.mpf_plan.specs.Contributions.{mode_event_name, contributions_of}
+use Rattle.mpf_plan.specs.Uses.{Names, names_from, number_among}
+use Rattle.mpf_plan.specs.PlanOf.{plan_from}
+use Rattle.mpf_plan.proofs.Drafted.{names-from}
+use Rattle.mpf_plan.proofs.RowFacts.{rows_are_open}
+use Rattle.mpf_plan.proofs.SoundDraft.{has_entries}
+use Rattle.mpf_plan.proofs.ModeNames.{same_which, same_mode}
+use Rattle.mpf_plan.proofs.ModesMade.{made, made-event, modes-made}
+use Rattle.mpf_plan.proofs.Worked.{work_found}
+
+-- a name stands at its number
+pub at_number : (names : List (List ℕ)) (n : List ℕ) → number_among names n < length names → get_or names (number_among names n) [] ≡ n
+at_number [] n within = absurd (omega arith)
+at_number (x ∷ xs) n within = by (at_number xs n) (bytes_eq n x) refl within
+  where
+    by : (position_or_len (bytes_eq n) xs < length xs → get_or xs (position_or_len (bytes_eq n) xs) [] ≡ n) → (b : Bool) → bytes_eq n x ≡ b → cond (not b) (1 + position_or_len (bytes_eq n) xs) 0 < suc (length xs) → get_or (x ∷ xs) (cond (not b) (1 + position_or_len (bytes_eq n) xs) 0) [] ≡ n
+    by rest true same inside = sym ((bytes_eq-Decides n x).0 same)
+    by rest false other inside =
+        let next : 1 + position_or_len (bytes_eq n) xs ≡ suc (position_or_len (bytes_eq n) xs) = omega arith in
+        ap (λ k. get_or (x ∷ xs) k []) next ∙ rest (omega (arith, inside))
+
+-- ---- an event of a mode has work
+
+abbrev IsWork : Work → Type 0
+IsWork works.Nothing = ⊥
+IsWork (works.Mode m which) = Unit {0}
+
+later : (b : Bool) (w : ModeEvent) (o : Option ModeEvent) → (o ≡ None → ⊥) → cond b (Some w) o ≡ None → ⊥
+later true w o some is = none-some w (sym is)
+later false w o some is = some is
+
+here : (n : ℕ) (w : ModeEvent) (o : Option ModeEvent) → cond (n == n) (Some w) o ≡ None → ⊥
+here n w o is = none-some w (sym is ∙ ap (λ b. cond b (Some w) o) (eq-eqb n n refl))
+
+is_among : (events : ModeEvents) (which : ModeEvent) → which_event events (event_among events which) ≡ None → ⊥
+is_among events WillStart = here events.will_start.0 WillStart _
+is_among events Starting = later (events.starting.0 == events.will_start.0) WillStart _ (here events.starting.0 Starting _)
+is_among events Started =
+    let e = events.started.0 in
+    later (e == events.will_start.0) WillStart _ (later (e == events.starting.0) Starting _ (here e Started _))
+is_among events Stopping =
+    let e = events.stopping.0 in
+    later (e == events.will_start.0) WillStart _ (later (e == events.starting.0) Starting _ (later (e == events.started.0) Started _ (here e Stopping _)))
+is_among events Stopped =
+    let e = events.stopped.0 in
+    later (e == events.will_start.0) WillStart _ (later (e == events.starting.0) Starting _ (later (e == events.started.0) Started _ (later (e == events.stopping.0) Stopping _ (here e Stopped None))))
+
+or_rest : (n : ℕ) (o : Option ModeEvent) (rest : Work) → (o ≡ None → IsWork rest) → IsWork (work_or n o rest)
+or_rest n None rest h = h refl
+or_rest n (Some which) rest h = tt
+
+some_work : (n : ℕ) (modes : List PlanMode) (i : ℕ) (which : ModeEvent) → i < length modes → IsWork (work_from n modes (event_among (get_or modes i no_mode).mode.events which))
+some_work n [] i which within = absurd (omega arith)
+some_work n (x ∷ xs) zero which within =
+    let e = event_among x.mode.events which in
+    or_rest n (which_event x.mode.events e) (work_from (suc n) xs e) (λ none. absurd (is_among x.mode.events which none))
+some_work n (x ∷ xs) (suc i) which within =
+    let e = event_among (get_or xs i no_mode).mode.events which in
+    or_rest n (which_event x.mode.events e) (work_from (suc n) xs e) (λ none. some_work (suc n) xs i which (omega arith))
+
+-- ---- the modes of the plan
+
+-- in place of a mode where there is none
+abbrev no_rows : ModeRows
+no_rows = record { name = []; sections = [] }
+
+abbrev names_in : List ModeRows → List (List ℕ)
+names_in modes = map (λ (m : ModeRows). m.name) modes
+
+module _ (rows : Rows) where
+  abbrev plan : PlanView
+  plan = plan_from (contributions_of rows)
+
+  abbrev names : Names
+  names = names_from (contributions_of rows)
+
+  -- there are as many as in the rows
+  pub modes-count : length plan.modes ≡ length rows.modes
+  modes-count = ap length (modes-made rows) ∙ length-map rows.modes (made names)
+
+  module _ (m : ModeId) (within : m.0 < length plan.modes) where
+    abbrev row : ModeRows
+    row = get_or rows.modes m.0 no_rows
+
+    inside : m.0 < length rows.modes
+    inside = omega (arith, within, modes-count)
+
+    made_at : mode_at plan m ≡ made names row
+    made_at = ap (λ ms. get_or ms m.0 no_mode) (modes-made rows) ∙ get_or-map (made names) rows.modes m.0 no_rows no_mode inside
+
+    name_at : (d : List ℕ) → get_or (names_in rows.modes) m.0 d ≡ (mode_at plan m).name
+    name_at d = get_or-map (λ (x : ModeRows). x.name) rows.modes m.0 no_rows d inside ∙ ap (λ (x : PlanMode). x.name) (sym made_at)
+
+    -- its name is that of a mode of the rows
+    pub name_there : Contains (names_in rows.modes) (mode_at plan m).name
+    name_there = (m.0, omega (arith, inside, length-map rows.modes (λ (x : ModeRows). x.name)), name_at (mode_at plan m).name)
+
+    known : (which : ModeEvent) → number_among (names Events) (mode_event_name which row.name) < length (names Events)
+    known which =
+        let entries = has_entries (contributions_of rows) (rows_are_open rows) in
+        let at = subst (IsModeWithin (length plan.events)) made_at (All-get_or (IsModeWithin (length plan.events)) plan.modes m.0 no_mode within entries.modes) in
+        subst (λ es. number_among (names Events) (mode_event_name which row.name) < length es) (names-from (contributions_of rows) Events) (by which at)
+      where
+        by : (which : ModeEvent) → IsModeWithin (length plan.events) (made names row) → number_among (names Events) (mode_event_name which row.name) < length plan.events
+        by WillStart at = at.will_start
+        by Starting at = at.starting
+        by Started at = at.started
+        by Stopping at = at.stopping
+        by Stopped at = at.stopped
+
+    -- its events have the names that it gives them
+    pub event_name_is : (which : ModeEvent) → name_of_event plan (mode_event plan m which) ≡ mode_event_name which (mode_at plan m).name
+    event_name_is which =
+        let name = mode_event_name which row.name in
+        ap (name_of_event plan) (ap (λ (x : PlanMode). event_among x.mode.events which) made_at ∙ made-event names which row)
+        ∙ ap (λ es. slice_index_or es (number_among (names Events) name) []) (names-from (contributions_of rows) Events)
+        ∙ at_number (names Events) name (known which)
+        ∙ ap (λ (x : PlanMode). mode_event_name which x.name) (sym made_at)
+
+  -- ---- no two modes share an event
+
+  module _ (apart : AllPairs (λ x y. x ≢ y) (names_in rows.modes)) where
+    differ : (m n : ModeId) → m.0 < n.0 → (in_m : m.0 < length plan.modes) (in_n : n.0 < length plan.modes) → (mode_at plan m).name ≢ (mode_at plan n).name
+    differ m n before in_m in_n same =
+        apart m.0 n.0 [] before (omega (arith, in_n, modes-count, length-map rows.modes (λ (x : ModeRows). x.name))) (name_at m in_m [] ∙ same ∙ sym (name_at n in_n []))
+
+    module _ (m n : ModeId) (which other : ModeEvent) (in_m : m.0 < length plan.modes) (in_n : n.0 < length plan.modes) (same : mode_event plan m which ≡ mode_event plan n other) where
+      one_name : mode_event_name which (mode_at plan m).name ≡ mode_event_name other (mode_at plan n).name
+      one_name = sym (event_name_is m in_m which) ∙ ap (name_of_event plan) same ∙ event_name_is n in_n other
+
+      one_event : which ≡ other
+      one_event = same_which which other (mode_at plan m).name (mode_at plan n).name one_name
+
+      one_number : m.0 ≡ n.0
+      one_number = by (cases_lt m.0 n.0) (cases_lt n.0 m.0)
+        where
+          name : (mode_at plan m).name ≡ (mode_at plan n).name
+          name = same_mode which other (mode_at plan m).name (mode_at plan n).name one_name
+
+          by : (m.0 < n.0) ⊎ (n.0 ≤ m.0) → (n.0 < m.0) ⊎ (m.0 ≤ n.0) → m.0 ≡ n.0
+          by (inl before) _ = absurd (differ m n before in_m in_n name)
+          by (inr from) (inl after) = absurd (differ n m after in_n in_m (sym name))
+          by (inr from) (inr to) = omega (arith, from, to)
+
+    -- each event of a mode has the work of this event of this mode
+    pub works_are : (m : ModeId) (which : ModeEvent) → m.0 < length plan.modes → work_of plan (mode_event plan m which) ≡ works.Mode m which
+    works_are m which within = by (work_of plan e) (some_work 0 plan.modes m.0 which within) (work_found plan e)
+      where
+        e : EventId
+        e = mode_event plan m which
+
+        by : (w : Work) → IsWork w → IsWorkAt plan e w → w ≡ works.Mode m which
+        by works.Nothing some at = absurd some
+        by (works.Mode n other) some at =
+            let number : n.0 ≡ m.0 = sym (one_number m n which other within at.0 at.1) in
+            let event : other ≡ which = sym (one_event m n which other within at.0 at.1) in
+            λ i. works.Mode (record { 0 = number i }) (event i)

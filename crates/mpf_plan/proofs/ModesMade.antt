@@ -1,0 +1,178 @@
+-- The modes of a plan: one for each mode of the rows, with the events of its name.
+use Rattle.std.proofs.Common.{◌≡◌, ℕ, ◌-◌, Bool, true, false, if◌then◌else◌, List, [], ◌∷◌, ◌++◌, length, map, fold, set, refl, sym, ◌∙◌, ap, arith, codes}
+use Rattle.std.specs.Str.{bytes_eq}
+use Rattle.std.specs.List.{flat_map}
+use Rattle.std.proofs.lemmas.Grind.{flat_map-append}
+use Rattle.std.proofs.lemmas.List.{append-nil, append_assoc, set_at, get_or_push, length_push}
+use Rattle.std.proofs.lemmas.List.Sums.{fold-append}
+use Rattle.mpf_config.specs.Rows.{Entry, Player, Switch, EventPlayer, ModeSettings, Content, entries, players, SectionRows, ModeRows, Rows}
+use Rattle.mpf_config.specs.Rows as sections
+use Rattle.mpf_config.specs.Typed.{switches_name, event_player_name, switch_of, event_player_of, mode_settings}
+use Rattle.mpf_plan.specs.declared.contribution.Place.{Place}
+use Rattle.mpf_plan.specs.declared.contribution.Place.TheVariants.{Machine, Mode}
+use Rattle.mpf_plan.specs.declared.entries.EventId.{EventId}
+use Rattle.mpf_plan.specs.declared.entries.ModeEvent.{ModeEvent}
+use Rattle.mpf_plan.specs.declared.entries.ModeEvent.TheVariants.{WillStart, Starting, Started, Stopping, Stopped}
+use Rattle.mpf_plan.specs.declared.fault.Table.TheVariants.{Events}
+use Rattle.mpf_plan.specs.PlanView.{PlanMode, no_mode, event_among}
+use Rattle.mpf_plan.specs.Contributions.{Contribution, gives, active, inactive, mode, mode_event, mode_event_name, post, texts, active_posts, inactive_posts, switch_contributions, player_contributions, starter, stopper, stopper_where, later_events, controls, mode_contributions, Row, entry, player, of_mode, rows_from, rows_in, mode_rows, rows_of, entry_contributions, player_entry_contributions, row_contributions, given_by, contributions_of}
+use Rattle.mpf_plan.specs.Uses.{Names, names_from, number_among}
+use Rattle.mpf_plan.specs.PlanOf.{DraftView, event_of, new_mode, with_event_in, last_with_event, with_contribution, blank, drafted, plan_from}
+use Rattle.mpf_plan.proofs.Drafted.{given_plan}
+
+module _ (names : Names) where
+  -- the event of this name of a mode
+  abbrev pub event_for : ModeEvent → List ℕ → EventId
+  event_for which name = event_of (names Events) (mode_event_name which name)
+
+  -- what a mode of the rows makes
+  abbrev pub made_by : List ℕ → ModeSettings → PlanMode
+  made_by name s = record {
+    name = name;
+    mode = record {
+      priority = s.priority;
+      game = s.game;
+      events = record { will_start = event_for WillStart name; starting = event_for Starting name; started = event_for Started name; stopping = event_for Stopping name; stopped = event_for Stopped name };
+    };
+  }
+
+  abbrev pub made : ModeRows → PlanMode
+  made m = made_by m.name (mode_settings m.sections)
+
+  pub made-event : (which : ModeEvent) (m : ModeRows) → event_among (made m).mode.events which ≡ event_for which m.name
+  made-event WillStart m = refl
+  made-event Starting m = refl
+  made-event Started m = refl
+  made-event Stopping m = refl
+  made-event Stopped m = refl
+
+  -- ---- one contribution
+
+  abbrev modes_with : List PlanMode → Contribution → List PlanMode
+  modes_with ms (mode n priority game) = ms ++ new_mode n priority game (event_for WillStart n) ∷ []
+  modes_with ms (mode_event which n) = last_with_event which (event_for which n) ms
+  modes_with ms _ = ms
+
+  modes_one : (d : DraftView) (c : Contribution) → (with_contribution names d c).plan.modes ≡ modes_with d.plan.modes c
+  modes_one d (gives t n) = ap (λ p. p.modes) (given_plan t (number_among (names t) n) d)
+  modes_one d _ = refl
+
+  modes_fold : (cs : List Contribution) (d : DraftView) → (fold (with_contribution names) d cs).plan.modes ≡ fold modes_with d.plan.modes cs
+  modes_fold [] d = refl
+  modes_fold (c ∷ cs) d = modes_fold cs (with_contribution names d c) ∙ ap (λ ms. fold modes_with ms cs) (modes_one d c)
+
+  -- ---- what leaves the modes as they are
+
+  abbrev Leaves : List Contribution → Type 0
+  Leaves cs = (ms : List PlanMode) → fold modes_with ms cs ≡ ms
+
+  both : (cs ds : List Contribution) → Leaves cs → Leaves ds → Leaves (cs ++ ds)
+  both cs ds first then_ ms = fold-append modes_with ms cs ds ∙ ap (λ x. fold modes_with x ds) (first ms) ∙ then_ ms
+
+  each : (make : List ℕ → Contribution) → ((ms : List PlanMode) (n : List ℕ) → modes_with ms (make n) ≡ ms) → (ns : List (List ℕ)) → Leaves (map make ns)
+  each make one [] ms = refl
+  each make one (n ∷ ns) ms = ap (λ x. fold modes_with x (map make ns)) (one ms n) ∙ each make one ns ms
+
+  when : (b : Bool) (cs : List Contribution) → Leaves cs → Leaves (if b then cs else [])
+  when true cs leaves ms = leaves ms
+  when false cs leaves ms = refl
+
+  in_switch : (s : Switch) → Leaves (switch_contributions s)
+  unfolding switch_contributions
+  in_switch s = both (map active (active_posts s)) (map inactive (inactive_posts s)) (each active (λ ms n. refl) (active_posts s)) (each inactive (λ ms n. refl) (inactive_posts s))
+
+  in_player : (place : Place) (p : EventPlayer) → Leaves (player_contributions place p)
+  unfolding player_contributions
+  in_player place p = each post (λ ms n. refl) (texts p.posts)
+
+  in_entry : (section : List ℕ) (e : Entry) → Leaves (entry_contributions section e)
+  unfolding entry_contributions
+  in_entry section e = when (bytes_eq section switches_name) (switch_contributions (switch_of e)) (in_switch (switch_of e))
+
+  in_player_entry : (place : Place) (section : List ℕ) (p : Player) → Leaves (player_entry_contributions place section p)
+  unfolding player_entry_contributions
+  in_player_entry place section p = when (bytes_eq section event_player_name) (player_contributions place (event_player_of p)) (in_player place (event_player_of p))
+
+  in_controls : (s : ModeSettings) → Leaves (controls s)
+  in_controls s =
+      let starts = map starter (texts s.starts) in
+      let stops = map stopper (texts s.stops) in
+      let ball = stopper_where s.stops_with_ball (codes "ball_ending") in
+      let game = stopper_where s.game (codes "game_ending") in
+      both (starts ++ stops ++ ball) game
+      (both (starts ++ stops) ball (both starts stops (each starter (λ ms n. refl) (texts s.starts)) (each stopper (λ ms n. refl) (texts s.stops))) (when s.stops_with_ball (stopper (codes "ball_ending") ∷ []) (λ ms. refl)))
+      (when s.game (stopper (codes "game_ending") ∷ []) (λ ms. refl))
+
+  -- ---- a mode
+
+  event_set : (which : ModeEvent) (e : EventId) (ms : List PlanMode) (m : PlanMode) → last_with_event which e (ms ++ m ∷ []) ≡ ms ++ with_event_in which e m ∷ []
+  event_set which e ms m =
+      let at = length (ms ++ m ∷ []) - 1 in
+      let here : length ms ≡ at = omega (arith, length_push ms m) in
+      ap (λ x. set (ms ++ m ∷ []) at (with_event_in which e x)) (get_or_push ms m no_mode at here)
+      ∙ set_at ms m [] (with_event_in which e m) at here
+
+  -- its contributions add it
+  mode_adds : (name : List ℕ) (s : ModeSettings) (ms : List PlanMode) → fold modes_with ms (mode_contributions name s) ≡ ms ++ made_by name s ∷ []
+  unfolding mode_contributions
+  mode_adds name s ms =
+      let m0 = new_mode name s.priority s.game (event_for WillStart name) in
+      let m1 = with_event_in Starting (event_for Starting name) m0 in
+      let m2 = with_event_in Started (event_for Started name) m1 in
+      let m3 = with_event_in Stopping (event_for Stopping name) m2 in
+      in_controls s (fold modes_with ms (mode name s.priority s.game ∷ later_events name))
+      ∙ ap (λ x. last_with_event Stopped (event_for Stopped name) (last_with_event Stopping (event_for Stopping name) (last_with_event Started (event_for Started name) x))) (event_set Starting (event_for Starting name) ms m0)
+      ∙ ap (λ x. last_with_event Stopped (event_for Stopped name) (last_with_event Stopping (event_for Stopping name) x)) (event_set Started (event_for Started name) ms m1)
+      ∙ ap (λ x. last_with_event Stopped (event_for Stopped name) x) (event_set Stopping (event_for Stopping name) ms m2)
+      ∙ event_set Stopped (event_for Stopped name) ms m3
+
+  -- ---- all rows
+
+  abbrev modes_of : Row → List PlanMode
+  modes_of (of_mode name s) = made_by name s ∷ []
+  modes_of _ = []
+
+  row_adds : (r : Row) (ms : List PlanMode) → fold modes_with ms (row_contributions r) ≡ ms ++ modes_of r
+  row_adds (entry section e) ms = in_entry section e ms ∙ sym (append-nil ms)
+  row_adds (player place section p) ms = in_player_entry place section p ms ∙ sym (append-nil ms)
+  row_adds (of_mode name s) ms = mode_adds name s ms
+
+  rows_add : (rs : List Row) (ms : List PlanMode) → fold modes_with ms (given_by rs) ≡ ms ++ flat_map modes_of rs
+  rows_add [] ms = sym (append-nil ms)
+  rows_add (r ∷ rs) ms =
+      fold-append modes_with ms (row_contributions r) (given_by rs)
+      ∙ ap (λ x. fold modes_with x (given_by rs)) (row_adds r ms)
+      ∙ rows_add rs (ms ++ modes_of r)
+      ∙ append_assoc ms (modes_of r) (flat_map modes_of rs)
+
+  -- the rows of sections have none
+  none_mapped : {X : Type 0} (make : X → Row) → ((x : X) → modes_of (make x) ≡ []) → (xs : List X) → flat_map modes_of (map make xs) ≡ []
+  none_mapped make none [] = refl
+  none_mapped make none (x ∷ xs) = λ i. none x i ++ none_mapped make none xs i
+
+  none_from : (place : Place) (name : List ℕ) (content : Content) → flat_map modes_of (rows_from place name content) ≡ []
+  none_from place name (entries es) = none_mapped (entry name) (λ e. refl) es
+  none_from place name (players ps) = none_mapped (player place name) (λ p. refl) ps
+  none_from place name (sections.entry e) = refl
+  none_from place name (sections.listed ws) = refl
+
+  none_in : (place : Place) (ss : List SectionRows) → flat_map modes_of (rows_in place ss) ≡ []
+  none_in place [] = refl
+  none_in place (s ∷ ss) =
+      flat_map-append modes_of (rows_from place s.name s.content) (rows_in place ss) ∙ (λ i. none_from place s.name s.content i ++ none_in place ss i)
+
+  of_modes : (ms : List ModeRows) → flat_map modes_of (flat_map mode_rows ms) ≡ map made ms
+  of_modes [] = refl
+  of_modes (m ∷ ms) =
+      flat_map-append modes_of (mode_rows m) (flat_map mode_rows ms) ∙ (λ i. made m ∷ none_in Mode m.sections i ++ of_modes ms i)
+
+  pub modes_drafted : (rows : Rows) → (drafted names (contributions_of rows)).plan.modes ≡ map made rows.modes
+  modes_drafted rows =
+      modes_fold (contributions_of rows) (blank names)
+      ∙ rows_add (rows_of rows) []
+      ∙ flat_map-append modes_of (rows_in Machine rows.machine) (flat_map mode_rows rows.modes)
+      ∙ (λ i. none_in Machine rows.machine i ++ of_modes rows.modes i)
+
+-- the modes of the plan of contributions
+pub modes-made : (rows : Rows) → (plan_from (contributions_of rows)).modes ≡ map (made (names_from (contributions_of rows))) rows.modes
+modes-made rows = modes_drafted (names_from (contributions_of rows)) rows
