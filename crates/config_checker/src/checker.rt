@@ -15,6 +15,7 @@ use crate::certificate_reader::{CertificateLines, ReadFault, read_certificate};
 use crate::checked::Checked;
 use crate::report::{CertificateFault, Fault, Report};
 use crate::reporting::{named_fault, report_of};
+use crate::row_faults::faults_of_rows;
 use cascade_rank::{Bound, Weights, find, verify};
 use mpf_config::config::Config;
 use mpf_plan::{EventId, Plan, PlanFault};
@@ -25,7 +26,13 @@ use std::alloc::Global;
 ///
 /// # Errors
 ///
-/// The report lists one fault, the first of these:
+/// Where rows have faults of their own, the report lists them all:
+///
+/// - `Reserved`: a reserved event is posted. They come by text, first the machine text and then the
+///   modes' as listed; in a text by line, and in a line as written. Those that print the same line
+///   are listed once.
+///
+/// Otherwise it lists one fault, the first of these:
 ///
 /// - `Limit`: a table is above its limit; the first such table is reported.
 /// - `Cycle`: events lead to each other without end, so no weights fit.
@@ -40,6 +47,10 @@ pub fn check(alloc: Global, config: &Config) -> Result<Checked, Report>
     ensures good { IfOk result (λ c. IsGood c) }
     ensures refused { IfErr result (λ report. Reports (IsFaultOf (rows_view config.now)) (rows_view config.now) report) }
 {
+    let own = faults_of_rows(alloc, config)?;
+    if !own.is_empty() {
+        return Err(Report::Faults(own));
+    }
     let plan = plan_of(alloc, config)?;
     let weights = match find(alloc, &plan) {
         Ok(weights) => weights,
@@ -56,7 +67,13 @@ pub fn check(alloc: Global, config: &Config) -> Result<Checked, Report>
 ///
 /// # Errors
 ///
-/// The report lists one fault, the first of these:
+/// Where rows have faults of their own, the report lists them all:
+///
+/// - `Reserved`: a reserved event is posted. They come by text, first the machine text and then the
+///   modes' as listed; in a text by line, and in a line as written. Those that print the same line
+///   are listed once.
+///
+/// Otherwise it lists one fault, the first of these:
 ///
 /// - `Limit`: a table is above its limit; the first such table is reported.
 /// - `Certificate(Line)`: the text is no certificate.
@@ -74,6 +91,10 @@ pub fn check_with(alloc: Global, config: &Config, certificate: &[u8]) -> Result<
     ensures good { IfOk result (λ c. IsGood c) }
     ensures refused { IfErr result (λ report. Reports (IsFaultWith (rows_view config.now) certificate.now) (rows_view config.now) report) }
 {
+    let own = faults_of_rows(alloc, config)?;
+    if !own.is_empty() {
+        return Err(Report::Faults(own));
+    }
     let plan = plan_of(alloc, config)?;
     let CertificateLines {
         bound: stated,
