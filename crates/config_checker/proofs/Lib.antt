@@ -19,3 +19,5 @@ pub mod Judging
 pub mod EventWords
 pub mod ReadBack
 pub mod CertificateLength
+pub mod ByLine
+pub mod RowFaults

@@ -1,0 +1,83 @@
+-- The faults of rows, as they are found.
+use Rattle.std.proofs.Common.{◌≡◌, ℕ, ◌+◌, ◌<◌, Bool, true, false, not, ◌||◌, List, [], ◌∷◌, ◌++◌, length, drop, get_or, map, add-one, refl, sym, ap, ◌∙◌, arith, inl, inr}
+use Rattle.std.specs.List.{list_any, filter, flat_map}
+use Rattle.std.specs.Global.{Vec}
+use Rattle.std.specs.Str.{bytes_eq}
+use Rattle.std.specs.Ordering.{nat_cmp}
+use Rattle.std.specs.BTreeMap.{is_at}
+use Rattle.std.specs.Cmp.Lexicographic.{slice_cmp}
+use Rattle.std.proofs.Math.Seq.{drop-cons}
+use Rattle.std.proofs.lemmas.Bool.{not-true, not-false, cases_Bool}
+use Rattle.std.proofs.lemmas.List.Folds.{list_any-append}
+use Rattle.std.proofs.lemmas.Slice.Eq.{bytes_eq-Decides}
+use Rattle.yaml_subset.specs.Keys.{is_among}
+use Rattle.yaml_subset.proofs.KeySets.{contains_key}
+use Rattle.config_checker.specs.FaultView.{FaultView}
+use Rattle.config_checker.specs.ReportText.{report_line}
+use Rattle.config_checker.specs.Reserved.{listed_once}
+
+-- ---- sets
+
+or_false : (b : Bool) → (b || false) ≡ b
+or_false true = refl
+or_false false = refl
+
+-- whether a set has a name
+pub has_name : (keys : List (Vec ℕ)) (name : List ℕ) → list_any (λ (k : Vec ℕ). is_at (slice_cmp nat_cmp name) k.items) keys ≡ is_among (map (λ (k : Vec ℕ). k.items) keys) name
+has_name [] name = refl
+has_name (k ∷ keys) name = by (contains_key (λ (x : List ℕ). x) (k.items ∷ []) name) (has_name keys name)
+  where
+    by : (is_at (slice_cmp nat_cmp name) k.items || false) ≡ (bytes_eq k.items name || false) → list_any (λ (k : Vec ℕ). is_at (slice_cmp nat_cmp name) k.items) keys ≡ is_among (map (λ (k : Vec ℕ). k.items) keys) name
+        → (is_at (slice_cmp nat_cmp name) k.items || list_any (λ (k : Vec ℕ). is_at (slice_cmp nat_cmp name) k.items) keys) ≡ (bytes_eq k.items name || is_among (map (λ (k : Vec ℕ). k.items) keys) name)
+    by e rest = rw (sym (or_false (is_at (slice_cmp nat_cmp name) k.items)) ∙ e ∙ or_false (bytes_eq k.items name), rest) refl
+
+or_around : (a b c : Bool) → ((a || b) || c) ≡ (b || (a || c))
+or_around true true c = refl
+or_around true false c = refl
+or_around false b c = refl
+
+-- the names of a mode are taken
+pub took-more : (mode keys new rest : List (List ℕ)) (q : List ℕ) → is_among new q ≡ is_among (mode ++ keys) q → is_among (new ++ rest) q ≡ is_among (keys ++ (mode ++ rest)) q
+took-more mode keys new rest q took =
+    list_any-append (λ k. bytes_eq k q) new rest ∙ ap (λ (b : Bool). b || is_among rest q) (took ∙ list_any-append (λ k. bytes_eq k q) mode keys)
+    ∙ or_around (is_among mode q) (is_among keys q) (is_among rest q)
+    ∙ sym (list_any-append (λ k. bytes_eq k q) keys (mode ++ rest) ∙ ap (λ (b : Bool). is_among keys q || b) (list_any-append (λ k. bytes_eq k q) mode rest))
+
+-- one name more
+pub took-name : (name : List ℕ) (keys older new : List (List ℕ)) → ((q : List ℕ) → is_among keys q ≡ is_among older q) → ((q : List ℕ) → is_among new q ≡ is_among (name ∷ keys) q)
+    → (q : List ℕ) → is_among new q ≡ is_among (name ∷ older) q
+took-name name keys older new same took q = took q ∙ ap (λ (b : Bool). bytes_eq name q || b) (same q)
+
+-- ---- once each
+
+-- which lines there were matters, and not in which order
+abbrev pub SameLines : List (List ℕ) → List (List ℕ) → Type 0
+SameLines lines others = (q : List ℕ) → is_among lines q ≡ is_among others q
+
+same_step : (lines others : List (List ℕ)) (line : List ℕ) → SameLines lines others → SameLines (line ∷ lines) (line ∷ others)
+same_step lines others line h q = ap (λ (b : Bool). bytes_eq line q || b) (h q)
+
+same_lines : (lines others : List (List ℕ)) (faults : List FaultView) → SameLines lines others → listed_once lines faults ≡ listed_once others faults
+same_lines lines others [] h = refl
+same_lines lines others (f ∷ fs) h =
+    rw (h (report_line f), same_lines lines others fs h, same_lines (report_line f ∷ lines) (report_line f ∷ others) fs (same_step lines others (report_line f) h)) refl
+
+module _ (lines known : List (List ℕ)) (fault : FaultView) (rest : List FaultView) (fresh : Bool) (is : fresh ≡ not (is_among lines (report_line fault))) (knows : (q : List ℕ) → is_among known q ≡ (bytes_eq (report_line fault) q || is_among lines q)) where
+  -- a fault whose line is new
+  pub once-new : fresh ≡ true → listed_once lines (fault ∷ rest) ≡ fault ∷ listed_once known rest
+  once-new new =
+      let none : is_among lines (report_line fault) ≡ false = not-true (is_among lines (report_line fault)) (sym is ∙ new) in
+      rw none (ap (λ (faults : List FaultView). fault ∷ faults) (sym (same_lines known (report_line fault ∷ lines) rest knows)))
+
+  -- a fault whose line was there
+  pub once-again : fresh ≡ false → listed_once lines (fault ∷ rest) ≡ listed_once known rest
+  once-again old =
+      let there : is_among lines (report_line fault) ≡ true = not-false (is_among lines (report_line fault)) (sym is ∙ old) in
+      rw there (sym (same_lines known lines rest (λ q. knows q ∙ again q there)))
+    where
+      again : (q : List ℕ) → is_among lines (report_line fault) ≡ true → (bytes_eq (report_line fault) q || is_among lines q) ≡ is_among lines q
+      again q there =
+          elim (cases_Bool (bytes_eq (report_line fault) q)) [
+            | inl holds ↦ let e : report_line fault ≡ q = (bytes_eq-Decides (report_line fault) q).0 holds in ap (λ (b : Bool). b || is_among lines q) holds ∙ sym (ap (is_among lines) (sym e) ∙ there)
+            | inr fails ↦ ap (λ (b : Bool). b || is_among lines q) fails
+          ]
