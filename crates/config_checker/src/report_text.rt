@@ -50,7 +50,8 @@ fn write_reserved<W: Write>(post: &ReservedPost, writer: &mut W) -> io::Result<(
 {
     writer.write_all(b"fault 1 Name ")?;
     write_escaped(&post.text, writer)?;
-    write!(writer, " {} ", post.line)?;
+    write!(writer, " {}", post.line)?;
+    writer.write_all(b" ")?;
     writer.write_all(&post.name)?;
     writer.write_all(b"\n")
 }

@@ -114,8 +114,11 @@ fn listed_once(alloc: Global, faults: Vec<Fault>) -> Result<Vec<Fault>, AllocErr
     let mut lines = BTreeSet::new(alloc);
     let mut listed = Vec::new(alloc);
     for fault in faults {
-        if is_new(alloc, &mut lines, &fault)? {
+        let fresh = is_new(alloc, &mut lines, &fault)?;
+        if fresh {
             listed.push(fault)?;
+        } else {
+            drop(fault);
         }
     }
     Ok(listed)
