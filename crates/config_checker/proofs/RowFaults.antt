@@ -1,5 +1,5 @@
 -- The faults of rows, as they are found.
-use Rattle.std.proofs.Common.{◌≡◌, ℕ, ◌+◌, ◌<◌, Bool, true, false, not, ◌||◌, List, [], ◌∷◌, ◌++◌, length, drop, get_or, map, add-one, refl, sym, ap, ◌∙◌, arith, inl, inr}
+use Rattle.std.proofs.Common.{◌≡◌, ℕ, ◌+◌, ◌<◌, Bool, true, false, not, ◌||◌, List, [], ◌∷◌, ◌++◌, length, drop, get_or, map, append_assoc, refl, sym, ap, ◌∙◌, arith, inl, inr}
 use Rattle.std.specs.List.{list_any, filter, flat_map}
 use Rattle.std.specs.Global.{Vec}
 use Rattle.std.specs.Str.{bytes_eq}
@@ -8,13 +8,18 @@ use Rattle.std.specs.BTreeMap.{is_at}
 use Rattle.std.specs.Cmp.Lexicographic.{slice_cmp}
 use Rattle.std.proofs.Math.Seq.{drop-cons}
 use Rattle.std.proofs.lemmas.Bool.{not-true, not-false, cases_Bool}
+use Rattle.std.proofs.lemmas.List.{map-append}
 use Rattle.std.proofs.lemmas.List.Folds.{list_any-append}
 use Rattle.std.proofs.lemmas.Slice.Eq.{bytes_eq-Decides}
 use Rattle.yaml_subset.specs.Keys.{is_among}
 use Rattle.yaml_subset.proofs.KeySets.{contains_key}
+use Rattle.config_checker.specs.declared.report.Fault.{Fault}
 use Rattle.config_checker.specs.FaultView.{FaultView}
 use Rattle.config_checker.specs.ReportText.{report_line}
-use Rattle.config_checker.specs.Reserved.{listed_once}
+use Rattle.mpf_config.specs.Rows.{SectionRows, ModeRows, Rows}
+use Rattle.mpf_config.specs.BundleText.{machine_name, mode_text_name}
+use Rattle.config_checker.specs.Reserved.{game_events, posts_of, ordered_by, reserved_fault, faults_by, listed_once}
+use Rattle.config_checker.specs.View.{fault_view, faults_view}
 
 -- ---- sets
 
@@ -81,3 +86,29 @@ module _ (lines known : List (List ℕ)) (fault : FaultView) (rest : List FaultV
             | inl holds ↦ let e : report_line fault ≡ q = (bytes_eq-Decides (report_line fault) q).0 holds in ap (λ (b : Bool). b || is_among lines q) holds ∙ sym (ap (is_among lines) (sym e) ∙ there)
             | inr fails ↦ ap (λ (b : Bool). b || is_among lines q) fails
           ]
+
+-- ---- the faults that are listed, and those that are left
+
+module _ (lines known : List (List ℕ)) (fault : Fault) (old new before : List Fault) (fresh : Bool) (next : old ≡ fault ∷ new) (is : fresh ≡ not (is_among lines (report_line (fault_view fault)))) (knows : (q : List ℕ) → is_among known q ≡ (bytes_eq (report_line (fault_view fault)) q || is_among lines q)) where
+  pub lists-new : (after : List Fault) → after ≡ before ++ fault ∷ [] → fresh ≡ true → faults_view after ++ listed_once known (faults_view new) ≡ faults_view before ++ listed_once lines (faults_view old)
+  lists-new after more holds =
+      ap (λ (fs : List Fault). faults_view fs ++ listed_once known (faults_view new)) more
+      ∙ ap (λ (vs : List FaultView). vs ++ listed_once known (faults_view new)) (map-append fault_view before (fault ∷ []))
+      ∙ append_assoc (faults_view before) (fault_view fault ∷ []) (listed_once known (faults_view new))
+      ∙ ap (λ (vs : List FaultView). faults_view before ++ vs) (sym (once-new lines known (fault_view fault) (faults_view new) fresh is knows holds) ∙ ap (λ (fs : List Fault). listed_once lines (faults_view fs)) (sym next))
+
+  pub lists-again : fresh ≡ false → faults_view before ++ listed_once known (faults_view new) ≡ faults_view before ++ listed_once lines (faults_view old)
+  lists-again fails =
+      ap (λ (vs : List FaultView). faults_view before ++ vs) (sym (once-again lines known (fault_view fault) (faults_view new) fresh is knows fails) ∙ ap (λ (fs : List Fault). listed_once lines (faults_view fs)) (sym next))
+
+-- ---- the faults of all texts, by a test of names
+
+texts_by : (List ℕ → Bool) → List ℕ → List SectionRows → List FaultView
+texts_by test text sections = map (reserved_fault text) (ordered_by (λ w. w.line) (filter (λ w. is_among game_events w.text || test w.text) (posts_of sections)))
+
+all_by : (List ℕ → Bool) → Rows → List FaultView
+all_by test rows = texts_by test machine_name rows.machine ++ flat_map (λ (m : ModeRows). texts_by test (mode_text_name m.name) m.sections) rows.modes
+
+-- only what is among the events of modes matters
+pub same_faults : (modes others : List (List ℕ)) (rows : Rows) → ((q : List ℕ) → is_among modes q ≡ is_among others q) → faults_by modes rows ≡ faults_by others rows
+same_faults modes others rows same = ap (λ (test : List ℕ → Bool). all_by test rows) (λ i q. same q i)

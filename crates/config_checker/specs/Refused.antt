@@ -100,3 +100,17 @@ IsReport there (own ∷ more) faults = faults ≡ own ∷ more
 abbrev pub Reports : (FaultView → Type 0) → Rows → Report → Type 0
 Reports there rows reports.NoMemory = Unit {0}
 Reports there rows (reports.Faults faults) = IsReport there (faults_of_rows rows) (map fault_view faults.items)
+
+-- the report of one fault, which is there
+abbrev pub ReportsOne : (FaultView → Type 0) → Report → Type 0
+ReportsOne there reports.NoMemory = Unit {0}
+ReportsOne there (reports.Faults faults) = IsReport there [] (map fault_view faults.items)
+
+-- the report of the faults of rows, of which there are some
+abbrev pub AreOwn : List FaultView → List FaultView → Type 0
+AreOwn [] faults = ⊥
+AreOwn (own ∷ more) faults = faults ≡ own ∷ more
+
+abbrev pub ReportsOwn : Rows → Report → Type 0
+ReportsOwn rows reports.NoMemory = Unit {0}
+ReportsOwn rows (reports.Faults faults) = AreOwn (faults_of_rows rows) (map fault_view faults.items)

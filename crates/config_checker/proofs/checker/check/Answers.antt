@@ -17,7 +17,7 @@ pub returns-in_err-plan-clause-exact : goal.returns-in_err-plan-clause-exact
 returns-in_err-plan-clause-exact c =
     let rows = rows_view c.args.config.now in
     let p = err_from_is_err_and c.from_residual.result c.from_residual.ensures.1 in
-    subst (λ (r : Result CheckedView Report). GivesChecked r (checked_at rows)) (sym (p.1 ∙ ap Err p.2)) (one-gives rows (IsLimitFault rows) c.in_err-plan.field-0.0 (checked_at rows) c.in_err-plan.ensures.limit (limit-found rows))
+    subst (λ (r : Result CheckedView Report). GivesChecked r (checked_at rows)) (sym (p.1 ∙ ap Err p.2)) (one-gives (IsLimitFault rows) c.in_err-plan.field-0.0 (checked_at rows) c.in_err-plan.ensures.limit (limit-found rows c.in_ok-refuse_own.ensures.none))
 
 -- ---- no weights were found
 
@@ -25,19 +25,19 @@ pub returns-in-Err-clause-exact : goal.returns-in-Err-clause-exact
 returns-in-Err-clause-exact c =
     let rows = rows_view c.args.config.now in
     reports-gives c.report_of.result (fault_view c.in_ok-named_fault-in-Err.field-0) (checked_at rows) c.report_of.ensures
-    (unfound-checked rows c.in_ok-plan.plan c.in_ok-plan.ensures.plan (rank_view c.in-Err.fault) (fault_view c.in_ok-named_fault-in-Err.field-0) c.in_ok-named_fault-in-Err.ensures c.in-Err.ensures.exact)
+    (unfound-checked rows c.in_ok-refuse_own.ensures.none c.in_ok-plan.plan c.in_ok-plan.ensures.plan (rank_view c.in-Err.fault) (fault_view c.in_ok-named_fault-in-Err.field-0) c.in_ok-named_fault-in-Err.ensures c.in-Err.ensures.exact)
 
 pub returns-in-Err-clause-refused : goal.returns-in-Err-clause-refused
 returns-in-Err-clause-refused c =
     let rows = rows_view c.args.config.now in
-    reports-there rows (IsFaultOf rows) c.report_of.result (fault_view c.in_ok-named_fault-in-Err.field-0) c.report_of.ensures
-    (unfound-fault rows c.in_ok-plan.plan c.in_ok-plan.ensures.plan (rank_view c.in-Err.fault) (fault_view c.in_ok-named_fault-in-Err.field-0) c.in_ok-named_fault-in-Err.ensures c.in-Err.ensures.refused)
+    reports-there rows (IsFaultOf rows) c.report_of.result (fault_view c.in_ok-named_fault-in-Err.field-0) c.in_ok-refuse_own.ensures.none c.report_of.ensures
+    (unfound-fault rows c.in_ok-refuse_own.ensures.none c.in_ok-plan.plan c.in_ok-plan.ensures.plan (rank_view c.in-Err.fault) (fault_view c.in_ok-named_fault-in-Err.field-0) c.in_ok-named_fault-in-Err.ensures c.in-Err.ensures.refused)
 
 -- ---- accepted
 
 pub returns-clause-exact : goal.returns-clause-exact
 returns-clause-exact c =
-    found-accepted (rows_view c.args.config.now) c.in_ok-plan.plan c.in_ok-plan.ensures.plan c.in-Ok.weights c.in-Ok-verify.bound.0 c.in-Ok.ensures.exact c.in-Ok-verify.ensures.verified.bound_is ∙ ap Ok (sym c.new.ensures)
+    found-accepted (rows_view c.args.config.now) c.in_ok-refuse_own.ensures.none c.in_ok-plan.plan c.in_ok-plan.ensures.plan c.in-Ok.weights c.in-Ok-verify.bound.0 c.in-Ok.ensures.exact c.in-Ok-verify.ensures.verified.bound_is ∙ ap Ok (sym c.new.ensures)
 
 pub returns-clause-good : goal.returns-clause-good
 returns-clause-good c =
