@@ -103,10 +103,10 @@ module _ (lines known : List (List ℕ)) (fault : Fault) (old new before : List 
 
 -- ---- the faults of all texts, by a test of names
 
-texts_by : (List ℕ → Bool) → List ℕ → List SectionRows → List FaultView
+abbrev texts_by : (List ℕ → Bool) → List ℕ → List SectionRows → List FaultView
 texts_by test text sections = map (reserved_fault text) (ordered_by (λ w. w.line) (filter (λ w. is_among game_events w.text || test w.text) (posts_of sections)))
 
-all_by : (List ℕ → Bool) → Rows → List FaultView
+abbrev all_by : (List ℕ → Bool) → Rows → List FaultView
 all_by test rows = texts_by test machine_name rows.machine ++ flat_map (λ (m : ModeRows). texts_by test (mode_text_name m.name) m.sections) rows.modes
 
 -- only what is among the events of modes matters

@@ -10,13 +10,19 @@ use Rattle.config_checker.specs.View.{GivesChecked, fault_view}
 use Rattle.config_checker.specs.Checking.{checked_at}
 use Rattle.config_checker.specs.Refused.{IsLimitFault, IsFaultOf}
 use Rattle.config_checker.proofs.Cascade.{every_run_is_good}
-use Rattle.config_checker.proofs.Judging.{one-gives, reports-gives, reports-there, limit-found, unfound-checked, unfound-fault, found-accepted}
+use Rattle.config_checker.proofs.Judging.{own-found, own-reports, reports-one, one-gives, reports-gives, reports-there, limit-found, unfound-checked, unfound-fault, found-accepted}
 use Rattle.config_checker.proofs.checker.check.Goals as goal
+
+pub returns-in_err-refuse_own-clause-exact : goal.returns-in_err-refuse_own-clause-exact
+returns-in_err-refuse_own-clause-exact c =
+    let rows = rows_view c.args.config.now in
+    let p = err_from_is_err_and c.from_residual.result c.from_residual.ensures.1 in
+    subst (λ (r : Result CheckedView Report). GivesChecked r (checked_at rows)) (sym (p.1 ∙ ap Err p.2)) (own-found rows c.in_err-refuse_own.field-0.0 c.in_err-refuse_own.ensures.own)
 
 pub returns-in_err-plan-clause-exact : goal.returns-in_err-plan-clause-exact
 returns-in_err-plan-clause-exact c =
     let rows = rows_view c.args.config.now in
-    let p = err_from_is_err_and c.from_residual.result c.from_residual.ensures.1 in
+    let p = err_from_is_err_and c.from_residual-in_err-plan.result c.from_residual-in_err-plan.ensures.1 in
     subst (λ (r : Result CheckedView Report). GivesChecked r (checked_at rows)) (sym (p.1 ∙ ap Err p.2)) (one-gives (IsLimitFault rows) c.in_err-plan.field-0.0 (checked_at rows) c.in_err-plan.ensures.limit (limit-found rows c.in_ok-refuse_own.ensures.none))
 
 -- ---- no weights were found
