@@ -21,3 +21,4 @@ pub mod ReadBack
 pub mod CertificateLength
 pub mod ByLine
 pub mod RowFaults
+pub mod FreeNames

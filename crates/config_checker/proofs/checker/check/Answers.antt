@@ -1,4 +1,4 @@
-use Rattle.std.proofs.Common.{Err, Ok, Result, sym, ap, ◌∙◌, subst}
+use Rattle.std.proofs.Common.{Err, Ok, Result, IfErr, sym, ap, ◌∙◌, subst}
 use Rattle.std.proofs.lemmas.Result.{err_from_is_err_and}
 use Rattle.mpf_config.specs.View.{rows_view}
 use Rattle.mpf_plan.proofs.ValidPlan.{IsValid-plan_at}
@@ -8,9 +8,9 @@ use Rattle.config_checker.specs.CheckedView.{CheckedView}
 use Rattle.config_checker.specs.GoodRun.{IsGood}
 use Rattle.config_checker.specs.View.{GivesChecked, fault_view}
 use Rattle.config_checker.specs.Checking.{checked_at}
-use Rattle.config_checker.specs.Refused.{IsLimitFault, IsFaultOf}
+use Rattle.config_checker.specs.Refused.{IsLimitFault, IsFaultOf, Reports}
 use Rattle.config_checker.proofs.Cascade.{every_run_is_good}
-use Rattle.config_checker.proofs.Judging.{own-found, own-reports, reports-one, one-gives, reports-gives, reports-there, limit-found, unfound-checked, unfound-fault, found-accepted}
+use Rattle.config_checker.proofs.Judging.{own-found, own-reports, reports-one, one-gives, reports-gives, reports-there, limit-found, limit-fault, unfound-checked, unfound-fault, found-accepted}
 use Rattle.config_checker.proofs.checker.check.Goals as goal
 
 pub returns-in_err-refuse_own-clause-exact : goal.returns-in_err-refuse_own-clause-exact
@@ -24,6 +24,18 @@ returns-in_err-plan-clause-exact c =
     let rows = rows_view c.args.config.now in
     let p = err_from_is_err_and c.from_residual-in_err-plan.result c.from_residual-in_err-plan.ensures.1 in
     subst (λ (r : Result CheckedView Report). GivesChecked r (checked_at rows)) (sym (p.1 ∙ ap Err p.2)) (one-gives (IsLimitFault rows) c.in_err-plan.field-0.0 (checked_at rows) c.in_err-plan.ensures.limit (limit-found rows c.in_ok-refuse_own.ensures.none))
+
+pub returns-in_err-refuse_own-clause-refused : goal.returns-in_err-refuse_own-clause-refused
+returns-in_err-refuse_own-clause-refused c =
+    let rows = rows_view c.args.config.now in
+    let p = err_from_is_err_and c.from_residual.result c.from_residual.ensures.1 in
+    subst (λ (r : Result CheckedView Report). IfErr r (Reports (IsFaultOf rows) rows)) (sym (p.1 ∙ ap Err p.2)) (own-reports rows (IsFaultOf rows) c.in_err-refuse_own.field-0.0 c.in_err-refuse_own.ensures.own)
+
+pub returns-in_err-plan-clause-refused : goal.returns-in_err-plan-clause-refused
+returns-in_err-plan-clause-refused c =
+    let rows = rows_view c.args.config.now in
+    let p = err_from_is_err_and c.from_residual-in_err-plan.result c.from_residual-in_err-plan.ensures.1 in
+    subst (λ (r : Result CheckedView Report). IfErr r (Reports (IsFaultOf rows) rows)) (sym (p.1 ∙ ap Err p.2)) (reports-one rows (IsLimitFault rows) (IsFaultOf rows) c.in_err-plan.field-0.0 c.in_ok-refuse_own.ensures.none c.in_err-plan.ensures.limit (limit-fault rows))
 
 -- ---- no weights were found
 

@@ -1,4 +1,4 @@
-use Rattle.std.proofs.Common.{◌≡◌, true, false, map, Err, Ok, Result, refl, sym, ap, ◌∙◌, subst}
+use Rattle.std.proofs.Common.{◌≡◌, true, false, map, Err, Ok, Result, IfErr, refl, sym, ap, ◌∙◌, subst}
 use Rattle.std.proofs.lemmas.Bool.{eqb-true, eqb-false}
 use Rattle.std.proofs.lemmas.Result.{err_from_is_err_and}
 use Rattle.std.proofs.lemmas.List.{length-map}
@@ -11,9 +11,9 @@ use Rattle.config_checker.specs.GoodRun.{IsGood}
 use Rattle.config_checker.specs.CertificateText.{certificate_text}
 use Rattle.config_checker.specs.View.{GivesChecked, fault_view}
 use Rattle.config_checker.specs.Checking.{certificate, bad_line, other_events, other_bound, same_names, checked_with_at}
-use Rattle.config_checker.specs.Refused.{IsLimitFault, IsFaultWith}
+use Rattle.config_checker.specs.Refused.{IsLimitFault, IsFaultWith, Reports}
 use Rattle.config_checker.proofs.Cascade.{every_run_is_good}
-use Rattle.config_checker.proofs.Judging.{own-given, own-reports, reports-one, one-gives, reports-gives, reports-there, limit-given, misread-checked, misread-fault, read-as, other_events-checked, other_events-fault, unverified-checked, unverified-fault, verified-checked, verified-text, other_bound-checked, other_bound-fault}
+use Rattle.config_checker.proofs.Judging.{own-given, own-reports, reports-one, one-gives, reports-gives, reports-there, limit-given, limit-fault_with, misread-checked, misread-fault, read-as, other_events-checked, other_events-fault, unverified-checked, unverified-fault, verified-checked, verified-text, other_bound-checked, other_bound-fault}
 use Rattle.config_checker.proofs.checker.check_with.Goals as goal
 
 pub returns-in_err-refuse_own-clause-exact : goal.returns-in_err-refuse_own-clause-exact
@@ -30,6 +30,18 @@ returns-in_err-plan-clause-exact c =
     let p = err_from_is_err_and c.from_residual-in_err-plan.result c.from_residual-in_err-plan.ensures.1 in
     subst (λ (r : Result CheckedView Report). GivesChecked r (checked_with_at rows text)) (sym (p.1 ∙ ap Err p.2))
     (one-gives (IsLimitFault rows) c.in_err-plan.field-0.0 (checked_with_at rows text) c.in_err-plan.ensures.limit (limit-given rows c.in_ok-refuse_own.ensures.none text))
+
+pub returns-in_err-refuse_own-clause-refused : goal.returns-in_err-refuse_own-clause-refused
+returns-in_err-refuse_own-clause-refused c =
+    let rows = rows_view c.args.config.now in
+    let p = err_from_is_err_and c.from_residual.result c.from_residual.ensures.1 in
+    subst (λ (r : Result CheckedView Report). IfErr r (Reports (IsFaultWith rows c.args.certificate.now) rows)) (sym (p.1 ∙ ap Err p.2)) (own-reports rows (IsFaultWith rows c.args.certificate.now) c.in_err-refuse_own.field-0.0 c.in_err-refuse_own.ensures.own)
+
+pub returns-in_err-plan-clause-refused : goal.returns-in_err-plan-clause-refused
+returns-in_err-plan-clause-refused c =
+    let rows = rows_view c.args.config.now in
+    let p = err_from_is_err_and c.from_residual-in_err-plan.result c.from_residual-in_err-plan.ensures.1 in
+    subst (λ (r : Result CheckedView Report). IfErr r (Reports (IsFaultWith rows c.args.certificate.now) rows)) (sym (p.1 ∙ ap Err p.2)) (reports-one rows (IsLimitFault rows) (IsFaultWith rows c.args.certificate.now) c.in_err-plan.field-0.0 c.in_ok-refuse_own.ensures.none c.in_err-plan.ensures.limit (limit-fault_with rows c.args.certificate.now))
 
 -- ---- the text is no certificate
 
