@@ -8,7 +8,10 @@ use Rattle.yaml_bytes.specs.Bytes.{is_blank}
 use Rattle.mpf_config.specs.Rows.{Rows}
 use Rattle.mpf_config.specs.Named.{IsName}
 use Rattle.mpf_config.specs.Reading.{rows_at}
-use Rattle.mpf_config.proofs.RowNames.{rows_are_named, name_bytes}
+use Rattle.mpf_config.proofs.RowNames.{rows_are_named, name_bytes, modes_are_named}
+use Rattle.mpf_plan.specs.declared.entries.ModeEvent.{ModeEvent}
+use Rattle.mpf_plan.specs.declared.entries.ModeEvent.TheVariants.{WillStart, Starting, Started, Stopping, Stopped}
+use Rattle.mpf_plan.specs.Contributions.{event_ending, mode_event_name}
 use Rattle.mpf_plan.specs.PlanOf.{plan_of}
 use Rattle.mpf_plan.proofs.EventNames.{event_names}
 use Rattle.config_checker.specs.CertificateOf.{is_in_word, IsWord}
@@ -26,15 +29,15 @@ AllInWord text = All (λ b. is_in_word b ≡ true) text
 name-in_word : (name : List ℕ) → IsName name → AllInWord name
 name-in_word name h = All-weaker (λ b. (b ≢ 32) × (b ≢ 9) × (b ≢ 10)) (λ b. is_in_word b ≡ true) byte-in_word name (name_bytes name h)
 
--- what the name of an event is: a word of at most 73 bytes, as many as a name's 64 and `_inactive` are
+-- what the name of an event is: a word of at most 80 bytes, as many as `mode_`, a name's 64 and `_will_start` are
 record IsEventWord (text : List ℕ) : Type 0 where
   word : IsWord text
-  few : length text ≤ 73
+  few : length text ≤ 80
 
-some-word : (text : List ℕ) → 0 < length text → length text ≤ 73 → AllInWord text → IsEventWord text
+some-word : (text : List ℕ) → 0 < length text → length text ≤ 80 → AllInWord text → IsEventWord text
 some-word text some few letters = record { word = record { some = λ none. omega (arith, some, ap length none); letters = letters }; few = few }
 
-joined-word : (front behind : List ℕ) → 0 < length front → length front + length behind ≤ 73 → AllInWord front → AllInWord behind → IsEventWord (front ++ behind)
+joined-word : (front behind : List ℕ) → 0 < length front → length front + length behind ≤ 80 → AllInWord front → AllInWord behind → IsEventWord (front ++ behind)
 joined-word front behind some few first last =
     let both = length-append front behind in
     some-word (front ++ behind) (omega (arith, some, both)) (omega (arith, few, both)) (All-append (λ b. is_in_word b ≡ true) front behind first last)
@@ -59,14 +62,38 @@ tag-word name h =
     let few = h.few in
     joined-word (codes "sw_") name (omega arith) (omega (arith, few)) (AllPass-from_list_all is_in_word (codes "sw_") refl) (name-in_word name h)
 
+ending-word : (which : ModeEvent) → (length (event_ending which) ≤ 11) × AllInWord (event_ending which)
+ending-word WillStart = (omega arith, AllPass-from_list_all is_in_word (codes "_will_start") refl)
+ending-word Starting = (omega arith, AllPass-from_list_all is_in_word (codes "_starting") refl)
+ending-word Started = (omega arith, AllPass-from_list_all is_in_word (codes "_started") refl)
+ending-word Stopping = (omega arith, AllPass-from_list_all is_in_word (codes "_stopping") refl)
+ending-word Stopped = (omega arith, AllPass-from_list_all is_in_word (codes "_stopped") refl)
+
+mode-word : (which : ModeEvent) (name : List ℕ) → IsName name → IsEventWord (mode_event_name which name)
+mode-word which name h =
+    let few = h.few in
+    let ending = ending-word which in
+    let short = ending.0 in
+    let both = length-append name (event_ending which) in
+    joined-word (codes "mode_") (name ++ event_ending which) (omega arith) (omega (arith, few, short, both)) (AllPass-from_list_all is_in_word (codes "mode_") refl)
+    (All-append (λ b. is_in_word b ≡ true) name (event_ending which) (name-in_word name h) ending.1)
+
 -- ---- the events of the plan
 
 module _ (bundle : List ℕ) (rows : Rows) (read : rows_at bundle ≡ Ok rows) where
   events_are_named : All IsEventWord (plan_of rows).events
-  events_are_named = event_names IsEventWord (record { name = name-word; active = active-word; inactive = inactive-word; tag = tag-word }) rows (rows_are_named bundle rows read)
+  events_are_named = event_names IsEventWord (record {
+        name = name-word;
+        active = active-word;
+        inactive = inactive-word;
+        tag = tag-word;
+        mode = mode-word;
+        ball = some-word (codes "ball_ending") (omega arith) (omega arith) (AllPass-from_list_all is_in_word (codes "ball_ending") refl);
+        game = some-word (codes "game_ending") (omega arith) (omega arith) (AllPass-from_list_all is_in_word (codes "game_ending") refl);
+      }) rows (rows_are_named bundle rows read) (modes_are_named bundle rows read)
 
   pub events_are_words : All IsWord (plan_of rows).events
   events_are_words = All-weaker IsEventWord IsWord (λ name h. h.word) (plan_of rows).events events_are_named
 
-  pub events_are_few : All (λ name. length name ≤ 73) (plan_of rows).events
-  events_are_few = All-weaker IsEventWord (λ name. length name ≤ 73) (λ name h. h.few) (plan_of rows).events events_are_named
+  pub events_are_few : All (λ name. length name ≤ 80) (plan_of rows).events
+  events_are_few = All-weaker IsEventWord (λ name. length name ≤ 80) (λ name h. h.few) (plan_of rows).events events_are_named

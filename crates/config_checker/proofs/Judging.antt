@@ -1,5 +1,5 @@
 -- What rows are judged to be, case by case.
-use Rattle.std.proofs.Common.{◌≡◌, ◌≢◌, ℕ, true, false, List, [], ◌∷◌, length, Option, Some, None, option_map, Result, Ok, Err, refl, sym, ap, ◌∙◌, subst, true≢false}
+use Rattle.std.proofs.Common.{◌≡◌, ◌≢◌, ℕ, true, false, List, [], ◌∷◌, length, map, Option, Some, None, option_map, Result, Ok, Err, refl, sym, ap, ◌∙◌, subst, true≢false}
 use Rattle.std.specs.List.{zip}
 use Rattle.std.proofs.lemmas.Bool.{cond-true, cond-false, eq-eqb, ne_eqb}
 use Rattle.std.proofs.lemmas.Slice.Zip.{firsts-zip, seconds-zip}
@@ -19,30 +19,67 @@ use Rattle.config_checker.specs.declared.report.Report.TheVariants.{NoMemory, Fa
 use Rattle.config_checker.specs.CheckedView.{CheckedView}
 use Rattle.config_checker.specs.CertificateText.{Certificate, text_of, certificate_text}
 use Rattle.config_checker.specs.CertificateOf.{IsTextOf, certificate_at}
-use Rattle.config_checker.specs.Checking.{FaultView, limit, cycle, bound, certificate, bad_line, other_events, other_bound, named_fault, weighed, weighed_plan, same_names, certificate_names, certificate_weights, bounded, certified, certified_plan, reported_alone, checked, checked_at, checked_with_at}
-use Rattle.config_checker.specs.View.{GivesChecked, ReportsFault}
-use Rattle.config_checker.specs.Refused.{IsLimitFault, IsFaultOf, IsNoCertificate, IsCertificateOf, HasOtherEvents, HasOtherBound, HasTooMuch, HasShortEvent, IsFaultWith, Reports}
+use Rattle.config_checker.specs.Checking.{FaultView, reserved, limit, cycle, bound, certificate, bad_line, other_events, other_bound, named_fault, weighed, weighed_plan, same_names, certificate_names, certificate_weights, bounded, certified, certified_plan, reported_alone, faults_of_rows, faults_first, checked, checked_at, checked_with_at}
+use Rattle.config_checker.specs.View.{GivesChecked, ReportsFault, fault_view}
+use Rattle.config_checker.specs.Refused.{IsLimitFault, IsFaultOf, IsNoCertificate, IsCertificateOf, HasOtherEvents, HasOtherBound, HasTooMuch, HasShortEvent, IsFaultWith, IsReport, Reports, ReportsOne, AreOwn, ReportsOwn}
 use Rattle.config_checker.proofs.Certificates.{read-is_text, text-is_read}
 use Rattle.config_checker.proofs.Names.{same_names-is, same_names-self, zip-parts, parts-length}
 
 -- ---- what a report lists
 
-pub reports-there : (rows : Rows) (there : FaultView → Type 0) (report : Report) (fault : FaultView) → ReportsFault report fault → there fault → Reports there rows report
-reports-there rows there NoMemory fault h is = tt
-reports-there rows there (Faults faults) fault h is = (fault, h, is)
+pub reports-there : (rows : Rows) (there : FaultView → Type 0) (report : Report) (fault : FaultView) → faults_of_rows rows ≡ [] → ReportsFault report fault → there fault → Reports there rows report
+reports-there rows there NoMemory fault none h is = tt
+reports-there rows there (Faults faults) fault none h is = subst (λ (own : List FaultView). IsReport there own (map fault_view faults.items)) (sym none) (fault, h, is)
 
-pub reports-weaker : (rows : Rows) (P Q : FaultView → Type 0) (report : Report) → Reports P rows report → ((fault : FaultView) → P fault → Q fault) → Reports Q rows report
-reports-weaker rows P Q NoMemory h weaker = tt
-reports-weaker rows P Q (Faults faults) (fault, listed, there) weaker = (fault, listed, weaker fault there)
+-- one fault is there, and is reported
+pub one-there : (P : FaultView → Type 0) (report : Report) (fault : FaultView) → ReportsFault report fault → P fault → ReportsOne P report
+one-there P NoMemory fault h is = tt
+one-there P (Faults faults) fault h is = (fault, h, is)
+
+pub reports-one : (rows : Rows) (P Q : FaultView → Type 0) (report : Report) → faults_of_rows rows ≡ [] → ReportsOne P report → ((fault : FaultView) → P fault → Q fault) → Reports Q rows report
+reports-one rows P Q NoMemory none h weaker = tt
+reports-one rows P Q (Faults faults) none (fault, listed, there) weaker = subst (λ (own : List FaultView). IsReport Q own (map fault_view faults.items)) (sym none) (fault, listed, weaker fault there)
+
+-- ---- faults of the rows
+
+are_own : (own faults : List FaultView) (P : FaultView → Type 0) → AreOwn own faults → IsReport P own faults
+are_own [] faults P h = absurd h
+are_own (f ∷ fs) faults P h = h
+
+pub own-reports : (rows : Rows) (P : FaultView → Type 0) (report : Report) → ReportsOwn rows report → Reports P rows report
+own-reports rows P NoMemory h = tt
+own-reports rows P (Faults faults) h = are_own (faults_of_rows rows) (map fault_view faults.items) P h
+
+first-own : (own faults : List FaultView) (answer : Result CheckedView (List FaultView)) → AreOwn own faults → faults_first own answer ≡ Err faults
+first-own [] faults answer h = absurd h
+first-own (f ∷ fs) faults answer h = ap Err (sym h)
+
+own-gives : (rows : Rows) (report : Report) (answer : Result CheckedView (List FaultView)) → ReportsOwn rows report → GivesChecked (Err report) (faults_first (faults_of_rows rows) answer)
+own-gives rows NoMemory answer h = tt
+own-gives rows (Faults faults) answer h = first-own (faults_of_rows rows) (map fault_view faults.items) answer h
+
+pub own-found : (rows : Rows) (report : Report) → ReportsOwn rows report → GivesChecked (Err report) (checked_at rows)
+unfolding checked_at
+own-found rows report h = own-gives rows report (checked weighed_plan (plan_at rows)) h
+
+pub own-given : (rows : Rows) (text : List ℕ) (report : Report) → ReportsOwn rows report → GivesChecked (Err report) (checked_with_at rows text)
+unfolding checked_with_at
+own-given rows text report h = own-gives rows report (checked (certified_plan text) (plan_at rows)) h
+
+-- without them the rest is judged
+first-none : (rows : Rows) (answer : Result CheckedView (List FaultView)) → faults_of_rows rows ≡ [] → faults_first (faults_of_rows rows) answer ≡ answer
+first-none rows answer none = ap (λ (own : List FaultView). faults_first own answer) none
+
+-- ---- an answer
 
 -- the answer is what is reported
 pub reports-gives : (report : Report) (fault : FaultView) (answer : Result CheckedView (List FaultView)) → ReportsFault report fault → answer ≡ Err (fault ∷ []) → GivesChecked (Err report) answer
 reports-gives NoMemory fault answer h is = tt
 reports-gives (Faults faults) fault answer h is = is ∙ ap Err (sym h)
 
-pub one-gives : (rows : Rows) (P : FaultView → Type 0) (report : Report) (answer : Result CheckedView (List FaultView)) → Reports P rows report → ((fault : FaultView) → P fault → answer ≡ Err (fault ∷ [])) → GivesChecked (Err report) answer
-one-gives rows P NoMemory answer h gives = tt
-one-gives rows P (Faults faults) answer (fault, listed, there) gives = gives fault there ∙ ap Err (sym listed)
+pub one-gives : (P : FaultView → Type 0) (report : Report) (answer : Result CheckedView (List FaultView)) → ReportsOne P report → ((fault : FaultView) → P fault → answer ≡ Err (fault ∷ [])) → GivesChecked (Err report) answer
+one-gives P NoMemory answer h gives = tt
+one-gives P (Faults faults) answer (fault, listed, there) gives = gives fault there ∙ ap Err (sym listed)
 
 some_same : (x y : FaultView) → Some x ≡ Some y → x ≡ y
 some_same x y e = cc
@@ -57,26 +94,29 @@ none-some x e = absurd (apart e)
 
 module _ (rows : Rows) where
   limit-checked : (judge : PlanView → Result CheckedView FaultView) (fault : FaultView) → IsLimitFault rows fault → checked judge (plan_at rows) ≡ Err (fault ∷ [])
+  limit-checked judge (reserved text line name) h = absurd h
   limit-checked judge (limit t) h = ap (checked judge) (plan_at-exceeded rows t h)
   limit-checked judge (cycle names) h = absurd h
   limit-checked judge bound h = absurd h
   limit-checked judge (certificate fault) h = absurd h
 
-  pub limit-found : (fault : FaultView) → IsLimitFault rows fault → checked_at rows ≡ Err (fault ∷ [])
+  pub limit-found : faults_of_rows rows ≡ [] → (fault : FaultView) → IsLimitFault rows fault → checked_at rows ≡ Err (fault ∷ [])
   unfolding checked_at
-  limit-found fault h = limit-checked weighed_plan fault h
+  limit-found none fault h = first-none rows (checked weighed_plan (plan_at rows)) none ∙ limit-checked weighed_plan fault h
 
-  pub limit-given : (text : List ℕ) (fault : FaultView) → IsLimitFault rows fault → checked_with_at rows text ≡ Err (fault ∷ [])
+  pub limit-given : faults_of_rows rows ≡ [] → (text : List ℕ) (fault : FaultView) → IsLimitFault rows fault → checked_with_at rows text ≡ Err (fault ∷ [])
   unfolding checked_with_at
-  limit-given text fault h = limit-checked (certified_plan text) fault h
+  limit-given none text fault h = first-none rows (checked (certified_plan text) (plan_at rows)) none ∙ limit-checked (certified_plan text) fault h
 
   pub limit-fault : (fault : FaultView) → IsLimitFault rows fault → IsFaultOf rows fault
+  limit-fault (reserved text line name) h = absurd h
   limit-fault (limit t) h = h
   limit-fault (cycle names) h = absurd h
   limit-fault bound h = absurd h
   limit-fault (certificate fault) h = absurd h
 
   pub limit-fault_with : (text : List ℕ) (fault : FaultView) → IsLimitFault rows fault → IsFaultWith rows text fault
+  limit-fault_with text (reserved of line name) h = absurd h
   limit-fault_with text (limit t) h = h
   limit-fault_with text (cycle names) h = absurd h
   limit-fault_with text bound h = absurd h
@@ -92,7 +132,7 @@ pub read-as : (text : List ℕ) (stated : ℕ) (names : List (List ℕ)) (weight
     → IsReadAs text (record { bound = stated; events = zip names weights }) names ws
 read-as text stated names weights ws count read same = record { read = read; names_are = firsts-zip names weights count; weights_are = seconds-zip names weights count ∙ sym same }
 
-module _ (rows : Rows) (plan : PlanView) (made : plan_at rows ≡ Ok plan) where
+module _ (rows : Rows) (none : faults_of_rows rows ≡ []) (plan : PlanView) (made : plan_at rows ≡ Ok plan) where
   of_rows : plan ≡ plan_of rows
   of_rows = (plan_at-Ok rows plan made).0
 
@@ -100,7 +140,7 @@ module _ (rows : Rows) (plan : PlanView) (made : plan_at rows ≡ Ok plan) where
 
   found-checked : (answer : Result CheckedView FaultView) → weighed_plan plan ≡ answer → checked_at rows ≡ reported_alone answer
   unfolding checked_at
-  found-checked answer is = ap (checked weighed_plan) made ∙ ap reported_alone is
+  found-checked answer is = first-none rows (checked weighed_plan (plan_at rows)) none ∙ ap (checked weighed_plan) made ∙ ap reported_alone is
 
   pub found-accepted : (ws : List ℕ) (b : ℕ) → found_at plan ≡ Ok ws → b ≡ bound_of plan (weight_of ws) → checked_at rows ≡ Ok (record { plan = plan; weights = ws; bound = b })
   unfolding weighed_plan
@@ -128,7 +168,7 @@ module _ (rows : Rows) (plan : PlanView) (made : plan_at rows ≡ Ok plan) where
   module _ (text : List ℕ) where
     given-checked : (answer : Result CheckedView FaultView) → certified_plan text plan ≡ answer → checked_with_at rows text ≡ reported_alone answer
     unfolding checked_with_at
-    given-checked answer is = ap (checked (certified_plan text)) made ∙ ap reported_alone is
+    given-checked answer is = first-none rows (checked (certified_plan text) (plan_at rows)) none ∙ ap (checked (certified_plan text)) made ∙ ap reported_alone is
 
     pub misread-checked : (n : ℕ) → certificate_at text ≡ Err n → checked_with_at rows text ≡ Err (certificate (bad_line n) ∷ [])
     unfolding certified_plan

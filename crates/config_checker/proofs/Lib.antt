@@ -24,4 +24,7 @@ pub mod Hearing
 pub mod Speaking
 pub mod Silence
 pub mod Good
+pub mod ByLine
+pub mod RowFaults
+pub mod FreeNames
 pub mod PlanFree

@@ -1,36 +1,160 @@
--- A plan of rows without faults posts no event at which the machine itself does something.
-use Rattle.std.proofs.Common.{◌≡◌, List, [], get_or, sym, ap, ◌∙◌}
+-- A plan of rows without faults of their own posts no event at which the machine itself does something.
+use Rattle.std.proofs.Common.{◌≡◌, ◌≢◌, ℕ, zero, suc, ◌<◌, Bool, true, false, ◌||◌, List, [], ◌∷◌, ◌++◌, length, map, get_or, Contains, codes, ◌⊎◌, inl, inr, refl, sym, ap, ◌∙◌, subst, true≢false, arith}
 use Rattle.std.specs.Prelude.{Ok}
-use Rattle.std.specs.List.{All}
-use Rattle.std.proofs.lemmas.List.Elements.{All-from_get_or}
-use Rattle.mpf_config.specs.Rows.{Rows}
-use Rattle.mpf_plan.specs.PlanView.{PlanMode, PlanSwitch, PlanView, no_switch, work_from}
-use Rattle.mpf_plan.specs.PlanOf.{plan_at, plan_of}
-use Rattle.mpf_plan.specs.Contributions.{contributions_of}
+use Rattle.std.specs.Str.{bytes_eq}
+use Rattle.std.specs.List.{All, flat_map}
+use Rattle.std.proofs.lemmas.List.Elements.{All-nil, All-cons, All-head, All-tail, All-append, All-map, All-weaker, All-from_get_or, Contains-append_right}
+use Rattle.std.proofs.lemmas.List.Folds.{list_any-append}
+use Rattle.std.proofs.lemmas.Slice.Eq.{bytes_eq-Decides}
+use Rattle.yaml_subset.specs.Keys.{is_among}
+use Rattle.mpf_config.specs.Rows.{Written, Switch, EventPlayer, SectionRows, ModeRows, Rows}
+use Rattle.mpf_config.specs.Typed.{switches_in, event_players_in, listed_modes}
 use Rattle.mpf_plan.specs.declared.entries.EventId.{EventId}
+use Rattle.mpf_plan.specs.declared.entries.ModeEvent.{ModeEvent}
+use Rattle.mpf_plan.specs.declared.entries.ModeEvent.TheVariants.{WillStart, Starting, Started, Stopping, Stopped}
 use Rattle.mpf_plan.specs.declared.entries.Action.{Action}
 use Rattle.mpf_plan.specs.declared.entries.Action.TheVariants.{Post}
-use Rattle.mpf_plan.proofs.Drafted.{modes-from}
-use Rattle.mpf_plan.proofs.Judged.{plan_at-Ok}
+use Rattle.mpf_plan.specs.PlanView.{PlanSwitch, PlanView, name_of_event}
+use Rattle.mpf_plan.specs.Contributions.{texts, tag_event, active_posts, inactive_posts, mode_event_name}
+use Rattle.mpf_plan.specs.PlanOf.{plan_at}
+use Rattle.mpf_plan.proofs.Posted.{IsPost, ArePosts}
+use Rattle.mpf_plan.proofs.PostNames.{IsSwitchPosting, IsPlayerPosting, IsPosting, ArePosting, IsNameOf, posts-named}
+use Rattle.mpf_plan.proofs.ModeEventNames.{free-by_name}
 use Rattle.config_checker.specs.FreePosts.{IsFree, IsFreeAction, IsFreeSwitch, PostsAreFree}
+use Rattle.config_checker.specs.Reserved.{mode_events, events_of_modes, mode_names, is_reserved, game_events, switch_posts, player_posts, posts_in, posts_of}
+use Rattle.config_checker.specs.Checking.{faults_of_rows}
+use Rattle.config_checker.proofs.FreeNames.{posts-free, active-free, inactive-free, tag-free}
 
-everywhere : {X : Type 0} (P : X → Type 0) (d : X) → ((x : X) → P x) → (xs : List X) → All P xs
-everywhere P d each xs = All-from_get_or P xs d (λ i inside. each (get_or xs i d))
+-- ---- parts of lists
 
-no_modes-free : (plan : PlanView) → plan.modes ≡ [] → PostsAreFree plan
-no_modes-free plan none =
-    let event : EventId = record { 0 = 0 } in
-    record {
-      lists = everywhere (All (IsFreeAction plan)) [] (everywhere (IsFreeAction plan) (Post event) action) plan.lists;
-      switches = everywhere (IsFreeSwitch plan) no_switch (λ s. (everywhere (IsFree plan) event free s.active, everywhere (IsFree plan) event free s.inactive)) plan.switches;
-    }
-  where
-    free : (e : EventId) → IsFree plan e
-    free e = ap (λ (ms : List PlanMode). work_from 0 ms e) none
+all-parts : {X : Type 0} (P : X → Type 0) (xs ys : List X) → All P (xs ++ ys) → All P xs × All P ys
+all-parts P [] ys h = (All-nil P, h)
+all-parts P (x ∷ xs) ys h =
+    let rest = all-parts P xs ys (All-tail P x (xs ++ ys) h) in
+    (All-cons P x xs (All-head P x (xs ++ ys) h) rest.0, rest.1)
 
-    action : (a : Action) → IsFreeAction plan a
-    action (Post e) = free e
+all-each : {X Y : Type 0} (P : Y → Type 0) (f : X → List Y) (xs : List X) → All P (flat_map f xs) → All (λ x. All P (f x)) xs
+all-each P f [] h = All-nil (λ x. All P (f x))
+all-each P f (x ∷ xs) h =
+    let parts = all-parts P (f x) (flat_map f xs) h in
+    All-cons (λ y. All P (f y)) x xs parts.0 (all-each P f xs parts.1)
 
-pub plan_free : (rows : Rows) (plan : PlanView) → plan_at rows ≡ Ok plan → PostsAreFree plan
-unfolding plan_of
-plan_free rows plan is = no_modes-free plan (ap (λ (p : PlanView). p.modes) (plan_at-Ok rows plan is).0 ∙ modes-from (contributions_of rows))
+-- ---- the events of a mode are reserved
+
+among-later : (a b : Bool) → b ≡ true → (a || b) ≡ true
+among-later true b is = refl
+among-later false b is = is
+
+among-first : (a b : Bool) → a ≡ true → (a || b) ≡ true
+among-first true b is = refl
+among-first false b is = absurd (true≢false (sym is))
+
+same_bytes : (name : List ℕ) → bytes_eq name name ≡ true
+same_bytes name = (bytes_eq-Decides name name).1 refl
+
+-- one of five that passes
+one-passes : (a b c d e : Bool) → (a ≡ true) ⊎ ((b ≡ true) ⊎ ((c ≡ true) ⊎ ((d ≡ true) ⊎ (e ≡ true)))) → (a || (b || (c || (d || (e || false))))) ≡ true
+one-passes a b c d e (inl is) = among-first a (b || (c || (d || (e || false)))) is
+one-passes a b c d e (inr (inl is)) = among-later a (b || (c || (d || (e || false)))) (among-first b (c || (d || (e || false))) is)
+one-passes a b c d e (inr (inr (inl is))) = among-later a (b || (c || (d || (e || false)))) (among-later b (c || (d || (e || false))) (among-first c (d || (e || false)) is))
+one-passes a b c d e (inr (inr (inr (inl is)))) =
+    among-later a (b || (c || (d || (e || false)))) (among-later b (c || (d || (e || false))) (among-later c (d || (e || false)) (among-first d (e || false) is)))
+one-passes a b c d e (inr (inr (inr (inr is)))) =
+    among-later a (b || (c || (d || (e || false)))) (among-later b (c || (d || (e || false))) (among-later c (d || (e || false)) (among-later d (e || false) (among-first e false is))))
+
+module _ (name : List ℕ) where
+  abbrev is_event : ModeEvent → List ℕ → Bool
+  is_event which other = bytes_eq (mode_event_name which name) other
+
+  passes-any : (q : List ℕ) → (is_event WillStart q ≡ true) ⊎ ((is_event Starting q ≡ true) ⊎ ((is_event Started q ≡ true) ⊎ ((is_event Stopping q ≡ true) ⊎ (is_event Stopped q ≡ true)))) → is_among (mode_events name) q ≡ true
+  passes-any q h = one-passes (is_event WillStart q) (is_event Starting q) (is_event Started q) (is_event Stopping q) (is_event Stopped q) h
+
+  mode-among : (which : ModeEvent) → is_among (mode_events name) (mode_event_name which name) ≡ true
+  mode-among WillStart = passes-any (mode_event_name WillStart name) (inl (same_bytes (mode_event_name WillStart name)))
+  mode-among Starting = passes-any (mode_event_name Starting name) (inr (inl (same_bytes (mode_event_name Starting name))))
+  mode-among Started = passes-any (mode_event_name Started name) (inr (inr (inl (same_bytes (mode_event_name Started name)))))
+  mode-among Stopping = passes-any (mode_event_name Stopping name) (inr (inr (inr (inl (same_bytes (mode_event_name Stopping name))))))
+  mode-among Stopped = passes-any (mode_event_name Stopped name) (inr (inr (inr (inr (same_bytes (mode_event_name Stopped name))))))
+
+modes-among : (names : List (List ℕ)) (name : List ℕ) (which : ModeEvent) → Contains names name → is_among (events_of_modes names) (mode_event_name which name) ≡ true
+modes-among [] name which (k, l, is) = absurd (omega arith)
+modes-among (n ∷ names) name which (zero, l, is) =
+    list_any-append (λ k. bytes_eq k (mode_event_name which name)) (mode_events n) (events_of_modes names)
+    ∙ among-first (is_among (mode_events n) (mode_event_name which name)) (is_among (events_of_modes names) (mode_event_name which name))
+    (subst (λ (m : List ℕ). is_among (mode_events m) (mode_event_name which name) ≡ true) (sym is) (mode-among name which))
+modes-among (n ∷ names) name which (suc k, l, is) =
+    list_any-append (λ k. bytes_eq k (mode_event_name which name)) (mode_events n) (events_of_modes names)
+    ∙ among-later (is_among (mode_events n) (mode_event_name which name)) (is_among (events_of_modes names) (mode_event_name which name)) (modes-among names name which (k, omega arith, is))
+
+-- ---- what rows without faults post
+
+module _ (rows : Rows) where
+  abbrev IsUnreserved : List ℕ → Type 0
+  IsUnreserved name = is_reserved rows name ≡ false
+
+  abbrev IsFreePost : Written → Type 0
+  IsFreePost w = IsUnreserved w.text
+
+  written-free : (ws : List Written) → All IsFreePost ws → All IsUnreserved (texts ws)
+  written-free ws h = All-map IsUnreserved (λ (w : Written). w.text) ws h
+
+  abbrev nothing_written : Written
+  nothing_written = record { line = 0; text = [] }
+
+  tags-free : (tags : List Written) → All IsUnreserved (map tag_event tags)
+  tags-free tags = All-map IsUnreserved tag_event tags (All-from_get_or (λ t. IsUnreserved (tag_event t)) tags nothing_written (λ i inside. tag-free (get_or tags i nothing_written).text rows))
+
+  switch-posting : (s : Switch) → All IsFreePost (switch_posts s) → IsSwitchPosting IsUnreserved s
+  switch-posting s h =
+      let parts = all-parts IsFreePost s.activated s.deactivated h in
+      (
+        All-cons IsUnreserved (s.name.text ++ codes "_active") (map tag_event s.tags ++ texts s.activated) (active-free s.name.text rows)
+            (All-append IsUnreserved (map tag_event s.tags) (texts s.activated) (tags-free s.tags) (written-free s.activated parts.0)),
+        All-cons IsUnreserved (s.name.text ++ codes "_inactive") (texts s.deactivated) (inactive-free s.name.text rows) (written-free s.deactivated parts.1),
+      )
+
+  section-posting : (s : SectionRows) → All IsFreePost (posts_in s) → IsPosting IsUnreserved s
+  section-posting s h =
+      let parts = all-parts IsFreePost (flat_map switch_posts (switches_in s)) (flat_map player_posts (event_players_in s)) h in
+      record {
+        switches = All-weaker (λ x. All IsFreePost (switch_posts x)) (IsSwitchPosting IsUnreserved) switch-posting (switches_in s) (all-each IsFreePost switch_posts (switches_in s) parts.0);
+        players = All-weaker (λ x. All IsFreePost (player_posts x)) (IsPlayerPosting IsUnreserved) (λ p k. written-free p.posts k) (event_players_in s)
+            (all-each IsFreePost player_posts (event_players_in s) parts.1);
+      }
+
+  sections-posting : (sections : List SectionRows) → All IsFreePost (posts_of sections) → All (IsPosting IsUnreserved) sections
+  sections-posting sections h = All-weaker (λ s. All IsFreePost (posts_in s)) (IsPosting IsUnreserved) section-posting sections (all-each IsFreePost posts_in sections h)
+
+  module _ (none : faults_of_rows rows ≡ []) (plan : PlanView) (is : plan_at rows ≡ Ok plan) where
+    posting : ArePosting IsUnreserved rows
+    posting =
+        let free = posts-free rows none in
+        record {
+          machine = sections-posting rows.machine free.machine;
+          modes = All-weaker (λ (m : ModeRows). All IsFreePost (posts_of m.sections)) (λ m. All (IsPosting IsUnreserved) m.sections) (λ m h. sections-posting m.sections h) rows.modes free.modes;
+        }
+
+    -- an event whose name is not reserved is none of a mode's
+    event-free : (e : EventId) → IsUnreserved (name_of_event plan e) → IsFree plan e
+    event-free e h = free-by_name rows plan is e (λ name there which same.
+        let names = map (λ (w : Written). w.text) (listed_modes rows.machine) in
+        let more = map (λ (m : ModeRows). m.name) rows.modes in
+        let among = modes-among (mode_names rows) name which (Contains-append_right names more name there) in
+        true≢false (sym (among-later (is_among game_events (mode_event_name which name)) (is_among (events_of_modes (mode_names rows)) (mode_event_name which name)) among) ∙ ap (is_reserved rows) (sym same) ∙ h))
+
+    action-free : (a : Action) → IsPost (IsNameOf IsUnreserved plan) a → IsFreeAction plan a
+    action-free (Post e) h = event-free e h
+
+    switch-free : (s : PlanSwitch) → ArePosts (IsNameOf IsUnreserved plan) s → IsFreeSwitch plan s
+    switch-free s h = (
+      All-weaker (IsNameOf IsUnreserved plan) (IsFree plan) event-free s.active h.0,
+      All-weaker (IsNameOf IsUnreserved plan) (IsFree plan) event-free s.inactive h.1,
+    )
+
+    pub plan_free : PostsAreFree plan
+    plan_free =
+        let meet = posts-named IsUnreserved rows plan is posting in
+        record {
+          lists = All-weaker (All (IsPost (IsNameOf IsUnreserved plan))) (All (IsFreeAction plan)) (λ l h. All-weaker (IsPost (IsNameOf IsUnreserved plan)) (IsFreeAction plan) action-free l h) plan.lists meet.lists;
+          switches = All-weaker (ArePosts (IsNameOf IsUnreserved plan)) (IsFreeSwitch plan) switch-free plan.switches meet.switches;
+        }

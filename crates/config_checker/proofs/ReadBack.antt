@@ -1,10 +1,11 @@
 -- What was accepted is accepted again with the text of its certificate.
-use Rattle.std.proofs.Common.{◌≡◌, ℕ, ◌<◌, ◌≤◌, ◌^◌, Bool, true, false, ◌==◌, if◌then◌else◌, List, length, Option, Some, None, Result, Ok, Err, refl, sym, ap, subst, arith}
+use Rattle.std.proofs.Common.{◌≡◌, ℕ, ◌<◌, ◌≤◌, ◌^◌, Bool, true, false, ◌==◌, if◌then◌else◌, List, [], ◌∷◌, length, Option, Some, None, Result, Ok, Err, refl, sym, ap, subst, arith}
 use Rattle.std.specs.List.{All, zip}
 use Rattle.std.proofs.lemmas.Bool.{not-false, eqb-true}
 use Rattle.std.proofs.lemmas.List.Elements.{All-weaker}
 use Rattle.std.proofs.lemmas.Slice.Zip.{firsts-zip, seconds-zip}
 use Rattle.mpf_config.specs.Rows.{Rows}
+use Rattle.mpf_config.specs.FewModes.{AreFewModes}
 use Rattle.mpf_config.specs.Short.{AreListsShort}
 use Rattle.mpf_config.specs.Reading.{rows_at}
 use Rattle.mpf_plan.specs.PlanView.{PlanView}
@@ -28,7 +29,7 @@ use Rattle.config_checker.specs.Accepted.{IsAccepted}
 use Rattle.config_checker.proofs.PlanFree.{plan_free}
 use Rattle.config_checker.specs.CertificateText.{Certificate, certificate_of, certificate_text}
 use Rattle.config_checker.specs.CertificateOf.{IsWord, IsWritable, certificate_at}
-use Rattle.config_checker.specs.Checking.{FaultView, same_names, certificate_names, certificate_weights, weighed, weighed_plan, bounded, certified, certified_plan, reported_alone, checked, checked_at, checked_with_at}
+use Rattle.config_checker.specs.Checking.{FaultView, same_names, certificate_names, certificate_weights, weighed, weighed_plan, bounded, certified, certified_plan, reported_alone, faults_of_rows, faults_first, checked, checked_at, checked_with_at}
 use Rattle.config_checker.specs.ReadAgain.{IsReadAgain}
 use Rattle.config_checker.proofs.Certificates.{text-is_read}
 use Rattle.config_checker.proofs.Names.{same_names-self, all_seen}
@@ -76,11 +77,24 @@ verified-writable c verified words =
 
 module _ (rows : Rows) where
   -- what is verified is accepted with the text of its certificate
-  verified-again : (c : CheckedView) → plan_at rows ≡ Ok c.plan → IsVerified c.plan c.weights c.bound → All IsWord c.plan.events → IsReadAgain rows c
-  verified-again c made verified words =
+  verified-again : (c : CheckedView) → faults_of_rows rows ≡ [] → plan_at rows ≡ Ok c.plan → IsVerified c.plan c.weights c.bound → All IsWord c.plan.events → IsReadAgain rows c
+  verified-again c none made verified words =
       let text = certificate_text c in
       let reading = read-as text c.bound c.plan.events c.weights c.weights verified.count (text-is_read (certificate_of c) text (verified-writable c verified words, refl)) refl in
-      verified-checked rows c.plan made text (certificate_of c) c.plan.events c.weights reading (same_names-self c.plan.events) c.bound (verified_at-bound c.plan c.weights c.bound verified) refl
+      verified-checked rows none c.plan made text (certificate_of c) c.plan.events c.weights reading (same_names-self c.plan.events) c.bound (verified_at-bound c.plan c.weights c.bound verified) refl
+
+  -- rows that are accepted have no faults of their own
+  first-ok : (own : List FaultView) (answer : Result CheckedView (List FaultView)) (c : CheckedView) → faults_first own answer ≡ Ok c → (own ≡ []) × (answer ≡ Ok c)
+  first-ok [] answer c is = (refl, is)
+  first-ok (f ∷ fs) answer c is = absurd (err_not_ok _ c is)
+
+  pub found-none : (c : CheckedView) → checked_at rows ≡ Ok c → faults_of_rows rows ≡ []
+  unfolding checked_at
+  found-none c is = (first-ok (faults_of_rows rows) (checked weighed_plan (plan_at rows)) c is).0
+
+  pub given-none : (text : List ℕ) (c : CheckedView) → checked_with_at rows text ≡ Ok c → faults_of_rows rows ≡ []
+  unfolding checked_with_at
+  given-none text c is = (first-ok (faults_of_rows rows) (checked (certified_plan text) (plan_at rows)) c is).0
 
   alone_same : (r : Result CheckedView FaultView) (c : CheckedView) → reported_alone r ≡ Ok c → r ≡ Ok c
   alone_same (Ok x) c is = ap Ok (ok_same x c is)
@@ -102,22 +116,22 @@ module _ (rows : Rows) where
   found_is_verified : (c : CheckedView) → checked_at rows ≡ Ok c → (plan_at rows ≡ Ok c.plan) × IsVerified c.plan c.weights c.bound
   unfolding checked_at weighed_plan
   found_is_verified c is =
-      let from = checked-plan weighed_plan (plan_at rows) c is in
+      let from = checked-plan weighed_plan (plan_at rows) c (first-ok (faults_of_rows rows) (checked weighed_plan (plan_at rows)) c is).1 in
       weighed-verified from.0 (found_at from.0) c from.1 refl from.2
 
   pub found-again : (c : CheckedView) → checked_at rows ≡ Ok c → All IsWord c.plan.events → IsReadAgain rows c
   found-again c is words =
       let from = found_is_verified c is in
-      verified-again c from.0 from.1 words
+      verified-again c (found-none c is) from.0 from.1 words
 
   pub found-plan : (c : CheckedView) → checked_at rows ≡ Ok c → c.plan ≡ plan_of rows
   found-plan c is = (plan_at-Ok rows c.plan (found_is_verified c is).0).0
 
-  -- where no list in the rows is too long, it is accepted
-  pub found_is_accepted : AreListsShort rows → (c : CheckedView) → checked_at rows ≡ Ok c → IsAccepted c
-  found_is_accepted short c is =
+  -- where no list in the rows is too long, and there are not too many modes, it is accepted
+  pub found_is_accepted : AreListsShort rows → AreFewModes rows.modes → (c : CheckedView) → checked_at rows ≡ Ok c → IsAccepted c
+  found_is_accepted short few c is =
       let from = found_is_verified c is in
-      record { valid = IsValid-plan_at rows short c.plan from.0; free = plan_free rows c.plan from.0; verified = from.1 }
+      record { valid = IsValid-plan_at rows short few c.plan from.0; free = plan_free rows (found-none c is) c.plan from.0; verified = from.1 }
 
   -- where the rows are those of a bundle, the names of its events are words
   pub read-again : (bundle : List ℕ) (c : CheckedView) → rows_at bundle ≡ Ok rows → checked_at rows ≡ Ok c → IsReadAgain rows c
@@ -125,14 +139,14 @@ module _ (rows : Rows) where
 
   -- ---- weights of a certificate
 
-  module _ (text : List ℕ) (c : CheckedView) (plan : PlanView) (made : plan_at rows ≡ Ok plan) where
+  module _ (text : List ℕ) (c : CheckedView) (none : faults_of_rows rows ≡ []) (plan : PlanView) (made : plan_at rows ≡ Ok plan) where
     bounded-text : (given : Certificate) → certificate_at text ≡ Ok given → same_names plan.events (certificate_names given) ≡ true → (verified : Result ℕ RankView) → bounded plan given verified ≡ Ok c → certificate_text c ≡ text
     bounded-text given read named (Ok b) is =
         let accepted : CheckedView = record { plan = plan; weights = certificate_weights given; bound = b } in
         let right = chosen (b == given.bound) (Ok accepted) _ c is in
         let reading : IsReadAs text given (certificate_names given) (certificate_weights given) = record { read = read; names_are = refl; weights_are = refl } in
         subst (λ (v : CheckedView). certificate_text v ≡ text) (ok_same accepted c right.1)
-        (verified-text rows plan made text given (certificate_names given) (certificate_weights given) reading named b (eqb-true b given.bound right.0))
+        (verified-text rows none plan made text given (certificate_names given) (certificate_weights given) reading named b (eqb-true b given.bound right.0))
     bounded-text given read named (Err fault) is = absurd (err_not_ok _ c is)
 
     certified-text : (given : Result Certificate ℕ) → certificate_at text ≡ given → certified plan given ≡ Ok c → certificate_text c ≡ text
@@ -145,8 +159,9 @@ module _ (rows : Rows) where
   pub given-text : (text : List ℕ) (c : CheckedView) → checked_with_at rows text ≡ Ok c → certificate_text c ≡ text
   unfolding checked_with_at certified_plan
   given-text text c is =
-      let from = checked-plan (certified_plan text) (plan_at rows) c is in
-      certified-text text c from.0 from.1 (certificate_at text) refl from.2
+      let own = first-ok (faults_of_rows rows) (checked (certified_plan text) (plan_at rows)) c is in
+      let from = checked-plan (certified_plan text) (plan_at rows) c own.1 in
+      certified-text text c own.0 from.0 from.1 (certificate_at text) refl from.2
 
   pub given-again : (text : List ℕ) (c : CheckedView) → checked_with_at rows text ≡ Ok c → IsReadAgain rows c
   given-again text c is = subst (λ (t : List ℕ). checked_with_at rows t ≡ Ok c) (sym (given-text text c is)) is

@@ -2,7 +2,6 @@
 use Rattle.std.specs.Prelude.{ℕ, ◌==◌, ◌&&◌, Bool, true, false, if◌then◌else◌, List, [], ◌∷◌, map, Result, Ok, Err}
 use Rattle.std.specs.Str.{bytes_eq}
 use Rattle.mpf_config.specs.Rows.{Rows}
-use Rattle.mpf_plan.specs.declared.fault.Table.{Table}
 use Rattle.mpf_plan.specs.PlanView.{PlanView, name_of_event}
 use Rattle.mpf_plan.specs.PlanOf.{plan_at, PlanRefusal, no_such_name, above_limit}
 use Rattle.cascade_rank.specs.Events.{weight_of}
@@ -10,26 +9,10 @@ use Rattle.cascade_rank.specs.Weights.{bound_of}
 use Rattle.cascade_rank.specs.Finding.{RankView, found_at, verified_at}
 use Rattle.cascade_rank.specs.Finding as ranks
 use Rattle.config_checker.specs.CheckedView.{CheckedView}
+pub use Rattle.config_checker.specs.FaultView.{CertificateFaultView, bad_line, other_events, short, other_bound, FaultView, reserved, limit, cycle, bound, certificate}
+use Rattle.config_checker.specs.Reserved.{reserved_faults}
 use Rattle.config_checker.specs.CertificateText.{Certificate}
 use Rattle.config_checker.specs.CertificateOf.{certificate_at}
-
--- what is wrong with a certificate
-pub data CertificateFaultView : Type 0 where
-  -- the first bad line
-  bad_line : (number : ℕ) → CertificateFaultView
-  -- its events are not those of the plan
-  other_events : CertificateFaultView
-  -- the event weighs less than it needs
-  short : (name : List ℕ) (needed : ℕ) → CertificateFaultView
-  -- its bound is not that of its weights, which is this
-  other_bound : (bound : ℕ) → CertificateFaultView
-
--- a fault, apart from where it lies in memory
-pub data FaultView : Type 0 where
-  limit : Table → FaultView
-  cycle : List (List ℕ) → FaultView
-  bound : FaultView
-  certificate : CertificateFaultView → FaultView
 
 -- what is wrong, by the names of the events
 abbrev pub named_fault : PlanView → RankView → FaultView
@@ -75,9 +58,9 @@ certified_plan text plan = certified plan (certificate_at text)
 
 -- ---- rows
 
--- the faults of the rows themselves, in the order in which a report lists them: there are none yet
+-- the faults of the rows themselves, in the order in which a report lists them: the reserved events that they post
 abbrev pub faults_of_rows : Rows → List FaultView
-faults_of_rows rows = []
+faults_of_rows rows = reserved_faults rows
 
 -- A report lists them all. Only where there are none, it says what is wrong with the plan.
 abbrev pub faults_first : {X : Type 0} → List FaultView → Result X (List FaultView) → Result X (List FaultView)

@@ -15,6 +15,8 @@ pub mod AcceptedRuns
 pub mod CertificateText
 pub mod CertificateOf
 pub mod CertificateRead
+pub mod FaultView
+pub mod Reserved
 pub mod Checking
 pub mod View
 pub mod Refused

@@ -11,7 +11,7 @@ use Rattle.config_checker.specs.declared.report.Report.{Report}
 use Rattle.config_checker.specs.declared.report.Report.TheVariants as reports
 use Rattle.config_checker.specs.CertificateText.{Certificate}
 use Rattle.config_checker.specs.CertificateOf.{IsTextOf}
-use Rattle.config_checker.specs.Checking.{CertificateFaultView, bad_line, other_events, short, other_bound, FaultView, limit, cycle, bound, certificate, certificate_names, certificate_weights, faults_of_rows}
+use Rattle.config_checker.specs.Checking.{CertificateFaultView, bad_line, other_events, short, other_bound, FaultView, reserved, limit, cycle, bound, certificate, certificate_names, certificate_weights, faults_of_rows}
 use Rattle.config_checker.specs.View.{fault_view}
 
 -- the names are those of events that lead to each other: of the cycle that is reported
@@ -22,6 +22,7 @@ pub record IsCycleOf (plan : PlanView) (names : List (List ℕ)) : Type 0 where
 
 -- the table is the first that is above its limit
 abbrev pub IsLimitFault : Rows → FaultView → Type 0
+IsLimitFault rows (reserved text line name) = ⊥
 IsLimitFault rows (limit t) = IsExceeded rows t
 IsLimitFault rows (cycle names) = ⊥
 IsLimitFault rows bound = ⊥
@@ -29,9 +30,10 @@ IsLimitFault rows (certificate fault) = ⊥
 
 -- ---- with the least weights
 
--- The fault says what is wrong with the rows: a table of their plan is above its limit, its events lead to each other,
+-- The fault says what is wrong where no row has a fault: a table of the plan is above its limit, its events lead to each other,
 -- or its least weights or their bound are above the limit.
 abbrev pub IsFaultOf : Rows → FaultView → Type 0
+IsFaultOf rows (reserved text line name) = ⊥
 IsFaultOf rows (limit t) = IsExceeded rows t
 IsFaultOf rows (cycle names) = IsCycleOf (plan_of rows) names
 IsFaultOf rows bound = IsUnfound (plan_of rows) ranks.bound_too_large
@@ -82,6 +84,7 @@ IsCertificateFault plan text (other_bound right) = HasOtherBound plan text right
 
 -- the fault says what is wrong with the rows or with the certificate
 abbrev pub IsFaultWith : Rows → List ℕ → FaultView → Type 0
+IsFaultWith rows text (reserved of line name) = ⊥
 IsFaultWith rows text (limit t) = IsExceeded rows t
 IsFaultWith rows text (cycle names) = ⊥
 IsFaultWith rows text bound = HasTooMuch (plan_of rows) text
@@ -97,3 +100,17 @@ IsReport there (own ∷ more) faults = faults ≡ own ∷ more
 abbrev pub Reports : (FaultView → Type 0) → Rows → Report → Type 0
 Reports there rows reports.NoMemory = Unit {0}
 Reports there rows (reports.Faults faults) = IsReport there (faults_of_rows rows) (map fault_view faults.items)
+
+-- the report of one fault, which is there
+abbrev pub ReportsOne : (FaultView → Type 0) → Report → Type 0
+ReportsOne there reports.NoMemory = Unit {0}
+ReportsOne there (reports.Faults faults) = IsReport there [] (map fault_view faults.items)
+
+-- the report of the faults of rows, of which there are some
+abbrev pub AreOwn : List FaultView → List FaultView → Type 0
+AreOwn [] faults = ⊥
+AreOwn (own ∷ more) faults = faults ≡ own ∷ more
+
+abbrev pub ReportsOwn : Rows → Report → Type 0
+ReportsOwn rows reports.NoMemory = Unit {0}
+ReportsOwn rows (reports.Faults faults) = AreOwn (faults_of_rows rows) (map fault_view faults.items)

@@ -4,7 +4,8 @@ use Rattle.std.specs.List.{flat_map}
 use Rattle.std.specs.Fmt.{decimal}
 use Rattle.mpf_plan.specs.Limits.{table_name}
 use Rattle.mpf_config.specs.FaultLine.{spaced}
-use Rattle.config_checker.specs.Checking.{CertificateFaultView, bad_line, other_events, short, other_bound, FaultView, limit, cycle, bound, certificate}
+use Rattle.mpf_config.specs.Escaped.{escaped}
+use Rattle.config_checker.specs.FaultView.{CertificateFaultView, bad_line, other_events, short, other_bound, FaultView, reserved, limit, cycle, bound, certificate}
 
 -- `Line N`, `Events`, `Short EVENT NEEDED` or `Bound N`
 abbrev pub certificate_fault_text : CertificateFaultView → List ℕ
@@ -13,8 +14,9 @@ certificate_fault_text other_events = codes "Events"
 certificate_fault_text (short name needed) = codes "Short " ++ name ++ codes " " ++ decimal needed
 certificate_fault_text (other_bound right) = codes "Bound " ++ decimal right
 
--- `fault 7 Limit TABLE`, `fault 8 Cycle E1 E2 ..`, `fault 9 Bound` or `fault 10 Certificate ..`, and LF
+-- `fault 1 Name TEXT LINE NAME`, `fault 7 Limit TABLE`, `fault 8 Cycle E1 E2 ..`, `fault 9 Bound` or `fault 10 Certificate ..`, and LF
 abbrev pub report_line : FaultView → List ℕ
+report_line (reserved text line name) = codes "fault 1 Name" ++ spaced (escaped text) ++ spaced (decimal line) ++ spaced name ++ 10 ∷ []
 report_line (limit t) = codes "fault 7 Limit " ++ table_name t ++ 10 ∷ []
 report_line (cycle names) = codes "fault 8 Cycle" ++ flat_map spaced names ++ 10 ∷ []
 report_line bound = codes "fault 9 Bound" ++ 10 ∷ []

@@ -1,6 +1,6 @@
 //! The checker.
 
-ghost use Rattle.std.specs.Prelude.{◌≡◌, ◌==◌, Ok, IfOk, IfErr, map};
+ghost use Rattle.std.specs.Prelude.{◌≡◌, ◌==◌, [], Ok, IfOk, OnOk, IfErr, map};
 ghost use Rattle.mpf_config.specs.View.{rows_view};
 ghost use Rattle.mpf_plan.specs.PlanOf.{plan_at};
 ghost use Rattle.cascade_rank.specs.Weights.{IsLeastFitting};
@@ -8,13 +8,14 @@ ghost use Rattle.config_checker.specs.Accepted.{IsAccepted};
 ghost use Rattle.config_checker.specs.GoodRun.{IsGood};
 ghost use Rattle.config_checker.specs.CertificateText.{certificate_text};
 ghost use Rattle.config_checker.specs.View.{GivesChecked};
-ghost use Rattle.config_checker.specs.Checking.{same_names, checked_at, checked_with_at};
-ghost use Rattle.config_checker.specs.Refused.{IsLimitFault, IsFaultOf, IsFaultWith, Reports};
+ghost use Rattle.config_checker.specs.Checking.{same_names, faults_of_rows, checked_at, checked_with_at};
+ghost use Rattle.config_checker.specs.Refused.{IsLimitFault, IsFaultOf, IsFaultWith, Reports, ReportsOne, ReportsOwn};
 
 use crate::certificate_reader::{CertificateLines, ReadFault, read_certificate};
 use crate::checked::Checked;
 use crate::report::{CertificateFault, Fault, Report};
 use crate::reporting::{named_fault, report_of};
+use crate::row_faults::faults_of_rows;
 use cascade_rank::{Bound, Weights, find, verify};
 use mpf_config::config::Config;
 use mpf_plan::{EventId, Plan, PlanFault};
@@ -25,7 +26,13 @@ use std::alloc::Global;
 ///
 /// # Errors
 ///
-/// The report lists one fault, the first of these:
+/// Where rows have faults of their own, the report lists them all:
+///
+/// - `Reserved`: a reserved event is posted. They come by text, first the machine text and then the
+///   modes' as listed; in a text by line, and in a line as written. Those that print the same line
+///   are listed once.
+///
+/// Otherwise it lists one fault, the first of these:
 ///
 /// - `Limit`: a table is above its limit; the first such table is reported.
 /// - `Cycle`: events lead to each other without end, so no weights fit.
@@ -40,6 +47,7 @@ pub fn check(alloc: Global, config: &Config) -> Result<Checked, Report>
     ensures good { IfOk result (λ c. IsGood c) }
     ensures refused { IfErr result (λ report. Reports (IsFaultOf (rows_view config.now)) (rows_view config.now) report) }
 {
+    refuse_own(alloc, config)?;
     let plan = plan_of(alloc, config)?;
     let weights = match find(alloc, &plan) {
         Ok(weights) => weights,
@@ -56,7 +64,13 @@ pub fn check(alloc: Global, config: &Config) -> Result<Checked, Report>
 ///
 /// # Errors
 ///
-/// The report lists one fault, the first of these:
+/// Where rows have faults of their own, the report lists them all:
+///
+/// - `Reserved`: a reserved event is posted. They come by text, first the machine text and then the
+///   modes' as listed; in a text by line, and in a line as written. Those that print the same line
+///   are listed once.
+///
+/// Otherwise it lists one fault, the first of these:
 ///
 /// - `Limit`: a table is above its limit; the first such table is reported.
 /// - `Certificate(Line)`: the text is no certificate.
@@ -74,6 +88,7 @@ pub fn check_with(alloc: Global, config: &Config, certificate: &[u8]) -> Result<
     ensures good { IfOk result (λ c. IsGood c) }
     ensures refused { IfErr result (λ report. Reports (IsFaultWith (rows_view config.now) certificate.now) (rows_view config.now) report) }
 {
+    refuse_own(alloc, config)?;
     let plan = plan_of(alloc, config)?;
     let CertificateLines {
         bound: stated,
@@ -97,10 +112,22 @@ pub fn check_with(alloc: Global, config: &Config, certificate: &[u8]) -> Result<
     }
 }
 
+/// Refuses a configuration whose rows have faults of their own.
+fn refuse_own(alloc: Global, config: &Config) -> Result<(), Report>
+    ensures none { OnOk result (faults_of_rows (rows_view config.now) ≡ []) }
+    ensures own { IfErr result (λ report. ReportsOwn (rows_view config.now) report) }
+{
+    let own = faults_of_rows(alloc, config)?;
+    if own.is_empty() {
+        return Ok(());
+    }
+    Err(Report::Faults(own))
+}
+
 /// The plan of a configuration, or the report of the table that is above its limit.
 fn plan_of(alloc: Global, config: &Config) -> Result<Plan, Report>
     ensures plan { IfOk result (λ plan. plan_at (rows_view config.now) ≡ Ok plan) }
-    ensures limit { IfErr result (λ report. Reports (IsLimitFault (rows_view config.now)) (rows_view config.now) report) }
+    ensures limit { IfErr result (λ report. ReportsOne (IsLimitFault (rows_view config.now)) report) }
 {
     match mpf_plan::plan(alloc, config) {
         Ok(plan) => Ok(plan),

@@ -10,11 +10,13 @@ pub mod line;
 pub mod report;
 pub mod report_text;
 mod reporting;
+mod reserved;
+mod row_faults;
 
 pub use certificate::write_certificate;
 pub use checked::Checked;
 pub use checker::{check, check_with};
 pub use law::{accepted_is_good, alarms_end, certificate_is_read_again};
 pub use line::{Happening, Line};
-pub use report::{CertificateFault, Fault, Report};
+pub use report::{CertificateFault, Fault, Report, ReservedPost};
 pub use report_text::write_report;

@@ -24,9 +24,24 @@ pub enum CertificateFault {
     Bound(u32),
 }
 
+/// A reserved event that a text posts: an event of a game, or of a mode that the machine text
+/// lists.
+#[derive(Debug, Drop)]
+pub struct ReservedPost {
+    /// The name of the text.
+    pub text: Vec<u8>,
+    /// The line of the event's name, counted from 1.
+    pub line: u32,
+    /// The event's name.
+    pub name: Vec<u8>,
+}
+
 /// A fault of a configuration.
 #[derive(Debug, Drop, Error)]
 pub enum Fault {
+    /// A reserved event is posted.
+    #[error("Name {}", .0.line)]
+    Reserved(ReservedPost),
     /// The first table that is above its limit.
     #[error("Limit {}", .0.name())]
     Limit(Table),

@@ -3,10 +3,11 @@
 ghost use Rattle.std.specs.Prelude.{◌≡◌, OnOk, map};
 ghost use Rattle.std.specs.Io.KnownBytes.{Appends};
 ghost use Rattle.config_checker.specs.View.{certificate_fault_view, fault_view};
-ghost use Rattle.config_checker.specs.Checking.{cycle};
+ghost use Rattle.config_checker.specs.FaultView.{cycle, reserved};
 ghost use Rattle.config_checker.specs.ReportText.{certificate_fault_text, report_line, report_text};
 
-use crate::report::{CertificateFault, Fault};
+use crate::report::{CertificateFault, Fault, ReservedPost};
+use mpf_config::write_escaped;
 use std::io::{self, Write};
 
 /// Writes a line for each fault, in order.
@@ -23,10 +24,16 @@ pub fn write_report<W: Write>(faults: &[Fault], writer: &mut W) -> io::Result<()
     Ok(())
 }
 
-fn write_fault<W: Write>(fault: &Fault, writer: &mut W) -> io::Result<()>
+/// Writes the line of a fault.
+///
+/// # Errors
+///
+/// The writer's error. Any part of the line may have been written then.
+pub(crate) fn write_fault<W: Write>(fault: &Fault, writer: &mut W) -> io::Result<()>
     ensures { OnOk result (Appends (W.contents writer.old) (W.contents writer.new) (report_line (fault_view fault.now))) }
 {
     match fault {
+        Fault::Reserved(post) => write_reserved(post, writer),
         Fault::Limit(table) => writeln!(writer, "fault 7 Limit {}", table.name()),
         Fault::Cycle(events) => write_cycle(events, writer),
         Fault::Bound => writeln!(writer, "fault 9 Bound"),
@@ -36,6 +43,17 @@ fn write_fault<W: Write>(fault: &Fault, writer: &mut W) -> io::Result<()>
             writer.write_all(b"\n")
         }
     }
+}
+
+fn write_reserved<W: Write>(post: &ReservedPost, writer: &mut W) -> io::Result<()>
+    ensures { OnOk result (Appends (W.contents writer.old) (W.contents writer.new) (report_line (reserved post.now.text.items post.now.line post.now.name.items))) }
+{
+    writer.write_all(b"fault 1 Name ")?;
+    write_escaped(&post.text, writer)?;
+    write!(writer, " {}", post.line)?;
+    writer.write_all(b" ")?;
+    writer.write_all(&post.name)?;
+    writer.write_all(b"\n")
 }
 
 fn write_cycle<W: Write>(events: &[Vec<u8>], writer: &mut W) -> io::Result<()>

@@ -14,6 +14,7 @@ use Rattle.mpf_config.specs.Typed.{listed_names, listed_posts, switch_of, event_
 use Rattle.mpf_config.specs.Unread.{read_of}
 use Rattle.mpf_config.specs.RowsOf.{IsContent, IsSection}
 use Rattle.mpf_config.specs.Short.{IsShortContent, IsShortSection, IsShortMode, AreListsShort, IsShortSwitch, IsShortEventPlayer}
+use Rattle.mpf_config.specs.FewModes.{AreFewModes}
 use Rattle.mpf_config.specs.Reading.{sections_at, rows_at}
 use Rattle.mpf_config.proofs.Meaning.{sections_sound}
 use Rattle.mpf_config.proofs.Theorem.{rows_sound}
@@ -40,6 +41,10 @@ rows_are_short bundle rows is =
       All-from_zip (IsSection 1024) IsShortSection (λ p s k. content_short p s.content k.content) (read_of h.sections) rows.machine h.each,
       subst (All IsShortMode) (sym h.modes) (All-nil IsShortMode),
     )
+
+-- There are few modes in them.
+pub rows_are_few : (bundle : List ℕ) (rows : Rows) → rows_at bundle ≡ Ok rows → AreFewModes rows.modes
+rows_are_few bundle rows is = subst AreFewModes (sym (rows_sound bundle rows is).modes) (record { few = omega arith; apart = λ i j d before within. absurd (omega arith) })
 
 -- ---- by the names of settings
 

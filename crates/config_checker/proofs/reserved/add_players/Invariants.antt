@@ -1,0 +1,12 @@
+use Rattle.std.proofs.Common.{◌≡◌, ◌++◌, map, drop}
+use Rattle.std.specs.List.{flat_map}
+use Rattle.mpf_config.specs.View.{player_view}
+use Rattle.mpf_config.specs.Typed.{event_player_of}
+use Rattle.config_checker.specs.Reserved.{player_posts, reserved_among}
+use Rattle.config_checker.specs.View.{keys_view, written_view}
+use Rattle.config_checker.proofs.reserved.add_players.Given as goal
+
+abbrev pub invariant-loop-player : goal.invariant-loop-player
+invariant-loop-player l =
+    written_view l.found.items ++ reserved_among (keys_view l.modes) (flat_map player_posts (map event_player_of (map player_view (drop l.player-index l.players))))
+    ≡ written_view l.initial.found.items ++ reserved_among (keys_view l.modes) (flat_map player_posts (map event_player_of (map player_view l.players)))

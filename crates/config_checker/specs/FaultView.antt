@@ -1,0 +1,23 @@
+-- Faults, apart from where they lie in memory.
+use Rattle.std.specs.Prelude.{ℕ, List}
+use Rattle.mpf_plan.specs.declared.fault.Table.{Table}
+
+-- what is wrong with a certificate
+pub data CertificateFaultView : Type 0 where
+  -- the first bad line
+  bad_line : (number : ℕ) → CertificateFaultView
+  -- its events are not those of the plan
+  other_events : CertificateFaultView
+  -- the event weighs less than it needs
+  short : (name : List ℕ) (needed : ℕ) → CertificateFaultView
+  -- its bound is not that of its weights, which is this
+  other_bound : (bound : ℕ) → CertificateFaultView
+
+-- a fault
+pub data FaultView : Type 0 where
+  -- the text posts a reserved event of this name at this line
+  reserved : (text : List ℕ) (line : ℕ) (name : List ℕ) → FaultView
+  limit : Table → FaultView
+  cycle : List (List ℕ) → FaultView
+  bound : FaultView
+  certificate : CertificateFaultView → FaultView

@@ -1,0 +1,148 @@
+//! The faults of the rows themselves.
+
+ghost use Rattle.std.specs.Prelude.{◌≡◌, ◌||◌, ◌++◌, ℕ, List, [], map, not, IfOk, OnOk};
+ghost use Rattle.std.specs.List.{flat_map};
+ghost use Rattle.std.specs.Str.{bytes_eq};
+ghost use Rattle.yaml_subset.specs.Keys.{is_among};
+ghost use Rattle.mpf_config.specs.View.{name_view, section_view, mode_view, rows_view};
+ghost use Rattle.config_checker.specs.ReportText.{report_line};
+ghost use Rattle.config_checker.specs.Reserved.{reserved_fault, text_faults, mode_faults, faults_by, listed_once};
+ghost use Rattle.config_checker.specs.Checking.{faults_of_rows};
+ghost use Rattle.config_checker.specs.View.{keys_view, written_view, fault_view, faults_view};
+
+use crate::report::{Fault, ReservedPost};
+use crate::report_text::write_fault;
+use crate::reserved::{ModeEvents, add_texts, events_of_modes, reserved_posts};
+use mpf_config::config::Config;
+use mpf_config::{MACHINE_NAME, ModeText, Name, Section, listed_modes, mode_text_name};
+use std::alloc::{AllocError, Global};
+use std::collections::BTreeSet;
+
+/// The faults of the rows of a configuration, in the order in which a report lists them.
+#[tactic(auto, unfolding(crate::specs::Reserved::reserved_faults))]
+pub(crate) fn faults_of_rows(alloc: Global, config: &Config) -> Result<Vec<Fault>, AllocError>
+    ensures { IfOk result (λ faults. faults_view faults.items ≡ faults_of_rows (rows_view config.now)) }
+{
+    let mut modes = events_of_modes(alloc, listed_modes(&config.machine.sections))?;
+    add_texts(alloc, &mut modes, &config.modes)?;
+    let faults = faults_of_texts(alloc, &modes, config)?;
+    listed_once(alloc, faults)
+}
+
+/// The faults of all texts: of the machine text, then of the modes' in their order.
+fn faults_of_texts(
+    alloc: Global,
+    modes: &ModeEvents,
+    config: &Config,
+) -> Result<Vec<Fault>, AllocError>
+    ensures { IfOk result (λ faults. faults_view faults.items ≡ faults_by (keys_view modes.now) (rows_view config.now)) }
+{
+    let mut faults = Vec::new(alloc);
+    add_text(
+        alloc,
+        &mut faults,
+        modes,
+        MACHINE_NAME,
+        &config.machine.sections,
+    )?;
+    add_modes(alloc, &mut faults, modes, &config.modes)?;
+    Ok(faults)
+}
+
+/// Adds the faults of the texts of these modes.
+fn add_modes(
+    alloc: Global,
+    faults: &mut Vec<Fault>,
+    modes: &ModeEvents,
+    texts: &[ModeText],
+) -> Result<(), AllocError>
+    ensures { OnOk result (faults_view faults.new.items ≡ faults_view faults.old.items ++ flat_map (mode_faults (keys_view modes.now)) (map mode_view texts.now)) }
+{
+    for text in texts {
+        let name = mode_text_name(alloc, &text.name)?;
+        add_text(alloc, faults, modes, &name, &text.sections)?;
+    }
+    Ok(())
+}
+
+/// Adds the faults of the text of this name.
+fn add_text(
+    alloc: Global,
+    faults: &mut Vec<Fault>,
+    modes: &ModeEvents,
+    text: &[u8],
+    sections: &[Section],
+) -> Result<(), AllocError>
+    ensures { OnOk result (faults_view faults.new.items ≡ faults_view faults.old.items ++ text_faults (keys_view modes.now) text.now (map section_view sections.now)) }
+{
+    let posts = reserved_posts(alloc, modes, sections)?;
+    add_posts(alloc, faults, text, &posts)
+}
+
+/// Adds a fault for each of these reserved events, which the text posts.
+fn add_posts(
+    alloc: Global,
+    faults: &mut Vec<Fault>,
+    text: &[u8],
+    posts: &[&Name],
+) -> Result<(), AllocError>
+    ensures { OnOk result (faults_view faults.new.items ≡ faults_view faults.old.items ++ map (reserved_fault text.now) (written_view posts.now)) }
+{
+    for post in posts {
+        let fault = reserved_fault(alloc, text, post)?;
+        faults.push(fault)?;
+    }
+    Ok(())
+}
+
+/// The text posts this reserved event.
+fn reserved_fault(alloc: Global, text: &[u8], post: &Name) -> Result<Fault, AllocError>
+    ensures { IfOk result (λ fault. fault_view fault ≡ reserved_fault text.now (name_view post.now)) }
+{
+    Ok(Fault::Reserved(ReservedPost {
+        text: Vec::from_slice(alloc, text)?,
+        line: post.line,
+        name: Vec::from_slice(alloc, &post.text)?,
+    }))
+}
+
+// ---- once each
+
+/// The faults, without those that print the line of a fault before them.
+fn listed_once(alloc: Global, faults: Vec<Fault>) -> Result<Vec<Fault>, AllocError>
+    ensures { IfOk result (λ listed. faults_view listed.items ≡ listed_once [] (faults_view faults.items)) }
+{
+    let mut lines = BTreeSet::new(alloc);
+    let mut listed = Vec::new(alloc);
+    for fault in faults {
+        let fresh = is_new(alloc, &mut lines, &fault)?;
+        if fresh {
+            listed.push(fault)?;
+        } else {
+            drop(fault);
+        }
+    }
+    Ok(listed)
+}
+
+/// Takes the line of a fault, and says whether it is new. Where memory runs out it may be taken or
+/// not.
+fn is_new(alloc: Global, lines: &mut BTreeSet<Vec<u8>>, fault: &Fault) -> Result<bool, AllocError>
+    ensures fresh { IfOk result (λ fresh. fresh ≡ not (is_among (keys_view lines.old) (report_line (fault_view fault.now)))) }
+    ensures known { IfOk result (λ fresh. (q : List ℕ) → is_among (keys_view lines.new) q ≡ (bytes_eq (report_line (fault_view fault.now)) q || is_among (keys_view lines.old) q)) }
+{
+    let line = line_of(alloc, fault)?;
+    let fresh = lines.insert(line)?;
+    Ok(fresh)
+}
+
+/// The line that a report has for a fault.
+fn line_of(alloc: Global, fault: &Fault) -> Result<Vec<u8>, AllocError>
+    ensures { IfOk result (λ line. line.items ≡ report_line (fault_view fault.now)) }
+{
+    let mut line = Vec::new(alloc);
+    match write_fault(fault, &mut line) {
+        Ok(()) => Ok(line),
+        Err(_) => Err(AllocError),
+    }
+}
