@@ -1,4 +1,4 @@
-use Rattle.std.proofs.Common.{◌≡◌, ◌||◌, ◌++◌, List, ℕ, codes, ap, append_assoc, ◌∙◌}
+use Rattle.std.proofs.Common.{◌||◌, ◌++◌, List, ℕ, ap, ◌∙◌}
 use Rattle.std.specs.Str.{bytes_eq}
 use Rattle.yaml_subset.specs.Keys.{is_among}
 use Rattle.yaml_subset.proofs.KeySets.{insert_key-among}

@@ -1,4 +1,4 @@
-use Rattle.std.proofs.Common.{◌≡◌, List, map, drop, append-nil, ◌++◌, rules, sym, ap, ◌∙◌}
+use Rattle.std.proofs.Common.{◌≡◌, List, map, append-nil, ◌++◌, rules, sym, ap, ◌∙◌}
 use Rattle.std.proofs.lemmas.Fn.{always_returns_same}
 use Rattle.std.proofs.lemmas.List.{drop_all}
 use Rattle.mpf_config.specs.declared.config.Section.{Section}
