@@ -15,7 +15,7 @@ use Rattle.config_checker.specs.Accepted.{IsAccepted}
 use Rattle.config_checker.specs.PlanOrder.{settled}
 use Rattle.config_checker.proofs.Alarms.{settled-moment}
 use Rattle.config_checker.proofs.AlarmsEnd.{alarms_by-none, alarms_by-more, alarms_by-all}
-use Rattle.config_checker.proofs.Cascade.{every_run_is_good}
+use Rattle.config_checker.proofs.Cascade.{verified-is_bounded}
 use Rattle.config_checker.proofs.PlanSteps.{settled-run, settled-idle, settled-steps}
 use Rattle.pin_rig.specs.declared.input.StepFault.{StepFault}
 use Rattle.pin_rig.specs.Refused.{admitted}
@@ -148,7 +148,7 @@ module _ (c : CheckedView) (accepted : IsAccepted c) where
   given-next : (given : List Stimulus) (alarm : Bool) (trace : List Line) (s : Machine) → IsRunGiven given alarm trace s → (stimulus : Stimulus) → IsAllowed c.plan s stimulus
       → (more : List Stimulus) → ((k : ℕ) → without_alarms ((stimulus, k) ∷ []) ≡ more) → IsRunGiven (given ++ more) (is_alarm stimulus) (trace ++ (settled c.plan c.bound stimulus s).lines) (settled c.plan c.bound stimulus s)
   given-next given alarm trace s h stimulus allowed more is =
-      let good = every_run_is_good c accepted in
+      let good = verified-is_bounded c accepted.valid accepted.verified in
       let r = h.reached in
       let steps = settled-steps c good r.stimuli trace s r.run r.idle stimulus allowed in
       record {
