@@ -10,8 +10,8 @@ pub mod least;
 mod price;
 pub mod verdict;
 mod walk;
-mod work;
 pub mod weights;
+mod work;
 
 pub use fault::RankFault;
 pub use law::cycles_or_weights;

@@ -83,14 +83,14 @@ mode-word which name h =
 module _ (bundle : List ℕ) (rows : Rows) (read : rows_at bundle ≡ Ok rows) where
   events_are_named : All IsEventWord (plan_of rows).events
   events_are_named = event_names IsEventWord (record {
-        name = name-word;
-        active = active-word;
-        inactive = inactive-word;
-        tag = tag-word;
-        mode = mode-word;
-        ball = some-word (codes "ball_ending") (omega arith) (omega arith) (AllPass-from_list_all is_in_word (codes "ball_ending") refl);
-        game = some-word (codes "game_ending") (omega arith) (omega arith) (AllPass-from_list_all is_in_word (codes "game_ending") refl);
-      }) rows (rows_are_named bundle rows read) (modes_are_named bundle rows read)
+    name = name-word;
+    active = active-word;
+    inactive = inactive-word;
+    tag = tag-word;
+    mode = mode-word;
+    ball = some-word (codes "ball_ending") (omega arith) (omega arith) (AllPass-from_list_all is_in_word (codes "ball_ending") refl);
+    game = some-word (codes "game_ending") (omega arith) (omega arith) (AllPass-from_list_all is_in_word (codes "game_ending") refl);
+  }) rows (rows_are_named bundle rows read) (modes_are_named bundle rows read)
 
   pub events_are_words : All IsWord (plan_of rows).events
   events_are_words = All-weaker IsEventWord IsWord (λ name h. h.word) (plan_of rows).events events_are_named

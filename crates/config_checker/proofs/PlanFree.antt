@@ -106,8 +106,7 @@ module _ (rows : Rows) where
 
   switch-posting : (s : Switch) → All IsFreePost (switch_posts s) → IsSwitchPosting IsUnreserved s
   switch-posting s h =
-      let parts = all-parts IsFreePost s.activated s.deactivated h in
-      (
+      let parts = all-parts IsFreePost s.activated s.deactivated h in (
         All-cons IsUnreserved (s.name.text ++ codes "_active") (map tag_event s.tags ++ texts s.activated) (active-free s.name.text rows)
             (All-append IsUnreserved (map tag_event s.tags) (texts s.activated) (tags-free s.tags) (written-free s.activated parts.0)),
         All-cons IsUnreserved (s.name.text ++ codes "_inactive") (texts s.deactivated) (inactive-free s.name.text rows) (written-free s.deactivated parts.1),

@@ -176,7 +176,7 @@ module _ (plan : PlanView) (valid : IsValid plan) (free : PostsAreFree plan) (m 
         | inl same ↦
             let now : heard_in plan m before s ≡ heard_at which on = is ∙ ap (λ (b : Bool). cond b (heard_at which on) on) (eq-eqb k.0 m.0 same) in
             let own : IsTurn (phase_in m s) (which ∷ waiting_of plan m s.waiting) =
-                subst (λ (b : Bool). IsTurn (phase_in m s) (cond b (which ∷ waiting_of plan m s.waiting) (waiting_of plan m s.waiting))) (eq-eqb k.0 m.0 same) turns in
+            subst (λ (b : Bool). IsTurn (phase_in m s) (cond b (which ∷ waiting_of plan m s.waiting) (waiting_of plan m s.waiting))) (eq-eqb k.0 m.0 same) turns in
             let here : HoldsIn plan m before (which ∷ []) s = record {
               count = count;
               fine = fine;
@@ -244,8 +244,8 @@ module _ (plan : PlanView) (valid : IsValid plan) (free : PostsAreFree plan) (m 
       → (before : List Line) (line : Line) (after : List Line) → trace ≡ before ++ line ∷ after → line.owner ≡ owners.Mode m → HasStarted plan m before
   silent-run stimuli trace s run =
       let end = run-keeps plan (λ before. HoldsIn plan m before [])
-          (λ before. step-keeps plan (λ earlier. HoldsIn plan m earlier []) (λ first earlier. HoldsIn plan m earlier (handled m (work_of plan first.event))) opens handlers-hold closes before)
-          begins [] stimuli (initial plan) trace s run holds-initial in
+      (λ before. step-keeps plan (λ earlier. HoldsIn plan m earlier []) (λ first earlier. HoldsIn plan m earlier (handled m (work_of plan first.event))) opens handlers-hold closes before)
+      begins [] stimuli (initial plan) trace s run holds-initial in
       fine-silent plan valid m within trace (subst (λ (ls : List Line). IsFine m false (all_written plan ls)) end.2 end.1.fine)
 
 -- in every run of a valid plan that posts no event with work, a stopped mode is silent

@@ -17,5 +17,5 @@ returns c =
     let more = map (λ m. m.name) rows.modes in
     let listed : (q : List ℕ) → is_among (keys_view c.in_ok-modes.modes) q ≡ is_among (events_of_modes names) q = λ q. c.in_ok-modes.ensures q ∙ ap (λ ws. is_among (events_of_modes (map (λ w. w.text) ws)) q) modes in
     let same : (q : List ℕ) → is_among (keys_view c.add_texts.new.events) q ≡ is_among (events_of_modes (mode_names rows)) q =
-        λ q. c.in_ok-add_texts.ensures q ∙ ap (λ ts. is_among (keys_view c.in_ok-modes.modes ++ events_of_modes (map (λ m. m.name) (map mode_view ts))) q) c.deref-2.ensures.value ∙ joined-events names more (keys_view c.in_ok-modes.modes) q (listed q) in
+    λ q. c.in_ok-add_texts.ensures q ∙ ap (λ ts. is_among (keys_view c.in_ok-modes.modes ++ events_of_modes (map (λ m. m.name) (map mode_view ts))) q) c.deref-2.ensures.value ∙ joined-events names more (keys_view c.in_ok-modes.modes) q (listed q) in
     IfOk-weaker c.listed_once.result _ _ (λ once e. e ∙ ap (listed_once []) (c.in_ok-faults.ensures ∙ same_faults (keys_view c.add_texts.new.events) (events_of_modes (mode_names rows)) rows same)) c.listed_once.ensures

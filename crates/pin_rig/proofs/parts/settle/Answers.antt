@@ -32,8 +32,7 @@ loop-first-smaller c =
 pub loop-first-preserved : goal.loop-first-preserved
 loop-first-preserved c =
     let (count, is) = c.loop-first.invariant in
-    let (rest, waits, took_is) = c.in-Some.ensures in
-    (
+    let (rest, waits, took_is) = c.in-Some.ensures in (
       count + 1,
       next-steps c.args.plan.now c.args.core.now c.loop-first.core c.requires.handlers c.requires.room count is c.in-Some.first rest waits c.take.new.self c.write.new.self took_is c.write.ensures c.take_step.new.core c.take_step.ensures,
     )
