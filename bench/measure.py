@@ -15,6 +15,7 @@ import sys
 import tempfile
 
 import cascades
+import stacked
 import texts
 import waits
 from measuring import MIB, Cost, measured, show
@@ -35,8 +36,11 @@ class Bench:
     readers: list[str]
 
     def check(self, text: str) -> Cost:
+        return self.check_bundle(texts.bundle(text))
+
+    def check_bundle(self, bundle: bytes) -> Cost:
         path = self.folder / "checked.bundle"
-        path.write_bytes(texts.bundle(text))
+        path.write_bytes(bundle)
         return measured([self.program, "check"], path, self.runs)
 
 
@@ -95,7 +99,8 @@ def checks_growth(bench: Bench, base: float) -> None:
         show(f"{len(text)} bytes", bench.check(text), len(text), base)
 
 
-def checks_cascades(bench: Bench) -> None:
+def checks_cascades(bench: Bench) -> float:
+    """Gives the seconds for each byte of the largest text."""
     print(
         "\nhow the time of check grows with the events that feed each other "
         f"({cascades.POSTS:,} posts of {cascades.EVENTS:,} events, and parts of it)"
@@ -106,6 +111,21 @@ def checks_cascades(bench: Bench) -> None:
         cost = bench.check(text)
         show(f"{cascades.EVENTS // part} events ({cost.status})", cost, len(text), before)
         before = cost.seconds
+    return before / len(text)
+
+
+def checks_modes(bench: Bench, base: float) -> None:
+    print(
+        f"\nhow the time of check grows with the bindings of {stacked.MODES} modes "
+        f"({stacked.BINDINGS:,} bindings, and parts of it)"
+    )
+    before = None
+    for part in PARTS:
+        bundle = stacked.largest(part)
+        cost = bench.check_bundle(bundle)
+        show(f"{stacked.BINDINGS // part} bindings ({cost.status})", cost, len(bundle), before)
+        before = cost.seconds
+    print(f"for each byte {before / len(bundle) / base:.2f} times as long as of the largest events above")
 
 
 def same_output(first: list[str], second: list[str], bundle: pathlib.Path) -> tuple[bool, int, int]:
@@ -129,20 +149,32 @@ def same_output(first: list[str], second: list[str], bundle: pathlib.Path) -> tu
     return same, size, lines
 
 
-def plays_cascades(bench: Bench, runs: int) -> None:
-    bundle, log = bench.folder / "cascades.bundle", bench.folder / "cascades.log"
-    bundle.write_bytes(texts.bundle("".join(cascades.machine())))
-    log.write_text(cascades.log())
+def plays_both(bench: Bench, what: str, bundle: pathlib.Path, log: pathlib.Path, runs: int) -> None:
+    """Plays a log by both programs, which have to write the same."""
     ours, theirs = [bench.program, "play", str(log)], [bench.plain, str(log)]
     same, size, lines = same_output(ours, theirs, bundle)
     bytes_read = log.stat().st_size
     both = "the same" if same else "NOT THE SAME"
-    print(f"\nplay of a log of {bytes_read} bytes: {size} bytes of output in {lines} lines, {both} from both")
+    print(f"\nplay of a log of {bytes_read} bytes{what}: {size} bytes of output in {lines} lines, {both} from both")
     if not same:
         sys.exit("the outputs of play differ, so that their times tell nothing")
     base = measured(theirs, bundle, runs)
     show("plain Rust", base, bytes_read, base.seconds)
     show("pinball play", measured(ours, bundle, runs), bytes_read, base.seconds)
+
+
+def plays_cascades(bench: Bench, runs: int) -> None:
+    bundle, log = bench.folder / "cascades.bundle", bench.folder / "cascades.log"
+    bundle.write_bytes(texts.bundle("".join(cascades.machine())))
+    log.write_text(cascades.log())
+    plays_both(bench, "", bundle, log, runs)
+
+
+def plays_modes(bench: Bench, runs: int) -> None:
+    bundle, log = bench.folder / "modes.bundle", bench.folder / "modes.log"
+    bundle.write_bytes(stacked.machine())
+    log.write_text(cascades.log())
+    plays_both(bench, f" with {stacked.STACKED} modes on the same {stacked.SWITCHES} events", bundle, log, runs)
 
 
 def plays_waits(bench: Bench, runs: int) -> None:
@@ -171,8 +203,9 @@ def main() -> None:
         checks_hostile(bench, seconds)
         checks_names(bench, seconds)
         checks_growth(bench, seconds)
-        checks_cascades(bench)
+        checks_modes(bench, checks_cascades(bench))
         plays_cascades(bench, max(runs // 3, 1))
+        plays_modes(bench, max(runs // 3, 1))
         plays_waits(bench, max(runs // 3, 1))
 
 

@@ -1,6 +1,6 @@
 //! plain LOG < BUNDLE: plays a log like `pinball play`, in plain Rust and without proofs: the other side of the
-//! measurement. Of bundles it reads only the form that `cascades.py` writes, and checks nothing there; the lines of a log
-//! are refused as `pinball play` refuses them. Moments are in milliseconds. Built by rustc alone.
+//! measurement. Of bundles it reads only the form that `cascades.py` and `stacked.py` write, and checks nothing there; the
+//! lines of a log are refused as `pinball play` refuses them. Moments are in milliseconds. Built by rustc alone.
 use std::collections::{HashMap, VecDeque};
 use std::fmt::Write as _;
 use std::io::{self, BufWriter, Read, Write};
@@ -21,10 +21,87 @@ struct Switch {
     due: Option<u64>,
 }
 
+/// The machine, or a mode by its place in the list.
+type Owner = Option<u8>;
+
 #[derive(Clone, Copy)]
 enum Line {
     Switch(u64, u16, bool),
-    Event(u64, u16),
+    Event(u64, Owner, u16),
+}
+
+#[derive(Clone, Copy, PartialEq)]
+enum Phase {
+    Idle,
+    Starting,
+    Active,
+    Stopping,
+}
+
+/// What the life of a mode posts, in order.
+const STEPS: [&str; 5] = ["will_start", "starting", "started", "stopping", "stopped"];
+const STARTED: usize = 2;
+const STOPPING: usize = 3;
+
+struct Mode {
+    name: String,
+    priority: u32,
+    phase: Phase,
+    stop_kept: bool,
+    /// The numbers of its `STEPS`.
+    events: [u16; 5],
+}
+
+impl Mode {
+    fn takes_part(&self) -> bool {
+        matches!(self.phase, Phase::Active | Phase::Stopping)
+    }
+
+    /// Gives the event that the machine then posts.
+    fn start(&mut self) -> Option<u16> {
+        if self.phase != Phase::Idle {
+            return None;
+        }
+        self.phase = Phase::Starting;
+        Some(self.events[0])
+    }
+
+    fn stop(&mut self) -> Option<u16> {
+        match self.phase {
+            Phase::Active => self.phase = Phase::Stopping,
+            Phase::Starting => {
+                self.stop_kept = true;
+                return None;
+            }
+            _ => return None,
+        }
+        Some(self.events[STOPPING])
+    }
+
+    /// What follows the handlers of one of its events.
+    fn after(&mut self, step: usize) -> Option<u16> {
+        match step {
+            STARTED if std::mem::take(&mut self.stop_kept) => self.stop(),
+            STARTED => None,
+            STOPPING => {
+                self.phase = Phase::Idle;
+                Some(self.events[STOPPING + 1])
+            }
+            _ => self.events.get(step + 1).copied(),
+        }
+    }
+}
+
+enum Effect {
+    Post(Vec<u16>),
+    Start(u8),
+    Stop(u8),
+}
+
+struct Handler {
+    owner: Owner,
+    priority: u32,
+    effect: Effect,
 }
 
 /// The names of events, each with its number, in the order in which they were met.
@@ -50,11 +127,15 @@ impl Names {
 struct Machine {
     switches: Vec<Switch>,
     switch_numbers: HashMap<String, u16>,
+    modes: Vec<Mode>,
     events: Names,
-    /// For each event its handlers, each of which is what it posts.
-    handlers: Vec<Vec<Vec<u16>>>,
+    /// For each event its handlers, in the order in which they run.
+    handlers: Vec<Vec<Handler>>,
+    /// For each event the mode, and the step of its life, whose event it is.
+    steps: Vec<Option<(u8, usize)>>,
     now: u64,
-    waiting: VecDeque<u16>,
+    /// Each with who posted it.
+    waiting: VecDeque<(Owner, u16)>,
     /// What happened and is not written yet.
     lines: Vec<Line>,
 }
@@ -63,19 +144,58 @@ struct Machine {
 impl Machine {
     fn read(bundle: &str) -> Machine {
         let mut machine = Machine::default();
-        let mut section = "";
-        for line in bundle.lines().filter(|line| !line.starts_with(['#', '@'])) {
+        let (mut section, mut owner) = ("", None);
+        for line in bundle.lines().filter(|line| !line.starts_with('#')) {
+            if let Some(text) = line.strip_prefix("@ ") {
+                owner = (0u8..).zip(&machine.modes).find(|(_, m)| text.contains(&format!("/{}/", m.name))).map(|(n, _)| n);
+                continue;
+            }
             let Some((key, value)) = line.trim().split_once(':') else { continue };
             let indent = line.len() - line.trim_start().len();
             match (indent, section) {
+                (0, _) if key == "modes" => value.split(", ").for_each(|name| machine.add_mode(name.trim())),
                 (0, _) => section = key,
                 (2, "switches") => machine.add_switch(key),
                 (_, "switches") => machine.set(key, value.trim()),
-                _ => machine.add_handler(key, value.trim()),
+                (_, "mode") => machine.set_mode(owner.expect("a text of a mode"), key, value.trim()),
+                _ => machine.add_posts(owner, key, value.trim()),
             }
         }
-        machine.handlers.resize_with(machine.events.names.len(), Vec::new);
-        machine
+        machine.finish()
+    }
+
+    fn finish(mut self) -> Machine {
+        self.handlers.resize_with(self.events.names.len(), Vec::new);
+        self.steps.resize(self.events.names.len(), None);
+        for (number, mode) in (0u8..).zip(&self.modes) {
+            for (step, &event) in mode.events.iter().enumerate() {
+                self.steps[event as usize] = Some((number, step));
+            }
+        }
+        // Bindings that start and stop a mode are read before its priority.
+        for handlers in &mut self.handlers {
+            for handler in handlers.iter_mut() {
+                if let Effect::Start(mode) | Effect::Stop(mode) = handler.effect {
+                    handler.priority = self.modes[mode as usize].priority;
+                }
+            }
+            handlers.sort_by_key(|handler| std::cmp::Reverse(handler.priority));
+        }
+        self
+    }
+
+    fn add_mode(&mut self, name: &str) {
+        let events = STEPS.map(|step| self.events.number(&format!("mode_{name}_{step}")));
+        self.modes.push(Mode { name: name.to_string(), priority: 100, phase: Phase::Idle, stop_kept: false, events });
+    }
+
+    fn set_mode(&mut self, mode: u8, setting: &str, value: &str) {
+        match setting {
+            "start_events" => self.add_handler(value, None, Effect::Start(mode)),
+            "stop_events" => self.add_handler(value, None, Effect::Stop(mode)),
+            "priority" => self.modes[mode as usize].priority = value.parse().expect("a number"),
+            _ => (),
+        }
     }
 
     fn add_switch(&mut self, name: &str) {
@@ -100,11 +220,16 @@ impl Machine {
         }
     }
 
-    fn add_handler(&mut self, event: &str, posts: &str) {
-        let event = self.events.number(event) as usize;
+    fn add_posts(&mut self, owner: Owner, event: &str, posts: &str) {
         let posts = posts.split(", ").map(|name| self.events.number(name)).collect();
+        self.add_handler(event, owner, Effect::Post(posts));
+    }
+
+    fn add_handler(&mut self, event: &str, owner: Owner, effect: Effect) {
+        let event = self.events.number(event) as usize;
+        let priority = owner.map_or(0, |mode| self.modes[mode as usize].priority);
         self.handlers.resize_with(self.handlers.len().max(event + 1), Vec::new);
-        self.handlers[event].push(posts);
+        self.handlers[event].push(Handler { owner, priority, effect });
     }
 }
 
@@ -115,7 +240,8 @@ impl Machine {
         switch.active = active;
         switch.due = None;
         self.lines.push(Line::Switch(self.now, number, active));
-        self.waiting.extend(if active { &switch.active_posts } else { &switch.inactive_posts });
+        let posts = if active { &switch.active_posts } else { &switch.inactive_posts };
+        self.waiting.extend(posts.iter().map(|&event| (None, event)));
     }
 
     fn change(&mut self, number: u16, raw: bool) {
@@ -135,12 +261,33 @@ impl Machine {
         (0u16..).zip(&self.switches).filter_map(|(n, s)| Some((s.due?, n))).min()
     }
 
-    /// Runs the handlers of events until none waits.
+    /// Takes events until none waits.
     fn settle(&mut self) {
-        while let Some(event) = self.waiting.pop_front() {
-            self.lines.push(Line::Event(self.now, event));
-            for posts in &self.handlers[event as usize] {
-                self.waiting.extend(posts);
+        while let Some((owner, event)) = self.waiting.pop_front() {
+            self.lines.push(Line::Event(self.now, owner, event));
+            let step = self.steps[event as usize];
+            if let Some((mode, STARTED)) = step {
+                self.modes[mode as usize].phase = Phase::Active;
+            }
+            self.handle(event);
+            if let Some((mode, step)) = step {
+                let posted = self.modes[mode as usize].after(step);
+                self.waiting.extend(posted.map(|event| (None, event)));
+            }
+        }
+    }
+
+    /// Runs the handlers of an event whose owners take part.
+    fn handle(&mut self, event: u16) {
+        let Machine { handlers, modes, waiting, .. } = self;
+        for handler in &handlers[event as usize] {
+            if handler.owner.is_some_and(|mode| !modes[mode as usize].takes_part()) {
+                continue;
+            }
+            match &handler.effect {
+                Effect::Post(posts) => waiting.extend(posts.iter().map(|&event| (handler.owner, event))),
+                Effect::Start(mode) => waiting.extend(modes[*mode as usize].start().map(|event| (None, event))),
+                Effect::Stop(mode) => waiting.extend(modes[*mode as usize].stop().map(|event| (None, event))),
             }
         }
     }
@@ -178,6 +325,7 @@ impl Machine {
 
     /// Writes the lines since it wrote last, each through `text`, whose memory is used again.
     fn write(&mut self, text: &mut String, out: &mut impl Write) -> io::Result<()> {
+        let modes = &self.modes;
         for line in self.lines.drain(..) {
             text.clear();
             match line {
@@ -185,8 +333,9 @@ impl Machine {
                     let level = if active { "active" } else { "inactive" };
                     let _ = writeln!(text, "{at} machine switch {} {level}", self.switches[number as usize].name);
                 }
-                Line::Event(at, event) => {
-                    let _ = writeln!(text, "{at} machine event {}", self.events.names[event as usize]);
+                Line::Event(at, owner, event) => {
+                    let owner = owner.map_or("machine", |mode| &modes[mode as usize].name);
+                    let _ = writeln!(text, "{at} {owner} event {}", self.events.names[event as usize]);
                 }
             }
             out.write_all(text.as_bytes())?;

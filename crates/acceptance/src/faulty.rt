@@ -135,19 +135,20 @@ fn text_within_its_limit_is_read(rt: HostRuntime) -> Result<(), Fail> {
 /// What standard error gets of a fault: a second line names the file, where one is at fault.
 #[test]
 fn faults_are_said(rt: HostRuntime) -> Result<(), Fail> {
+    let path = || String::from_str(rt.alloc(), "a b");
     let rows = [
         (
-            Failure::at(ShellFault::Read, "a b"),
+            Failure::at(ShellFault::Read, path()?),
             "fault: Read\nfile: a b\n",
         ),
         (
-            Failure::at(ShellFault::TooLong, "a b"),
+            Failure::at(ShellFault::TooLong, path()?),
             "fault: TooLong\nfile: a b\n",
         ),
         (Failure::from(ShellFault::Read), "fault: Read\n"),
-        (Failure::at(ShellFault::Write, "a b"), "fault: Write\n"),
+        (Failure::at(ShellFault::Write, path()?), "fault: Write\n"),
         (
-            Failure::at(ShellFault::NoMemory, "a b"),
+            Failure::at(ShellFault::NoMemory, path()?),
             "fault: NoMemory\n",
         ),
     ];

@@ -20,6 +20,8 @@ mod joined;
 #[cfg(test)]
 mod limits;
 #[cfg(test)]
+mod mode_rows;
+#[cfg(test)]
 mod play_rows;
 #[cfg(test)]
 mod row;

@@ -1,4 +1,4 @@
-//! Small machine texts, drawn at random.
+//! Small machines, drawn at random: a machine text, and those of its modes behind it.
 
 use std::alloc::{AllocError, Global};
 
@@ -133,16 +133,69 @@ fn add_switches(out: &mut String, state: &mut u64, shape: Shape) -> Result<(), A
     Ok(())
 }
 
-/// Either section can be the first.
+/// Events that have an effect on a mode: up to two, none of them behind its place, and perhaps one of
+/// the first mode.
+fn add_causes(
+    out: &mut String,
+    state: &mut u64,
+    shape: Shape,
+    place: usize,
+    key: &str,
+) -> Result<(), AllocError> {
+    write!(out, "  {key}:")?;
+    for _ in 0..draw(state, 3) {
+        out.push(' ')?;
+        let places = place.saturating_sub(shape.first).saturating_add(1);
+        add_name(out, draw(state, places).saturating_add(shape.first))?;
+    }
+    out.push_str(["", "", "", " mode_m_started"][draw(state, 4) & 3])?;
+    out.push('\n')
+}
+
+/// A mode in a text of its own. It has a place among the names: what it posts at its own events stands
+/// behind it.
+fn add_mode(
+    out: &mut String,
+    state: &mut u64,
+    shape: Shape,
+    mode: &str,
+) -> Result<(), AllocError> {
+    write!(
+        out,
+        "@ modes/{mode}/config/{mode}.yaml\n#config_version=6\nmode:\n"
+    )?;
+    let place = draw(state, shape.count).saturating_add(shape.first);
+    add_causes(out, state, shape, place, "start_events")?;
+    add_causes(out, state, shape, place, "stop_events")?;
+    for key in ["game_mode", "stop_on_ball_end"] {
+        writeln!(out, "  {key}: {}", ["no", "yes"][draw(state, 2) & 1])?;
+    }
+    add_players(out, state, shape)?;
+    for event in ["starting", "started", "stopping", "stopped"] {
+        write!(out, "  mode_{mode}_{event}:")?;
+        if draw(state, 2) == 0 {
+            add_posts(out, state, shape, place)?;
+        }
+        out.push('\n')?;
+    }
+    Ok(())
+}
+
+/// A machine, half of the time with a mode or two. Either section of its text can be the first.
 pub(crate) fn draw_machine(alloc: Global, state: &mut u64) -> Result<String, AllocError> {
     let shape = draw_shape(state);
     let mut out = String::new(alloc);
+    let modes = ["", "", "m", "n m"][draw(state, 4) & 3];
+    writeln!(out, "modes: {modes}")?;
     if draw(state, 2) == 0 {
         add_switches(&mut out, state, shape)?;
         add_players(&mut out, state, shape)?;
     } else {
         add_players(&mut out, state, shape)?;
         add_switches(&mut out, state, shape)?;
+    }
+    for mode in modes.split_whitespace() {
+        add_mode(&mut out, state, shape, mode)?;
     }
     Ok(out)
 }

@@ -1,15 +1,15 @@
-//! What is to be found of a machine text, by plain rounds over what it posts.
+//! What is to be found of a machine, by plain rounds over what its texts post.
 
 use mpf_plan::{EventId, Plan};
 use std::alloc::{AllocError, Global};
 
-/// What a machine text posts, by the numbers of its plan.
+/// What the texts of a machine post, by the numbers of its plan.
 #[derive(Drop)]
 pub(crate) struct Graph {
     pub(crate) events: u16,
     /// How many stimuli there are: their numbers are from 1 on.
     count: u16,
-    /// From event to event, each as often as it is posted.
+    /// From event to event, each as often as it is posted. A mode posts its events too.
     posts: Vec<(u16, u16)>,
     /// From stimulus to event.
     stimuli: Vec<(u16, u16)>,
@@ -52,7 +52,51 @@ fn add_line(graph: &mut Graph, plan: &Plan, line: &str) -> Result<(), AllocError
     }
 }
 
-/// What a machine text posts.
+/// What has an effect on a mode by a line of its section `mode`, and the end of the name of the event
+/// that the mode then posts.
+fn causes_in(line: &str) -> (&str, &'static str) {
+    match line.split_once(": ").unwrap_or((line, "")) {
+        ("  start_events", events) => (events, "will_start"),
+        ("  stop_events", events) => (events, "stopping"),
+        ("  game_mode", "yes") => ("game_ending", "stopping"),
+        ("  stop_on_ball_end", "yes") => ("ball_ending", "stopping"),
+        _ => ("", ""),
+    }
+}
+
+/// Adds that each of these events posts the event of the mode whose name ends so.
+fn add_causes(
+    alloc: Global,
+    graph: &mut Graph,
+    plan: &Plan,
+    causes: &str,
+    mode: &str,
+    end: &str,
+) -> Result<(), AllocError> {
+    let event = format!(in alloc; "mode_{mode}_{end}")?;
+    for cause in causes.split_whitespace() {
+        let from = number_of(plan, cause);
+        add_posts(&mut graph.posts, plan, from, &event)?;
+    }
+    Ok(())
+}
+
+/// Adds that the events of a mode post each other in turn, up to the last.
+fn add_life(
+    alloc: Global,
+    graph: &mut Graph,
+    plan: &Plan,
+    mode: &str,
+) -> Result<(), AllocError> {
+    let mut event = format!(in alloc; "mode_{mode}_will_start")?;
+    for end in ["starting", "started", "stopping", "stopped"] {
+        add_causes(alloc, graph, plan, &event, mode, end)?;
+        event = format!(in alloc; "mode_{mode}_{end}")?;
+    }
+    Ok(())
+}
+
+/// What the texts of a machine post.
 pub(crate) fn graph_of(alloc: Global, plan: &Plan, machine: &str) -> Result<Graph, AllocError> {
     let mut graph = Graph {
         events: plan.event_count() as u16,
@@ -60,7 +104,14 @@ pub(crate) fn graph_of(alloc: Global, plan: &Plan, machine: &str) -> Result<Grap
         posts: Vec::new(alloc),
         stimuli: Vec::new(alloc),
     };
+    let mut mode = "";
     for line in machine.lines() {
+        if let Some(path) = line.strip_prefix("@ modes/") {
+            mode = path.split_once('/').unwrap_or((path, "")).0;
+            add_life(alloc, &mut graph, plan, mode)?;
+        }
+        let (causes, end) = causes_in(line);
+        add_causes(alloc, &mut graph, plan, causes, mode, end)?;
         add_line(&mut graph, plan, line)?;
     }
     Ok(graph)
@@ -82,7 +133,7 @@ fn cost(posts: &[(u16, u16)], weights: &[u32], from: u16) -> u128 {
 }
 
 /// The weights after one round more.
-pub(crate) fn weigh_again(
+fn weigh_again(
     alloc: Global,
     graph: &Graph,
     weights: &[u32],
@@ -94,8 +145,8 @@ pub(crate) fn weigh_again(
     Ok(costs)
 }
 
-/// The weights after as many rounds as there are events. An event from which one can go on without
-/// end weighs more in each further round, and no other does.
+/// The weights after as many rounds as there are events: they are least, if one can go on without end
+/// from none.
 pub(crate) fn weights_by_rounds(alloc: Global, graph: &Graph) -> Result<Vec<u32>, AllocError> {
     let mut weights = vec![in alloc; 0u32; graph.events as usize]?;
     for _ in 0..graph.events {
@@ -104,11 +155,31 @@ pub(crate) fn weights_by_rounds(alloc: Global, graph: &Graph) -> Result<Vec<u32>
     Ok(weights)
 }
 
-/// The least event that an event posts and that weighs more in the further round.
-fn go_on(graph: &Graph, weights: &[u32], again: &[u32], from: u16) -> u16 {
+/// Whether an event is in a set: events as bits.
+fn is_in(events: u64, event: u16) -> bool {
+    events.checked_shr(u32::from(event)).unwrap_or(0) & 1 == 1
+}
+
+/// The events from which one can take more steps than there are events, and so go on without end.
+fn endless(graph: &Graph) -> u64 {
+    let mut events = u64::MAX;
+    for _ in 0..=graph.events {
+        let mut before = 0u64;
+        for post in &graph.posts {
+            if is_in(events, post.1) {
+                before |= 1u64.checked_shl(u32::from(post.0)).unwrap_or(0);
+            }
+        }
+        events = before;
+    }
+    events
+}
+
+/// The least of these events that an event posts.
+fn go_on(graph: &Graph, endless: u64, from: u16) -> u16 {
     let mut next = u16::MAX;
     for post in &graph.posts {
-        if post.0 == from && weight_of(weights, post.1) != weight_of(again, post.1) {
+        if post.0 == from && is_in(endless, post.1) {
             next = next.min(post.1);
         }
     }
@@ -119,8 +190,7 @@ fn go_on(graph: &Graph, weights: &[u32], again: &[u32], from: u16) -> u16 {
 fn cycle_from(
     alloc: Global,
     graph: &Graph,
-    weights: &[u32],
-    again: &[u32],
+    endless: u64,
     start: u16,
 ) -> Result<String, AllocError> {
     let mut path: Vec<EventId> = Vec::new(alloc);
@@ -130,7 +200,7 @@ fn cycle_from(
             break;
         }
         path.push(EventId(at))?;
-        at = go_on(graph, weights, again, at);
+        at = go_on(graph, endless, at);
     }
     let place = path.iter().position(|event| event.0 == at).unwrap_or(0);
     format!(in alloc; "Cycle({:?})", path.get(place..).unwrap_or(&[]))
@@ -150,17 +220,16 @@ fn is_above(graph: &Graph, weights: &[u32]) -> bool {
     bound_of(graph, weights).max(u128::from(greatest)) > 10_000
 }
 
-/// What is to be found, from the weights of the rounds: they are least where one more round changes
-/// nothing.
+/// What is to be found: a cycle, too large weights, or those of the rounds.
 pub(crate) fn to_find(
     alloc: Global,
     graph: &Graph,
     weights: &[u32],
-    again: &[u32],
 ) -> Result<String, AllocError> {
+    let endless = endless(graph);
     for event in 0..graph.events {
-        if weight_of(weights, event) != weight_of(again, event) {
-            return cycle_from(alloc, graph, weights, again, event);
+        if is_in(endless, event) {
+            return cycle_from(alloc, graph, endless, event);
         }
     }
     if is_above(graph, weights) {
@@ -186,24 +255,4 @@ pub(crate) fn to_judge(
         return String::from_str(alloc, "Err(BoundTooLarge)");
     }
     format!(in alloc; "Ok(Bound({}))", bound_of(graph, weights))
-}
-
-/// One step from each event of a set: the events as bits.
-fn stepped(graph: &Graph, events: u64) -> u64 {
-    let mut next = 0u64;
-    for post in &graph.posts {
-        if events.checked_shr(u32::from(post.0)).unwrap_or(0) & 1 == 1 {
-            next |= 1u64.checked_shl(u32::from(post.1)).unwrap_or(0);
-        }
-    }
-    next
-}
-
-/// Whether one can take more steps than there are events: then there is a cycle, else none.
-pub(crate) fn has_cycle(graph: &Graph) -> bool {
-    let mut events = u64::MAX;
-    for _ in 0..=graph.events {
-        events = stepped(graph, events);
-    }
-    events != 0
 }

@@ -1,11 +1,9 @@
-//! Weights and cycles of many small machine texts, drawn at random, against rounds over what they
-//! post.
+//! Weights and cycles of many small machines, some with modes, drawn at random, against rounds over what
+//! they post.
 
 use crate::cases::config_of;
 use crate::drawing::draw_machine;
-use crate::oracle::{
-    Graph, graph_of, has_cycle, to_find, to_judge, weigh_again, weight_of, weights_by_rounds,
-};
+use crate::oracle::{Graph, graph_of, to_find, to_judge, weight_of, weights_by_rounds};
 use cascade_rank::{Weights, find, verify};
 use mpf_plan::{EventId, Plan, plan};
 use std::alloc::{AllocError, Global};
@@ -90,9 +88,8 @@ fn kind_of(found: &str) -> usize {
 fn compared(alloc: Global, plan: &Plan, graph: &Graph, weights: &[u32]) -> Result<usize, Fail> {
     let found = found(alloc, plan)?;
     let kind = kind_of(&found);
-    let again = weigh_again(alloc, graph, weights)?;
-    let wanted = to_find(alloc, graph, weights, &again)?;
-    if found.as_str() != wanted.as_str() || has_cycle(graph) != (kind >= 2) {
+    let wanted = to_find(alloc, graph, weights)?;
+    if found.as_str() != wanted.as_str() {
         return Err("other weights or another cycle".into());
     }
     assert_judged(alloc, plan, graph, weights, kind == 0)?;
@@ -105,7 +102,7 @@ fn tried(alloc: Global, plan: &Plan, machine: &str) -> Result<usize, Fail> {
     compared(alloc, plan, &graph, &weights)
 }
 
-/// One text: the kind of what was found of it, as it is to be found.
+/// One machine: the kind of what was found of it, as it is to be found.
 fn drawn(alloc: Global, state: &mut u64) -> Result<usize, Fail> {
     let machine = draw_machine(alloc, state)?;
     let config = config_of(alloc, &machine)?;
@@ -117,16 +114,13 @@ fn drawn(alloc: Global, state: &mut u64) -> Result<usize, Fail> {
 fn random_plans(rt: HostRuntime) -> Result<(), Fail> {
     let mut state = 1u64;
     let mut tally = [0u32; 4];
-    for _ in 0..4_000u32 {
+    for _ in 0..1_200u32 {
         let kind = drawn(rt.alloc(), &mut state)?;
         if let Some(count) = tally.get_mut(kind) {
             *count = count.saturating_add(1);
         }
     }
-    assert!(rt; tally[0] > 2_000 && tally[1] > 200, "{tally:?}");
-    assert!(rt;
-        tally[2].saturating_add(tally[3]) > 800 && tally[3] > 100,
-        "{tally:?}"
-    );
+    assert!(rt; tally[0] > 400 && tally[1] > 80, "{tally:?}");
+    assert!(rt; tally[2] > 250 && tally[3] > 120, "{tally:?}");
     Ok(())
 }

@@ -1,59 +1,145 @@
 -- The rows of sections are those that are read, and no others.
-use Rattle.std.proofs.Common.{◌≡◌, ℕ, List, Option, Some, None, Ok, refl, sym, subst, inl}
-use Rattle.std.specs.List.{AllZip}
+use Rattle.std.proofs.Common.{◌≡◌, ◌≢◌, ℕ, ◌<◌, if◌then◌else◌, false, map, List, [], ◌∷◌, Some, Option, None, Ok, refl, sym, subst, inl, inr}
+use Rattle.std.specs.List.{All, AllZip}
+use Rattle.std.specs.Str.{bytes_eq}
+use Rattle.std.proofs.lemmas.Bool.{cases_Bool, both_ways}
+use Rattle.std.proofs.lemmas.List.Elements.{All-nil, All-cons, All-head, All-tail}
+use Rattle.std.proofs.lemmas.Slice.Eq.{bytes_eq-Decides}
+use Rattle.yaml_subset.specs.Keys.{is_among}
 use Rattle.yaml_subset.specs.Node.{Node, Pair}
 use Rattle.yaml_subset.specs.View.{line_of, pairs_in}
-use Rattle.section_tables.specs.Kinds.{Setting, PlayerKinds}
-use Rattle.section_tables.specs.SectionTables.{table_of, player_of}
-use Rattle.section_tables.specs.Reading.{IsReadOrLong, entries_at, players_at}
-use Rattle.section_tables.proofs.Steps.{bind_ok, ok_is, expected}
-use Rattle.section_tables.proofs.Outcomes.{then_read, each_sound, each_complete}
-use Rattle.section_tables.proofs.EntriesRead.{entries_sound, entries_complete, players_sound, players_complete}
-use Rattle.section_tables.proofs.TableNames.{player_has_no_table}
-use Rattle.mpf_config.specs.Rows.{Content, entries, players, entry, listed, SectionRows}
+use Rattle.section_tables.specs.declared.fault.FaultKind.TheVariants.{BadValue, Duplicate}
+use Rattle.section_tables.specs.declared.tables.TextKind.{TextKind}
+use Rattle.section_tables.specs.Kinds.{Shape, by_entries, by_players, by_entry, by_names}
+use Rattle.section_tables.specs.SectionTables.{shape_of}
+use Rattle.section_tables.specs.Reading.{IsReadOr, ◌>>=◌, Spot, key_spot, refused, rows_fault_at, entry_at, entries_at, players_at, names_at}
+use Rattle.section_tables.proofs.Steps.{bind_ok, guard_false, ok_is, expected}
+use Rattle.section_tables.proofs.Outcomes.{each_sound, weaker, then_or, each_or}
+use Rattle.section_tables.proofs.EntriesRead.{entry_sound, entry_complete, entries_sound, entries_complete, players_sound, players_complete, names_sound, names_complete}
+use Rattle.mpf_config.specs.Rows.{Written, Content, entries, players, entry, listed, SectionRows}
+use Rattle.mpf_config.specs.BundleText.{machine_owner}
 use Rattle.mpf_config.specs.Unread.{read_of}
-use Rattle.mpf_config.specs.RowsOf.{IsContent, IsSection}
-use Rattle.mpf_config.specs.Reading.{line_spot, section_from, section_at, sections_in, sections_at}
+use Rattle.mpf_config.specs.RowsOf.{Sizes, within_limits, AreNew, AreModesListed, IsContent, IsSection, AreManyItems}
+use Rattle.mpf_config.specs.Reading.{line_spot, modes_new_at, modes_at, content_at, section_from, section_at, sections_in, sections_at}
+use Rattle.mpf_config.proofs.NewNames.{fresh_sound, fresh_complete}
+
+-- ---- lists of modes
+
+abbrev is_no_machine : Written → Type 0
+is_no_machine w = w.text ≢ machine_owner
+
+no_machine : (w : Written) → bytes_eq w.text machine_owner ≡ false → is_no_machine w
+no_machine w e same = both_ways (bytes_eq w.text machine_owner) e ((bytes_eq-Decides w.text machine_owner).1 same)
+
+other_owner : (w : Written) → is_no_machine w → bytes_eq w.text machine_owner ≡ false
+other_owner w h =
+    elim (cases_Bool (bytes_eq w.text machine_owner)) [
+      | inl e ↦ absurd (h ((bytes_eq-Decides w.text machine_owner).0 e))
+      | inr e ↦ e
+    ]
+
+new_modes_sound : (spot : Spot) (names : List (List ℕ)) (ws : List Written) (u : Unit {0}) → modes_new_at spot names ws ≡ Ok u → All is_no_machine ws × AreNew names (map (λ w. w.text) ws)
+new_modes_sound spot names [] u e = (All-nil is_no_machine, tt)
+new_modes_sound spot names (w ∷ ws) u e =
+    let at : Spot = record { text = spot.text; line = w.line; key = w.text } in
+    let rest = modes_new_at spot (w.text ∷ names) ws in
+    let a = guard_false (bytes_eq w.text machine_owner) (if is_among names w.text then refused Duplicate at else rest) (rows_fault_at BadValue spot) u e in
+    let b = guard_false (is_among names w.text) rest (rows_fault_at Duplicate at) u a.1 in
+    let c = new_modes_sound spot (w.text ∷ names) ws u b.1 in
+    (All-cons is_no_machine w ws (no_machine w a.0) c.0, (fresh_sound names w.text b.0, c.1))
+
+new_modes_complete : (spot : Spot) (names : List (List ℕ)) (ws : List Written) → All is_no_machine ws → AreNew names (map (λ w. w.text) ws) → modes_new_at spot names ws ≡ Ok tt
+new_modes_complete spot names [] others apart = refl
+new_modes_complete spot names (w ∷ ws) others apart =
+    rw (
+      other_owner w (All-head is_no_machine w ws others),
+      fresh_complete names w.text apart.0,
+      new_modes_complete spot (w.text ∷ names) ws (All-tail is_no_machine w ws others) apart.1,
+    )
+    refl
+
+modes_sound : (text : List ℕ) (p : Pair) (ws : List Written) → modes_at text p ≡ Ok ws → AreModesListed within_limits p ws
+unfolding modes_at
+modes_sound text p ws e =
+    let spot = key_spot text p in
+    let a = bind_ok (names_at 64 text p) (λ xs. modes_new_at spot [] xs >>= λ all_new. Ok xs) ws e in
+    let b = bind_ok (modes_new_at spot [] a.0) (λ all_new. Ok a.0) ws a.2 in
+    let n = new_modes_sound spot [] a.0 b.0 b.1 in
+    subst (AreModesListed within_limits p) (ok_is a.0 ws b.2) (record { listed = names_sound 64 text p a.0 a.1; others = n.0; apart = n.1 })
+
+-- as many as there are may be above the limits
+modes_or : (sizes : Sizes) (text : List ℕ) (p : Pair) (ws : List Written) → AreModesListed sizes p ws → IsReadOr (AreManyItems sizes) (modes_at text p) ws
+unfolding modes_at
+modes_or sizes text p ws h =
+    let many = AreManyItems sizes in
+    let found = weaker (64 < sizes.modes) many (λ few. inr few) (names_at 64 text p) ws (names_complete 64 text p sizes.modes ws h.listed) in
+    let all_new : IsReadOr many (modes_new_at (key_spot text p) [] ws >>= λ all_new. Ok ws) ws = inl (rw (new_modes_complete (key_spot text p) [] ws h.others h.apart) refl) in
+    then_or many (names_at 64 text p) (λ xs. modes_new_at (key_spot text p) [] xs >>= λ all_new. Ok xs) ws ws found all_new
+
+-- ---- sections
 
 abbrev made : Pair → Content → SectionRows
 made p content = record { name = p.key; content = content }
 
-section_by : (text : List ℕ) (p : Pair) (s : SectionRows) (table : Option (List Setting)) (kinds : Option PlayerKinds) → table_of p.key ≡ table → player_of p.key ≡ kinds
-    → section_from text p table kinds ≡ Ok s → IsSection 1024 p s
-section_by text p s (Some table) kinds is_table is_player e =
-    let a = bind_ok (entries_at text table p) (λ es. Ok (made p (entries es))) s e in
-    subst (IsSection 1024 p) (ok_is (made p (entries a.0)) s a.2) (record { name = refl; content = (table, is_table, entries_sound text table p a.0 a.1) })
-section_by text p s None (Some kinds) is_table is_player e =
-    let a = bind_ok (players_at text kinds p) (λ ps. Ok (made p (players ps))) s e in
-    subst (IsSection 1024 p) (ok_is (made p (players a.0)) s a.2) (record { name = refl; content = (kinds, is_player, players_sound text kinds p a.0 a.1) })
-section_by text p s None None is_table is_player e = absurd cc
+content_sound : (kind : TextKind) (text : List ℕ) (p : Pair) (shape : Shape) (content : Content) → shape_of kind p.key ≡ Some shape → content_at text p shape ≡ Ok content → IsContent within_limits kind p content
+content_sound kind text p (by_entries table) content is e =
+    let a = bind_ok (entries_at text table p) (λ es. Ok (entries es)) content e in
+    subst (IsContent within_limits kind p) (ok_is (entries a.0) content a.2) (table, is, entries_sound text table p a.0 a.1)
+content_sound kind text p (by_players kinds) content is e =
+    let a = bind_ok (players_at text kinds p) (λ ps. Ok (players ps)) content e in
+    subst (IsContent within_limits kind p) (ok_is (players a.0) content a.2) (kinds, is, players_sound text kinds p a.0 a.1)
+content_sound kind text p (by_entry table) content is e =
+    let a = bind_ok (entry_at text table p) (λ x. Ok (entry x)) content e in
+    subst (IsContent within_limits kind p) (ok_is (entry a.0) content a.2) (table, is, entry_sound text table p a.0 a.1)
+content_sound kind text p by_names content is e =
+    let a = bind_ok (modes_at text p) (λ ws. Ok (listed ws)) content e in
+    subst (IsContent within_limits kind p) (ok_is (listed a.0) content a.2) (is, modes_sound text p a.0 a.1)
 
-section_sound : (text : List ℕ) (p : Pair) (s : SectionRows) → section_at text p ≡ Ok s → IsSection 1024 p s
+section_by : (kind : TextKind) (text : List ℕ) (p : Pair) (s : SectionRows) (o : Option Shape) → shape_of kind p.key ≡ o → section_from text p o ≡ Ok s → IsSection within_limits kind p s
+section_by kind text p s (Some shape) is e =
+    let a = bind_ok (content_at text p shape) (λ content. Ok (made p content)) s e in
+    subst (IsSection within_limits kind p) (ok_is (made p a.0) s a.2) (record { name = refl; content = content_sound kind text p shape a.0 is a.1 })
+section_by kind text p s None is e = absurd cc
+
+section_sound : (kind : TextKind) (text : List ℕ) (p : Pair) (s : SectionRows) → section_at kind text p ≡ Ok s → IsSection within_limits kind p s
 unfolding section_at
-section_sound text p s e = section_by text p s (table_of p.key) (player_of p.key) refl refl e
+section_sound kind text p s e = section_by kind text p s (shape_of kind p.key) refl e
 
-content_complete : (longest : ℕ) (text : List ℕ) (p : Pair) (content : Content) → IsContent longest p content → IsReadOrLong longest (section_at text p) (made p content)
-unfolding section_at
-content_complete longest text p (entries es) h =
-    rw h.1 (then_read longest (entries_at text h.0 p) (λ xs. Ok (made p (entries xs))) es (made p (entries es)) (entries_complete text h.0 p longest es h.2) (inl refl))
-content_complete longest text p (players ps) h =
-    rw (player_has_no_table p.key h.0 h.1, h.1)
-    (then_read longest (players_at text h.0 p) (λ xs. Ok (made p (players xs))) ps (made p (players ps)) (players_complete text h.0 p longest ps h.2) (inl refl))
-content_complete longest text p (entry e) h = absurd h
-content_complete longest text p (listed ws) h = absurd h
+module _ (sizes : Sizes) (kind : TextKind) (text : List ℕ) where
+  abbrev Many : Type 0
+  Many = AreManyItems sizes
 
-section_complete : (longest : ℕ) (text : List ℕ) (p : Pair) (s : SectionRows) → IsSection longest p s → IsReadOrLong longest (section_at text p) s
-section_complete longest text p s h =
-    let same : made p s.content ≡ s = λ i. record { name = sym h.name i; content = s.content } in
-    subst (IsReadOrLong longest (section_at text p)) same (content_complete longest text p s.content h.content)
+  abbrev long : 1024 < sizes.longest → Many
+  long many = inl many
 
-pub sections_sound : (text : List ℕ) (sections : List Pair) (found : List SectionRows) → sections_at text sections ≡ Ok found → AllZip (IsSection 1024) (read_of sections) found
+  section_of : (p : Pair) (shape : Shape) (content : Content) → shape_of kind p.key ≡ Some shape → IsReadOr Many (content_at text p shape) content → IsReadOr Many (section_at kind text p) (made p content)
+  unfolding section_at
+  section_of p shape content is h = rw is (then_or Many (content_at text p shape) (λ c. Ok (made p c)) content (made p content) h (inl refl))
+
+  content_or : (p : Pair) (content : Content) → IsContent sizes kind p content → IsReadOr Many (section_at kind text p) (made p content)
+  content_or p (entries es) h =
+      let found = weaker (1024 < sizes.longest) Many long (entries_at text h.0 p) es (entries_complete text h.0 p sizes.longest es h.2) in
+      section_of p (by_entries h.0) (entries es) h.1 (then_or Many (entries_at text h.0 p) (λ xs. Ok (entries xs)) es (entries es) found (inl refl))
+  content_or p (players ps) h =
+      let found = weaker (1024 < sizes.longest) Many long (players_at text h.0 p) ps (players_complete text h.0 p sizes.longest ps h.2) in
+      section_of p (by_players h.0) (players ps) h.1 (then_or Many (players_at text h.0 p) (λ xs. Ok (players xs)) ps (players ps) found (inl refl))
+  content_or p (entry x) h =
+      let found = weaker (1024 < sizes.longest) Many long (entry_at text h.0 p) x (entry_complete text h.0 p sizes.longest x h.2) in
+      section_of p (by_entry h.0) (entry x) h.1 (then_or Many (entry_at text h.0 p) (λ y. Ok (entry y)) x (entry x) found (inl refl))
+  content_or p (listed ws) h = section_of p by_names (listed ws) h.0 (then_or Many (modes_at text p) (λ xs. Ok (listed xs)) ws (listed ws) (modes_or sizes text p ws h.1) (inl refl))
+
+  section_or : (p : Pair) (s : SectionRows) → IsSection sizes kind p s → IsReadOr Many (section_at kind text p) s
+  section_or p s h =
+      let same : made p s.content ≡ s = λ i. record { name = sym h.name i; content = s.content } in
+      subst (IsReadOr Many (section_at kind text p)) same (content_or p s.content h.content)
+
+  pub sections_or : (sections : List Pair) (rows : List SectionRows) → AllZip (IsSection sizes kind) (read_of sections) rows → IsReadOr Many (sections_at kind text sections) rows
+  unfolding sections_at
+  sections_or sections rows each = each_or (section_at kind text) (IsSection sizes kind) Many section_or (read_of sections) rows each
+
+pub sections_sound : (kind : TextKind) (text : List ℕ) (sections : List Pair) (rows : List SectionRows) → sections_at kind text sections ≡ Ok rows → AllZip (IsSection within_limits kind) (read_of sections) rows
 unfolding sections_at
-sections_sound text sections found e = each_sound (section_at text) (IsSection 1024) (section_sound text) (read_of sections) found e
-
-pub sections_complete : (longest : ℕ) (text : List ℕ) (sections : List Pair) (found : List SectionRows) → AllZip (IsSection longest) (read_of sections) found → IsReadOrLong longest (sections_at text sections) found
-unfolding sections_at
-sections_complete longest text sections found each = each_complete (section_at text) (IsSection longest) longest (section_complete longest text) (read_of sections) found each
+sections_sound kind text sections rows e = each_sound (section_at kind text) (IsSection within_limits kind) (section_sound kind text) (read_of sections) rows e
 
 pub pairs_sound : (text : List ℕ) (tree : Node) (sections : List Pair) → sections_in text tree ≡ Ok sections → pairs_in tree ≡ Some sections
 unfolding sections_in

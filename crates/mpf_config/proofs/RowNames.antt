@@ -1,42 +1,70 @@
 -- Every name in the rows of a bundle is one.
 use Rattle.std.proofs.Common.{◌≡◌, ◌≢◌, ℕ, zero, suc, Bool, true, false, if◌then◌else◌, map, List, [], ◌∷◌, Option, Some, None, slice_get, Ok, refl, sym, subst, ap, ◌∙◌, true≢false}
-use Rattle.std.specs.List.{All, AllByRecursion}
+use Rattle.std.specs.List.{All, AllByRecursion, AllZip}
 use Rattle.std.specs.Str.{bytes_eq}
-use Rattle.std.proofs.lemmas.List.Elements.{All-nil, All-head, All-tail, All-map, All-weaker, All-from_recursion}
+use Rattle.std.proofs.lemmas.List.Elements.{All-nil, All-cons, All-head, All-tail, All-filter, All-map, All-weaker, All-from_recursion}
 use Rattle.yaml_subset.specs.Node.{Pair}
 use Rattle.mpf_values.specs.Bytes.{is_name_byte}
 use Rattle.mpf_values.specs.Names.{IsName}
 use Rattle.section_tables.specs.Rows.{Plain, nothing, flag, number, time, power, word, name, event, Value, one, names, posts, events, steps, maps, keyed, Entry, Player}
 use Rattle.section_tables.specs.Named.{IsNamedValue, IsNamedEvent, IsNamedEntry, IsNamedPlayer}
+use Rattle.section_tables.specs.declared.tables.TextKind.{TextKind}
+use Rattle.section_tables.specs.declared.tables.TextKind.TheVariants.{Machine, Mode}
+use Rattle.section_tables.specs.Kinds.{by_entries, by_players, by_entry}
 use Rattle.section_tables.specs.SectionTables.{switches_name, event_player_name}
-use Rattle.section_tables.proofs.RowNames.{entries_named, players_named}
-use Rattle.section_tables.proofs.TableNames.{table_named, kinds_named}
-use Rattle.mpf_config.specs.Rows.{Written, ModeSettings, Content, entries, players, entry, listed, SectionRows, ModeRows, Rows}
+use Rattle.section_tables.proofs.RowNames.{entry_named, entries_named, players_named}
+use Rattle.section_tables.proofs.RowNames as lists
+use Rattle.section_tables.proofs.TableNames.{shape_named}
+use Rattle.mpf_config.specs.Rows.{Written, Content, entries, players, entry, listed, SectionRows, Rows}
 use Rattle.section_tables.specs.SectionTables as tables
 use Rattle.section_tables.specs.Tables.{setting_default}
-use Rattle.mpf_config.specs.Typed.{content_named, mode_row, mode_name, mode_settings_of, mode_settings, listed_names, listed_posts, event_name, switch_of, event_player_of, entries_in, players_in, entries_of, players_of, switches_in, event_players_in}
-use Rattle.mpf_config.specs.Unread.{read_of}
-use Rattle.mpf_config.specs.RowsOf.{IsContent, IsSection}
+use Rattle.mpf_config.specs.Typed.{content_named, listed_modes, mode_row, mode_name, mode_settings_of, mode_settings, listed_names, listed_posts, event_name, switch_of, event_player_of, entries_in, players_in, entries_of, players_of, switches_in, event_players_in}
+use Rattle.mpf_config.specs.BundleText.{Text}
+use Rattle.mpf_config.specs.Unread.{read_of, is_present, present_of}
+use Rattle.mpf_config.specs.ModeReads.{ModeRead}
+use Rattle.mpf_config.specs.RowsOf.{Sizes, within_limits, IsContent, IsSection, IsModeRead}
 use Rattle.mpf_config.specs.Named.{AllNames, IsNamedSwitch, IsNamedEventPlayer, AreNamedSettings, IsNamedContent, IsNamed, IsNamedMode}
 use Rattle.mpf_config.specs.Reading.{rows_at}
+use Rattle.mpf_config.proofs.ListedModes.{modes_listed}
 use Rattle.mpf_config.proofs.Theorem.{rows_sound}
 use Rattle.mpf_config.proofs.Each.{All-from_zip, all_where}
 
-content_is_named : (longest : ℕ) (p : Pair) (content : Content) → IsContent longest p content → IsNamedContent content
-content_is_named longest p (entries es) h = All-from_recursion IsNamedEntry es (entries_named longest h.0 p es (table_named p.key h.0 h.1) h.2)
-content_is_named longest p (players ps) h = All-from_recursion IsNamedPlayer ps (players_named longest h.0 p ps (kinds_named p.key h.0 h.1) h.2)
-content_is_named longest p (entry e) h = absurd h
-content_is_named longest p (listed ws) h = absurd h
+module _ (sizes : Sizes) (kind : TextKind) where
+  content_is_named : (p : Pair) (content : Content) → IsContent sizes kind p content → IsNamedContent content
+  content_is_named p (entries es) h = All-from_recursion IsNamedEntry es (entries_named sizes.longest h.0 p es (shape_named kind p.key (by_entries h.0) h.1) h.2)
+  content_is_named p (players ps) h = All-from_recursion IsNamedPlayer ps (players_named sizes.longest h.0 p ps (shape_named kind p.key (by_players h.0) h.1) h.2)
+  content_is_named p (entry e) h = entry_named sizes.longest h.0 p e (shape_named kind p.key (by_entry h.0) h.1) h.2
+  content_is_named p (listed ws) h = All-from_recursion (λ (w : Written). IsName w.text) ws (lists.names_named sizes.modes p ws h.1.listed)
+
+  sections_named : (sections : List Pair) (rows : List SectionRows) → AllZip (IsSection sizes kind) sections rows → All IsNamed rows
+  sections_named sections rows each = All-from_zip (IsSection sizes kind) IsNamed (λ p s k. content_is_named p s.content k.content) sections rows each
 
 -- Every name in the rows that are read from a bundle is one.
 pub rows_are_named : (bundle : List ℕ) (rows : Rows) → rows_at bundle ≡ Ok rows → All IsNamed rows.machine
 rows_are_named bundle rows is =
     let h = rows_sound bundle rows is in
-    All-from_zip (IsSection 1024) IsNamed (λ p s k. content_is_named 1024 p s.content k.content) (read_of h.sections) rows.machine h.each
+    sections_named within_limits Machine (read_of h.sections) rows.machine h.machine.each
+
+module _ (sizes : Sizes) (texts : List Text) where
+  mode_named : (w : Written) (m : ModeRead) → IsName w.text → IsModeRead sizes texts w m → IsNamedMode m.mode
+  mode_named w m named h = record { name = subst IsName (sym h.name) named; sections = sections_named sizes Mode (read_of h.sections) m.mode.sections h.rows.each }
+
+  modes_named : (ws : List Written) (ms : List ModeRead) → AllNames ws → AllZip (IsModeRead sizes texts) ws ms → All IsNamedMode (map (λ m. m.mode) ms)
+  modes_named [] [] named each = All-nil IsNamedMode
+  modes_named [] (m ∷ ms) named each = absurd each
+  modes_named (w ∷ ws) [] named each = absurd each
+  modes_named (w ∷ ws) (m ∷ ms) named each =
+      let rest = modes_named ws ms (All-tail (λ (v : Written). IsName v.text) w ws named) each.1 in
+      All-cons IsNamedMode m.mode (map (λ k. k.mode) ms) (mode_named w m (All-head (λ (v : Written). IsName v.text) w ws named) each.0) rest
 
 -- Those in the modes are, too.
 pub modes_are_named : (bundle : List ℕ) (rows : Rows) → rows_at bundle ≡ Ok rows → All IsNamedMode rows.modes
-modes_are_named bundle rows is = subst (All IsNamedMode) (sym (rows_sound bundle rows is).modes) (All-nil IsNamedMode)
+modes_are_named bundle rows is =
+    let h = rows_sound bundle rows is in
+    let ws = listed_modes rows.machine in
+    let few = modes_listed within_limits Machine (read_of h.sections) rows.machine h.machine.each in
+    let named = All-filter (is_present h.texts) (λ (w : Written). IsName w.text) ws few.named in
+    subst (All IsNamedMode) (sym h.mode_rows) (modes_named within_limits h.texts (present_of h.texts ws) h.modes named h.each_mode)
 
 -- ---- by the names of settings
 

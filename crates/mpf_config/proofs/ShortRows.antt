@@ -1,50 +1,94 @@
--- No list in the rows of a bundle has more than 1,024 items.
-use Rattle.std.proofs.Common.{◌≡◌, ℕ, zero, suc, ◌≤◌, List, [], ◌∷◌, length, Option, Some, None, slice_get, Ok, sym, subst, arith}
-use Rattle.std.specs.List.{All}
+-- No list in the rows of a bundle has more than 1,024 items, and there are few modes.
+use Rattle.std.proofs.Common.{◌≡◌, ◌≢◌, ℕ, zero, suc, ◌≤◌, not, List, [], ◌∷◌, length, map, Option, Some, None, slice_get, Ok, refl, sym, ap, subst, ◌∙◌, arith}
+use Rattle.std.specs.List.{All, AllPairs, AllZip}
 use Rattle.std.specs.Str.{bytes_eq}
-use Rattle.std.proofs.lemmas.List.Elements.{All-nil, All-head, All-tail, All-map, All-weaker}
+use Rattle.std.proofs.lemmas.List.{length-map}
+use Rattle.std.proofs.lemmas.List.Elements.{All-nil, All-cons, All-head, All-tail, All-map, All-weaker}
+use Rattle.std.proofs.lemmas.List.Filters.{length-filter_both}
 use Rattle.yaml_subset.specs.Node.{Pair}
+use Rattle.section_tables.specs.declared.tables.TextKind.{TextKind}
+use Rattle.section_tables.specs.declared.tables.TextKind.TheVariants.{Machine, Mode}
 use Rattle.section_tables.specs.Rows.{Value, one, names, posts, events, steps, maps, keyed, Entry, Player}
+use Rattle.section_tables.specs.Kinds.{by_entries, by_entry}
 use Rattle.section_tables.specs.Named.{IsShortValue, IsShortEntry, IsShortPlayer}
 use Rattle.section_tables.specs.SectionTables.{switches_name, event_player_name}
-use Rattle.section_tables.proofs.RowNames.{entries_short, players_short}
-use Rattle.section_tables.proofs.TableNames.{table_short}
-use Rattle.mpf_config.specs.Rows.{Content, entries, players, entry, listed, SectionRows, Rows}
-use Rattle.mpf_config.specs.Typed.{listed_names, listed_posts, switch_of, event_player_of, entries_in, players_in, entries_of, players_of, switches_in, event_players_in}
-use Rattle.mpf_config.specs.Unread.{read_of}
-use Rattle.mpf_config.specs.RowsOf.{IsContent, IsSection}
+use Rattle.section_tables.proofs.RowNames.{entry_short, entries_short, players_short}
+use Rattle.section_tables.proofs.RowNames as lists
+use Rattle.section_tables.proofs.TableNames.{shape_short}
+use Rattle.mpf_config.specs.Rows.{Written, Content, entries, players, entry, listed, SectionRows, Rows}
+use Rattle.mpf_config.specs.BundleText.{Text}
+use Rattle.mpf_config.specs.Typed.{listed_modes, listed_names, listed_posts, switch_of, event_player_of, entries_in, players_in, entries_of, players_of, switches_in, event_players_in}
+use Rattle.mpf_config.specs.Unread.{read_of, is_present, present_of}
+use Rattle.mpf_config.specs.ModeReads.{ModeRead}
+use Rattle.mpf_config.specs.RowsOf.{within_limits, IsContent, IsSection, IsModeRead}
 use Rattle.mpf_config.specs.Short.{IsShortContent, IsShortSection, IsShortMode, AreListsShort, IsShortSwitch, IsShortEventPlayer}
 use Rattle.mpf_config.specs.FewModes.{AreFewModes}
-use Rattle.mpf_config.specs.Reading.{sections_at, rows_at}
-use Rattle.mpf_config.proofs.Meaning.{sections_sound}
+use Rattle.mpf_config.specs.Reading.{rows_at}
+use Rattle.mpf_config.proofs.NewNames.{new_kept, new_apart}
+use Rattle.mpf_config.proofs.ListedModes.{AreListed, modes_listed}
 use Rattle.mpf_config.proofs.Theorem.{rows_sound}
 use Rattle.mpf_config.proofs.Each.{All-from_zip, all_where}
 
 none_short : 0 ≤ 1024
 none_short = omega arith
 
-content_short : (p : Pair) (content : Content) → IsContent 1024 p content → IsShortContent content
-content_short p (entries es) h = (entries_short 1024 h.0 p es (table_short 1024 p.key h.0 h.1) h.2, All-nil (IsShortPlayer 1024), All-nil (IsShortEntry 1024), none_short)
-content_short p (players ps) h = (All-nil (IsShortEntry 1024), players_short 1024 h.0 p ps h.2, All-nil (IsShortEntry 1024), none_short)
-content_short p (entry e) h = absurd h
-content_short p (listed ws) h = absurd h
+content_short : (kind : TextKind) (p : Pair) (content : Content) → IsContent within_limits kind p content → IsShortContent content
+content_short kind p (entries es) h =
+    (entries_short 1024 h.0 p es (shape_short 1024 kind p.key (by_entries h.0) h.1) h.2, All-nil (IsShortPlayer 1024), All-nil (IsShortEntry 1024), none_short)
+content_short kind p (players ps) h = (All-nil (IsShortEntry 1024), players_short 1024 h.0 p ps h.2, All-nil (IsShortEntry 1024), none_short)
+content_short kind p (entry e) h =
+    let short = entry_short 1024 h.0 p e (shape_short 1024 kind p.key (by_entry h.0) h.1) h.2 in
+    (All-nil (IsShortEntry 1024), All-nil (IsShortPlayer 1024), All-cons (IsShortEntry 1024) e [] short (All-nil (IsShortEntry 1024)), none_short)
+content_short kind p (listed ws) h =
+    let few : length ws ≤ 64 = lists.names_short 64 p ws h.1.listed in
+    (All-nil (IsShortEntry 1024), All-nil (IsShortPlayer 1024), All-nil (IsShortEntry 1024), omega (arith, few))
 
--- No list in sections that are read has more items.
-pub sections_short : (text : List ℕ) (sections : List Pair) (found : List SectionRows) → sections_at text sections ≡ Ok found → All IsShortSection found
-sections_short text sections found is =
-    All-from_zip (IsSection 1024) IsShortSection (λ p s k. content_short p s.content k.content) (read_of sections) found (sections_sound text sections found is)
+sections_short : (kind : TextKind) (sections : List Pair) (rows : List SectionRows) → AllZip (IsSection within_limits kind) sections rows → All IsShortSection rows
+sections_short kind sections rows each = All-from_zip (IsSection within_limits kind) IsShortSection (λ p s k. content_short kind p s.content k.content) sections rows each
+
+-- ---- the modes
+
+module _ (texts : List Text) where
+  mode_short : (w : Written) (m : ModeRead) → IsModeRead within_limits texts w m → IsShortMode m.mode
+  mode_short w m h = sections_short Mode (read_of h.sections) m.mode.sections h.rows.each
+
+  modes_short : (ws : List Written) (ms : List ModeRead) → AllZip (IsModeRead within_limits texts) ws ms → All IsShortMode (map (λ m. m.mode) ms)
+  modes_short ws ms each = All-map IsShortMode (λ m. m.mode) ms (All-from_zip (IsModeRead within_limits texts) (λ m. IsShortMode m.mode) mode_short ws ms each)
+
+  -- they have the names that are listed
+  same_names : (ws : List Written) (ms : List ModeRead) → AllZip (IsModeRead within_limits texts) ws ms → map (λ m. m.name) (map (λ m. m.mode) ms) ≡ map (λ w. w.text) ws
+  same_names [] [] each = refl
+  same_names [] (m ∷ ms) each = absurd each
+  same_names (w ∷ ws) [] each = absurd each
+  same_names (w ∷ ws) (m ∷ ms) each = rw (each.0.name, same_names ws ms each.1) refl
+
+  modes_few : (ws : List Written) (ms : List ModeRead) → AreListed within_limits ws → AllZip (IsModeRead within_limits texts) (present_of texts ws) ms → AreFewModes (map (λ m. m.mode) ms)
+  modes_few ws ms apart each =
+      let modes = map (λ (m : ModeRead). m.mode) ms in
+      let present = present_of texts ws in
+      let same = same_names present ms each in
+      let len : length modes ≡ length present = sym (length-map modes (λ m. m.name)) ∙ ap length same ∙ length-map present (λ w. w.text) in
+      let both = length-filter_both (is_present texts) (λ w. not (is_present texts w)) (λ w. refl) ws in
+      record {
+        few = omega (arith, len, both, apart.few);
+        apart = subst (AllPairs (λ x y. x ≢ y)) (sym same) (new_apart [] (map (λ w. w.text) present) (new_kept (is_present texts) (λ w. w.text) [] ws apart.apart));
+      }
+
+-- ---- the rows
 
 -- No list in the rows that are read from a bundle has more items.
 pub rows_are_short : (bundle : List ℕ) (rows : Rows) → rows_at bundle ≡ Ok rows → AreListsShort rows
 rows_are_short bundle rows is =
-    let h = rows_sound bundle rows is in (
-      All-from_zip (IsSection 1024) IsShortSection (λ p s k. content_short p s.content k.content) (read_of h.sections) rows.machine h.each,
-      subst (All IsShortMode) (sym h.modes) (All-nil IsShortMode),
-    )
+    let h = rows_sound bundle rows is in
+    let machine = sections_short Machine (read_of h.sections) rows.machine h.machine.each in
+    (machine, subst (All IsShortMode) (sym h.mode_rows) (modes_short h.texts (present_of h.texts (listed_modes rows.machine)) h.modes h.each_mode))
 
 -- There are few modes in them.
 pub rows_are_few : (bundle : List ℕ) (rows : Rows) → rows_at bundle ≡ Ok rows → AreFewModes rows.modes
-rows_are_few bundle rows is = subst AreFewModes (sym (rows_sound bundle rows is).modes) (record { few = omega arith; apart = λ i j d before within. absurd (omega arith) })
+rows_are_few bundle rows is =
+    let h = rows_sound bundle rows is in
+    let apart = modes_listed within_limits Machine (read_of h.sections) rows.machine h.machine.each in
+    subst AreFewModes (sym h.mode_rows) (modes_few h.texts (listed_modes rows.machine) h.modes apart h.each_mode)
 
 -- ---- by the names of settings
 

@@ -19,6 +19,10 @@ machine_name = codes "config/config.yaml"
 abbrev pub mode_text_name : List ℕ → List ℕ
 mode_text_name mode = codes "modes/" ++ mode ++ codes "/config/" ++ mode ++ codes ".yaml"
 
+-- the name of the machine as an owner, which no mode may have
+abbrev pub machine_owner : List ℕ
+machine_owner = codes "machine"
+
 -- the first line of a text, of the version that is read
 abbrev pub version_line : List ℕ
 version_line = codes "#config_version=6"
@@ -53,7 +57,7 @@ abbrev pub pieces_from : Bool → List ℕ → List ℕ × List (List ℕ)
 pieces_from begins [] = ([], [])
 pieces_from begins (b ∷ bs) = onto_piece (begins && (b == 64)) b (pieces_from (b == 10) bs)
 
--- the pieces of a bundle; the first may begin with another line
+-- the pieces of a bundle; the first may begin with a line without `@`
 unfoldable pub pieces_of : List ℕ → List (List ℕ)
 pieces_of bundle = onto_pieces (pieces_from true bundle).0 (pieces_from true bundle).1
 
@@ -66,7 +70,7 @@ piece_len begins (b ∷ bs) = if begins && (b == 64) then 0 else suc (piece_len 
 abbrev pub line_ends : List ℕ → ℕ
 line_ends piece = count_by (λ b. b == 10) piece
 
--- pieces with the numbers of their first lines, the first of which has this one
+-- each piece with the number of its first line, counted from this one
 abbrev pub numbered : ℕ → List (List ℕ) → List (ℕ × List ℕ)
 numbered line [] = []
 numbered line (piece ∷ pieces) = (line, piece) ∷ numbered (line + line_ends piece) pieces

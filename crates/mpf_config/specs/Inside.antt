@@ -1,14 +1,19 @@
 -- What contracts of the functions inside this crate see.
-use Rattle.std.specs.Prelude.{ℕ, List, map}
+use Rattle.std.specs.Prelude.{ℕ, List, Option, option_map, map}
 use Rattle.std.specs.BTreeSet.{BTreeSet}
 use Rattle.std.specs.Borrow.{Bor}
 use Rattle.std.specs.Global.{Vec}
 use Rattle.mpf_config.specs.declared.config.Section.{Section}
 use Rattle.mpf_config.specs.declared.config.Note as notes
 use Rattle.mpf_config.specs.declared.texts.Text as texts
+use Rattle.mpf_config.specs.declared.bundle.MachineRead as bundles
+use Rattle.mpf_config.specs.declared.modes.ModeRead as modes
 use Rattle.mpf_config.specs.Rows.{SectionRows, Note}
 use Rattle.mpf_config.specs.BundleText.{Text}
-use Rattle.mpf_config.specs.View.{section_view, note_view}
+use Rattle.mpf_config.specs.ModeReads.{MachineRead, ModeRead}
+use Rattle.section_tables.specs.Rows.{Written}
+use Rattle.mpf_config.specs.declared.listed_mode.ListedMode.{ListedMode}
+use Rattle.mpf_config.specs.View.{name_view, section_view, mode_view, note_view}
 
 abbrev pub bytes_view : Bor (List ℕ) → List ℕ
 bytes_view bytes = bytes.now
@@ -22,9 +27,29 @@ texts_view = map text_view
 abbrev pub notes_view : Vec notes.Note → List Note
 notes_view notes = map note_view notes.items
 
--- the keys of a set
-abbrev pub keys_view : BTreeSet (Bor (List ℕ)) → List (List ℕ)
-keys_view s = map (λ k. k.now) s.keys
+abbrev pub names_only_view : Vec (Vec ℕ) → List (List ℕ)
+names_only_view names = map (λ name. name.items) names.items
 
 abbrev pub sections_view : Vec Section → List SectionRows
 sections_view sections = map section_view sections.items
+
+-- a listed mode, where it is listed
+abbrev pub listed_view : ListedMode → Written
+listed_view m = name_view m.name.now
+
+abbrev pub modes_view : List ListedMode → List Written
+modes_view = map listed_view
+
+-- what was read of the machine and of modes
+abbrev pub machine_read_view : bundles.MachineRead → MachineRead
+machine_read_view m = record { rows = sections_view m.sections; notes = notes_view m.notes }
+
+abbrev pub mode_read_view : modes.ModeRead → ModeRead
+mode_read_view m = record { mode = mode_view m.mode; notes = notes_view m.notes }
+
+abbrev pub found_modes_view : List (Option modes.ModeRead) → List (Option ModeRead)
+found_modes_view = map (option_map mode_read_view)
+
+-- the keys of a set
+abbrev pub keys_view : BTreeSet (Bor (List ℕ)) → List (List ℕ)
+keys_view s = map (λ k. k.now) s.keys

@@ -2,6 +2,7 @@ pub mod Rows
 pub mod Typed
 pub mod BundleText
 pub mod Unread
+pub mod ModeReads
 pub mod RowsOf
 pub mod Named
 pub mod Short

@@ -26,7 +26,7 @@ pub record AreNamedSettings (s : ModeSettings) : Type 0 where
   pub starts : AllNames s.starts
   pub stops : AllNames s.stops
 
--- so it is in each entry of a section, whatever its settings are
+-- Each name in a section is one, whatever its settings are.
 abbrev pub IsNamedContent : Content → Type 0
 IsNamedContent (entries es) = All IsNamedEntry es
 IsNamedContent (players ps) = All IsNamedPlayer ps

@@ -2,7 +2,7 @@
 use Rattle.std.specs.Prelude.{ℕ, List, [], ◌∷◌, ◌++◌, codes}
 use Rattle.std.specs.Fmt.{decimal}
 use Rattle.mpf_config.specs.declared.config.NoteKind.{NoteKind}
-use Rattle.mpf_config.specs.declared.config.NoteKind.TheVariants.{Skipped, Unlisted}
+use Rattle.mpf_config.specs.declared.config.NoteKind.TheVariants.{Skipped, Absent, Unlisted}
 use Rattle.mpf_config.specs.Escaped.{escaped}
 use Rattle.mpf_config.specs.FaultLine.{spaced}
 use Rattle.mpf_config.specs.Rows.{Note}
@@ -10,6 +10,7 @@ use Rattle.mpf_config.specs.Rows.{Note}
 -- the word of a kind
 abbrev pub note_word : NoteKind → List ℕ
 note_word Skipped = codes "skipped"
+note_word Absent = codes "absent"
 note_word Unlisted = codes "unlisted"
 
 -- `note TEXT LINE WORD NAME`, and LF; no text or name makes a line of its own

@@ -1,5 +1,6 @@
--- Reading a bundle from its first line to its last, with the first fault that is met.
-use Rattle.std.specs.Prelude.{ℕ, ◌^◌, nat_lt, if◌then◌else◌, List, [], ◌∷◌, ◌++◌, length, Option, Some, None, Result, Ok, Err, codes}
+-- Reading a bundle: the machine text, and then the others in order, up to the first fault.
+use Rattle.std.specs.Prelude.{ℕ, ◌^◌, nat_lt, if◌then◌else◌, List, [], ◌∷◌, ◌++◌, length, map, set, Option, Some, None, Result, Ok, Err, codes}
+use Rattle.std.specs.List.{flat_map}
 use Rattle.std.specs.Str.{bytes_eq}
 pub use Rattle.yaml_bytes.specs.Results.{◌>>=◌}
 use Rattle.yaml_subset.specs.declared.fault.Fault as yaml
@@ -7,14 +8,19 @@ use Rattle.yaml_subset.specs.Node.{Node, Pair}
 use Rattle.yaml_subset.specs.Reading.{read_at}
 use Rattle.yaml_subset.specs.Keys.{is_among}
 use Rattle.yaml_subset.specs.View.{line_of, pairs_in}
-use Rattle.section_tables.specs.declared.fault.FaultKind.TheVariants.{Bundle, Version, Yaml, UnknownSection, Duplicate, Limit}
-use Rattle.section_tables.specs.Kinds.{Setting, PlayerKinds}
-use Rattle.section_tables.specs.SectionTables.{table_of, player_of}
-use Rattle.section_tables.specs.Reading.{Spot, refused, key_spot, expect, each_read, entries_at, players_at}
-use Rattle.mpf_config.specs.Rows.{entries, players, SectionRows, Rows, RowsFault}
+use Rattle.section_tables.specs.declared.fault.FaultKind.TheVariants.{Bundle, Version, Yaml, UnknownSection, BadValue, Duplicate, Limit}
+use Rattle.section_tables.specs.declared.tables.TextKind.{TextKind}
+use Rattle.section_tables.specs.declared.tables.TextKind.TheVariants.{Machine, Mode}
+use Rattle.section_tables.specs.Kinds.{Shape, by_entries, by_players, by_entry, by_names}
+use Rattle.section_tables.specs.SectionTables.{shape_of}
+use Rattle.section_tables.specs.Tables.{found_in}
+use Rattle.section_tables.specs.Reading.{Spot, refused, key_spot, expect, each_read, entry_at, entries_at, players_at, names_at}
+use Rattle.mpf_config.specs.Rows.{Written, Content, entries, players, entry, listed, SectionRows, Rows, RowsFault}
 use Rattle.mpf_config.specs.FaultLine.{yaml_kind_name}
-use Rattle.mpf_config.specs.BundleText.{Text, machine_name, first_line, behind_first_line, name_in, pieces_of, numbered, has_version}
-use Rattle.mpf_config.specs.Unread.{read_of, skipped_notes, unlisted_notes}
+use Rattle.mpf_config.specs.BundleText.{Text, machine_name, machine_owner, first_line, behind_first_line, name_in, pieces_of, numbered, has_version}
+use Rattle.mpf_config.specs.Typed.{listed_modes}
+use Rattle.mpf_config.specs.Unread.{read_of, mode_text_of, machine_notes, mode_notes, unlisted_notes}
+use Rattle.mpf_config.specs.ModeReads.{MachineRead, ModeRead}
 
 -- a line of a bundle, or of a text as a whole
 abbrev pub line_spot : List ℕ → ℕ → Spot
@@ -22,26 +28,43 @@ line_spot text line = record { text = text; line = line; key = codes "-" }
 
 -- ---- sections
 
--- a section by the table of its entries, or by the kinds of a player
-abbrev pub section_from : List ℕ → Pair → Option (List Setting) → Option PlayerKinds → Result SectionRows RowsFault
-section_from text p (Some table) kinds = entries_at text table p >>= λ es. Ok (record { name = p.key; content = entries es })
-section_from text p None (Some kinds) = players_at text kinds p >>= λ ps. Ok (record { name = p.key; content = players ps })
-section_from text p None None = refused UnknownSection (key_spot text p)
+-- No mode is named `machine`, and each name is new: not among these, and not that of an earlier mode.
+abbrev pub modes_new_at : Spot → List (List ℕ) → List Written → Result (Unit {0}) RowsFault
+modes_new_at spot names [] = Ok tt
+modes_new_at spot names (w ∷ ws) =
+    if bytes_eq w.text machine_owner then refused BadValue spot
+    else (if is_among names w.text then refused Duplicate (record { text = spot.text; line = w.line; key = w.text }) else modes_new_at spot (w.text ∷ names) ws)
 
-unfoldable pub section_at : List ℕ → Pair → Result SectionRows RowsFault
-section_at text p = section_from text p (table_of p.key) (player_of p.key)
+-- the modes that a section lists, which are 64 at most
+unfoldable pub modes_at : List ℕ → Pair → Result (List Written) RowsFault
+modes_at text p = names_at 64 text p >>= λ ws. modes_new_at (key_spot text p) [] ws >>= λ all_new. Ok ws
+
+-- what stands in a section, by how it is written
+abbrev pub content_at : List ℕ → Pair → Shape → Result Content RowsFault
+content_at text p (by_entries table) = entries_at text table p >>= λ es. Ok (entries es)
+content_at text p (by_players kinds) = players_at text kinds p >>= λ ps. Ok (players ps)
+content_at text p (by_entry table) = entry_at text table p >>= λ e. Ok (entry e)
+content_at text p by_names = modes_at text p >>= λ ws. Ok (listed ws)
+
+-- a section by its name
+abbrev pub section_from : List ℕ → Pair → Option Shape → Result SectionRows RowsFault
+section_from text p (Some shape) = content_at text p shape >>= λ content. Ok (record { name = p.key; content = content })
+section_from text p None = refused UnknownSection (key_spot text p)
+
+unfoldable pub section_at : TextKind → List ℕ → Pair → Result SectionRows RowsFault
+section_at kind text p = section_from text p (shape_of kind p.key)
 
 -- the sections that a tree has
 unfoldable pub sections_in : List ℕ → Node → Result (List Pair) RowsFault
 sections_in text tree = expect (line_spot text (line_of tree)) (pairs_in tree)
 
 -- the rows of those that are read
-unfoldable pub sections_at : List ℕ → List Pair → Result (List SectionRows) RowsFault
-sections_at text sections = each_read (section_at text) (read_of sections)
+unfoldable pub sections_at : TextKind → List ℕ → List Pair → Result (List SectionRows) RowsFault
+sections_at kind text sections = each_read (section_at kind text) (read_of sections)
 
 -- ---- the bundle
 
--- the text that a piece is by the name in its first line, which has this number
+-- the text in a piece, by the name in its first line; the number of that line is for the fault
 abbrev pub text_from : ℕ → List ℕ → Option (List ℕ) → Result Text RowsFault
 text_from line piece (Some name) = Ok (record { name = name; text = behind_first_line piece })
 text_from line piece None = refused Bundle (line_spot (codes "-") line)
@@ -58,11 +81,6 @@ abbrev pub machine_at : List Text → Result (List ℕ) RowsFault
 machine_at [] = refused Bundle (line_spot (codes "-") 1)
 machine_at (t ∷ ts) = if bytes_eq t.name machine_name then Ok t.text else machine_at ts
 
--- no text has one of these names, or that of one before it
-abbrev pub new_at : List (List ℕ) → List Text → Result (Unit {0}) RowsFault
-new_at names [] = Ok tt
-new_at names (t ∷ ts) = if is_among names t.name then refused Duplicate (line_spot t.name 1) else new_at (t.name ∷ names) ts
-
 -- the tree of a text, as the YAML reader has it
 abbrev pub tree_from : List ℕ → Result Node yaml.Fault → Result Node RowsFault
 tree_from text (Ok tree) = Ok tree
@@ -71,10 +89,67 @@ tree_from text (Err f) = Err (record { kind = Yaml f.kind; text = text; line = f
 unfoldable pub text_tree_at : List ℕ → List ℕ → Result Node RowsFault
 text_tree_at name text = if has_version text then tree_from name (read_at text) else refused Version (line_spot name 1)
 
--- The rows of a bundle: its machine text is read first, and then the names of its texts are compared.
+-- the sections of a text, and the rows of those that are read
+pub record TextRows : Type 0 where
+  pub sections : List Pair
+  pub rows : List SectionRows
+
+unfoldable pub text_rows_at : TextKind → List ℕ → List ℕ → Result TextRows RowsFault
+text_rows_at kind name text =
+    text_tree_at name text >>= λ tree. sections_in name tree >>= λ sections. sections_at kind name sections >>= λ rows. Ok (record { sections = sections; rows = rows })
+
+-- ---- the machine and its modes
+
+-- the machine text, with the notes on it
+unfoldable pub machine_read_at : List Text → Result MachineRead RowsFault
+machine_read_at texts =
+    machine_at texts >>= λ text. text_rows_at Machine machine_name text
+    >>= λ r. Ok (record { rows = r.rows; notes = machine_notes texts (listed_modes r.rows) r.sections })
+
+-- a mode by its text
+unfoldable pub mode_read_at : Written → Text → Result ModeRead RowsFault
+mode_read_at w t =
+    text_rows_at Mode t.name t.text >>= λ r. Ok (record { mode = record { name = w.text; sections = r.rows }; notes = mode_notes t.name r.sections })
+
+-- What is found so far, with the mode of this text at its place; unchanged if the text is that of no listed mode.
+abbrev pub placed_at : Text → List (Option ModeRead) → Option (ℕ × Written) → Result (List (Option ModeRead)) RowsFault
+placed_at t found None = Ok found
+placed_at t found (Some p) = mode_read_at p.1 t >>= λ m. Ok (set found p.0 (Some m))
+
+-- The modes that are found in texts, each at its place in the list of modes. Texts are read one after the other, and a name that
+-- came before is a fault.
+abbrev pub modes_from : List Written → List (List ℕ) → List (Option ModeRead) → List Text → Result (List (Option ModeRead)) RowsFault
+modes_from ws names found [] = Ok found
+modes_from ws names found (t ∷ ts) =
+    if is_among names t.name then refused Duplicate (line_spot t.name 1)
+    else (placed_at t found (found_in mode_text_of t.name ws) >>= λ next. modes_from ws (t.name ∷ names) next ts)
+
+-- none is found before the first text
+abbrev pub none_found : List Written → List (Option ModeRead)
+none_found ws = map (λ w. None) ws
+
+-- those that were found
+abbrev pub found_of : List (Option ModeRead) → List ModeRead
+found_of [] = []
+found_of (None ∷ os) = found_of os
+found_of (Some m ∷ os) = m ∷ found_of os
+
+-- ---- the rows
+
+abbrev pub rows_from : List Text → MachineRead → List ModeRead → Rows
+rows_from texts machine modes = record {
+  machine = machine.rows;
+  modes = map (λ m. m.mode) modes;
+  notes = (machine.notes ++ flat_map (λ m. m.notes) modes) ++ unlisted_notes (listed_modes machine.rows) texts;
+}
+
+-- The rows of a bundle: its machine text is read first, and then the texts of the modes that it lists.
 unfoldable pub rows_at : List ℕ → Result Rows RowsFault
 rows_at bundle =
     if nat_lt (2 ^ 23) (length bundle) then refused Limit (line_spot (codes "-") 1)
-    else (texts_at bundle >>= λ texts. machine_at texts >>= λ text. text_tree_at machine_name text >>= λ tree. sections_in machine_name tree
-    >>= λ sections. sections_at machine_name sections >>= λ rows. new_at [] texts
-    >>= λ all_new. Ok (record { machine = rows; modes = []; notes = skipped_notes machine_name sections ++ unlisted_notes texts }))
+    else (texts_at bundle >>= λ texts. machine_read_at texts >>= λ machine. modes_from (listed_modes machine.rows) [] (none_found (listed_modes machine.rows)) texts
+    >>= λ found. Ok (rows_from texts machine (found_of found)))
+
+-- the names of the modes that a machine text lists
+unfoldable pub mode_names_at : List ℕ → Result (List (List ℕ)) RowsFault
+mode_names_at text = text_rows_at Machine machine_name text >>= λ machine. Ok (map (λ w. w.text) (listed_modes machine.rows))

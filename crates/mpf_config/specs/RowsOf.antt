@@ -1,18 +1,22 @@
 -- The rows of a bundle: what they are, however a bundle is read.
-use Rattle.std.specs.Prelude.{◌≡◌, ◌≢◌, ℕ, ◌<◌, ◌^◌, false, List, [], ◌∷◌, ◌++◌, length, Some, ◌⊎◌}
-use Rattle.std.specs.List.{Contains, AllZip}
+use Rattle.std.specs.Prelude.{◌≡◌, ◌≢◌, ℕ, ◌<◌, ◌^◌, false, List, [], ◌∷◌, ◌++◌, length, map, Some, ◌⊎◌}
+use Rattle.std.specs.List.{Contains, All, AllZip}
 use Rattle.yaml_bytes.specs.Bytes.{begins_blank}
 use Rattle.yaml_bytes.specs.Plain.{AreBlank, EndsInNoBlank}
 use Rattle.yaml_bytes.specs.Lines.{ends_line}
 use Rattle.yaml_subset.specs.Node.{Node, Pair}
 use Rattle.yaml_subset.specs.View.{pairs_in}
 use Rattle.yaml_subset.specs.TreeOf.{IsTreeOf, IsTextAbove}
-use Rattle.section_tables.specs.Kinds.{Setting, PlayerKinds}
-use Rattle.section_tables.specs.SectionTables.{table_of, player_of}
-use Rattle.section_tables.specs.EntryOf.{AreEntries, ArePlayers}
-use Rattle.mpf_config.specs.Rows.{Content, entries, players, entry, listed, SectionRows, Rows}
-use Rattle.mpf_config.specs.BundleText.{Text, machine_name, version_line}
-use Rattle.mpf_config.specs.Unread.{read_of, skipped_notes, unlisted_notes}
+use Rattle.section_tables.specs.declared.tables.TextKind.{TextKind}
+use Rattle.section_tables.specs.declared.tables.TextKind.TheVariants.{Machine, Mode}
+use Rattle.section_tables.specs.Kinds.{Setting, PlayerKinds, by_entries, by_players, by_entry, by_names}
+use Rattle.section_tables.specs.SectionTables.{shape_of}
+use Rattle.section_tables.specs.EntryOf.{IsEntry, AreEntries, ArePlayers, AreNamesListed}
+use Rattle.mpf_config.specs.Rows.{Written, Content, entries, players, entry, listed, SectionRows, Rows}
+use Rattle.mpf_config.specs.BundleText.{Text, machine_name, machine_owner, version_line}
+use Rattle.mpf_config.specs.Typed.{listed_modes}
+use Rattle.mpf_config.specs.Unread.{read_of, mode_text_of, present_of, mode_notes}
+use Rattle.mpf_config.specs.ModeReads.{ModeRead, rows_notes}
 
 -- ---- the bundle and its texts
 
@@ -58,52 +62,111 @@ AreTexts bundle [] = bundle ≡ []
 AreTexts bundle (t ∷ ts) =
     (piece : List ℕ) × (behind : List ℕ) × (bundle ≡ piece ++ behind) × IsPiece piece t × EndsLine piece behind × AreTexts behind ts
 
--- no text has one of these names, or that of one before it
-abbrev pub AreNew : List (List ℕ) → List Text → Type 0
+-- each name is new: not in the first list, and not that of an earlier one
+abbrev pub AreNew : List (List ℕ) → List (List ℕ) → Type 0
 AreNew names [] = Unit {0}
-AreNew names (t ∷ ts) = (Contains names t.name → ⊥) × AreNew (t.name ∷ names) ts
+AreNew names (n ∷ ns) = (Contains names n → ⊥) × AreNew (n ∷ names) ns
 
--- the text of this bundle that has the machine text's name
-abbrev pub IsMachineText : List ℕ → List ℕ → Type 0
-IsMachineText bundle text = (texts : List Text) × AreTexts bundle texts × Contains texts (record { name = machine_name; text = text })
+-- there is a text of this name
+abbrev pub IsText : List Text → List ℕ → List ℕ → Type 0
+IsText texts name text = Contains texts (record { name = name; text = text })
+
+-- ---- sizes
+
+-- how large rows may be
+pub record Sizes : Type 0 where
+  -- sequences and mappings one inside the other
+  pub levels : ℕ
+  -- those in brackets and braces, one inside the other
+  pub depth : ℕ
+  -- items in a list
+  pub longest : ℕ
+  -- modes
+  pub modes : ℕ
+
+-- the sizes that are read
+abbrev pub within_limits : Sizes
+within_limits = record { levels = 32; depth = 8; longest = 1024; modes = 64 }
 
 -- ---- sections
 
--- what stands in a section, by its name: entries by its table, or those of a player
-abbrev pub IsContent : ℕ → Pair → Content → Type 0
-IsContent longest p (entries es) = (table : List Setting) × (table_of p.key ≡ Some table) × AreEntries longest table p es
-IsContent longest p (players ps) = (kinds : PlayerKinds) × (player_of p.key ≡ Some kinds) × ArePlayers longest kinds p ps
-IsContent longest p (entry e) = ⊥
-IsContent longest p (listed ws) = ⊥
+-- The modes that a section lists: none is named `machine`, and none twice.
+pub record AreModesListed (sizes : Sizes) (p : Pair) (ws : List Written) : Type 0 where
+  pub listed : AreNamesListed sizes.modes p ws
+  pub others : All (λ w. w.text ≢ machine_owner) ws
+  pub apart : AreNew [] (map (λ w. w.text) ws)
 
--- a section by its name, and a row for each of its entries
-pub record IsSection (longest : ℕ) (entry : Pair) (s : SectionRows) : Type 0 where
-  pub name : s.name ≡ entry.key
-  pub content : IsContent longest entry s.content
+-- what stands in a section, by how it is written in a text of this kind
+abbrev pub IsContent : Sizes → TextKind → Pair → Content → Type 0
+IsContent sizes kind p (entries es) = (table : List Setting) × (shape_of kind p.key ≡ Some (by_entries table)) × AreEntries sizes.longest table p es
+IsContent sizes kind p (players ps) = (kinds : PlayerKinds) × (shape_of kind p.key ≡ Some (by_players kinds)) × ArePlayers sizes.longest kinds p ps
+IsContent sizes kind p (entry e) = (table : List Setting) × (shape_of kind p.key ≡ Some (by_entry table)) × IsEntry sizes.longest table p e
+IsContent sizes kind p (listed ws) = (shape_of kind p.key ≡ Some by_names) × AreModesListed sizes p ws
 
--- ---- the rows
+-- a section by its name, and what stands in it
+pub record IsSection (sizes : Sizes) (kind : TextKind) (p : Pair) (s : SectionRows) : Type 0 where
+  pub name : s.name ≡ p.key
+  pub content : IsContent sizes kind p s.content
 
--- The rows of a bundle whose machine text has at most so many sequences and mappings one inside the other, of those on one line at most so many, and
--- at most so many items in a list.
-pub record IsRowsOf (levels depth longest : ℕ) (bundle : List ℕ) (rows : Rows) : Type 0 where
-  pub texts : List Text
-  pub are_texts : AreTexts bundle texts
-  pub all_new : AreNew [] texts
-  pub text : List ℕ
-  pub machine : Contains texts (record { name = machine_name; text = text })
+-- A text of this kind has these sections. The rows are those of the sections that are read.
+pub record AreRowsOf (sizes : Sizes) (kind : TextKind) (text : List ℕ) (sections : List Pair) (rows : List SectionRows) : Type 0 where
   pub behind : List ℕ
   pub version : BeginsWith version_line text behind
   pub tree : Node
-  pub is_tree : IsTreeOf levels depth text tree
-  pub sections : List Pair
+  pub is_tree : IsTreeOf sizes.levels sizes.depth text tree
   pub has : pairs_in tree ≡ Some sections
-  pub each : AllZip (IsSection longest) (read_of sections) rows.machine
-  pub modes : rows.modes ≡ []
-  pub notes : rows.notes ≡ skipped_notes machine_name sections ++ unlisted_notes texts
+  pub each : AllZip (IsSection sizes kind) (read_of sections) rows
+
+-- ---- modes
+
+-- A listed mode with the rows of its text, and the notes on it.
+pub record IsModeRead (sizes : Sizes) (texts : List Text) (w : Written) (m : ModeRead) : Type 0 where
+  pub name : m.mode.name ≡ w.text
+  pub text : List ℕ
+  pub is_there : IsText texts (mode_text_of w) text
+  pub sections : List Pair
+  pub rows : AreRowsOf sizes Mode text sections m.mode.sections
+  pub notes : m.notes ≡ mode_notes (mode_text_of w) sections
+
+-- ---- the rows
+
+-- the rows of a bundle that are no larger than these sizes
+pub record IsRowsOf (sizes : Sizes) (bundle : List ℕ) (rows : Rows) : Type 0 where
+  pub texts : List Text
+  pub are_texts : AreTexts bundle texts
+  pub all_new : AreNew [] (map (λ t. t.name) texts)
+  pub text : List ℕ
+  pub is_there : IsText texts machine_name text
+  pub sections : List Pair
+  pub machine : AreRowsOf sizes Machine text sections rows.machine
+  pub modes : List ModeRead
+  pub each_mode : AllZip (IsModeRead sizes texts) (present_of texts (listed_modes rows.machine)) modes
+  pub mode_rows : rows.modes ≡ map (λ m. m.mode) modes
+  pub notes : rows.notes ≡ rows_notes texts (listed_modes rows.machine) sections modes
+
+-- the names of the modes that a machine text lists
+pub record AreModesOf (sizes : Sizes) (text : List ℕ) (names : List (List ℕ)) : Type 0 where
+  pub sections : List Pair
+  pub machine : List SectionRows
+  pub rows : AreRowsOf sizes Machine text sections machine
+  pub are : names ≡ map (λ w. w.text) (listed_modes machine)
 
 -- ---- limits
 
--- above the limits: a bundle of 8 MiB, those of a text, and lists of 1,024 items
-abbrev pub IsAbove : ℕ → ℕ → ℕ → List ℕ → Type 0
-IsAbove levels depth longest bundle =
-    (2 ^ 23 < length bundle) ⊎ (((text : List ℕ) × IsMachineText bundle text × IsTextAbove levels depth text) ⊎ (1024 < longest))
+-- these sizes allow more than 1,024 items in a list, or more than 64 modes
+abbrev pub AreManyItems : Sizes → Type 0
+AreManyItems sizes = (1024 < sizes.longest) ⊎ (64 < sizes.modes)
+
+-- so they do, or the text is above the limits of the YAML reader
+abbrev pub IsTextOver : Sizes → List ℕ → Type 0
+IsTextOver sizes text = IsTextAbove sizes.levels sizes.depth text ⊎ AreManyItems sizes
+
+-- a text of the bundle that is read for these rows: the machine text, or that of a listed mode
+abbrev pub IsTextRead : List ℕ → Rows → List ℕ → Type 0
+IsTextRead bundle rows text =
+    (texts : List Text) × AreTexts bundle texts
+    × (IsText texts machine_name text ⊎ ((w : Written) × Contains (listed_modes rows.machine) w × IsText texts (mode_text_of w) text))
+
+-- above the limits: the bundle has more than 8 MiB, or a text that is read is above its limits
+abbrev pub IsAbove : Sizes → List ℕ → Rows → Type 0
+IsAbove sizes bundle rows = (2 ^ 23 < length bundle) ⊎ ((text : List ℕ) × IsTextRead bundle rows text × IsTextOver sizes text)

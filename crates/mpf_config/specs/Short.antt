@@ -2,10 +2,10 @@
 use Rattle.std.specs.Prelude.{◌≤◌, length}
 use Rattle.std.specs.List.{All}
 pub use Rattle.section_tables.specs.Named.{IsShortEntry, IsShortPlayer}
-use Rattle.mpf_config.specs.Rows.{Switch, EventPlayer, ModeSettings, Content, SectionRows, ModeRows, Rows}
+use Rattle.mpf_config.specs.Rows.{Switch, EventPlayer, Content, SectionRows, ModeRows, Rows}
 use Rattle.mpf_config.specs.Typed.{entries_in, players_in, entry_in, names_in}
 
--- so it is in each entry of a section, whatever its settings are
+-- No list in a section is longer, whatever its settings are.
 abbrev pub IsShortContent : Content → Type 0
 IsShortContent content =
     All (IsShortEntry 1024) (entries_in content) × All (IsShortPlayer 1024) (players_in content) × All (IsShortEntry 1024) (entry_in content) × (length (names_in content) ≤ 1024)

@@ -119,7 +119,7 @@ players_of section s = if bytes_eq s.name section then players_in s.content else
 unfoldable pub switches_in : SectionRows → List Switch
 switches_in s = map switch_of (entries_of switches_name s)
 
--- the entries of `event_player`, as well
+-- the same for `event_player`
 unfoldable pub event_players_in : SectionRows → List EventPlayer
 event_players_in s = map event_player_of (players_of event_player_name s)
 
@@ -128,7 +128,7 @@ abbrev pub content_named : List ℕ → List SectionRows → Option Content
 content_named section [] = None
 content_named section (s ∷ ss) = if bytes_eq s.name section then Some s.content else content_named section ss
 
--- the row of `mode`, or what holds where there is none
+-- the row of `mode`, or the defaults if there is no such section
 abbrev pub mode_row : Option Content → List Value
 mode_row (Some (entry e)) = e.values
 mode_row _ = map setting_default tables.mode

@@ -1,11 +1,13 @@
 -- What is not read of a bundle, and the notes on it.
-use Rattle.std.specs.Prelude.{ℕ, Bool, not, List, [], ◌∷◌, map, filter, codes}
-use Rattle.std.specs.List.{list_any}
+use Rattle.std.specs.Prelude.{ℕ, Bool, not, ◌&&◌, if◌then◌else◌, List, [], ◌∷◌, map, filter, codes}
+use Rattle.std.specs.List.{list_any, flat_map}
 use Rattle.std.specs.Str.{bytes_eq}
 use Rattle.yaml_subset.specs.Node.{Pair}
-use Rattle.mpf_config.specs.declared.config.NoteKind.TheVariants.{Skipped, Unlisted}
-use Rattle.mpf_config.specs.Rows.{Note}
-use Rattle.mpf_config.specs.BundleText.{Text, machine_name}
+use Rattle.yaml_subset.specs.Keys.{is_among}
+use Rattle.section_tables.specs.SectionTables.{modes_name}
+use Rattle.mpf_config.specs.declared.config.NoteKind.TheVariants.{Skipped, Absent, Unlisted}
+use Rattle.mpf_config.specs.Rows.{Written, Note}
+use Rattle.mpf_config.specs.BundleText.{Text, machine_name, mode_text_name}
 
 -- the sections that are carried out nowhere
 abbrev pub skipped_names : List (List ℕ)
@@ -20,25 +22,60 @@ skipped_names =
 unfoldable pub is_skipped : List ℕ → Bool
 is_skipped name = list_any (λ skipped. bytes_eq skipped name) skipped_names
 
--- the sections of a text that are read, and the others
+-- the sections of a text that are read
 abbrev pub read_of : List Pair → List Pair
 read_of = filter (λ p. not (is_skipped p.key))
 
-abbrev pub skipped_of : List Pair → List Pair
-skipped_of = filter (λ p. is_skipped p.key)
+-- whether there is a text of this name
+abbrev pub has_text : List Text → List ℕ → Bool
+has_text texts name = list_any (λ t. bytes_eq t.name name) texts
 
--- the texts that no other lists: all but the machine text
-abbrev pub is_unlisted : Text → Bool
-is_unlisted t = not (bytes_eq t.name machine_name)
+-- the name of the text of a listed mode
+abbrev pub mode_text_of : Written → List ℕ
+mode_text_of w = mode_text_name w.text
+
+abbrev pub text_names : List Written → List (List ℕ)
+text_names listed = map mode_text_of listed
+
+-- whether a listed mode has a text
+abbrev pub is_present : List Text → Written → Bool
+is_present texts w = has_text texts (mode_text_of w)
+
+-- the listed modes that have one, and the others
+abbrev pub present_of : List Text → List Written → List Written
+present_of texts = filter (is_present texts)
+
+abbrev pub absent_of : List Text → List Written → List Written
+absent_of texts = filter (λ w. not (is_present texts w))
+
+-- the texts that are not read: neither the machine text nor that of a listed mode
+abbrev pub is_unlisted : List Written → Text → Bool
+is_unlisted listed t = not (bytes_eq t.name machine_name) && not (is_among (text_names listed) t.name)
+
+-- ---- notes
 
 abbrev pub skipped_note : List ℕ → Pair → Note
 skipped_note text p = record { kind = Skipped; text = text; line = p.line; name = p.key }
 
+abbrev pub absent_note : Written → Note
+absent_note w = record { kind = Absent; text = machine_name; line = w.line; name = w.text }
+
 abbrev pub unlisted_note : Text → Note
 unlisted_note t = record { kind = Unlisted; text = t.name; line = 0; name = t.name }
 
-abbrev pub skipped_notes : List ℕ → List Pair → List Note
-skipped_notes text sections = map (skipped_note text) (skipped_of sections)
+-- The notes at a section: its own if it is skipped; at `modes`, those on listed modes without a text.
+abbrev pub section_notes : List ℕ → List Note → Pair → List Note
+section_notes text absent p = if is_skipped p.key then skipped_note text p ∷ [] else (if bytes_eq p.key modes_name then absent else [])
 
-abbrev pub unlisted_notes : List Text → List Note
-unlisted_notes texts = map unlisted_note (filter is_unlisted texts)
+-- those on the sections of a text, as they are written
+abbrev pub text_notes : List ℕ → List Note → List Pair → List Note
+text_notes text absent sections = flat_map (section_notes text absent) sections
+
+abbrev pub machine_notes : List Text → List Written → List Pair → List Note
+machine_notes texts listed sections = text_notes machine_name (map absent_note (absent_of texts listed)) sections
+
+abbrev pub mode_notes : List ℕ → List Pair → List Note
+mode_notes text sections = text_notes text [] sections
+
+abbrev pub unlisted_notes : List Written → List Text → List Note
+unlisted_notes listed texts = map unlisted_note (filter (is_unlisted listed) texts)

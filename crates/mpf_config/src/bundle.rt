@@ -1,79 +1,49 @@
 //! A bundle of texts.
 
-ghost use Rattle.std.specs.Prelude.{◌≡◌, ◌≢◌, ℕ, IfOk, IfErr};
-ghost use Rattle.yaml_subset.specs.View.{node_view};
-ghost use Rattle.mpf_config.specs.BundleText.{has_version};
-ghost use Rattle.mpf_config.specs.FaultLine.{yaml_kind_name};
-ghost use Rattle.mpf_config.specs.Reading.{text_tree_at, rows_at};
+ghost use Rattle.std.specs.Prelude.{◌≡◌, ◌≢◌, ℕ, List, map, IfOk, IfErr};
+ghost use Rattle.mpf_config.specs.Reading.{machine_read_at, rows_at, mode_names_at};
 ghost use Rattle.mpf_config.specs.Rows.{Rows};
-ghost use Rattle.mpf_config.specs.RowsOf.{IsRowsOf, IsAbove};
-ghost use Rattle.mpf_config.specs.View.{rows_view, GivesRows};
+ghost use Rattle.mpf_config.specs.RowsOf.{Sizes, within_limits, IsRowsOf, IsAbove, AreModesOf, IsTextOver};
+ghost use Rattle.mpf_config.specs.View.{name_view, rows_view, GivesRows};
+ghost use Rattle.mpf_config.specs.Inside.{texts_view, names_only_view, machine_read_view};
 
-use crate::config::{Config, MachineText};
+use crate::config::{Config, MachineText, Note, Section};
 use crate::fault::{ConfigFault, FaultKind};
+use crate::listed::listed_modes;
+use crate::modes::{find_modes, take_modes};
 use crate::sections::{sections, sections_in};
 use crate::spot::{NONE, line_of};
-use crate::texts::{MACHINE_NAME, compare_names, machine_text, texts};
-use crate::unread::{add_skipped, add_unlisted};
-use section_tables::spot::Spot;
-use std::alloc::Global;
-use yaml_bytes::{split_line, trimmed};
-use yaml_subset::fault::{FaultKind as YamlKind, YamlFault};
-use yaml_subset::reader::read;
-use yaml_subset::tree::Tree;
+use crate::texts::{MACHINE_NAME, Text, machine_text, texts};
+use crate::typed::listed_modes as modes_in;
+use crate::unread::{add_unlisted, machine_notes};
+use crate::version::tree_of;
+use section_tables::rows::Name;
+use section_tables::tables::TextKind;
+use std::alloc::{AllocError, Global};
 
 /// The most bytes of a bundle: 8 MiB.
 const MAX_BUNDLE_LEN: usize = 8_388_608;
 
-/// The first line of a text, of the version that is read.
-const VERSION_LINE: &[u8] = b"#config_version=6";
-
-/// The name of a kind of the YAML reader.
-fn yaml_kind_name(kind: YamlKind) -> &'static [u8]
-    ensures { result.now ≡ yaml_kind_name kind }
-{
-    match kind {
-        YamlKind::NotUtf8 => b"NotUtf8",
-        YamlKind::Tab => b"Tab",
-        YamlKind::Indent => b"Indent",
-        YamlKind::DuplicateKey => b"DuplicateKey",
-        YamlKind::Quote => b"Quote",
-        YamlKind::Flow => b"Flow",
-        YamlKind::NotInSubset => b"NotInSubset",
-        YamlKind::TooDeep => b"TooDeep",
-        YamlKind::TooLong => b"TooLong",
-    }
+/// The sections of the machine text, with the notes on it.
+#[derive(Drop)]
+pub struct MachineRead {
+    pub sections: Vec<Section>,
+    pub notes: Vec<Note>,
 }
 
-fn has_version(text: &[u8]) -> bool
-    ensures { result ≡ has_version text.now }
+// The machine text of a bundle of these texts; or the first fault in it.
+#[tactic(auto, unfolding(crate::specs::Reading::machine_read_at, crate::specs::Reading::text_rows_at))]
+fn read_machine(alloc: Global, texts: &[Text<'_>]) -> Result<MachineRead, ConfigFault>
+    ensures { GivesRows machine_read_view result (machine_read_at (texts_view texts.now)) }
 {
-    let (line, _) = split_line(text);
-    trimmed(line) == VERSION_LINE
-}
-
-/// The tree of the text of this name; or Version, or Yaml with its kind as the key.
-#[tactic(auto, unfolding(crate::specs::Reading::text_tree_at))]
-fn tree_of(alloc: Global, name: &[u8], text: &[u8]) -> Result<Tree, ConfigFault>
-    ensures { GivesRows node_view result (text_tree_at name.now text.now) }
-{
-    if !has_version(text) {
-        let fault = line_of(name, 1).fault(alloc, FaultKind::Version)?;
-        return Err(ConfigFault::Bundle(fault));
-    }
-    match read(alloc, text) {
-        Ok(tree) => Ok(tree),
-        Err(YamlFault::NoMemory) => Err(ConfigFault::NoMemory),
-        Err(YamlFault::Text(fault)) => {
-            let spot = Spot {
-                text: name,
-                line: fault.line,
-                key: yaml_kind_name(fault.kind),
-            };
-            let fault = spot.fault(alloc, FaultKind::Yaml(fault.kind))?;
-            Err(ConfigFault::Bundle(fault))
-        }
-    }
+    let text = machine_text(alloc, texts)?;
+    let tree = tree_of(alloc, MACHINE_NAME, text)?;
+    let entries = sections_in(alloc, MACHINE_NAME, &tree)?;
+    let sections = sections(alloc, TextKind::Machine, MACHINE_NAME, entries)?;
+    let modes = listed_modes(alloc, modes_in(&sections))?;
+    let notes = machine_notes(alloc, entries, &modes, texts)?;
+    drop(modes);
+    Ok(MachineRead { sections, notes })
 }
 
 // The rows of a bundle, or its first fault.
@@ -86,24 +56,27 @@ fn read_exactly(alloc: Global, bundle: &[u8]) -> Result<Config, ConfigFault>
         return Err(ConfigFault::Bundle(fault));
     }
     let texts = texts(alloc, bundle)?;
-    let text = machine_text(alloc, &texts)?;
-    let tree = tree_of(alloc, MACHINE_NAME, text)?;
-    let entries = sections_in(alloc, MACHINE_NAME, &tree)?;
-    let sections = sections(alloc, MACHINE_NAME, entries)?;
-    compare_names(alloc, &texts)?;
-    let mut notes = Vec::new(alloc);
-    add_skipped(alloc, MACHINE_NAME, entries, &mut notes)?;
-    add_unlisted(alloc, &texts, &mut notes)?;
+    let MachineRead {
+        sections,
+        mut notes,
+    } = read_machine(alloc, &texts)?;
+    let listed = listed_modes(alloc, modes_in(&sections))?;
+    let found = find_modes(alloc, &listed, &texts)?;
+    let modes = take_modes(alloc, found, &mut notes)?;
+    add_unlisted(alloc, &listed, &texts, &mut notes)?;
+    drop(listed);
     Ok(Config {
         machine: MachineText { sections },
-        modes: Vec::new(alloc),
+        modes,
         notes,
     })
 }
 
 /// Reads a bundle: its rows, and notes on what is not read. A bundle is a list of texts, each after
-/// a line `@ NAME`. Of these the machine text, `config/config.yaml`, is read. Sections that are
-/// carried out nowhere are skipped with a note, and so are all other texts.
+/// a line `@ NAME`. Of these the machine text, `config/config.yaml`, is read, and the text
+/// `modes/M/config/M.yaml` of each mode `M` that it lists. Sections that are carried out nowhere are
+/// skipped with a note, a listed mode without a text is none and has a note, and so has each text
+/// that is not read.
 ///
 /// # Errors
 ///
@@ -112,22 +85,77 @@ fn read_exactly(alloc: Global, bundle: &[u8]) -> Result<Config, ConfigFault>
 /// - `Limit`: the bundle has more than 8 MiB.
 /// - `Bundle`: the first line is not `@ NAME`; another line begins with `@` and is not `@ NAME`; or
 ///   there is no machine text.
-/// - `Version`: the machine text does not begin with `#config_version=6`.
-/// - `Yaml`: the machine text is not in the subset of YAML.
-/// - The faults of its sections, entries and settings, as they are written.
-/// - `Duplicate`: a text has the name of an earlier one.
+/// - The faults of the machine text.
+/// - The faults of the other texts, in the order of the bundle. A text with the name of an earlier
+///   one is `Duplicate`, at its line 1. This is judged before anything else in it, and even if the
+///   text is not read.
+///
+/// The faults of a text are looked for in this order:
+///
+/// - `Version`: it does not begin with `#config_version=6`.
+/// - `Yaml`: it is not in the subset of YAML, or is above its limits.
+/// - The faults of its sections, entries and settings, as they are written. Those of the section
+///   `modes` are: `Limit`, for more than 64 items, whatever they are; the other faults of a list of
+///   names; and, name by name, `BadValue` for the name `machine`, and `Duplicate` at the line of a
+///   name that is listed before.
 pub fn read_bundle(alloc: Global, bundle: &[u8]) -> Result<Config, ConfigFault>
     // What is read are the rows of the bundle, with the notes.
-    ensures found { IfOk result (λ config. IsRowsOf 32 8 1024 bundle.now (rows_view config)) }
+    ensures found { IfOk result (λ config. IsRowsOf within_limits bundle.now (rows_view config)) }
 
-    // The bundle has no other rows, however many levels its text and items its lists may have.
-    ensures only { IfOk result (λ config. (levels depth longest : ℕ) (rows : Rows) → IsRowsOf levels depth longest bundle.now rows → rows ≡ rows_view config) }
+    // The bundle has no other rows, however large they may be.
+    ensures only { IfOk result (λ config. (sizes : Sizes) (rows : Rows) → IsRowsOf sizes bundle.now rows → rows ≡ rows_view config) }
 
     // A bundle that is refused has no rows within the limits.
-    ensures refused { IfErr result (λ e. e ≢ ConfigFault.NoMemory → (levels depth longest : ℕ) (rows : Rows) → IsRowsOf levels depth longest bundle.now rows → IsAbove levels depth longest bundle.now) }
+    ensures refused { IfErr result (λ e. e ≢ ConfigFault.NoMemory → (sizes : Sizes) (rows : Rows) → IsRowsOf sizes bundle.now rows → IsAbove sizes bundle.now rows) }
 
-    // Which fault it is, with its text, line and key, is what reading from the first line gives.
+    // Which fault it is, with its text, line and key, is the first that reading in order meets.
     ensures exact { GivesRows rows_view result (rows_at bundle.now) }
 {
     read_exactly(alloc, bundle)
+}
+
+// Names as they are written.
+fn texts_of(alloc: Global, names: &[Name]) -> Result<Vec<Vec<u8>>, AllocError>
+    ensures { IfOk result (λ texts. names_only_view texts ≡ map (λ w. w.text) (map name_view names.now)) }
+{
+    let mut texts = Vec::with_capacity(alloc, names.len())?;
+    for name in names {
+        let text = Vec::from_slice(alloc, &name.text)?;
+        texts.push(text)?;
+    }
+    Ok(texts)
+}
+
+// The names of the modes that a machine text lists, or its first fault.
+#[tactic(auto, unfolding(crate::specs::Reading::mode_names_at, crate::specs::Reading::text_rows_at))]
+fn names_exactly(alloc: Global, text: &[u8]) -> Result<Vec<Vec<u8>>, ConfigFault>
+    ensures { GivesRows names_only_view result (mode_names_at text.now) }
+{
+    let tree = tree_of(alloc, MACHINE_NAME, text)?;
+    let entries = sections_in(alloc, MACHINE_NAME, &tree)?;
+    let sections = sections(alloc, TextKind::Machine, MACHINE_NAME, entries)?;
+    let names = texts_of(alloc, modes_in(&sections))?;
+    Ok(names)
+}
+
+/// The names of the modes that a machine text lists, in the order of the list. `text` is the machine
+/// text itself, not a bundle.
+///
+/// # Errors
+///
+/// `NoMemory`, or the first fault of the text, as [`read_bundle`] reports it.
+pub fn mode_names(alloc: Global, text: &[u8]) -> Result<Vec<Vec<u8>>, ConfigFault>
+    // What is answered are the names that the text lists.
+    ensures found { IfOk result (λ names. AreModesOf within_limits text.now (names_only_view names)) }
+
+    // The text lists no others, however large it may be.
+    ensures only { IfOk result (λ names. (sizes : Sizes) (others : List (List ℕ)) → AreModesOf sizes text.now others → others ≡ names_only_view names) }
+
+    // A text that is refused lists no modes within the limits.
+    ensures refused { IfErr result (λ e. e ≢ ConfigFault.NoMemory → (sizes : Sizes) (names : List (List ℕ)) → AreModesOf sizes text.now names → IsTextOver sizes text.now) }
+
+    // Which fault it is, with its line and key, is the first that reading in order meets.
+    ensures exact { GivesRows names_only_view result (mode_names_at text.now) }
+{
+    names_exactly(alloc, text)
 }

@@ -20,8 +20,7 @@ pub enum Contact {
 /// How long a raw level has to last before it is accepted.
 #[derive(Clone, Copy, Debug)]
 pub enum Debounce {
-    /// As long as the use of the switch needs. Nothing asks for more than `Normal` yet, so it is
-    /// that.
+    /// As long as the use of the switch needs: as `Normal` for all that can be configured.
     Auto,
     /// It is accepted at once.
     Quick,
@@ -49,16 +48,16 @@ pub struct Section {
     pub content: Content,
 }
 
-/// The machine text: its sections as written, none twice.
+/// The machine text: its sections as written; in the rows of a bundle no name occurs twice.
 #[derive(Drop)]
 pub struct MachineText {
     pub sections: Vec<Section>,
 }
 
-/// The text of a mode: its sections as written, none twice.
+/// The text of a mode: its sections as written; in the rows of a bundle no name occurs twice.
 #[derive(Drop)]
 pub struct ModeText {
-    /// The name of the mode, of 1 to 64 bytes.
+    /// The name of the mode; in the rows of a bundle it has 1 to 64 bytes.
     pub name: Vec<u8>,
     pub sections: Vec<Section>,
 }
@@ -68,7 +67,9 @@ pub struct ModeText {
 pub enum NoteKind {
     /// A section that is carried out nowhere.
     Skipped,
-    /// A text that no other lists.
+    /// A mode that is listed and has no text.
+    Absent,
+    /// A text that is neither the machine text nor that of a listed mode.
     Unlisted,
 }
 
@@ -78,14 +79,14 @@ pub struct Note {
     pub kind: NoteKind,
     /// The name of the text that the note is about.
     pub text: Vec<u8>,
-    /// The line of the section, counted from 1; 0 for a text as a whole.
+    /// The line of the section, or where the mode is listed, counted from 1; 0 for a text as a whole.
     pub line: u32,
-    /// The name of the section, or of the text.
+    /// The name of the section, of the mode, or of the text.
     pub name: Vec<u8>,
 }
 
 /// The rows of a bundle. No list in them has more than 1,024 items. There are at most 64 modes, and
-/// no two of them have one name.
+/// no two have the same name.
 #[derive(Drop)]
 pub struct Config {
     /// The machine text.

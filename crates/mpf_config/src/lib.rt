@@ -5,14 +5,18 @@ pub mod bundle;
 pub mod config;
 pub mod escape;
 pub mod fault;
+mod listed;
+mod listed_mode;
+mod modes;
 pub mod notes;
 mod sections;
 mod spot;
 mod texts;
 pub mod typed;
 mod unread;
+mod version;
 
-pub use bundle::read_bundle;
+pub use bundle::{mode_names, read_bundle};
 pub use config::{
     Config, Contact, Content, Debounce, MachineText, ModeText, Note, NoteKind, Section,
 };

@@ -16,6 +16,7 @@ impl NoteKind {
     {
         match self {
             NoteKind::Skipped => "skipped",
+            NoteKind::Absent => "absent",
             NoteKind::Unlisted => "unlisted",
         }
     }

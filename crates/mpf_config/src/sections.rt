@@ -1,41 +1,114 @@
 //! The sections of a text.
 
+ghost use Rattle.std.specs.Prelude.{◌≡◌, [], map};
 ghost use Rattle.yaml_subset.specs.View.{node_view, pair_view};
-ghost use Rattle.section_tables.specs.View.{pairs_view, pairs_in_view};
-ghost use Rattle.mpf_config.specs.Reading.{section_at, sections_in, sections_at};
-ghost use Rattle.mpf_config.specs.View.{section_view, GivesRows};
+ghost use Rattle.section_tables.specs.TableView.{shape_view};
+ghost use Rattle.section_tables.specs.View.{names_view, spot_view, pairs_view, pairs_in_view};
+ghost use Rattle.mpf_config.specs.Reading.{modes_new_at, modes_at, content_at, section_at, sections_in, sections_at};
+ghost use Rattle.mpf_config.specs.View.{name_view, content_view, section_view, GivesRows};
 ghost use Rattle.mpf_config.specs.Inside.{sections_view};
 
 use crate::config::{Content, Section};
 use crate::fault::{ConfigFault, FaultKind};
 use crate::spot::line_of;
+use crate::texts::take_name;
 use crate::unread::is_skipped;
-use section_tables::spot::spot_of;
-use section_tables::tables::{player_of, table_of};
-use section_tables::{entries, players};
+use section_tables::rows::Name;
+use section_tables::spot::{Spot, spot_of};
+use section_tables::table::Shape;
+use section_tables::tables::{TextKind, shape_of};
+use section_tables::{entries, entry as read_entry, name_list, players};
 use std::alloc::Global;
+use std::collections::BTreeSet;
 use yaml_subset::tree::{Key, Tree};
 
-// The section of a key; or UnknownSection, or the first fault in it.
-#[tactic(auto, unfolding(crate::specs::Reading::section_at))]
-fn section(alloc: Global, text: &[u8], entry: &(Key, Tree)) -> Result<Section, ConfigFault>
-    ensures { GivesRows section_view result (section_at text.now (pair_view entry.now)) }
+/// The most modes of a machine.
+const MAX_MODES: usize = 64;
+
+/// The name that a mode cannot have, for the machine has it.
+const MACHINE_OWNER: &[u8] = b"machine";
+
+// Sees that no mode has the name of the machine, or that of an earlier mode; or BadValue at the
+// list, or Duplicate at the later mode.
+fn compare_modes(alloc: Global, spot: Spot<'_>, modes: &[Name]) -> Result<(), ConfigFault>
+    ensures { GivesRows (λ u. u) result (modes_new_at (spot_view spot.entry) [] (map name_view modes.now)) }
 {
-    let name = entry.0.text.as_slice();
-    if let Some(table) = table_of(name) {
-        let rows = entries(alloc, table, text, entry)?;
-        let name = Vec::from_slice(alloc, name)?;
-        let content = Content::Entries(rows);
-        return Ok(Section { name, content });
+    let mut names = BTreeSet::new(alloc);
+    for mode in modes {
+        let name = mode.text.as_slice();
+        if name == MACHINE_OWNER {
+            return Err(ConfigFault::Bundle(spot.fault(alloc, FaultKind::BadValue)?));
+        }
+        let fresh = take_name(&mut names, name)?;
+        if !fresh {
+            let at = Spot {
+                text: spot.text,
+                line: mode.line,
+                key: name,
+            };
+            return Err(ConfigFault::Bundle(at.fault(alloc, FaultKind::Duplicate)?));
+        }
     }
-    if let Some(kinds) = player_of(name) {
-        let rows = players(alloc, kinds, text, entry)?;
-        let name = Vec::from_slice(alloc, name)?;
-        let content = Content::Players(rows);
-        return Ok(Section { name, content });
+    Ok(())
+}
+
+// The modes that a section lists; or the first fault: those of the list, Limit above 64 items first
+// of all, and then those of the names.
+#[tactic(auto, unfolding(crate::specs::Reading::modes_at))]
+fn modes(alloc: Global, text: &[u8], entry: &(Key, Tree)) -> Result<Vec<Name>, ConfigFault>
+    ensures { GivesRows names_view result (modes_at text.now (pair_view entry.now)) }
+{
+    let names = name_list(alloc, MAX_MODES, text, entry)?;
+    compare_modes(alloc, spot_of(text, &entry.0), &names)?;
+    Ok(names)
+}
+
+// What stands in a section of this shape; or the first fault in it.
+fn content(
+    alloc: Global,
+    shape: Shape,
+    text: &[u8],
+    entry: &(Key, Tree),
+) -> Result<Content, ConfigFault>
+    ensures { GivesRows content_view result (content_at text.now (pair_view entry.now) (shape_view shape)) }
+{
+    match shape {
+        Shape::Entries(table) => {
+            let rows = entries(alloc, table, text, entry)?;
+            Ok(Content::Entries(rows))
+        }
+        Shape::Players(kinds) => {
+            let rows = players(alloc, kinds, text, entry)?;
+            Ok(Content::Players(rows))
+        }
+        Shape::Entry(table) => {
+            let row = read_entry(alloc, table, text, entry)?;
+            Ok(Content::Entry(row))
+        }
+        Shape::Names => {
+            let names = modes(alloc, text, entry)?;
+            Ok(Content::Names(names))
+        }
     }
-    let fault = spot_of(text, &entry.0).fault(alloc, FaultKind::UnknownSection)?;
-    Err(ConfigFault::Bundle(fault))
+}
+
+// The section of a key in a text of this kind; or UnknownSection, or the first fault in it.
+#[tactic(auto, unfolding(crate::specs::Reading::section_at))]
+fn section(
+    alloc: Global,
+    kind: TextKind,
+    text: &[u8],
+    entry: &(Key, Tree),
+) -> Result<Section, ConfigFault>
+    ensures { GivesRows section_view result (section_at kind text.now (pair_view entry.now)) }
+{
+    let Some(shape) = shape_of(kind, &entry.0.text) else {
+        let fault = spot_of(text, &entry.0).fault(alloc, FaultKind::UnknownSection)?;
+        return Err(ConfigFault::Bundle(fault));
+    };
+    let content = content(alloc, shape, text, entry)?;
+    let name = Vec::from_slice(alloc, &entry.0.text)?;
+    Ok(Section { name, content })
 }
 
 /// The sections that a tree of the text of this name has; or BadValue where it is no mapping.
@@ -54,21 +127,22 @@ pub fn sections_in<'a>(
     Ok(sections)
 }
 
-/// The rows of sections of the text of this name, as written, without those that are skipped; or
-/// the first fault in them.
+/// The rows of sections of a text of this kind and name, as written, without those that are
+/// skipped; or the first fault in them.
 pub fn sections(
     alloc: Global,
+    kind: TextKind,
     text: &[u8],
     entries: &[(Key, Tree)],
 ) -> Result<Vec<Section>, ConfigFault>
-    ensures { GivesRows sections_view result (sections_at text.now (pairs_view entries.now)) }
+    ensures { GivesRows sections_view result (sections_at kind text.now (pairs_view entries.now)) }
 {
     let mut sections = Vec::new(alloc);
     for entry in entries {
         if is_skipped(&entry.0.text) {
             continue;
         }
-        let section = section(alloc, text, entry)?;
+        let section = section(alloc, kind, text, entry)?;
         sections.push(section)?;
     }
     Ok(sections)

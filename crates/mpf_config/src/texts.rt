@@ -1,11 +1,11 @@
 //! The texts of a bundle.
 
-ghost use Rattle.std.specs.Prelude.{◌≡◌, ◌≤◌, ◌^◌, ◌||◌, ℕ, List, [], not, false, length, IfOk};
+ghost use Rattle.std.specs.Prelude.{◌≡◌, ◌≤◌, ◌^◌, ◌||◌, ℕ, List, not, false, length, IfOk};
 ghost use Rattle.std.specs.Str.{bytes_eq};
 ghost use Rattle.yaml_subset.specs.Keys.{is_among};
 ghost use Rattle.yaml_subset.specs.View.{option_slice};
 ghost use Rattle.mpf_config.specs.BundleText.{mode_text_name, name_in, piece_len, line_ends};
-ghost use Rattle.mpf_config.specs.Reading.{text_at, texts_at, machine_at, new_at};
+ghost use Rattle.mpf_config.specs.Reading.{text_at, texts_at, machine_at};
 ghost use Rattle.mpf_config.specs.View.{GivesRows};
 ghost use Rattle.mpf_config.specs.Inside.{bytes_view, text_view, texts_view, keys_view};
 
@@ -128,8 +128,8 @@ pub fn machine_text<'a>(alloc: Global, texts: &[Text<'a>]) -> Result<&'a [u8], C
     Err(ConfigFault::Bundle(fault))
 }
 
-/// Takes a name, and says whether it is new. Where memory runs out it may be taken or not.
-fn take_name<'a>(
+/// Adds a name, and says whether it is new. If memory runs out, it may have been added or not.
+pub fn take_name<'a>(
     names: &mut BTreeSet<&'a [u8]>,
     name: &'a [u8],
 ) -> Result<bool, AllocFailed<&'a [u8]>>
@@ -137,19 +137,4 @@ fn take_name<'a>(
     ensures known { IfOk result (λ fresh. (q : List ℕ) → is_among (keys_view names.new) q ≡ (bytes_eq name.now q || is_among (keys_view names.old) q)) }
 {
     names.insert(name)
-}
-
-/// Sees that no two texts have one name; or Duplicate at the later one.
-pub fn compare_names(alloc: Global, texts: &[Text<'_>]) -> Result<(), ConfigFault>
-    ensures { GivesRows (λ u. u) result (new_at [] (texts_view texts.now)) }
-{
-    let mut names = BTreeSet::new(alloc);
-    for text in texts {
-        let fresh = take_name(&mut names, text.name)?;
-        if !fresh {
-            let fault = line_of(text.name, 1).fault(alloc, FaultKind::Duplicate)?;
-            return Err(ConfigFault::Bundle(fault));
-        }
-    }
-    Ok(())
 }

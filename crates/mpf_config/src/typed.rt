@@ -46,7 +46,7 @@ pub struct ModeSettings<'a> {
     pub starts: &'a [Name],
     /// The events that stop it.
     pub stops: &'a [Name],
-    /// The priority of its handlers: at most 1,000,000, 100 by default.
+    /// The priority of its handlers: in the rows of a bundle at most 1,000,000; 100 by default.
     pub priority: u32,
     /// Whether it runs only in a game: by default it does.
     pub game: bool,
@@ -325,7 +325,7 @@ impl Section {
         &[]
     }
 
-    /// The entries of `switches`, to be seen by [`as_switch`]; none of any other section.
+    /// The entries of `switches`, each to be read with [`as_switch`]; none of any other section.
     #[tactic(auto, unfolding(crate::specs::Typed::switches_in))]
     pub fn switches(&self) -> &[Entry]
         ensures { map switch_of (map entry_view result.now) ≡ switches_in (section_view self.now) }
@@ -333,7 +333,8 @@ impl Section {
         self.entries_of(SWITCHES_NAME)
     }
 
-    /// The entries of `event_player`, to be seen by [`as_event_player`]; none of any other section.
+    /// The entries of `event_player`, each to be read with [`as_event_player`]; none of any other
+    /// section.
     #[tactic(auto, unfolding(crate::specs::Typed::event_players_in))]
     pub fn event_players(&self) -> &[Player]
         ensures { map event_player_of (map player_view result.now) ≡ event_players_in (section_view self.now) }

@@ -1,18 +1,22 @@
-//! What is not read of a bundle: sections that are carried out nowhere, and texts that no other
-//! lists.
+//! What is not read of a bundle, and the notes on it: sections that are carried out nowhere, listed
+//! modes that have no text, and texts that are neither the machine text nor that of a listed mode.
 
-ghost use Rattle.std.specs.Prelude.{◌≡◌, ◌++◌, IfOk, IfErr};
+ghost use Rattle.std.specs.Prelude.{◌≡◌, ◌++◌, map, IfOk, IfErr};
 ghost use Rattle.yaml_subset.specs.View.{pair_view};
-ghost use Rattle.mpf_config.specs.Unread.{is_skipped, skipped_note, unlisted_note, skipped_notes, unlisted_notes};
+ghost use Rattle.mpf_config.specs.Unread.{is_skipped, has_text, absent_of, skipped_note, absent_note, unlisted_note, machine_notes, mode_notes, unlisted_notes};
 ghost use Rattle.section_tables.specs.declared.fault.ConfigFault.TheVariants.{NoMemory};
 ghost use Rattle.section_tables.specs.View.{pairs_view};
-ghost use Rattle.mpf_config.specs.View.{note_view};
-ghost use Rattle.mpf_config.specs.Inside.{text_view, texts_view, notes_view};
+ghost use Rattle.mpf_config.specs.View.{name_view, note_view};
+ghost use Rattle.mpf_config.specs.Inside.{text_view, texts_view, notes_view, modes_view};
 
 use crate::config::{Note, NoteKind};
 use crate::fault::ConfigFault;
+use crate::listed::mode_of;
+use crate::listed_mode::ListedMode;
 use crate::texts::{MACHINE_NAME, Text};
 use section_tables::is_one_of;
+use section_tables::rows::Name;
+use section_tables::tables::MODES_NAME;
 use std::alloc::{AllocError, Global};
 use yaml_subset::tree::{Key, Tree};
 
@@ -72,6 +76,18 @@ fn skipped(alloc: Global, text: &[u8], entry: &(Key, Tree)) -> Result<Note, Allo
     })
 }
 
+/// The note on a listed mode that has no text.
+fn absent(alloc: Global, mode: &Name) -> Result<Note, AllocError>
+    ensures { IfOk result (λ note. note_view note ≡ absent_note (name_view mode.now)) }
+{
+    Ok(Note {
+        kind: NoteKind::Absent,
+        text: Vec::from_slice(alloc, MACHINE_NAME)?,
+        line: mode.line,
+        name: Vec::from_slice(alloc, &mode.text)?,
+    })
+}
+
 /// The note on an unlisted text.
 fn unlisted(alloc: Global, text: Text<'_>) -> Result<Note, AllocError>
     ensures { IfOk result (λ note. note_view note ≡ unlisted_note (text_view text.entry)) }
@@ -84,36 +100,88 @@ fn unlisted(alloc: Global, text: Text<'_>) -> Result<Note, AllocError>
     })
 }
 
-/// Adds the notes on the skipped sections of the text of this name, as written.
-pub fn add_skipped(
+/// Whether there is a text of this name.
+fn has_text(texts: &[Text<'_>], name: &[u8]) -> bool
+    ensures { result ≡ has_text (texts_view texts.now) name.now }
+{
+    texts.iter().any(|text| text.name == name)
+}
+
+/// Adds the notes on the listed modes that have no text, in the order of the list.
+fn add_absent(
     alloc: Global,
-    text: &[u8],
-    sections: &[(Key, Tree)],
+    modes: &[ListedMode<'_>],
+    texts: &[Text<'_>],
     notes: &mut Vec<Note>,
 ) -> Result<(), ConfigFault>
-    ensures added { IfOk result (λ _. notes_view notes.new ≡ notes_view notes.old ++ skipped_notes text.now (pairs_view sections.now)) }
+    ensures added { IfOk result (λ _. notes_view notes.new ≡ notes_view notes.old ++ map absent_note (absent_of (texts_view texts.now) (modes_view modes.now))) }
     ensures fails { IfErr result (λ e. e ≡ NoMemory) }
 {
-    for section in sections {
-        if is_skipped(&section.0.text) {
-            let note = skipped(alloc, text, section)?;
+    for mode in modes {
+        if !has_text(texts, &mode.text) {
+            let note = absent(alloc, mode.name)?;
             notes.push(note)?;
         }
     }
     Ok(())
 }
 
-/// Adds the notes on the texts that no other lists, in the order of the bundle.
+/// The notes on the sections of the machine text, as they are written: on each that is skipped,
+/// and on the absent modes where they are listed.
+pub fn machine_notes(
+    alloc: Global,
+    sections: &[(Key, Tree)],
+    modes: &[ListedMode<'_>],
+    texts: &[Text<'_>],
+) -> Result<Vec<Note>, ConfigFault>
+    ensures are { IfOk result (λ notes. notes_view notes ≡ machine_notes (texts_view texts.now) (modes_view modes.now) (pairs_view sections.now)) }
+    ensures fails { IfErr result (λ e. e ≡ NoMemory) }
+{
+    let mut notes = Vec::new(alloc);
+    for section in sections {
+        let name = section.0.text.as_slice();
+        if is_skipped(name) {
+            let note = skipped(alloc, MACHINE_NAME, section)?;
+            notes.push(note)?;
+        } else if name == MODES_NAME {
+            add_absent(alloc, modes, texts, &mut notes)?;
+        }
+    }
+    Ok(notes)
+}
+
+/// The notes on the skipped sections of the text of a mode, as they are written.
+pub fn mode_notes(
+    alloc: Global,
+    text: &[u8],
+    sections: &[(Key, Tree)],
+) -> Result<Vec<Note>, ConfigFault>
+    ensures are { IfOk result (λ notes. notes_view notes ≡ mode_notes text.now (pairs_view sections.now)) }
+    ensures fails { IfErr result (λ e. e ≡ NoMemory) }
+{
+    let mut notes = Vec::new(alloc);
+    for section in sections {
+        if is_skipped(&section.0.text) {
+            let note = skipped(alloc, text, section)?;
+            notes.push(note)?;
+        }
+    }
+    Ok(notes)
+}
+
+/// Adds the notes on the texts that are neither the machine text nor that of a listed mode, in the
+/// order of the bundle.
 pub fn add_unlisted(
     alloc: Global,
+    modes: &[ListedMode<'_>],
     texts: &[Text<'_>],
     notes: &mut Vec<Note>,
 ) -> Result<(), ConfigFault>
-    ensures added { IfOk result (λ _. notes_view notes.new ≡ notes_view notes.old ++ unlisted_notes (texts_view texts.now)) }
+    ensures added { IfOk result (λ _. notes_view notes.new ≡ notes_view notes.old ++ unlisted_notes (modes_view modes.now) (texts_view texts.now)) }
     ensures fails { IfErr result (λ e. e ≡ NoMemory) }
 {
     for text in texts {
-        if text.name != MACHINE_NAME {
+        if text.name != MACHINE_NAME && mode_of(modes, text.name).is_none() {
             let note = unlisted(alloc, *text)?;
             notes.push(note)?;
         }

@@ -1,18 +1,17 @@
-//! The program `pinball`: words, files and the exit status. All else is `pinball_shell`'s.
+//! The program `pinball`: words, files and the exit status. All else is in the libraries.
 #![tactic(auto)]
 
+use mpf_config::{ConfigFault, MACHINE_NAME, mode_names, mode_text_name};
 use pinball_shell::{
     Ask, AskFault, BUNDLE_LIMIT, Failure, ShellFault, Verdict, check_text, command, join,
     load_text, play_text, read_all, status, verify_text,
 };
 use std::alloc::{AllocError, Global};
-use std::io::{self, BufWriter, ErrorKind, Write};
+use std::io::{self, BufWriter, ErrorKind, Read, Write};
 use std::process::ExitCode;
 use std::rt::{Env, Files};
 use std::{env, fs};
 
-/// The text of the machine, in the folder of its configuration.
-const MACHINE_TEXT: &str = "config/config.yaml";
 /// The status where the words are not understood.
 const USAGE: u8 = 2;
 /// The status where a file, reading, writing, a size or memory failed.
@@ -20,8 +19,8 @@ const FAULT: u8 = 3;
 
 fn main(rt: HostRuntime) -> ExitCode {
     match asked(&rt) {
-        Ok((ask, machine)) => {
-            let answer = answer(&rt, &ask, machine.as_deref());
+        Ok(ask) => {
+            let answer = answer(&rt, ask);
             if let Err(failure) = &answer {
                 let _ = failure.write(&mut io::writer(&rt.stderr()));
             }
@@ -38,15 +37,10 @@ fn main(rt: HostRuntime) -> ExitCode {
     }
 }
 
-/// What the words after the program's name ask for, and the path of the machine text, where the
-/// configuration is in a folder.
-fn asked<R: Env + AllocGlobal>(rt: &R) -> Result<(Ask, Option<String>), AskFault> {
+/// What the words after the program's name ask for.
+fn asked<R: Env + AllocGlobal>(rt: &R) -> Result<Ask, AskFault> {
     match env::args(rt) {
-        Ok(words) => {
-            let ask = command(rt.alloc(), words.skip(1).collect(rt.alloc())?)?;
-            let machine = machine_path(rt.alloc(), &ask)?;
-            Ok((ask, machine))
-        }
+        Ok(words) => command(rt.alloc(), words.skip(1).collect(rt.alloc())?),
         Err(error) if error.kind() == ErrorKind::OutOfMemory => Err(AskFault::NoMemory),
         Err(_) => Err(AskFault::Usage(String::from_str(
             rt.alloc(),
@@ -55,34 +49,18 @@ fn asked<R: Env + AllocGlobal>(rt: &R) -> Result<(Ask, Option<String>), AskFault
     }
 }
 
-fn machine_path(alloc: Global, ask: &Ask) -> Result<Option<String>, AllocError> {
-    let folder = match ask {
-        Ask::Check { folder } => folder,
-        Ask::Verify { folder, .. } => folder,
-        Ask::Play { folder, .. } => folder,
-    };
-    match folder {
-        Some(folder) => Ok(Some(format!(in alloc; "{folder}/{MACHINE_TEXT}")?)),
-        None => Ok(None),
-    }
-}
-
-/// Does what is asked, of the configuration whose machine text has this path, or of the bundle on
-/// standard input. What is printed is buffered, and has gone out where this answers a verdict.
-fn answer<'a, R: Files + Input + Print + AllocGlobal>(
-    rt: &R,
-    ask: &'a Ask,
-    machine: Option<&'a str>,
-) -> Result<Verdict, Failure<'a>> {
+/// Does what is asked. What is printed is buffered, and has gone out where this answers a verdict.
+fn answer<R: Files + Input + Print + AllocGlobal>(rt: &R, ask: Ask) -> Result<Verdict, Failure> {
     let Ok(mut writer) = BufWriter::new(rt.alloc(), io::writer(rt)) else {
         return Err(Failure::from(ShellFault::NoMemory));
     };
     let verdict = match ask {
-        Ask::Check { .. } => check(rt, machine, &mut writer)?,
-        Ask::Verify { certificate, .. } => {
-            verify(rt, certificate.as_str(), machine, &mut writer)?
-        }
-        Ask::Play { log, .. } => play(rt, log.as_str(), machine, &mut writer)?,
+        Ask::Check { folder } => check(rt, folder, &mut writer)?,
+        Ask::Verify {
+            certificate,
+            folder,
+        } => verify(rt, certificate, folder, &mut writer)?,
+        Ask::Play { log, folder } => play(rt, log, folder, &mut writer)?,
     };
     match writer.flush() {
         Ok(()) => Ok(verdict),
@@ -90,43 +68,25 @@ fn answer<'a, R: Files + Input + Print + AllocGlobal>(
     }
 }
 
-/// The bundle of a configuration that is in a folder.
-fn bundle_of<'a, R: Files + AllocGlobal>(rt: &R, machine: &'a str) -> Result<Vec<u8>, Failure<'a>> {
-    let Ok(mut file) = fs::open(rt, machine) else {
-        return Err(Failure::at(ShellFault::Read, machine));
-    };
-    read_all(rt.alloc(), &mut file, BUNDLE_LIMIT)
-        .and_then(|text| join(rt.alloc(), b"", MACHINE_TEXT.as_bytes(), &text))
-        .map_err(|fault| Failure::at(fault, machine))
-}
-
-fn check<'a, R: Files + Input + AllocGlobal, W: Write>(
+fn check<R: Files + Input + AllocGlobal, W: Write>(
     rt: &R,
-    machine: Option<&'a str>,
+    folder: Option<String>,
     writer: &mut W,
-) -> Result<Verdict, Failure<'a>> {
-    match machine {
-        Some(machine) => {
-            let bundle = bundle_of(rt, machine)?;
-            Ok(check_text(rt.alloc(), &mut bundle.as_slice(), writer)?)
-        }
-        None => Ok(check_text(rt.alloc(), &mut rt.reader(), writer)?),
-    }
+) -> Result<Verdict, Failure> {
+    let bundle = bundle_of(rt, folder)?;
+    Ok(check_text(rt.alloc(), &mut bundle.as_slice(), writer)?)
 }
 
 /// Verifies the certificate of a file on the bundle. The bundle is read before the file is opened:
 /// where standard input is closed, the file takes its place.
-fn verify<'a, R: Files + Input + AllocGlobal, W: Write>(
+fn verify<R: Files + Input + AllocGlobal, W: Write>(
     rt: &R,
-    path: &'a str,
-    machine: Option<&'a str>,
+    path: String,
+    folder: Option<String>,
     writer: &mut W,
-) -> Result<Verdict, Failure<'a>> {
-    let bundle = match machine {
-        Some(machine) => bundle_of(rt, machine)?,
-        None => read_all(rt.alloc(), &mut rt.reader(), BUNDLE_LIMIT)?,
-    };
-    let Ok(mut certificate) = fs::open(rt, path) else {
+) -> Result<Verdict, Failure> {
+    let bundle = bundle_of(rt, folder)?;
+    let Ok(mut certificate) = fs::open(rt, &path) else {
         return Err(Failure::at(ShellFault::Read, path));
     };
     let mut text = bundle.as_slice();
@@ -136,24 +96,93 @@ fn verify<'a, R: Files + Input + AllocGlobal, W: Write>(
 }
 
 /// Loads the bundle, and plays the log only where it is accepted.
-fn play<'a, R: Files + Input + AllocGlobal, W: Write>(
+fn play<R: Files + Input + AllocGlobal, W: Write>(
     rt: &R,
-    path: &'a str,
-    machine: Option<&'a str>,
+    path: String,
+    folder: Option<String>,
     writer: &mut W,
-) -> Result<Verdict, Failure<'a>> {
-    let loaded = match machine {
-        Some(machine) => {
-            let bundle = bundle_of(rt, machine)?;
-            load_text(rt.alloc(), &mut bundle.as_slice(), writer)?
-        }
-        None => load_text(rt.alloc(), &mut rt.reader(), writer)?,
-    };
-    let Some(checked) = loaded else {
+) -> Result<Verdict, Failure> {
+    let bundle = bundle_of(rt, folder)?;
+    let Some(checked) = load_text(rt.alloc(), &mut bundle.as_slice(), writer)? else {
         return Ok(Verdict::Refused);
     };
-    let Ok(mut log) = fs::open(rt, path) else {
+    let Ok(mut log) = fs::open(rt, &path) else {
         return Err(Failure::at(ShellFault::Read, path));
     };
     play_text(rt.alloc(), &checked, &mut log, writer).map_err(|fault| Failure::at(fault, path))
+}
+
+/// The bundle of the configuration in this folder; or the one on standard input.
+fn bundle_of<R: Files + Input + AllocGlobal>(
+    rt: &R,
+    folder: Option<String>,
+) -> Result<Vec<u8>, Failure> {
+    match folder {
+        Some(folder) => folder_bundle(rt, &folder),
+        None => Ok(read_all(rt.alloc(), &mut rt.reader(), BUNDLE_LIMIT)?),
+    }
+}
+
+/// The bundle of a folder: the machine text, and then the texts of the modes that it lists.
+fn folder_bundle<R: Files + AllocGlobal>(rt: &R, folder: &str) -> Result<Vec<u8>, Failure> {
+    let path = path_in(rt.alloc(), folder, MACHINE_NAME)?;
+    let read = read_machine(rt, &path);
+    let (mut bundle, modes) = read.map_err(|fault| Failure::at(fault, path))?;
+    for mode in modes {
+        bundle = with_mode(rt, folder, bundle, &mode)?;
+    }
+    Ok(bundle)
+}
+
+/// The bundle of the machine text in this file alone, and the names of the modes that the text
+/// lists. No names where it has a fault: what reads the bundle reports that.
+fn read_machine<R: Files + AllocGlobal>(
+    rt: &R,
+    path: &str,
+) -> Result<(Vec<u8>, Vec<Vec<u8>>), ShellFault> {
+    let Ok(mut file) = fs::open(rt, path) else {
+        return Err(ShellFault::Read);
+    };
+    let text = read_all(rt.alloc(), &mut file, BUNDLE_LIMIT)?;
+    let modes = match mode_names(rt.alloc(), &text) {
+        Ok(modes) => modes,
+        Err(ConfigFault::Bundle(_fault)) => Vec::new(rt.alloc()),
+        Err(ConfigFault::NoMemory) => return Err(ShellFault::NoMemory),
+    };
+    let bundle = join(rt.alloc(), b"", MACHINE_NAME, &text)?;
+    Ok((bundle, modes))
+}
+
+/// The bundle with the text of this mode, which is left out where the folder does not have it.
+fn with_mode<R: Files + AllocGlobal>(
+    rt: &R,
+    folder: &str,
+    bundle: Vec<u8>,
+    mode: &[u8],
+) -> Result<Vec<u8>, Failure> {
+    let name = mode_text_name(rt.alloc(), mode)?;
+    let path = path_in(rt.alloc(), folder, &name)?;
+    let joined = match fs::open(rt, &path) {
+        Ok(mut file) => join_file(rt.alloc(), &bundle, &name, &mut file),
+        Err(error) if error.kind() == ErrorKind::NotFound => Ok(bundle),
+        Err(_) => Err(ShellFault::Read),
+    };
+    joined.map_err(|fault| Failure::at(fault, path))
+}
+
+/// The bundle with the text of this name and file.
+fn join_file<F: Read>(
+    alloc: Global,
+    bundle: &[u8],
+    name: &[u8],
+    file: &mut F,
+) -> Result<Vec<u8>, ShellFault> {
+    let text = read_all(alloc, file, BUNDLE_LIMIT)?;
+    join(alloc, bundle, name, &text)
+}
+
+/// The path of a text of a folder. All bytes of the text's name are ASCII.
+fn path_in(alloc: Global, folder: &str, text: &[u8]) -> Result<String, AllocError> {
+    let text = String::from_utf8_lossy(alloc, text)?;
+    format!(in alloc; "{folder}/{text}")
 }

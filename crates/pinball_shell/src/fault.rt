@@ -1,6 +1,6 @@
 //! What can go wrong outside of the texts.
 
-ghost use Rattle.std.specs.Prelude.{◌≡◌, None, OnOk, option_map};
+ghost use Rattle.std.specs.Prelude.{◌≡◌, None, OnOk, option_map, string_bytes};
 ghost use Rattle.std.specs.Io.KnownBytes.{Appends};
 ghost use Rattle.pinball_shell.specs.Status.{status_of, fault_name, file_at_fault, failure_text};
 ghost use Rattle.pinball_shell.specs.declared.fault.ShellFault.TheVariants.{NoMemory};
@@ -25,11 +25,11 @@ pub enum ShellFault {
 }
 
 /// Why there is no verdict, and which file is at fault.
-#[derive(Clone, Copy)]
-pub struct Failure<'a> {
+#[derive(Debug, Drop)]
+pub struct Failure {
     pub fault: ShellFault,
     /// The path of the file. None where standard input, the output or memory failed.
-    pub file: Option<&'a str>,
+    pub file: Option<String>,
 }
 
 /// What a text was found to be.
@@ -55,12 +55,12 @@ impl ShellFault {
     }
 }
 
-impl<'a> Failure<'a> {
+impl Failure {
     /// The failure for a fault that came up while this file was read. `Read` and `TooLong` are
     /// blamed on the file; `NoMemory` and `Write` are not.
-    pub fn at(fault: ShellFault, path: &'a str) -> Failure<'a>
+    pub fn at(fault: ShellFault, path: String) -> Failure
         ensures fault { result.fault ≡ fault }
-        ensures file { option_map (λ p. p.now) result.file ≡ file_at_fault fault path.now }
+        ensures file { option_map string_bytes result.file ≡ file_at_fault fault (string_bytes path) }
     {
         let file = match fault {
             ShellFault::Read | ShellFault::TooLong => Some(path),
@@ -72,21 +72,32 @@ impl<'a> Failure<'a> {
     /// Writes what standard error gets: the line `fault: NAME`, and a second one, `file: PATH`, if
     /// a file is at fault.
     pub fn write<W: Write>(&self, writer: &mut W) -> io::Result<()>
-        ensures { OnOk result (Appends (W.contents writer.old) (W.contents writer.new) (failure_text self.now.fault (option_map (λ p. p.now) self.now.file))) }
+        ensures { OnOk result (Appends (W.contents writer.old) (W.contents writer.new) (failure_text self.now.fault (option_map string_bytes self.now.file))) }
     {
         let name = self.fault.name();
-        match self.file {
+        match &self.file {
             None => writeln!(writer, "fault: {name}"),
             Some(path) => writeln!(writer, "fault: {name}\nfile: {path}"),
         }
     }
 }
 
-impl From<ShellFault> for Failure<'_> {
-    ghost from_gives = { λ fault failure. (failure.fault ≡ fault) × (option_map (λ p. p.now) failure.file ≡ None) };
+impl From<ShellFault> for Failure {
+    ghost from_gives = { λ fault failure. (failure.fault ≡ fault) × (failure.file ≡ None) };
 
     fn from(fault: ShellFault) -> Self {
         Failure { fault, file: None }
+    }
+}
+
+impl From<AllocError> for Failure {
+    ghost from_gives = { λ _ failure. (failure.fault ≡ NoMemory) × (failure.file ≡ None) };
+
+    fn from(_e: AllocError) -> Self {
+        Failure {
+            fault: ShellFault::NoMemory,
+            file: None,
+        }
     }
 }
 

@@ -3,8 +3,9 @@
 use crate::cases::{Subject, assert_rows, utf8};
 use crate::tables::show_names;
 use mpf_config::{
-    Config, ConfigFault, EventPlayer, Section, Switch, as_event_player, as_switch, read_bundle,
-    write_fault, write_note,
+    Config, ConfigFault, EventPlayer, MODES_NAME, ModeText, Section, Switch,
+    as_event_player, as_switch, listed_modes, mode_names, mode_settings, read_bundle, write_fault,
+    write_note,
 };
 use std::alloc::{AllocError, Global};
 use std::test::Fail;
@@ -60,6 +61,104 @@ const BUNDLES: &str = "\
 @ config/config.yaml¶#config_version=6¶@ a\u{1b}[2J\u{1f}\u{7f} \u{80}¶ => note a\\x1b[2J\\x1f\\x7f \u{80} 0 unlisted a\\x1b[2J\\x1f\\x7f \u{80}¶
 ";
 
+// Texts, and what is read of them or the line of their fault. The section `modes` is shown by the names
+// that it lists, and a mode by its priority, whether it needs a game, whether it stops with the ball, and
+// what starts and stops it; its sections stand below.
+const MODES: &str = "\
+@¶modes: lo, hi¶@hi¶mode:¶  priority: 200¶  game_mode: no¶  start_events: a, b¶event_player:¶  x: y¶@lo¶mode:¶  stop_on_ball_end: no¶  stop_events:¶    - c¶    - d¶ => modes¶ lo@2 hi@2¶lo: 100 true false;; c@5 d@6;¶mode¶hi: 200 false true; a@5 b@5;;¶mode¶event_player¶ x@7; y@7;¶
+@¶modes: a¶event_player:¶  x: y¶@a¶event_player:¶  x: z¶ => modes¶ a@2¶event_player¶ x@4; y@4;¶a: 100 true true;;;¶event_player¶ x@3; z@3;¶
+@a¶@b.c-d_e¶@¶modes: b.c-d_e, a¶ => modes¶ b.c-d_e@2 a@2¶b.c-d_e: 100 true true;;;¶a: 100 true true;;;¶
+@¶modes: playfield, default, config¶@default¶@config¶@playfield¶ => modes¶ playfield@2 default@2 config@2¶playfield: 100 true true;;;¶default: 100 true true;;;¶config: 100 true true;;;¶
+@¶modes: «64 a»¶@«64 a»¶ => modes¶ «64 a»@2¶«64 a»: 100 true true;;;¶
+@¶modes: «65 a»¶ => error 6 BadValue config/config.yaml 2 modes¶
+@¶modes:¶ => modes¶¶
+@¶modes:¶@a¶nothing:¶ => modes¶¶note modes/a/config/a.yaml 0 unlisted modes/a/config/a.yaml¶
+@¶modes: []¶ => modes¶¶
+@¶modes:¶  a, a¶ => error 8 Duplicate config/config.yaml 3 a¶
+@¶modes:¶  - a¶  - b¶  - a¶ => error 8 Duplicate config/config.yaml 5 a¶
+@¶modes:¶  - a¶  - machine¶ => error 6 BadValue config/config.yaml 2 modes¶
+@¶modes:¶  - a¶  - b/¶ => error 6 BadValue config/config.yaml 2 modes¶
+@¶modes: [a b]¶ => error 6 BadValue config/config.yaml 2 modes¶
+@¶modes: {a: b}¶ => error 6 BadValue config/config.yaml 2 modes¶
+@¶modes:¶  a: b¶ => error 6 BadValue config/config.yaml 2 modes¶
+@¶modes: a, a, machine¶ => error 8 Duplicate config/config.yaml 2 a¶
+@¶modes: a, machine, a¶ => error 6 BadValue config/config.yaml 2 modes¶
+@¶modes: «65 a »¶ => error 9 Limit config/config.yaml 2 modes¶
+@¶modes: «65 machine »¶ => error 9 Limit config/config.yaml 2 modes¶
+@¶modes: [«1025 a/, »]¶ => error 9 Limit config/config.yaml 2 modes¶
+@¶modes: [«65 a/, »]¶ => error 9 Limit config/config.yaml 2 modes¶
+@¶modes: [«64 a/, »]¶ => error 6 BadValue config/config.yaml 2 modes¶
+@¶modes: [«64 m№, »[a]]¶ => error 9 Limit config/config.yaml 2 modes¶
+@¶modes: [«63 m№, »[a]]¶ => error 6 BadValue config/config.yaml 2 modes¶
+@¶modes: «64 m№, »b/¶ => error 9 Limit config/config.yaml 2 modes¶
+@¶modes: «65 m№, »¶ => error 9 Limit config/config.yaml 2 modes¶
+@¶modes: «64 m№, »¶ => modes¶«64  m№@2»¶«64 note config/config.yaml 2 absent m№¶»
+@¶modes: «64 m№, »¶«64 @m№¶» => modes¶«64  m№@2»¶«64 m№: 100 true true;;;¶»
+@¶modes: a¶@a¶mode:¶  priority: 1000000¶  use_wait_queue: Off¶ => modes¶ a@2¶a: 1000000 true true;;;¶mode¶
+@¶modes: a¶@a¶mode:¶  priority: 0¶  use_wait_queue: FALSE¶ => modes¶ a@2¶a: 0 true true;;;¶mode¶
+@¶modes: a¶@a¶mode:¶  priority: 1000001¶ => error 6 BadValue modes/a/config/a.yaml 3 priority¶
+@¶modes: a¶@a¶mode:¶  priority: -1¶ => error 6 BadValue modes/a/config/a.yaml 3 priority¶
+@¶modes: a¶@a¶mode:¶  use_wait_queue: yes¶ => error 6 BadValue modes/a/config/a.yaml 3 use_wait_queue¶
+@¶modes: a¶@a¶mode:¶  use_wait_queue: True¶ => error 6 BadValue modes/a/config/a.yaml 3 use_wait_queue¶
+@¶modes: a¶@a¶mode:¶  use_wait_queue: oFf¶ => error 6 BadValue modes/a/config/a.yaml 3 use_wait_queue¶
+@¶modes: a¶@a¶mode:¶  start_events: x, y{current_player.score>1}¶ => error 6 BadValue modes/a/config/a.yaml 3 start_events¶
+@¶modes: a¶@a¶mode:¶  stop_events:¶    - x¶    - y/¶ => error 6 BadValue modes/a/config/a.yaml 3 stop_events¶
+@¶modes: a¶@a¶mode:¶  stop_events: [«1025 x, »]¶ => error 9 Limit modes/a/config/a.yaml 3 stop_events¶
+@¶modes: a¶@a¶mode:¶  code: x¶ => error 5 UnknownSetting modes/a/config/a.yaml 3 code¶
+@¶modes: a¶@a¶mode: x¶ => error 6 BadValue modes/a/config/a.yaml 2 mode¶
+@¶modes: a¶@a¶mode: []¶ => error 6 BadValue modes/a/config/a.yaml 2 mode¶
+@¶modes: a¶@a¶event_player:¶  x: y¶  go:¶    - y¶    - z/¶ => error 6 BadValue modes/a/config/a.yaml 4 go¶
+@¶modes: a¶@a¶¶- b¶ => error 6 BadValue modes/a/config/a.yaml 3 -¶
+@¶modes: a¶@a¶b¶ => error 6 BadValue modes/a/config/a.yaml 2 -¶
+@¶modes: a¶@a¶\tmode:¶ => error 3 Yaml modes/a/config/a.yaml 2 Tab¶
+@¶modes: a¶@a¶mode:¶lights:¶mode:¶ => error 3 Yaml modes/a/config/a.yaml 4 DuplicateKey¶
+@¶modes: a¶@a¶modes: b¶ => error 4 UnknownSection modes/a/config/a.yaml 2 modes¶
+@¶modes: a¶@a¶mode:¶switches:¶ => error 4 UnknownSection modes/a/config/a.yaml 3 switches¶
+@¶modes: a¶@a¶coils: x¶ => error 4 UnknownSection modes/a/config/a.yaml 2 coils¶
+@¶mode:¶modes: a¶ => error 4 UnknownSection config/config.yaml 2 mode¶
+@¶modes: a, b¶@b¶coils:¶@a¶switches:¶ => error 4 UnknownSection modes/b/config/b.yaml 2 coils¶
+@¶modes: a, b¶@a¶switches:¶@b¶coils:¶ => error 4 UnknownSection modes/a/config/a.yaml 2 switches¶
+@a¶switches:¶@¶modes: a¶coils:¶ => error 4 UnknownSection config/config.yaml 3 coils¶
+@b¶switches:¶@a¶coils:¶@¶modes: a¶ => error 4 UnknownSection modes/a/config/a.yaml 2 coils¶
+@a¶@b¶@a¶coils:¶@¶modes: a¶ => error 8 Duplicate modes/a/config/a.yaml 1 -¶
+@a¶coils:¶@a¶@¶modes: a¶ => error 4 UnknownSection modes/a/config/a.yaml 2 coils¶
+@b¶@b¶@a¶coils:¶@¶modes: a¶ => error 8 Duplicate modes/b/config/b.yaml 1 -¶
+@a¶coils:¶@b¶@b¶@¶modes: a¶ => error 4 UnknownSection modes/a/config/a.yaml 2 coils¶
+@a¶@a¶@¶modes: a, a¶ => error 8 Duplicate config/config.yaml 2 a¶
+@ modes/a/config/a.yaml¶#config_version=5¶@¶modes: a¶ => error 2 Version modes/a/config/a.yaml 1 -¶
+@a¶@ modes/a/config/a.yaml¶@¶modes: a¶ => error 8 Duplicate modes/a/config/a.yaml 1 -¶
+@¶modes: a, b¶@ modes/a/config/b.yaml¶x¶@ modes/A/config/A.yaml¶ => modes¶ a@2 b@2¶note config/config.yaml 2 absent a¶note config/config.yaml 2 absent b¶note modes/a/config/b.yaml 0 unlisted modes/a/config/b.yaml¶note modes/A/config/A.yaml 0 unlisted modes/A/config/A.yaml¶
+@¶lights:¶modes:¶  - a¶  - b¶¶  - c¶ => modes¶ a@4 b@5 c@7¶note config/config.yaml 2 skipped lights¶note config/config.yaml 4 absent a¶note config/config.yaml 5 absent b¶note config/config.yaml 7 absent c¶
+@¶modes:¶  b, a¶shows:¶ => modes¶ b@3 a@3¶note config/config.yaml 3 absent b¶note config/config.yaml 3 absent a¶note config/config.yaml 4 skipped shows¶
+@¶{lights: 1, modes: [c, a, b], shows: 2}¶@a¶ => modes¶ c@2 a@2 b@2¶a: 100 true true;;;¶note config/config.yaml 2 skipped lights¶note config/config.yaml 2 absent c¶note config/config.yaml 2 absent b¶note config/config.yaml 2 skipped shows¶
+@z¶@b¶shows:¶lights:¶@y¶lights:¶@a¶mode:¶assets:¶@¶sounds:¶modes: a, c, b¶bcp:¶@x¶ => modes¶ a@3 c@3 b@3¶a: 100 true true;;;¶mode¶b: 100 true true;;;¶note config/config.yaml 2 skipped sounds¶note config/config.yaml 3 absent c¶note config/config.yaml 4 skipped bcp¶note modes/a/config/a.yaml 3 skipped assets¶note modes/b/config/b.yaml 2 skipped shows¶note modes/b/config/b.yaml 3 skipped lights¶note modes/z/config/z.yaml 0 unlisted modes/z/config/z.yaml¶note modes/y/config/y.yaml 0 unlisted modes/y/config/y.yaml¶note modes/x/config/x.yaml 0 unlisted modes/x/config/x.yaml¶
+";
+
+// Machine texts and the names of the modes that they list, or the line of their fault.
+const MODE_NAMES: &str = "\
+#config_version=6¶modes: lo, hi.2, a-b¶ => lo¶hi.2¶a-b¶
+#config_version=6¶shows: x¶modes:¶  - c¶  - b¶switches:¶  a:¶ => c¶b¶
+#config_version=6¶modes: «64 m№, »¶ => «64 m№¶»
+#config_version=6¶modes:¶ =>\u{20}
+#config_version=6 =>\u{20}
+\u{20}=> error 2 Version config/config.yaml 1 -¶
+@ config/config.yaml¶#config_version=6¶ => error 2 Version config/config.yaml 1 -¶
+#config_version=6¶modes: a¶@ modes/a/config/a.yaml¶ => error 3 Yaml config/config.yaml 3 NotInSubset¶
+#config_version=6¶modes: a¶- b¶ => error 3 Yaml config/config.yaml 3 NotInSubset¶
+#config_version=6¶- modes¶ => error 6 BadValue config/config.yaml 2 -¶
+#config_version=6¶modes: a¶switches: b¶ => error 6 BadValue config/config.yaml 3 switches¶
+#config_version=6¶modes: a¶mode:¶ => error 4 UnknownSection config/config.yaml 3 mode¶
+#config_version=6¶modes: a, b c/¶ => error 6 BadValue config/config.yaml 2 modes¶
+#config_version=6¶modes: {a: b}¶ => error 6 BadValue config/config.yaml 2 modes¶
+#config_version=6¶modes:¶  - a¶  - a¶ => error 8 Duplicate config/config.yaml 4 a¶
+#config_version=6¶modes: a, a, machine¶ => error 8 Duplicate config/config.yaml 2 a¶
+#config_version=6¶modes: a, machine, a¶ => error 6 BadValue config/config.yaml 2 modes¶
+#config_version=6¶modes: «65 a »¶ => error 9 Limit config/config.yaml 2 modes¶
+#config_version=6¶modes: «65 machine »¶ => error 9 Limit config/config.yaml 2 modes¶
+#config_version=6¶modes: [«1025 a/, »]¶ => error 9 Limit config/config.yaml 2 modes¶
+#config_version=6¶modes: [«65 a/, »]¶ => error 9 Limit config/config.yaml 2 modes¶
+";
+
 fn show_switch(out: &mut String, row: Switch<'_>) -> Result<(), AllocError> {
     write!(
         out,
@@ -93,9 +192,42 @@ fn show_section(out: &mut String, section: &Section) -> Result<(), AllocError> {
     Ok(())
 }
 
-fn show_config(alloc: Global, out: &mut String, config: &Config) -> Result<(), Fail> {
-    for section in &config.machine.sections {
+fn show_machine(out: &mut String, sections: &[Section]) -> Result<(), AllocError> {
+    for section in sections {
         show_section(out, section)?;
+        if section.name.as_slice() == MODES_NAME {
+            show_names(out, listed_modes(sections))?;
+            out.push_str("\n")?;
+        }
+    }
+    Ok(())
+}
+
+fn show_mode(out: &mut String, mode: &ModeText) -> Result<(), AllocError> {
+    let settings = mode_settings(&mode.sections);
+    write!(
+        out,
+        "{}: {} {} {};",
+        utf8(&mode.name),
+        settings.priority,
+        settings.game,
+        settings.stops_with_ball
+    )?;
+    for names in [settings.starts, settings.stops] {
+        show_names(out, names)?;
+        out.push_str(";")?;
+    }
+    out.push_str("\n")?;
+    for section in &mode.sections {
+        show_section(out, section)?;
+    }
+    Ok(())
+}
+
+fn show_config(alloc: Global, out: &mut String, config: &Config) -> Result<(), Fail> {
+    show_machine(out, &config.machine.sections)?;
+    for mode in &config.modes {
+        show_mode(out, mode)?;
     }
     let mut lines = Vec::new(alloc);
     for note in &config.notes {
@@ -104,16 +236,54 @@ fn show_config(alloc: Global, out: &mut String, config: &Config) -> Result<(), F
     Ok(out.push_str(utf8(&lines))?)
 }
 
-/// Adds the sections and notes of a bundle, or its fault.
+// Adds the line of a fault.
+fn show_fault(alloc: Global, out: &mut String, fault: ConfigFault) -> Result<(), Fail> {
+    let ConfigFault::Bundle(fault) = fault else {
+        return Err(AllocError.into());
+    };
+    let mut line = Vec::new(alloc);
+    write_fault(&fault, &mut line)?;
+    Ok(out.push_str(utf8(&line))?)
+}
+
+/// Adds the sections, modes and notes of a bundle, or its fault.
 pub(crate) fn show_bundle(alloc: Global, out: &mut String, bundle: &[u8]) -> Result<(), Fail> {
     match read_bundle(alloc, bundle) {
         Ok(config) => show_config(alloc, out, &config),
-        Err(ConfigFault::Bundle(fault)) => {
-            let mut line = Vec::new(alloc);
-            write_fault(&fault, &mut line)?;
-            Ok(out.push_str(utf8(&line))?)
+        Err(fault) => show_fault(alloc, out, fault),
+    }
+}
+
+// Adds the line of a text of a bundle with its version, where the line is `@M` or `@`, or the line.
+fn add_line(out: &mut String, line: &str) -> Result<(), AllocError> {
+    match line.strip_prefix("@") {
+        Some("") => out.push_str("@ config/config.yaml\n#config_version=6\n"),
+        Some(mode) if !mode.starts_with(" ") => {
+            write!(out, "@ modes/{mode}/config/{mode}.yaml\n#config_version=6\n")
         }
-        Err(ConfigFault::NoMemory) => Err(AllocError.into()),
+        _ => writeln!(out, "{line}"),
+    }
+}
+
+/// Adds the sections, modes and notes of texts that `Subject::Texts` tells, or their fault.
+pub(crate) fn show_texts(alloc: Global, out: &mut String, texts: &str) -> Result<(), Fail> {
+    let mut bundle = String::new(alloc);
+    for line in texts.lines() {
+        add_line(&mut bundle, line)?;
+    }
+    show_bundle(alloc, out, bundle.as_bytes())
+}
+
+/// Adds the names of the modes that a machine text lists, or its fault.
+pub(crate) fn show_mode_names(alloc: Global, out: &mut String, text: &[u8]) -> Result<(), Fail> {
+    match mode_names(alloc, text) {
+        Ok(names) => {
+            for name in &names {
+                writeln!(out, "{}", utf8(name))?;
+            }
+            Ok(())
+        }
+        Err(fault) => show_fault(alloc, out, fault),
     }
 }
 
@@ -121,6 +291,12 @@ pub(crate) fn show_bundle(alloc: Global, out: &mut String, bundle: &[u8]) -> Res
 fn bundles(rt: HostRuntime) -> Result<(), Fail> {
     assert_rows(&rt, Subject::Machine, MACHINES)?;
     assert_rows(&rt, Subject::Bundle, BUNDLES)
+}
+
+#[test]
+fn texts_of_modes(rt: HostRuntime) -> Result<(), Fail> {
+    assert_rows(&rt, Subject::Texts, MODES)?;
+    assert_rows(&rt, Subject::ModeNames, MODE_NAMES)
 }
 
 #[test]

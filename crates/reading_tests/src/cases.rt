@@ -4,7 +4,7 @@
 //! With an allocation refused, by `rt try --test --fail-alloc N`, a test ends with the error of the allocation. An
 //! assertion that fails then shows an answer that came in its place.
 
-use crate::bundles::show_bundle;
+use crate::bundles::{show_bundle, show_mode_names, show_texts};
 use crate::tables::show_pair;
 use crate::values::{Kind, show_nodes, show_value};
 use crate::yaml::{show_bytes, show_length, show_yaml};
@@ -29,6 +29,11 @@ pub(crate) enum Subject {
     Bundle,
     /// Machine texts behind their version line.
     Machine,
+    /// Bundles in which a line `@M` is in place of `@ modes/M/config/M.yaml` and a version line, and
+    /// the line `@` is in place of those of the machine text.
+    Texts,
+    /// Machine texts, of which the names of the modes are shown.
+    ModeNames,
     /// YAML whose first pair is read as an entry by `tables::SETTINGS`.
     Entry,
     /// The same by `tables::NEEDS`.
@@ -37,6 +42,8 @@ pub(crate) enum Subject {
     Players,
     /// YAML whose first pair is a section of a machine.
     Section,
+    /// YAML whose first pair is a section of a mode.
+    ModeSection,
 }
 
 /// The text that these bytes are.
@@ -90,6 +97,8 @@ fn answer(alloc: Global, out: &mut String, subject: Subject, text: &str) -> Resu
             let bundle = format!(in alloc; "@ config/config.yaml\n#config_version=6\n{text}")?;
             show_bundle(alloc, out, bundle.as_bytes())
         }
+        Subject::Texts => show_texts(alloc, out, text),
+        Subject::ModeNames => show_mode_names(alloc, out, text.as_bytes()),
         _ => show_pair(alloc, out, subject, text),
     }
 }

@@ -4,10 +4,10 @@ use crate::cases::{Subject, assert_rows, utf8};
 use section_tables::fault::ConfigFault;
 use section_tables::rows::{Entry, Fields, Handler, Keyed, Name, Plain, Player, Value};
 use section_tables::table::{
-    Absent, Bounds, Field, Kind, Others, PlayerKinds, Scalar, Setting, Without,
+    Absent, Bounds, Field, Kind, Others, PlayerKinds, Scalar, Setting, Shape, Without,
 };
-use section_tables::tables::{player_of, table_of};
-use section_tables::{entries, entry, players};
+use section_tables::tables::{TextKind, shape_of};
+use section_tables::{entries, entry, name_list, players};
 use std::alloc::{AllocError, Global};
 use std::test::Fail;
 use yaml_subset::{Key, Tree, read};
@@ -224,6 +224,42 @@ switches:¶  a: b¶ => BadValue 2 a
 event_player:¶  a: b, c¶  d:¶ => a@2:  b@2 c@2; d@3: ;
 event_player:¶  a{current_player.x==1}: b¶ => BadValue 2 a{current_player.x==1}
 event_player:¶  a: b{current_player.x==1}¶ => BadValue 2 a
+modes:¶ =>\u{20}
+modes: b, a a¶ =>  b@1 a@1 a@1
+modes:¶  - a¶¶  - \"\"¶  - b¶ =>  a@2 b@5
+modes: [«65 m№, »]¶ => «65  m№@1»
+modes: a/b¶ => BadValue 1 modes
+modes:¶  - a¶  - b c¶ => BadValue 1 modes
+modes: {a: b}¶ => BadValue 1 modes
+modes: [«1025 a/, »]¶ => Limit 1 modes
+modes: [«1024 a, »]¶ => «1024  a@1»
+coils:¶ => no section
+mode:¶ => no section
+";
+
+// Texts with one section that a mode has, and its entries or their fault.
+const MODE_SECTIONS: &str = "\
+mode:¶ => mode@1:  |  | 100 | true | true | no
+mode:¶  number: 1¶  tags: a/¶  priority: 0¶  game_mode: No¶ => mode@1:  |  | 0 | false | true | no
+mode:¶  stop_events: a, b¶  start_events:¶    - c¶    - d¶ => mode@1:  c@4 d@5 |  a@2 b@2 | 100 | true | true | no
+mode:¶  stop_on_ball_end: off¶  priority: 1000000¶ => mode@1:  |  | 1000000 | true | false | no
+mode:¶  use_wait_queue: Off¶ => mode@1:  |  | 100 | true | true | Off
+mode: a¶ => BadValue 1 mode
+mode: [a]¶ => BadValue 1 mode
+mode:¶  priority: -1¶ => BadValue 2 priority
+mode:¶  priority: 1000001¶ => BadValue 2 priority
+mode:¶  priority:¶ => BadValue 2 priority
+mode:¶  game_mode: 1¶ => BadValue 2 game_mode
+mode:¶  use_wait_queue: yes¶ => BadValue 2 use_wait_queue
+mode:¶  start_events: a, b{current_player.x==1}¶ => BadValue 2 start_events
+mode:¶  stop_events: {a: b}¶ => BadValue 2 stop_events
+mode:¶  start_events: [«1025 a, »]¶ => Limit 2 start_events
+mode:¶  events_when_started: a¶ => UnknownSetting 2 events_when_started
+event_player:¶  a: b, c¶  d:¶ => a@2:  b@2 c@2; d@3: ;
+event_player:¶  a: b/¶ => BadValue 2 a
+modes: a¶ => no section
+switches:¶ => no section
+coils:¶ => no section
 ";
 
 // ---- what is shown
@@ -361,6 +397,35 @@ fn show_players(out: &mut String, rows: &[Player]) -> Result<(), AllocError> {
 
 // ---- what is read
 
+// Adds what a section of this shape is read as.
+fn show_shape(
+    alloc: Global,
+    out: &mut String,
+    shape: Shape,
+    pair: &(Key, Tree),
+) -> Result<(), ConfigFault> {
+    match shape {
+        Shape::Entries(table) => show_entries(out, &entries(alloc, table, b"t", pair)?)?,
+        Shape::Players(kinds) => show_players(out, &players(alloc, kinds, b"t", pair)?)?,
+        Shape::Entry(table) => show_entry(out, &entry(alloc, table, b"t", pair)?)?,
+        Shape::Names => show_names(out, &name_list(alloc, 1024, b"t", pair)?)?,
+    }
+    Ok(())
+}
+
+// Adds what a section of a text of this kind is read as, or that such a text has none of its name.
+fn show_section(
+    alloc: Global,
+    out: &mut String,
+    kind: TextKind,
+    pair: &(Key, Tree),
+) -> Result<(), ConfigFault> {
+    match shape_of(kind, &pair.0.text) {
+        Some(shape) => show_shape(alloc, out, shape, pair),
+        None => Ok(out.push_str("no section")?),
+    }
+}
+
 // Adds what a pair is read as.
 fn show_rows(
     alloc: Global,
@@ -372,14 +437,8 @@ fn show_rows(
         Subject::Entry => show_entry(out, &entry(alloc, SETTINGS, b"t", pair)?)?,
         Subject::Needs => show_entry(out, &entry(alloc, NEEDS, b"t", pair)?)?,
         Subject::Players => show_players(out, &players(alloc, PLAYER, b"t", pair)?)?,
-        _ => {
-            if let Some(table) = table_of(&pair.0.text) {
-                show_entries(out, &entries(alloc, table, b"t", pair)?)?;
-            }
-            if let Some(kinds) = player_of(&pair.0.text) {
-                show_players(out, &players(alloc, kinds, b"t", pair)?)?;
-            }
-        }
+        Subject::ModeSection => show_section(alloc, out, TextKind::Mode, pair)?,
+        _ => show_section(alloc, out, TextKind::Machine, pair)?,
     }
     Ok(())
 }
@@ -417,6 +476,7 @@ fn entries_by_tables(rt: HostRuntime) -> Result<(), Fail> {
         (Subject::Needs, NEEDED),
         (Subject::Players, PLAYERS),
         (Subject::Section, SECTIONS),
+        (Subject::ModeSection, MODE_SECTIONS),
     ];
     for (subject, table) in tables {
         assert_rows(&rt, subject, table)?;

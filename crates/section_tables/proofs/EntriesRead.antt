@@ -1,19 +1,20 @@
 -- The entries of a section are those that are read, and no others.
-use Rattle.std.proofs.Common.{◌≡◌, ℕ, List, Ok, refl, sym, subst, inl}
+use Rattle.std.proofs.Common.{◌≡◌, ◌<◌, ℕ, List, Ok, refl, sym, subst, inl}
 use Rattle.yaml_subset.specs.Node.{Node, Pair}
 use Rattle.mpf_values.specs.Reading.{is_name}
 use Rattle.mpf_values.proofs.NameTexts.{IsName-from_is_name, is_name-from_IsName}
 use Rattle.section_tables.specs.declared.fault.FaultKind.TheVariants.{BadValue}
-use Rattle.section_tables.specs.Rows.{Plain, Value, Entry, Player}
-use Rattle.section_tables.specs.Kinds.{Setting, PlayerKinds}
+use Rattle.section_tables.specs.Rows.{Written, Plain, Value, Entry, Player}
+use Rattle.section_tables.specs.Kinds.{at_least, Setting, PlayerKinds}
 use Rattle.section_tables.specs.Entries.{pairs_below, is_ignored, written_at}
 use Rattle.section_tables.specs.Tables.{setting_key, setting_default, setting_lacks}
-use Rattle.section_tables.specs.EntryOf.{IsSetting, IsEntry, AreEntries, IsPlayer, ArePlayers}
-use Rattle.section_tables.specs.Reading.{IsReadOrLong, ◌>>=◌, Spot, rows_fault_at, key_spot, expect, each_read, scalar_of, value_at, setting_at, values_at, entry_at, entries_at, player_at, players_at}
+use Rattle.section_tables.specs.EntryOf.{IsWritten, IsSetting, IsEntry, AreEntries, IsPlayer, ArePlayers, AreNamesListed}
+use Rattle.section_tables.specs.Reading.{most_items, IsReadOr, IsReadOrLong, ◌>>=◌, Spot, rows_fault_at, key_spot, expect, each_read, scalar_of, value_at, setting_at, values_at, entry_at, entries_at, player_at, players_at, written_in, names_at}
 use Rattle.section_tables.proofs.Steps.{bind_ok, guard_true, ok_is, expected}
-use Rattle.section_tables.proofs.Outcomes.{then_read, each_sound, each_complete}
+use Rattle.section_tables.proofs.Outcomes.{then_or, each_sound, each_or}
 use Rattle.section_tables.proofs.ScalarTexts.{scalar_sound, scalar_complete}
 use Rattle.section_tables.proofs.RowsRead.{row_sound, row_complete}
+use Rattle.section_tables.proofs.ListValues.{name_sound, name_complete, listed_sound, listed_complete}
 use Rattle.section_tables.proofs.ValuesRead.{value_sound, value_complete}
 
 -- ---- entries
@@ -46,7 +47,7 @@ entry_complete text table p longest e h =
     let row = row_complete setting_key setting_at (IsSetting longest) is_ignored longest (λ s at n v. value_complete longest s.kind at n v) setting_default setting_lacks spot table h.row.pairs e.values
     h.row.overwritten h.row.whole in
     rw (is_name-from_IsName p.key h.is_name, h.row.has)
-    (then_read longest (values_at spot table h.row.pairs) (λ r. Ok (entry_made p r)) e.values e row (inl (λ i. Ok (record { name = sym h.name i; values = e.values }))))
+    (then_or (most_items < longest) (values_at spot table h.row.pairs) (λ r. Ok (entry_made p r)) e.values e row (inl (λ i. Ok (record { name = sym h.name i; values = e.values }))))
 
 pub entries_sound : (text : List ℕ) (table : List Setting) (p : Pair) (es : List Entry) → entries_at text table p ≡ Ok es → AreEntries 1024 table p es
 unfolding entries_at
@@ -57,7 +58,7 @@ entries_sound text table p es e =
 pub entries_complete : (text : List ℕ) (table : List Setting) (p : Pair) (longest : ℕ) (es : List Entry) → AreEntries longest table p es → IsReadOrLong longest (entries_at text table p) es
 unfolding entries_at
 entries_complete text table p longest es h =
-    rw h.1 (each_complete (entry_at text table) (IsEntry longest table) longest (λ x e k. entry_complete text table x longest e k) h.0 es h.2)
+    rw h.1 (each_or (entry_at text table) (IsEntry longest table) (most_items < longest) (λ x e k. entry_complete text table x longest e k) h.0 es h.2)
 
 -- ---- players
 
@@ -78,7 +79,7 @@ player_complete : (text : List ℕ) (kinds : PlayerKinds) (p : Pair) (longest : 
 unfolding player_at
 player_complete text kinds p longest row h =
     rw (scalar_complete kinds.key p.line p.key row.event h.key)
-    (then_read longest (value_at kinds.value (key_spot text p) p.value) (λ value. Ok (player_made row.event value)) row.value row
+    (then_or (most_items < longest) (value_at kinds.value (key_spot text p) p.value) (λ value. Ok (player_made row.event value)) row.value row
     (value_complete longest kinds.value (key_spot text p) p.value row.value h.value) (inl refl))
 
 pub players_sound : (text : List ℕ) (kinds : PlayerKinds) (p : Pair) (rows : List Player) → players_at text kinds p ≡ Ok rows → ArePlayers 1024 kinds p rows
@@ -90,4 +91,14 @@ players_sound text kinds p rows e =
 pub players_complete : (text : List ℕ) (kinds : PlayerKinds) (p : Pair) (longest : ℕ) (rows : List Player) → ArePlayers longest kinds p rows → IsReadOrLong longest (players_at text kinds p) rows
 unfolding players_at
 players_complete text kinds p longest rows h =
-    rw h.1 (each_complete (player_at text kinds) (IsPlayer longest kinds) longest (λ x row k. player_complete text kinds x longest row k) h.0 rows h.2)
+    rw h.1 (each_or (player_at text kinds) (IsPlayer longest kinds) (most_items < longest) (λ x row k. player_complete text kinds x longest row k) h.0 rows h.2)
+
+-- ---- lists of names
+
+pub names_sound : (most : ℕ) (text : List ℕ) (p : Pair) (ws : List Written) → names_at most text p ≡ Ok ws → AreNamesListed most p ws
+unfolding names_at
+names_sound most text p ws e = listed_sound written_in IsWritten name_sound most (at_least 0) (key_spot text p) p.value ws e
+
+pub names_complete : (most : ℕ) (text : List ℕ) (p : Pair) (longest : ℕ) (ws : List Written) → AreNamesListed longest p ws → IsReadOr (most < longest) (names_at most text p) ws
+unfolding names_at
+names_complete most text p longest ws h = listed_complete written_in IsWritten most longest (name_complete (most < longest)) (at_least 0) (key_spot text p) p.value ws h

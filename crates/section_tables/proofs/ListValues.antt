@@ -13,9 +13,9 @@ use Rattle.section_tables.specs.Rows.{Written, Handled, Plain, RowsFault}
 use Rattle.section_tables.specs.Kinds.{Scalar, Bounds, fits}
 use Rattle.section_tables.specs.Entries.{nodes_below, written_at, handled_at}
 use Rattle.section_tables.specs.EntryOf.{IsPlain, AreListed, AreNodes, IsWritten, IsHandled}
-use Rattle.section_tables.specs.Reading.{IsReadOrLong, ◌>>=◌, Spot, rows_fault_at, refused, expect, give, each_read, scalar_of, plain_at, written_in, handled_in, count_at, count_of, list_items_at, listed_at, list_nodes_at, nodes_at}
+use Rattle.section_tables.specs.Reading.{most_items, IsReadOr, IsReadOrLong, ◌>>=◌, Spot, rows_fault_at, refused, expect, give, each_read, scalar_of, plain_at, written_in, handled_in, count_at, count_of, list_items_at, listed_at, list_nodes_at, nodes_at}
 use Rattle.section_tables.proofs.Steps.{bind_ok, guard_true, guard_false, ok_is, expected}
-use Rattle.section_tables.proofs.Outcomes.{then_read, each_sound, each_complete}
+use Rattle.section_tables.proofs.Outcomes.{then_or, each_sound, each_or}
 use Rattle.section_tables.proofs.Counting.{count_few}
 use Rattle.section_tables.proofs.Options.{gave}
 use Rattle.section_tables.proofs.ScalarTexts.{scalar_sound, scalar_complete}
@@ -38,9 +38,9 @@ name_sound spot item w e =
     let a = guard_true (is_name item.text) (Ok (written_at item.line item.text)) (rows_fault_at BadValue spot) w e in
     (IsName-from_is_name item.text a.0, sym (ok_is (written_at item.line item.text) w a.1))
 
-pub name_complete : (longest : ℕ) (spot : Spot) (item : Item) (w : Written) → IsWritten item w → IsReadOrLong longest (written_in spot item) w
+pub name_complete : (Above : Type 0) (spot : Spot) (item : Item) (w : Written) → IsWritten item w → IsReadOr Above (written_in spot item) w
 unfolding written_in
-name_complete longest spot item w h = inl (rw (is_name-from_IsName item.text h.0, h.1) refl)
+name_complete Above spot item w h = inl (rw (is_name-from_IsName item.text h.0, h.1) refl)
 
 pub handled_sound : (spot : Spot) (item : Item) (w : Handled) → handled_in spot item ≡ Ok w → IsHandled item w
 unfolding handled_in
@@ -48,83 +48,85 @@ handled_sound spot item w e =
     let a = gave (handled_at item.line) (event_at item.text) w (expected spot (give (handled_at item.line) (event_at item.text)) w e) in
     (a.0, (event_computes item.text).sound a.0 a.1, a.2)
 
-pub handled_complete : (longest : ℕ) (spot : Spot) (item : Item) (w : Handled) → IsHandled item w → IsReadOrLong longest (handled_in spot item) w
+pub handled_complete : (Above : Type 0) (spot : Spot) (item : Item) (w : Handled) → IsHandled item w → IsReadOr Above (handled_in spot item) w
 unfolding handled_in
-handled_complete longest spot item w h = inl (rw ((event_computes item.text).complete h.0 h.1, h.2) refl)
+handled_complete Above spot item w h = inl (rw ((event_computes item.text).complete h.0 h.1, h.2) refl)
 
 -- ---- how many items
 
-count_sound : (bounds : Bounds) (spot : Spot) (n : ℕ) (u : Unit {0}) → count_at bounds spot n ≡ Ok u → (n ≤ 1024) × (fits bounds n ≡ true)
+count_sound : (most : ℕ) (bounds : Bounds) (spot : Spot) (n : ℕ) (u : Unit {0}) → count_at most bounds spot n ≡ Ok u → (n ≤ most) × (fits bounds n ≡ true)
 unfolding count_at
-count_sound bounds spot n u e =
-    let a = guard_false (nat_lt 1024 n) (if fits bounds n then Ok tt else refused BadValue spot) (rows_fault_at Limit spot) u e in
+count_sound most bounds spot n u e =
+    let a = guard_false (nat_lt most n) (if fits bounds n then Ok tt else refused BadValue spot) (rows_fault_at Limit spot) u e in
     let b = guard_true (fits bounds n) (Ok tt) (rows_fault_at BadValue spot) u a.1 in
-    (ltb-false 1024 n a.0, b.0)
+    (ltb-false most n a.0, b.0)
 
-count_by : (longest : ℕ) (bounds : Bounds) (spot : Spot) (n : ℕ) → n ≤ longest → fits bounds n ≡ true → (long : Bool) → nat_lt 1024 n ≡ long → IsReadOrLong longest (count_at bounds spot n) tt
+count_by : (most longest : ℕ) (bounds : Bounds) (spot : Spot) (n : ℕ) → n ≤ longest → fits bounds n ≡ true → (long : Bool) → nat_lt most n ≡ long
+    → IsReadOr (most < longest) (count_at most bounds spot n) tt
 unfolding count_at
-count_by longest bounds spot n few fit true e =
-    let many : 1024 < n = ltb-true 1024 n e in
-    let above : 1024 < longest = omega (arith, many, few) in
+count_by most longest bounds spot n few fit true e =
+    let many : most < n = ltb-true most n e in
+    let above : most < longest = omega (arith, many, few) in
     inr (above, rw e refl)
-count_by longest bounds spot n few fit false e = inl (rw (e, fit) refl)
+count_by most longest bounds spot n few fit false e = inl (rw (e, fit) refl)
 
-module _ {A : Type 0} (bounds : Bounds) (spot : Spot) (o : Option (List A)) where
+module _ {A : Type 0} (most : ℕ) (bounds : Bounds) (spot : Spot) (o : Option (List A)) where
   abbrev counted : Result (List A) RowsFault
-  counted = expect spot o >>= λ xs. count_at bounds spot (length xs) >>= λ _. Ok xs
+  counted = expect spot o >>= λ xs. count_at most bounds spot (length xs) >>= λ _. Ok xs
 
-  counted_sound : (xs : List A) → counted ≡ Ok xs → (o ≡ Some xs) × (length xs ≤ 1024) × (fits bounds (length xs) ≡ true)
+  counted_sound : (xs : List A) → counted ≡ Ok xs → (o ≡ Some xs) × (length xs ≤ most) × (fits bounds (length xs) ≡ true)
   counted_sound xs e =
-      let a = bind_ok (expect spot o) (λ ys. count_at bounds spot (length ys) >>= λ _. Ok ys) xs e in
-      let b = bind_ok (count_at bounds spot (length a.0)) (λ _. Ok a.0) xs a.2 in
-      let few = count_sound bounds spot (length a.0) b.0 b.1 in
-      subst (λ ys. (o ≡ Some ys) × (length ys ≤ 1024) × (fits bounds (length ys) ≡ true)) (ok_is a.0 xs b.2) (expected spot o a.0 a.1, few.0, few.1)
+      let a = bind_ok (expect spot o) (λ ys. count_at most bounds spot (length ys) >>= λ _. Ok ys) xs e in
+      let b = bind_ok (count_at most bounds spot (length a.0)) (λ _. Ok a.0) xs a.2 in
+      let few = count_sound most bounds spot (length a.0) b.0 b.1 in
+      subst (λ ys. (o ≡ Some ys) × (length ys ≤ most) × (fits bounds (length ys) ≡ true)) (ok_is a.0 xs b.2) (expected spot o a.0 a.1, few.0, few.1)
 
-  counted_complete : (longest : ℕ) (xs : List A) → o ≡ Some xs → length xs ≤ longest → fits bounds (length xs) ≡ true → IsReadOrLong longest counted xs
+  counted_complete : (longest : ℕ) (xs : List A) → o ≡ Some xs → length xs ≤ longest → fits bounds (length xs) ≡ true → IsReadOr (most < longest) counted xs
   counted_complete longest xs is few fit =
-      rw is (then_read longest (count_at bounds spot (length xs)) (λ _. Ok xs) tt xs (count_by longest bounds spot (length xs) few fit (nat_lt 1024 (length xs)) refl) (inl refl))
+      let count = count_by most longest bounds spot (length xs) few fit (nat_lt most (length xs)) refl in
+      rw is (then_or (most < longest) (count_at most bounds spot (length xs)) (λ _. Ok xs) tt xs count (inl refl))
 
 -- ---- lists
 
 module _ {B : Type 0} (f : Spot → Item → Result B RowsFault) (IsOne : Item → B → Type 0) where
-  pub listed_sound : ((spot : Spot) (item : Item) (y : B) → f spot item ≡ Ok y → IsOne item y) → (bounds : Bounds) (spot : Spot) (node : Node) (ys : List B)
-      → listed_at f bounds spot node ≡ Ok ys → AreListed IsOne bounds 1024 node ys
+  pub listed_sound : ((spot : Spot) (item : Item) (y : B) → f spot item ≡ Ok y → IsOne item y) → (most : ℕ) (bounds : Bounds) (spot : Spot) (node : Node) (ys : List B)
+      → listed_at f most bounds spot node ≡ Ok ys → AreListed IsOne bounds most node ys
   unfolding list_items_at
-  listed_sound sound bounds spot node ys e =
-      let a = bind_ok (list_items_at bounds spot node) (each_read (f spot)) ys e in
-      let g = guard_false (nat_lt 1024 (count_of (items_in node))) (counted bounds spot (list_at node)) (rows_fault_at Limit spot) a.0 a.1 in
-      let k = counted_sound bounds spot (list_at node) a.0 g.1 in
+  listed_sound sound most bounds spot node ys e =
+      let a = bind_ok (list_items_at most bounds spot node) (each_read (f spot)) ys e in
+      let g = guard_false (nat_lt most (count_of (items_in node))) (counted most bounds spot (list_at node)) (rows_fault_at Limit spot) a.0 a.1 in
+      let k = counted_sound most bounds spot (list_at node) a.0 g.1 in
       record { items = a.0; list = list_sound node a.0 k.0; few = k.1; fit = k.2; each = each_sound (f spot) IsOne (sound spot) a.0 ys a.2 }
 
-  pub listed_complete : (longest : ℕ) → ((spot : Spot) (item : Item) (y : B) → IsOne item y → IsReadOrLong longest (f spot item) y)
-      → (bounds : Bounds) (spot : Spot) (node : Node) (ys : List B) → AreListed IsOne bounds longest node ys → IsReadOrLong longest (listed_at f bounds spot node) ys
+  pub listed_complete : (most longest : ℕ) → ((spot : Spot) (item : Item) (y : B) → IsOne item y → IsReadOr (most < longest) (f spot item) y)
+      → (bounds : Bounds) (spot : Spot) (node : Node) (ys : List B) → AreListed IsOne bounds longest node ys → IsReadOr (most < longest) (listed_at f most bounds spot node) ys
   unfolding list_items_at
-  listed_complete longest complete bounds spot node ys h =
-      then_read longest (list_items_at bounds spot node) (each_read (f spot)) h.items ys (by (nat_lt 1024 (count_of (items_in node))) refl)
-      (each_complete (f spot) IsOne longest (complete spot) h.items ys h.each)
+  listed_complete most longest complete bounds spot node ys h =
+      then_or (most < longest) (list_items_at most bounds spot node) (each_read (f spot)) h.items ys (by (nat_lt most (count_of (items_in node))) refl)
+      (each_or (f spot) IsOne (most < longest) (complete spot) h.items ys h.each)
     where
       is : list_at node ≡ Some h.items
       is = list_complete node h.items h.list
 
-      by : (long : Bool) → nat_lt 1024 (count_of (items_in node)) ≡ long → IsReadOrLong longest (list_items_at bounds spot node) h.items
+      by : (long : Bool) → nat_lt most (count_of (items_in node)) ≡ long → IsReadOr (most < longest) (list_items_at most bounds spot node) h.items
       by true e =
-          let many : 1024 < count_of (items_in node) = ltb-true 1024 (count_of (items_in node)) e in
-          let above : 1024 < longest = omega (arith, many, count_few node h.items is, h.few) in
+          let many : most < count_of (items_in node) = ltb-true most (count_of (items_in node)) e in
+          let above : most < longest = omega (arith, many, count_few node h.items is, h.few) in
           inr (above, rw e refl)
-      by false e = rw e (counted_complete bounds spot (list_at node) longest h.items is h.few h.fit)
+      by false e = rw e (counted_complete most bounds spot (list_at node) longest h.items is h.few h.fit)
 
 module _ {B : Type 0} (f : Spot → Node → Result B RowsFault) (IsOne : Node → B → Type 0) where
   pub nodes_sound : ((spot : Spot) (node : Node) (y : B) → f spot node ≡ Ok y → IsOne node y) → (bounds : Bounds) (spot : Spot) (node : Node) (ys : List B)
-      → nodes_at f bounds spot node ≡ Ok ys → AreNodes IsOne bounds 1024 node ys
+      → nodes_at f bounds spot node ≡ Ok ys → AreNodes IsOne bounds most_items node ys
   unfolding list_nodes_at
   nodes_sound sound bounds spot node ys e =
       let a = bind_ok (list_nodes_at bounds spot node) (each_read (f spot)) ys e in
-      let k = counted_sound bounds spot (nodes_below node) a.0 a.1 in
+      let k = counted_sound most_items bounds spot (nodes_below node) a.0 a.1 in
       record { nodes = a.0; list = k.0; few = k.1; fit = k.2; each = each_sound (f spot) IsOne (sound spot) a.0 ys a.2 }
 
   pub nodes_complete : (longest : ℕ) → ((spot : Spot) (node : Node) (y : B) → IsOne node y → IsReadOrLong longest (f spot node) y)
       → (bounds : Bounds) (spot : Spot) (node : Node) (ys : List B) → AreNodes IsOne bounds longest node ys → IsReadOrLong longest (nodes_at f bounds spot node) ys
   unfolding list_nodes_at
   nodes_complete longest complete bounds spot node ys h =
-      then_read longest (list_nodes_at bounds spot node) (each_read (f spot)) h.nodes ys (counted_complete bounds spot (nodes_below node) longest h.nodes h.list h.few h.fit)
-      (each_complete (f spot) IsOne longest (complete spot) h.nodes ys h.each)
+      then_or (most_items < longest) (list_nodes_at bounds spot node) (each_read (f spot)) h.nodes ys (counted_complete most_items bounds spot (nodes_below node) longest h.nodes h.list h.few h.fit)
+      (each_or (f spot) IsOne (most_items < longest) (complete spot) h.nodes ys h.each)

@@ -8,10 +8,10 @@ use Rattle.yaml_subset.specs.View.{line_of, text_in}
 use Rattle.mpf_values.specs.Names.{IsName}
 use Rattle.mpf_values.specs.Lists.{Item}
 use Rattle.section_tables.specs.Rows.{Written, Handled, Plain, Keyed, Value, Entry, Player}
-use Rattle.section_tables.specs.Kinds.{Scalar, a_flag, number_within, time_within, a_power, one_of, a_name, an_event, Bounds, Field, Kind, single, name_list, post_list, event_list, step_list, map_list, keyed_maps, Setting, PlayerKinds}
+use Rattle.section_tables.specs.Kinds.{Scalar, a_flag, number_within, time_within, a_power, one_of, a_name, an_event, Bounds, at_least, Field, Kind, single, name_list, post_list, event_list, step_list, map_list, keyed_maps, Setting, PlayerKinds}
 use Rattle.section_tables.specs.Entries.{is_ignored}
 use Rattle.section_tables.specs.Tables.{behind_one, found_in, field_key, field_default, setting_key, setting_default}
-use Rattle.section_tables.specs.EntryOf.{IsScalar, IsPlain, AreListed, AreNodes, IsWritten, IsHandled, OverwritesAt, IsOverwritten, IsField, pass, AreFields, IsKeyedRow, IsKeyed, IsStep, IsValue, IsSetting, IsEntry, AreEntries, IsPlayer, ArePlayers}
+use Rattle.section_tables.specs.EntryOf.{IsScalar, IsPlain, AreListed, AreNodes, AreNamesListed, IsWritten, IsHandled, OverwritesAt, IsOverwritten, IsField, pass, AreFields, IsKeyedRow, IsKeyed, IsStep, IsValue, IsSetting, IsEntry, AreEntries, IsPlayer, ArePlayers}
 use Rattle.section_tables.specs.Named.{IsNamedPlain, IsNamedEvent, AreNames, AreNamedEvents, AreNamedPlains, IsNamedKeyed, IsNamedValue, IsNamedEntry, IsNamedPlayer, AreNamedFields, IsNamedKind, IsNamedTable, IsEventKind, IsNamedKinds, IsShortValue, IsShortEntry, IsShortPlayer, IsShortTable}
 
 -- ---- lists
@@ -199,3 +199,13 @@ pub players_short : (longest : ℕ) (kinds : PlayerKinds) (p : Pair) (rows : Lis
 players_short longest kinds p rows h =
     All-from_recursion (IsShortPlayer longest) rows
     (all_zip (IsPlayer longest kinds) (IsShortPlayer longest) (λ x row k. value_short longest kinds.value x.value row.value k.value) h.0 rows h.2)
+
+-- ---- lists of names
+
+-- Each name that a section lists is one.
+pub names_named : (longest : ℕ) (p : Pair) (ws : List Written) → AreNamesListed longest p ws → AreNames ws
+names_named longest p ws h = written_named (at_least 0) longest p.value ws h
+
+-- It lists no more items than the limit.
+pub names_short : (longest : ℕ) (p : Pair) (ws : List Written) → AreNamesListed longest p ws → length ws ≤ longest
+names_short longest p ws h = listed_short IsWritten (at_least 0) longest p.value ws h

@@ -1,14 +1,14 @@
 -- The row of a mapping by a table is the one that is read, and no other.
-use Rattle.std.proofs.Common.{◌≡◌, ℕ, Bool, true, false, List, [], ◌∷◌, length, map, set, Option, Some, None, Result, Ok, refl, sym, ap, subst, ◌∙◌, inl, arith}
+use Rattle.std.proofs.Common.{◌≡◌, ◌<◌, ℕ, Bool, true, false, List, [], ◌∷◌, length, map, set, Option, Some, None, Result, Ok, refl, sym, ap, subst, ◌∙◌, inl, arith}
 use Rattle.std.proofs.lemmas.List.{length-map, length-set}
 use Rattle.yaml_subset.specs.Node.{Node, Pair}
 use Rattle.section_tables.specs.declared.fault.FaultKind.TheVariants.{UnknownSetting}
 use Rattle.section_tables.specs.Rows.{RowsFault}
 use Rattle.section_tables.specs.Tables.{found_in}
 use Rattle.section_tables.specs.EntryOf.{OverwritesAt, IsOverwritten, IsWhole}
-use Rattle.section_tables.specs.Reading.{IsReadOrLong, Spot, rows_fault_at, key_spot, put_at, overwritten_at, lacking, whole_from, row_at}
+use Rattle.section_tables.specs.Reading.{most_items, IsReadOrLong, Spot, rows_fault_at, key_spot, put_at, overwritten_at, lacking, whole_from, row_at}
 use Rattle.section_tables.proofs.Steps.{bind_ok, guard_true, ok_is}
-use Rattle.section_tables.proofs.Outcomes.{then_read}
+use Rattle.section_tables.proofs.Outcomes.{then_or}
 
 -- ---- nothing lacks
 
@@ -73,19 +73,19 @@ module _ {T V : Type 0} (key_of : T → List ℕ) (value_at : T → Spot → Nod
   module _ (longest : ℕ) (complete : (t : T) (spot : Spot) (node : Node) (v : V) → IsOf t node v → IsReadOrLong longest (value_at t spot node) v) where
     put_complete : (b : Bool) (spot : Spot) (p : Pair) (row next : List V) (o : Option (ℕ × T)) → OverwritesAt IsOf b p row next o → IsReadOrLong longest (put_at value_at b spot p.value row o) next
     put_complete b spot p row next (Some found) h =
-        then_read longest (value_at found.1 spot p.value) (λ v. Ok (set row found.0 v)) h.0 next (complete found.1 spot p.value h.0 h.1) (inl (ap (λ (r : List V). Ok r) (sym h.2)))
+        then_or (most_items < longest) (value_at found.1 spot p.value) (λ v. Ok (set row found.0 v)) h.0 next (complete found.1 spot p.value h.0 h.1) (inl (ap (λ (r : List V). Ok r) (sym h.2)))
     put_complete b spot p row next None h = inl (rw (h.0, h.1) refl)
 
     overwritten_complete : (text : List ℕ) (table : List T) (ps : List Pair) (row made : List V) → IsOverwritten key_of IsOf passes table ps row made → IsReadOrLong longest (overwritten_at key_of value_at passes text table ps row) made
     overwritten_complete text table [] row made h = inl (ap (λ (r : List V). Ok r) (sym h))
     overwritten_complete text table (p ∷ ps) row made h =
         let put = put_at value_at (passes p.key) (key_spot text p) p.value row (found_in key_of p.key table) in
-        then_read longest put (λ next. overwritten_at key_of value_at passes text table ps next) h.0 made
+        then_or (most_items < longest) put (λ next. overwritten_at key_of value_at passes text table ps next) h.0 made
         (put_complete (passes p.key) (key_spot text p) p row h.0 (found_in key_of p.key table) h.1) (overwritten_complete text table ps h.0 made h.2)
 
     pub row_complete : (default_of : T → V) (lacks : T → V → Bool) (spot : Spot) (table : List T) (ps : List Pair) (row : List V) → IsOverwritten key_of IsOf passes table ps (map default_of table) row → IsWhole lacks table row
         → IsReadOrLong longest (row_at key_of value_at passes default_of lacks spot table ps) row
     unfolding row_at
     row_complete default_of lacks spot table ps row made whole =
-        then_read longest (overwritten_at key_of value_at passes spot.text table ps (map default_of table)) (λ r. whole_from spot r (lacking key_of lacks table r)) row row
+        then_or (most_items < longest) (overwritten_at key_of value_at passes spot.text table ps (map default_of table)) (λ r. whole_from spot r (lacking key_of lacks table r)) row row
         (overwritten_complete spot.text table ps (map default_of table) row made) (inl (rw (is_whole key_of lacks table row whole) refl))

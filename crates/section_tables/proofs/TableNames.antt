@@ -1,12 +1,14 @@
--- What holds of each table of the sections: a term for each, in the order of `entry_tables` and `player_tables`.
-use Rattle.std.proofs.Common.{◌≡◌, ℕ, Bool, true, false, cond, List, [], ◌∷◌, Option, Some, None, refl, sym, ap, subst}
+-- What holds of the shape of each section: a term for each, in the order of `machine_shapes` and `mode_shapes`.
+use Rattle.std.proofs.Common.{◌≡◌, ℕ, Bool, true, false, cond, List, [], ◌∷◌, Option, Some, refl, sym, subst}
 use Rattle.std.specs.List.{AllByRecursion}
 use Rattle.std.specs.Str.{bytes_eq}
 use Rattle.std.proofs.lemmas.Option.{same_Some, none-some}
-use Rattle.section_tables.specs.Kinds.{Setting, PlayerKinds}
-use Rattle.section_tables.specs.Named.{IsNamedKinds, IsNamedTable, IsShortTable}
-use Rattle.section_tables.specs.SectionTables.{switches, event_player, entry_tables, player_tables, named_in, table_of, player_of}
-use Rattle.section_tables.specs.TableRules.{IsTable, ArePlayerKinds}
+use Rattle.section_tables.specs.declared.tables.TextKind.{TextKind}
+use Rattle.section_tables.specs.declared.tables.TextKind.TheVariants.{Machine, Mode}
+use Rattle.section_tables.specs.Kinds.{Shape}
+use Rattle.section_tables.specs.Named.{IsNamedKinds, IsNamedTable, IsNamedShape, IsShortTable, IsShortShape}
+use Rattle.section_tables.specs.SectionTables.{switches, mode, event_player, machine_shapes, mode_shapes, named_in, shape_of}
+use Rattle.section_tables.specs.TableRules.{IsRight}
 use Rattle.section_tables.proofs.RowNames.{no_items}
 use Rattle.section_tables.proofs.Steps.{word_is}
 
@@ -29,25 +31,29 @@ switches_named = ((tt, tt), ((tt, tt), ((tt, tt), ((tt, tt), ((tt, tt), tt)))))
 switches_short : (longest : ℕ) → IsShortTable longest switches
 switches_short longest = let none = no_items longest in (none, (none, (none, (none, (none, tt)))))
 
--- ---- tables
+-- ---- `mode`
 
-pub table_named : (section : List ℕ) (table : List Setting) → table_of section ≡ Some table → IsNamedTable table
-table_named section table is = holds_at (λ name t. IsNamedTable t) section table entry_tables is (switches_named, tt)
+mode_named : IsNamedTable mode
+mode_named = ((tt, tt), ((tt, tt), ((tt, tt), ((tt, tt), ((tt, tt), ((tt, tt), tt))))))
 
-pub table_short : (longest : ℕ) (section : List ℕ) (table : List Setting) → table_of section ≡ Some table → IsShortTable longest table
-table_short longest section table is = holds_at (λ name t. IsShortTable longest t) section table entry_tables is (switches_short longest, tt)
+mode_short : (longest : ℕ) → IsShortTable longest mode
+mode_short longest = let none = no_items longest in (none, (none, (none, (none, (none, (none, tt))))))
 
-pub table_right : (section : List ℕ) (table : List Setting) → table_of section ≡ Some table → IsTable table
-table_right section table is = holds_at (λ name t. IsTable t) section table entry_tables is (refl, tt)
+-- ---- `event_player`
 
--- ---- players
+player_named : IsNamedKinds event_player
+player_named = record { key = tt; value = tt }
 
-pub kinds_named : (section : List ℕ) (kinds : PlayerKinds) → player_of section ≡ Some kinds → IsNamedKinds kinds
-kinds_named section kinds is = holds_at (λ name k. IsNamedKinds k) section kinds player_tables is (record { key = tt; value = tt }, tt)
+-- ---- the shapes of sections
 
-pub kinds_right : (section : List ℕ) (kinds : PlayerKinds) → player_of section ≡ Some kinds → ArePlayerKinds kinds
-kinds_right section kinds is = holds_at (λ name k. ArePlayerKinds k) section kinds player_tables is (refl, tt)
+pub shape_named : (text : TextKind) (section : List ℕ) (shape : Shape) → shape_of text section ≡ Some shape → IsNamedShape shape
+shape_named Machine section shape is = holds_at (λ name s. IsNamedShape s) section shape machine_shapes is (tt, (switches_named, (player_named, tt)))
+shape_named Mode section shape is = holds_at (λ name s. IsNamedShape s) section shape mode_shapes is (mode_named, (player_named, tt))
 
--- A section that is a player has no table.
-pub player_has_no_table : (section : List ℕ) (kinds : PlayerKinds) → player_of section ≡ Some kinds → table_of section ≡ None
-player_has_no_table section kinds is = holds_at (λ name k. table_of name ≡ None) section kinds player_tables is (refl, tt)
+pub shape_short : (longest : ℕ) (text : TextKind) (section : List ℕ) (shape : Shape) → shape_of text section ≡ Some shape → IsShortShape longest shape
+shape_short longest Machine section shape is = holds_at (λ name s. IsShortShape longest s) section shape machine_shapes is (tt, (switches_short longest, (tt, tt)))
+shape_short longest Mode section shape is = holds_at (λ name s. IsShortShape longest s) section shape mode_shapes is (mode_short longest, (tt, tt))
+
+pub shape_right : (text : TextKind) (section : List ℕ) (shape : Shape) → shape_of text section ≡ Some shape → IsRight shape
+shape_right Machine section shape is = holds_at (λ name s. IsRight s) section shape machine_shapes is (tt, (refl, (refl, tt)))
+shape_right Mode section shape is = holds_at (λ name s. IsRight s) section shape mode_shapes is (refl, (refl, tt))

@@ -1,5 +1,5 @@
 -- The values of settings are those that are read, and no others.
-use Rattle.std.proofs.Common.{◌≡◌, ℕ, Bool, false, List, map, set, Option, Some, None, Result, Ok, refl, sym, ap, subst, inl}
+use Rattle.std.proofs.Common.{◌≡◌, ◌<◌, ℕ, Bool, false, List, map, set, Option, Some, None, Result, Ok, refl, sym, ap, subst, inl}
 use Rattle.yaml_subset.specs.Node.{Node, Pair}
 use Rattle.yaml_subset.specs.View.{line_of, text_in}
 use Rattle.mpf_values.specs.Reading.{is_name}
@@ -10,9 +10,9 @@ use Rattle.section_tables.specs.Kinds.{Scalar, at_least, Field, Kind, single, na
 use Rattle.section_tables.specs.Entries.{pairs_below, written_at}
 use Rattle.section_tables.specs.Tables.{field_key, field_default, field_lacks}
 use Rattle.section_tables.specs.EntryOf.{IsWritten, IsHandled, IsField, pass, IsFieldRow, AreFields, IsKeyedRow, IsKeyed, AreKeyed, IsStep, IsValue}
-use Rattle.section_tables.specs.Reading.{IsReadOrLong, ◌>>=◌, Spot, rows_fault_at, key_spot, expect, each_read, plain_at, written_in, handled_in, listed_at, nodes_at, field_at, fields_row_at, fields_at, keyed_row_at, keyed_at, keyed_list_at, value_at}
+use Rattle.section_tables.specs.Reading.{most_items, IsReadOrLong, ◌>>=◌, Spot, rows_fault_at, key_spot, expect, each_read, plain_at, written_in, handled_in, listed_at, nodes_at, field_at, fields_row_at, fields_at, keyed_row_at, keyed_at, keyed_list_at, value_at}
 use Rattle.section_tables.proofs.Steps.{bind_ok, guard_true, ok_is, expected}
-use Rattle.section_tables.proofs.Outcomes.{then_read, each_sound, each_complete}
+use Rattle.section_tables.proofs.Outcomes.{then_or, each_sound, each_or}
 use Rattle.section_tables.proofs.ListValues.{plain_sound, plain_complete, name_sound, name_complete, handled_sound, handled_complete, listed_sound, listed_complete, nodes_sound, nodes_complete}
 use Rattle.section_tables.proofs.RowsRead.{row_sound, row_complete}
 
@@ -47,7 +47,7 @@ unfolding fields_at
 fields_complete longest table others spot node m h =
     let at : Spot = record { text = spot.text; line = line_of node; key = spot.key } in
     rw h.row.has
-    (then_read longest (fields_row_at others at table h.row.pairs) (λ r. Ok (fields_made node r)) m.values m (field_row_complete longest table others at node m.values h.row)
+    (then_or (most_items < longest) (fields_row_at others at table h.row.pairs) (λ r. Ok (fields_made node r)) m.values m (field_row_complete longest table others at node m.values h.row)
     (inl (λ i. Ok (record { line = sym h.line i; values = m.values }))))
 
 -- ---- maps of names
@@ -63,7 +63,7 @@ keyed_row_sound table place short spot node row None e =
 keyed_row_complete : (longest : ℕ) (table : List Field) (place : ℕ) (short : Scalar) (spot : Spot) (node : Node) (row : List Plain) (o : Option (List ℕ)) → IsKeyedRow table place short node row o
     → IsReadOrLong longest (keyed_row_at table place short spot node o) row
 keyed_row_complete longest table place short spot node row (Some text) h =
-    then_read longest (plain_at short spot node) (λ v. Ok (set (map field_default table) place v)) h.0 row (plain_complete longest short spot node h.0 h.1) (inl (ap (λ (r : List Plain). Ok r) (sym h.2)))
+    then_or (most_items < longest) (plain_at short spot node) (λ v. Ok (set (map field_default table) place v)) h.0 row (plain_complete longest short spot node h.0 h.1) (inl (ap (λ (r : List Plain). Ok r) (sym h.2)))
 keyed_row_complete longest table place short spot node row None h = rw h.has (field_row_complete longest table false spot node row h)
 
 abbrev keyed_made : Pair → List Plain → Keyed
@@ -84,7 +84,7 @@ unfolding keyed_at
 keyed_complete longest text table place short p k h =
     let spot = key_spot text p in
     rw (is_name-from_IsName p.key h.is_name)
-    (then_read longest (keyed_row_at table place short spot p.value (text_in p.value)) (λ r. Ok (keyed_made p r)) k.values k
+    (then_or (most_items < longest) (keyed_row_at table place short spot p.value (text_in p.value)) (λ r. Ok (keyed_made p r)) k.values k
     (keyed_row_complete longest table place short spot p.value k.values (text_in p.value) h.row) (inl (λ i. Ok (record { name = sym h.name i; values = k.values }))))
 
 keyed_list_sound : (table : List Field) (place : ℕ) (short : Scalar) (spot : Spot) (node : Node) (ks : List Keyed) → keyed_list_at table place short spot node ≡ Ok ks → AreKeyed table place short node ks
@@ -96,15 +96,15 @@ keyed_list_sound table place short spot node ks e =
 keyed_list_complete : (longest : ℕ) (table : List Field) (place : ℕ) (short : Scalar) (spot : Spot) (node : Node) (ks : List Keyed) → AreKeyed table place short node ks → IsReadOrLong longest (keyed_list_at table place short spot node) ks
 unfolding keyed_list_at
 keyed_list_complete longest table place short spot node ks h =
-    rw h.1 (each_complete (keyed_at spot.text table place short) (IsKeyed table place short) longest (keyed_complete longest spot.text table place short) h.0 ks h.2)
+    rw h.1 (each_or (keyed_at spot.text table place short) (IsKeyed table place short) (most_items < longest) (keyed_complete longest spot.text table place short) h.0 ks h.2)
 
 -- ---- steps
 
-step_sound : (spot : Spot) (node : Node) (step : List Handled) → listed_at handled_in (at_least 1) spot node ≡ Ok step → IsStep 1024 node step
-step_sound spot node step e = listed_sound handled_in IsHandled handled_sound (at_least 1) spot node step e
+step_sound : (spot : Spot) (node : Node) (step : List Handled) → listed_at handled_in most_items (at_least 1) spot node ≡ Ok step → IsStep 1024 node step
+step_sound spot node step e = listed_sound handled_in IsHandled handled_sound most_items (at_least 1) spot node step e
 
-step_complete : (longest : ℕ) (spot : Spot) (node : Node) (step : List Handled) → IsStep longest node step → IsReadOrLong longest (listed_at handled_in (at_least 1) spot node) step
-step_complete longest spot node step h = listed_complete handled_in IsHandled longest (handled_complete longest) (at_least 1) spot node step h
+step_complete : (longest : ℕ) (spot : Spot) (node : Node) (step : List Handled) → IsStep longest node step → IsReadOrLong longest (listed_at handled_in most_items (at_least 1) spot node) step
+step_complete longest spot node step h = listed_complete handled_in IsHandled most_items longest (handled_complete (most_items < longest)) (at_least 1) spot node step h
 
 -- ---- settings
 
@@ -118,14 +118,14 @@ pub value_sound : (kind : Kind) (spot : Spot) (node : Node) (v : Value) → valu
 unfolding value_at
 value_sound (single kind) spot node v e = let a = put_in (plain_at kind spot node) one v e in (a.0, plain_sound kind spot node a.0 a.1, a.2)
 value_sound (name_list bounds) spot node v e =
-    let a = put_in (listed_at written_in bounds spot node) names v e in (a.0, listed_sound written_in IsWritten name_sound bounds spot node a.0 a.1, a.2)
+    let a = put_in (listed_at written_in most_items bounds spot node) names v e in (a.0, listed_sound written_in IsWritten name_sound most_items bounds spot node a.0 a.1, a.2)
 value_sound (post_list bounds) spot node v e =
-    let a = put_in (listed_at written_in bounds spot node) posts v e in (a.0, listed_sound written_in IsWritten name_sound bounds spot node a.0 a.1, a.2)
+    let a = put_in (listed_at written_in most_items bounds spot node) posts v e in (a.0, listed_sound written_in IsWritten name_sound most_items bounds spot node a.0 a.1, a.2)
 value_sound (event_list bounds) spot node v e =
-    let a = put_in (listed_at handled_in bounds spot node) events v e in (a.0, listed_sound handled_in IsHandled handled_sound bounds spot node a.0 a.1, a.2)
+    let a = put_in (listed_at handled_in most_items bounds spot node) events v e in (a.0, listed_sound handled_in IsHandled handled_sound most_items bounds spot node a.0 a.1, a.2)
 value_sound (step_list bounds) spot node v e =
-    let a = put_in (nodes_at (listed_at handled_in (at_least 1)) bounds spot node) steps v e in
-    (a.0, nodes_sound (listed_at handled_in (at_least 1)) (IsStep 1024) step_sound bounds spot node a.0 a.1, a.2)
+    let a = put_in (nodes_at (listed_at handled_in most_items (at_least 1)) bounds spot node) steps v e in
+    (a.0, nodes_sound (listed_at handled_in most_items (at_least 1)) (IsStep 1024) step_sound bounds spot node a.0 a.1, a.2)
 value_sound (map_list table others bounds) spot node v e =
     let a = put_in (nodes_at (fields_at table others) bounds spot node) maps v e in
     (a.0, nodes_sound (fields_at table others) (AreFields table others) (fields_sound table others) bounds spot node a.0 a.1, a.2)
@@ -133,20 +133,20 @@ value_sound (keyed_maps table place short) spot node v e =
     let a = put_in (keyed_list_at table place short spot node) keyed v e in (a.0, keyed_list_sound table place short spot node a.0 a.1, a.2)
 
 then_put : {A : Type 0} (longest : ℕ) (r : Result A RowsFault) (made : A → Value) (x : A) (v : Value) → IsReadOrLong longest r x → v ≡ made x → IsReadOrLong longest (r >>= λ y. Ok (made y)) v
-then_put longest r made x v h is = then_read longest r (λ y. Ok (made y)) x v h (inl (ap (λ (z : Value). Ok z) (sym is)))
+then_put longest r made x v h is = then_or (most_items < longest) r (λ y. Ok (made y)) x v h (inl (ap (λ (z : Value). Ok z) (sym is)))
 
 pub value_complete : (longest : ℕ) (kind : Kind) (spot : Spot) (node : Node) (v : Value) → IsValue longest kind node v → IsReadOrLong longest (value_at kind spot node) v
 unfolding value_at
 value_complete longest (single kind) spot node v h = then_put longest (plain_at kind spot node) one h.0 v (plain_complete longest kind spot node h.0 h.1) h.2
 value_complete longest (name_list bounds) spot node v h =
-    then_put longest (listed_at written_in bounds spot node) names h.0 v (listed_complete written_in IsWritten longest (name_complete longest) bounds spot node h.0 h.1) h.2
+    then_put longest (listed_at written_in most_items bounds spot node) names h.0 v (listed_complete written_in IsWritten most_items longest (name_complete (most_items < longest)) bounds spot node h.0 h.1) h.2
 value_complete longest (post_list bounds) spot node v h =
-    then_put longest (listed_at written_in bounds spot node) posts h.0 v (listed_complete written_in IsWritten longest (name_complete longest) bounds spot node h.0 h.1) h.2
+    then_put longest (listed_at written_in most_items bounds spot node) posts h.0 v (listed_complete written_in IsWritten most_items longest (name_complete (most_items < longest)) bounds spot node h.0 h.1) h.2
 value_complete longest (event_list bounds) spot node v h =
-    then_put longest (listed_at handled_in bounds spot node) events h.0 v (listed_complete handled_in IsHandled longest (handled_complete longest) bounds spot node h.0 h.1) h.2
+    then_put longest (listed_at handled_in most_items bounds spot node) events h.0 v (listed_complete handled_in IsHandled most_items longest (handled_complete (most_items < longest)) bounds spot node h.0 h.1) h.2
 value_complete longest (step_list bounds) spot node v h =
-    then_put longest (nodes_at (listed_at handled_in (at_least 1)) bounds spot node) steps h.0 v
-    (nodes_complete (listed_at handled_in (at_least 1)) (IsStep longest) longest (step_complete longest) bounds spot node h.0 h.1) h.2
+    then_put longest (nodes_at (listed_at handled_in most_items (at_least 1)) bounds spot node) steps h.0 v
+    (nodes_complete (listed_at handled_in most_items (at_least 1)) (IsStep longest) longest (step_complete longest) bounds spot node h.0 h.1) h.2
 value_complete longest (map_list table others bounds) spot node v h =
     then_put longest (nodes_at (fields_at table others) bounds spot node) maps h.0 v
     (nodes_complete (fields_at table others) (AreFields table others) longest (fields_complete longest table others) bounds spot node h.0 h.1) h.2

@@ -159,3 +159,9 @@ pub record IsPlayer (longest : ℕ) (kinds : PlayerKinds) (p : Pair) (row : Play
 -- the entries of a player
 abbrev pub ArePlayers : ℕ → PlayerKinds → Pair → List Player → Type 0
 ArePlayers longest kinds p rows = (pairs : List Pair) × (pairs_below p.value ≡ Some pairs) × AllZip (IsPlayer longest kinds) pairs rows
+
+-- ---- lists of names
+
+-- the names that a section lists
+abbrev pub AreNamesListed : ℕ → Pair → List Written → Type 0
+AreNamesListed longest p ws = AreListed IsWritten (at_least 0) longest p.value ws

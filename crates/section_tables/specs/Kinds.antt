@@ -54,3 +54,11 @@ Setting = KeyRule Kind Value
 pub record PlayerKinds : Type 0 where
   pub key : Scalar
   pub value : Kind
+
+-- how a section is written: entries with the settings of a table, those of a player, one entry that is the section itself,
+-- or a list of names
+pub data Shape : Type 0 where
+  by_entries : List Setting → Shape
+  by_players : PlayerKinds → Shape
+  by_entry : List Setting → Shape
+  by_names : Shape

@@ -3,7 +3,7 @@ use Rattle.std.specs.Prelude.{ℕ, ◌≤◌, List, [], length}
 use Rattle.std.specs.List.{All, AllByRecursion}
 use Rattle.mpf_values.specs.Names.{IsName}
 use Rattle.section_tables.specs.Rows.{Written, Handled, Plain, name, event, Keyed, Value, one, names, posts, events, steps, maps, keyed, Entry, Player}
-use Rattle.section_tables.specs.Kinds.{Scalar, a_name, an_event, Field, Kind, map_list, keyed_maps, Setting, PlayerKinds}
+use Rattle.section_tables.specs.Kinds.{Scalar, a_name, an_event, Field, Kind, map_list, keyed_maps, Setting, PlayerKinds, Shape, by_entries, by_players, by_entry, by_names}
 use Rattle.section_tables.specs.Tables.{field_default, setting_default}
 
 -- ---- names
@@ -72,6 +72,12 @@ pub record IsNamedKinds (kinds : PlayerKinds) : Type 0 where
   pub key : IsEventKind kinds.key
   pub value : IsNamedKind kinds.value
 
+abbrev pub IsNamedShape : Shape → Type 0
+IsNamedShape (by_entries table) = IsNamedTable table
+IsNamedShape (by_players kinds) = IsNamedKinds kinds
+IsNamedShape (by_entry table) = IsNamedTable table
+IsNamedShape by_names = Unit {0}
+
 -- ---- limits
 
 -- how many items the list has that a value is
@@ -102,3 +108,9 @@ IsShortPlayer longest row = IsShortValue longest row.value
 -- nor in what holds by default in a table
 abbrev pub IsShortTable : ℕ → List Setting → Type 0
 IsShortTable longest = AllByRecursion (λ s. IsShortValue longest (setting_default s))
+
+abbrev pub IsShortShape : ℕ → Shape → Type 0
+IsShortShape longest (by_entries table) = IsShortTable longest table
+IsShortShape longest (by_players kinds) = Unit {0}
+IsShortShape longest (by_entry table) = IsShortTable longest table
+IsShortShape longest by_names = Unit {0}

@@ -79,9 +79,13 @@ written_in spot item = if is_name item.text then Ok (written_at item.line item.t
 unfoldable pub handled_in : Spot → Item → Result Handled RowsFault
 handled_in spot item = expect spot (give (handled_at item.line) (event_at item.text))
 
--- a list may have so many items: at most 1,024, and as many as its bounds say
-unfoldable pub count_at : Bounds → Spot → ℕ → Result (Unit {0}) RowsFault
-count_at bounds spot n = if nat_lt 1024 n then refused Limit spot else (if fits bounds n then Ok tt else refused BadValue spot)
+-- the most items of a list of a setting
+abbrev pub most_items : ℕ
+most_items = 1024
+
+-- a list may have so many items: no more than the most, and as many as its bounds say
+unfoldable pub count_at : ℕ → Bounds → Spot → ℕ → Result (Unit {0}) RowsFault
+count_at most bounds spot n = if nat_lt most n then refused Limit spot else (if fits bounds n then Ok tt else refused BadValue spot)
 
 -- whether a node of a YAML list counts as an item, good or bad: all do but the empty text
 unfoldable pub counts : Node → Bool
@@ -93,18 +97,18 @@ count_of (Some nodes) = length (filter counts nodes)
 count_of None = 0
 
 -- the items of a list; it is too long first of all, whatever its items are
-unfoldable pub list_items_at : Bounds → Spot → Node → Result (List Item) RowsFault
-list_items_at bounds spot node =
-    if nat_lt 1024 (count_of (items_in node)) then refused Limit spot
-    else (expect spot (list_at node) >>= λ items. count_at bounds spot (length items) >>= λ _. Ok items)
+unfoldable pub list_items_at : ℕ → Bounds → Spot → Node → Result (List Item) RowsFault
+list_items_at most bounds spot node =
+    if nat_lt most (count_of (items_in node)) then refused Limit spot
+    else (expect spot (list_at node) >>= λ items. count_at most bounds spot (length items) >>= λ _. Ok items)
 
 -- what f gives for each
-abbrev pub listed_at : {B : Type 0} → (Spot → Item → Result B RowsFault) → Bounds → Spot → Node → Result (List B) RowsFault
-listed_at f bounds spot node = list_items_at bounds spot node >>= λ items. each_read (f spot) items
+abbrev pub listed_at : {B : Type 0} → (Spot → Item → Result B RowsFault) → ℕ → Bounds → Spot → Node → Result (List B) RowsFault
+listed_at f most bounds spot node = list_items_at most bounds spot node >>= λ items. each_read (f spot) items
 
 -- the nodes of a YAML list
 unfoldable pub list_nodes_at : Bounds → Spot → Node → Result (List Node) RowsFault
-list_nodes_at bounds spot node = expect spot (nodes_below node) >>= λ nodes. count_at bounds spot (length nodes) >>= λ _. Ok nodes
+list_nodes_at bounds spot node = expect spot (nodes_below node) >>= λ nodes. count_at most_items bounds spot (length nodes) >>= λ _. Ok nodes
 
 -- what f gives for each
 abbrev pub nodes_at : {B : Type 0} → (Spot → Node → Result B RowsFault) → Bounds → Spot → Node → Result (List B) RowsFault
@@ -169,10 +173,10 @@ keyed_list_at table place short spot node = expect spot (pairs_below node) >>= �
 
 unfoldable pub value_at : Kind → Spot → Node → Result Value RowsFault
 value_at (single kind) spot node = plain_at kind spot node >>= λ x. Ok (one x)
-value_at (name_list bounds) spot node = listed_at written_in bounds spot node >>= λ xs. Ok (names xs)
-value_at (post_list bounds) spot node = listed_at written_in bounds spot node >>= λ xs. Ok (posts xs)
-value_at (event_list bounds) spot node = listed_at handled_in bounds spot node >>= λ xs. Ok (events xs)
-value_at (step_list bounds) spot node = nodes_at (listed_at handled_in (at_least 1)) bounds spot node >>= λ xs. Ok (steps xs)
+value_at (name_list bounds) spot node = listed_at written_in most_items bounds spot node >>= λ xs. Ok (names xs)
+value_at (post_list bounds) spot node = listed_at written_in most_items bounds spot node >>= λ xs. Ok (posts xs)
+value_at (event_list bounds) spot node = listed_at handled_in most_items bounds spot node >>= λ xs. Ok (events xs)
+value_at (step_list bounds) spot node = nodes_at (listed_at handled_in most_items (at_least 1)) bounds spot node >>= λ xs. Ok (steps xs)
 value_at (map_list table others bounds) spot node = nodes_at (fields_at table others) bounds spot node >>= λ xs. Ok (maps xs)
 value_at (keyed_maps table place short) spot node = keyed_list_at table place short spot node >>= λ xs. Ok (keyed xs)
 
@@ -205,8 +209,16 @@ player_at text kinds p =
 unfoldable pub players_at : List ℕ → PlayerKinds → Pair → Result (List Player) RowsFault
 players_at text kinds p = expect (key_spot text p) (pairs_below p.value) >>= λ pairs. each_read (player_at text kinds) pairs
 
+-- the names that a section lists, of which there may be so many
+unfoldable pub names_at : ℕ → List ℕ → Pair → Result (List Written) RowsFault
+names_at most text p = listed_at written_in most (at_least 0) (key_spot text p) p.value
+
 -- ---- what reading finds
 
--- it is read, or it fails where lists may have more items than the limit
+-- it is read, or it fails where what is above the limits
+abbrev pub IsReadOr : {B : Type 0} → Type 0 → Result B RowsFault → B → Type 0
+IsReadOr Above r y = (r ≡ Ok y) ⊎ (Above × (is_ok r ≡ false))
+
+-- so it is where lists may have more items than the limit
 abbrev pub IsReadOrLong : {B : Type 0} → ℕ → Result B RowsFault → B → Type 0
-IsReadOrLong longest r y = (r ≡ Ok y) ⊎ ((1024 < longest) × (is_ok r ≡ false))
+IsReadOrLong longest = IsReadOr (most_items < longest)

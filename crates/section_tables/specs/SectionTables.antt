@@ -2,7 +2,9 @@
 use Rattle.std.specs.Prelude.{ℕ, pos, true, if◌then◌else◌, List, [], ◌∷◌, Option, Some, None, codes}
 use Rattle.std.specs.Str.{bytes_eq}
 use Rattle.section_tables.specs.Rows.{flag, number, word, one, names, posts}
-use Rattle.section_tables.specs.Kinds.{a_flag, number_within, one_of, a_name, at_least, Absent, default, KeyRule, single, name_list, post_list, Setting, PlayerKinds}
+use Rattle.section_tables.specs.declared.tables.TextKind.{TextKind}
+use Rattle.section_tables.specs.declared.tables.TextKind.TheVariants.{Machine, Mode}
+use Rattle.section_tables.specs.Kinds.{a_flag, number_within, one_of, a_name, at_least, Absent, default, KeyRule, single, name_list, post_list, Setting, PlayerKinds, Shape, by_entries, by_players, by_entry, by_names}
 
 abbrev row : {K V : Type 0} → List ℕ → K → Absent V → KeyRule K V
 row key kind absent = record { key = key; kind = kind; absent = absent }
@@ -34,7 +36,7 @@ switches =
 abbrev yes : List ℕ → Setting
 yes key = row key (single a_flag) (default (one (flag true)))
 
--- Of a mode itself. Its use of a wait queue can only be denied, so far.
+-- The settings of a mode itself. `use_wait_queue` can only be no.
 abbrev pub mode : List Setting
 mode =
     naming (codes "start_events")
@@ -65,23 +67,23 @@ modes_name = codes "modes"
 abbrev pub mode_name : List ℕ
 mode_name = codes "mode"
 
--- the sections that have entries, each with its table
-abbrev pub entry_tables : List (List ℕ × List Setting)
-entry_tables = (switches_name, switches) ∷ []
+-- the sections of the machine text, each with how it is written
+abbrev pub machine_shapes : List (List ℕ × Shape)
+machine_shapes = (modes_name, by_names) ∷ (switches_name, by_entries switches) ∷ (event_player_name, by_players event_player) ∷ []
 
--- the players, each with the kinds of its keys and values
-abbrev pub player_tables : List (List ℕ × PlayerKinds)
-player_tables = (event_player_name, event_player) ∷ []
+-- those of the text of a mode
+abbrev pub mode_shapes : List (List ℕ × Shape)
+mode_shapes = (mode_name, by_entry mode) ∷ (event_player_name, by_players event_player) ∷ []
+
+abbrev pub shapes_in : TextKind → List (List ℕ × Shape)
+shapes_in Machine = machine_shapes
+shapes_in Mode = mode_shapes
 
 -- what belongs to a name
 abbrev pub named_in : {A : Type 0} → List ℕ → List (List ℕ × A) → Option A
 named_in section [] = None
 named_in section (t ∷ ts) = if bytes_eq section t.0 then Some t.1 else named_in section ts
 
--- the table of the entries of a section
-abbrev pub table_of : List ℕ → Option (List Setting)
-table_of section = named_in section entry_tables
-
--- the kinds of a player's keys and values
-abbrev pub player_of : List ℕ → Option PlayerKinds
-player_of section = named_in section player_tables
+-- how a section of a text of this kind is written
+abbrev pub shape_of : TextKind → List ℕ → Option Shape
+shape_of text section = named_in section (shapes_in text)

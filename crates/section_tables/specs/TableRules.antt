@@ -4,7 +4,7 @@ use Rattle.std.specs.List.{list_any, list_all}
 use Rattle.std.specs.Str.{bytes_eq}
 use Rattle.mpf_values.specs.Reading.{is_name}
 use Rattle.section_tables.specs.Rows.{Plain, nothing, flag, number, time, power, word, name, event, Value, one, names, posts, events, maps}
-use Rattle.section_tables.specs.Kinds.{Scalar, a_flag, number_within, time_within, a_power, one_of, a_name, an_event, Absent, required, default, fits, Field, Kind, single, name_list, post_list, event_list, map_list, keyed_maps, Setting, PlayerKinds}
+use Rattle.section_tables.specs.Kinds.{Scalar, a_flag, number_within, time_within, a_power, one_of, a_name, an_event, Absent, required, default, fits, Field, Kind, single, name_list, post_list, event_list, map_list, keyed_maps, Setting, PlayerKinds, Shape, by_entries, by_players, by_entry, by_names}
 use Rattle.section_tables.specs.Tables.{field_key, setting_key}
 use Rattle.section_tables.specs.EntryOf.{within}
 
@@ -67,3 +67,10 @@ is_event_kind _ = false
 
 abbrev pub ArePlayerKinds : PlayerKinds → Type 0
 ArePlayerKinds kinds = (is_event_kind kinds.key && has_fields kinds.value) ≡ true
+
+-- what the shape of a section says is right
+abbrev pub IsRight : Shape → Type 0
+IsRight (by_entries table) = IsTable table
+IsRight (by_players kinds) = ArePlayerKinds kinds
+IsRight (by_entry table) = IsTable table
+IsRight by_names = Unit {0}

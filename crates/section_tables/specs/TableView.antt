@@ -15,8 +15,10 @@ use Rattle.section_tables.specs.declared.table.Without as withouts
 use Rattle.section_tables.specs.declared.table.Without.TheVariants as without
 use Rattle.section_tables.specs.declared.table.Setting as settings
 use Rattle.section_tables.specs.declared.table.PlayerKinds as players
+use Rattle.section_tables.specs.declared.table.Shape as shapes
+use Rattle.section_tables.specs.declared.table.Shape.TheVariants as shape
 use Rattle.section_tables.specs.Rows.{Plain, nothing, flag, number, time, power, word, name, Value, one, names, posts, events, maps}
-use Rattle.section_tables.specs.Kinds.{Scalar, a_flag, number_within, time_within, a_power, one_of, a_name, an_event, Bounds, at_least, between, Absent, required, default, Field, Kind, single, name_list, post_list, event_list, step_list, map_list, keyed_maps, Setting, PlayerKinds}
+use Rattle.section_tables.specs.Kinds.{Scalar, a_flag, number_within, time_within, a_power, one_of, a_name, an_event, Bounds, at_least, between, Absent, required, default, Field, Kind, single, name_list, post_list, event_list, step_list, map_list, keyed_maps, Setting, PlayerKinds, Shape, by_entries, by_players, by_entry, by_names}
 use Rattle.section_tables.specs.Entries.{written_at, handled_at}
 
 abbrev pub scalar_view : scalars.Scalar → Scalar
@@ -78,3 +80,9 @@ table_view = map setting_view
 
 abbrev pub player_kinds_view : players.PlayerKinds → PlayerKinds
 player_kinds_view k = record { key = scalar_view k.key; value = kind_view k.value }
+
+abbrev pub shape_view : shapes.Shape → Shape
+shape_view (shape.Entries table) = by_entries (table_view table.now)
+shape_view (shape.Players k) = by_players (player_kinds_view k)
+shape_view (shape.Entry table) = by_entry (table_view table.now)
+shape_view shape.Names = by_names

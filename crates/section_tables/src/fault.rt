@@ -17,15 +17,15 @@ pub enum FaultKind {
     Version,
     /// The text is not in the subset of YAML that is read.
     Yaml(YamlKind),
-    /// No section of this name is carried out or skipped.
+    /// A text of this kind has no section of this name, and it is not skipped.
     UnknownSection,
     /// The section has no such setting.
     UnknownSetting,
-    /// The value is not one that the setting takes, or a name is none.
+    /// The setting does not take this value, or a name is not allowed.
     BadValue,
     /// A setting that is required is not written.
     Missing,
-    /// An earlier text has this name.
+    /// An earlier text has this name, or the mode is listed before.
     Duplicate,
     /// The bundle or a list is above its limit.
     Limit,

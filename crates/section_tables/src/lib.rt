@@ -2,7 +2,8 @@
 //!
 //! A table says for each setting its key, of which kind its value is, and what holds where it is
 //! not written. One reader serves all tables: [`entries`] for the entries of a section, [`entry`]
-//! for a section that is one entry itself, and [`players`] for sections whose keys are events.
+//! for a section that is one entry itself, [`players`] for sections whose keys are events, and
+//! [`name_list`] for a section that is a list of names. [`tables::shape_of`] says which it is.
 #![tactic(auto)]
 
 mod each;
@@ -20,5 +21,5 @@ pub mod table;
 pub mod tables;
 
 pub use handling::players;
-pub use sections::{entries, entry};
+pub use sections::{entries, entry, name_list};
 pub use settings::is_one_of;

@@ -5,7 +5,7 @@ ghost use Rattle.yaml_subset.specs.View.{node_view};
 ghost use Rattle.mpf_values.specs.Reading.{list_at};
 ghost use Rattle.mpf_values.specs.View.{item_view, items_view};
 ghost use Rattle.section_tables.specs.Kinds.{fits};
-ghost use Rattle.section_tables.specs.Reading.{count_at, counts, written_in, handled_in, list_items_at, listed_at};
+ghost use Rattle.section_tables.specs.Reading.{most_items, count_at, counts, written_in, handled_in, list_items_at, listed_at};
 ghost use Rattle.section_tables.specs.TableView.{bounds_view};
 ghost use Rattle.section_tables.specs.View.{name_view, names_view, handler_view, handlers_view, spot_view, GivesRows};
 
@@ -19,8 +19,8 @@ use mpf_values::{Item, ListFault, event, list};
 use std::alloc::Global;
 use yaml_subset::tree::Tree;
 
-/// The most items of a list.
-const MAX_ITEMS: usize = 1024;
+/// The most items of a list of a setting.
+pub const MAX_ITEMS: usize = 1024;
 
 impl Bounds {
     // Whether a list may have so many items.
@@ -34,18 +34,19 @@ impl Bounds {
     }
 }
 
-/// A fault at the spot, if a list may not have so many items: `Limit` above 1,024, and `BadValue`
-/// outside the bounds.
+/// A fault at the spot, if a list may not have so many items: `Limit` above the most that it may
+/// have, and `BadValue` outside the bounds.
 #[tactic(auto, unfolding(crate::specs::Reading::count_at))]
 pub fn check_count(
     alloc: Global,
     spot: Spot<'_>,
+    most: usize,
     bounds: Bounds,
     count: usize,
 ) -> Result<(), ConfigFault>
-    ensures { GivesRows (λ _. tt) result (count_at (bounds_view bounds) (spot_view spot.entry) count) }
+    ensures { GivesRows (λ _. tt) result (count_at most (bounds_view bounds) (spot_view spot.entry) count) }
 {
-    if count > MAX_ITEMS {
+    if count > most {
         return Err(ConfigFault::Bundle(spot.fault(alloc, FaultKind::Limit)?));
     }
     if !bounds.fits(count) {
@@ -81,13 +82,14 @@ fn is_empty(node: &Tree) -> bool
 fn items<'a>(
     alloc: Global,
     spot: Spot<'_>,
+    most: usize,
     bounds: Bounds,
     value: &'a Tree,
 ) -> Result<Vec<Item<'a>>, ConfigFault>
-    ensures { GivesRows (λ items. items_view items.items) result (list_items_at (bounds_view bounds) (spot_view spot.entry) (node_view value.now)) }
+    ensures { GivesRows (λ items. items_view items.items) result (list_items_at most (bounds_view bounds) (spot_view spot.entry) (node_view value.now)) }
 {
     if let Some(nodes) = value.as_list()
-        && item_count(nodes) > MAX_ITEMS
+        && item_count(nodes) > most
     {
         return Err(ConfigFault::Bundle(spot.fault(alloc, FaultKind::Limit)?));
     }
@@ -98,7 +100,7 @@ fn items<'a>(
             return Err(ConfigFault::Bundle(spot.fault(alloc, FaultKind::BadValue)?));
         }
     };
-    check_count(alloc, spot, bounds, items.len())?;
+    check_count(alloc, spot, most, bounds, items.len())?;
     Ok(items)
 }
 
@@ -127,17 +129,18 @@ fn item_handler(alloc: Global, spot: Spot<'_>, item: Item<'_>) -> Result<Handler
 }
 
 /// The names in a list, each with the line where it is written. The first fault is at the spot:
-/// `Limit` if the list has more than 1,024 items, whatever they are; `BadValue` if the value is no
-/// list, has more or fewer items than the bounds say, or an item is no name.
+/// `Limit` if the list has more items than the most that it may have, whatever they are; `BadValue`
+/// if the value is no list, has more or fewer items than the bounds say, or an item is no name.
 pub fn names(
     alloc: Global,
     spot: Spot<'_>,
+    most: usize,
     bounds: Bounds,
     value: &Tree,
 ) -> Result<Vec<Name>, ConfigFault>
-    ensures { GivesRows names_view result (listed_at written_in (bounds_view bounds) (spot_view spot.entry) (node_view value.now)) }
+    ensures { GivesRows names_view result (listed_at written_in most (bounds_view bounds) (spot_view spot.entry) (node_view value.now)) }
 {
-    let items = items(alloc, spot, bounds, value)?;
+    let items = items(alloc, spot, most, bounds, value)?;
     each(
         alloc,
         &items,
@@ -147,16 +150,16 @@ pub fn names(
     )
 }
 
-/// The handled events in a list, with the faults of [`names`].
+/// The handled events in a list, with the faults of [`names`] at 1,024 items.
 pub fn handlers(
     alloc: Global,
     spot: Spot<'_>,
     bounds: Bounds,
     value: &Tree,
 ) -> Result<Vec<Handler>, ConfigFault>
-    ensures { GivesRows handlers_view result (listed_at handled_in (bounds_view bounds) (spot_view spot.entry) (node_view value.now)) }
+    ensures { GivesRows handlers_view result (listed_at handled_in most_items (bounds_view bounds) (spot_view spot.entry) (node_view value.now)) }
 {
-    let items = items(alloc, spot, bounds, value)?;
+    let items = items(alloc, spot, MAX_ITEMS, bounds, value)?;
     each(
         alloc,
         &items,

@@ -8,7 +8,7 @@ ghost use Rattle.section_tables.specs.TableView.{bounds_view};
 ghost use Rattle.section_tables.specs.View.{spot_view, pairs_in_view, nodes_in_view, GivesRows};
 
 use crate::fault::{ConfigFault, FaultKind};
-use crate::lists::check_count;
+use crate::lists::{MAX_ITEMS, check_count};
 use crate::spot::Spot;
 use crate::table::Bounds;
 use std::alloc::Global;
@@ -69,6 +69,6 @@ pub fn nodes<'a>(
     let Some(nodes) = nodes_of(tree) else {
         return Err(ConfigFault::Bundle(spot.fault(alloc, FaultKind::BadValue)?));
     };
-    check_count(alloc, spot, bounds, nodes.len())?;
+    check_count(alloc, spot, MAX_ITEMS, bounds, nodes.len())?;
     Ok(nodes)
 }

@@ -65,7 +65,7 @@ pub struct Keyed {
 #[derive(Drop)]
 pub enum Value {
     One(Plain),
-    /// Names of other things than events.
+    /// Names: tags, or the events that start or stop a mode.
     Names(Vec<Name>),
     /// Names of events that are posted.
     Posts(Vec<Name>),

@@ -1,21 +1,22 @@
-//! Entries of a section, each read by the table of the section.
+//! Sections that are read by a table or as a list: entries, one entry, or names.
 
 ghost use Rattle.std.specs.Prelude.{◌≡◌, ◌≢◌, ℕ, ◌<◌, List, IfOk, IfErr};
 ghost use Rattle.yaml_subset.specs.View.{pair_view};
-ghost use Rattle.section_tables.specs.Rows.{Entry as Row};
-ghost use Rattle.section_tables.specs.EntryOf.{IsEntry, AreEntries};
-ghost use Rattle.section_tables.specs.Reading.{entry_at, entries_at};
+ghost use Rattle.section_tables.specs.Rows.{Entry as Row, Written};
+ghost use Rattle.section_tables.specs.EntryOf.{IsEntry, AreEntries, AreNamesListed};
+ghost use Rattle.section_tables.specs.Reading.{entry_at, entries_at, names_at};
 ghost use Rattle.section_tables.specs.TableView.{table_view};
-ghost use Rattle.section_tables.specs.View.{entry_view, entries_view, GivesRows};
+ghost use Rattle.section_tables.specs.View.{names_view, entry_view, entries_view, GivesRows};
 
 use crate::each::each;
 use crate::fault::{ConfigFault, FaultKind};
+use crate::lists::names;
 use crate::nodes::pairs;
-use crate::rows::Entry;
+use crate::rows::{Entry, Name};
 use crate::scalars::{is_name, name_of};
 use crate::settings::values;
 use crate::spot::spot_of;
-use crate::table::Setting;
+use crate::table::{Bounds, Setting};
 use std::alloc::Global;
 use yaml_subset::tree::{Key, Tree};
 
@@ -57,6 +58,25 @@ fn read_entries(
         |pair|
             ensures { GivesRows entry_view result (entry_at text.entry.now (table_view table.entry.now) (pair_view pair.now)) }
         { read_entry(alloc, table, text, pair) },
+    )
+}
+
+// The names that a section lists, at most so many; or the first fault.
+#[tactic(auto, unfolding(crate::specs::Reading::names_at))]
+fn read_names(
+    alloc: Global,
+    most: usize,
+    text: &[u8],
+    pair: &(Key, Tree),
+) -> Result<Vec<Name>, ConfigFault>
+    ensures { GivesRows names_view result (names_at most text.now (pair_view pair.now)) }
+{
+    names(
+        alloc,
+        spot_of(text, &pair.0),
+        most,
+        Bounds::AtLeast(0),
+        &pair.1,
     )
 }
 
@@ -114,4 +134,32 @@ pub fn entries(
     ensures exact { GivesRows entries_view result (entries_at text.now (table_view table.now) (pair_view pair.now)) }
 {
     read_entries(alloc, table, text, pair)
+}
+
+/// The names that a section lists, at most so many, in the text of this name, each with the line
+/// where it is written.
+///
+/// # Errors
+///
+/// `NoMemory`, or the first fault, which is at the section: `Limit` if it lists more items than
+/// that, whatever they are; `BadValue` if its value is no list, or an item is no name.
+pub fn name_list(
+    alloc: Global,
+    most: usize,
+    text: &[u8],
+    pair: &(Key, Tree),
+) -> Result<Vec<Name>, ConfigFault>
+    // What is answered are the names of the section.
+    ensures found { IfOk result (λ xs. AreNamesListed most (pair_view pair.now) (names_view xs)) }
+
+    // The section lists no others, however many items it may have.
+    ensures only { IfOk result (λ xs. (longest : ℕ) (ws : List Written) → AreNamesListed longest (pair_view pair.now) ws → ws ≡ names_view xs) }
+
+    // A section that is refused, but for want of memory, lists names only where the list is too long.
+    ensures refused { IfErr result (λ e. e ≢ ConfigFault.NoMemory → (longest : ℕ) (ws : List Written) → AreNamesListed longest (pair_view pair.now) ws → most < longest) }
+
+    // Which fault it is is what reading the list gives.
+    ensures exact { GivesRows names_view result (names_at most text.now (pair_view pair.now)) }
+{
+    read_names(alloc, most, text, pair)
 }

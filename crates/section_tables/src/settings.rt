@@ -7,14 +7,14 @@ ghost use Rattle.yaml_subset.specs.View.{node_view, option_slice};
 ghost use Rattle.section_tables.specs.Entries.{is_ignored, handled_at};
 ghost use Rattle.section_tables.specs.Kinds.{at_least};
 ghost use Rattle.section_tables.specs.Tables.{found_in, value_default, setting_key, setting_default, value_lacks, setting_lacks};
-ghost use Rattle.section_tables.specs.Reading.{put_at, overwritten_at, lacking, handled_in, listed_at, nodes_at, value_at, setting_at, values_at};
+ghost use Rattle.section_tables.specs.Reading.{most_items, put_at, overwritten_at, lacking, handled_in, listed_at, nodes_at, value_at, setting_at, values_at};
 ghost use Rattle.section_tables.specs.TableView.{bounds_view, kind_view, without_view, setting_view, table_view};
 ghost use Rattle.section_tables.specs.View.{handlers_view, steps_view, value_view, values_view, spot_view, pairs_view, found_view, GivesRows};
 
 use crate::each::each;
 use crate::fault::{ConfigFault, FaultKind};
 use crate::fields::{default_plain, keyed_list, lacks as plain_lacks, maps};
-use crate::lists::{handlers, names};
+use crate::lists::{MAX_ITEMS, handlers, names};
 use crate::nodes::nodes;
 use crate::rows::{Handler, Value};
 use crate::scalars::plain;
@@ -147,14 +147,14 @@ fn steps(
     bounds: Bounds,
     tree: &Tree,
 ) -> Result<Vec<Vec<Handler>>, ConfigFault>
-    ensures { GivesRows steps_view result (nodes_at (listed_at handled_in (at_least 1)) (bounds_view bounds) (spot_view spot.entry) (node_view tree.now)) }
+    ensures { GivesRows steps_view result (nodes_at (listed_at handled_in most_items (at_least 1)) (bounds_view bounds) (spot_view spot.entry) (node_view tree.now)) }
 {
     let nodes = nodes(alloc, spot, bounds, tree)?;
     each(
         alloc,
         nodes,
         |node|
-            ensures { GivesRows handlers_view result (listed_at handled_in (at_least 1) (spot_view spot.entry) (node_view node.now)) }
+            ensures { GivesRows handlers_view result (listed_at handled_in most_items (at_least 1) (spot_view spot.entry) (node_view node.now)) }
         { handlers(alloc, spot, Bounds::AtLeast(1), node) },
     )
 }
@@ -170,11 +170,11 @@ pub fn value(alloc: Global, spot: Spot<'_>, kind: Kind, tree: &Tree) -> Result<V
             Ok(Value::One(value))
         }
         Kind::Names(bounds) => {
-            let names = names(alloc, spot, bounds, tree)?;
+            let names = names(alloc, spot, MAX_ITEMS, bounds, tree)?;
             Ok(Value::Names(names))
         }
         Kind::Posts(bounds) => {
-            let posts = names(alloc, spot, bounds, tree)?;
+            let posts = names(alloc, spot, MAX_ITEMS, bounds, tree)?;
             Ok(Value::Posts(posts))
         }
         Kind::Events(bounds) => {

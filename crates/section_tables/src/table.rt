@@ -111,3 +111,16 @@ pub struct PlayerKinds {
     pub key: Scalar,
     pub value: Kind,
 }
+
+/// How a section is written.
+#[derive(Clone, Copy)]
+pub enum Shape {
+    /// Entries, each with the settings of this table.
+    Entries(&'static [Setting]),
+    /// The entries of a player.
+    Players(PlayerKinds),
+    /// The section is one entry itself, with the settings of this table.
+    Entry(&'static [Setting]),
+    /// A list of names.
+    Names,
+}

@@ -2,14 +2,15 @@
 //! settings is reported.
 
 ghost use Rattle.std.specs.Prelude.{◌≡◌, ℕ, List, Some};
-ghost use Rattle.yaml_subset.specs.View.{option_slice};
-ghost use Rattle.section_tables.specs.Kinds.{Setting as TableLine, PlayerKinds as PlayerTable};
-ghost use Rattle.section_tables.specs.SectionTables.{table_of, player_of};
-ghost use Rattle.section_tables.specs.TableRules.{IsTable, ArePlayerKinds};
+ghost use Rattle.section_tables.specs.declared.tables.TextKind.{TextKind as Text};
+ghost use Rattle.section_tables.specs.declared.tables.TextKind.TheVariants.{Machine, Mode};
+ghost use Rattle.section_tables.specs.Kinds.{Shape as SectionShape};
+ghost use Rattle.section_tables.specs.SectionTables.{shape_of};
+ghost use Rattle.section_tables.specs.TableRules.{IsRight};
 ghost use Rattle.section_tables.specs.Reading.{give};
-ghost use Rattle.section_tables.specs.TableView.{table_view, player_kinds_view};
+ghost use Rattle.section_tables.specs.TableView.{shape_view};
 
-use crate::table::{Absent, Bounds, Kind, PlayerKinds, Scalar, Setting, Without};
+use crate::table::{Absent, Bounds, Kind, PlayerKinds, Scalar, Setting, Shape, Without};
 
 macro_rules! setting {
     ($key:expr, $kind:expr, $without:expr) => {
@@ -44,7 +45,7 @@ pub const SWITCHES: &[Setting] = &[
     ),
 ];
 
-/// `mode`: the settings of a mode itself. `use_wait_queue` can only be no, so far.
+/// `mode`: the settings of a mode itself. `use_wait_queue` can only be no.
 pub const MODE: &[Setting] = &[
     setting!(b"start_events", Kind::Names(ANY), Without::NoNames),
     setting!(b"stop_events", Kind::Names(ANY), Without::NoNames),
@@ -90,31 +91,59 @@ pub const MODES_NAME: &[u8] = b"modes";
 /// The name of the section [`MODE`].
 pub const MODE_NAME: &[u8] = b"mode";
 
-/// The table of the entries of a section; none where the section has no such entries.
-pub fn table_of(section: &[u8]) -> Option<&'static [Setting]>
-    ensures { option_slice table_view result ≡ table_of section.now }
+/// The two kinds of texts.
+#[derive(Clone, Copy, Debug)]
+pub enum TextKind {
+    /// The text of the machine.
+    Machine,
+    /// The text of a mode.
+    Mode,
+}
+
+// How a section of the machine text is written.
+fn machine_shape(section: &[u8]) -> Option<Shape>
+    ensures { give shape_view result ≡ shape_of Machine section.now }
 {
+    if section == MODES_NAME {
+        return Some(Shape::Names);
+    }
     if section == SWITCHES_NAME {
-        return Some(SWITCHES);
+        return Some(Shape::Entries(SWITCHES));
+    }
+    if section == EVENT_PLAYER_NAME {
+        return Some(Shape::Players(EVENT_PLAYER));
     }
     None
 }
 
-/// The kinds of a player's keys and values; none where the section is no player.
-pub fn player_of(section: &[u8]) -> Option<PlayerKinds>
-    ensures { give player_kinds_view result ≡ player_of section.now }
+// How a section of the text of a mode is written.
+fn mode_shape(section: &[u8]) -> Option<Shape>
+    ensures { give shape_view result ≡ shape_of Mode section.now }
 {
+    if section == MODE_NAME {
+        return Some(Shape::Entry(MODE));
+    }
     if section == EVENT_PLAYER_NAME {
-        return Some(EVENT_PLAYER);
+        return Some(Shape::Players(EVENT_PLAYER));
     }
     None
+}
+
+/// How a section of this name is written in a text of this kind; none where such a text has no such
+/// section.
+pub fn shape_of(text: TextKind, section: &[u8]) -> Option<Shape>
+    ensures { give shape_view result ≡ shape_of text section.now }
+{
+    match text {
+        TextKind::Machine => machine_shape(section),
+        TextKind::Mode => mode_shape(section),
+    }
 }
 
 /// The law of tables: no table has a key twice, each default is of the kind of its setting, and the
 /// place of a short form is within its table.
 ///
-/// It does nothing: its contract is the law, over the tables of all sections.
+/// It does nothing: its contract is the law, over the sections of all texts.
 pub fn tables_are_right()
-    ensures entries { (section : List ℕ) (table : List TableLine) → table_of section ≡ Some table → IsTable table }
-    ensures players { (section : List ℕ) (kinds : PlayerTable) → player_of section ≡ Some kinds → ArePlayerKinds kinds }
+    ensures { (text : Text) (section : List ℕ) (shape : SectionShape) → shape_of text section ≡ Some shape → IsRight shape }
 {}

@@ -1,11 +1,19 @@
-use Rattle.mpf_config.proofs.Theorem.{is_found, is_only, is_refused}
+use Rattle.mpf_config.specs.RowsOf.{within_limits, IsRowsOf, IsAbove}
+use Rattle.mpf_config.specs.Reading.{rows_at}
+use Rattle.mpf_config.specs.View.{rows_view}
+use Rattle.section_tables.proofs.AnswersOf.{is_found, is_only, is_refused}
+use Rattle.mpf_config.proofs.Theorem.{rows_sound, rows_or}
 use Rattle.mpf_config.proofs.bundle.read_bundle.Goals as goal
 
-pub returns-clause-found : goal.returns-clause-found
-returns-clause-found c = is_found c.args.bundle.now c.read_exactly.result c.read_exactly.ensures
-
-pub returns-clause-only : goal.returns-clause-only
-returns-clause-only c = is_only c.args.bundle.now c.read_exactly.result c.read_exactly.ensures
-
-pub returns-clause-refused : goal.returns-clause-refused
-returns-clause-refused c = is_refused c.args.bundle.now c.read_exactly.result c.read_exactly.ensures
+pub returns : goal.returns
+returns c =
+    let bundle = c.args.bundle.now in
+    let read = rows_at bundle in
+    let r = c.read_exactly.result in
+    let h = c.read_exactly.ensures in
+    record {
+      found = is_found within_limits rows_view read (λ sizes rows. IsRowsOf sizes bundle rows) (λ sizes rows. IsAbove sizes bundle rows) (rows_sound bundle) r h;
+      only = is_only within_limits rows_view read (λ sizes rows. IsRowsOf sizes bundle rows) (λ sizes rows. IsAbove sizes bundle rows) (rows_or bundle) r h;
+      refused = is_refused within_limits rows_view read (λ sizes rows. IsRowsOf sizes bundle rows) (λ sizes rows. IsAbove sizes bundle rows) (rows_or bundle) r h;
+      exact = h;
+    }

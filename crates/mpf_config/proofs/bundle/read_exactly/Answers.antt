@@ -1,24 +1,27 @@
-use Rattle.std.proofs.Common.{[], map, sym, subst, length, arith}
+use Rattle.std.proofs.Common.{◌≡◌, List, [], map, Ok, ap, sym, subst, ◌∙◌}
 use Rattle.std.specs.List.{All}
-use Rattle.std.proofs.lemmas.List.Elements.{All-nil}
-use Rattle.section_tables.specs.View.{pairs_view}
-use Rattle.mpf_config.specs.BundleText.{machine_name}
+use Rattle.mpf_config.specs.declared.config.Section.{Section}
+use Rattle.mpf_config.specs.Rows.{Written}
+use Rattle.mpf_config.specs.View.{section_view}
 use Rattle.mpf_config.specs.Short.{IsShortMode}
 use Rattle.mpf_config.specs.FewModes.{AreFewModes}
-use Rattle.mpf_config.specs.SectionView.{mode_view}
-use Rattle.mpf_config.specs.Inside.{sections_view}
-use Rattle.mpf_config.proofs.ShortRows.{sections_short}
+use Rattle.mpf_config.specs.Reading.{modes_from, none_found, found_of, rows_from}
+use Rattle.mpf_config.specs.Typed.{listed_modes}
+use Rattle.mpf_config.specs.Inside.{texts_view, modes_view, machine_read_view, found_modes_view}
+use Rattle.mpf_config.proofs.Theorem.{rows_again}
+use Rattle.mpf_config.proofs.ShortRows.{rows_are_short, rows_are_few}
 use Rattle.mpf_config.proofs.bundle.read_exactly.Goals as goal
-
-no_modes : AreFewModes []
-no_modes = record { few = omega arith; apart = λ i j d before within. absurd (omega arith) }
 
 pub invariant_of-result : goal.invariant_of-result
 invariant_of-result c =
-    record {
-      lists_short = (
-        sections_short machine_name (pairs_view c.in_ok-entries.entries.now) (sections_view c.in_ok-sections.sections) c.in_ok-sections.ensures,
-        subst (λ ms. All IsShortMode (map mode_view ms)) (sym c.new.ensures.items) (All-nil IsShortMode),
-      );
-      few_modes = subst (λ ms. AreFewModes (map mode_view ms)) (sym c.new.ensures.items) no_modes;
-    }
+    let bundle = c.args.bundle.now in
+    let texts = texts_view c.in_ok-texts.texts.items in
+    let machine = machine_read_view c.in_ok-sections.field-0 in
+    let found = found_modes_view c.in_ok-found.found.items in
+    let listed : modes_view c.in_ok-listed.listed.items ≡ listed_modes machine.rows = c.in_ok-listed.ensures ∙ c.listed_modes.ensures ∙ ap (λ (s : List Section). listed_modes (map section_view s)) c.deref-2.ensures.value in
+    let modes = subst (λ (ws : List Written). modes_from ws [] (none_found ws) texts ≡ Ok found) listed (rw (c.deref-3.ensures.value, c.deref-4.ensures.value) at c.in_ok-found.ensures) in
+    let is = rows_again bundle texts machine found c.if-bundle-gt-MAX_BUNDLE_LEN.false c.in_ok-texts.ensures (rw c.deref.ensures.value at c.in_ok-sections.ensures) modes in
+    let rows = rows_from texts machine (found_of found) in
+    let short = rows_are_short bundle rows is in
+    let same = sym c.in_ok-modes.ensures.modes in
+    record { lists_short = (short.0, subst (All IsShortMode) same short.1); few_modes = subst AreFewModes same (rows_are_few bundle rows is) }

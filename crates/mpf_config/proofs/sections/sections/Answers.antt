@@ -24,8 +24,8 @@ returns-in_err-section c =
     let first = keeps_first (λ p. not (is_skipped p.key)) (pair_view entry) rest (pairs_view (drop i entries)) (pairs_at entries i entry c.loop-entry-test.true c.entry-item.is) is_read in
     let p = err_from_is_err_and c.from_residual.result c.from_residual.ensures.1 in
     rw (p.1, p.2)
-    (fails (section_at c.args.text.now) (sections_view c.loop-entry.sections) (pair_view entry) (read_of rest) (read_of (pairs_view (drop i entries)))
-    (each_read (section_at c.args.text.now) (read_of (pairs_view entries))) c.in_err-section.field-0.0 first c.in_err-section.ensures c.loop-entry.invariant)
+    (fails (section_at c.args.kind c.args.text.now) (sections_view c.loop-entry.sections) (pair_view entry) (read_of rest) (read_of (pairs_view (drop i entries)))
+    (each_read (section_at c.args.kind c.args.text.now) (read_of (pairs_view entries))) c.in_err-section.field-0.0 first c.in_err-section.ensures c.loop-entry.invariant)
 
 pub loop-entry-preserved : goal.loop-entry-preserved
 loop-entry-preserved c =
@@ -38,13 +38,13 @@ loop-entry-preserved c =
     let section = c.in_ok-section.section in
     let pushed : sections_view c.push.new.self ≡ sections_view c.loop-entry.sections ++ section_view section ∷ [] = rw c.in_ok-push.ensures.items (map_push _ c.loop-entry.sections.items section) in
     rw pushed
-    (goes_on (section_at c.args.text.now) (sections_view c.loop-entry.sections) (pair_view entry) (read_of rest) (read_of (pairs_view (drop i entries)))
-    (each_read (section_at c.args.text.now) (read_of (pairs_view entries))) (section_view section) first c.in_ok-section.ensures c.loop-entry.invariant)
+    (goes_on (section_at c.args.kind c.args.text.now) (sections_view c.loop-entry.sections) (pair_view entry) (read_of rest) (read_of (pairs_view (drop i entries)))
+    (each_read (section_at c.args.kind c.args.text.now) (read_of (pairs_view entries))) (section_view section) first c.in_ok-section.ensures c.loop-entry.invariant)
 
 pub returns : goal.returns
 unfolding sections_at
 returns c =
     let entries = c.args.entries.now in
     let i = c.loop-entry.entry-index in
-    is_done (section_at c.args.text.now) (sections_view c.loop-entry.sections) (read_of (pairs_view (drop i entries))) (each_read (section_at c.args.text.now) (read_of (pairs_view entries)))
+    is_done (section_at c.args.kind c.args.text.now) (sections_view c.loop-entry.sections) (read_of (pairs_view (drop i entries))) (each_read (section_at c.args.kind c.args.text.now) (read_of (pairs_view entries)))
     (ap read_of (none_behind entries i c.loop-entry-test.false)) c.loop-entry.invariant

@@ -9,5 +9,5 @@ use Rattle.mpf_config.proofs.sections.sections.Given as goal
 
 abbrev pub invariant-loop-entry : goal.invariant-loop-entry
 invariant-loop-entry l =
-    with_front (sections_view l.sections) (each_read (section_at l.text) (read_of (pairs_view (drop l.entry-index l.entries))))
-    ≡ each_read (section_at l.text) (read_of (pairs_view l.entries))
+    with_front (sections_view l.sections) (each_read (section_at l.kind l.text) (read_of (pairs_view (drop l.entry-index l.entries))))
+    ≡ each_read (section_at l.kind l.text) (read_of (pairs_view l.entries))

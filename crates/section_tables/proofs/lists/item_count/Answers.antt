@@ -1,4 +1,4 @@
-use Rattle.std.proofs.Common.{◌≡◌, ◌+◌, not, length, map, filter, refl, sym, ap, ◌∙◌, arith}
+use Rattle.std.proofs.Common.{not, length, map, filter, sym, ap, ◌∙◌, arith}
 use Rattle.yaml_subset.specs.View.{node_view}
 use Rattle.mpf_values.proofs.ListNodes.{none_behind}
 use Rattle.section_tables.specs.Reading.{counts}

@@ -1,3 +1,4 @@
+use Rattle.std.proofs.Common.{◌<◌}
 use Rattle.yaml_subset.specs.View.{pair_view}
 use Rattle.section_tables.specs.EntryOf.{AreEntries}
 use Rattle.section_tables.specs.Reading.{entries_at}
@@ -16,8 +17,8 @@ returns c =
     let r = c.read_entries.result in
     let h = c.read_entries.ensures in
     record {
-      found = is_found entries_view read (λ n. AreEntries n table p) (entries_sound text table p) r h;
-      only = is_only entries_view read (λ n. AreEntries n table p) (entries_complete text table p) r h;
-      refused = is_refused entries_view read (λ n. AreEntries n table p) (entries_complete text table p) r h;
+      found = is_found 1024 entries_view read (λ n. AreEntries n table p) (λ n _. 1024 < n) (entries_sound text table p) r h;
+      only = is_only 1024 entries_view read (λ n. AreEntries n table p) (λ n _. 1024 < n) (entries_complete text table p) r h;
+      refused = is_refused 1024 entries_view read (λ n. AreEntries n table p) (λ n _. 1024 < n) (entries_complete text table p) r h;
       exact = h;
     }

@@ -1,3 +1,4 @@
+use Rattle.std.proofs.Common.{◌<◌}
 use Rattle.yaml_subset.specs.View.{pair_view}
 use Rattle.section_tables.specs.EntryOf.{IsEntry}
 use Rattle.section_tables.specs.Reading.{entry_at}
@@ -16,8 +17,8 @@ returns c =
     let r = c.read_entry.result in
     let h = c.read_entry.ensures in
     record {
-      found = is_found entry_view read (λ n. IsEntry n table p) (entry_sound text table p) r h;
-      only = is_only entry_view read (λ n. IsEntry n table p) (entry_complete text table p) r h;
-      refused = is_refused entry_view read (λ n. IsEntry n table p) (entry_complete text table p) r h;
+      found = is_found 1024 entry_view read (λ n. IsEntry n table p) (λ n _. 1024 < n) (entry_sound text table p) r h;
+      only = is_only 1024 entry_view read (λ n. IsEntry n table p) (λ n _. 1024 < n) (entry_complete text table p) r h;
+      refused = is_refused 1024 entry_view read (λ n. IsEntry n table p) (λ n _. 1024 < n) (entry_complete text table p) r h;
       exact = h;
     }

@@ -1,0 +1,44 @@
+-- Elements of a list, from a place on, and how they are found by their names.
+use Rattle.std.proofs.Common.{◌≡◌, ℕ, ◌+◌, ◌<◌, Bool, true, false, if◌then◌else◌, not, ◌||◌, List, [], ◌∷◌, length, drop, get_or, map, Option, Some, None, refl, sym, ap, ◌∙◌}
+use Rattle.std.specs.Borrow.{Bor}
+use Rattle.std.specs.List.{list_any}
+use Rattle.std.specs.Option.{is_some}
+use Rattle.std.specs.Str.{bytes_eq}
+use Rattle.yaml_subset.specs.Keys.{is_among}
+use Rattle.section_tables.specs.Tables.{behind_one, found_in}
+use Rattle.section_tables.specs.View.{found_view}
+use Rattle.section_tables.proofs.Finding.{cut}
+
+pub mapped_at : {A B : Type 0} (f : A → B) (xs : List A) (i : ℕ) (x : A) → i < length xs → x ≡ get_or xs i x → map f (drop i xs) ≡ f x ∷ map f (drop (i + 1) xs)
+mapped_at f xs i x lt is = ap (map f) (cut xs i x lt) ∙ ap (λ y. f y ∷ map f (drop (i + 1) xs)) (sym is)
+
+-- what is asked of the elements may be asked of what is made of them
+pub any_mapped : {A B : Type 0} (p : B → Bool) (f : A → B) (xs : List A) → list_any p (map f xs) ≡ list_any (λ x. p (f x)) xs
+any_mapped p f [] = refl
+any_mapped p f (x ∷ xs) = ap (λ b. p (f x) || b) (any_mapped p f xs)
+
+found_or : {T : Type 0} (b : Bool) (x : T) (o : Option (ℕ × T)) → is_some (if b then Some (0, x) else behind_one o) ≡ (b || is_some o)
+found_or true x o = refl
+found_or false x None = refl
+found_or false x (Some p) = refl
+
+-- a name is found where it is among the names
+found_among : {T : Type 0} (name_of : T → List ℕ) (name : List ℕ) (xs : List T) → is_some (found_in name_of name xs) ≡ is_among (map name_of xs) name
+found_among name_of name [] = refl
+found_among name_of name (x ∷ xs) =
+    found_or (bytes_eq (name_of x) name) x (found_in name_of name xs) ∙ ap (λ b. bytes_eq (name_of x) name || b) (found_among name_of name xs)
+
+seen : {R T : Type 0} (view : R → T) (o : Option (ℕ × Bor R)) → is_some (found_view view o) ≡ is_some o
+seen view None = refl
+seen view (Some p) = refl
+
+not_not : (b : Bool) → not (not b) ≡ b
+not_not true = refl
+not_not false = refl
+
+-- a name is not among the names where none was found
+pub not_among : {R T : Type 0} (view : R → T) (name_of : T → List ℕ) (name : List ℕ) (xs : List T) (o : Option (ℕ × Bor R)) (none answer : Bool)
+    → found_view view o ≡ found_in name_of name xs → is_some o ≡ not none → none ≡ answer → not (is_among (map name_of xs) name) ≡ answer
+not_among view name_of name xs o none answer found is e =
+    let among : is_among (map name_of xs) name ≡ not none = sym (found_among name_of name xs) ∙ ap is_some (sym found) ∙ seen view o ∙ is in
+    ap not among ∙ not_not none ∙ e

@@ -1,0 +1,43 @@
+-- The modes that the sections of a text list: each by a name, few of them, and no two by one name.
+use Rattle.std.proofs.Common.{◌≤◌, Bool, true, false, if◌then◌else◌, List, [], ◌∷◌, length, map, Some, arith}
+use Rattle.std.specs.List.{AllZip}
+use Rattle.std.specs.Str.{bytes_eq}
+use Rattle.std.proofs.lemmas.List.Elements.{All-nil, All-from_recursion}
+use Rattle.yaml_subset.specs.Node.{Pair}
+use Rattle.mpf_values.specs.Names.{IsName}
+use Rattle.section_tables.specs.declared.tables.TextKind.{TextKind}
+use Rattle.section_tables.proofs.RowNames.{names_named, names_short}
+use Rattle.mpf_config.specs.Rows.{Written, Content, entries, players, entry, listed, SectionRows}
+use Rattle.mpf_config.specs.Named.{AllNames}
+use Rattle.mpf_config.specs.Typed.{modes_name, names_in, content_named, names_of_content, listed_modes}
+use Rattle.mpf_config.specs.RowsOf.{Sizes, AreNew, IsContent, IsSection}
+
+pub record AreListed (sizes : Sizes) (ws : List Written) : Type 0 where
+  pub named : AllNames ws
+  pub few : length ws ≤ sizes.modes
+  pub apart : AreNew [] (map (λ w. w.text) ws)
+
+module _ (sizes : Sizes) (kind : TextKind) where
+  none_listed : AreListed sizes []
+  none_listed = record { named = All-nil (λ (w : Written). IsName w.text); few = omega arith; apart = tt }
+
+  content_listed : (p : Pair) (content : Content) → IsContent sizes kind p content → AreListed sizes (names_in content)
+  content_listed p (entries es) h = none_listed
+  content_listed p (players ps) h = none_listed
+  content_listed p (entry e) h = none_listed
+  content_listed p (listed ws) h =
+      record {
+        named = All-from_recursion (λ (w : Written). IsName w.text) ws (names_named sizes.modes p ws h.1.listed);
+        few = names_short sizes.modes p ws h.1.listed;
+        apart = h.1.apart;
+      }
+
+  pub modes_listed : (sections : List Pair) (rows : List SectionRows) → AllZip (IsSection sizes kind) sections rows → AreListed sizes (listed_modes rows)
+  modes_listed [] [] each = none_listed
+  modes_listed [] (s ∷ ss) each = absurd each
+  modes_listed (p ∷ ps) [] each = absurd each
+  modes_listed (p ∷ ps) (s ∷ ss) each = by (bytes_eq s.name modes_name) (modes_listed ps ss each.1)
+    where
+      by : (b : Bool) → AreListed sizes (listed_modes ss) → AreListed sizes (names_of_content (if b then Some s.content else content_named modes_name ss))
+      by true rest = content_listed p s.content each.0.content
+      by false rest = rest

@@ -1,0 +1,472 @@
+-- The modes that are found in texts: each at its place, by its own text and no other.
+use Rattle.std.proofs.Common.{◌≡◌, ◌≢◌, ℕ, suc, zero, ◌+◌, Bool, true, false, cond, Option, Some, None, Result, Ok, Err, ◌⊎◌, inl, inr}
+use Rattle.std.proofs.Common.{List, [], ◌∷◌, ◌++◌, length, map, set, take, slice_index_or, append_assoc, refl, sym, ap, subst, ◌∙◌, arith}
+use Rattle.std.specs.Prelude.{codes}
+use Rattle.std.specs.List.{Contains, All, AllZip}
+use Rattle.std.specs.Str.{bytes_eq}
+use Rattle.std.proofs.Math.Seq.{take-append_seam}
+use Rattle.std.proofs.lemmas.Bool.{cases_Bool, both_ways}
+use Rattle.std.proofs.lemmas.List.{append_cancel_left, length-append, length-map}
+use Rattle.std.proofs.lemmas.List.Elements.{All-head, All-tail}
+use Rattle.std.proofs.lemmas.Slice.Eq.{bytes_eq-Decides}
+use Rattle.yaml_subset.specs.Keys.{is_among}
+use Rattle.section_tables.specs.declared.fault.FaultKind.TheVariants.{Duplicate}
+use Rattle.section_tables.specs.declared.tables.TextKind.TheVariants.{Mode}
+use Rattle.section_tables.specs.Rows.{RowsFault}
+use Rattle.section_tables.specs.Tables.{behind_one, found_in}
+use Rattle.section_tables.specs.Reading.{IsReadOr, ◌>>=◌, rows_fault_at}
+use Rattle.section_tables.proofs.Steps.{bind_ok, guard_false, ok_is}
+use Rattle.section_tables.proofs.Outcomes.{weaker, then_or}
+use Rattle.mpf_config.specs.Rows.{Written}
+use Rattle.mpf_config.specs.BundleText.{Text, mode_text_name}
+use Rattle.mpf_config.specs.Unread.{mode_text_of, has_text, present_of, mode_notes}
+use Rattle.mpf_config.specs.ModeReads.{ModeRead}
+use Rattle.mpf_config.specs.RowsOf.{Sizes, within_limits, AreNew, IsText, AreRowsOf, IsModeRead, IsTextOver}
+use Rattle.mpf_config.specs.Reading.{TextRows, line_spot, text_rows_at, mode_read_at, placed_at, modes_from, none_found, found_of}
+use Rattle.mpf_config.proofs.NewNames.{here, there, nothing_in, not_again, all_other, fresh_sound, fresh_complete}
+use Rattle.mpf_config.proofs.TextNames.{named, names_in, text_name}
+use Rattle.mpf_config.proofs.TextRows.{text_rows_sound, text_rows_or}
+
+-- ---- what is taken from texts
+
+-- a place for each listed mode, with what was found of it
+abbrev pub Found : Type 0
+Found = List (Option ModeRead)
+
+-- the place of a mode: as it was where there is no text of the mode, and else what its text says
+abbrev pub IsTaken : Sizes → List Text → Written → Option ModeRead → Option ModeRead → Type 0
+IsTaken sizes ts w before after =
+    ((has_text ts (mode_text_of w) ≡ false) × (after ≡ before)) ⊎ ((m : ModeRead) × (after ≡ Some m) × IsModeRead sizes ts w m)
+
+-- the places of all listed modes
+abbrev pub Taken : Sizes → List Text → List Written → Found → Found → Type 0
+Taken sizes ts [] [] [] = Unit {0}
+Taken sizes ts (w ∷ ws) (before ∷ found) (after ∷ out) = IsTaken sizes ts w before after × Taken sizes ts ws found out
+Taken sizes ts ws found out = ⊥
+
+-- the names that are listed
+abbrev pub names_of : List Written → List (List ℕ)
+names_of ws = map (λ w. w.text) ws
+
+abbrev in_front : Option ModeRead → Found → Found
+in_front o os = o ∷ os
+
+-- ---- names of texts
+
+abbrev behind_mode : List ℕ → List ℕ
+behind_mode mode = codes "/config/" ++ (mode ++ codes ".yaml")
+
+regrouped : (mode : List ℕ) → mode ++ codes "/config/" ++ mode ++ codes ".yaml" ≡ mode ++ behind_mode mode
+regrouped mode = append_assoc (mode ++ codes "/config/") mode (codes ".yaml") ∙ append_assoc mode (codes "/config/") (mode ++ codes ".yaml")
+
+length_behind : (mode : List ℕ)
+    → length (mode ++ behind_mode mode) ≡ length mode + (length (codes "/config/") + (length mode + length (codes ".yaml")))
+length_behind mode =
+    let last = length-append mode (codes ".yaml") in
+    let middle = length-append (codes "/config/") (mode ++ codes ".yaml") in
+    let whole = length-append mode (behind_mode mode) in
+    whole ∙ ap (λ n. length mode + n) (middle ∙ ap (λ n. length (codes "/config/") + n) last)
+
+-- a text is that of one mode
+pub same_mode : (a b : List ℕ) → mode_text_name a ≡ mode_text_name b → a ≡ b
+same_mode a b e =
+    let parts = append_cancel_left (codes "modes/") (a ++ codes "/config/" ++ a ++ codes ".yaml") (b ++ codes "/config/" ++ b ++ codes ".yaml") e in
+    let behind : a ++ behind_mode a ≡ b ++ behind_mode b = sym (regrouped a) ∙ parts ∙ regrouped b in
+    let long = sym (length_behind a) ∙ ap length behind ∙ length_behind b in
+    let same_length : length a ≡ length b = omega (arith, long) in
+    sym (take-append_seam a (behind_mode a)) ∙ (λ i. take (same_length i) (behind i)) ∙ take-append_seam b (behind_mode b)
+
+abbrev IsOther : Text → List ℕ → Type 0
+IsOther t mode = t.name ≢ mode_text_name mode
+
+is_name : (t : Text) (name : List ℕ) → t.name ≡ name → bytes_eq t.name name ≡ true
+is_name t name e = (bytes_eq-Decides t.name name).1 e
+
+no_name : (t : Text) (name : List ℕ) → t.name ≢ name → bytes_eq t.name name ≡ false
+no_name t name other =
+    elim (cases_Bool (bytes_eq t.name name)) [
+      | inl e ↦ absurd (other ((bytes_eq-Decides t.name name).0 e))
+      | inr e ↦ e
+    ]
+
+-- a text of one mode is none of the modes behind it
+others_behind : (names : List (List ℕ)) (t : Text) (w : Written) (ws : List Written) → AreNew names (names_of (w ∷ ws))
+    → t.name ≡ mode_text_of w → All (IsOther t) (names_of ws)
+others_behind names t w ws apart same =
+    let differ = all_other (w.text ∷ names) (names_of ws) w.text (here w.text names) apart.1 in
+    λ k d lt equal. differ k d lt (same_mode w.text (slice_index_or (names_of ws) k d) (sym same ∙ equal))
+
+-- ---- whether there is a text
+
+has_is_among : (ts : List Text) (name : List ℕ) → has_text ts name ≡ is_among (names_in ts) name
+has_is_among [] name = refl
+has_is_among (t ∷ ts) name = rw (has_is_among ts name) refl
+
+has_it : (ts : List Text) (name text : List ℕ) → IsText ts name text → has_text ts name ≡ true
+has_it ts name text h =
+    elim (cases_Bool (has_text ts name)) [
+      | inl e ↦ e
+      | inr e ↦ absurd (fresh_sound (names_in ts) name (sym (has_is_among ts name) ∙ e) (text_name ts name text h))
+    ]
+
+has_first : (t : Text) (ts : List Text) (name : List ℕ) → t.name ≡ name → has_text (t ∷ ts) name ≡ true
+has_first t ts name same = rw (is_name t name same) refl
+
+has_behind : (t : Text) (ts : List Text) (name : List ℕ) → t.name ≢ name → has_text (t ∷ ts) name ≡ has_text ts name
+has_behind t ts name other = rw (no_name t name other) refl
+
+is_first : (t : Text) (ts : List Text) (name : List ℕ) → t.name ≡ name → IsText (t ∷ ts) name t.text
+is_first t ts name same =
+    let whole : t ≡ named name t.text = λ i. record { name = same i; text = t.text } in
+    subst (Contains (t ∷ ts)) whole (here t ts)
+
+-- a text of another name is behind the first
+is_behind : (t : Text) (ts : List Text) (name text : List ℕ) → t.name ≢ name → IsText (t ∷ ts) name text → IsText ts name text
+is_behind t ts name text other (zero, lt, at) = absurd (other (ap (λ (u : Text). u.name) at))
+is_behind t ts name text other (suc k, lt, at) = (k, omega (arith, lt), at)
+
+module _ (names : List (List ℕ)) (t : Text) (ts : List Text) (new : AreNew names (names_in (t ∷ ts))) (name : List ℕ) (same : t.name ≡ name) where
+  -- no text behind has the name of the first
+  none_behind : has_text ts name ≡ false
+  none_behind =
+      let old = subst (Contains (t.name ∷ names)) same (here t.name names) in
+      has_is_among ts name ∙ fresh_complete (names_in ts) name (λ h. not_again (t.name ∷ names) (names_in ts) name new.1 h old)
+
+  not_behind : (text : List ℕ) → IsText ts name text → ⊥
+  not_behind text h = both_ways (has_text ts name) none_behind (has_it ts name text h)
+
+  only_text : (text : List ℕ) → IsText (t ∷ ts) name text → text ≡ t.text
+  only_text text (zero, lt, at) = sym (ap (λ (u : Text). u.text) at)
+  only_text text (suc k, lt, at) = absurd (not_behind text (k, omega (arith, lt), at))
+
+-- ---- one mode by its text
+
+abbrev mode_made : Written → Text → TextRows → ModeRead
+mode_made w t r = record { mode = record { name = w.text; sections = r.rows }; notes = mode_notes t.name r.sections }
+
+mode_sound : (t : Text) (ts : List Text) (w : Written) (m : ModeRead) → t.name ≡ mode_text_of w → mode_read_at w t ≡ Ok m
+    → IsModeRead within_limits (t ∷ ts) w m
+unfolding mode_read_at
+mode_sound t ts w m same e =
+    let a = bind_ok (text_rows_at Mode t.name t.text) (λ r. Ok (mode_made w t r)) m e in
+    subst (IsModeRead within_limits (t ∷ ts) w) (ok_is (mode_made w t a.0) m a.2) (record {
+      name = refl;
+      text = t.text;
+      is_there = is_first t ts (mode_text_of w) same;
+      sections = a.0.sections;
+      rows = text_rows_sound Mode t.name t.text a.0 a.1;
+      notes = ap (λ name. mode_notes name a.0.sections) same;
+    })
+
+mode_or : (sizes : Sizes) (names : List (List ℕ)) (t : Text) (ts : List Text) (w : Written) (m : ModeRead)
+    → AreNew names (names_in (t ∷ ts)) → t.name ≡ mode_text_of w
+    → IsModeRead sizes (t ∷ ts) w m → IsReadOr (IsTextOver sizes t.text) (mode_read_at w t) m
+unfolding mode_read_at
+mode_or sizes names t ts w m new same h =
+    let text : h.text ≡ t.text = only_text names t ts new (mode_text_of w) same h.text h.is_there in
+    let rows = subst (λ xs. AreRowsOf sizes Mode xs h.sections m.mode.sections) text h.rows in
+    let r : TextRows = record { sections = h.sections; rows = m.mode.sections } in
+    let notes : mode_notes t.name h.sections ≡ m.notes = ap (λ name. mode_notes name h.sections) same ∙ sym h.notes in
+    let whole : mode_made w t r ≡ m = λ i. record { mode = record { name = sym h.name i; sections = m.mode.sections }; notes = notes i } in
+    let read = text_rows_or sizes Mode t.name t.text h.sections m.mode.sections rows in
+    then_or (IsTextOver sizes t.text) (text_rows_at Mode t.name t.text) (λ x. Ok (mode_made w t x)) r m read
+    (inl (ap (λ (x : ModeRead). Ok x) whole))
+
+-- a mode with one more text in front, or one fewer
+read_still : (sizes : Sizes) (t : Text) (ts : List Text) (w : Written) (m : ModeRead) → IsModeRead sizes ts w m
+    → IsModeRead sizes (t ∷ ts) w m
+read_still sizes t ts w m h =
+    let is = there t (named (mode_text_of w) h.text) ts h.is_there in
+    record { name = h.name; text = h.text; is_there = is; sections = h.sections; rows = h.rows; notes = h.notes }
+
+read_behind : (sizes : Sizes) (t : Text) (ts : List Text) (w : Written) (m : ModeRead) → t.name ≢ mode_text_of w
+    → IsModeRead sizes (t ∷ ts) w m → IsModeRead sizes ts w m
+read_behind sizes t ts w m other h =
+    let is = is_behind t ts (mode_text_of w) h.text other h.is_there in
+    record { name = h.name; text = h.text; is_there = is; sections = h.sections; rows = h.rows; notes = h.notes }
+
+-- ---- one text, taken to its place
+
+-- the place of a mode: what the text says where it is that of the mode, and else as it was
+abbrev IsPlaced : Text → Written → Option ModeRead → Option ModeRead → Type 0
+IsPlaced t w before after =
+    ((t.name ≢ mode_text_of w) × (after ≡ before))
+    ⊎ ((m : ModeRead) × (after ≡ Some m) × (t.name ≡ mode_text_of w) × (mode_read_at w t ≡ Ok m))
+
+abbrev Placed : Text → List Written → Found → Found → Type 0
+Placed t [] [] [] = Unit {0}
+Placed t (w ∷ ws) (before ∷ found) (after ∷ next) = IsPlaced t w before after × Placed t ws found next
+Placed t ws found next = ⊥
+
+placed_long : (t : Text) (ws : List Written) (found next : Found) → Placed t ws found next → length next ≡ length ws
+placed_long t [] [] [] h = refl
+placed_long t (w ∷ ws) (before ∷ found) (after ∷ next) h = ap suc (placed_long t ws found next h.1)
+placed_long t ws found next h = absurd h
+
+untouched : (t : Text) (ws : List Written) (found : Found) → length found ≡ length ws → All (IsOther t) (names_of ws)
+    → Placed t ws found found
+untouched t [] [] long other = tt
+untouched t [] (before ∷ found) long other = absurd (omega (arith, long))
+untouched t (w ∷ ws) [] long other = absurd (omega (arith, long))
+untouched t (w ∷ ws) (before ∷ found) long other =
+    let first = All-head (IsOther t) w.text (names_of ws) other in
+    let rest = All-tail (IsOther t) w.text (names_of ws) other in
+    (inl (first, refl), untouched t ws found (omega (arith, long)) rest)
+
+set_behind : (before : Option ModeRead) (found : Found) (i : ℕ) (r : Result ModeRead RowsFault)
+    → (r >>= λ m. Ok (set (before ∷ found) (suc i) (Some m))) ≡ ((r >>= λ m. Ok (set found i (Some m))) >>= λ next. Ok (before ∷ next))
+set_behind before found i (Ok m) = refl
+set_behind before found i (Err f) = refl
+
+-- a place behind the first is one among those behind the first
+placed_behind : (t : Text) (before : Option ModeRead) (found : Found) (o : Option (ℕ × Written))
+    → placed_at t (before ∷ found) (behind_one o) ≡ (placed_at t found o >>= λ next. Ok (before ∷ next))
+placed_behind t before found None = refl
+placed_behind t before found (Some p) = set_behind before found p.0 (mode_read_at p.1 t)
+
+-- the place of a text among the modes
+abbrev place_of : Text → List Written → Option (ℕ × Written)
+place_of t ws = found_in mode_text_of t.name ws
+
+-- the first, where it is the one, or one behind it
+abbrev first_or : Bool → Text → Written → List Written → Option (ℕ × Written)
+first_or same t w ws = cond same (Some (0, w)) (behind_one (place_of t ws))
+
+-- what is placed among these modes is placed rightly
+abbrev IsPlacedRightly : Text → List Written → Found → Type 0
+IsPlacedRightly t ws found = (next : Found) → placed_at t found (place_of t ws) ≡ Ok next → Placed t ws found next
+
+same_name : (t : Text) (w : Written) → bytes_eq (mode_text_of w) t.name ≡ true → t.name ≡ mode_text_of w
+same_name t w e = sym ((bytes_eq-Decides (mode_text_of w) t.name).0 e)
+
+other_mode : (t : Text) (w : Written) → bytes_eq (mode_text_of w) t.name ≡ false → t.name ≢ mode_text_of w
+other_mode t w e same = both_ways (bytes_eq (mode_text_of w) t.name) e ((bytes_eq-Decides (mode_text_of w) t.name).1 (sym same))
+
+module _ (t : Text) (w : Written) (ws : List Written) (before : Option ModeRead) (found next : Found) where
+  placed_first : length found ≡ length ws → All (IsOther t) (names_of ws) → t.name ≡ mode_text_of w
+      → placed_at t (before ∷ found) (Some (0, w)) ≡ Ok next → Placed t (w ∷ ws) (before ∷ found) next
+  placed_first long other same e =
+      let a = bind_ok (mode_read_at w t) (λ m. Ok (in_front (Some m) found)) next e in
+      let is = ok_is (in_front (Some a.0) found) next a.2 in
+      subst (Placed t (w ∷ ws) (before ∷ found)) is (inr (a.0, refl, same, a.1), untouched t ws found long other)
+
+  placed_later : IsPlacedRightly t ws found → t.name ≢ mode_text_of w
+      → placed_at t (before ∷ found) (behind_one (place_of t ws)) ≡ Ok next → Placed t (w ∷ ws) (before ∷ found) next
+  placed_later so other e =
+      let behind = sym (placed_behind t before found (place_of t ws)) ∙ e in
+      let a = bind_ok (placed_at t found (place_of t ws)) (λ rest. Ok (in_front before rest)) next behind in
+      subst (Placed t (w ∷ ws) (before ∷ found)) (ok_is (in_front before a.0) next a.2) (inl (other, refl), so a.0 a.1)
+
+  placed_by : (names : List (List ℕ)) → length found ≡ length ws → AreNew names (names_of (w ∷ ws)) → IsPlacedRightly t ws found
+      → (b : Bool) → bytes_eq (mode_text_of w) t.name ≡ b
+      → placed_at t (before ∷ found) (first_or b t w ws) ≡ Ok next → Placed t (w ∷ ws) (before ∷ found) next
+  placed_by names long apart so true k e =
+      let same = same_name t w k in
+      placed_first long (others_behind names t w ws apart same) same e
+  placed_by names long apart so false k e = placed_later so (other_mode t w k) e
+
+placed_sound : (names : List (List ℕ)) (t : Text) (ws : List Written) (found : Found) → length found ≡ length ws
+    → AreNew names (names_of ws) → IsPlacedRightly t ws found
+placed_sound names t [] [] long apart next e = subst (Placed t [] []) (ok_is [] next e) tt
+placed_sound names t [] (before ∷ found) long apart next e = absurd (omega (arith, long))
+placed_sound names t (w ∷ ws) [] long apart next e = absurd (omega (arith, long))
+placed_sound names t (w ∷ ws) (before ∷ found) long apart next e =
+    let less : length found ≡ length ws = omega (arith, long) in
+    let so = placed_sound (w.text ∷ names) t ws found less apart.1 in
+    placed_by t w ws before found next names less apart so (bytes_eq (mode_text_of w) t.name) refl e
+
+-- ---- what is read is what is taken
+
+taken_once : (names : List (List ℕ)) (t : Text) (ts : List Text) (w : Written) (before middle after : Option ModeRead)
+    → AreNew names (names_in (t ∷ ts))
+    → IsPlaced t w before middle → IsTaken within_limits ts w middle after → IsTaken within_limits (t ∷ ts) w before after
+taken_once names t ts w before middle after new (inl p) (inl q) = inl (has_behind t ts (mode_text_of w) p.0 ∙ q.0, q.1 ∙ p.1)
+taken_once names t ts w before middle after new (inl p) (inr q) = inr (q.0, q.1, read_still within_limits t ts w q.0 q.2)
+taken_once names t ts w before middle after new (inr p) (inl q) = inr (p.0, q.1 ∙ p.1, mode_sound t ts w p.0 p.2 p.3)
+taken_once names t ts w before middle after new (inr p) (inr q) =
+    absurd (not_behind names t ts new (mode_text_of w) p.2 q.2.text q.2.is_there)
+
+taken_with : (names : List (List ℕ)) (t : Text) (ts : List Text) (ws : List Written) (found next out : Found)
+    → AreNew names (names_in (t ∷ ts))
+    → Placed t ws found next → Taken within_limits ts ws next out → Taken within_limits (t ∷ ts) ws found out
+taken_with names t ts [] [] [] [] new p q = tt
+taken_with names t ts [] [] [] (after ∷ out) new p q = absurd q
+taken_with names t ts (w ∷ ws) (before ∷ found) (middle ∷ next) [] new p q = absurd q
+taken_with names t ts (w ∷ ws) (before ∷ found) (middle ∷ next) (after ∷ out) new p q =
+    (taken_once names t ts w before middle after new p.0 q.0, taken_with names t ts ws found next out new p.1 q.1)
+taken_with names t ts ws found next out new p q = absurd p
+
+nothing_taken : (ws : List Written) (found : Found) → length found ≡ length ws → Taken within_limits [] ws found found
+nothing_taken [] [] long = tt
+nothing_taken [] (before ∷ found) long = absurd (omega (arith, long))
+nothing_taken (w ∷ ws) [] long = absurd (omega (arith, long))
+nothing_taken (w ∷ ws) (before ∷ found) long = (inl (refl, refl), nothing_taken ws found (omega (arith, long)))
+
+pub taken_sound : (ws : List Written) (ts : List Text) (names : List (List ℕ)) (found out : Found) → length found ≡ length ws
+    → AreNew [] (names_of ws) → modes_from ws names found ts ≡ Ok out
+    → AreNew names (names_in ts) × Taken within_limits ts ws found out
+taken_sound ws [] names found out long apart e =
+    (tt, subst (Taken within_limits [] ws found) (ok_is found out e) (nothing_taken ws found long))
+taken_sound ws (t ∷ ts) names found out long apart e =
+    let placed = placed_at t found (place_of t ws) in
+    let from_next : Found → Result Found RowsFault = λ next. modes_from ws (t.name ∷ names) next ts in
+    let again = rows_fault_at Duplicate (line_spot t.name 1) in
+    let a = guard_false (is_among names t.name) (placed >>= from_next) again out e in
+    let b = bind_ok placed from_next out a.1 in
+    let p = placed_sound [] t ws found long apart b.0 b.1 in
+    let c = taken_sound ws ts (t.name ∷ names) b.0 out (placed_long t ws found b.0 p) apart b.2 in
+    let new : AreNew names (names_in (t ∷ ts)) = (fresh_sound names t.name a.0, c.0) in
+    (new, taken_with names t ts ws found b.0 out new p c.1)
+
+-- the modes that have a text are these
+abbrev pub AreModes : Sizes → List Text → List Written → List ModeRead → Type 0
+AreModes sizes ts ws modes = AllZip (IsModeRead sizes ts) (present_of ts ws) modes
+
+module _ (sizes : Sizes) (ts : List Text) where
+  found_once : (w : Written) (ws : List Written) (after : Option ModeRead) (out : Found) → IsTaken sizes ts w None after
+      → AreModes sizes ts ws (found_of out) → AreModes sizes ts (w ∷ ws) (found_of (after ∷ out))
+  found_once w ws after out (inl h) rest = rw (h.0, h.1) rest
+  found_once w ws after out (inr h) rest = rw (has_it ts (mode_text_of w) h.2.text h.2.is_there, h.1) (h.2, rest)
+
+  -- those that are taken from the start are the modes that have a text
+  pub all_found : (ws : List Written) (out : Found) → Taken sizes ts ws (none_found ws) out → AreModes sizes ts ws (found_of out)
+  all_found [] [] h = tt
+  all_found [] (after ∷ out) h = absurd h
+  all_found (w ∷ ws) [] h = absurd h
+  all_found (w ∷ ws) (after ∷ out) h = found_once w ws after out h.0 (all_found ws out h.1)
+
+-- the modes that are found are those that have a text
+pub modes_found : (ws : List Written) (ts : List Text) (out : Found) → AreNew [] (names_of ws)
+    → modes_from ws [] (none_found ws) ts ≡ Ok out
+    → AreNew [] (names_in ts) × AreModes within_limits ts ws (found_of out)
+modes_found ws ts out apart e =
+    let h = taken_sound ws ts [] (none_found ws) out (length-map ws (λ w. None)) apart e in
+    (h.0, all_found within_limits ts ws out h.1)
+
+-- ---- what is taken is read
+
+module _ (sizes : Sizes) (ts : List Text) where
+  -- places where these modes are found
+  abbrev Places : List Written → List ModeRead → Type 0
+  Places ws modes = (out : Found) × (found_of out ≡ modes) × Taken sizes ts ws (none_found ws) out
+
+  place_by : (w : Written) (ws : List Written) (modes : List ModeRead)
+      → ((ms : List ModeRead) → AreModes sizes ts ws ms → Places ws ms)
+      → (b : Bool) → has_text ts (mode_text_of w) ≡ b
+      → AllZip (IsModeRead sizes ts) (cond b (w ∷ present_of ts ws) (present_of ts ws)) modes → Places (w ∷ ws) modes
+  place_by w ws [] so true e h = absurd h
+  place_by w ws (m ∷ ms) so true e h =
+      let rest = so ms h.1 in
+      (Some m ∷ rest.0, ap (λ (xs : List ModeRead). m ∷ xs) rest.1, (inr (m, refl, h.0), rest.2))
+  place_by w ws modes so false e h =
+      let rest = so modes h in
+      (None ∷ rest.0, rest.1, (inl (e, refl), rest.2))
+
+  -- the places of the modes that have a text
+  pub places_for : (ws : List Written) (modes : List ModeRead) → AreModes sizes ts ws modes → Places ws modes
+  places_for [] [] h = ([], refl, tt)
+  places_for [] (m ∷ ms) h = absurd h
+  places_for (w ∷ ws) modes h = place_by w ws modes (places_for ws) (has_text ts (mode_text_of w)) refl h
+
+none_taken : (sizes : Sizes) (w : Written) (before after : Option ModeRead) → IsTaken sizes [] w before after → after ≡ before
+none_taken sizes w before after (inl h) = h.1
+none_taken sizes w before after (inr h) = absurd (nothing_in (named (mode_text_of w) h.2.text) h.2.is_there)
+
+-- with no text all stay as they were
+as_before : (sizes : Sizes) (ws : List Written) (found out : Found) → Taken sizes [] ws found out → out ≡ found
+as_before sizes [] [] [] h = refl
+as_before sizes (w ∷ ws) (before ∷ found) (after ∷ out) h =
+    let first : after ≡ before = none_taken sizes w before after h.0 in
+    let rest : out ≡ found = as_before sizes ws found out h.1 in
+    λ i. first i ∷ rest i
+as_before sizes ws found out h = absurd h
+
+module _ (sizes : Sizes) (t : Text) (ts : List Text) where
+  taken_behind : (w : Written) (before after : Option ModeRead) → t.name ≢ mode_text_of w → IsTaken sizes (t ∷ ts) w before after
+      → IsTaken sizes ts w before after
+  taken_behind w before after other (inl h) = inl (sym (has_behind t ts (mode_text_of w) other) ∙ h.0, h.1)
+  taken_behind w before after other (inr h) = inr (h.0, h.1, read_behind sizes t ts w h.0 other h.2)
+
+  all_behind : (ws : List Written) (found out : Found) → All (IsOther t) (names_of ws) → Taken sizes (t ∷ ts) ws found out
+      → Taken sizes ts ws found out
+  all_behind [] [] [] other h = tt
+  all_behind (w ∷ ws) (before ∷ found) (after ∷ out) other h =
+      let first = All-head (IsOther t) w.text (names_of ws) other in
+      let rest = All-tail (IsOther t) w.text (names_of ws) other in
+      (taken_behind w before after first h.0, all_behind ws found out rest h.1)
+  all_behind ws found out other h = absurd h
+
+-- it is above the limits where the text of a listed mode is
+abbrev pub IsAboveWhere : Sizes → Type 0 → List Text → List Written → Type 0
+IsAboveWhere sizes Above ts ws =
+    (w : Written) (text : List ℕ) → Contains ws w → IsText ts (mode_text_of w) text → IsTextOver sizes text → Above
+
+-- the same of one text
+abbrev IsAboveAt : Sizes → Type 0 → Text → List Written → Type 0
+IsAboveAt sizes Above t ws = (w : Written) → Contains ws w → t.name ≡ mode_text_of w → IsTextOver sizes t.text → Above
+
+module _ (sizes : Sizes) (Above : Type 0) (names : List (List ℕ)) (t : Text) (ts : List Text) where
+  -- the first text is taken, and the others are still to be
+  abbrev Next : Option (ℕ × Written) → List Written → Found → Found → Type 0
+  Next place ws found out = (next : Found) × IsReadOr Above (placed_at t found place) next × Taken sizes ts ws next out
+
+  next_first : (w : Written) (ws : List Written) (before after : Option ModeRead) (found out : Found)
+      → AreNew names (names_in (t ∷ ts)) → (IsTextOver sizes t.text → Above) → All (IsOther t) (names_of ws) → t.name ≡ mode_text_of w
+      → IsTaken sizes (t ∷ ts) w before after → Taken sizes (t ∷ ts) ws found out
+      → Next (Some (0, w)) (w ∷ ws) (before ∷ found) (after ∷ out)
+  next_first w ws before after found out new so other same (inl h) rest =
+      absurd (both_ways (has_text (t ∷ ts) (mode_text_of w)) h.0 (has_first t ts (mode_text_of w) same))
+  next_first w ws before after found out new so other same (inr h) rest =
+      let read = weaker (IsTextOver sizes t.text) Above so (mode_read_at w t) h.0 (mode_or sizes names t ts w h.0 new same h.2) in
+      let next = in_front (Some h.0) found in
+      let placed = then_or Above (mode_read_at w t) (λ m. Ok (in_front (Some m) found)) h.0 next read (inl refl) in
+      let gone = none_behind names t ts new (mode_text_of w) same in
+      (next, placed, (inl (gone, h.1), all_behind sizes t ts ws found out other rest))
+
+  next_later : (w : Written) (ws : List Written) (before after : Option ModeRead) (found out : Found)
+      → t.name ≢ mode_text_of w → IsTaken sizes (t ∷ ts) w before after
+      → Next (place_of t ws) ws found out → Next (behind_one (place_of t ws)) (w ∷ ws) (before ∷ found) (after ∷ out)
+  next_later w ws before after found out other h rest =
+      let next = in_front before rest.0 in
+      let read = then_or Above (placed_at t found (place_of t ws)) (λ os. Ok (in_front before os)) rest.0 next rest.1 (inl refl) in
+      (next, rw (placed_behind t before found (place_of t ws)) read, (taken_behind sizes t ts w before after other h, rest.2))
+
+  next_by : (ahead : List (List ℕ)) (w : Written) (ws : List Written) (before after : Option ModeRead) (found out : Found)
+      → AreNew names (names_in (t ∷ ts)) → IsAboveAt sizes Above t (w ∷ ws) → AreNew ahead (names_of (w ∷ ws))
+      → Taken sizes (t ∷ ts) (w ∷ ws) (before ∷ found) (after ∷ out) → Next (place_of t ws) ws found out
+      → (b : Bool) → bytes_eq (mode_text_of w) t.name ≡ b → Next (first_or b t w ws) (w ∷ ws) (before ∷ found) (after ∷ out)
+  next_by ahead w ws before after found out new so apart h rest true e =
+      let same = same_name t w e in
+      next_first w ws before after found out new (so w (here w ws) same) (others_behind ahead t w ws apart same) same h.0 h.1
+  next_by ahead w ws before after found out new so apart h rest false e = next_later w ws before after found out (other_mode t w e) h.0 rest
+
+  next_or : (ahead : List (List ℕ)) (ws : List Written) (found out : Found)
+      → AreNew names (names_in (t ∷ ts)) → IsAboveAt sizes Above t ws → AreNew ahead (names_of ws)
+      → Taken sizes (t ∷ ts) ws found out → Next (place_of t ws) ws found out
+  next_or ahead [] [] [] new so apart h = ([], inl refl, tt)
+  next_or ahead (w ∷ ws) (before ∷ found) (after ∷ out) new so apart h =
+      let rest = next_or (w.text ∷ ahead) ws found out new (λ v c. so v (there w v ws c)) apart.1 h.1 in
+      next_by ahead w ws before after found out new so apart h rest (bytes_eq (mode_text_of w) t.name) refl
+  next_or ahead ws found out new so apart h = absurd h
+
+module _ (sizes : Sizes) (Above : Type 0) (ws : List Written) (apart : AreNew [] (names_of ws)) where
+  pub taken_or : (ts : List Text) (names : List (List ℕ)) (found out : Found) → AreNew names (names_in ts)
+      → Taken sizes ts ws found out → IsAboveWhere sizes Above ts ws → IsReadOr Above (modes_from ws names found ts) out
+  taken_or [] names found out new h so =
+      let same : found ≡ out = sym (as_before sizes ws found out h) in
+      inl (ap (λ (os : Found). Ok os) same)
+  taken_or (t ∷ ts) names found out new h so =
+      let first : IsAboveAt sizes Above t ws = λ w c same. so w t.text c (is_first t ts (mode_text_of w) same) in
+      let later : IsAboveWhere sizes Above ts ws = λ w text c is. so w text c (there t (named (mode_text_of w) text) ts is) in
+      let a = next_or sizes Above names t ts [] ws found out new first apart h in
+      let rest = taken_or ts (t.name ∷ names) a.0 out new.1 a.2 later in
+      let from_next : Found → Result Found RowsFault = λ next. modes_from ws (t.name ∷ names) next ts in
+      rw (fresh_complete names t.name new.0) (then_or Above (placed_at t found (place_of t ws)) from_next a.0 out a.1 rest)
+
+-- the modes that have a text are those that are found, but above the limits
+pub modes_found_or : (sizes : Sizes) (Above : Type 0) (ts : List Text) (ws : List Written) (modes : List ModeRead)
+    → AreNew [] (names_in ts) → AreNew [] (names_of ws) → AreModes sizes ts ws modes → IsAboveWhere sizes Above ts ws
+    → (out : Found) × (found_of out ≡ modes) × IsReadOr Above (modes_from ws [] (none_found ws) ts) out
+modes_found_or sizes Above ts ws modes new apart each so =
+    let a = places_for sizes ts ws modes each in
+    (a.0, a.1, taken_or sizes Above ws apart ts [] (none_found ws) a.0 new a.2 so)

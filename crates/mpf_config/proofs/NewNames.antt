@@ -1,0 +1,86 @@
+-- Names of which each is new.
+use Rattle.std.proofs.Common.{◌≡◌, ◌≢◌, ℕ, suc, zero, Bool, true, false, List, [], ◌∷◌, map, refl, sym, subst, inl, inr, arith}
+use Rattle.std.specs.Str.{bytes_eq}
+use Rattle.std.specs.List.{Contains, All, AllPairs, filter}
+use Rattle.std.specs.Bool.{Decides}
+use Rattle.std.proofs.lemmas.Bool.{cases_Bool, both_ways}
+use Rattle.std.proofs.lemmas.Bool.Decides.{Decides-by_or}
+use Rattle.std.proofs.lemmas.List.Elements.{All-nil, All-cons, Decides-contains}
+use Rattle.std.proofs.lemmas.List.Kept.{AllPairs-cons}
+use Rattle.std.proofs.lemmas.Slice.Eq.{bytes_eq-Decides}
+use Rattle.yaml_subset.specs.Keys.{is_among}
+use Rattle.mpf_config.specs.RowsOf.{AreNew}
+
+-- ---- lists that have an element
+
+pub here : {A : Type 0} (x : A) (xs : List A) → Contains (x ∷ xs) x
+here x xs = (0, omega arith, refl)
+
+pub there : {A : Type 0} (x y : A) (xs : List A) → Contains xs y → Contains (x ∷ xs) y
+there x y xs (k, lt, at) = (suc k, omega (arith, lt), at)
+
+pub nothing_in : {A : Type 0} (x : A) → Contains [] x → ⊥
+nothing_in x (k, lt, at) = absurd (omega (arith, lt))
+
+pub contains_map : {A B : Type 0} (f : A → B) (xs : List A) (x : A) → Contains xs x → Contains (map f xs) (f x)
+contains_map f [] x h = absurd (nothing_in x h)
+contains_map f (y ∷ xs) x (zero, lt, at) = subst (λ z. Contains (map f (y ∷ xs)) (f z)) at (here (f y) (map f xs))
+contains_map f (y ∷ xs) x (suc k, lt, at) = there (f y) (f x) (map f xs) (contains_map f xs x (k, omega (arith, lt), at))
+
+-- ---- one name
+
+among_decides : (names : List (List ℕ)) (name : List ℕ) → Decides (is_among names name) (Contains names name)
+among_decides names name =
+    Decides-contains names name (is_among names name)
+    (Decides-by_or (λ k. bytes_eq k name) (λ k. k ≡ name) (λ ks. is_among ks name) (λ k. bytes_eq-Decides k name) refl (λ _ _. refl) names)
+
+pub fresh_sound : (names : List (List ℕ)) (name : List ℕ) → is_among names name ≡ false → Contains names name → ⊥
+fresh_sound names name e h = both_ways (is_among names name) e ((among_decides names name).1 h)
+
+pub fresh_complete : (names : List (List ℕ)) (name : List ℕ) → (Contains names name → ⊥) → is_among names name ≡ false
+fresh_complete names name h =
+    elim (cases_Bool (is_among names name)) [
+      | inl e ↦ absurd (h ((among_decides names name).0 e))
+      | inr e ↦ e
+    ]
+
+-- ---- all of them
+
+-- a name of the first list is not new
+pub not_again : (names ns : List (List ℕ)) (n : List ℕ) → AreNew names ns → Contains ns n → Contains names n → ⊥
+not_again names [] n new h old = nothing_in n h
+not_again names (m ∷ ns) n new (zero, lt, at) old = new.0 (subst (Contains names) (sym at) old)
+not_again names (m ∷ ns) n new (suc k, lt, at) old = not_again (m ∷ names) ns n new.1 (k, omega (arith, lt), at) (there m n names old)
+
+module _ (names others : List (List ℕ)) (so : (q : List ℕ) → Contains others q → Contains names q) (n : List ℕ) where
+  still : (q : List ℕ) → Contains (n ∷ others) q → Contains (n ∷ names) q
+  still q (zero, lt, at) = subst (Contains (n ∷ names)) at (here n names)
+  still q (suc k, lt, at) = there n q names (so q (k, omega (arith, lt), at))
+
+-- what is new among more names is new among fewer
+pub new_among_fewer : (names others : List (List ℕ)) → ((q : List ℕ) → Contains others q → Contains names q) → (ns : List (List ℕ)) → AreNew names ns → AreNew others ns
+new_among_fewer names others so [] new = tt
+new_among_fewer names others so (n ∷ ns) new = (λ old. new.0 (so n old), new_among_fewer (n ∷ names) (n ∷ others) (still names others so n) ns new.1)
+
+module _ {A : Type 0} (keeps : A → Bool) (name_of : A → List ℕ) where
+  kept_or_not : (b : Bool) (names : List (List ℕ)) (x : A) (xs : List A) → keeps x ≡ b → (Contains names (name_of x) → ⊥)
+      → AreNew (name_of x ∷ names) (map name_of (filter keeps xs)) → AreNew names (map name_of (filter keeps xs)) → AreNew names (map name_of (filter keeps (x ∷ xs)))
+  kept_or_not true names x xs e fresh more fewer = rw e (fresh, more)
+  kept_or_not false names x xs e fresh more fewer = rw e fewer
+
+  -- those that are kept are new
+  pub new_kept : (names : List (List ℕ)) (xs : List A) → AreNew names (map name_of xs) → AreNew names (map name_of (filter keeps xs))
+  new_kept names [] new = tt
+  new_kept names (x ∷ xs) new =
+      let rest = new_kept (name_of x ∷ names) xs new.1 in
+      kept_or_not (keeps x) names x xs refl new.0 rest (new_among_fewer (name_of x ∷ names) names (λ q h. there (name_of x) q names h) (map name_of (filter keeps xs)) rest)
+
+pub all_other : (names ns : List (List ℕ)) (n : List ℕ) → Contains names n → AreNew names ns → All (λ m. n ≢ m) ns
+all_other names [] n old new = All-nil (λ m. n ≢ m)
+all_other names (m ∷ ns) n old new =
+    All-cons (λ k. n ≢ k) m ns (λ same. new.0 (subst (Contains names) same old)) (all_other (m ∷ names) ns n (there m n names old) new.1)
+
+-- no two are the same
+pub new_apart : (names ns : List (List ℕ)) → AreNew names ns → AllPairs (λ x y. x ≢ y) ns
+new_apart names [] new = λ i j d before within. absurd (omega arith)
+new_apart names (n ∷ ns) new = AllPairs-cons (λ x y. x ≢ y) n ns (all_other (n ∷ names) ns n (here n names) new.1) (new_apart (n ∷ names) ns new.1)

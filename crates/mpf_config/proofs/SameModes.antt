@@ -1,0 +1,32 @@
+-- Names of modes, of which each is taken once.
+use Rattle.std.proofs.Common.{◌≡◌, ℕ, Bool, true, false, not, ◌||◌, List, [], ◌∷◌, refl, sym, ap, ◌∙◌}
+use Rattle.std.specs.Str.{bytes_eq}
+use Rattle.yaml_subset.specs.Keys.{is_among}
+use Rattle.section_tables.specs.Reading.{Spot}
+use Rattle.mpf_config.specs.BundleText.{machine_owner}
+use Rattle.mpf_config.specs.Rows.{Written}
+use Rattle.mpf_config.specs.Reading.{modes_new_at}
+
+-- which names were taken matters, and not in which order
+abbrev SameNames : List (List ℕ) → List (List ℕ) → Type 0
+SameNames names others = (q : List ℕ) → is_among names q ≡ is_among others q
+
+same_step : (names others : List (List ℕ)) (k : List ℕ) → SameNames names others → SameNames (k ∷ names) (k ∷ others)
+same_step names others k h q = ap (λ (b : Bool). bytes_eq k q || b) (h q)
+
+same_new : (spot : Spot) (names others : List (List ℕ)) (ws : List Written) → SameNames names others → modes_new_at spot names ws ≡ modes_new_at spot others ws
+same_new spot names others [] h = refl
+same_new spot names others (w ∷ ws) h = rw (h w.text, same_new spot (w.text ∷ names) (w.text ∷ others) ws (same_step names others w.text h)) refl
+
+not_true : (b : Bool) → not b ≡ true → b ≡ false
+not_true true e = absurd cc
+not_true false e = refl
+
+-- a name that is neither the machine's nor taken
+pub takes_next : (spot : Spot) (names known : List (List ℕ)) (taken : Bool) (w : Written) (ws all : List Written) → all ≡ w ∷ ws → bytes_eq w.text machine_owner ≡ false
+    → taken ≡ not (is_among names w.text) → taken ≡ true → ((q : List ℕ) → is_among known q ≡ (bytes_eq w.text q || is_among names q))
+    → modes_new_at spot known ws ≡ modes_new_at spot names all
+takes_next spot names known taken w ws all e other fresh is k =
+    let none : is_among names w.text ≡ false = not_true (is_among names w.text) (sym fresh ∙ is) in
+    let whole : modes_new_at spot names all ≡ modes_new_at spot (w.text ∷ names) ws = rw (e, other, none) refl in
+    same_new spot known (w.text ∷ names) ws k ∙ sym whole

@@ -1,0 +1,9 @@
+use Rattle.std.proofs.Common.{◌≡◌, drop}
+use Rattle.section_tables.specs.Tables.{found_in}
+use Rattle.section_tables.proofs.Finding.{shifted}
+use Rattle.mpf_config.specs.Unread.{mode_text_of}
+use Rattle.mpf_config.specs.Inside.{modes_view}
+use Rattle.mpf_config.proofs.listed.mode_of.Given as goal
+
+abbrev pub invariant-loop-place : goal.invariant-loop-place
+invariant-loop-place l = shifted l.place (found_in mode_text_of l.text (modes_view (drop l.place l.modes))) ≡ found_in mode_text_of l.text (modes_view l.modes)

@@ -1,0 +1,15 @@
+use Rattle.std.proofs.Common.{sym, ◌∙◌, rules, tests}
+use Rattle.std.specs.Str.{bytes_eq}
+use Rattle.std.proofs.lemmas.Iterator.{YieldsList-from_slice}
+use Rattle.std.proofs.lemmas.Iterator.Search.{any_from_yields_List}
+use Rattle.mpf_config.specs.declared.texts.Text.{Text}
+use Rattle.mpf_config.specs.Inside.{text_view}
+use Rattle.mpf_config.proofs.ListLoops.{any_mapped}
+use Rattle.mpf_config.proofs.unread.has_text.Goals as goal
+
+pub returns : goal.returns
+returns c =
+    let texts = c.args.texts.now in
+    let name = c.args.name.now in
+    any_from_yields_List (λ (t : Text). bytes_eq t.name.now name) _ _ c.any.result c.any.ensures.ran (YieldsList-from_slice texts cc) (λ x b q k. search (rules, tests))
+    ∙ sym (any_mapped (λ t. bytes_eq t.name name) text_view texts)

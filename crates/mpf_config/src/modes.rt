@@ -1,0 +1,130 @@
+//! The texts of modes.
+
+ghost use Rattle.std.specs.Prelude.{◌≡◌, ◌++◌, [], length, map, IfOk};
+ghost use Rattle.std.specs.List.{flat_map};
+ghost use Rattle.section_tables.specs.Tables.{found_in};
+ghost use Rattle.mpf_config.specs.Unread.{mode_text_of};
+ghost use Rattle.mpf_config.specs.Reading.{mode_read_at, placed_at, modes_from, none_found, found_of};
+ghost use Rattle.mpf_config.specs.View.{name_view, mode_view, GivesRows};
+ghost use Rattle.mpf_config.specs.Inside.{text_view, texts_view, modes_view, notes_view, mode_read_view, found_modes_view};
+
+use crate::config::{ModeText, Note};
+use crate::fault::{ConfigFault, FaultKind};
+use crate::listed::mode_of;
+use crate::listed_mode::ListedMode;
+use crate::sections::{sections, sections_in};
+use crate::spot::line_of;
+use crate::texts::{Text, take_name};
+use crate::unread::mode_notes;
+use crate::version::tree_of;
+use section_tables::rows::Name;
+use section_tables::tables::TextKind;
+use std::alloc::{AllocError, Global};
+use std::collections::BTreeSet;
+
+/// A mode by its text, with the notes on that text.
+#[derive(Drop)]
+pub struct ModeRead {
+    pub mode: ModeText,
+    pub notes: Vec<Note>,
+}
+
+/// The mode of this name by its text; or the first fault in it.
+#[tactic(auto, unfolding(crate::specs::Reading::mode_read_at, crate::specs::Reading::text_rows_at))]
+fn read_mode(alloc: Global, name: &Name, text: Text<'_>) -> Result<ModeRead, ConfigFault>
+    ensures { GivesRows mode_read_view result (mode_read_at (name_view name.now) (text_view text.entry)) }
+{
+    let tree = tree_of(alloc, text.name, text.text)?;
+    let entries = sections_in(alloc, text.name, &tree)?;
+    let sections = sections(alloc, TextKind::Mode, text.name, entries)?;
+    let notes = mode_notes(alloc, text.name, entries)?;
+    let name = Vec::from_slice(alloc, &name.text)?;
+    Ok(ModeRead {
+        mode: ModeText { name, sections },
+        notes,
+    })
+}
+
+/// Reads a text, and puts its mode at its place in the list; or the first fault in it. Does nothing
+/// if it is the text of no listed mode.
+fn place(
+    alloc: Global,
+    modes: &[ListedMode<'_>],
+    text: Text<'_>,
+    found: &mut [Option<ModeRead>],
+) -> Result<(), ConfigFault>
+    requires { length found.old ≡ length modes.now }
+    ensures { GivesRows (λ _. found_modes_view found.new) result (placed_at (text_view text.entry) (found_modes_view found.old) (found_in mode_text_of text.entry.name.now (modes_view modes.now))) }
+{
+    if let Some((place, name)) = mode_of(modes, text.name) {
+        found[place] = Some(read_mode(alloc, name, text)?);
+    }
+    Ok(())
+}
+
+/// `None` for each mode of the list.
+fn none_found(alloc: Global, modes: &[ListedMode<'_>]) -> Result<Vec<Option<ModeRead>>, AllocError>
+    ensures { IfOk result (λ found. found_modes_view found.items ≡ none_found (modes_view modes.now)) }
+{
+    let mut found = Vec::with_capacity(alloc, modes.len())?;
+    for _ in modes {
+        found.push(None)?;
+    }
+    Ok(found)
+}
+
+/// Takes each text to the place of its mode, in the order of the bundle; or the first fault, which
+/// may also be Duplicate at a text with the name of an earlier one.
+fn place_all(
+    alloc: Global,
+    modes: &[ListedMode<'_>],
+    texts: &[Text<'_>],
+    found: &mut [Option<ModeRead>],
+) -> Result<(), ConfigFault>
+    requires { length found.old ≡ length modes.now }
+    ensures { GivesRows (λ _. found_modes_view found.new) result (modes_from (modes_view modes.now) [] (found_modes_view found.old) (texts_view texts.now)) }
+{
+    let mut names = BTreeSet::new(alloc);
+    for text in texts {
+        let fresh = take_name(&mut names, text.name)?;
+        if !fresh {
+            let fault = line_of(text.name, 1).fault(alloc, FaultKind::Duplicate)?;
+            return Err(ConfigFault::Bundle(fault));
+        }
+        place(alloc, modes, *text, found)?;
+    }
+    Ok(())
+}
+
+/// The modes that are found in texts, each at its place in the list of modes; or the first fault in
+/// the order of the bundle. No two texts may have one name.
+pub fn find_modes(
+    alloc: Global,
+    modes: &[ListedMode<'_>],
+    texts: &[Text<'_>],
+) -> Result<Vec<Option<ModeRead>>, ConfigFault>
+    ensures { GivesRows (λ found. found_modes_view found.items) result (modes_from (modes_view modes.now) [] (none_found (modes_view modes.now)) (texts_view texts.now)) }
+{
+    let mut found = none_found(alloc, modes)?;
+    place_all(alloc, modes, texts, &mut found)?;
+    Ok(found)
+}
+
+/// The modes that were found, in order. The notes on them are added.
+pub fn take_modes(
+    alloc: Global,
+    found: Vec<Option<ModeRead>>,
+    notes: &mut Vec<Note>,
+) -> Result<Vec<ModeText>, AllocError>
+    ensures modes { IfOk result (λ modes. map mode_view modes.items ≡ map (λ m. m.mode) (found_of (found_modes_view found.items))) }
+    ensures added { IfOk result (λ _. notes_view notes.new ≡ notes_view notes.old ++ flat_map (λ m. m.notes) (found_of (found_modes_view found.items))) }
+{
+    let mut modes = Vec::with_capacity(alloc, found.len())?;
+    for one in found {
+        if let Some(mut read) = one {
+            notes.append(&mut read.notes)?;
+            modes.push(read.mode)?;
+        }
+    }
+    Ok(modes)
+}

@@ -1,0 +1,68 @@
+//! The tree of a text, and the version in its first line.
+
+ghost use Rattle.std.specs.Prelude.{◌≡◌};
+ghost use Rattle.yaml_subset.specs.View.{node_view};
+ghost use Rattle.mpf_config.specs.BundleText.{has_version};
+ghost use Rattle.mpf_config.specs.FaultLine.{yaml_kind_name};
+ghost use Rattle.mpf_config.specs.Reading.{text_tree_at};
+ghost use Rattle.mpf_config.specs.View.{GivesRows};
+
+use crate::fault::{ConfigFault, FaultKind};
+use crate::spot::line_of;
+use section_tables::spot::Spot;
+use std::alloc::Global;
+use yaml_bytes::{split_line, trimmed};
+use yaml_subset::fault::{FaultKind as YamlKind, YamlFault};
+use yaml_subset::reader::read;
+use yaml_subset::tree::Tree;
+
+/// The first line of a text, of the version that is read.
+const VERSION_LINE: &[u8] = b"#config_version=6";
+
+/// The name of a kind of the YAML reader.
+fn yaml_kind_name(kind: YamlKind) -> &'static [u8]
+    ensures { result.now ≡ yaml_kind_name kind }
+{
+    match kind {
+        YamlKind::NotUtf8 => b"NotUtf8",
+        YamlKind::Tab => b"Tab",
+        YamlKind::Indent => b"Indent",
+        YamlKind::DuplicateKey => b"DuplicateKey",
+        YamlKind::Quote => b"Quote",
+        YamlKind::Flow => b"Flow",
+        YamlKind::NotInSubset => b"NotInSubset",
+        YamlKind::TooDeep => b"TooDeep",
+        YamlKind::TooLong => b"TooLong",
+    }
+}
+
+fn has_version(text: &[u8]) -> bool
+    ensures { result ≡ has_version text.now }
+{
+    let (line, _) = split_line(text);
+    trimmed(line) == VERSION_LINE
+}
+
+/// The tree of the text of this name; or Version, or Yaml with its kind as the key.
+#[tactic(auto, unfolding(crate::specs::Reading::text_tree_at))]
+pub fn tree_of(alloc: Global, name: &[u8], text: &[u8]) -> Result<Tree, ConfigFault>
+    ensures { GivesRows node_view result (text_tree_at name.now text.now) }
+{
+    if !has_version(text) {
+        let fault = line_of(name, 1).fault(alloc, FaultKind::Version)?;
+        return Err(ConfigFault::Bundle(fault));
+    }
+    match read(alloc, text) {
+        Ok(tree) => Ok(tree),
+        Err(YamlFault::NoMemory) => Err(ConfigFault::NoMemory),
+        Err(YamlFault::Text(fault)) => {
+            let spot = Spot {
+                text: name,
+                line: fault.line,
+                key: yaml_kind_name(fault.kind),
+            };
+            let fault = spot.fault(alloc, FaultKind::Yaml(fault.kind))?;
+            Err(ConfigFault::Bundle(fault))
+        }
+    }
+}
