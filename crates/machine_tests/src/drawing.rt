@@ -154,12 +154,7 @@ fn add_causes(
 
 /// A mode in a text of its own. It has a place among the names: what it posts at its own events stands
 /// behind it.
-fn add_mode(
-    out: &mut String,
-    state: &mut u64,
-    shape: Shape,
-    mode: &str,
-) -> Result<(), AllocError> {
+fn add_mode(out: &mut String, state: &mut u64, shape: Shape, mode: &str) -> Result<(), AllocError> {
     write!(
         out,
         "@ modes/{mode}/config/{mode}.yaml\n#config_version=6\nmode:\n"

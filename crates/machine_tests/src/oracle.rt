@@ -82,12 +82,7 @@ fn add_causes(
 }
 
 /// Adds that the events of a mode post each other in turn, up to the last.
-fn add_life(
-    alloc: Global,
-    graph: &mut Graph,
-    plan: &Plan,
-    mode: &str,
-) -> Result<(), AllocError> {
+fn add_life(alloc: Global, graph: &mut Graph, plan: &Plan, mode: &str) -> Result<(), AllocError> {
     let mut event = format!(in alloc; "mode_{mode}_will_start")?;
     for end in ["starting", "started", "stopping", "stopped"] {
         add_causes(alloc, graph, plan, &event, mode, end)?;
@@ -133,11 +128,7 @@ fn cost(posts: &[(u16, u16)], weights: &[u32], from: u16) -> u128 {
 }
 
 /// The weights after one round more.
-fn weigh_again(
-    alloc: Global,
-    graph: &Graph,
-    weights: &[u32],
-) -> Result<Vec<u32>, AllocError> {
+fn weigh_again(alloc: Global, graph: &Graph, weights: &[u32]) -> Result<Vec<u32>, AllocError> {
     let mut costs = Vec::new(alloc);
     for event in 0..graph.events {
         costs.push(u32::try_from(cost(&graph.posts, weights, event)).unwrap_or(u32::MAX))?;
@@ -221,11 +212,7 @@ fn is_above(graph: &Graph, weights: &[u32]) -> bool {
 }
 
 /// What is to be found: a cycle, too large weights, or those of the rounds.
-pub(crate) fn to_find(
-    alloc: Global,
-    graph: &Graph,
-    weights: &[u32],
-) -> Result<String, AllocError> {
+pub(crate) fn to_find(alloc: Global, graph: &Graph, weights: &[u32]) -> Result<String, AllocError> {
     let endless = endless(graph);
     for event in 0..graph.events {
         if is_in(endless, event) {

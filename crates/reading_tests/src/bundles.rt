@@ -3,9 +3,8 @@
 use crate::cases::{Subject, assert_rows, utf8};
 use crate::tables::show_names;
 use mpf_config::{
-    Config, ConfigFault, EventPlayer, MODES_NAME, ModeText, Section, Switch,
-    as_event_player, as_switch, listed_modes, mode_names, mode_settings, read_bundle, write_fault,
-    write_note,
+    Config, ConfigFault, EventPlayer, MODES_NAME, ModeText, Section, Switch, as_event_player,
+    as_switch, listed_modes, mode_names, mode_settings, read_bundle, write_fault, write_note,
 };
 use std::alloc::{AllocError, Global};
 use std::test::Fail;
@@ -259,7 +258,10 @@ fn add_line(out: &mut String, line: &str) -> Result<(), AllocError> {
     match line.strip_prefix("@") {
         Some("") => out.push_str("@ config/config.yaml\n#config_version=6\n"),
         Some(mode) if !mode.starts_with(" ") => {
-            write!(out, "@ modes/{mode}/config/{mode}.yaml\n#config_version=6\n")
+            write!(
+                out,
+                "@ modes/{mode}/config/{mode}.yaml\n#config_version=6\n"
+            )
         }
         _ => writeln!(out, "{line}"),
     }
