@@ -1,5 +1,5 @@
-//! Prints names whose hashes collide in a hash set of the kit, as it is without a key of its own: COUNT names of 6 letters
-//! and digits that begin their search at one place of a table of 512 groups, with one tag. Usage: collide COUNT
+//! Prints names whose hashes collide in a hash set of the kit, as it is without a key of its own: COUNT names of 6
+//! letters and digits that begin their search at one place of a table of 512 groups, with one tag. Usage: collide COUNT
 //! Seconds to run: some 130,000 names are tried for each that is printed.
 
 const INITIAL: u64 = 0x243f_6a88_85a3_08d3;

@@ -1,10 +1,10 @@
-"""measure.py PROGRAM PLAIN COLLIDE RUNS [READER ..]: what `check` and `play` cost, beside others on the same texts. bench/run
-starts it.
+"""measure.py PROGRAM PLAIN COLLIDE RUNS [READER ..]: what `check` and `play` cost, beside others on the same texts.
+bench/run starts it.
 
-PROGRAM is pinball, PLAIN and COLLIDE what plain.rs and collide.rs are built to, and a READER reads the YAML file that its word names, each as a
-path. Each line has the wall time in ms (the median of RUNS runs, of a third as many of `play`), a ratio of times, peak
-memory in MiB, and bytes of memory for each byte of text. An exit status is in brackets. Wants Debian's
-/usr/bin/python3. What it lacks of python3-yaml and fy-tool it names, and leaves out."""
+PROGRAM is pinball. PLAIN and COLLIDE are what plain.rs and collide.rs are built to. A READER reads the YAML file that
+its word names. Each is a path. Each line of output has the wall time in ms (the median of RUNS runs, of a third as many
+of `play`), a ratio of times, peak memory in MiB, and bytes of memory for each byte of text. An exit status is in
+brackets. Wants Debian's /usr/bin/python3. What it lacks of python3-yaml and fy-tool it names, and leaves out."""
 import dataclasses
 import os
 import pathlib
@@ -129,8 +129,8 @@ def checks_modes(bench: Bench, base: float) -> None:
 
 
 def same_output(first: list[str], second: list[str], bundle: pathlib.Path) -> tuple[bool, int, int]:
-    """Whether two commands give the same output, and the bytes and lines of that of the first. They run at once, so that
-    some 800 MB need not be kept."""
+    """Whether two commands give the same output, and the bytes and lines of that of the first. They run at once, so
+    that some 800 MB need not be kept."""
     same, size, lines = True, 0, 0
     with bundle.open("rb") as one, bundle.open("rb") as other:
         left = subprocess.Popen(first, stdin=one, stdout=subprocess.PIPE)

@@ -22,8 +22,9 @@ class Cost:
 
 
 def start(command: list[str], path: pathlib.Path) -> int:
-    """Starts a command with a file as its input, throws its output away, and gives the number of its process. The process
-    is spawned and not forked: a copy of this one, whose memory is larger than theirs, would weigh in every time."""
+    """Starts a command with a file as its input, throws its output away, and gives the number of its process. The
+    process is spawned and not forked: a copy of this one, whose memory is larger than theirs, would weigh in every
+    time."""
     streams = [
         (os.POSIX_SPAWN_OPEN, 0, path, os.O_RDONLY, 0),
         (os.POSIX_SPAWN_OPEN, 1, os.devnull, os.O_WRONLY, 0),
@@ -43,8 +44,8 @@ def timed(command: list[str], path: pathlib.Path) -> tuple[float, int]:
 
 
 def peak(command: list[str], path: pathlib.Path) -> int:
-    """Peak resident memory: looked at again and again, since the usage that `wait4` tells has this process's own peak in
-    it. What a process takes in its last moments may be missed."""
+    """Peak resident memory: looked at again and again, since the usage that `wait4` gives has this process's own peak
+    in it. What a process takes in its last moments may be missed."""
     child, most = start(command, path), 0
     status = pathlib.Path(f"/proc/{child}/status")
     while os.waitpid(child, os.WNOHANG)[0] == 0:
@@ -67,6 +68,8 @@ def measured(command: list[str], path: pathlib.Path, runs: int) -> Cost:
 
 
 def show(what: str, cost: Cost, size: int, base: float | None = None) -> None:
-    """A line of the table: time in ms, its ratio to that of `base` seconds, memory in MiB and for each of `size` bytes."""
+    """A line of the table: time in ms, its ratio to that of `base` seconds, memory in MiB, and memory for each of `size`
+    bytes."""
     ratio = f"{cost.seconds / base:8.2f}" if base else " " * 8
-    print(f"{what:34} {cost.seconds * 1000:9.1f} ms {ratio} {cost.memory / MIB:8.1f} MiB {cost.memory / size:7.1f} B a byte")
+    memory = f"{cost.memory / MIB:8.1f} MiB {cost.memory / size:7.1f} B a byte"
+    print(f"{what:34} {cost.seconds * 1000:9.1f} ms {ratio} {memory}")

@@ -1,6 +1,6 @@
 //! plain LOG < BUNDLE: plays a log like `pinball play`, in plain Rust and without proofs: the other side of the
-//! measurement. Of bundles it reads only the form that `cascades.py` and `stacked.py` write, and checks nothing there; the
-//! lines of a log are refused as `pinball play` refuses them. Moments are in milliseconds. Built by rustc alone.
+//! measurement. Of bundles it reads only the form that `cascades.py` and `stacked.py` write, and checks nothing there.
+//! It refuses the lines of a log that `pinball play` refuses. Moments are in milliseconds. Built by rustc alone.
 use std::collections::{HashMap, VecDeque};
 use std::fmt::Write as _;
 use std::io::{self, BufWriter, Read, Write};
@@ -147,7 +147,8 @@ impl Machine {
         let (mut section, mut owner) = ("", None);
         for line in bundle.lines().filter(|line| !line.starts_with('#')) {
             if let Some(text) = line.strip_prefix("@ ") {
-                owner = (0u8..).zip(&machine.modes).find(|(_, m)| text.contains(&format!("/{}/", m.name))).map(|(n, _)| n);
+                let is_of = |m: &Mode| text.contains(&format!("/{}/", m.name));
+                owner = (0u8..).zip(&machine.modes).find(|(_, m)| is_of(m)).map(|(n, _)| n);
                 continue;
             }
             let Some((key, value)) = line.trim().split_once(':') else { continue };
@@ -306,8 +307,8 @@ fn moment_and_change(line: &str) -> Option<(u64, Option<(&str, bool)>)> {
 
 /// Playing a log.
 impl Machine {
-    /// What a line asks for: a moment, and the number of a switch with its raw level unless the line is a wait. Else the
-    /// first reason against it.
+    /// What a line asks for: a moment, and the number of a switch with its raw level unless the line is a wait. Else
+    /// the first reason against it.
     fn stimulus(&self, line: &str) -> Result<(u64, Option<(u16, bool)>), &'static str> {
         let (at, change) = moment_and_change(line).ok_or("8 BadLine")?;
         let change = match change {

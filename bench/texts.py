@@ -1,4 +1,6 @@
-"""Texts to measure: an ordinary configuration, and texts that somebody made to cost time. Sizes are in bytes: all is ASCII."""
+"""Texts to measure: an ordinary configuration, and texts that somebody made to cost time.
+
+Sizes are in bytes: all is ASCII."""
 import random
 from collections.abc import Iterator
 
@@ -64,7 +66,8 @@ def lights(draw: random.Random, size: int) -> Iterator[str]:
 
 
 def ordinary(part: int = 1) -> str:
-    """A configuration as a builder writes it, of at most 1 MiB: or one `part`-th of it, with the same mix of sections."""
+    """A configuration as a builder writes it, of at most 1 MiB; or one `part`-th of it, with the same mix of
+    sections."""
     draw = random.Random(6)
     count = SWITCHES // part
     front = VERSION + f"# a machine of {count} switches\n" + "".join(switches(draw, count))
