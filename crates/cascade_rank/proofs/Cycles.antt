@@ -9,9 +9,9 @@ use Rattle.std.proofs.lemmas.List.Folds.{Any-from_list_any}
 use Rattle.std.proofs.lemmas.List.Sums.{fails_before_first, passes_at_first}
 use Rattle.std.proofs.lemmas.Map.Keys.{IsDistinct-cons}
 use Rattle.std.proofs.lemmas.Map.Steps.{length-le_from_distinct_below}
-use Rattle.mpf_plan.specs.PlanView.{PlanView, bound_to}
-use Rattle.mpf_plan.specs.declared.entries.EventId.{EventId}
-use Rattle.mpf_plan.specs.Valid.{HasEntries}
+use Rattle.plan_tables.specs.PlanView.{PlanView, bound_to}
+use Rattle.plan_tables.specs.declared.entries.EventId.{EventId}
+use Rattle.plan_tables.specs.Valid.{HasEntries}
 use Rattle.cascade_rank.specs.Cost.{Both, each_of, cost_of_binding, cost_of_work, cost_of_event}
 use Rattle.cascade_rank.specs.Events.{no_event, nth_event}
 use Rattle.cascade_rank.specs.Weights.{IsFitting}

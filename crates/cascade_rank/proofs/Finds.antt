@@ -2,9 +2,9 @@
 use Rattle.std.proofs.Common.{◌≡◌, ℕ, ◌<◌, true, false, not, nat_lt, List, [], length, Option, Some, None, position, Ok, Err, sym, ◌∙◌, ap, subst, arith}
 use Rattle.std.specs.Option.{option_map}
 use Rattle.std.proofs.lemmas.Bool.{not-false, cond-true, cond-false, both_ways}
-use Rattle.mpf_plan.specs.PlanView.{PlanView}
-use Rattle.mpf_plan.specs.Valid.{HasEntries}
-use Rattle.mpf_plan.specs.declared.entries.EventId.{EventId}
+use Rattle.plan_tables.specs.PlanView.{PlanView}
+use Rattle.plan_tables.specs.Valid.{HasEntries}
+use Rattle.plan_tables.specs.declared.entries.EventId.{EventId}
 use Rattle.cascade_rank.specs.Events.{weight_of}
 use Rattle.cascade_rank.specs.Weights.{IsLeastFitting, IsWithinLimit}
 use Rattle.cascade_rank.specs.LeadsTo.{grounded, is_open}

@@ -5,15 +5,15 @@ use Rattle.std.proofs.lemmas.Option.{get_or_from_slice_get}
 use Rattle.std.proofs.lemmas.Bool.{cases_lt, cases_eq, eq-eqb, ne_eqb, lt-ltb, le-ltb}
 use Rattle.std.proofs.lemmas.List.{get_or-replicate, length-replicate, get_or_append_left, get_or_push, length_push, get_or_read}
 use Rattle.std.proofs.lemmas.List.Sums.{sum_by_push}
-use Rattle.mpf_plan.specs.PlanView.{PlanView, no_binding, binding_at, places_of, bound_to}
-use Rattle.mpf_plan.specs.declared.entries.EventId.{EventId}
-use Rattle.mpf_plan.specs.declared.entries.BindingId.{BindingId}
-use Rattle.mpf_plan.specs.declared.entries.Binding.{Binding}
+use Rattle.plan_tables.specs.PlanView.{PlanView, no_binding, binding_at, places_of, bound_to}
+use Rattle.plan_tables.specs.declared.entries.EventId.{EventId}
+use Rattle.plan_tables.specs.declared.entries.BindingId.{BindingId}
+use Rattle.plan_tables.specs.declared.entries.Binding.{Binding}
 use Rattle.cascade_rank.specs.Cost.{Cost, Lines, Weight, Both, each_of, cost_of_binding, cost_of_work, cost_of_event}
 use Rattle.cascade_rank.specs.Events.{no_event, nth_event}
 use Rattle.cascade_rank.specs.Order.{unmet, occurrences, times, IsOrdering, IsMeeting}
 use Rattle.cascade_rank.specs.Leaders.{leaders_to, AddsLeader, HasLeaders}
-use Rattle.mpf_plan.proofs.BoundTo.{places_of-bound}
+use Rattle.plan_tables.proofs.BoundTo.{places_of-bound}
 use Rattle.cascade_rank.proofs.Events.{event, same_event}
 use Rattle.cascade_rank.proofs.Ordering.{counted}
 use Rattle.cascade_rank.proofs.Places.{each_of-map, cost_at_place}

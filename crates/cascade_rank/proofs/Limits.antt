@@ -1,7 +1,7 @@
 -- How many events and bindings a valid plan has at most.
 use Rattle.std.proofs.Common.{◌≤◌, length}
-use Rattle.mpf_plan.specs.PlanView.{PlanView}
-use Rattle.mpf_plan.specs.Valid.{IsValid}
+use Rattle.plan_tables.specs.PlanView.{PlanView}
+use Rattle.plan_tables.specs.Valid.{IsValid}
 
 pub events-few : (plan : PlanView) → IsValid plan → length plan.events ≤ 4096
 events-few plan valid = valid.event_limit

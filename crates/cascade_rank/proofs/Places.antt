@@ -5,12 +5,12 @@ use Rattle.std.proofs.lemmas.Option.{get_or_from_slice_get, slice_get_within}
 use Rattle.std.proofs.lemmas.List.{length-map, take_all}
 use Rattle.std.proofs.lemmas.List.Elements.{All-get_or}
 use Rattle.std.proofs.lemmas.List.Sums.{length-filter, count_by-le-length}
-use Rattle.mpf_plan.specs.PlanView.{PlanView, no_binding, binding_at, places_of, bound_to}
-use Rattle.mpf_plan.specs.Valid.{IsBindingWithin, HasEntries}
-use Rattle.mpf_plan.specs.declared.entries.EventId.{EventId}
-use Rattle.mpf_plan.specs.declared.entries.BindingId.{BindingId}
-use Rattle.mpf_plan.specs.declared.entries.Binding.{Binding}
-use Rattle.mpf_plan.proofs.BoundTo.{places_of-bound, places_of-within}
+use Rattle.plan_tables.specs.PlanView.{PlanView, no_binding, binding_at, places_of, bound_to}
+use Rattle.plan_tables.specs.Valid.{IsBindingWithin, HasEntries}
+use Rattle.plan_tables.specs.declared.entries.EventId.{EventId}
+use Rattle.plan_tables.specs.declared.entries.BindingId.{BindingId}
+use Rattle.plan_tables.specs.declared.entries.Binding.{Binding}
+use Rattle.plan_tables.proofs.BoundTo.{places_of-bound, places_of-within}
 use Rattle.cascade_rank.specs.Cost.{Cost, Both, price, each_of, cost_of_binding}
 use Rattle.cascade_rank.proofs.Prices.{price-each_more}
 

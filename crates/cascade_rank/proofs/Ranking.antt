@@ -1,9 +1,9 @@
 -- Ranks and groundedness, round by round.
 use Rattle.std.proofs.Common.{◌≡◌, ℕ, zero, suc, ◌+◌, ◌≤◌, ◌<◌, true, length, arith}
 use Rattle.std.proofs.lemmas.Bool.{false≢true}
-use Rattle.mpf_plan.specs.PlanView.{PlanView}
-use Rattle.mpf_plan.specs.Valid.{HasEntries}
-use Rattle.mpf_plan.specs.declared.entries.EventId.{EventId}
+use Rattle.plan_tables.specs.PlanView.{PlanView}
+use Rattle.plan_tables.specs.Valid.{HasEntries}
+use Rattle.plan_tables.specs.declared.entries.EventId.{EventId}
 use Rattle.cascade_rank.specs.Cost.{mentions, cost_of_event}
 use Rattle.cascade_rank.specs.Weights.{IsFitting}
 use Rattle.cascade_rank.specs.LeadsTo.{grounded_in, grounded}

@@ -4,22 +4,22 @@ use Rattle.std.specs.List.{All, AllByRecursion}
 use Rattle.std.proofs.lemmas.Bool.{cases_lt, or_cases, eqb-true, false≢true}
 use Rattle.std.proofs.lemmas.List.Elements.{recursion_from_All, All-get_or, All-weaker, All-nil, All-filter}
 use Rattle.std.proofs.lemmas.List.{get_or_past}
-use Rattle.mpf_plan.specs.PlanView.{PlanView, no_mode, mode_at, mode_event, work_of, no_switch, switch_at, actions_at, posts_of, bound_to}
-use Rattle.mpf_plan.specs.declared.entries.ModeId.{ModeId}
-use Rattle.mpf_plan.specs.declared.entries.ModeEvent.{ModeEvent}
-use Rattle.mpf_plan.specs.declared.entries.ModeEvent.TheVariants.{WillStart, Starting, Started, Stopping, Stopped}
-use Rattle.mpf_plan.specs.declared.entries.Work.{Work}
-use Rattle.mpf_plan.specs.declared.entries.Work.TheVariants as works
-use Rattle.mpf_plan.proofs.Worked.{work_found}
-use Rattle.mpf_plan.specs.Valid.{IsEventWithin, IsModeWithin, IsWorkAt, IsActionWithin, IsTargetWithin, IsBindingWithin, IsSwitchWithin, HasEntries}
-use Rattle.mpf_plan.specs.declared.entries.EventId.{EventId}
-use Rattle.mpf_plan.specs.declared.entries.SwitchId.{SwitchId}
-use Rattle.mpf_plan.specs.declared.entries.ListId.{ListId}
-use Rattle.mpf_plan.specs.declared.entries.Action.{Action}
-use Rattle.mpf_plan.specs.declared.entries.Action.TheVariants.{Post}
-use Rattle.mpf_plan.specs.declared.entries.Target.{Target}
-use Rattle.mpf_plan.specs.declared.entries.Target.TheVariants.{Run, Start, Stop}
-use Rattle.mpf_plan.specs.declared.entries.Binding.{Binding}
+use Rattle.plan_tables.specs.PlanView.{PlanView, no_mode, mode_at, mode_event, work_of, no_switch, switch_at, actions_at, posts_of, bound_to}
+use Rattle.plan_tables.specs.declared.entries.ModeId.{ModeId}
+use Rattle.plan_tables.specs.declared.entries.ModeEvent.{ModeEvent}
+use Rattle.plan_tables.specs.declared.entries.ModeEvent.TheVariants.{WillStart, Starting, Started, Stopping, Stopped}
+use Rattle.plan_tables.specs.declared.entries.Work.{Work}
+use Rattle.plan_tables.specs.declared.entries.Work.TheVariants as works
+use Rattle.plan_tables.proofs.Worked.{work_found}
+use Rattle.plan_tables.specs.Valid.{IsEventWithin, IsModeWithin, IsWorkAt, IsActionWithin, IsTargetWithin, IsBindingWithin, IsSwitchWithin, HasEntries}
+use Rattle.plan_tables.specs.declared.entries.EventId.{EventId}
+use Rattle.plan_tables.specs.declared.entries.SwitchId.{SwitchId}
+use Rattle.plan_tables.specs.declared.entries.ListId.{ListId}
+use Rattle.plan_tables.specs.declared.entries.Action.{Action}
+use Rattle.plan_tables.specs.declared.entries.Action.TheVariants.{Post}
+use Rattle.plan_tables.specs.declared.entries.Target.{Target}
+use Rattle.plan_tables.specs.declared.entries.Target.TheVariants.{Run, Start, Stop}
+use Rattle.plan_tables.specs.declared.entries.Binding.{Binding}
 use Rattle.cascade_rank.specs.Cost.{Cost, Lines, Weight, Both, Greater, mentions, each_of, dearest_of, cost_of_post, cost_of_action, cost_of_list, cost_of_target, cost_of_binding, led_by, cost_if_led, cost_of_work, cost_of_event, cost_of_acceptance, cost_of_switch, switches_of, cost_of_stimuli}
 use Rattle.cascade_rank.specs.Below.{IsBelow}
 

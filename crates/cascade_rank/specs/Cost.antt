@@ -1,18 +1,18 @@
 -- What a thing costs: the lines that it prints and the weights of the events that it posts, added up or compared.
 use Rattle.std.specs.Prelude.{ℕ, ◌+◌, max, Bool, true, false, ◌&&◌, ◌||◌, ◌==◌, Option, None, Some, List, [], ◌∷◌, length, map}
 use Rattle.std.specs.List.{range_with_len}
-use Rattle.mpf_plan.specs.PlanView.{PlanView, posts_of, actions_at, bound_to, mode_event, work_of}
-use Rattle.mpf_plan.specs.declared.entries.EventId.{EventId}
-use Rattle.mpf_plan.specs.declared.entries.SwitchId.{SwitchId}
-use Rattle.mpf_plan.specs.declared.entries.ListId.{ListId}
-use Rattle.mpf_plan.specs.declared.entries.Action.{Action}
-use Rattle.mpf_plan.specs.declared.entries.Action.TheVariants.{Post}
-use Rattle.mpf_plan.specs.declared.entries.Target.{Target}
-use Rattle.mpf_plan.specs.declared.entries.Target.TheVariants.{Run, Start, Stop}
-use Rattle.mpf_plan.specs.declared.entries.ModeEvent.TheVariants.{WillStart, Starting, Started, Stopping, Stopped}
-use Rattle.mpf_plan.specs.declared.entries.Work.{Work}
-use Rattle.mpf_plan.specs.declared.entries.Work.TheVariants.{Nothing, Mode}
-use Rattle.mpf_plan.specs.declared.entries.Binding.{Binding}
+use Rattle.plan_tables.specs.PlanView.{PlanView, posts_of, actions_at, bound_to, mode_event, work_of}
+use Rattle.plan_tables.specs.declared.entries.EventId.{EventId}
+use Rattle.plan_tables.specs.declared.entries.SwitchId.{SwitchId}
+use Rattle.plan_tables.specs.declared.entries.ListId.{ListId}
+use Rattle.plan_tables.specs.declared.entries.Action.{Action}
+use Rattle.plan_tables.specs.declared.entries.Action.TheVariants.{Post}
+use Rattle.plan_tables.specs.declared.entries.Target.{Target}
+use Rattle.plan_tables.specs.declared.entries.Target.TheVariants.{Run, Start, Stop}
+use Rattle.plan_tables.specs.declared.entries.ModeEvent.TheVariants.{WillStart, Starting, Started, Stopping, Stopped}
+use Rattle.plan_tables.specs.declared.entries.Work.{Work}
+use Rattle.plan_tables.specs.declared.entries.Work.TheVariants.{Nothing, Mode}
+use Rattle.plan_tables.specs.declared.entries.Binding.{Binding}
 
 pub data Cost : Type 0 where
   Lines : (n : ℕ) → Cost

@@ -1,9 +1,9 @@
 -- Which plans have weights at all: those in which no events lead to each other.
 use Rattle.std.specs.Prelude.{◌≡◌, ◌<◌, true, false, List, length}
 use Rattle.std.specs.List.{All}
-use Rattle.mpf_plan.specs.PlanView.{PlanView}
-use Rattle.mpf_plan.specs.Valid.{HasEntries}
-use Rattle.mpf_plan.specs.declared.entries.EventId.{EventId}
+use Rattle.plan_tables.specs.PlanView.{PlanView}
+use Rattle.plan_tables.specs.Valid.{HasEntries}
+use Rattle.plan_tables.specs.declared.entries.EventId.{EventId}
 use Rattle.cascade_rank.specs.Weights.{IsLeastFitting}
 use Rattle.cascade_rank.specs.LeadsTo.{is_open, IsCycle, HasNoFit}
 use Rattle.cascade_rank.specs.Ranks.{ranks}

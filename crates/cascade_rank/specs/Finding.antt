@@ -1,8 +1,8 @@
 -- What is found of a plan, and of weights.
 use Rattle.std.specs.Prelude.{ℕ, ◌==◌, nat_lt, nat_le, Bool, ◌&&◌, if◌then◌else◌, Option, Some, None, List, length, Result, Ok, Err}
 use Rattle.std.specs.List.{list_all}
-use Rattle.mpf_plan.specs.PlanView.{PlanView}
-use Rattle.mpf_plan.specs.declared.entries.EventId.{EventId}
+use Rattle.plan_tables.specs.PlanView.{PlanView}
+use Rattle.plan_tables.specs.declared.entries.EventId.{EventId}
 use Rattle.cascade_rank.specs.Events.{weight_of}
 use Rattle.cascade_rank.specs.Weights.{need, bound_of, greatest}
 use Rattle.cascade_rank.specs.Ranks.{ranks}

@@ -1,6 +1,6 @@
 -- What it means that no least weights were found.
 use Rattle.std.specs.Prelude.{ℕ, List}
-use Rattle.mpf_plan.specs.PlanView.{PlanView}
+use Rattle.plan_tables.specs.PlanView.{PlanView}
 use Rattle.cascade_rank.specs.Weights.{IsLeastFitting, IsWithinLimit}
 use Rattle.cascade_rank.specs.LeadsTo.{IsCycle, HasNoFit}
 use Rattle.cascade_rank.specs.Cycle.{IsReportedCycle}

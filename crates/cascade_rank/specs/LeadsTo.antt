@@ -1,8 +1,8 @@
 -- Which events an event leads to, and events that lead to each other without end.
 use Rattle.std.specs.Prelude.{◌≡◌, ℕ, zero, suc, ◌+◌, ◌-◌, ◌<◌, Bool, true, false, not, List, length}
 use Rattle.std.specs.List.{All}
-use Rattle.mpf_plan.specs.PlanView.{PlanView}
-use Rattle.mpf_plan.specs.declared.entries.EventId.{EventId}
+use Rattle.plan_tables.specs.PlanView.{PlanView}
+use Rattle.plan_tables.specs.declared.entries.EventId.{EventId}
 use Rattle.cascade_rank.specs.Events.{nth_event}
 use Rattle.cascade_rank.specs.Cost.{mentions, all_mentioned, cost_of_event}
 use Rattle.cascade_rank.specs.Weights.{IsFitting}

@@ -1,7 +1,7 @@
 -- The least weights, where every event is grounded.
 use Rattle.std.specs.Prelude.{ℕ, zero, suc, List, length, map}
-use Rattle.mpf_plan.specs.PlanView.{PlanView}
-use Rattle.mpf_plan.specs.declared.entries.EventId.{EventId}
+use Rattle.plan_tables.specs.PlanView.{PlanView}
+use Rattle.plan_tables.specs.declared.entries.EventId.{EventId}
 use Rattle.cascade_rank.specs.Events.{events_of}
 use Rattle.cascade_rank.specs.Weights.{need}
 

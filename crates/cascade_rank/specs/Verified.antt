@@ -1,7 +1,7 @@
 -- What it means that weights serve, or do not.
 use Rattle.std.specs.Prelude.{◌≡◌, ◌≢◌, ℕ, ◌<◌, ◌≤◌, List, length}
-use Rattle.mpf_plan.specs.PlanView.{PlanView}
-use Rattle.mpf_plan.specs.declared.entries.EventId.{EventId}
+use Rattle.plan_tables.specs.PlanView.{PlanView}
+use Rattle.plan_tables.specs.declared.entries.EventId.{EventId}
 use Rattle.cascade_rank.specs.Events.{weight_of}
 use Rattle.cascade_rank.specs.Weights.{need, IsFitting, bound_of, IsWithinLimit}
 use Rattle.cascade_rank.specs.Finding.{RankView, cycle, bound_too_large, short, wrong_events}

@@ -3,7 +3,7 @@
 ghost use Rattle.std.specs.Prelude.{◌≡◌};
 ghost use Rattle.cascade_rank.specs.declared.fault.RankFault.TheVariants.{NoMemory};
 
-use mpf_plan::EventId;
+use plan_tables::EventId;
 use std::alloc::{AllocError, AllocFailed};
 use thiserror::Error;
 

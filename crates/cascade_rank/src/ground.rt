@@ -1,11 +1,11 @@
 //! The order in which events can be weighed: each event leads only to earlier ones.
 
 ghost use Rattle.std.specs.Prelude.{◌≡◌, [], length, IfOk};
-ghost use Rattle.mpf_plan.specs.Valid.{IsValid};
+ghost use Rattle.plan_tables.specs.Valid.{IsValid};
 ghost use Rattle.cascade_rank.specs.Order.{CountsPosts, IsOrdering, CanMeet, Meets};
 
 use crate::leaders::count_posts;
-use mpf_plan::{EventId, Plan};
+use plan_tables::{EventId, Plan};
 use std::alloc::{AllocError, Global};
 
 /// The events that can reach no cycle, and what is left of each event.

@@ -2,14 +2,14 @@
 
 ghost use Rattle.std.specs.Prelude.{◌≡◌, ◌^◌, ◌<◌, ◌≤◌, false, length, IfOk};
 ghost use Rattle.std.specs.List.{All};
-ghost use Rattle.mpf_plan.specs.Valid.{IsActionWithin, IsTargetWithin};
-ghost use Rattle.mpf_plan.specs.PlanView.{bound_to};
+ghost use Rattle.plan_tables.specs.Valid.{IsActionWithin, IsTargetWithin};
+ghost use Rattle.plan_tables.specs.PlanView.{bound_to};
 ghost use Rattle.cascade_rank.specs.Cost.{each_of, cost_of_post, cost_of_action, cost_of_target, cost_of_binding, cost_of_work, cost_of_event};
 ghost use Rattle.cascade_rank.specs.Order.{unmet};
 ghost use Rattle.cascade_rank.specs.Leaders.{AddsLeader, HasLeaders};
 
 use crate::work::led_by;
-use mpf_plan::{Action, EventId, Plan, Target};
+use plan_tables::{Action, EventId, Plan, Target};
 use std::alloc::{AllocError, Global};
 use std::marker::Model;
 
@@ -21,7 +21,7 @@ pub(crate) struct Leaders {
 
 impl Model for Leaders {
     ghost use Rattle.std.specs.Prelude.{List, map};
-    ghost use Rattle.mpf_plan.specs.declared.entries.EventId.{EventId};
+    ghost use Rattle.plan_tables.specs.declared.entries.EventId.{EventId};
 
     ghost Value = { List (List EventId) };
 

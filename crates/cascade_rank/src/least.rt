@@ -13,7 +13,7 @@ use crate::price::need;
 use crate::verdict::limited_bound;
 use crate::walk::{first_left, walk};
 use crate::weights::Weights;
-use mpf_plan::{EventId, Plan};
+use plan_tables::{EventId, Plan};
 use std::alloc::{AllocError, Global};
 
 /// Whatever weighs more counts as this: one more than the greatest weight.

@@ -5,13 +5,13 @@
 
 ghost use Rattle.std.specs.Prelude.{◌≡◌, ◌+◌, ◌^◌, ◌<◌, length};
 ghost use Rattle.std.specs.List.{All};
-ghost use Rattle.mpf_plan.specs.Valid.{IsActionWithin, IsTargetWithin, IsBindingWithin, IsEventWithin};
-ghost use Rattle.mpf_plan.specs.PlanView.{bound_to};
+ghost use Rattle.plan_tables.specs.Valid.{IsActionWithin, IsTargetWithin, IsBindingWithin, IsEventWithin};
+ghost use Rattle.plan_tables.specs.PlanView.{bound_to};
 ghost use Rattle.cascade_rank.specs.Events.{weight_of};
 ghost use Rattle.cascade_rank.specs.Cost.{price, each_of, cost_of_post, cost_of_action, cost_of_list, cost_of_target, cost_of_binding, cost_of_work, cost_of_event, cost_of_switch, cost_of_stimuli};
 
 use crate::work::led_by;
-use mpf_plan::{Action, Binding, EventId, ListId, Plan, SwitchId, Target};
+use plan_tables::{Action, Binding, EventId, ListId, Plan, SwitchId, Target};
 
 /// What an event costs: its line, all that is bound to it, and the machine's work.
 pub(crate) fn need(plan: &Plan, weights: &[u32], event: EventId) -> u128

@@ -11,7 +11,7 @@ ghost use Rattle.cascade_rank.specs.Verified.{IsVerified, IsUnverified, IsFirstS
 use crate::fault::RankFault;
 use crate::price::{bound_of, need};
 use crate::weights::Weights;
-use mpf_plan::{EventId, Plan};
+use plan_tables::{EventId, Plan};
 
 /// The greatest weight and the greatest bound that are accepted.
 const GREATEST: u32 = 10_000;

@@ -2,8 +2,8 @@
 
 ghost use Rattle.std.specs.Prelude.{◌≡◌, ◌<◌, ◌==◌, nat_lt, length, position, IfOk};
 ghost use Rattle.std.specs.List.{All};
-ghost use Rattle.mpf_plan.specs.Valid.{IsActionWithin, IsTargetWithin, IsValid};
-ghost use Rattle.mpf_plan.specs.PlanView.{bound_to};
+ghost use Rattle.plan_tables.specs.Valid.{IsActionWithin, IsTargetWithin, IsValid};
+ghost use Rattle.plan_tables.specs.PlanView.{bound_to};
 ghost use Rattle.cascade_rank.specs.Cost.{each_of, cost_of_post, cost_of_action, cost_of_target, cost_of_binding, cost_of_work};
 ghost use Rattle.cascade_rank.specs.LeadsTo.{is_open, IsCycle};
 ghost use Rattle.cascade_rank.specs.Cycle.{IsFirst, IsReportedCycle, next_open, from_first, cycle_of};
@@ -11,7 +11,7 @@ ghost use Rattle.cascade_rank.specs.Lowest.{lowest, IsLeft};
 ghost use Rattle.cascade_rank.specs.Order.{left_of};
 
 use crate::work::led_by;
-use mpf_plan::{Action, EventId, Plan, Target};
+use plan_tables::{Action, EventId, Plan, Target};
 use std::alloc::{AllocError, Global};
 
 /// The place of the first event of which something is left, if there is one.

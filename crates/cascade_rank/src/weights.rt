@@ -1,6 +1,6 @@
 //! Weights of events.
 
-use mpf_plan::EventId;
+use plan_tables::EventId;
 use std::marker::Model;
 
 /// A weight for each event, in the order of their numbers. If the weights fit, posting an event

@@ -1,12 +1,12 @@
 //! What the machine itself leads to at an event.
 
 ghost use Rattle.std.specs.Prelude.{◌≡◌, ◌<◌, length, IfSome};
-ghost use Rattle.mpf_plan.specs.declared.entries.Work.TheVariants as works;
-ghost use Rattle.mpf_plan.specs.PlanView.{work_of};
-ghost use Rattle.mpf_plan.specs.Valid.{IsValid};
+ghost use Rattle.plan_tables.specs.declared.entries.Work.TheVariants as works;
+ghost use Rattle.plan_tables.specs.PlanView.{work_of};
+ghost use Rattle.plan_tables.specs.Valid.{IsValid};
 ghost use Rattle.cascade_rank.specs.Cost.{led_by};
 
-use mpf_plan::{EventId, ModeEvent, ModeId, Plan, Work};
+use plan_tables::{EventId, ModeEvent, ModeId, Plan, Work};
 
 /// The event that the machine itself posts as its work at an event, if it posts one.
 pub(crate) fn led_by(plan: &Plan, event: EventId) -> Option<EventId>

@@ -4,8 +4,8 @@ use Rattle.std.proofs.lemmas.Option.{none-some}
 use Rattle.std.proofs.lemmas.List.{length-map, length-replicate}
 use Rattle.mode_stack.specs.declared.phase.Phase.TheVariants.{Idle}
 use Rattle.mode_stack.specs.ModeStep.{in_phase}
-use Rattle.mpf_plan.specs.PlanView.{PlanView, work_of}
-use Rattle.mpf_plan.specs.Valid.{IsValid}
+use Rattle.plan_tables.specs.PlanView.{PlanView, work_of}
+use Rattle.plan_tables.specs.Valid.{IsValid}
 use Rattle.switch_core.specs.SwitchStep.{idle}
 use Rattle.switch_core.specs.Switches.{SwitchesView, IsComplete, due_of, after_change, reported_by_change, accept, reported}
 use Rattle.switch_core.proofs.DueMoments.{changes_arm_later, accept-due, accept-done, idle-nothing_due}

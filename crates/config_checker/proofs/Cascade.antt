@@ -1,9 +1,9 @@
 -- Where weights fit, no event step raises the potential. So every run of an accepted plan is good.
 use Rattle.std.proofs.Common.{◌≡◌, ℕ, zero, suc, ◌+◌, ◌≤◌, ◌<◌, Bool, true, false, if◌then◌else◌, Some, None, List, [], ◌∷◌, length, refl, ap, sym, subst, arith, length-append}
-use Rattle.mpf_plan.specs.PlanView.{PlanView, work_of}
-use Rattle.mpf_plan.specs.declared.entries.EventId.{EventId}
-use Rattle.mpf_plan.specs.Valid.{IsValid}
-use Rattle.mpf_plan.specs.declared.entries.SwitchId.{SwitchId}
+use Rattle.plan_tables.specs.PlanView.{PlanView, work_of}
+use Rattle.plan_tables.specs.declared.entries.EventId.{EventId}
+use Rattle.plan_tables.specs.Valid.{IsValid}
+use Rattle.plan_tables.specs.declared.entries.SwitchId.{SwitchId}
 use Rattle.switch_core.specs.declared.change.Change.{Change as Acceptance}
 use Rattle.switch_core.specs.SwitchStep.{is_taken}
 use Rattle.switch_core.specs.Switches.{kind_at, state_at, after_change, accept, reported}

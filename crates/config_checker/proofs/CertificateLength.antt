@@ -10,7 +10,7 @@ use Rattle.std.proofs.lemmas.Slice.Zip.{firsts-zip, seconds-zip}
 use Rattle.mpf_config.specs.Rows.{Rows}
 use Rattle.mpf_config.specs.Reading.{rows_at}
 use Rattle.mpf_config.proofs.ShortRows.{rows_are_short, rows_are_few}
-use Rattle.mpf_plan.specs.PlanView.{PlanView}
+use Rattle.plan_tables.specs.PlanView.{PlanView}
 use Rattle.cascade_rank.specs.Weights.{greatest}
 use Rattle.config_checker.specs.CheckedView.{CheckedView}
 use Rattle.config_checker.specs.Accepted.{IsAccepted}

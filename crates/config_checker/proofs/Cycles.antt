@@ -1,12 +1,12 @@
 -- A mode's own five events come in turn: which of them wait, by its phase.
 use Rattle.std.proofs.Common.{◌≡◌, ℕ, Bool, true, false, ◌==◌, cond, List, [], ◌∷◌, ◌++◌, refl, ap, ◌∙◌, rules}
 use Rattle.std.specs.List.{AllByRecursion}
-use Rattle.mpf_plan.specs.PlanView.{PlanView, work_of}
-use Rattle.mpf_plan.specs.declared.entries.ModeId.{ModeId}
-use Rattle.mpf_plan.specs.declared.entries.ModeEvent.{ModeEvent}
-use Rattle.mpf_plan.specs.declared.entries.ModeEvent.TheVariants.{WillStart, Starting, Started, Stopping, Stopped}
-use Rattle.mpf_plan.specs.declared.entries.Work.{Work}
-use Rattle.mpf_plan.specs.declared.entries.Work.TheVariants.{Nothing, Mode}
+use Rattle.plan_tables.specs.PlanView.{PlanView, work_of}
+use Rattle.plan_tables.specs.declared.entries.ModeId.{ModeId}
+use Rattle.plan_tables.specs.declared.entries.ModeEvent.{ModeEvent}
+use Rattle.plan_tables.specs.declared.entries.ModeEvent.TheVariants.{WillStart, Starting, Started, Stopping, Stopped}
+use Rattle.plan_tables.specs.declared.entries.Work.{Work}
+use Rattle.plan_tables.specs.declared.entries.Work.TheVariants.{Nothing, Mode}
 use Rattle.mode_stack.specs.declared.phase.Phase.{Phase}
 use Rattle.mode_stack.specs.declared.phase.Phase.TheVariants as phases
 use Rattle.mode_stack.specs.ModeStep.{is_running}

@@ -9,8 +9,8 @@ use Rattle.mpf_config.specs.Rows.{Rows}
 use Rattle.mpf_config.specs.Named.{IsName}
 use Rattle.mpf_config.specs.Reading.{rows_at}
 use Rattle.mpf_config.proofs.RowNames.{rows_are_named, name_bytes, modes_are_named}
-use Rattle.mpf_plan.specs.declared.entries.ModeEvent.{ModeEvent}
-use Rattle.mpf_plan.specs.declared.entries.ModeEvent.TheVariants.{WillStart, Starting, Started, Stopping, Stopped}
+use Rattle.plan_tables.specs.declared.entries.ModeEvent.{ModeEvent}
+use Rattle.plan_tables.specs.declared.entries.ModeEvent.TheVariants.{WillStart, Starting, Started, Stopping, Stopped}
 use Rattle.mpf_plan.specs.Contributions.{event_ending, mode_event_name}
 use Rattle.mpf_plan.specs.PlanOf.{plan_of}
 use Rattle.mpf_plan.proofs.EventNames.{event_names}

@@ -4,7 +4,7 @@ use Rattle.std.specs.List.{zip}
 use Rattle.std.proofs.lemmas.Bool.{cond-true, cond-false, eq-eqb, ne_eqb}
 use Rattle.std.proofs.lemmas.Slice.Zip.{firsts-zip, seconds-zip}
 use Rattle.mpf_config.specs.Rows.{Rows}
-use Rattle.mpf_plan.specs.PlanView.{PlanView, name_of_event}
+use Rattle.plan_tables.specs.PlanView.{PlanView, name_of_event}
 use Rattle.mpf_plan.specs.PlanOf.{plan_at, plan_of}
 use Rattle.mpf_plan.proofs.Judged.{plan_at-Ok, plan_at-exceeded}
 use Rattle.cascade_rank.specs.Events.{weight_of}

@@ -1,12 +1,12 @@
 -- What the parts of an event step and the beginning of a stimulus keep, each run keeps, with the trace so far.
 use Rattle.std.proofs.Common.{◌≡◌, ℕ, zero, suc, Bool, List, [], ◌∷◌, ◌++◌, ap, sym, ◌∙◌, subst, append_assoc}
 use Rattle.std.proofs.lemmas.List.{append-nil}
-use Rattle.mpf_plan.specs.PlanView.{PlanView}
+use Rattle.plan_tables.specs.PlanView.{PlanView}
 use Rattle.config_checker.specs.declared.line.Line.{Line}
 use Rattle.cascade_rank.specs.Cost.{Cost}
 use Rattle.event_queue.specs.declared.queue.Posted.{Posted}
 use Rattle.config_checker.specs.Machine.{Machine}
-use Rattle.mpf_plan.specs.PlanView.{work_of}
+use Rattle.plan_tables.specs.PlanView.{work_of}
 use Rattle.config_checker.specs.EventStep.{before_handlers, is_kept, do_after, EventStep, EventSteps}
 use Rattle.config_checker.specs.Run.{Stimulus, IsAllowed, begin, IsRun}
 use Rattle.config_checker.proofs.Does.{Does}

@@ -1,8 +1,8 @@
 -- The stimuli of a run are calls of the switches. So what is accepted after every list of calls is accepted in every
 -- run.
 use Rattle.std.proofs.Common.{◌≡◌, ℕ, ◌≤◌, ◌<◌, List, [], ◌∷◌, length, ap, sym, ◌∙◌, subst, arith}
-use Rattle.mpf_plan.specs.PlanView.{PlanView, switch_at}
-use Rattle.mpf_plan.specs.declared.entries.SwitchId.{SwitchId}
+use Rattle.plan_tables.specs.PlanView.{PlanView, switch_at}
+use Rattle.plan_tables.specs.declared.entries.SwitchId.{SwitchId}
 use Rattle.switch_core.specs.SwitchStep.{raw_at_rest}
 use Rattle.switch_core.specs.Switches.{SwitchesView, all_idle, active_at, IsNothingDueBy as IsNoSwitchDueBy}
 use Rattle.switch_core.specs.AcceptedLevel.{accepted_level}

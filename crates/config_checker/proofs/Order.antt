@@ -2,11 +2,11 @@
 use Rattle.std.proofs.Common.{◌≡◌, ℕ, ◌+◌, ◌≤◌, Bool, not, List, [], ◌∷◌, map, refl, ap, arith}
 use Rattle.std.proofs.lemmas.List.Filters.{sum_by-filter_both}
 use Rattle.std.proofs.lemmas.List.Sorted.{sum_by-IsPermutation}
-use Rattle.mpf_plan.specs.PlanView.{PlanView, binding_at, places_of, bound_to}
-use Rattle.mpf_plan.specs.declared.entries.EventId.{EventId}
-use Rattle.mpf_plan.specs.declared.entries.BindingId.{BindingId}
-use Rattle.mpf_plan.specs.declared.entries.Binding.{Binding}
-use Rattle.mpf_plan.proofs.BoundTo.{places_of-bound}
+use Rattle.plan_tables.specs.PlanView.{PlanView, binding_at, places_of, bound_to}
+use Rattle.plan_tables.specs.declared.entries.EventId.{EventId}
+use Rattle.plan_tables.specs.declared.entries.BindingId.{BindingId}
+use Rattle.plan_tables.specs.declared.entries.Binding.{Binding}
+use Rattle.plan_tables.proofs.BoundTo.{places_of-bound}
 use Rattle.cascade_rank.specs.Cost.{Cost, price, each_of, cost_of_binding, cost_of_work}
 use Rattle.cascade_rank.specs.Weights.{need}
 use Rattle.cascade_rank.proofs.Prices.{price-each_sum}

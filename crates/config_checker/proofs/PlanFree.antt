@@ -9,12 +9,12 @@ use Rattle.std.proofs.lemmas.Slice.Eq.{bytes_eq-Decides}
 use Rattle.yaml_subset.specs.Keys.{is_among}
 use Rattle.mpf_config.specs.Rows.{Written, Switch, EventPlayer, SectionRows, ModeRows, Rows}
 use Rattle.mpf_config.specs.Typed.{switches_in, event_players_in, listed_modes}
-use Rattle.mpf_plan.specs.declared.entries.EventId.{EventId}
-use Rattle.mpf_plan.specs.declared.entries.ModeEvent.{ModeEvent}
-use Rattle.mpf_plan.specs.declared.entries.ModeEvent.TheVariants.{WillStart, Starting, Started, Stopping, Stopped}
-use Rattle.mpf_plan.specs.declared.entries.Action.{Action}
-use Rattle.mpf_plan.specs.declared.entries.Action.TheVariants.{Post}
-use Rattle.mpf_plan.specs.PlanView.{PlanSwitch, PlanView, name_of_event}
+use Rattle.plan_tables.specs.declared.entries.EventId.{EventId}
+use Rattle.plan_tables.specs.declared.entries.ModeEvent.{ModeEvent}
+use Rattle.plan_tables.specs.declared.entries.ModeEvent.TheVariants.{WillStart, Starting, Started, Stopping, Stopped}
+use Rattle.plan_tables.specs.declared.entries.Action.{Action}
+use Rattle.plan_tables.specs.declared.entries.Action.TheVariants.{Post}
+use Rattle.plan_tables.specs.PlanView.{PlanSwitch, PlanView, name_of_event}
 use Rattle.mpf_plan.specs.Contributions.{texts, tag_event, active_posts, inactive_posts, mode_event_name}
 use Rattle.mpf_plan.specs.PlanOf.{plan_at}
 use Rattle.mpf_plan.proofs.Posted.{IsPost, ArePosts}

@@ -8,11 +8,11 @@ use Rattle.mpf_config.specs.Rows.{Rows}
 use Rattle.mpf_config.specs.FewModes.{AreFewModes}
 use Rattle.mpf_config.specs.Short.{AreListsShort}
 use Rattle.mpf_config.specs.Reading.{rows_at}
-use Rattle.mpf_plan.specs.PlanView.{PlanView}
-use Rattle.mpf_plan.specs.declared.entries.EventId.{EventId}
+use Rattle.plan_tables.specs.PlanView.{PlanView}
+use Rattle.plan_tables.specs.declared.entries.EventId.{EventId}
 use Rattle.mpf_plan.specs.PlanOf.{plan_at, plan_of, PlanRefusal, no_such_name, above_limit}
 use Rattle.mpf_plan.proofs.Judged.{plan_at-Ok}
-use Rattle.mpf_plan.specs.Valid.{HasEntries}
+use Rattle.plan_tables.specs.Valid.{HasEntries}
 use Rattle.mpf_plan.proofs.ValidPlan.{HasEntries-plan_at, IsValid-plan_at}
 use Rattle.cascade_rank.specs.Events.{weight_of}
 use Rattle.cascade_rank.specs.Weights.{IsLeastFitting, bound_of, greatest}

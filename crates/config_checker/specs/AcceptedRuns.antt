@@ -1,5 +1,5 @@
 -- Every run of what is accepted is good, whoever found its weights.
-use Rattle.mpf_plan.specs.Valid.{IsValid}
+use Rattle.plan_tables.specs.Valid.{IsValid}
 use Rattle.cascade_rank.specs.Verified.{IsVerified}
 use Rattle.config_checker.specs.CheckedView.{CheckedView}
 use Rattle.config_checker.specs.Accepted.{IsAccepted}

@@ -1,7 +1,7 @@
 -- The alarms that come by a moment, one after another, each with its event steps in plan order.
 use Rattle.std.specs.Prelude.{ℕ, zero, suc, nat_le, if◌then◌else◌, Option, Some, None, List, [], ◌∷◌}
 use Rattle.std.specs.Option.{option_map_or}
-use Rattle.mpf_plan.specs.PlanView.{PlanView}
+use Rattle.plan_tables.specs.PlanView.{PlanView}
 use Rattle.config_checker.specs.Machine.{Machine}
 use Rattle.config_checker.specs.Run.{Source, Stimulus, Alarm}
 use Rattle.config_checker.specs.NextAlarm.{next_alarm}

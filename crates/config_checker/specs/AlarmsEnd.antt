@@ -1,6 +1,6 @@
 -- Alarms come to an end, since a stimulus arms nothing for its own moment.
 use Rattle.std.specs.Prelude.{◌≡◌, ℕ, ◌<◌, ◌⊎◌, Some, List}
-use Rattle.mpf_plan.specs.PlanView.{PlanView}
+use Rattle.plan_tables.specs.PlanView.{PlanView}
 use Rattle.config_checker.specs.declared.line.Line.{Line}
 use Rattle.config_checker.specs.Machine.{Machine}
 use Rattle.config_checker.specs.EventStep.{EventSteps}

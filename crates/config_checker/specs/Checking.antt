@@ -2,7 +2,7 @@
 use Rattle.std.specs.Prelude.{ℕ, ◌==◌, ◌&&◌, Bool, true, false, if◌then◌else◌, List, [], ◌∷◌, map, Result, Ok, Err}
 use Rattle.std.specs.Str.{bytes_eq}
 use Rattle.mpf_config.specs.Rows.{Rows}
-use Rattle.mpf_plan.specs.PlanView.{PlanView, name_of_event}
+use Rattle.plan_tables.specs.PlanView.{PlanView, name_of_event}
 use Rattle.mpf_plan.specs.PlanOf.{plan_at, PlanRefusal, no_such_name, above_limit}
 use Rattle.cascade_rank.specs.Events.{weight_of}
 use Rattle.cascade_rank.specs.Weights.{bound_of}

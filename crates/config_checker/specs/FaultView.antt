@@ -1,6 +1,6 @@
 -- Faults, apart from where they lie in memory.
 use Rattle.std.specs.Prelude.{ℕ, List}
-use Rattle.mpf_plan.specs.declared.fault.Table.{Table}
+use Rattle.plan_tables.specs.declared.table.Table.{Table}
 
 -- what is wrong with a certificate
 pub data CertificateFaultView : Type 0 where

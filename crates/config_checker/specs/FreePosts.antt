@@ -1,11 +1,11 @@
 -- What a plan must not post.
 use Rattle.std.specs.Prelude.{◌≡◌}
 use Rattle.std.specs.List.{All}
-use Rattle.mpf_plan.specs.PlanView.{PlanSwitch, PlanView, work_of}
-use Rattle.mpf_plan.specs.declared.entries.EventId.{EventId}
-use Rattle.mpf_plan.specs.declared.entries.Action.{Action}
-use Rattle.mpf_plan.specs.declared.entries.Action.TheVariants.{Post}
-use Rattle.mpf_plan.specs.declared.entries.Work.TheVariants.{Nothing}
+use Rattle.plan_tables.specs.PlanView.{PlanSwitch, PlanView, work_of}
+use Rattle.plan_tables.specs.declared.entries.EventId.{EventId}
+use Rattle.plan_tables.specs.declared.entries.Action.{Action}
+use Rattle.plan_tables.specs.declared.entries.Action.TheVariants.{Post}
+use Rattle.plan_tables.specs.declared.entries.Work.TheVariants.{Nothing}
 
 -- the machine itself does nothing at the event
 abbrev pub IsFree : PlanView → EventId → Type 0

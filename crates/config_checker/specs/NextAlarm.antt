@@ -1,7 +1,7 @@
 -- Which alarm comes next, computed.
 use Rattle.std.specs.Prelude.{ℕ, ◌+◌, ◌-◌, ◌*◌, nat_le, Bool, false, Option, option_map, length}
 use Rattle.std.specs.Option.{option_map_or}
-use Rattle.mpf_plan.specs.PlanView.{PlanView}
+use Rattle.plan_tables.specs.PlanView.{PlanView}
 use Rattle.switch_core.specs.Switches.{next_due}
 use Rattle.config_checker.specs.Machine.{Machine}
 use Rattle.config_checker.specs.Run.{Source, switch}

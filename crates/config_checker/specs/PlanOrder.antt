@@ -1,6 +1,6 @@
 -- The event steps that the controller takes: each event's handlers run in plan order.
 use Rattle.std.specs.Prelude.{ℕ, zero, suc, List, [], ◌∷◌}
-use Rattle.mpf_plan.specs.PlanView.{PlanView}
+use Rattle.plan_tables.specs.PlanView.{PlanView}
 use Rattle.event_queue.specs.declared.queue.Posted.{Posted}
 use Rattle.event_queue.specs.PlanOrder.{by_priority}
 use Rattle.config_checker.specs.Machine.{Machine}

@@ -1,8 +1,8 @@
 -- Why a configuration or a certificate is refused.
 use Rattle.std.specs.Prelude.{◌≡◌, ◌≢◌, ℕ, List, [], ◌∷◌, map}
 use Rattle.mpf_config.specs.Rows.{Rows}
-use Rattle.mpf_plan.specs.PlanView.{PlanView, name_of_event}
-use Rattle.mpf_plan.specs.declared.entries.EventId.{EventId}
+use Rattle.plan_tables.specs.PlanView.{PlanView, name_of_event}
+use Rattle.plan_tables.specs.declared.entries.EventId.{EventId}
 use Rattle.mpf_plan.specs.PlanOf.{plan_of, IsExceeded}
 use Rattle.cascade_rank.specs.Finding as ranks
 use Rattle.cascade_rank.specs.Found.{IsUnfound}

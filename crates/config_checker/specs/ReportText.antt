@@ -2,7 +2,7 @@
 use Rattle.std.specs.Prelude.{ℕ, List, [], ◌∷◌, ◌++◌, codes}
 use Rattle.std.specs.List.{flat_map}
 use Rattle.std.specs.Fmt.{decimal}
-use Rattle.mpf_plan.specs.Limits.{table_name}
+use Rattle.plan_tables.specs.Limits.{table_name}
 use Rattle.mpf_config.specs.FaultLine.{spaced}
 use Rattle.mpf_config.specs.Escaped.{escaped}
 use Rattle.config_checker.specs.FaultView.{CertificateFaultView, bad_line, other_events, short, other_bound, FaultView, reserved, limit, cycle, bound, certificate}

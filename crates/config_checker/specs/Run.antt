@@ -1,7 +1,7 @@
 -- Stimuli, and runs of the machine.
 use Rattle.std.specs.Prelude.{◌≡◌, ℕ, ◌<◌, ◌≤◌, ◌^◌, ◌⊎◌, Bool, Option, Some, List, [], ◌∷◌, ◌++◌, length}
-use Rattle.mpf_plan.specs.PlanView.{PlanView}
-use Rattle.mpf_plan.specs.declared.entries.SwitchId.{SwitchId}
+use Rattle.plan_tables.specs.PlanView.{PlanView}
+use Rattle.plan_tables.specs.declared.entries.SwitchId.{SwitchId}
 use Rattle.switch_core.specs.Switches.{due_of}
 use Rattle.config_checker.specs.declared.line.Line.{Line}
 use Rattle.config_checker.specs.Machine.{Machine, initial, change_switch, fire_switch}

@@ -7,7 +7,7 @@ use Rattle.std.specs.Global.{Vec}
 use Rattle.section_tables.specs.declared.rows.Name.{Name}
 use Rattle.mpf_config.specs.Rows.{Written}
 use Rattle.mpf_config.specs.View.{name_view}
-use Rattle.mpf_plan.specs.PlanView.{PlanView}
+use Rattle.plan_tables.specs.PlanView.{PlanView}
 use Rattle.cascade_rank.specs.Finding.{RankView}
 use Rattle.cascade_rank.specs.Finding as ranks
 use Rattle.config_checker.specs.declared.report.CertificateFault.{CertificateFault}

@@ -5,7 +5,7 @@ ghost use Rattle.std.specs.Io.KnownBytes.{Appends};
 ghost use Rattle.config_checker.specs.CertificateText.{certificate_of, certificate_text, event_line, event_lines};
 
 use crate::checked::Checked;
-use mpf_plan::entries::EventId;
+use plan_tables::entries::EventId;
 use std::io::{self, Write};
 
 /// Writes the certificate: its version, the bound, and each event with its weight.

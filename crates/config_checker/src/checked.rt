@@ -1,7 +1,7 @@
 //! A configuration that was accepted.
 
 use cascade_rank::Weights;
-use mpf_plan::Plan;
+use plan_tables::Plan;
 use std::marker::Model;
 
 /// A plan that was accepted, with the weights and the bound of its certificate.

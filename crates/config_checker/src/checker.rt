@@ -18,7 +18,8 @@ use crate::reporting::{named_fault, report_of};
 use crate::row_faults::faults_of_rows;
 use cascade_rank::{Bound, Weights, find, verify};
 use mpf_config::config::Config;
-use mpf_plan::{EventId, Plan, PlanFault};
+use mpf_plan::PlanFault;
+use plan_tables::{EventId, Plan};
 use std::alloc::Global;
 
 /// Checks a configuration. What it accepts has a plan, the least weights that fit it, and their

@@ -1,6 +1,6 @@
 //! The lines of a trace.
 
-use mpf_plan::entries::{EventId, Owner, SwitchId};
+use plan_tables::entries::{EventId, Owner, SwitchId};
 
 /// What a line says.
 #[derive(Clone, Copy, Debug)]

@@ -3,7 +3,7 @@
 ghost use Rattle.std.specs.Prelude.{◌≡◌};
 ghost use Rattle.config_checker.specs.declared.report.Report.TheVariants.{NoMemory};
 
-use mpf_plan::fault::Table;
+use plan_tables::table::Table;
 use std::alloc::{AllocError, AllocFailed};
 use thiserror::Error;
 

@@ -2,15 +2,15 @@
 
 ghost use Rattle.std.specs.Prelude.{◌≡◌, Some, IfOk, map, option_map, length};
 ghost use Rattle.std.specs.List.{All};
-ghost use Rattle.mpf_plan.specs.PlanView.{name_of_event};
-ghost use Rattle.mpf_plan.specs.Valid.{IsEventWithin};
+ghost use Rattle.plan_tables.specs.PlanView.{name_of_event};
+ghost use Rattle.plan_tables.specs.Valid.{IsEventWithin};
 ghost use Rattle.cascade_rank.specs.View.{rank_view, IfRank};
 ghost use Rattle.config_checker.specs.Checking.{named_fault};
 ghost use Rattle.config_checker.specs.View.{HasEvents, ReportsFault, fault_view};
 
 use crate::report::{CertificateFault, Fault, Report};
 use cascade_rank::RankFault;
-use mpf_plan::{EventId, Plan};
+use plan_tables::{EventId, Plan};
 use std::alloc::{AllocError, Global};
 
 /// The report of one fault.

@@ -3,10 +3,10 @@ use Rattle.std.proofs.Common.{◌≡◌, ℕ, false, [], length, get_or, replica
 use Rattle.std.proofs.lemmas.Bool.{cases_lt}
 use Rattle.std.proofs.lemmas.List.{get_or-replicate, get_or_past, length-replicate}
 use Rattle.std.proofs.lemmas.List.Elements.{filter_agree}
-use Rattle.mpf_plan.specs.declared.entries.EventId.{EventId}
-use Rattle.mpf_plan.specs.declared.entries.Owner.{Owner}
-use Rattle.mpf_plan.specs.declared.entries.Owner.TheVariants as owners
-use Rattle.mpf_plan.specs.PlanView.{PlanView, binding_at, places_of}
+use Rattle.plan_tables.specs.declared.entries.EventId.{EventId}
+use Rattle.plan_tables.specs.declared.entries.Owner.{Owner}
+use Rattle.plan_tables.specs.declared.entries.Owner.TheVariants as owners
+use Rattle.plan_tables.specs.PlanView.{PlanView, binding_at, places_of}
 use Rattle.event_queue.specs.Handlers.{none_running, takes_part, runs_at}
 use Rattle.event_queue.specs.PlanOrder.{by_priority, in_order}
 

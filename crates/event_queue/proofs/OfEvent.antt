@@ -2,11 +2,11 @@
 use Rattle.std.proofs.Common.{◌≡◌, ◌<◌, ◌≤◌, List, [], ◌∷◌, length, refl, ap, arith}
 use Rattle.std.specs.List.{All}
 use Rattle.std.proofs.lemmas.List.Sorted.{All-permutation}
-use Rattle.mpf_plan.specs.declared.entries.EventId.{EventId}
-use Rattle.mpf_plan.specs.declared.entries.BindingId.{BindingId}
-use Rattle.mpf_plan.specs.PlanView.{PlanView, no_binding, binding_at, places_of}
-use Rattle.mpf_plan.specs.Valid.{IsValid}
-use Rattle.mpf_plan.proofs.BoundTo.{places_of-within, places_of-on}
+use Rattle.plan_tables.specs.declared.entries.EventId.{EventId}
+use Rattle.plan_tables.specs.declared.entries.BindingId.{BindingId}
+use Rattle.plan_tables.specs.PlanView.{PlanView, no_binding, binding_at, places_of}
+use Rattle.plan_tables.specs.Valid.{IsValid}
+use Rattle.plan_tables.proofs.BoundTo.{places_of-within, places_of-on}
 use Rattle.event_queue.specs.PlanOrder.{by_priority, bound_in_order}
 use Rattle.event_queue.proofs.Sort.{by_priority-permutes}
 

@@ -6,9 +6,9 @@ use Rattle.std.proofs.lemmas.Bool.{cases_lt, cond_both, ltb-true, ltb-false}
 use Rattle.std.proofs.lemmas.List.Elements.{All-cons, All-map}
 use Rattle.std.proofs.lemmas.List.Kept.{AllPairs-cons, AllPairs-filter}
 use Rattle.std.proofs.lemmas.List.Sorted.{IsPermutation-sym, All-permutation}
-use Rattle.mpf_plan.specs.declared.entries.EventId.{EventId}
-use Rattle.mpf_plan.specs.declared.entries.BindingId.{BindingId}
-use Rattle.mpf_plan.specs.PlanView.{PlanView, binding_at, places_of}
+use Rattle.plan_tables.specs.declared.entries.EventId.{EventId}
+use Rattle.plan_tables.specs.declared.entries.BindingId.{BindingId}
+use Rattle.plan_tables.specs.PlanView.{PlanView, binding_at, places_of}
 use Rattle.event_queue.specs.Handlers.{runs_at, handlers, priority_at}
 use Rattle.event_queue.specs.PlanOrder.{RunsBefore, IsPlanOrder, insert_place, by_priority, in_order, bound_in_order, handlers_from, HandlersAreInPlanOrder}
 use Rattle.event_queue.proofs.Filtered.{where-All, All-where}

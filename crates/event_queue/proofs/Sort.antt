@@ -4,8 +4,8 @@ use Rattle.std.specs.List.{AllByRecursion}
 use Rattle.std.specs.List.Sorted.{IsPermutation}
 use Rattle.std.proofs.lemmas.Bool.{cond_both, ltb-true, ltb-false}
 use Rattle.std.proofs.lemmas.List.Sorted.{IsPermutation-refl, IsPermutation-cons, IsPermutation-trans, IsPermutation-swap}
-use Rattle.mpf_plan.specs.declared.entries.BindingId.{BindingId}
-use Rattle.mpf_plan.specs.PlanView.{PlanView}
+use Rattle.plan_tables.specs.declared.entries.BindingId.{BindingId}
+use Rattle.plan_tables.specs.PlanView.{PlanView}
 use Rattle.event_queue.specs.Handlers.{priority_at, IsDescending, IsHandlerOrder}
 use Rattle.event_queue.specs.PlanOrder.{insert_place, by_priority}
 

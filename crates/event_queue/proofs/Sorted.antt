@@ -8,9 +8,9 @@ use Rattle.std.specs.declared.cmp.Ordering.TheVariants.{Less, Equal, Greater}
 use Rattle.std.proofs.lemmas.Bool.{cases_lt, ltb-false, le-ltb}
 use Rattle.std.proofs.lemmas.List.Kept.{AllPairs-filter}
 use Rattle.std.proofs.lemmas.List.Sorted.{ranks_by, IsStrictWeakOrder-flip, sorted_far}
-use Rattle.mpf_plan.specs.declared.entries.EventId.{EventId}
-use Rattle.mpf_plan.specs.declared.entries.BindingId.{BindingId}
-use Rattle.mpf_plan.specs.PlanView.{PlanView, places_of}
+use Rattle.plan_tables.specs.declared.entries.EventId.{EventId}
+use Rattle.plan_tables.specs.declared.entries.BindingId.{BindingId}
+use Rattle.plan_tables.specs.PlanView.{PlanView, places_of}
 use Rattle.event_queue.specs.Handlers.{priority_at}
 use Rattle.event_queue.specs.PlanOrder.{RunsBefore, bound_in_order}
 use Rattle.event_queue.proofs.Filtered.{where-AllPairs}

@@ -4,7 +4,7 @@ ghost use Rattle.std.specs.Prelude.{◌≡◌};
 ghost use Rattle.event_queue.specs.Handlers.{takes_part};
 
 use crate::orders::orders;
-use mpf_plan::{BindingId, EventId, ModeId, Owner, Plan};
+use plan_tables::{BindingId, EventId, ModeId, Owner, Plan};
 use std::alloc::{AllocError, Global};
 use std::marker::Model;
 
@@ -36,7 +36,7 @@ impl<'p> Model for Handlers<'p> {
 impl<'p> Handlers<'p> {
     ghost use Rattle.std.specs.Prelude.{◌≡◌, ◌<◌, ◌≤◌, true, false, length, slice_get, IfOk, IfSome};
     ghost use Rattle.std.specs.List.{All};
-    ghost use Rattle.mpf_plan.specs.Valid.{IsValid};
+    ghost use Rattle.plan_tables.specs.Valid.{IsValid};
     ghost use Rattle.event_queue.specs.Handlers.{none_running, set_running, runs_at};
     ghost use Rattle.event_queue.specs.PlanOrder.{bound_in_order, in_order, next_handler, GoesOn};
 

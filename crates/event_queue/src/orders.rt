@@ -1,11 +1,11 @@
 //! What is bound to each event, by priority.
 
 ghost use Rattle.std.specs.Prelude.{◌≡◌, ◌<◌, length, slice_index_or, IfOk};
-ghost use Rattle.mpf_plan.specs.PlanView.{no_binding};
+ghost use Rattle.plan_tables.specs.PlanView.{no_binding};
 ghost use Rattle.event_queue.specs.PlanOrder.{bound_in_order};
 ghost use Rattle.event_queue.specs.Inside.{HasOrders};
 
-use mpf_plan::{Binding, BindingId, EventId, Plan};
+use plan_tables::{Binding, BindingId, EventId, Plan};
 use std::alloc::{AllocError, Global};
 use std::cmp::Reverse;
 

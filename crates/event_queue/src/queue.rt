@@ -1,7 +1,7 @@
 //! The events that wait.
 
 use circular_buffer::HeapCircularBuffer;
-use mpf_plan::{EventId, Owner};
+use plan_tables::{EventId, Owner};
 use std::alloc::{AllocError, Global};
 use std::marker::Model;
 use thiserror::Error;

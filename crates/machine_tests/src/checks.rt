@@ -4,7 +4,7 @@
 use crate::cases::{Subject, assert_cases};
 use config_checker::{Checked, Report, check, check_with, write_certificate, write_report};
 use mpf_config::Config;
-use mpf_plan::EventId;
+use plan_tables::EventId;
 use std::alloc::{AllocError, Global};
 use std::io::{self, ErrorKind, Write};
 use std::test::Fail;

@@ -1,7 +1,7 @@
 //! Switches of a small plan, as their raw levels change.
 
 use crate::cases::{Subject, assert_cases, numbers_in};
-use mpf_plan::{Plan, SwitchId};
+use plan_tables::{Plan, SwitchId};
 use std::alloc::{AllocError, Global};
 use std::marker::Model;
 use std::test::Fail;

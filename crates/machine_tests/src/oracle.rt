@@ -1,6 +1,6 @@
 //! What is to be found of a machine, by plain rounds over what its texts post.
 
-use mpf_plan::{EventId, Plan};
+use plan_tables::{EventId, Plan};
 use std::alloc::{AllocError, Global};
 
 /// What the texts of a machine post, by the numbers of its plan.

@@ -2,7 +2,8 @@
 
 use crate::cases::{Subject, assert_cases};
 use mpf_config::Config;
-use mpf_plan::{BindingId, EventId, ListId, Plan, SwitchId, plan};
+use mpf_plan::plan;
+use plan_tables::{BindingId, EventId, ListId, Plan, SwitchId};
 use std::alloc::{AllocError, Global};
 use std::test::Fail;
 

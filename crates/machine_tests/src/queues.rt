@@ -2,7 +2,7 @@
 
 use crate::cases::{Subject, assert_cases};
 use event_queue::{Handlers, Posted, Queue};
-use mpf_plan::{EventId, Owner, Plan};
+use plan_tables::{EventId, Owner, Plan};
 use std::alloc::{AllocError, Global};
 use std::test::Fail;
 

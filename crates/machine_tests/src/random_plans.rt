@@ -5,7 +5,8 @@ use crate::cases::config_of;
 use crate::drawing::draw_machine;
 use crate::oracle::{Graph, graph_of, to_find, to_judge, weight_of, weights_by_rounds};
 use cascade_rank::{Weights, find, verify};
-use mpf_plan::{EventId, Plan, plan};
+use mpf_plan::plan;
+use plan_tables::{EventId, Plan};
 use std::alloc::{AllocError, Global};
 use std::test::Fail;
 

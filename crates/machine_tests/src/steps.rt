@@ -3,8 +3,8 @@
 use crate::cases::{Subject, assert_cases, numbers_in};
 use config_checker::check;
 use mpf_config::Config;
-use mpf_plan::SwitchId;
 use pin_rig::{Input, Rig, check_moment};
+use plan_tables::SwitchId;
 use std::alloc::{AllocError, Global};
 use std::test::Fail;
 

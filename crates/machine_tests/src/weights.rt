@@ -2,7 +2,7 @@
 
 use crate::cases::{Subject, assert_cases};
 use cascade_rank::{Weights, find, verify};
-use mpf_plan::{EventId, Plan};
+use plan_tables::{EventId, Plan};
 use std::alloc::Global;
 use std::test::Fail;
 

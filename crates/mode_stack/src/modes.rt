@@ -1,7 +1,7 @@
 //! The phase of every mode.
 
 use crate::phase::{ModeState, Phase, StopAnswer};
-use mpf_plan::{ModeId, Plan};
+use plan_tables::{ModeId, Plan};
 use std::alloc::{AllocError, Global};
 use std::marker::Model;
 

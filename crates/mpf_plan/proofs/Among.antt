@@ -5,8 +5,8 @@ use Rattle.std.specs.List.{All, list_any, position_or_len}
 use Rattle.std.proofs.lemmas.List.Elements.{All-from_get_or}
 use Rattle.std.proofs.lemmas.List.Folds.{list_any-append}
 use Rattle.std.proofs.lemmas.Slice.Eq.{bytes_eq-Decides}
-use Rattle.mpf_plan.specs.declared.fault.Table.{Table}
-use Rattle.mpf_plan.specs.declared.fault.Table.TheVariants.{Events}
+use Rattle.plan_tables.specs.declared.table.Table.{Table}
+use Rattle.plan_tables.specs.declared.table.Table.TheVariants.{Events}
 use Rattle.mpf_plan.specs.Contributions.{Contribution, post}
 use Rattle.mpf_plan.specs.Uses.{Names, names_from, number_among, used, uses, name_in_table}
 use Rattle.mpf_plan.proofs.Lacking.{any_first}

@@ -1,7 +1,7 @@
 -- The names of a table and the number of its entries, by contributions.
 use Rattle.std.proofs.Common.{ℕ, List, [], length}
-use Rattle.mpf_plan.specs.declared.fault.Table.{Table}
-use Rattle.mpf_plan.specs.declared.fault.Table.TheVariants.{Bindings}
+use Rattle.plan_tables.specs.declared.table.Table.{Table}
+use Rattle.plan_tables.specs.declared.table.Table.TheVariants.{Bindings}
 use Rattle.mpf_plan.specs.Contributions.{Contribution}
 use Rattle.mpf_plan.specs.Uses.{names_from}
 use Rattle.mpf_plan.specs.Numbering.{binding_count}

@@ -8,20 +8,21 @@ use Rattle.mpf_plan.specs.declared.collect.Row as rows
 use Rattle.mpf_plan.specs.declared.contribution.Aim.{Aim}
 use Rattle.mpf_plan.specs.declared.contribution.Aim.TheVariants.{Run}
 use Rattle.mpf_plan.specs.declared.contribution.Contribution as contributions
-use Rattle.mpf_plan.specs.declared.names.NameSets.{NameSets}
+use Rattle.plan_tables.specs.declared.names.NameSets.{NameSets}
 use Rattle.mpf_plan.specs.declared.draft.Draft.{Draft}
-use Rattle.mpf_plan.specs.declared.entries.Action.{Action}
-use Rattle.mpf_plan.specs.declared.entries.Action.TheVariants.{Post}
-use Rattle.mpf_plan.specs.declared.entries.Binding.{Binding}
-use Rattle.mpf_plan.specs.declared.fault.Table.{Table}
-use Rattle.mpf_plan.specs.declared.fault.Table.TheVariants.{Events, Bindings, Switches}
-use Rattle.mpf_plan.specs.declared.entries.ModeEvent.TheVariants.{WillStart}
-use Rattle.mpf_plan.specs.PlanView.{PlanSwitch, no_switch, PlanMode, no_mode, PlanView}
-use Rattle.mpf_plan.specs.Limits.{entry_count, entry_names}
+use Rattle.plan_tables.specs.declared.entries.Action.{Action}
+use Rattle.plan_tables.specs.declared.entries.Action.TheVariants.{Post}
+use Rattle.plan_tables.specs.declared.entries.Binding.{Binding}
+use Rattle.plan_tables.specs.declared.table.Table.{Table}
+use Rattle.plan_tables.specs.declared.table.Table.TheVariants.{Events, Bindings, Switches}
+use Rattle.plan_tables.specs.declared.entries.ModeEvent.TheVariants.{WillStart}
+use Rattle.plan_tables.specs.PlanView.{PlanSwitch, no_switch, PlanMode, no_mode, PlanView}
+use Rattle.plan_tables.specs.Limits.{entry_count, entry_names}
 use Rattle.mpf_plan.specs.Contributions.{Contribution, gives, reads, active, inactive, mode, mode_event, mode_event_name, binds, post, row_contributions, given_by}
 use Rattle.mpf_plan.specs.Uses.{Names, names_from, number_among}
 use Rattle.mpf_plan.specs.PlanOf.{DraftView, event_of, last_switch, with_given, new_mode, with_event_in, next_binding, lists_for, with_binding, with_list_for, with_action, with_contribution, named_switch, blank, drafted, plan_from}
-use Rattle.mpf_plan.specs.Inside.{name_sets_view, mode_entry_view, draft_view, contribution_view, contributions_view, row_view, row_list_view}
+use Rattle.plan_tables.specs.Inside.{name_sets_view, mode_entry_view}
+use Rattle.mpf_plan.specs.Inside.{draft_view, contribution_view, contributions_view, row_view, row_list_view}
 use Rattle.mpf_plan.specs.Numbering.{bindings_given, binding_count, modes_given, mode_count}
 use Rattle.mpf_plan.proofs.Counts.{named_of, count_of}
 use Rattle.mpf_plan.proofs.Taken.{part_count, part_modes}

@@ -4,9 +4,9 @@ use Rattle.std.specs.List.{All}
 use Rattle.std.proofs.lemmas.List.Elements.{All-nil, All-cons, All-weaker}
 use Rattle.mpf_config.specs.Rows.{Rows}
 use Rattle.mpf_config.specs.Named.{IsNamed, IsNamedMode}
-use Rattle.mpf_plan.specs.declared.entries.ModeEvent.TheVariants.{WillStart}
-use Rattle.mpf_plan.specs.declared.fault.Table.{Table}
-use Rattle.mpf_plan.specs.declared.fault.Table.TheVariants.{Events}
+use Rattle.plan_tables.specs.declared.entries.ModeEvent.TheVariants.{WillStart}
+use Rattle.plan_tables.specs.declared.table.Table.{Table}
+use Rattle.plan_tables.specs.declared.table.Table.TheVariants.{Events}
 use Rattle.mpf_plan.specs.Contributions.{Contribution, gives, reads, active, inactive, mode, mode_event, mode_event_name, binds, post, contributions_of}
 use Rattle.mpf_plan.specs.Uses.{used, uses, name_in_table}
 use Rattle.mpf_plan.specs.PlanOf.{plan_of}

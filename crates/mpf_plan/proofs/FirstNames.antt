@@ -3,8 +3,8 @@ use Rattle.std.proofs.Common.{◌≡◌, ℕ, ◌+◌, ◌<◌, ◌≤◌, Bool,
 use Rattle.std.specs.Str.{bytes_eq}
 use Rattle.std.specs.List.{list_any}
 use Rattle.std.proofs.lemmas.List.{map-append, length_push, length-map}
-use Rattle.mpf_plan.specs.declared.names.NameTable.{NameTable}
-use Rattle.mpf_plan.specs.NamesKept.{names_of}
+use Rattle.plan_tables.specs.declared.names.NameTable.{NameTable}
+use Rattle.plan_tables.specs.NamesKept.{names_of}
 use Rattle.mpf_plan.specs.Numbering.{with_name, IsNameTableOf}
 
 list_any-map : {X Y : Type 0} (p : Y → Bool) (f : X → Y) (xs : List X) → list_any p (map f xs) ≡ list_any (λ x. p (f x)) xs

@@ -6,15 +6,15 @@ use Rattle.std.proofs.lemmas.Grind.{flat_map-append}
 use Rattle.std.proofs.lemmas.List.{append-nil, length-set}
 use Rattle.std.proofs.lemmas.List.Sums.{fold-append, sum_by-append}
 use Rattle.std.proofs.lemmas.Option.{slice_get_cases}
-use Rattle.mpf_plan.specs.declared.fault.Table.{Table}
-use Rattle.mpf_plan.specs.declared.fault.Table.TheVariants.{Bindings}
-use Rattle.mpf_plan.specs.declared.names.NameTable.{NameTable}
-use Rattle.mpf_plan.specs.declared.names.Found.{Found}
+use Rattle.plan_tables.specs.declared.table.Table.{Table}
+use Rattle.plan_tables.specs.declared.table.Table.TheVariants.{Bindings}
+use Rattle.plan_tables.specs.declared.names.NameTable.{NameTable}
+use Rattle.mpf_plan.specs.declared.first_uses.Found.{Found}
 use Rattle.mpf_plan.specs.Contributions.{Contribution}
 use Rattle.mpf_plan.specs.Uses.{used, name_in_table, uses, names_from}
-use Rattle.mpf_plan.specs.Limits.{entry_count, limit_of, order_of, tables_in_order, first_above}
+use Rattle.plan_tables.specs.Limits.{entry_count, limit_of, order_of, tables_in_order, first_above}
 use Rattle.mpf_plan.specs.PlanOf.{plan_from}
-use Rattle.mpf_plan.specs.NamesKept.{names_of, names_kept}
+use Rattle.plan_tables.specs.NamesKept.{names_of, names_kept}
 use Rattle.mpf_plan.specs.Numbering.{with_name, IsNameTableOf, AreNameTablesOf, bindings_given, binding_count, IsCount, HasFound}
 use Rattle.mpf_plan.proofs.Firsts.{with_names-all}
 use Rattle.mpf_plan.proofs.Counts.{count_of}

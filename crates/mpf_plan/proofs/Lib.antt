@@ -1,9 +1,6 @@
-pub mod Places
-pub mod Named
 pub mod Firsts
 pub mod FirstNames
 pub mod Steps
-pub mod Shown
 pub mod Taken
 pub mod Counts
 pub mod Drafted
@@ -25,6 +22,3 @@ pub mod Planned
 pub mod EventNames
 pub mod ModeEventNames
 pub mod PostNames
-pub mod BoundTo
-pub mod Placed
-pub mod Worked

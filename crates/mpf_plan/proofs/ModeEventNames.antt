@@ -1,18 +1,18 @@
 -- The names of the modes of a plan that planning gives, and of their events.
 use Rattle.std.proofs.Common.{List, ℕ, ◌≢◌, refl, ap, ◌∙◌, ◌≡◌, ◌<◌, length, map, Ok, Contains, sym, subst}
 use Rattle.mpf_config.specs.Rows.{ModeRows, Rows}
-use Rattle.mpf_plan.specs.declared.entries.EventId.{EventId}
-use Rattle.mpf_plan.specs.declared.entries.ModeId.{ModeId}
-use Rattle.mpf_plan.specs.declared.entries.ModeEvent.{ModeEvent}
-use Rattle.mpf_plan.specs.declared.entries.Work.{Work}
-use Rattle.mpf_plan.specs.declared.entries.Work.TheVariants as works
-use Rattle.mpf_plan.specs.PlanView.{PlanView, name_of_event, mode_at, mode_event, work_of}
-use Rattle.mpf_plan.specs.Valid.{IsWorkAt}
+use Rattle.plan_tables.specs.declared.entries.EventId.{EventId}
+use Rattle.plan_tables.specs.declared.entries.ModeId.{ModeId}
+use Rattle.plan_tables.specs.declared.entries.ModeEvent.{ModeEvent}
+use Rattle.plan_tables.specs.declared.entries.Work.{Work}
+use Rattle.plan_tables.specs.declared.entries.Work.TheVariants as works
+use Rattle.plan_tables.specs.PlanView.{PlanView, name_of_event, mode_at, mode_event, work_of}
+use Rattle.plan_tables.specs.Valid.{IsWorkAt}
 use Rattle.mpf_plan.specs.Contributions.{mode_event_name}
 use Rattle.mpf_plan.specs.PlanOf.{plan_of, plan_at}
 use Rattle.mpf_plan.proofs.Judged.{plan_at-Ok}
 use Rattle.mpf_plan.proofs.ModeWorks.{event_name_is, name_there}
-use Rattle.mpf_plan.proofs.Worked.{work_found}
+use Rattle.plan_tables.proofs.Worked.{work_found}
 
 abbrev HasEventNames : PlanView → Type 0
 HasEventNames plan = (m : ModeId) → m.0 < length plan.modes → (which : ModeEvent) → name_of_event plan (mode_event plan m which) ≡ mode_event_name which (mode_at plan m).name

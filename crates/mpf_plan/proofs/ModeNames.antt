@@ -1,8 +1,8 @@
 -- The names of the events of modes: no two events of modes have one name.
 use Rattle.std.proofs.Common.{◌≡◌, ℕ, ◌+◌, ◌==◌, List, ◌++◌, cond, get_or, reverse, codes, refl, sym, ◌∙◌, ap}
 use Rattle.std.proofs.lemmas.List.{reverse-append, append_cancel_left, append_cancel_right}
-use Rattle.mpf_plan.specs.declared.entries.ModeEvent.{ModeEvent}
-use Rattle.mpf_plan.specs.declared.entries.ModeEvent.TheVariants.{WillStart, Starting, Started, Stopping, Stopped}
+use Rattle.plan_tables.specs.declared.entries.ModeEvent.{ModeEvent}
+use Rattle.plan_tables.specs.declared.entries.ModeEvent.TheVariants.{WillStart, Starting, Started, Stopping, Stopped}
 use Rattle.mpf_plan.specs.Contributions.{event_ending, mode_event_name}
 
 -- The last byte of a name and the fourth from the end, added, differ for each of the five events.

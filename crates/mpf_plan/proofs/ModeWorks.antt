@@ -8,16 +8,16 @@ use Rattle.std.proofs.lemmas.List.Elements.{All-get_or}
 use Rattle.std.proofs.lemmas.Option.{none-some}
 use Rattle.std.proofs.lemmas.Slice.Eq.{bytes_eq-Decides}
 use Rattle.mpf_config.specs.Rows.{ModeRows, Rows}
-use Rattle.mpf_plan.specs.declared.entries.EventId.{EventId}
-use Rattle.mpf_plan.specs.declared.entries.ModeId.{ModeId}
-use Rattle.mpf_plan.specs.declared.entries.ModeEvent.{ModeEvent}
-use Rattle.mpf_plan.specs.declared.entries.ModeEvent.TheVariants.{WillStart, Starting, Started, Stopping, Stopped}
-use Rattle.mpf_plan.specs.declared.entries.ModeEvents.{ModeEvents}
-use Rattle.mpf_plan.specs.declared.entries.Work.{Work}
-use Rattle.mpf_plan.specs.declared.entries.Work.TheVariants as works
-use Rattle.mpf_plan.specs.declared.fault.Table.TheVariants.{Events}
-use Rattle.mpf_plan.specs.PlanView.{PlanMode, PlanView, no_mode, name_of_event, event_among, mode_at, mode_event, which_event, work_or, work_from, work_of}
-use Rattle.mpf_plan.specs.Valid.{IsModeWithin, IsWorkAt}
+use Rattle.plan_tables.specs.declared.entries.EventId.{EventId}
+use Rattle.plan_tables.specs.declared.entries.ModeId.{ModeId}
+use Rattle.plan_tables.specs.declared.entries.ModeEvent.{ModeEvent}
+use Rattle.plan_tables.specs.declared.entries.ModeEvent.TheVariants.{WillStart, Starting, Started, Stopping, Stopped}
+use Rattle.plan_tables.specs.declared.entries.ModeEvents.{ModeEvents}
+use Rattle.plan_tables.specs.declared.entries.Work.{Work}
+use Rattle.plan_tables.specs.declared.entries.Work.TheVariants as works
+use Rattle.plan_tables.specs.declared.table.Table.TheVariants.{Events}
+use Rattle.plan_tables.specs.PlanView.{PlanMode, PlanView, no_mode, name_of_event, event_among, mode_at, mode_event, which_event, work_or, work_from, work_of}
+use Rattle.plan_tables.specs.Valid.{IsModeWithin, IsWorkAt}
 use Rattle.mpf_plan.specs.Contributions.{mode_event_name, contributions_of}
 use Rattle.mpf_plan.specs.Uses.{Names, names_from, number_among}
 use Rattle.mpf_plan.specs.PlanOf.{plan_from}
@@ -26,7 +26,7 @@ use Rattle.mpf_plan.proofs.RowFacts.{rows_are_open}
 use Rattle.mpf_plan.proofs.SoundDraft.{has_entries}
 use Rattle.mpf_plan.proofs.ModeNames.{same_which, same_mode}
 use Rattle.mpf_plan.proofs.ModesMade.{made, made-event, modes-made}
-use Rattle.mpf_plan.proofs.Worked.{work_found}
+use Rattle.plan_tables.proofs.Worked.{work_found}
 
 -- a name stands at its number
 pub at_number : (names : List (List ℕ)) (n : List ℕ) → number_among names n < length names → get_or names (number_among names n) [] ≡ n

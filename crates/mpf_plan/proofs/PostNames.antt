@@ -8,9 +8,9 @@ use Rattle.mpf_config.specs.Rows as sections
 use Rattle.mpf_config.specs.Typed.{switches_name, event_player_name, switch_of, event_player_of, mode_settings, switches_in, event_players_in}
 use Rattle.mpf_plan.specs.declared.contribution.Place.{Place}
 use Rattle.mpf_plan.specs.declared.contribution.Place.TheVariants.{Machine, Mode}
-use Rattle.mpf_plan.specs.declared.entries.EventId.{EventId}
-use Rattle.mpf_plan.specs.declared.fault.Table.TheVariants.{Events}
-use Rattle.mpf_plan.specs.PlanView.{PlanView, name_of_event}
+use Rattle.plan_tables.specs.declared.entries.EventId.{EventId}
+use Rattle.plan_tables.specs.declared.table.Table.TheVariants.{Events}
+use Rattle.plan_tables.specs.PlanView.{PlanView, name_of_event}
 use Rattle.mpf_plan.specs.Contributions.{Contribution, reads, active, inactive, mode, post, texts, active_posts, inactive_posts, switch_contributions, player_contributions, starter, stopper, stopper_where, later_events, controls, mode_contributions, Row, entry, player, of_mode, rows_from, rows_in, mode_rows, rows_of, entry_contributions, player_entry_contributions, row_contributions, contributions_of}
 use Rattle.mpf_plan.specs.Uses.{names_from, number_among}
 use Rattle.mpf_plan.specs.PlanOf.{event_of, plan_from, plan_of, plan_at}

@@ -6,11 +6,11 @@ use Rattle.std.proofs.lemmas.List.{set_past}
 use Rattle.std.proofs.lemmas.List.Elements.{All-nil, All-push, All-set, All-get_or, All-map, All-head, All-tail, All-from_get_or}
 use Rattle.mpf_plan.specs.declared.contribution.Aim.{Aim}
 use Rattle.mpf_plan.specs.declared.contribution.Aim.TheVariants.{Run}
-use Rattle.mpf_plan.specs.declared.entries.Action.{Action}
-use Rattle.mpf_plan.specs.declared.entries.Action.TheVariants.{Post}
-use Rattle.mpf_plan.specs.declared.entries.EventId.{EventId}
-use Rattle.mpf_plan.specs.declared.fault.Table.TheVariants.{Events, Switches}
-use Rattle.mpf_plan.specs.PlanView.{PlanSwitch, no_switch, PlanView}
+use Rattle.plan_tables.specs.declared.entries.Action.{Action}
+use Rattle.plan_tables.specs.declared.entries.Action.TheVariants.{Post}
+use Rattle.plan_tables.specs.declared.entries.EventId.{EventId}
+use Rattle.plan_tables.specs.declared.table.Table.TheVariants.{Events, Switches}
+use Rattle.plan_tables.specs.PlanView.{PlanSwitch, no_switch, PlanView}
 use Rattle.mpf_plan.specs.Contributions.{Contribution, gives, reads, active, inactive, mode, mode_event, binds, post}
 use Rattle.mpf_plan.specs.Uses.{Names, number_among}
 use Rattle.mpf_plan.specs.PlanOf.{DraftView, event_of, last_switch, lists_for, with_action, with_contribution, named_switch, blank, drafted}

@@ -3,12 +3,12 @@ use Rattle.std.proofs.Common.{◌≡◌, ℕ, zero, suc, ◌-◌, ◌<◌, ◌�
 use Rattle.std.specs.List.{All}
 use Rattle.std.proofs.lemmas.List.{set_past, map-set, get_or-map, length-map}
 use Rattle.std.proofs.lemmas.List.Elements.{All-head, All-tail}
-use Rattle.mpf_plan.specs.declared.entries.Action.{Action}
-use Rattle.mpf_plan.specs.declared.draft.SwitchEntry.{SwitchEntry}
-use Rattle.mpf_plan.specs.declared.draft.ModeEntry.{ModeEntry}
-use Rattle.mpf_plan.specs.PlanView.{PlanSwitch, no_switch, PlanMode, no_mode}
+use Rattle.plan_tables.specs.declared.entries.Action.{Action}
+use Rattle.plan_tables.specs.declared.entries.SwitchEntry.{SwitchEntry}
+use Rattle.plan_tables.specs.declared.entries.ModeEntry.{ModeEntry}
+use Rattle.plan_tables.specs.PlanView.{PlanSwitch, no_switch, PlanMode, no_mode}
 use Rattle.mpf_plan.specs.PlanOf.{last_with, named_switch}
-use Rattle.mpf_plan.specs.Inside.{mode_entry_view, switch_entry_view, switches_view, action_lists}
+use Rattle.plan_tables.specs.Inside.{mode_entry_view, switch_entry_view, switches_view, action_lists}
 
 -- an item changed in its place, as it is seen
 shown_at : {X Y : Type 0} (shown : X → Y) (f : Y → Y) (xs : List X) (i : ℕ) (old new : X) (d : Y) → i < length xs → old ≡ get_or xs i old → shown new ≡ f (shown old)

@@ -5,7 +5,7 @@ use Rattle.std.proofs.lemmas.Grind.{flat_map-append}
 use Rattle.mpf_config.specs.Rows.{Entry, Player, Switch, EventPlayer, ModeSettings}
 use Rattle.mpf_config.specs.Typed.{switches_name, event_player_name, switch_of, event_player_of}
 use Rattle.mpf_plan.specs.declared.contribution.Place.{Place}
-use Rattle.mpf_plan.specs.declared.fault.Table.TheVariants.{Bindings}
+use Rattle.plan_tables.specs.declared.table.Table.TheVariants.{Bindings}
 use Rattle.mpf_plan.specs.Contributions.{Contribution, active, inactive, post, texts, active_posts, inactive_posts, switch_contributions, player_contributions, starter, stopper, stopper_where, controls, mode_contributions, Row, entry, player, of_mode, entry_contributions, player_entry_contributions, row_contributions, given_by}
 use Rattle.mpf_plan.specs.Uses.{used, name_in_table, uses, first_uses, names_from}
 

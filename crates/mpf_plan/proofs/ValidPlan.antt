@@ -10,15 +10,15 @@ use Rattle.mpf_config.specs.Rows.{Rows}
 use Rattle.mpf_config.specs.Short.{AreListsShort}
 use Rattle.mpf_config.specs.FewModes.{AreFewModes}
 use Rattle.mpf_plan.specs.declared.contribution.Aim.TheVariants.{Run, Start, Stop}
-use Rattle.mpf_plan.specs.declared.entries.Action.{Action}
-use Rattle.mpf_plan.specs.declared.entries.Action.TheVariants.{Post}
-use Rattle.mpf_plan.specs.declared.fault.Table.{Table}
-use Rattle.mpf_plan.specs.declared.fault.Table.TheVariants.{Events, Bindings, Switches}
-use Rattle.mpf_plan.specs.PlanView.{PlanView}
-use Rattle.mpf_plan.specs.Valid.{IsValid, HasEntries}
+use Rattle.plan_tables.specs.declared.entries.Action.{Action}
+use Rattle.plan_tables.specs.declared.entries.Action.TheVariants.{Post}
+use Rattle.plan_tables.specs.declared.table.Table.{Table}
+use Rattle.plan_tables.specs.declared.table.Table.TheVariants.{Events, Bindings, Switches}
+use Rattle.plan_tables.specs.PlanView.{PlanView}
+use Rattle.plan_tables.specs.Valid.{IsValid, HasEntries}
 use Rattle.mpf_plan.specs.Contributions.{Contribution, gives, reads, active, inactive, mode, mode_event, binds, post, contributions_of}
 use Rattle.mpf_plan.specs.Uses.{Names, names_from, uses, first_by}
-use Rattle.mpf_plan.specs.Limits.{entry_count, limit_of}
+use Rattle.plan_tables.specs.Limits.{entry_count, limit_of}
 use Rattle.mpf_plan.specs.PlanOf.{DraftView, event_of, with_contribution, blank, plan_from, plan_of, plan_at}
 use Rattle.mpf_plan.proofs.Counts.{named_of}
 use Rattle.mpf_plan.proofs.Drafted.{given_plan, names-from, count-bindings, count-lists}

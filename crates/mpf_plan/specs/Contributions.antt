@@ -2,19 +2,23 @@
 use Rattle.std.specs.Prelude.{ℕ, Bool, true, false, if◌then◌else◌, List, [], ◌∷◌, ◌++◌, map, codes}
 use Rattle.std.specs.List.{flat_map}
 use Rattle.std.specs.Str.{bytes_eq}
+use Rattle.mpf_config.specs.declared.config.Contact.{Contact as WrittenContact}
+use Rattle.mpf_config.specs.declared.config.Contact.TheVariants as written
 use Rattle.mpf_config.specs.declared.config.Debounce.{Debounce}
 use Rattle.mpf_config.specs.declared.config.Debounce.TheVariants.{Auto, Quick, Normal}
 use Rattle.mpf_config.specs.Rows.{Written, Entry, Player, Switch, EventPlayer, ModeSettings, Content, entries, players, SectionRows, ModeRows, Rows}
 use Rattle.mpf_config.specs.Typed.{switches_name, event_player_name, switch_of, event_player_of, mode_settings}
-use Rattle.mpf_plan.specs.declared.entries.SwitchKind.{SwitchKind}
-use Rattle.mpf_plan.specs.declared.entries.ModeEvent.{ModeEvent}
-use Rattle.mpf_plan.specs.declared.entries.ModeEvent.TheVariants.{WillStart, Starting, Started, Stopping, Stopped}
+use Rattle.plan_tables.specs.declared.entries.Contact.{Contact}
+use Rattle.plan_tables.specs.declared.entries.Contact.TheVariants.{NormallyOpen, NormallyClosed}
+use Rattle.plan_tables.specs.declared.entries.SwitchKind.{SwitchKind}
+use Rattle.plan_tables.specs.declared.entries.ModeEvent.{ModeEvent}
+use Rattle.plan_tables.specs.declared.entries.ModeEvent.TheVariants.{WillStart, Starting, Started, Stopping, Stopped}
 use Rattle.mpf_plan.specs.declared.contribution.Place.{Place}
 use Rattle.mpf_plan.specs.declared.contribution.Place.TheVariants.{Machine, Control, Mode}
 use Rattle.mpf_plan.specs.declared.contribution.Aim.{Aim}
 use Rattle.mpf_plan.specs.declared.contribution.Aim.TheVariants.{Run, Start, Stop}
-use Rattle.mpf_plan.specs.declared.fault.Table.{Table}
-use Rattle.mpf_plan.specs.declared.fault.Table.TheVariants.{Switches}
+use Rattle.plan_tables.specs.declared.table.Table.{Table}
+use Rattle.plan_tables.specs.declared.table.Table.TheVariants.{Switches}
 
 -- One thing that a row gives: an entry of a table, by its name; how the last given switch is read; an event that this
 -- switch posts when it becomes active, or inactive; a mode by its name, with its priority, and whether it starts only
@@ -41,9 +45,14 @@ is_quick Auto = false
 is_quick Quick = true
 is_quick Normal = false
 
+-- the contact of a switch, in the plan
+abbrev pub contact_of : WrittenContact → Contact
+contact_of written.NormallyOpen = NormallyOpen
+contact_of written.NormallyClosed = NormallyClosed
+
 -- how a switch is read
 abbrev pub kind_of : Switch → SwitchKind
-kind_of s = record { contact = s.contact; quick = is_quick s.debounce }
+kind_of s = record { contact = contact_of s.contact; quick = is_quick s.debounce }
 
 -- the event of a tag
 abbrev pub tag_event : Written → List ℕ

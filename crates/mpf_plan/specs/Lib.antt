@@ -1,10 +1,6 @@
-pub mod PlanView
-pub mod Limits
-pub mod Valid
 pub mod Contributions
 pub mod Uses
 pub mod PlanOf
 -- scaffolding: what contracts of the functions inside this crate see
-pub mod NamesKept
 pub mod Inside
 pub mod Numbering

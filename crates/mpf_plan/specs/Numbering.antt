@@ -4,18 +4,18 @@ use Rattle.std.specs.Global.{Global}
 use Rattle.indexmap.specs.IndexSet.{IndexSet}
 use Rattle.std.specs.List.{list_any, sum_by}
 use Rattle.std.specs.Str.{bytes_eq}
-use Rattle.mpf_plan.specs.declared.names.NameTable.{NameTable}
-use Rattle.mpf_plan.specs.declared.names.NameSets.{NameSets}
+use Rattle.plan_tables.specs.declared.names.NameTable.{NameTable}
+use Rattle.plan_tables.specs.declared.names.NameSets.{NameSets}
 use Rattle.mpf_plan.specs.declared.fault.PlanFault.{PlanFault}
 use Rattle.mpf_plan.specs.declared.fault.PlanFault.TheVariants as faults
-use Rattle.mpf_plan.specs.declared.fault.Table.{Table}
-use Rattle.mpf_plan.specs.declared.names.Found.{Found}
+use Rattle.plan_tables.specs.declared.table.Table.{Table}
+use Rattle.mpf_plan.specs.declared.first_uses.Found.{Found}
 use Rattle.mpf_plan.specs.Contributions.{Contribution, mode, binds}
 use Rattle.mpf_plan.specs.Uses.{given_names, names_from, lacks_name}
-use Rattle.mpf_plan.specs.Limits.{limit_of, order_of, tables_in_order, first_above}
+use Rattle.plan_tables.specs.Limits.{limit_of, order_of, tables_in_order, first_above}
 use Rattle.mpf_plan.specs.PlanOf.{plan_from}
-use Rattle.mpf_plan.specs.NamesKept.{names_of}
-use Rattle.mpf_plan.specs.Inside.{name_sets_view}
+use Rattle.plan_tables.specs.NamesKept.{names_of}
+use Rattle.plan_tables.specs.Inside.{name_sets_view}
 
 -- the names after one more use: a new name goes last
 abbrev pub with_name : List (List ℕ) → List ℕ → List (List ℕ)

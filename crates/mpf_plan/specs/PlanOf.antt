@@ -1,31 +1,31 @@
 -- The plan of the rows: each contribution adds its own to what is there.
 use Rattle.std.specs.Prelude.{◌≡◌, ℕ, ◌-◌, Bool, true, false, cond, List, [], ◌∷◌, ◌++◌, Option, None, Some, Result, Ok, Err, map, fold, length, slice_set, slice_index_or}
 use Rattle.mpf_config.specs.Rows.{Rows}
-use Rattle.mpf_plan.specs.declared.entries.EventId.{EventId}
-use Rattle.mpf_plan.specs.declared.entries.SwitchKind.{SwitchKind}
-use Rattle.mpf_plan.specs.declared.entries.ModeId.{ModeId}
-use Rattle.mpf_plan.specs.declared.entries.ModeEvent.{ModeEvent}
-use Rattle.mpf_plan.specs.declared.entries.ModeEvent.TheVariants.{WillStart, Starting, Started, Stopping, Stopped}
-use Rattle.mpf_plan.specs.declared.entries.ModeEvents.{ModeEvents}
-use Rattle.mpf_plan.specs.declared.entries.Owner.{Owner}
-use Rattle.mpf_plan.specs.declared.entries.Owner.TheVariants as owners
-use Rattle.mpf_plan.specs.declared.entries.Action.{Action}
-use Rattle.mpf_plan.specs.declared.entries.Action.TheVariants.{Post}
-use Rattle.mpf_plan.specs.declared.entries.Target.{Target}
-use Rattle.mpf_plan.specs.declared.entries.Target.TheVariants as targets
-use Rattle.mpf_plan.specs.declared.entries.Binding.{Binding}
+use Rattle.plan_tables.specs.declared.entries.EventId.{EventId}
+use Rattle.plan_tables.specs.declared.entries.SwitchKind.{SwitchKind}
+use Rattle.plan_tables.specs.declared.entries.ModeId.{ModeId}
+use Rattle.plan_tables.specs.declared.entries.ModeEvent.{ModeEvent}
+use Rattle.plan_tables.specs.declared.entries.ModeEvent.TheVariants.{WillStart, Starting, Started, Stopping, Stopped}
+use Rattle.plan_tables.specs.declared.entries.ModeEvents.{ModeEvents}
+use Rattle.plan_tables.specs.declared.entries.Owner.{Owner}
+use Rattle.plan_tables.specs.declared.entries.Owner.TheVariants as owners
+use Rattle.plan_tables.specs.declared.entries.Action.{Action}
+use Rattle.plan_tables.specs.declared.entries.Action.TheVariants.{Post}
+use Rattle.plan_tables.specs.declared.entries.Target.{Target}
+use Rattle.plan_tables.specs.declared.entries.Target.TheVariants as targets
+use Rattle.plan_tables.specs.declared.entries.Binding.{Binding}
 use Rattle.mpf_plan.specs.declared.contribution.Place.{Place}
 use Rattle.mpf_plan.specs.declared.contribution.Place.TheVariants.{Machine, Control, Mode}
 use Rattle.mpf_plan.specs.declared.contribution.Aim.{Aim}
 use Rattle.mpf_plan.specs.declared.contribution.Aim.TheVariants.{Run, Start, Stop}
-use Rattle.mpf_plan.specs.declared.fault.Table.{Table}
-use Rattle.mpf_plan.specs.declared.fault.Table.TheVariants.{Events, Switches}
+use Rattle.plan_tables.specs.declared.table.Table.{Table}
+use Rattle.plan_tables.specs.declared.table.Table.TheVariants.{Events, Switches}
 use Rattle.mpf_plan.specs.declared.fault.PlanFault.{PlanFault}
 use Rattle.mpf_plan.specs.declared.fault.PlanFault.TheVariants as faults
-use Rattle.mpf_plan.specs.PlanView.{PlanSwitch, no_switch, PlanMode, no_event, no_mode, PlanView}
+use Rattle.plan_tables.specs.PlanView.{PlanSwitch, no_switch, PlanMode, no_event, no_mode, PlanView}
 use Rattle.mpf_plan.specs.Contributions.{Contribution, gives, reads, active, inactive, mode, mode_event, mode_event_name, binds, post, contributions_of}
 use Rattle.mpf_plan.specs.Uses.{Names, names_from, number_among, lacks_name}
-use Rattle.mpf_plan.specs.Limits.{first_above, IsFirstAbove}
+use Rattle.plan_tables.specs.Limits.{first_above, IsFirstAbove}
 
 -- an event is its name's place among the names
 abbrev pub event_of : List (List ℕ) → List ℕ → EventId

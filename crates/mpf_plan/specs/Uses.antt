@@ -2,11 +2,11 @@
 use Rattle.std.specs.Prelude.{ℕ, ◌==◌, Bool, true, false, if◌then◌else◌, not, ◌&&◌, List, [], ◌∷◌, Option, None, Some, filter}
 use Rattle.std.specs.List.{flat_map, list_any, position_or_len}
 use Rattle.std.specs.Str.{bytes_eq}
-use Rattle.mpf_plan.specs.declared.entries.ModeEvent.TheVariants.{WillStart}
-use Rattle.mpf_plan.specs.declared.fault.Table.{Table}
-use Rattle.mpf_plan.specs.declared.fault.Table.TheVariants.{Events}
+use Rattle.plan_tables.specs.declared.entries.ModeEvent.TheVariants.{WillStart}
+use Rattle.plan_tables.specs.declared.table.Table.{Table}
+use Rattle.plan_tables.specs.declared.table.Table.TheVariants.{Events}
 use Rattle.mpf_plan.specs.Contributions.{Contribution, gives, active, inactive, mode, mode_event, mode_event_name, binds, post}
-use Rattle.mpf_plan.specs.Limits.{order_of}
+use Rattle.plan_tables.specs.Limits.{order_of}
 
 -- ---- one contribution
 

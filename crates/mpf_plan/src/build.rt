@@ -2,18 +2,16 @@
 
 ghost use Rattle.std.specs.Prelude.{◌≡◌, ◌≤◌, IfOk};
 ghost use Rattle.mpf_config.specs.View.{rows_view};
-ghost use Rattle.mpf_plan.specs.declared.fault.Table.{Table as TableValue};
-ghost use Rattle.mpf_plan.specs.Limits.{entry_count, limit_of};
+ghost use Rattle.plan_tables.specs.declared.table.Table.{Table as TableValue};
+ghost use Rattle.plan_tables.specs.Limits.{entry_count, limit_of};
 ghost use Rattle.mpf_plan.specs.PlanOf.{plan_at, plan_of, GivesPlan, IsExceeded};
 
 use crate::collect::rows_of;
-use crate::fault::{PlanFault, Table};
+use crate::fault::PlanFault;
 use crate::fill::fill;
 use crate::numbering::number;
-use crate::placing::places_by_event;
-use crate::tables::Plan;
-use crate::works::works_by_event;
 use mpf_config::config::Config;
+use plan_tables::tables::{Plan, Tables};
 use std::alloc::Global;
 
 /// The plan of the rows.
@@ -23,7 +21,7 @@ use std::alloc::Global;
 /// order of their first uses, as sections and entries are written. A switch uses what it posts,
 /// first when it becomes active, then when it becomes inactive, whatever the order of its settings.
 /// An entry of `event_player` uses the event that it handles, then those that it posts. A mode uses
-/// its five events in the order of [`crate::ModeEvents`], then the events that start it, then those
+/// its five events in the order of [`plan_tables::ModeEvents`], then the events that start it, then those
 /// that stop it. The rows of its text come after these.
 ///
 /// When a switch becomes active, it posts `NAME_active`, then `sw_TAG` for each of its tags, then
@@ -50,8 +48,15 @@ pub fn plan(alloc: Global, config: &Config) -> Result<Plan, PlanFault>
     let rows = rows_of(alloc, config)?;
     let names = number(alloc, &rows)?;
     let draft = fill(alloc, &names, &rows)?;
-    let events = names.of(Table::Events).len();
-    let places = places_by_event(alloc, events, &draft.bindings)?;
-    let works = works_by_event(alloc, events, &draft.modes)?;
-    Ok(Plan::assemble(names, draft, places, works))
+    let plan = Plan::new(
+        alloc,
+        Tables {
+            names,
+            modes: draft.modes,
+            switches: draft.switches,
+            lists: draft.lists,
+            bindings: draft.bindings,
+        },
+    )?;
+    Ok(plan)
 }

@@ -2,16 +2,17 @@
 
 ghost use Rattle.std.specs.Prelude.{◌≡◌, ◌++◌, map, codes, IfOk, OnOk};
 ghost use Rattle.mpf_config.specs.View.{switch_view as switch_row_view, event_player_view, mode_settings_view, section_view, mode_view, rows_view, entry_view, player_view, name_view};
-ghost use Rattle.mpf_plan.specs.Contributions.{active, inactive, post, texts, is_quick, kind_of, tag_event, active_posts, inactive_posts, switch_contributions, player_contributions, starter, stopper, stopper_where, later_events, controls, mode_contributions, rows_in, rows_from, mode_rows, rows_of, entry, player, entry_contributions, player_entry_contributions, row_contributions};
+ghost use Rattle.mpf_plan.specs.Contributions.{active, inactive, post, texts, contact_of, is_quick, kind_of, tag_event, active_posts, inactive_posts, switch_contributions, player_contributions, starter, stopper, stopper_where, later_events, controls, mode_contributions, rows_in, rows_from, mode_rows, rows_of, entry, player, entry_contributions, player_entry_contributions, row_contributions};
 ghost use Rattle.mpf_plan.specs.Inside.{contributions_view, row_view, row_list_view};
 
 use crate::contribution::{Aim, Contribution, Parts, Place, whole};
-use crate::entries::{ModeEvent, SwitchKind};
-use crate::fault::Table;
+use mpf_config::config::Contact as WrittenContact;
 use mpf_config::{
     Config, Content, Debounce, EVENT_PLAYER_NAME, Entry, EventPlayer, ModeSettings, ModeText, Name,
     Player, SWITCHES_NAME, Section, Switch, as_event_player, as_switch, mode_settings,
 };
+use plan_tables::entries::{Contact, ModeEvent, SwitchKind};
+use plan_tables::table::Table;
 use std::alloc::{AllocError, Global};
 
 /// A row of a text.
@@ -176,8 +177,18 @@ fn kind_of(row: Switch<'_>) -> SwitchKind
     ensures { result ≡ kind_of (switch_row_view row.entry) }
 {
     SwitchKind {
-        contact: row.contact,
+        contact: contact_of(row.contact),
         quick: is_quick(row.debounce),
+    }
+}
+
+/// The contact of a switch, in the plan.
+fn contact_of(contact: WrittenContact) -> Contact
+    ensures { result ≡ contact_of contact }
+{
+    match contact {
+        WrittenContact::NormallyOpen => Contact::NormallyOpen,
+        WrittenContact::NormallyClosed => Contact::NormallyClosed,
     }
 }
 

@@ -6,8 +6,8 @@ ghost use Rattle.mpf_plan.specs.Contributions.{event_ending, mode_event_name};
 ghost use Rattle.mpf_plan.specs.PlanOf.{owner_at, priority_at};
 ghost use Rattle.mpf_plan.specs.Inside.{parts_text, named_view, contribution_view};
 
-use crate::entries::{ModeEvent, ModeId, Owner, SwitchKind};
-use crate::fault::Table;
+use plan_tables::entries::{ModeEvent, ModeId, Owner, SwitchKind};
+use plan_tables::table::Table;
 use std::alloc::AllocError;
 
 /// A name in three parts, which lie where they are written.

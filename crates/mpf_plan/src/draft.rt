@@ -2,22 +2,7 @@
 
 ghost use Rattle.std.specs.Prelude.{◌≡◌, length};
 
-use crate::entries::{Action, Binding, EventId, Mode, SwitchKind};
-
-/// How a switch is read, and what it posts when it becomes active, and when it becomes inactive.
-#[derive(Drop)]
-pub(crate) struct SwitchEntry {
-    pub(crate) kind: SwitchKind,
-    pub(crate) active: Vec<EventId>,
-    pub(crate) inactive: Vec<EventId>,
-}
-
-/// A mode, with its name.
-#[derive(Drop)]
-pub(crate) struct ModeEntry {
-    pub(crate) name: Vec<u8>,
-    pub(crate) mode: Mode,
-}
+use plan_tables::entries::{Action, Binding, ModeEntry, SwitchEntry};
 
 /// The tables of a plan, as far as they are made.
 #[derive(Drop)]

@@ -1,25 +1,26 @@
 //! The plan of contributions: each adds its own to what is there.
 
 ghost use Rattle.std.specs.Prelude.{◌≡◌, ◌<◌, ◌≤◌, ◌+◌, List, ℕ, false, length, map, fold, IfOk, OnOk};
-ghost use Rattle.mpf_plan.specs.declared.names.NameSets.{NameSets as NameSetsValue};
-ghost use Rattle.mpf_plan.specs.declared.fault.Table.TheVariants.{Events, Switches};
+ghost use Rattle.plan_tables.specs.declared.names.NameSets.{NameSets as NameSetsValue};
+ghost use Rattle.plan_tables.specs.declared.table.Table.TheVariants.{Events, Switches};
 ghost use Rattle.mpf_plan.specs.Contributions.{gives, active, inactive, mode, mode_event, binds, post, given_by};
-ghost use Rattle.mpf_plan.specs.PlanView.{no_switch};
+ghost use Rattle.plan_tables.specs.PlanView.{no_switch};
 ghost use Rattle.mpf_plan.specs.PlanOf.{event_of, with_switch, with_kind, with_active, with_inactive, first_event, with_event, last_with_event, next_binding, last_priority, lists_for, last_with, with_contribution, named_switch, blank, drafted};
-ghost use Rattle.mpf_plan.specs.NamesKept.{names_of};
-ghost use Rattle.mpf_plan.specs.Inside.{parts_text, contribution_view, contributions_view, row_list_view, name_sets_view, mode_entry_view, action_lists, switches_view, draft_view};
+ghost use Rattle.plan_tables.specs.NamesKept.{names_of};
+ghost use Rattle.plan_tables.specs.Inside.{name_sets_view, mode_entry_view, action_lists, switches_view};
+ghost use Rattle.mpf_plan.specs.Inside.{parts_text, contribution_view, contributions_view, row_list_view, draft_view};
 ghost use Rattle.mpf_plan.specs.Numbering.{binding_count, mode_count};
 
 use crate::collect::{Row, collect_row};
 use crate::contribution::{Aim, Contribution, Parts, Place, mode_event_name, whole};
-use crate::draft::{Draft, ModeEntry, SwitchEntry};
-use crate::entries::{
-    Action, Binding, EventId, ListId, Mode, ModeEvent, ModeEvents, ModeId, SwitchKind, Target,
-};
-use crate::fault::Table;
-use crate::names::NameSets;
+use crate::draft::Draft;
 use crate::numbering::number_among;
-use mpf_config::config::Contact;
+use plan_tables::entries::{
+    Action, Binding, Contact, EventId, ListId, Mode, ModeEntry, ModeEvent, ModeEvents, ModeId,
+    SwitchEntry, SwitchKind, Target,
+};
+use plan_tables::names::NameSets;
+use plan_tables::table::Table;
 use std::alloc::{AllocError, Global};
 
 /// What the rows make, where names have these numbers.

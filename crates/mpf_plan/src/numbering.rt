@@ -3,29 +3,22 @@
 ghost use Rattle.std.specs.Prelude.{◌≡◌, ◌≤◌, ◌<◌, ◌+◌, ◌++◌, ℕ, List, [], ◌∷◌, Option, length, nat_lt, IfOk, OnOk};
 ghost use Rattle.std.specs.List.{list_any};
 ghost use Rattle.mpf_plan.specs.Contributions.{Contribution as ContributionValue, given_by};
-ghost use Rattle.mpf_plan.specs.Limits.{entry_count, limit_of, tables_in_order, first_above};
+ghost use Rattle.plan_tables.specs.Limits.{entry_count, limit_of, tables_in_order, first_above};
 ghost use Rattle.mpf_plan.specs.Uses.{used, given_names, number_among, is_to_be_given, is_lacking, lacks_name};
 ghost use Rattle.mpf_plan.specs.PlanOf.{plan_from};
-ghost use Rattle.mpf_plan.specs.NamesKept.{names_of};
-ghost use Rattle.mpf_plan.specs.Inside.{parts_text, name_sets_view, contribution_view, contributions_view, row_list_view};
+ghost use Rattle.plan_tables.specs.NamesKept.{names_of};
+ghost use Rattle.plan_tables.specs.Inside.{name_sets_view};
+ghost use Rattle.mpf_plan.specs.Inside.{parts_text, contribution_view, contributions_view, row_list_view};
 ghost use Rattle.mpf_plan.specs.Numbering.{with_name, IsNameTableOf, AreNameTablesOf, bindings_given, IsCount, HoldGivenNames, HasFound, Numbered};
 
 use crate::collect::{Row, collect_row};
 use crate::contribution::{Contribution, Parts, given, used, write_name};
-use crate::fault::{PlanFault, TABLES, Table};
-use crate::names::{Found, NameHashing, NameSet, NameSets, NameTable};
+use crate::fault::PlanFault;
+use crate::first_uses::Found;
+use plan_tables::names::{NameHashing, NameSet, NameSets, NameTable};
+use plan_tables::table::{TABLES, Table};
 use std::alloc::{AllocError, Global};
 use std::hash::{DefaultHasher, FoldHasher, Hasher};
-
-impl NameSets {
-    /// The names of a table.
-    pub(crate) fn of(&self, table: Table) -> &NameSet
-        ensures names { names_of result.now.keys ≡ name_sets_view self.now table }
-        ensures fit { length result.now.keys ≤ limit_of table }
-    {
-        &self.tables[table.index()].set
-    }
-}
 
 /// The names of the rows, by number, where the plan is within its limits.
 pub(crate) fn number(alloc: Global, rows: &[Row]) -> Result<NameSets, PlanFault>

@@ -1,8 +1,8 @@
 -- A rig that is held acts on an input that is not refused, and is held again.
 use Rattle.std.proofs.Common.{◌≡◌, ℕ, Ok, ◌++◌, List, length, refl, ap, sym, ◌∙◌, subst, arith}
 use Rattle.std.proofs.lemmas.List.{length-map}
-use Rattle.mpf_plan.specs.PlanView.{PlanView}
-use Rattle.mpf_plan.specs.declared.entries.SwitchKind.{SwitchKind}
+use Rattle.plan_tables.specs.PlanView.{PlanView}
+use Rattle.plan_tables.specs.declared.entries.SwitchKind.{SwitchKind}
 use Rattle.config_checker.specs.Machine.{Machine}
 use Rattle.config_checker.specs.EventStep.{EventSteps}
 use Rattle.config_checker.specs.PlanOrder.{plan_steps}

@@ -1,11 +1,11 @@
 -- What is done with the modes, and with the handlers of those that run.
 use Rattle.std.proofs.Common.{◌≡◌, ℕ, zero, suc, Bool, true, false, List, ◌∷◌, length, set, replicate, refl, sym, ap, ◌∙◌}
 use Rattle.std.proofs.lemmas.List.{map-set}
-use Rattle.mpf_plan.specs.PlanView.{PlanView, mode_event}
-use Rattle.mpf_plan.specs.declared.entries.ModeEvent.TheVariants.{Started, Stopping, Stopped}
-use Rattle.mpf_plan.specs.declared.entries.Owner.TheVariants as owners
-use Rattle.mpf_plan.specs.declared.entries.Work.TheVariants.{Mode}
-use Rattle.mpf_plan.specs.declared.entries.ModeId.{ModeId}
+use Rattle.plan_tables.specs.PlanView.{PlanView, mode_event}
+use Rattle.plan_tables.specs.declared.entries.ModeEvent.TheVariants.{Started, Stopping, Stopped}
+use Rattle.plan_tables.specs.declared.entries.Owner.TheVariants as owners
+use Rattle.plan_tables.specs.declared.entries.Work.TheVariants.{Mode}
+use Rattle.plan_tables.specs.declared.entries.ModeId.{ModeId}
 use Rattle.mode_stack.specs.declared.phase.Phase.TheVariants as phases
 use Rattle.mode_stack.specs.declared.phase.ModeState.{ModeState}
 use Rattle.mode_stack.specs.ModeStep.{in_phase, is_running, entered, ended}

@@ -3,11 +3,11 @@ use Rattle.std.proofs.Common.{◌≡◌, ℕ, ◌≤◌, ◌<◌, Bool, Some, No
 use Rattle.std.specs.Prelude.{slice_get}
 use Rattle.std.proofs.lemmas.Option.{get_or_from_slice_get, slice_get_within}
 use Rattle.std.proofs.lemmas.List.Elements.{All-get_or}
-use Rattle.mpf_plan.specs.Valid.{HasEntries, IsBindingWithin, IsTargetWithin}
-use Rattle.mpf_plan.specs.PlanView.{PlanView, no_binding, binding_at}
-use Rattle.mpf_plan.specs.declared.entries.BindingId.{BindingId}
-use Rattle.mpf_plan.specs.declared.entries.EventId.{EventId}
-use Rattle.mpf_plan.specs.declared.entries.Binding.{Binding}
+use Rattle.plan_tables.specs.Valid.{HasEntries, IsBindingWithin, IsTargetWithin}
+use Rattle.plan_tables.specs.PlanView.{PlanView, no_binding, binding_at}
+use Rattle.plan_tables.specs.declared.entries.BindingId.{BindingId}
+use Rattle.plan_tables.specs.declared.entries.EventId.{EventId}
+use Rattle.plan_tables.specs.declared.entries.Binding.{Binding}
 use Rattle.event_queue.specs.Handlers.{HandlersView}
 use Rattle.event_queue.specs.PlanOrder.{in_order, handlers_from, GoesOn}
 use Rattle.config_checker.specs.Machine.{all_do, do_binding, do_handler}

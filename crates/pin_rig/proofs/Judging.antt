@@ -2,7 +2,7 @@
 use Rattle.std.proofs.Common.{◌≡◌, ℕ, ◌<◌, ◌≤◌, ◌^◌, nat_lt, nat_le, Bool, true, false, cond, if◌then◌else◌, Option, Some, None, Result, Ok, Err, length, refl, sym, subst, ap, ◌∙◌}
 use Rattle.std.specs.Result.{result_and}
 use Rattle.std.proofs.lemmas.Bool.{cond_both, cond-true, cond-false, ltb-true, ltb-false, lt-ltb, le-ltb, leb-false, lt-leb}
-use Rattle.mpf_plan.specs.declared.entries.SwitchId.{SwitchId}
+use Rattle.plan_tables.specs.declared.entries.SwitchId.{SwitchId}
 use Rattle.config_checker.specs.Machine.{Machine}
 use Rattle.config_checker.specs.Run.{Source, Stimulus, Change, Alarm, Wait, IsTimely, IsAllowed}
 use Rattle.config_checker.specs.NextAlarm.{next_alarm, is_due_by}

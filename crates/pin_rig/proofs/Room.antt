@@ -1,9 +1,9 @@
 -- What leaves room in the end left room before.
 use Rattle.std.proofs.Common.{◌≡◌, ℕ, zero, suc, ◌+◌, ◌≤◌, ◌<◌, Option, Some, None, List, [], ◌∷◌, length, drop, length-append, refl, ap, sym, ◌∙◌, subst, arith}
 use Rattle.std.specs.Prelude.{slice_get}
-use Rattle.mpf_plan.specs.declared.entries.EventId.{EventId}
-use Rattle.mpf_plan.specs.declared.entries.Owner.{Owner}
-use Rattle.mpf_plan.specs.PlanView.{PlanView}
+use Rattle.plan_tables.specs.declared.entries.EventId.{EventId}
+use Rattle.plan_tables.specs.declared.entries.Owner.{Owner}
+use Rattle.plan_tables.specs.PlanView.{PlanView}
 use Rattle.switch_core.specs.declared.change.Change.{Change as Acceptance}
 use Rattle.config_checker.specs.Machine.{Machine, post, all_do, do_accepted}
 use Rattle.config_checker.proofs.Growth.{all_do-grows, post-grows, accepted-grows}

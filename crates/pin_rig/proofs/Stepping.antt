@@ -1,8 +1,8 @@
 -- What is done at an event that was taken: the machine's work before its handlers, they, and the work after them.
 use Rattle.std.proofs.Common.{◌≡◌, Bool, refl, ap, sym, ◌∙◌, subst}
-use Rattle.mpf_plan.specs.PlanView.{PlanView, work_of}
-use Rattle.mpf_plan.specs.declared.entries.EventId.{EventId}
-use Rattle.mpf_plan.specs.declared.entries.Work.{Work}
+use Rattle.plan_tables.specs.PlanView.{PlanView, work_of}
+use Rattle.plan_tables.specs.declared.entries.EventId.{EventId}
+use Rattle.plan_tables.specs.declared.entries.Work.{Work}
 use Rattle.mode_stack.specs.Modes.{running_of}
 use Rattle.event_queue.specs.PlanOrder.{in_order}
 use Rattle.config_checker.specs.Machine.{Machine, all_do, do_handler}

@@ -16,7 +16,7 @@ use crate::stimulus::Source;
 use config_checker::{Happening, Line};
 use event_queue::{Handlers, Posted, Queue};
 use mode_stack::{Modes, StopAnswer};
-use mpf_plan::{BindingId, EventId, ModeId, Owner, Plan, SwitchId};
+use plan_tables::{BindingId, EventId, ModeId, Owner, Plan, SwitchId};
 use std::alloc::{AllocError, Global};
 use std::marker::Model;
 use switch_core::{Change, Switches};

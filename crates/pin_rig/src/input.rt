@@ -4,7 +4,7 @@ ghost use Rattle.std.specs.Prelude.{◌≡◌};
 ghost use Rattle.pin_rig.specs.declared.input.RigFault.TheVariants.{NoMemory};
 ghost use Rattle.pin_rig.specs.Refused.{step_fault_number, step_fault_name, admitted};
 
-use mpf_plan::SwitchId;
+use plan_tables::SwitchId;
 use std::alloc::{AllocError, AllocFailed};
 use thiserror::Error;
 

@@ -2,8 +2,8 @@
 //! leaves, and so takes no memory.
 
 ghost use Rattle.std.specs.Prelude.{◌≡◌, ◌^◌, ◌<◌, Some, length, option_map};
-ghost use Rattle.mpf_plan.specs.Valid.{IsTargetWithin};
-ghost use Rattle.mpf_plan.specs.PlanView.{work_of};
+ghost use Rattle.plan_tables.specs.Valid.{IsTargetWithin};
+ghost use Rattle.plan_tables.specs.PlanView.{work_of};
 ghost use Rattle.mode_stack.specs.Modes.{running_of};
 ghost use Rattle.event_queue.specs.PlanOrder.{in_order};
 ghost use Rattle.config_checker.specs.Machine.{all_do, post, post_if, start_mode, stop_mode, do_action, do_target, do_handler, do_accepted, change_switch};
@@ -16,7 +16,7 @@ ghost use Rattle.pin_rig.specs.Inside.{source_view, stimulus_view};
 use crate::core_state::Core;
 use crate::stimulus::{Source, Stimulus};
 use config_checker::Happening;
-use mpf_plan::{Action, EventId, ModeEvent, ModeId, Owner, Plan, SwitchId, Target, Work};
+use plan_tables::{Action, EventId, ModeEvent, ModeId, Owner, Plan, SwitchId, Target, Work};
 use switch_core::Change;
 
 /// What a stimulus does before any event step.

@@ -1,6 +1,6 @@
 //! What an input is to the machine.
 
-use mpf_plan::SwitchId;
+use plan_tables::SwitchId;
 
 /// What an alarm comes from.
 #[derive(Clone, Copy)]

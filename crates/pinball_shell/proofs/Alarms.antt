@@ -1,6 +1,6 @@
 -- The alarms that come by a moment.
 use Rattle.std.proofs.Common.{◌≡◌, ℕ, suc, ◌<◌, ◌≤◌, ◌^◌, ◌⊎◌, Bool, true, false, Ok, List, ◌∷◌, length, inl, inr, refl, ap, subst, arith}
-use Rattle.mpf_plan.specs.PlanView.{PlanView}
+use Rattle.plan_tables.specs.PlanView.{PlanView}
 use Rattle.config_checker.specs.declared.line.Line.{Line}
 use Rattle.config_checker.specs.Machine.{Machine}
 use Rattle.config_checker.specs.Run.{Source, IsNoAlarmDueBy, IsNextAlarm, Stimulus, Alarm, IsAllowed, IsReached}

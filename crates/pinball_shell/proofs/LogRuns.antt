@@ -3,8 +3,8 @@ use Rattle.std.proofs.Common.{◌≡◌, ◌≢◌, ℕ, zero, suc, ◌+◌, ◌
 use Rattle.std.specs.Option.{option_map_or}
 use Rattle.std.specs.Str.{bytes_eq}
 use Rattle.std.specs.Str.Lines.{lines}
-use Rattle.mpf_plan.specs.PlanView.{PlanView, switch_named}
-use Rattle.mpf_plan.specs.declared.entries.SwitchId.{SwitchId}
+use Rattle.plan_tables.specs.PlanView.{PlanView, switch_named}
+use Rattle.plan_tables.specs.declared.entries.SwitchId.{SwitchId}
 use Rattle.config_checker.specs.declared.line.Line.{Line}
 use Rattle.config_checker.specs.Machine.{Machine, initial}
 use Rattle.config_checker.specs.Run.{Source, Stimulus, Change, Alarm, Wait, moment_of, IsNoAlarmDueBy, IsAllowed, IsReached}

@@ -1,6 +1,6 @@
 -- A log gives one list of stimuli.
 use Rattle.std.proofs.Common.{◌≡◌, ◌≢◌, ℕ, ◌≤◌, List, [], ◌∷◌, ◌++◌, map, refl, ap, sym, ◌∙◌, arith}
-use Rattle.mpf_plan.specs.PlanView.{PlanView}
+use Rattle.plan_tables.specs.PlanView.{PlanView}
 use Rattle.config_checker.specs.declared.line.Line.{Line}
 use Rattle.config_checker.specs.Machine.{Machine, initial}
 use Rattle.config_checker.specs.EventStep.{EventSteps}

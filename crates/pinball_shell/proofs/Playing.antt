@@ -5,7 +5,7 @@ use Rattle.std.specs.Io.KnownBytes.{Appends}
 use Rattle.std.specs.Str.Lines.{lines}
 use Rattle.std.proofs.lemmas.Grind.{flat_map-append}
 use Rattle.std.proofs.lemmas.List.Folds.{flat_map-map}
-use Rattle.mpf_plan.specs.PlanView.{PlanView}
+use Rattle.plan_tables.specs.PlanView.{PlanView}
 use Rattle.config_checker.specs.declared.line.Line.{Line}
 use Rattle.config_checker.specs.Machine.{Machine}
 use Rattle.config_checker.specs.Run.{IsNoAlarmDueBy, Stimulus, Alarm, moment_of, IsReached}

@@ -1,6 +1,6 @@
 -- What a line gives is taken by the rig, once no alarm is due by its moment.
 use Rattle.std.proofs.Common.{◌≡◌, ℕ, ◌<◌, ◌≤◌, ◌^◌, false, Option, Some, Result, Ok, Err, IsOk, List, [], ◌∷◌, refl, ap, sym, ◌∙◌, subst, arith}
-use Rattle.mpf_plan.specs.PlanView.{PlanView}
+use Rattle.plan_tables.specs.PlanView.{PlanView}
 use Rattle.config_checker.specs.CheckedView.{CheckedView}
 use Rattle.config_checker.specs.Accepted.{IsAccepted}
 use Rattle.config_checker.specs.Machine.{Machine}

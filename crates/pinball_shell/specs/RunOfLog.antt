@@ -1,8 +1,8 @@
 -- The run of a log: which stimuli its lines give, and what is printed for them.
 use Rattle.std.specs.Prelude.{ℕ, ◌+◌, Bool, Option, Some, None, Result, Ok, Err, List, [], ◌∷◌, ◌++◌, map}
 use Rattle.std.specs.Str.Lines.{lines}
-use Rattle.mpf_plan.specs.PlanView.{PlanView, switch_named}
-use Rattle.mpf_plan.specs.declared.entries.SwitchId.{SwitchId}
+use Rattle.plan_tables.specs.PlanView.{PlanView, switch_named}
+use Rattle.plan_tables.specs.declared.entries.SwitchId.{SwitchId}
 use Rattle.config_checker.specs.declared.line.Line.{Line}
 use Rattle.config_checker.specs.Machine.{Machine, initial}
 use Rattle.config_checker.specs.Run.{Stimulus, Change, Wait, moment_of}

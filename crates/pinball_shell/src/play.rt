@@ -17,8 +17,8 @@ use crate::refusal::Refusal;
 use crate::text::read_all;
 use crate::trace::{write_lines, write_refused};
 use config_checker::Checked;
-use mpf_plan::Plan;
 use pin_rig::{Input, Rig, StepFault, check_moment};
+use plan_tables::Plan;
 use std::alloc::Global;
 use std::io::{self, Read, Write};
 

@@ -3,12 +3,12 @@
 ghost use Rattle.std.specs.Prelude.{◌≡◌, OnOk, slice_index_or};
 ghost use Rattle.std.specs.List.{flat_map};
 ghost use Rattle.std.specs.Io.KnownBytes.{Appends};
-ghost use Rattle.mpf_plan.specs.PlanView.{mode_at, name_of_event, switch_at};
+ghost use Rattle.plan_tables.specs.PlanView.{mode_at, name_of_event, switch_at};
 ghost use Rattle.pinball_shell.specs.TraceText.{owner_text, level_text, switch_text, event_text, line_text, refused_text};
 
 use crate::refusal::Refusal;
 use config_checker::{Happening, Line};
-use mpf_plan::{EventId, ModeId, Owner, Plan, SwitchId};
+use plan_tables::{EventId, ModeId, Owner, Plan, SwitchId};
 use std::io::{self, Write};
 
 /// Writes the lines of a stimulus.

@@ -3,9 +3,9 @@ use Rattle.std.proofs.Common.{◌≡◌, ◌≢◌, ℕ, ◌+◌, ◌<◌, ◌�
 use Rattle.std.proofs.lemmas.Bool.{cases_Bool, cases_eq, cond-true, cond-false, and_left, not-true, le-leb, lt-leb, ne_eqb, eq-eqb}
 use Rattle.std.proofs.lemmas.Option.{none-some, same_Some}
 use Rattle.std.proofs.lemmas.List.{length-set, length-map, get_or-map, get_or-set_same, get_or-set_other}
-use Rattle.mpf_plan.specs.declared.entries.SwitchId.{SwitchId}
-use Rattle.mpf_plan.specs.declared.entries.SwitchKind.{SwitchKind}
-use Rattle.mpf_plan.specs.PlanView.{PlanView, PlanSwitch, switch_at, no_switch}
+use Rattle.plan_tables.specs.declared.entries.SwitchId.{SwitchId}
+use Rattle.plan_tables.specs.declared.entries.SwitchKind.{SwitchKind}
+use Rattle.plan_tables.specs.PlanView.{PlanView, PlanSwitch, switch_at, no_switch}
 use Rattle.switch_core.specs.SwitchStep.{SwitchState, same_level, is_active, raw_at_rest, idle, accepted, awaited, changed, fired}
 use Rattle.switch_core.specs.Switches.{SwitchesView, no_kind, kind_at, state_at, set_state, due_of, all_idle, after_change, IsNextDue, IsNothingDueBy, accept, accept_due, after_fire}
 use Rattle.switch_core.specs.AcceptedLevel.{RawChange, delay_of, accepted_level}

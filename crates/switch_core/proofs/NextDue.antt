@@ -4,7 +4,7 @@ use Rattle.std.specs.Option.{option_map_or}
 use Rattle.std.proofs.lemmas.Bool.{cases_Bool, cases_lt, cond_both, leb-true, leb-false, lt-leb}
 use Rattle.std.proofs.lemmas.Option.{none-some, same_Some}
 use Rattle.std.proofs.lemmas.List.{drop_more, drop_all}
-use Rattle.mpf_plan.specs.declared.entries.SwitchId.{SwitchId}
+use Rattle.plan_tables.specs.declared.entries.SwitchId.{SwitchId}
 use Rattle.switch_core.specs.SwitchStep.{SwitchState, idle}
 use Rattle.switch_core.specs.Switches.{SwitchesView, no_kind, due_of, IsNextDue, IsNothingDue, IsNothingDueBy, sooner, due_as, next_due_from, next_due}
 

@@ -1,7 +1,7 @@
 -- Lists of calls, and the law that they keep.
 use Rattle.std.specs.Prelude.{◌≡◌, ℕ, ◌<◌, ◌≤◌, ◌==◌, ◌⊎◌, Bool, not, ◌&&◌, if◌then◌else◌, Some, List, [], ◌∷◌, length}
-use Rattle.mpf_plan.specs.declared.entries.SwitchId.{SwitchId}
-use Rattle.mpf_plan.specs.PlanView.{PlanView, switch_at}
+use Rattle.plan_tables.specs.declared.entries.SwitchId.{SwitchId}
+use Rattle.plan_tables.specs.PlanView.{PlanView, switch_at}
 use Rattle.switch_core.specs.SwitchStep.{same_level, raw_at_rest}
 use Rattle.switch_core.specs.Switches.{SwitchesView, all_idle, after_change, after_fire, active_at, due_of, IsNextDue, IsNothingDueBy}
 use Rattle.switch_core.specs.AcceptedLevel.{RawChange, accepted_level}

@@ -1,6 +1,6 @@
 -- What `Switches` keeps of its switches.
 use Rattle.std.specs.Prelude.{◌≡◌, ℕ, Option}
-use Rattle.mpf_plan.specs.declared.entries.SwitchId.{SwitchId}
+use Rattle.plan_tables.specs.declared.entries.SwitchId.{SwitchId}
 use Rattle.switch_core.specs.Switches.{SwitchesView, IsComplete, next_due}
 
 -- Every switch has a state, and this is what is due next.

@@ -1,8 +1,8 @@
 -- A switch, and what is done with it.
 use Rattle.std.specs.Prelude.{ℕ, ◌+◌, Bool, true, false, not, ◌&&◌, if◌then◌else◌, Option, None, Some}
-use Rattle.mpf_config.specs.declared.config.Contact.{Contact}
-use Rattle.mpf_config.specs.declared.config.Contact.TheVariants.{NormallyOpen, NormallyClosed}
-use Rattle.mpf_plan.specs.declared.entries.SwitchKind.{SwitchKind}
+use Rattle.plan_tables.specs.declared.entries.Contact.{Contact}
+use Rattle.plan_tables.specs.declared.entries.Contact.TheVariants.{NormallyOpen, NormallyClosed}
+use Rattle.plan_tables.specs.declared.entries.SwitchKind.{SwitchKind}
 
 -- a switch: its raw level, whether it is active by the level that was accepted last, and the moment at which the raw
 -- level is to be accepted

@@ -1,8 +1,8 @@
 -- All switches of a plan, and what each call does with them.
 use Rattle.std.specs.Prelude.{◌≡◌, ℕ, ◌+◌, ◌<◌, ◌≤◌, ◌⊎◌, Bool, if◌then◌else◌, Option, None, Some, option_map, List, [], ◌∷◌, length, map, nat_le, slice_index_or, slice_set}
-use Rattle.mpf_plan.specs.declared.entries.SwitchId.{SwitchId}
-use Rattle.mpf_plan.specs.declared.entries.SwitchKind.{SwitchKind}
-use Rattle.mpf_plan.specs.PlanView.{PlanView, no_switch}
+use Rattle.plan_tables.specs.declared.entries.SwitchId.{SwitchId}
+use Rattle.plan_tables.specs.declared.entries.SwitchKind.{SwitchKind}
+use Rattle.plan_tables.specs.PlanView.{PlanView, no_switch}
 use Rattle.switch_core.specs.declared.change.Change.{Change}
 use Rattle.switch_core.specs.SwitchStep.{SwitchState, idle, changed, is_taken, fired}
 

@@ -1,6 +1,6 @@
 //! What is reported of a switch.
 
-use mpf_plan::entries::SwitchId;
+use plan_tables::entries::SwitchId;
 
 /// A switch's new level was accepted.
 #[derive(Clone, Copy, Debug)]

@@ -4,8 +4,7 @@ ghost use Rattle.std.specs.Prelude.{◌≡◌, ◌<◌, ◌^◌, option_map};
 ghost use Rattle.switch_core.specs.SwitchStep.{is_active, raw_at_rest, idle, accepted, awaited, changed, is_taken, fired};
 ghost use Rattle.switch_core.specs.StateView.{state_view};
 
-use mpf_config::config::Contact;
-use mpf_plan::entries::SwitchKind;
+use plan_tables::entries::{Contact, SwitchKind};
 
 /// How long a raw level has to stand until it is accepted, in milliseconds.
 const DELAY: u64 = 5;

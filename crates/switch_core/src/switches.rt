@@ -6,8 +6,8 @@ ghost use Rattle.switch_core.specs.Switches.{due_as, sooner, next_due_from};
 
 use crate::change::Change;
 use crate::state::State;
-use mpf_plan::Plan;
-use mpf_plan::entries::{SwitchId, SwitchKind};
+use plan_tables::Plan;
+use plan_tables::entries::{SwitchId, SwitchKind};
 use std::alloc::{AllocError, Global};
 use std::marker::Model;
 

@@ -1,5 +1,5 @@
 use Rattle.std.proofs.Common.{◌-◌, ◌∙◌, List, get_or, slice_index, refl, sym, subst, arith, length-set, take_all, get_or-set_same}
-use Rattle.mpf_plan.specs.declared.entries.EventId.{EventId}
+use Rattle.plan_tables.specs.declared.entries.EventId.{EventId}
 use Rattle.cascade_rank.specs.Events.{no_event}
 use Rattle.cascade_rank.specs.Order.{IsMeeting}
 use Rattle.cascade_rank.proofs.Ordering.{meets_inside, meets_some, meets_keeps, meets_lists}

@@ -1,5 +1,5 @@
 use Rattle.std.proofs.Common.{false, refl, arith}
-use Rattle.mpf_plan.specs.declared.entries.Action.TheVariants.{Post}
+use Rattle.plan_tables.specs.declared.entries.Action.TheVariants.{Post}
 use Rattle.cascade_rank.specs.Cost.{Lines, cost_of_action}
 use Rattle.cascade_rank.proofs.Leading.{adds-none, adds-more, unmet-each_more}
 use Rattle.cascade_rank.proofs.leaders.add_actions.Goals as goal

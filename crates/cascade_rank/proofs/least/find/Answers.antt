@@ -1,6 +1,6 @@
 use Rattle.std.proofs.Common.{List, ℕ, nat_lt, Option, position, Err, Ok, ap, ◌∙◌, sym, subst, arith}
 use Rattle.std.specs.Option.{option_map}
-use Rattle.mpf_plan.specs.declared.entries.EventId.{EventId}
+use Rattle.plan_tables.specs.declared.entries.EventId.{EventId}
 use Rattle.cascade_rank.specs.Weights.{IsLeastFitting, IsWithinLimit}
 use Rattle.cascade_rank.specs.Finding.{cycle, found_past}
 use Rattle.cascade_rank.specs.Lowest.{IsLeft}

@@ -1,5 +1,5 @@
 use Rattle.std.proofs.Common.{nat_lt, length, arith}
-use Rattle.mpf_plan.specs.declared.entries.Action.TheVariants.{Post}
+use Rattle.plan_tables.specs.declared.entries.Action.TheVariants.{Post}
 use Rattle.cascade_rank.specs.Cost.{cost_of_action}
 use Rattle.cascade_rank.specs.Order.{left_of}
 use Rattle.cascade_rank.proofs.Firsts.{lowest-each_more}

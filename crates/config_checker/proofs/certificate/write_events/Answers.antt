@@ -3,7 +3,7 @@ use Rattle.std.specs.List.{zip, flat_map}
 use Rattle.std.specs.Io.KnownBytes.{Appends}
 use Rattle.std.proofs.lemmas.Option.{get_or_from_slice_get}
 use Rattle.std.proofs.lemmas.Slice.Zip.{get_or-zip, length-zip}
-use Rattle.mpf_plan.specs.PlanView.{PlanView, name_of_event}
+use Rattle.plan_tables.specs.PlanView.{PlanView, name_of_event}
 use Rattle.config_checker.specs.CertificateText.{event_line}
 use Rattle.config_checker.proofs.Writing.{written-more, written-all}
 use Rattle.config_checker.proofs.certificate.write_events.Goals as goal

@@ -1,7 +1,7 @@
 use Rattle.std.proofs.Common.{ℕ, List, length, map, Some, option_map, sym, ap, ◌∙◌, subst}
 use Rattle.std.specs.List.{All}
-use Rattle.mpf_plan.specs.PlanView.{name_of_event}
-use Rattle.mpf_plan.specs.Valid.{IsEventWithin}
+use Rattle.plan_tables.specs.PlanView.{name_of_event}
+use Rattle.plan_tables.specs.Valid.{IsEventWithin}
 use Rattle.cascade_rank.specs.declared.fault.RankFault.{RankFault}
 use Rattle.cascade_rank.specs.View.{IfRank, rank_view}
 use Rattle.config_checker.specs.Checking.{cycle, named_fault}

@@ -1,5 +1,5 @@
 use Rattle.std.proofs.Common.{◌≡◌, map, take}
-use Rattle.mpf_plan.specs.PlanView.{name_of_event}
+use Rattle.plan_tables.specs.PlanView.{name_of_event}
 use Rattle.config_checker.proofs.reporting.names_of.Given as goal
 
 -- the names of the events so far

@@ -1,7 +1,7 @@
 use Rattle.std.proofs.Common.{List, rules, subst, ◌∙◌}
 use Rattle.std.specs.List.Sorted.{IsPermutation, IsStableBy}
 use Rattle.std.proofs.lemmas.Fn.{always_returns_same}
-use Rattle.mpf_plan.specs.declared.entries.BindingId.{BindingId}
+use Rattle.plan_tables.specs.declared.entries.BindingId.{BindingId}
 use Rattle.event_queue.specs.Handlers.{priority_at}
 use Rattle.event_queue.proofs.Sorted.{is_higher, sorted-is}
 use Rattle.event_queue.proofs.orders.order.Goals as goal

@@ -1,5 +1,6 @@
 use Rattle.mpf_plan.specs.PlanOf.{with_contribution}
-use Rattle.mpf_plan.specs.Inside.{name_sets_view, draft_view}
+use Rattle.plan_tables.specs.Inside.{name_sets_view}
+use Rattle.mpf_plan.specs.Inside.{draft_view}
 use Rattle.mpf_plan.proofs.Drafted.{lists_fit, modes_fit}
 use Rattle.mpf_plan.proofs.Taken.{added_next}
 use Rattle.mpf_plan.proofs.fill.add_all.Goals as goal

@@ -1,6 +1,7 @@
 use Rattle.std.proofs.Common.{◌≡◌, fold, take}
 use Rattle.mpf_plan.specs.PlanOf.{with_contribution}
-use Rattle.mpf_plan.specs.Inside.{name_sets_view, contributions_view, draft_view}
+use Rattle.plan_tables.specs.Inside.{name_sets_view}
+use Rattle.mpf_plan.specs.Inside.{contributions_view, draft_view}
 use Rattle.mpf_plan.proofs.fill.add_all.Given as goal
 
 abbrev pub invariant-loop-contribution : goal.invariant-loop-contribution

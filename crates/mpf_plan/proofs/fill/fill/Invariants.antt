@@ -1,7 +1,8 @@
 use Rattle.std.proofs.Common.{◌≡◌, take}
 use Rattle.mpf_plan.specs.Contributions.{given_by}
 use Rattle.mpf_plan.specs.PlanOf.{drafted}
-use Rattle.mpf_plan.specs.Inside.{name_sets_view, draft_view, row_list_view}
+use Rattle.plan_tables.specs.Inside.{name_sets_view}
+use Rattle.mpf_plan.specs.Inside.{draft_view, row_list_view}
 use Rattle.mpf_plan.proofs.fill.fill.Given as goal
 
 abbrev pub invariant-loop-row : goal.invariant-loop-row

@@ -2,9 +2,9 @@ use Rattle.std.proofs.Common.{◌≡◌, ℕ, ◌+◌, false, [], length, get_or
 use Rattle.std.specs.Prelude.{slice_get}
 use Rattle.std.proofs.lemmas.List.{length_push}
 use Rattle.std.proofs.lemmas.Option.{none-some}
-use Rattle.mpf_plan.specs.declared.fault.Table.TheVariants.{Events}
-use Rattle.mpf_plan.specs.declared.names.NameTable.{NameTable}
-use Rattle.mpf_plan.specs.Limits.{limit_of, order_of, tables_in_order}
+use Rattle.plan_tables.specs.declared.table.Table.TheVariants.{Events}
+use Rattle.plan_tables.specs.declared.names.NameTable.{NameTable}
+use Rattle.plan_tables.specs.Limits.{limit_of, order_of, tables_in_order}
 use Rattle.mpf_plan.proofs.ByTable.{table_at, each_pushed}
 use Rattle.mpf_plan.proofs.Found.{found_none}
 use Rattle.mpf_plan.proofs.numbering.no_names.Goals as goal

@@ -4,8 +4,8 @@ use Rattle.std.specs.Str.{bytes_eq}
 use Rattle.std.specs.List.{position}
 use Rattle.std.proofs.lemmas.List.Sums.{prefix_len-le-length}
 use Rattle.mpf_plan.specs.Uses.{number_among}
-use Rattle.mpf_plan.specs.NamesKept.{names_of}
-use Rattle.mpf_plan.proofs.Places.{position_or_len-map, position-or_len}
+use Rattle.plan_tables.specs.NamesKept.{names_of}
+use Rattle.plan_tables.proofs.Places.{position_or_len-map, position-or_len}
 use Rattle.mpf_plan.proofs.numbering.number_among.Goals as goal
 
 pub returns-clause-number : goal.returns-clause-number

@@ -1,5 +1,5 @@
 use Rattle.std.proofs.Common.{List, ap}
-use Rattle.mpf_plan.specs.declared.entries.BindingId.{BindingId}
+use Rattle.plan_tables.specs.declared.entries.BindingId.{BindingId}
 use Rattle.mode_stack.specs.Modes.{running_of}
 use Rattle.event_queue.proofs.PlanOrder.{handlers_are_in_plan_order}
 use Rattle.config_checker.specs.Machine.{all_do, do_handler}

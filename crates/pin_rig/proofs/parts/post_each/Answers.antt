@@ -1,6 +1,6 @@
 use Rattle.std.proofs.Common.{◌+◌, drop, get_or}
 use Rattle.std.proofs.lemmas.List.{drop_more}
-use Rattle.mpf_plan.specs.declared.entries.EventId.{EventId}
+use Rattle.plan_tables.specs.declared.entries.EventId.{EventId}
 use Rattle.config_checker.specs.Machine.{all_do, post}
 use Rattle.pin_rig.specs.Core.{after}
 use Rattle.pin_rig.proofs.Room.{post-room}

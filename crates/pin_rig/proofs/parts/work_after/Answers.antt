@@ -1,9 +1,9 @@
 use Rattle.std.proofs.Common.{◌∙◌, ap, sym}
-use Rattle.mpf_plan.specs.declared.entries.EventId.{EventId}
-use Rattle.mpf_plan.specs.declared.entries.Mode.{Mode as ModeValue}
-use Rattle.mpf_plan.specs.declared.entries.Owner.TheVariants.{Machine}
-use Rattle.mpf_plan.specs.declared.entries.Work.{Work}
-use Rattle.mpf_plan.specs.declared.entries.Work.TheVariants.{Mode}
+use Rattle.plan_tables.specs.declared.entries.EventId.{EventId}
+use Rattle.plan_tables.specs.declared.entries.Mode.{Mode as ModeValue}
+use Rattle.plan_tables.specs.declared.entries.Owner.TheVariants.{Machine}
+use Rattle.plan_tables.specs.declared.entries.Work.{Work}
+use Rattle.plan_tables.specs.declared.entries.Work.TheVariants.{Mode}
 use Rattle.config_checker.specs.Machine.{post, stop_mode}
 use Rattle.config_checker.specs.EventStep.{do_after}
 use Rattle.pin_rig.specs.Core.{CoreView, after, follow}

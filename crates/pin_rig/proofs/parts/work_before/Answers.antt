@@ -1,6 +1,6 @@
 use Rattle.std.proofs.Common.{◌∙◌, ap, sym}
-use Rattle.mpf_plan.specs.declared.entries.Work.{Work}
-use Rattle.mpf_plan.specs.declared.entries.Work.TheVariants.{Mode}
+use Rattle.plan_tables.specs.declared.entries.Work.{Work}
+use Rattle.plan_tables.specs.declared.entries.Work.TheVariants.{Mode}
 use Rattle.config_checker.specs.EventStep.{do_before}
 use Rattle.pin_rig.specs.Core.{follow}
 use Rattle.pin_rig.proofs.Following.{entered-follows}

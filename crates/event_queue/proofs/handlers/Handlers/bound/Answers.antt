@@ -1,6 +1,6 @@
 use Rattle.std.proofs.Common.{◌≡◌, ◌<◌, List, [], length, sym, subst, ◌∙◌, arith}
 use Rattle.std.specs.List.{All}
-use Rattle.mpf_plan.specs.declared.entries.BindingId.{BindingId}
+use Rattle.plan_tables.specs.declared.entries.BindingId.{BindingId}
 use Rattle.event_queue.specs.Handlers.{HandlersView}
 use Rattle.event_queue.specs.PlanOrder.{bound_in_order}
 use Rattle.event_queue.proofs.OfEvent.{none-bound, bound_in_order-within}

@@ -1,5 +1,5 @@
 use Rattle.std.proofs.Common.{◌+◌, List, drop, Some, None, sym, ap, ◌∙◌}
-use Rattle.mpf_plan.specs.declared.entries.BindingId.{BindingId}
+use Rattle.plan_tables.specs.declared.entries.BindingId.{BindingId}
 use Rattle.event_queue.specs.PlanOrder.{first_running}
 use Rattle.event_queue.proofs.Walk.{found-here, found-none, goes_on}
 use Rattle.event_queue.proofs.handlers.Handlers.next.Goals as goal

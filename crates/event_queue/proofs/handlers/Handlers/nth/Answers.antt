@@ -1,5 +1,5 @@
 use Rattle.std.proofs.Common.{List, filter, slice_get, sym, ap, ◌∙◌}
-use Rattle.mpf_plan.specs.declared.entries.BindingId.{BindingId}
+use Rattle.plan_tables.specs.declared.entries.BindingId.{BindingId}
 use Rattle.event_queue.specs.Handlers.{runs_at}
 use Rattle.event_queue.proofs.PlanOrder.{walk-all}
 use Rattle.event_queue.proofs.Counted.{counted-here, counted-all}

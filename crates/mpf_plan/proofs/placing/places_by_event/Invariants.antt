@@ -1,9 +1,0 @@
-use Rattle.std.proofs.Common.{◌≡◌, length, map, take}
-use Rattle.mpf_plan.proofs.Placed.{ArePlaced}
-use Rattle.mpf_plan.proofs.placing.places_by_event.Given as goal
-
-abbrev pub invariant-loop-place : goal.invariant-loop-place
-invariant-loop-place l = record {
-  count : length l.places.items ≡ l.events;
-  placed : ArePlaced (take l.place l.bindings) (map (λ v. v.items) l.places.items);
-}

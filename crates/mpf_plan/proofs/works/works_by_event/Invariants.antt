@@ -1,8 +1,0 @@
-use Rattle.std.proofs.Common.{◌≡◌, map}
-use Rattle.std.specs.List.{range_with_len}
-use Rattle.mpf_plan.specs.PlanView.{work_from}
-use Rattle.mpf_plan.specs.Inside.{mode_entry_view}
-use Rattle.mpf_plan.proofs.works.works_by_event.Given as goal
-
-abbrev pub invariant-loop-event : goal.invariant-loop-event
-invariant-loop-event l = l.works.items ≡ map (λ e. work_from 0 (map mode_entry_view l.modes) (record { 0 = e })) (range_with_len 0 l.event)

@@ -1,0 +1,6 @@
+pub mod Places
+pub mod Named
+pub mod Shown
+pub mod BoundTo
+pub mod Placed
+pub mod Worked

@@ -1,0 +1,49 @@
+-- What the events and switches of a name are.
+use Rattle.std.proofs.Common.{◌≡◌, ℕ, ◌<◌, ◌≢◌, List, [], length, slice_get, slice_index_or, Option, Some, None, Contains, refl, sym, ◌∙◌, ap}
+use Rattle.std.specs.Str.{bytes_eq}
+use Rattle.std.specs.List.{position}
+use Rattle.std.specs.Option.{option_map}
+use Rattle.std.proofs.lemmas.Option.{none-some, same_Some, slice_get-get_or}
+use Rattle.plan_tables.specs.declared.entries.EventId.{EventId}
+use Rattle.plan_tables.specs.declared.entries.SwitchId.{SwitchId}
+use Rattle.plan_tables.specs.PlanView.{PlanView, PlanSwitch, event_named, no_switch, switch_at, switch_named}
+use Rattle.plan_tables.proofs.Places.{found_at, found_within, absent}
+
+module _ {X : Type 0} (number : ℕ → X) (place : X → ℕ) (back : (n : ℕ) → place (number n) ≡ n) where
+  numbered : (o : Option ℕ) (x : X) → option_map number o ≡ Some x → o ≡ Some (place x)
+  numbered None x e = absurd (none-some x e)
+  numbered (Some n) x e = ap Some (sym (back n) ∙ ap place (same_Some (number n) x e))
+
+  unnumbered : (o : Option ℕ) → option_map number o ≡ None → o ≡ None
+  unnumbered None e = refl
+  unnumbered (Some n) e = absurd (none-some (number n) (sym e))
+
+module _ (plan : PlanView) (name : List ℕ) where
+  event_place : (e : EventId) → event_named plan name ≡ Some e → position (bytes_eq name) plan.events ≡ Some e.0
+  event_place e = numbered (λ n. record { 0 = n }) (λ (x : EventId). x.0) (λ n. refl) (position (bytes_eq name) plan.events) e
+
+  -- the event of a name has it
+  pub event_found : (e : EventId) → event_named plan name ≡ Some e → slice_get plan.events e.0 ≡ Some name
+  event_found e named =
+      let at = event_place e named in
+      let within = found_within (λ x. x) name plan.events e.0 at in
+      slice_get-get_or plan.events e.0 [] within ∙ ap Some (found_at (λ x. x) name plan.events e.0 [] at)
+
+  -- where a name has no event, no event has the name
+  pub event_absent : event_named plan name ≡ None → ¬ (Contains plan.events name)
+  event_absent none (i, within, is) =
+      absent (λ x. x) name plan.events (unnumbered (λ n. record { 0 = n }) (λ (x : EventId). x.0) (λ n. refl) (position (bytes_eq name) plan.events) none) i name within is
+
+  switch_place : (s : SwitchId) → switch_named plan name ≡ Some s → position (λ s. bytes_eq name s.name) plan.switches ≡ Some s.0
+  switch_place s = numbered (λ n. record { 0 = n }) (λ (x : SwitchId). x.0) (λ n. refl) (position (λ s. bytes_eq name s.name) plan.switches) s
+
+  -- the switch of a name has it
+  pub switch_found : (s : SwitchId) → switch_named plan name ≡ Some s → (switch_at plan s).name ≡ name
+  switch_found s named = found_at (λ (x : PlanSwitch). x.name) name plan.switches s.0 no_switch (switch_place s named)
+
+  pub switch_within : (s : SwitchId) → switch_named plan name ≡ Some s → s.0 < length plan.switches
+  switch_within s named = found_within (λ (x : PlanSwitch). x.name) name plan.switches s.0 (switch_place s named)
+
+  -- where a name has no switch, no switch has the name
+  pub switch_absent : switch_named plan name ≡ None → (i : ℕ) (d : PlanSwitch) → i < length plan.switches → (slice_index_or plan.switches i d).name ≢ name
+  switch_absent none = absent (λ (x : PlanSwitch). x.name) name plan.switches (unnumbered (λ n. record { 0 = n }) (λ (x : SwitchId). x.0) (λ n. refl) (position (λ s. bytes_eq name s.name) plan.switches) none)

@@ -1,0 +1,6 @@
+pub mod PlanView
+pub mod Limits
+pub mod Valid
+-- what a plan's fields hold, of which no caller but the maker of plans speaks
+pub mod NamesKept
+pub mod Inside

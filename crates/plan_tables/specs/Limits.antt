@@ -1,0 +1,46 @@
+-- How many entries each table of a plan may have.
+use Rattle.std.specs.Prelude.{ℕ, ◌<◌, ◌≤◌, List, [], ◌∷◌, Option, length, map, nat_lt, find, codes}
+use Rattle.plan_tables.specs.declared.table.Table.{Table}
+use Rattle.plan_tables.specs.declared.table.Table.TheVariants.{Events, Bindings, Switches}
+use Rattle.plan_tables.specs.PlanView.{PlanView}
+
+abbrev pub entry_count : PlanView → Table → ℕ
+entry_count plan Events = length plan.events
+entry_count plan Bindings = length plan.bindings
+entry_count plan Switches = length plan.switches
+
+-- the names of a table, where its entries have names
+abbrev pub entry_names : PlanView → Table → List (List ℕ)
+entry_names plan Events = plan.events
+entry_names plan Bindings = []
+entry_names plan Switches = map (λ s. s.name) plan.switches
+
+abbrev pub limit_of : Table → ℕ
+limit_of Events = 4096
+limit_of Bindings = 16384
+limit_of Switches = 256
+
+-- the name by which a table is reported
+abbrev pub table_name : Table → List ℕ
+table_name Events = codes "events"
+table_name Bindings = codes "bindings"
+table_name Switches = codes "switches"
+
+-- the tables in the order in which they are judged
+abbrev pub tables_in_order : List Table
+tables_in_order = Events ∷ Bindings ∷ Switches ∷ []
+
+-- a table's place in that order
+abbrev pub order_of : Table → ℕ
+order_of Events = 0
+order_of Bindings = 1
+order_of Switches = 2
+
+-- the first table that is above its limit, if there is one
+abbrev pub first_above : PlanView → Option Table
+first_above plan = find (λ t. nat_lt (limit_of t) (entry_count plan t)) tables_in_order
+
+-- the table is the first that is above its limit
+pub record IsFirstAbove (plan : PlanView) (t : Table) : Type 0 where
+  pub above : limit_of t < entry_count plan t
+  pub before : (u : Table) → order_of u < order_of t → entry_count plan u ≤ limit_of u

@@ -1,0 +1,142 @@
+-- A plan, apart from where it lies in memory.
+use Rattle.std.specs.Prelude.{ℕ, suc, ◌==◌, List, [], ◌∷◌, Bool, false, Option, Some, None, if◌then◌else◌, length, map, filter, slice_index_or, position, option_map}
+use Rattle.std.specs.List.{range_with_len}
+use Rattle.std.specs.Str.{bytes_eq}
+use Rattle.plan_tables.specs.declared.entries.Contact.TheVariants.{NormallyOpen}
+use Rattle.plan_tables.specs.declared.entries.EventId.{EventId}
+use Rattle.plan_tables.specs.declared.entries.SwitchId.{SwitchId}
+use Rattle.plan_tables.specs.declared.entries.SwitchKind.{SwitchKind}
+use Rattle.plan_tables.specs.declared.entries.Mode.{Mode}
+use Rattle.plan_tables.specs.declared.entries.ModeId.{ModeId}
+use Rattle.plan_tables.specs.declared.entries.ModeEvent.{ModeEvent}
+use Rattle.plan_tables.specs.declared.entries.ModeEvent.TheVariants.{WillStart, Starting, Started, Stopping, Stopped}
+use Rattle.plan_tables.specs.declared.entries.ModeEvents.{ModeEvents}
+use Rattle.plan_tables.specs.declared.entries.Work.{Work}
+use Rattle.plan_tables.specs.declared.entries.Work.TheVariants as works
+use Rattle.plan_tables.specs.declared.entries.ListId.{ListId}
+use Rattle.plan_tables.specs.declared.entries.BindingId.{BindingId}
+use Rattle.plan_tables.specs.declared.entries.Owner.TheVariants.{Machine}
+use Rattle.plan_tables.specs.declared.entries.Action.{Action}
+use Rattle.plan_tables.specs.declared.entries.Target.TheVariants.{Run}
+use Rattle.plan_tables.specs.declared.entries.Binding.{Binding}
+
+-- a switch: its name, how it is read, and what it posts when it becomes active and inactive
+pub record PlanSwitch : Type 0 where
+  pub name : List ℕ
+  pub kind : SwitchKind
+  pub active : List EventId
+  pub inactive : List EventId
+
+-- what a switch posts when it becomes active, or inactive
+abbrev pub switch_posts : Bool → PlanSwitch → List EventId
+switch_posts active s = if active then s.active else s.inactive
+
+-- in place of a switch where there is none
+abbrev pub no_switch : PlanSwitch
+no_switch = record { name = []; kind = record { contact = NormallyOpen; quick = false }; active = []; inactive = [] }
+
+-- a mode, with its name
+pub record PlanMode : Type 0 where
+  pub name : List ℕ
+  pub mode : Mode
+
+-- in place of an event where there is none
+abbrev pub no_event : EventId
+no_event = record { 0 = 0 }
+
+-- in place of a mode where there is none
+abbrev pub no_mode : PlanMode
+no_mode = record {
+  name = [];
+  mode = record {
+    priority = 0;
+    game = false;
+    events = record { will_start = no_event; starting = no_event; started = no_event; stopping = no_event; stopped = no_event };
+  };
+}
+
+-- names and effect lists stand at their numbers, modes in the order of the machine's list, and bindings in plan order
+pub record PlanView : Type 0 where
+  pub modes : List PlanMode
+  pub events : List (List ℕ)
+  pub switches : List PlanSwitch
+  pub lists : List (List Action)
+  pub bindings : List Binding
+
+-- the name of an event
+abbrev pub name_of_event : PlanView → EventId → List ℕ
+name_of_event plan e = slice_index_or plan.events e.0 []
+
+-- the event of a name, if there is one
+abbrev pub event_named : PlanView → List ℕ → Option EventId
+event_named plan name = option_map (λ n. record { 0 = n }) (position (bytes_eq name) plan.events)
+
+-- a mode by its number
+abbrev pub mode_at : PlanView → ModeId → PlanMode
+mode_at plan m = slice_index_or plan.modes m.0 no_mode
+
+-- this one of a mode's events
+abbrev pub event_among : ModeEvents → ModeEvent → EventId
+event_among events WillStart = events.will_start
+event_among events Starting = events.starting
+event_among events Started = events.started
+event_among events Stopping = events.stopping
+event_among events Stopped = events.stopped
+
+abbrev pub mode_event : PlanView → ModeId → ModeEvent → EventId
+mode_event plan m which = event_among (mode_at plan m).mode.events which
+
+-- which of a mode's events it is, if it is one
+abbrev pub which_event : ModeEvents → EventId → Option ModeEvent
+which_event events e =
+    if e.0 == events.will_start.0 then Some WillStart
+    else (if e.0 == events.starting.0 then Some Starting
+    else (if e.0 == events.started.0 then Some Started
+    else (if e.0 == events.stopping.0 then Some Stopping
+    else (if e.0 == events.stopped.0 then Some Stopped else None))))
+
+-- the work of an event of the mode of this number; or else this work
+abbrev pub work_or : ℕ → Option ModeEvent → Work → Work
+work_or n None rest = rest
+work_or n (Some which) rest = works.Mode (record { 0 = n }) which
+
+-- the work of an event, where these are the modes from number n on
+abbrev pub work_from : ℕ → List PlanMode → EventId → Work
+work_from n [] e = works.Nothing
+work_from n (m ∷ ms) e = work_or n (which_event m.mode.events e) (work_from (suc n) ms e)
+
+-- what the machine itself does when it takes an event
+abbrev pub work_of : PlanView → EventId → Work
+work_of plan e = work_from 0 plan.modes e
+
+-- a switch by its number
+abbrev pub switch_at : PlanView → SwitchId → PlanSwitch
+switch_at plan s = slice_index_or plan.switches s.0 no_switch
+
+-- the switch of a name, if there is one
+abbrev pub switch_named : PlanView → List ℕ → Option SwitchId
+switch_named plan name = option_map (λ n. record { 0 = n }) (position (λ s. bytes_eq name s.name) plan.switches)
+
+-- what a switch of the plan posts
+abbrev pub posts_of : PlanView → SwitchId → Bool → List EventId
+posts_of plan s active = switch_posts active (switch_at plan s)
+
+-- the actions of an effect list
+abbrev pub actions_at : PlanView → ListId → List Action
+actions_at plan l = slice_index_or plan.lists l.0 []
+
+-- in place of a binding where there is none
+abbrev pub no_binding : Binding
+no_binding = record { event = record { 0 = 0 }; owner = Machine; priority = 0; target = Run (record { 0 = 0 }) }
+
+-- a binding by its place
+abbrev pub binding_at : PlanView → BindingId → Binding
+binding_at plan p = slice_index_or plan.bindings p.0 no_binding
+
+-- what is bound to the event, in plan order
+abbrev pub bound_to : PlanView → EventId → List Binding
+bound_to plan e = filter (λ b. b.event.0 == e.0) plan.bindings
+
+-- the places of what is bound to the event, in plan order
+abbrev pub places_of : PlanView → EventId → List BindingId
+places_of plan e = map (λ n. record { 0 = n }) (filter (λ n. (binding_at plan (record { 0 = n })).event.0 == e.0) (range_with_len 0 (length plan.bindings)))

@@ -1,0 +1,72 @@
+-- What holds of every plan: each number in it is that of an entry, no two entries of a table have one name, and no table is above its limit.
+use Rattle.std.specs.Prelude.{ℕ, ◌≡◌, ◌<◌, ◌≤◌, ◌≢◌, length}
+use Rattle.std.specs.List.{All, AllPairs}
+use Rattle.plan_tables.specs.declared.entries.EventId.{EventId}
+use Rattle.plan_tables.specs.declared.entries.Owner.{Owner}
+use Rattle.plan_tables.specs.declared.entries.Owner.TheVariants.{Machine, Mode}
+use Rattle.plan_tables.specs.declared.entries.Action.{Action}
+use Rattle.plan_tables.specs.declared.entries.Action.TheVariants.{Post}
+use Rattle.plan_tables.specs.declared.entries.Target.{Target}
+use Rattle.plan_tables.specs.declared.entries.Target.TheVariants.{Run, Start, Stop}
+use Rattle.plan_tables.specs.declared.entries.ModeId.{ModeId}
+use Rattle.plan_tables.specs.declared.entries.ModeEvent.{ModeEvent}
+use Rattle.plan_tables.specs.declared.entries.Work.{Work}
+use Rattle.plan_tables.specs.declared.entries.Work.TheVariants as works
+use Rattle.plan_tables.specs.declared.entries.Binding.{Binding}
+use Rattle.plan_tables.specs.declared.table.Table.{Table}
+use Rattle.plan_tables.specs.Limits.{entry_names}
+use Rattle.plan_tables.specs.PlanView.{PlanMode, PlanSwitch, PlanView, mode_event, work_of}
+
+abbrev pub IsEventWithin : ℕ → EventId → Type 0
+IsEventWithin events e = e.0 < events
+
+-- the events of a mode
+pub record IsModeWithin (events : ℕ) (m : PlanMode) : Type 0 where
+  pub will_start : IsEventWithin events m.mode.events.will_start
+  pub starting : IsEventWithin events m.mode.events.starting
+  pub started : IsEventWithin events m.mode.events.started
+  pub stopping : IsEventWithin events m.mode.events.stopping
+  pub stopped : IsEventWithin events m.mode.events.stopped
+
+abbrev pub IsActionWithin : PlanView → Action → Type 0
+IsActionWithin plan (Post e) = e.0 < length plan.events
+
+abbrev pub IsTargetWithin : PlanView → Target → Type 0
+IsTargetWithin plan (Run l) = l.0 < length plan.lists
+IsTargetWithin plan (Start m) = m.0 < length plan.modes
+IsTargetWithin plan (Stop m) = m.0 < length plan.modes
+
+abbrev pub IsOwnerWithin : PlanView → Owner → Type 0
+IsOwnerWithin plan Machine = Unit {0}
+IsOwnerWithin plan (Mode m) = m.0 < length plan.modes
+
+abbrev pub IsBindingWithin : PlanView → Binding → Type 0
+IsBindingWithin plan b = (b.event.0 < length plan.events) × IsOwnerWithin plan b.owner × IsTargetWithin plan b.target
+
+abbrev pub IsSwitchWithin : ℕ → PlanSwitch → Type 0
+IsSwitchWithin events s = All (IsEventWithin events) s.active × All (IsEventWithin events) s.inactive
+
+-- where an event has work, it is this event of a mode of the plan
+abbrev pub IsWorkAt : PlanView → EventId → Work → Type 0
+IsWorkAt plan e works.Nothing = Unit {0}
+IsWorkAt plan e (works.Mode m which) = (m.0 < length plan.modes) × (e ≡ mode_event plan m which)
+
+-- every number in the plan is that of an entry, whether the tables are within their limits or not
+pub record HasEntries (plan : PlanView) : Type 0 where
+  pub modes : All (IsModeWithin (length plan.events)) plan.modes
+  pub switches : All (IsSwitchWithin (length plan.events)) plan.switches
+  pub lists : All (All (IsActionWithin plan)) plan.lists
+  pub bindings : All (IsBindingWithin plan) plan.bindings
+
+pub record IsValid (plan : PlanView) : Type 0 where
+  pub mode_limit : length plan.modes ≤ 64
+  pub event_limit : length plan.events ≤ 4096
+  pub binding_limit : length plan.bindings ≤ 16384
+  pub switch_limit : length plan.switches ≤ 256
+  pub list_limit : length plan.lists ≤ 16384
+  -- no effect list has more than 1,024 actions
+  pub action_limit : All (λ actions. length actions ≤ 1024) plan.lists
+  pub names : (t : Table) → AllPairs (λ x y. x ≢ y) (entry_names plan t)
+  pub entries : HasEntries plan
+  -- each mode has five events of its own
+  pub works : (m : ModeId) (which : ModeEvent) → m.0 < length plan.modes → work_of plan (mode_event plan m which) ≡ works.Mode m which

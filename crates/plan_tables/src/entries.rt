@@ -1,0 +1,139 @@
+//! The entries of a plan's tables.
+
+/// An event, by its number in order of first use: below 4,096.
+#[derive(Clone, Copy, Debug, PartialEq, Eq)]
+pub struct EventId(pub u16);
+
+/// A switch, by its number in order of first use: below 256.
+#[derive(Clone, Copy, Debug)]
+pub struct SwitchId(pub u16);
+
+/// The state of a switch's contact while nothing presses it.
+#[derive(Clone, Copy, Debug)]
+pub enum Contact {
+    /// Raw level 1 is active.
+    NormallyOpen,
+    /// Raw level 0 is active.
+    NormallyClosed,
+}
+
+/// How a switch's raw levels are read.
+#[derive(Clone, Copy, Debug)]
+pub struct SwitchKind {
+    /// Which raw level is active.
+    pub contact: Contact,
+    /// Whether a raw level is accepted at once; if not, it has to last for 5 ms.
+    pub quick: bool,
+}
+
+/// An effect list, by its number: below 16,384, with room for the lists of rows of devices.
+#[derive(Clone, Copy, Debug)]
+pub struct ListId(pub u32);
+
+/// A binding, by its place in plan order: below 16,384.
+#[derive(Clone, Copy, Debug)]
+pub struct BindingId(pub u16);
+
+/// A mode, by its place in the list of the machine's modes: below 64.
+#[derive(Clone, Copy, Debug)]
+pub struct ModeId(pub u16);
+
+/// Which of the five events of a mode.
+#[derive(Clone, Copy, Debug, PartialEq, Eq)]
+pub enum ModeEvent {
+    WillStart,
+    Starting,
+    Started,
+    Stopping,
+    Stopped,
+}
+
+/// The events of a mode, in the order in which they come when it starts and stops.
+#[derive(Clone, Copy)]
+pub struct ModeEvents {
+    /// `mode_NAME_will_start`: the mode is to start.
+    pub will_start: EventId,
+    /// `mode_NAME_starting`: it starts.
+    pub starting: EventId,
+    /// `mode_NAME_started`: it is active.
+    pub started: EventId,
+    /// `mode_NAME_stopping`: it stops.
+    pub stopping: EventId,
+    /// `mode_NAME_stopped`: it has stopped.
+    pub stopped: EventId,
+}
+
+/// What a plan says of a mode, besides its name.
+#[derive(Clone, Copy)]
+pub struct Mode {
+    /// The priority of its bindings: at most 1,000,000.
+    pub priority: u32,
+    /// Whether it starts only in a game.
+    pub game: bool,
+    /// The events that it posts.
+    pub events: ModeEvents,
+}
+
+/// What the machine itself does when it takes an event.
+#[derive(Clone, Copy, Debug)]
+pub enum Work {
+    /// Nothing: only its handlers run.
+    Nothing,
+    /// The next step in the life of the mode, of which it is this event.
+    Mode(ModeId, ModeEvent),
+}
+
+/// Who acts.
+#[derive(Clone, Copy, Debug)]
+pub enum Owner {
+    /// What the machine text has.
+    Machine,
+    /// What the text of a mode has.
+    Mode(ModeId),
+}
+
+/// One thing that an effect list does.
+#[derive(Clone, Copy, Debug)]
+pub enum Action {
+    /// The event goes to the end of the queue.
+    Post(EventId),
+}
+
+/// What a binding does when its turn comes.
+#[derive(Clone, Copy, Debug)]
+pub enum Target {
+    /// The actions of the effect list, in order.
+    Run(ListId),
+    /// The mode is told to start.
+    Start(ModeId),
+    /// The mode is told to stop.
+    Stop(ModeId),
+}
+
+/// What is done when an event is handled.
+#[derive(Clone, Copy, Debug)]
+pub struct Binding {
+    /// The event that is handled.
+    pub event: EventId,
+    /// Who handles it.
+    pub owner: Owner,
+    /// Handlers of an event with a higher priority run first: at most 1,000,000.
+    pub priority: u32,
+    /// What is done.
+    pub target: Target,
+}
+
+/// How a switch is read, and what it posts when it becomes active, and when it becomes inactive.
+#[derive(Drop)]
+pub struct SwitchEntry {
+    pub kind: SwitchKind,
+    pub active: Vec<EventId>,
+    pub inactive: Vec<EventId>,
+}
+
+/// A mode, with its name.
+#[derive(Drop)]
+pub struct ModeEntry {
+    pub name: Vec<u8>,
+    pub mode: Mode,
+}

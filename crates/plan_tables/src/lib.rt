@@ -1,0 +1,17 @@
+//! The tables of a plan: names by number, and what is bound to each event.
+#![tactic(auto)]
+
+pub mod entries;
+pub mod names;
+mod placing;
+pub mod table;
+pub mod tables;
+mod works;
+
+pub use entries::{
+    Action, Binding, BindingId, Contact, EventId, ListId, Mode, ModeEntry, ModeEvent, ModeEvents,
+    ModeId, Owner, SwitchEntry, SwitchId, SwitchKind, Target, Work,
+};
+pub use names::{NameHashing, NameSet, NameSets, NameTable};
+pub use table::{TABLES, Table};
+pub use tables::{Plan, Tables};

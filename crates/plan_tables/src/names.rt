@@ -1,0 +1,63 @@
+//! The names of a plan's tables, at their numbers.
+
+ghost use Rattle.std.specs.Prelude.{◌≡◌, ◌≤◌, length, slice_get};
+ghost use Rattle.plan_tables.specs.declared.table.Table.{Table as TableValue};
+ghost use Rattle.plan_tables.specs.Limits.{limit_of, order_of, tables_in_order};
+ghost use Rattle.plan_tables.specs.NamesKept.{names_kept};
+
+use crate::table::Table;
+use indexmap::IndexSet;
+use std::hash::{BuildHasher, FoldHasher};
+
+/// Makes the hashers of names. They start in a state that comes from all names of the rows. So no
+/// hash is known before all names are chosen, and another name changes every hash.
+#[derive(Clone, Copy)]
+pub struct NameHashing {
+    pub start: FoldHasher,
+}
+
+impl BuildHasher for NameHashing {
+    type Hasher = FoldHasher;
+
+    ghost build_hasher = { λ hashing. hashing.start };
+
+    fn build_hasher(&self) -> FoldHasher {
+        self.start
+    }
+}
+
+/// Names at their numbers.
+pub type NameSet = IndexSet<Vec<u8>, NameHashing>;
+
+/// The first names of a table, as far as they are kept.
+#[derive(Drop)]
+pub struct NameTable {
+    pub set: NameSet,
+    /// At most so many are kept.
+    pub limit: usize,
+    /// Whether there are more.
+    pub above: bool,
+}
+
+/// The names of each table, at their numbers; each table at its index.
+#[derive(Drop)]
+pub struct NameSets {
+    pub tables: Vec<NameTable>,
+    ghost count: { length tables.items ≡ length tables_in_order },
+    ghost fit: { (t : TableValue) → length (names_kept (slice_get tables.items (order_of t))) ≤ limit_of t },
+}
+
+impl NameSets {
+    ghost use Rattle.std.specs.Prelude.{◌≡◌, ◌≤◌, length};
+    ghost use Rattle.plan_tables.specs.Limits.{limit_of};
+    ghost use Rattle.plan_tables.specs.NamesKept.{names_of};
+    ghost use Rattle.plan_tables.specs.Inside.{name_sets_view};
+
+    /// The names of a table.
+    pub fn of(&self, table: Table) -> &NameSet
+        ensures names { names_of result.now.keys ≡ name_sets_view self.now table }
+        ensures fit { length result.now.keys ≤ limit_of table }
+    {
+        &self.tables[table.index()].set
+    }
+}

@@ -1,0 +1,249 @@
+//! The plan, and its tables read by number and by text.
+
+use crate::entries::{
+    Action, Binding, BindingId, EventId, ListId, Mode, ModeEntry, ModeId, SwitchEntry, SwitchId,
+    SwitchKind, Work,
+};
+use crate::names::NameSets;
+use crate::placing::places_by_event;
+use crate::table::Table;
+use crate::works::works_by_event;
+use std::alloc::{AllocError, Global};
+use std::marker::Model;
+
+/// What a plan is made of.
+#[derive(Drop)]
+pub struct Tables {
+    /// The names of the events, and of the switches.
+    pub names: NameSets,
+    /// In the order of the machine's list.
+    pub modes: Vec<ModeEntry>,
+    /// At the places of their names.
+    pub switches: Vec<SwitchEntry>,
+    /// The effect lists.
+    pub lists: Vec<Vec<Action>>,
+    /// In plan order.
+    pub bindings: Vec<Binding>,
+}
+
+/// The plan of a configuration. Each number in it is that of an entry of its table, no two
+/// events and no two switches have one name, and each table is within its limit.
+#[derive(Drop)]
+pub struct Plan {
+    tables: Tables,
+    /// For each event the places of what is bound to it.
+    places: Vec<Vec<BindingId>>,
+    /// For each event its work.
+    works: Vec<Work>,
+}
+
+impl Model for Plan {
+    ghost use Rattle.plan_tables.specs.PlanView.{PlanView};
+
+    ghost Value = { PlanView };
+
+    ghost use Rattle.std.specs.Prelude.{◌≡◌, length};
+    ghost use Rattle.plan_tables.specs.declared.table.Table.TheVariants.{Switches};
+    ghost use Rattle.plan_tables.specs.Inside.{name_sets_view, plan_view, HasPlaces, HasWorks};
+    ghost use Rattle.plan_tables.specs.Valid.{IsValid};
+
+    ghost view = { plan_view };
+
+    ghost invariant = { λ p. IsValid (plan_view p) × HasPlaces (plan_view p) p.places.items × HasWorks (plan_view p) p.works.items × (length p.tables.switches.items ≡ length (name_sets_view p.tables.names Switches)) };
+}
+
+impl Plan {
+    ghost use Rattle.std.specs.Prelude.{◌≡◌, ◌<◌, length, slice_get, Contains, IfSome, IfNone, IfOk};
+    ghost use Rattle.plan_tables.specs.PlanView.{name_of_event, event_named, mode_at, switch_at, switch_named, posts_of, actions_at, places_of, work_of};
+    ghost use Rattle.plan_tables.specs.declared.table.Table.TheVariants.{Switches};
+    ghost use Rattle.plan_tables.specs.Inside.{name_sets_view, tables_view};
+    ghost use Rattle.plan_tables.specs.Valid.{IsValid, IsWorkAt};
+
+    /// The plan of these tables.
+    ///
+    /// # Errors
+    ///
+    /// Memory ran out.
+    pub fn new(alloc: Global, tables: Tables) -> Result<Plan, AllocError>
+        requires valid { IsValid (tables_view tables) }
+        requires switches { length tables.switches.items ≡ length (name_sets_view tables.names Switches) }
+        ensures { IfOk result (λ p. p ≡ tables_view tables) }
+    {
+        let events = tables.names.of(Table::Events).len();
+        let places = places_by_event(alloc, events, &tables.bindings)?;
+        let works = works_by_event(alloc, events, &tables.modes)?;
+        Ok(Plan {
+            tables,
+            places,
+            works,
+        })
+    }
+
+    /// How many events there are. They are numbered from 0.
+    pub fn event_count(&self) -> usize
+        ensures count { result ≡ length self.now.events }
+        ensures valid { IsValid self.now }
+    {
+        self.tables.names.of(Table::Events).len()
+    }
+
+    /// The name of an event of the plan.
+    pub fn event_name(&self, event: EventId) -> &[u8]
+        requires { event.0 < length self.now.events }
+        ensures name { result.now ≡ name_of_event self.now event }
+        ensures valid { IsValid self.now }
+    {
+        let names = self.tables.names.of(Table::Events).as_slice();
+        names[event.0 as usize].as_slice()
+    }
+
+    /// The event of this name; none if no event has it.
+    pub fn find_event(&self, name: &[u8]) -> Option<EventId>
+        ensures event { result ≡ event_named self.now name.now }
+        ensures found { IfSome result (λ e. slice_get self.now.events e.0 ≡ Some name.now) }
+        ensures absent { IfNone result (¬ (Contains self.now.events name.now)) }
+        ensures valid { IsValid self.now }
+    {
+        let place = self.tables.names.of(Table::Events).get_index_of(name)?;
+        Some(EventId(place as u16))
+    }
+
+    /// What the machine itself does when it takes an event of the plan.
+    pub fn work(&self, event: EventId) -> Work
+        requires { event.0 < length self.now.events }
+        ensures work { result ≡ work_of self.now event }
+        ensures found { IsWorkAt self.now event result }
+        ensures valid { IsValid self.now }
+    {
+        self.works[event.0 as usize]
+    }
+
+    /// How many modes there are. They are numbered from 0.
+    pub fn mode_count(&self) -> usize
+        ensures count { result ≡ length self.now.modes }
+        ensures valid { IsValid self.now }
+    {
+        self.tables.modes.len()
+    }
+
+    /// The name of a mode of the plan.
+    pub fn mode_name(&self, mode: ModeId) -> &[u8]
+        requires { mode.0 < length self.now.modes }
+        ensures name { result.now ≡ (mode_at self.now mode).name }
+        ensures valid { IsValid self.now }
+    {
+        &self.tables.modes[mode.0 as usize].name
+    }
+
+    /// What the plan says of a mode of it.
+    pub fn mode(&self, mode: ModeId) -> Mode
+        requires { mode.0 < length self.now.modes }
+        ensures mode { result ≡ (mode_at self.now mode).mode }
+        ensures valid { IsValid self.now }
+    {
+        self.tables.modes[mode.0 as usize].mode
+    }
+
+    /// How many switches there are. They are numbered from 0.
+    pub fn switch_count(&self) -> usize
+        ensures count { result ≡ length self.now.switches }
+        ensures valid { IsValid self.now }
+    {
+        self.tables.switches.len()
+    }
+
+    /// The name of a switch of the plan.
+    pub fn switch_name(&self, switch: SwitchId) -> &[u8]
+        requires { switch.0 < length self.now.switches }
+        ensures name { result.now ≡ (switch_at self.now switch).name }
+        ensures valid { IsValid self.now }
+    {
+        let names = self.tables.names.of(Table::Switches).as_slice();
+        names[switch.0 as usize].as_slice()
+    }
+
+    /// The switch of this name; none if no switch has it.
+    pub fn find_switch(&self, name: &[u8]) -> Option<SwitchId>
+        ensures switch { result ≡ switch_named self.now name.now }
+        ensures found { IfSome result (λ s. (switch_at self.now s).name ≡ name.now) }
+        ensures within { IfSome result (λ s. s.0 < length self.now.switches) }
+        ensures valid { IsValid self.now }
+    {
+        let place = self.tables.names.of(Table::Switches).get_index_of(name)?;
+        Some(SwitchId(place as u16))
+    }
+
+    /// How a switch of the plan is read.
+    pub fn switch_kind(&self, switch: SwitchId) -> SwitchKind
+        requires { switch.0 < length self.now.switches }
+        ensures kind { result ≡ (switch_at self.now switch).kind }
+        ensures valid { IsValid self.now }
+    {
+        self.tables.switches[switch.0 as usize].kind
+    }
+
+    /// What a switch of the plan posts, in order, when it becomes active, or inactive.
+    pub fn posts(&self, switch: SwitchId, active: bool) -> &[EventId]
+        requires { switch.0 < length self.now.switches }
+        ensures posts { result.now ≡ posts_of self.now switch active }
+        ensures valid { IsValid self.now }
+    {
+        let posts = &self.tables.switches[switch.0 as usize];
+        if active {
+            posts.active.as_slice()
+        } else {
+            posts.inactive.as_slice()
+        }
+    }
+
+    /// How many effect lists there are. They are numbered from 0.
+    pub fn list_count(&self) -> usize
+        ensures count { result ≡ length self.now.lists }
+        ensures valid { IsValid self.now }
+    {
+        self.tables.lists.len()
+    }
+
+    /// The actions of an effect list of the plan, in order.
+    pub fn list(&self, list: ListId) -> &[Action]
+        requires { list.0 < length self.now.lists }
+        ensures actions { result.now ≡ actions_at self.now list }
+        ensures valid { IsValid self.now }
+    {
+        self.tables.lists[list.0 as usize].as_slice()
+    }
+
+    /// How many bindings there are. They are numbered from 0.
+    pub fn binding_count(&self) -> usize
+        ensures count { result ≡ length self.now.bindings }
+        ensures valid { IsValid self.now }
+    {
+        self.tables.bindings.len()
+    }
+
+    /// A binding of the plan.
+    pub fn binding(&self, binding: BindingId) -> Binding
+        requires { binding.0 < length self.now.bindings }
+        ensures binding { slice_get self.now.bindings binding.0 ≡ Some result }
+        ensures valid { IsValid self.now }
+    {
+        self.tables.bindings[binding.0 as usize]
+    }
+
+    /// The bindings of an event of the plan, by their places, in plan order.
+    pub fn bindings_of(&self, event: EventId) -> &[BindingId]
+        requires { event.0 < length self.now.events }
+        ensures places { result.now ≡ places_of self.now event }
+        ensures valid { IsValid self.now }
+    {
+        self.places[event.0 as usize].as_slice()
+    }
+
+    /// All bindings, in plan order.
+    pub fn bindings(&self) -> &[Binding]
+        ensures bindings { result.now ≡ self.now.bindings }
+        ensures valid { IsValid self.now }
+    {
+        &self.tables.bindings
+    }
+}
