@@ -99,14 +99,14 @@ pub(crate) fn graph_of(alloc: Global, plan: &Plan, machine: &str) -> Result<Grap
         posts: Vec::new(alloc),
         stimuli: Vec::new(alloc),
     };
-    let mut mode = "";
+    let mut mode = String::new(alloc);
     for line in machine.lines() {
         if let Some(path) = line.strip_prefix("@ modes/") {
-            mode = path.split_once('/').unwrap_or((path, "")).0;
-            add_life(alloc, &mut graph, plan, mode)?;
+            mode = String::from_str(alloc, path.split_once('/').unwrap_or((path, "")).0)?;
+            add_life(alloc, &mut graph, plan, &mode)?;
         }
         let (causes, end) = causes_in(line);
-        add_causes(alloc, &mut graph, plan, causes, mode, end)?;
+        add_causes(alloc, &mut graph, plan, causes, &mode, end)?;
         add_line(&mut graph, plan, line)?;
     }
     Ok(graph)
