@@ -18,7 +18,7 @@ import cascades
 import stacked
 import texts
 import waits
-from measuring import MIB, Cost, measured, show
+from measuring import MIB, Cost, measured, measured_in_turn, show
 
 PYTHON = "/usr/bin/python3"
 LOAD = "import sys, yaml; yaml.load(open(sys.argv[1], 'rb'), yaml.CSafeLoader)"
@@ -39,9 +39,13 @@ class Bench:
         return self.check_bundle(texts.bundle(text))
 
     def check_bundle(self, bundle: bytes) -> Cost:
-        path = self.folder / "checked.bundle"
-        path.write_bytes(bundle)
-        return measured([self.program, "check"], path, self.runs)
+        return self.check_in_turn([bundle])[0]
+
+    def check_in_turn(self, bundles: list[bytes]) -> list[Cost]:
+        paths = [self.folder / f"checked_{n}.bundle" for n in range(len(bundles))]
+        for path, bundle in zip(paths, bundles):
+            path.write_bytes(bundle)
+        return measured_in_turn([self.program, "check"], paths, self.runs)
 
 
 def other_readers(bench: Bench, path: str) -> dict[str, list[str]]:
@@ -99,33 +103,31 @@ def checks_growth(bench: Bench, base: float) -> None:
         show(f"{len(text)} bytes", bench.check(text), len(text), base)
 
 
-def checks_cascades(bench: Bench) -> float:
-    """Gives the seconds for each byte of the largest text."""
+def checks_growth_of_plans(bench: Bench) -> None:
+    """Both are measured in turn, since each is compared with the other and with its own parts."""
+    events = [texts.bundle("".join(cascades.largest(part))) for part in PARTS]
+    modes = [stacked.largest(part) for part in PARTS]
+    costs = bench.check_in_turn(events + modes)
     print(
         "\nhow the time of check grows with the events that feed each other "
         f"({cascades.POSTS:,} posts of {cascades.EVENTS:,} events, and parts of it)"
     )
-    before = None
-    for part in PARTS:
-        text = "".join(cascades.largest(part))
-        cost = bench.check(text)
-        show(f"{cascades.EVENTS // part} events ({cost.status})", cost, len(text), before)
-        before = cost.seconds
-    return before / len(text)
-
-
-def checks_modes(bench: Bench, base: float) -> None:
+    of_events = show_growth("events", cascades.EVENTS, events, costs[: len(PARTS)])
     print(
         f"\nhow the time of check grows with the bindings of {stacked.MODES} modes "
         f"({stacked.BINDINGS:,} bindings, and parts of it)"
     )
+    of_modes = show_growth("bindings", stacked.BINDINGS, modes, costs[len(PARTS) :])
+    print(f"for each byte {of_modes / of_events:.2f} times as long as of the largest events above")
+
+
+def show_growth(what: str, count: int, bundles: list[bytes], costs: list[Cost]) -> float:
+    """A line for each part, as a ratio to the line above. Gives the seconds for each byte of the last."""
     before = None
-    for part in PARTS:
-        bundle = stacked.largest(part)
-        cost = bench.check_bundle(bundle)
-        show(f"{stacked.BINDINGS // part} bindings ({cost.status})", cost, len(bundle), before)
+    for part, bundle, cost in zip(PARTS, bundles, costs):
+        show(f"{count // part} {what} ({cost.status})", cost, len(bundle), before)
         before = cost.seconds
-    print(f"for each byte {before / len(bundle) / base:.2f} times as long as of the largest events above")
+    return costs[-1].seconds / len(bundles[-1])
 
 
 def same_output(first: list[str], second: list[str], bundle: pathlib.Path) -> tuple[bool, int, int]:
@@ -203,7 +205,7 @@ def main() -> None:
         checks_hostile(bench, seconds)
         checks_names(bench, seconds)
         checks_growth(bench, seconds)
-        checks_modes(bench, checks_cascades(bench))
+        checks_growth_of_plans(bench)
         plays_cascades(bench, max(runs // 3, 1))
         plays_modes(bench, max(runs // 3, 1))
         plays_waits(bench, max(runs // 3, 1))

@@ -57,7 +57,18 @@ def peak(command: list[str], path: pathlib.Path) -> int:
 
 def measured(command: list[str], path: pathlib.Path, runs: int) -> Cost:
     """The median time of so many runs, and the greatest peak of some more."""
-    results = [timed(command, path) for _ in range(runs)]
+    return cost_of(command, path, [timed(command, path) for _ in range(runs)])
+
+
+def measured_in_turn(command: list[str], paths: list[pathlib.Path], runs: int) -> list[Cost]:
+    """The same for each of these files: each is run once, and then all of them again. So where the machine's speed
+    changes, it changes for all."""
+    results = [[timed(command, path) for path in paths] for _ in range(runs)]
+    return [cost_of(command, path, list(of_path)) for path, of_path in zip(paths, zip(*results))]
+
+
+def cost_of(command: list[str], path: pathlib.Path, results: list[tuple[float, int]]) -> Cost:
+    """The median time of these runs, and the greatest peak of some more."""
     statuses = {status for _, status in results}
     if len(statuses) > 1:
         sys.exit(f"{command[0]} ends in different ways: {sorted(statuses)}")
@@ -68,8 +79,8 @@ def measured(command: list[str], path: pathlib.Path, runs: int) -> Cost:
 
 
 def show(what: str, cost: Cost, size: int, base: float | None = None) -> None:
-    """A line of the table: time in ms, its ratio to that of `base` seconds, memory in MiB, and memory for each of `size`
-    bytes."""
+    """A line of the table: time in ms, its ratio to that of `base` seconds, memory in MiB, and the bytes of memory for
+    each of `size` bytes."""
     ratio = f"{cost.seconds / base:8.2f}" if base else " " * 8
     memory = f"{cost.memory / MIB:8.1f} MiB {cost.memory / size:7.1f} B a byte"
     print(f"{what:34} {cost.seconds * 1000:9.1f} ms {ratio} {memory}")
