@@ -126,14 +126,19 @@ pub struct Binding {
 /// How a switch is read, and what it posts when it becomes active, and when it becomes inactive.
 #[derive(Drop)]
 pub struct SwitchEntry {
+    /// How it is read.
     pub kind: SwitchKind,
+    /// What it posts, in order, when it becomes active.
     pub active: Vec<EventId>,
+    /// What it posts, in order, when it becomes inactive.
     pub inactive: Vec<EventId>,
 }
 
 /// A mode, with its name.
 #[derive(Drop)]
 pub struct ModeEntry {
+    /// Its name, as it is listed.
     pub name: Vec<u8>,
+    /// What else the plan says of it.
     pub mode: Mode,
 }

@@ -13,6 +13,7 @@ use std::hash::{BuildHasher, FoldHasher};
 /// hash is known before all names are chosen, and another name changes every hash.
 #[derive(Clone, Copy)]
 pub struct NameHashing {
+    /// The state in which each hasher starts.
     pub start: FoldHasher,
 }
 
@@ -32,6 +33,7 @@ pub type NameSet = IndexSet<Vec<u8>, NameHashing>;
 /// The first names of a table, as far as they are kept.
 #[derive(Drop)]
 pub struct NameTable {
+    /// Those that are kept.
     pub set: NameSet,
     /// At most so many are kept.
     pub limit: usize,
@@ -42,6 +44,7 @@ pub struct NameTable {
 /// The names of each table, at their numbers; each table at its index.
 #[derive(Drop)]
 pub struct NameSets {
+    /// As in [`crate::TABLES`]. A table without names has none here.
     pub tables: Vec<NameTable>,
     ghost count: { length tables.items ≡ length tables_in_order },
     ghost fit: { (t : TableValue) → length (names_kept (slice_get tables.items (order_of t))) ≤ limit_of t },
