@@ -176,7 +176,7 @@ def plays_modes(bench: Bench, runs: int) -> None:
     bundle, log = bench.folder / "modes.bundle", bench.folder / "modes.log"
     bundle.write_bytes(stacked.machine())
     log.write_text(cascades.log())
-    plays_both(bench, f" with {stacked.STACKED} modes on the same {stacked.SWITCHES} events", bundle, log, runs)
+    plays_both(bench, f" with {stacked.STACKED} stacked modes", bundle, log, runs)
 
 
 def plays_waits(bench: Bench, runs: int) -> None:
