@@ -21,8 +21,8 @@ use std::alloc::Global;
 /// order of their first uses, as sections and entries are written. A switch uses what it posts,
 /// first when it becomes active, then when it becomes inactive, whatever the order of its settings.
 /// An entry of `event_player` uses the event that it handles, then those that it posts. A mode uses
-/// its five events in the order of [`plan_tables::ModeEvents`], then the events that start it, then those
-/// that stop it. The rows of its text come after these.
+/// its five events in the order of [`plan_tables::ModeEvents`], then the events that start it, then
+/// those that stop it. The rows of its text come after these.
 ///
 /// When a switch becomes active, it posts `NAME_active`, then `sw_TAG` for each of its tags, then
 /// its `events_when_activated`. When it becomes inactive, it posts `NAME_inactive`, then its
