@@ -1,6 +1,7 @@
-//! The tables of a plan: names by number, and what is bound to each event.
+//! The tables of a plan: names by number, what is bound to each event, and the rows of devices.
 #![tactic(auto)]
 
+pub mod devices;
 pub mod entries;
 pub mod names;
 mod placing;
@@ -8,6 +9,10 @@ pub mod table;
 pub mod tables;
 mod works;
 
+pub use devices::{
+    Act, BlockSettings, CounterSettings, DeviceRow, Direction, RowId, Settings, StepSettings,
+    TimerSettings,
+};
 pub use entries::{
     Action, Binding, BindingId, Contact, EventId, ListId, Mode, ModeEntry, ModeEvent, ModeEvents,
     ModeId, Owner, SwitchEntry, SwitchId, SwitchKind, Target, Work,

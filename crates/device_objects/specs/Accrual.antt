@@ -1,0 +1,70 @@
+-- An accrual: its steps are done in any order.
+use Rattle.std.specs.Prelude.{ℕ, nat_lt, Bool, true, false, not, ◌&&◌, if◌then◌else◌, Option, None, Some, List, [], ◌∷◌, replicate, take, slice_get, slice_set}
+use Rattle.std.specs.List.{list_all}
+use Rattle.plan_tables.specs.declared.devices.Act.{Act}
+use Rattle.plan_tables.specs.declared.devices.Act.TheVariants as acts
+use Rattle.plan_tables.specs.declared.devices.StepSettings.{StepSettings}
+use Rattle.device_objects.specs.declared.device.Call.{Call}
+use Rattle.device_objects.specs.declared.device.Call.TheVariants as calls
+use Rattle.device_objects.specs.declared.state.AccrualSlot.{AccrualSlot}
+use Rattle.device_objects.specs.declared.state.World.{World}
+use Rattle.device_objects.specs.Slots.{slot_in_use, is_of_other_game, step_in_use, updated, hit, complete}
+
+-- no step is done
+abbrev pub none_done : List Bool
+none_done = replicate 16 false
+
+-- a slot at first, for this game
+abbrev pub first_slot : StepSettings → ℕ → AccrualSlot
+first_slot a game = record { game = game; enabled = a.block.enabled; done = none_done }
+
+abbrev pub first_slots : StepSettings → List AccrualSlot
+first_slots a = replicate 4 (first_slot a 0)
+
+-- whether there is such a step, and it is not done yet
+abbrev pub is_open : Option Bool → Bool
+is_open None = false
+is_open (Some done) = not done
+
+abbrev pub is_step_open : StepSettings → ℕ → List Bool → Bool
+is_step_open a i done = nat_lt i a.steps && is_open (slice_get done i)
+
+-- whether all steps are done
+abbrev pub are_all_done : StepSettings → List Bool → Bool
+are_all_done a done = list_all (λ d. d) (take a.steps done)
+
+-- an accrual that completes
+abbrev pub completed : StepSettings → AccrualSlot → AccrualSlot
+completed a slot = record slot {
+  enabled = slot.enabled && not a.block.disable_on_complete;
+  done = if a.block.reset_on_complete then none_done else slot.done;
+}
+
+-- a step was done
+abbrev pub stepped : StepSettings → AccrualSlot → AccrualSlot × List ℕ
+stepped a slot =
+    if are_all_done a slot.done then (completed a slot, updated ∷ hit ∷ complete ∷ [])
+    else (slot, updated ∷ hit ∷ [])
+
+abbrev pub slot_step : StepSettings → Act → AccrualSlot → AccrualSlot × List ℕ
+slot_step a (acts.Step i) slot =
+    if slot.enabled && is_step_open a i slot.done
+    then stepped a (record slot { done = slice_set slot.done i true })
+    else (slot, [])
+slot_step a acts.Enable slot = (record slot { enabled = true }, [])
+slot_step a acts.Disable slot = (record slot { enabled = false }, [])
+slot_step a acts.Reset slot = (record slot { done = none_done }, updated ∷ [])
+slot_step a acts.Restart slot = (record slot { done = none_done; enabled = true }, updated ∷ [])
+slot_step a _ slot = (slot, [])
+
+-- a slot as it counts in this world
+abbrev pub current : StepSettings → World → AccrualSlot → AccrualSlot
+current a world slot = if is_of_other_game a.block.persist world slot.game then first_slot a world.games else slot
+
+-- an accrual that each player has for themselves goes on when its mode starts; another begins anew
+abbrev pub accrual_step : StepSettings → Call → World → List AccrualSlot → List AccrualSlot × List ℕ
+accrual_step a calls.Start world slots = (if a.block.persist then slots else slice_set slots 0 (first_slot a 0), [])
+accrual_step a calls.Stop world slots = (slots, [])
+accrual_step a calls.Fire world slots = (slots, [])
+accrual_step a (calls.Act act) world slots =
+    step_in_use (λ slot. slot_step a act (current a world slot)) slots (slot_in_use a.block.persist world)

@@ -1,0 +1,48 @@
+-- What a device of each kind remembers at first, and what is done with it.
+use Rattle.std.specs.Prelude.{ℕ, Option, None, Some, List, []}
+use Rattle.plan_tables.specs.declared.devices.Settings.{Settings}
+use Rattle.plan_tables.specs.declared.devices.Settings.TheVariants as kinds
+use Rattle.device_objects.specs.declared.device.Call.{Call}
+use Rattle.device_objects.specs.declared.state.World.{World}
+use Rattle.device_objects.specs.declared.state.TimerState.{TimerState}
+use Rattle.device_objects.specs.declared.state.CounterSlot.{CounterSlot}
+use Rattle.device_objects.specs.declared.state.AccrualSlot.{AccrualSlot}
+use Rattle.device_objects.specs.declared.state.SequenceSlot.{SequenceSlot}
+use Rattle.device_objects.specs.declared.state.DeviceState.{DeviceState}
+use Rattle.device_objects.specs.declared.state.DeviceState.TheVariants as states
+use Rattle.device_objects.specs.Counter as counter
+use Rattle.device_objects.specs.Accrual as accrual
+use Rattle.device_objects.specs.Sequence as sequence
+use Rattle.device_objects.specs.Timer as timer
+
+-- the state at first
+abbrev pub first_state : Settings → DeviceState
+first_state (kinds.Counter c) = states.Counter (counter.first_slots c)
+first_state (kinds.Accrual a) = states.Accrual (accrual.first_slots a)
+first_state (kinds.Sequence q) = states.Sequence (sequence.first_slots q)
+first_state (kinds.Timer t) = states.Timer (timer.first_state t)
+
+-- the moment at which the device is due, if there is one
+abbrev pub due_of : DeviceState → Option ℕ
+due_of (states.Timer s) = s.due
+due_of _ = None
+
+abbrev pub counter_answer : List CounterSlot × List ℕ → DeviceState × List ℕ
+counter_answer a = (states.Counter a.0, a.1)
+
+abbrev pub accrual_answer : List AccrualSlot × List ℕ → DeviceState × List ℕ
+accrual_answer a = (states.Accrual a.0, a.1)
+
+abbrev pub sequence_answer : List SequenceSlot × List ℕ → DeviceState × List ℕ
+sequence_answer a = (states.Sequence a.0, a.1)
+
+abbrev pub timer_answer : TimerState × List ℕ → DeviceState × List ℕ
+timer_answer a = (states.Timer a.0, a.1)
+
+-- The next state, and the numbers of the effect lists that are to run, in order. A state of another kind stays.
+abbrev pub device_step : Settings → Call → ℕ → World → DeviceState → DeviceState × List ℕ
+device_step (kinds.Counter c) call now world (states.Counter slots) = counter_answer (counter.counter_step c call now world slots)
+device_step (kinds.Accrual a) call now world (states.Accrual slots) = accrual_answer (accrual.accrual_step a call world slots)
+device_step (kinds.Sequence q) call now world (states.Sequence slots) = sequence_answer (sequence.sequence_step q call world slots)
+device_step (kinds.Timer t) call now world (states.Timer s) = timer_answer (timer.timer_step t call now s)
+device_step _ call now world state = (state, [])

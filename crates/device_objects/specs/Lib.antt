@@ -1,0 +1,9 @@
+pub mod Values
+pub mod Slots
+pub mod Counter
+pub mod Accrual
+pub mod Sequence
+pub mod Timer
+pub mod DeviceStep
+pub mod Outcomes
+pub mod Laws

@@ -1,0 +1,92 @@
+-- The lists that a call of a device can answer, whatever its state.
+use Rattle.std.specs.Prelude.{ℕ, suc, ℤ, ◌==◌, nat_lt, Bool, is_some, if◌then◌else◌, List, [], ◌∷◌, ◌++◌, map}
+use Rattle.plan_tables.specs.declared.devices.Act.{Act}
+use Rattle.plan_tables.specs.declared.devices.Act.TheVariants as acts
+use Rattle.plan_tables.specs.declared.devices.BlockSettings.{BlockSettings}
+use Rattle.plan_tables.specs.declared.devices.CounterSettings.{CounterSettings}
+use Rattle.plan_tables.specs.declared.devices.StepSettings.{StepSettings}
+use Rattle.plan_tables.specs.declared.devices.TimerSettings.{TimerSettings}
+use Rattle.plan_tables.specs.declared.devices.Settings.{Settings}
+use Rattle.plan_tables.specs.declared.devices.Settings.TheVariants as kinds
+use Rattle.device_objects.specs.declared.device.Call.{Call}
+use Rattle.device_objects.specs.declared.device.Call.TheVariants as calls
+use Rattle.device_objects.specs.Values.{clamped, is_at_end}
+use Rattle.device_objects.specs.Slots.{updated, hit}
+use Rattle.device_objects.specs.Slots as block
+use Rattle.device_objects.specs.Timer.{started, stopped, paused, tick}
+use Rattle.device_objects.specs.Timer as timer
+
+-- no list at all
+abbrev pub silent : List (List ℕ)
+silent = [] ∷ []
+
+-- these where it holds
+abbrev pub only_if : Bool → List (List ℕ) → List (List ℕ)
+only_if holds answers = if holds then answers else []
+
+-- a block's step that completes it, and one that does not
+abbrev pub completing : List ℕ
+completing = updated ∷ hit ∷ block.complete ∷ []
+
+abbrev pub going_on : List ℕ
+going_on = updated ∷ hit ∷ []
+
+-- a block that is reset answers so; one of a player who is not there is silent
+abbrev pub resetting : BlockSettings → List (List ℕ)
+resetting b = only_if b.persist silent ++ (updated ∷ []) ∷ []
+
+-- the acts that all blocks know
+abbrev pub of_block : BlockSettings → Act → List (List ℕ)
+of_block b acts.Reset = resetting b
+of_block b acts.Restart = resetting b
+of_block b _ = silent
+
+abbrev pub of_counter : CounterSettings → Act → List (List ℕ)
+of_counter c acts.Count = [] ∷ going_on ∷ only_if (is_some c.complete) (completing ∷ [])
+of_counter c act = of_block c.block act
+
+-- the only step of an accrual always completes it
+abbrev pub of_accrual : StepSettings → Act → List (List ℕ)
+of_accrual a (acts.Step i) = [] ∷ only_if (nat_lt i a.steps) (only_if (nat_lt 1 a.steps) (going_on ∷ []) ++ completing ∷ [])
+of_accrual a act = of_block a.block act
+
+-- only the last step completes a sequence
+abbrev pub of_sequence : StepSettings → Act → List (List ℕ)
+of_sequence q (acts.Step i) = [] ∷ only_if (nat_lt i q.steps) ((if suc i == q.steps then completing else going_on) ∷ [])
+of_sequence q act = of_block q.block act
+
+-- a timer that completes
+abbrev pub timer_completing : TimerSettings → List ℕ
+timer_completing t = if t.restart then timer.complete ∷ started ∷ [] else timer.complete ∷ []
+
+-- the value moves by any number
+abbrev pub of_change : TimerSettings → List (List ℕ)
+of_change t = [] ∷ only_if (is_some t.end) (timer_completing t ∷ [])
+
+abbrev pub of_timer_act : TimerSettings → Act → List (List ℕ)
+of_timer_act t acts.Start = [] ∷ (started ∷ []) ∷ []
+of_timer_act t acts.Stop = [] ∷ (stopped ∷ []) ∷ []
+of_timer_act t acts.Pause = [] ∷ (paused ∷ []) ∷ []
+of_timer_act t acts.Restart = (started ∷ []) ∷ []
+of_timer_act t (acts.Add n) = of_change t
+of_timer_act t (acts.Subtract n) = of_change t
+of_timer_act t (acts.Jump n) = [] ∷ only_if (is_at_end t.direction t.end (clamped n)) (timer_completing t ∷ [])
+of_timer_act t _ = silent
+
+abbrev pub of_timer : TimerSettings → Call → List (List ℕ)
+of_timer t calls.Start = (if t.start_running then started ∷ [] else []) ∷ []
+of_timer t calls.Stop = silent
+of_timer t calls.Fire = (tick ∷ []) ∷ only_if (is_some t.end) ((tick ∷ timer_completing t) ∷ [])
+of_timer t (calls.Act act) = of_timer_act t act
+
+-- what a block answers by its acts; it is silent when it starts and stops
+abbrev pub by_act : (Act → List (List ℕ)) → Call → List (List ℕ)
+by_act answers (calls.Act act) = answers act
+by_act answers _ = silent
+
+-- Each is what some state answers, and no state answers anything else.
+abbrev pub outcomes : Settings → Call → List (List ℕ)
+outcomes (kinds.Counter c) call = by_act (of_counter c) call
+outcomes (kinds.Accrual a) call = by_act (of_accrual a) call
+outcomes (kinds.Sequence q) call = by_act (of_sequence q) call
+outcomes (kinds.Timer t) call = of_timer t call

@@ -1,0 +1,75 @@
+-- A timer.
+use Rattle.std.specs.Prelude.{ℕ, ◌+◌, ℤ, pos, ◌+ℤ◌, ◌-ℤ◌, Bool, ◌&&◌, is_some, if◌then◌else◌, None, Some, List, [], ◌∷◌}
+use Rattle.plan_tables.specs.declared.devices.Act.{Act}
+use Rattle.plan_tables.specs.declared.devices.Act.TheVariants as acts
+use Rattle.plan_tables.specs.declared.devices.TimerSettings.{TimerSettings}
+use Rattle.device_objects.specs.declared.device.Call.{Call}
+use Rattle.device_objects.specs.declared.device.Call.TheVariants as calls
+use Rattle.device_objects.specs.declared.state.TimerState.{TimerState}
+use Rattle.device_objects.specs.Values.{clamped, is_at_end, moved}
+
+-- the lists of a timer
+abbrev pub started : ℕ
+started = 0
+
+abbrev pub stopped : ℕ
+stopped = 1
+
+abbrev pub paused : ℕ
+paused = 2
+
+abbrev pub tick : ℕ
+tick = 3
+
+abbrev pub complete : ℕ
+complete = 4
+
+-- at first a timer does not run
+abbrev pub first_state : TimerSettings → TimerState
+first_state t = record { value = t.start; due = None }
+
+abbrev pub is_running : TimerState → Bool
+is_running s = is_some s.due
+
+-- it runs from now on
+abbrev pub run : TimerSettings → ℕ → TimerState → TimerState
+run t now s = record s { due = Some (now + t.interval) }
+
+-- it does not run any more
+abbrev pub halt : TimerState → TimerState
+halt s = record s { due = None }
+
+-- a timer that completes
+abbrev pub completed : TimerSettings → ℕ → TimerState → TimerState × List ℕ
+completed t now s =
+    if t.restart then (run t now (first_state t), complete ∷ started ∷ [])
+    else (halt s, complete ∷ [])
+
+-- the value was changed: a timer that runs completes if it is at its end now
+abbrev pub changed : TimerSettings → ℕ → TimerState → TimerState × List ℕ
+changed t now s = if is_running s && is_at_end t.direction t.end s.value then completed t now s else (s, [])
+
+-- a list more, before the others
+abbrev pub before : ℕ → TimerState × List ℕ → TimerState × List ℕ
+before list answer = (answer.0, list ∷ answer.1)
+
+-- the value has gone on by one
+abbrev pub ticked : TimerSettings → ℕ → TimerState → TimerState × List ℕ
+ticked t now s = before tick (if is_at_end t.direction t.end s.value then completed t now s else (run t now s, []))
+
+abbrev pub act_step : TimerSettings → Act → ℕ → TimerState → TimerState × List ℕ
+act_step t acts.Start now s = if is_running s then (s, []) else (run t now s, started ∷ [])
+act_step t acts.Stop now s = if is_running s then (halt s, stopped ∷ []) else (s, [])
+act_step t acts.Pause now s = if is_running s then (halt s, paused ∷ []) else (s, [])
+act_step t acts.Reset now s = (record s { value = t.start }, [])
+act_step t acts.Restart now s = (run t now (first_state t), started ∷ [])
+act_step t (acts.Add n) now s = changed t now (record s { value = clamped (s.value +ℤ n) })
+act_step t (acts.Subtract n) now s = changed t now (record s { value = clamped (s.value -ℤ n) })
+act_step t (acts.Jump n) now s = changed t now (record s { value = clamped n })
+act_step t _ now s = (s, [])
+
+abbrev pub timer_step : TimerSettings → Call → ℕ → TimerState → TimerState × List ℕ
+timer_step t calls.Start now s = if t.start_running then (run t now (first_state t), started ∷ []) else (first_state t, [])
+timer_step t calls.Stop now s = (halt s, [])
+timer_step t calls.Fire now s = ticked t now (record s { value = moved t.direction (pos 1) s.value })
+timer_step t (calls.Act act) now s = act_step t act now s

@@ -1,0 +1,60 @@
+//! What a device remembers, and what it knows of the game.
+
+/// What a device knows of the game.
+#[derive(Clone, Copy)]
+pub struct World {
+    /// How many games have begun.
+    pub games: u32,
+    /// The current player, from 1 to 4; 0 where there is none.
+    pub player: usize,
+}
+
+/// What a counter remembers for one player.
+#[derive(Clone, Copy)]
+pub struct CounterSlot {
+    /// The game to which it belongs, as counted by [`World::games`].
+    pub game: u32,
+    pub enabled: bool,
+    /// Within plus or minus 999,999,999,999,999.
+    pub value: i64,
+    /// The moment of the last hit that counted.
+    pub last: Option<u64>,
+}
+
+/// What an accrual remembers for one player.
+#[derive(Clone, Copy)]
+pub struct AccrualSlot {
+    /// The game to which it belongs, as counted by [`World::games`].
+    pub game: u32,
+    pub enabled: bool,
+    /// Which steps are done.
+    pub done: [bool; 16],
+}
+
+/// What a sequence remembers for one player.
+#[derive(Clone, Copy)]
+pub struct SequenceSlot {
+    /// The game to which it belongs, as counted by [`World::games`].
+    pub game: u32,
+    pub enabled: bool,
+    /// How many steps are done: the number of the next one.
+    pub next: usize,
+}
+
+/// What a timer remembers.
+#[derive(Clone, Copy)]
+pub struct TimerState {
+    /// Within plus or minus 999,999,999,999,999.
+    pub value: i64,
+    /// The moment of the next tick, while the timer runs.
+    pub due: Option<u64>,
+}
+
+/// What a device remembers. A block has a slot for each player, or uses the first one alone.
+#[derive(Clone, Copy)]
+pub enum DeviceState {
+    Counter([CounterSlot; 4]),
+    Accrual([AccrualSlot; 4]),
+    Sequence([SequenceSlot; 4]),
+    Timer(TimerState),
+}

@@ -1,0 +1,142 @@
+//! The rows of a plan's devices, and what can be done with a device.
+
+use crate::entries::Owner;
+
+/// A device, by the number of its row in plan order: below 1,024.
+#[derive(Clone, Copy)]
+pub struct RowId(pub u16);
+
+/// Which way a value goes.
+#[derive(Clone, Copy)]
+pub enum Direction {
+    Up,
+    Down,
+}
+
+/// The settings that all logic blocks have.
+#[derive(Clone, Copy)]
+pub struct BlockSettings {
+    /// Whether the block is enabled at first: it has no `enable_events`.
+    pub enabled: bool,
+    /// Whether it begins anew when it completes.
+    pub reset_on_complete: bool,
+    /// Whether it is disabled when it completes.
+    pub disable_on_complete: bool,
+    /// Whether each player has a state of their own, which lasts as long as the game.
+    pub persist: bool,
+}
+
+/// A counter.
+#[derive(Clone, Copy)]
+pub struct CounterSettings {
+    pub block: BlockSettings,
+    /// Its value at first.
+    pub start: i64,
+    /// By how much a hit moves the value.
+    pub interval: i64,
+    pub direction: Direction,
+    /// It completes when its value reaches or passes this one; none: never.
+    pub complete: Option<i64>,
+    /// A hit within so many milliseconds after the last one does not count.
+    pub window: u32,
+}
+
+/// An accrual, or a sequence.
+#[derive(Clone, Copy)]
+pub struct StepSettings {
+    pub block: BlockSettings,
+    /// How many steps it has: at most 16.
+    pub steps: usize,
+}
+
+/// A timer.
+#[derive(Clone, Copy)]
+pub struct TimerSettings {
+    /// Its value at first.
+    pub start: i64,
+    /// It completes when its value reaches or passes this one; none: never.
+    pub end: Option<i64>,
+    pub direction: Direction,
+    /// The milliseconds from one tick to the next: at least 1.
+    pub interval: u32,
+    /// Whether it runs from the start of its mode on.
+    pub start_running: bool,
+    /// Whether it runs anew from its first value on when it completes.
+    pub restart: bool,
+}
+
+/// Of which kind a device is, and its settings.
+#[derive(Clone, Copy)]
+pub enum Settings {
+    Counter(CounterSettings),
+    Accrual(StepSettings),
+    Sequence(StepSettings),
+    Timer(TimerSettings),
+}
+
+/// A device of a plan.
+#[derive(Clone, Copy)]
+pub struct DeviceRow {
+    /// The number of its row.
+    pub number: RowId,
+    /// Whose it is: that of the text that has its entry.
+    pub owner: Owner,
+    /// Its kind and settings.
+    pub settings: Settings,
+}
+
+/// What a binding, or a switch to which a device listens, does with a device. A device of a kind
+/// that knows no such act does nothing, nor does one that has no step, shot or switch of the number.
+#[derive(Clone, Copy)]
+pub enum Act {
+    /// A counter counts a hit.
+    Count,
+    /// A step of an accrual or a sequence is done, by its number from 0.
+    Step(usize),
+    /// The device acts from now on.
+    Enable,
+    /// The device does not act from now on.
+    Disable,
+    /// The device begins anew.
+    Reset,
+    /// The device begins anew, and acts from now on.
+    Restart,
+    /// A timer runs, or a multiball begins.
+    Start,
+    /// A timer does not run any more.
+    Stop,
+    /// A timer does not run for now.
+    Pause,
+    /// A timer's value rises by this.
+    Add(i64),
+    /// A timer's value falls by this.
+    Subtract(i64),
+    /// A timer's value becomes this.
+    Jump(i64),
+    /// A shot is hit, by its number from 0 in its bank.
+    Hit(usize),
+    /// A shot goes on to its next state.
+    Advance(usize),
+    /// A shot goes back to its first state.
+    ResetShot(usize),
+    /// A shot counts hits from now on.
+    EnableShot(usize),
+    /// A shot counts no hits from now on.
+    DisableShot(usize),
+    /// Each shot's state goes to the next shot, and the last one's to the first.
+    RotateRight,
+    /// Each shot's state goes to the shot before, and the first one's to the last.
+    RotateLeft,
+    /// A switch of the device became active, by its number from 0 in the device.
+    SwitchOn(usize),
+    /// A switch of the device became inactive.
+    SwitchOff(usize),
+    /// The ball that a ball device sent off has arrived.
+    Confirm,
+    /// A trough is to send off so many balls more.
+    Request(usize),
+    /// A ball save gives a drained ball back.
+    Save,
+    /// A multiball ends.
+    End,
+}
