@@ -1,0 +1,3 @@
+pub mod Slots
+pub mod Shapes
+pub mod Answers

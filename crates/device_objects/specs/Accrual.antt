@@ -63,8 +63,8 @@ current a world slot = if is_of_other_game a.block.persist world slot.game then 
 
 -- an accrual that each player has for themselves goes on when its mode starts; another begins anew
 abbrev pub accrual_step : StepSettings → Call → World → List AccrualSlot → List AccrualSlot × List ℕ
-accrual_step a calls.Start world slots = (if a.block.persist then slots else slice_set slots 0 (first_slot a 0), [])
-accrual_step a calls.Stop world slots = (slots, [])
+accrual_step a calls.ModeStart world slots = (if a.block.persist then slots else slice_set slots 0 (first_slot a 0), [])
+accrual_step a calls.ModeStop world slots = (slots, [])
 accrual_step a calls.Fire world slots = (slots, [])
 accrual_step a (calls.Act act) world slots =
     step_in_use (λ slot. slot_step a act (current a world slot)) slots (slot_in_use a.block.persist world)

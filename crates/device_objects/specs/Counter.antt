@@ -1,5 +1,5 @@
 -- A counter.
-use Rattle.std.specs.Prelude.{ℕ, ◌+◌, nat_lt, ℤ, Bool, true, false, not, ◌&&◌, if◌then◌else◌, Option, None, Some, List, [], ◌∷◌, replicate, slice_set}
+use Rattle.std.specs.Prelude.{ℕ, ◌+◌, nat_lt, Bool, true, false, not, ◌&&◌, if◌then◌else◌, Option, None, Some, List, [], ◌∷◌, replicate, slice_set}
 use Rattle.plan_tables.specs.declared.devices.Act.{Act}
 use Rattle.plan_tables.specs.declared.devices.Act.TheVariants as acts
 use Rattle.plan_tables.specs.declared.devices.CounterSettings.{CounterSettings}
@@ -12,7 +12,7 @@ use Rattle.device_objects.specs.Slots.{slot_in_use, is_of_other_game, step_in_us
 
 -- a slot at first, for this game
 abbrev pub first_slot : CounterSettings → ℕ → CounterSlot
-first_slot c game = record { game = game; enabled = c.block.enabled; value = c.start; last = None }
+first_slot c game = record { game = game; enabled = c.block.enabled; value = c.start; last_hit = None }
 
 abbrev pub first_slots : CounterSettings → List CounterSlot
 first_slots c = replicate 4 (first_slot c 0)
@@ -37,8 +37,8 @@ counted c slot =
 
 abbrev pub slot_step : CounterSettings → Act → ℕ → CounterSlot → CounterSlot × List ℕ
 slot_step c acts.Count now slot =
-    if slot.enabled && not (is_early c.window slot.last now)
-    then counted c (record slot { value = moved c.direction c.interval slot.value; last = Some now })
+    if slot.enabled && not (is_early c.window slot.last_hit now)
+    then counted c (record slot { value = moved c.direction c.interval slot.value; last_hit = Some now })
     else (slot, [])
 slot_step c acts.Enable now slot = (record slot { enabled = true }, [])
 slot_step c acts.Disable now slot = (record slot { enabled = false }, [])
@@ -52,8 +52,8 @@ current c world slot = if is_of_other_game c.block.persist world slot.game then 
 
 -- a counter that each player has for themselves goes on when its mode starts; another begins anew
 abbrev pub counter_step : CounterSettings → Call → ℕ → World → List CounterSlot → List CounterSlot × List ℕ
-counter_step c calls.Start now world slots = (if c.block.persist then slots else slice_set slots 0 (first_slot c 0), [])
-counter_step c calls.Stop now world slots = (slots, [])
+counter_step c calls.ModeStart now world slots = (if c.block.persist then slots else slice_set slots 0 (first_slot c 0), [])
+counter_step c calls.ModeStop now world slots = (slots, [])
 counter_step c calls.Fire now world slots = (slots, [])
 counter_step c (calls.Act act) now world slots =
     step_in_use (λ slot. slot_step c act now (current c world slot)) slots (slot_in_use c.block.persist world)

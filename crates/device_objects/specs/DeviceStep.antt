@@ -1,5 +1,5 @@
 -- What a device of each kind remembers at first, and what is done with it.
-use Rattle.std.specs.Prelude.{ℕ, Option, None, Some, List, []}
+use Rattle.std.specs.Prelude.{ℕ, Option, None, List, []}
 use Rattle.plan_tables.specs.declared.devices.Settings.{Settings}
 use Rattle.plan_tables.specs.declared.devices.Settings.TheVariants as kinds
 use Rattle.device_objects.specs.declared.device.Call.{Call}

@@ -1,49 +1,50 @@
 -- What holds of every step of a device.
-use Rattle.std.specs.Prelude.{◌≡◌, ℕ, ◌<◌, ◌≤◌, ◌⊎◌, ℤ, pos, neg_ℤ, ◌≤ℤ◌, Option, None, Some, IfSome, List, length, Contains}
+use Rattle.std.specs.Prelude.{◌≡◌, ℕ, ◌<◌, ◌⊎◌, None, Some, IfSome, length, Contains}
 use Rattle.std.specs.List.{All}
 use Rattle.plan_tables.specs.declared.devices.Settings.{Settings}
 use Rattle.plan_tables.specs.declared.devices.Settings.TheVariants as kinds
+use Rattle.plan_tables.specs.Devices.{IsWithinLimits}
 use Rattle.device_objects.specs.declared.device.Call.{Call}
 use Rattle.device_objects.specs.declared.device.Call.TheVariants as calls
 use Rattle.device_objects.specs.declared.state.World.{World}
 use Rattle.device_objects.specs.declared.state.DeviceState.{DeviceState}
 use Rattle.device_objects.specs.declared.state.DeviceState.TheVariants as states
 use Rattle.device_objects.specs.DeviceStep.{first_state, due_of, device_step}
-use Rattle.device_objects.specs.Outcomes.{outcomes}
+use Rattle.device_objects.specs.Outcomes.{list_count, outcomes}
 
--- a state of the kind that the settings have: four slots, and 16 marks in each of an accrual
-abbrev pub IsStateOf : Settings → DeviceState → Type 0
-IsStateOf (kinds.Counter c) (states.Counter slots) = length slots ≡ 4
-IsStateOf (kinds.Accrual a) (states.Accrual slots) = (length slots ≡ 4) × All (λ s. length s.done ≡ 16) slots
-IsStateOf (kinds.Sequence q) (states.Sequence slots) = length slots ≡ 4
-IsStateOf (kinds.Timer t) (states.Timer s) = Unit {0}
-IsStateOf _ _ = ⊥
+-- a state of the shape that the settings ask for: of their kind, with four slots, and 16 marks in each of an accrual
+abbrev pub HasShape : Settings → DeviceState → Type 0
+HasShape (kinds.Counter c) (states.Counter slots) = length slots ≡ 4
+HasShape (kinds.Accrual a) (states.Accrual slots) = (length slots ≡ 4) × All (λ s. length s.done ≡ 16) slots
+HasShape (kinds.Sequence q) (states.Sequence slots) = length slots ≡ 4
+HasShape (kinds.Timer t) (states.Timer s) = Unit {0}
+HasShape _ _ = ⊥
 
--- The first state is of the settings' kind, and each step leaves it so.
-pub record StatesKeepTheirKind : Type 0 where
-  pub first : (settings : Settings) → IsStateOf settings (first_state settings)
-  pub step : (settings : Settings) (call : Call) (now : ℕ) (world : World) (state : DeviceState) → IsStateOf settings state
-      → IsStateOf settings (device_step settings call now world state).0
+-- The first state has the shape of its settings, and each step leaves it so.
+pub record StatesKeepTheirShape : Type 0 where
+  pub first : (settings : Settings) → HasShape settings (first_state settings)
+  pub step : (settings : Settings) (call : Call) (now : ℕ) (world : World) (state : DeviceState) → HasShape settings state
+      → HasShape settings (device_step settings call now world state).0
 
 -- No state answers anything but one of the outcomes.
 abbrev pub AnswersAreOutcomes : Type 0
 AnswersAreOutcomes =
-    (settings : Settings) (call : Call) (now : ℕ) (world : World) (state : DeviceState) → IsStateOf settings state
+    (settings : Settings) (call : Call) (now : ℕ) (world : World) (state : DeviceState) → HasShape settings state
     → Contains (outcomes settings call) (device_step settings call now world state).1
 
--- the milliseconds between the ticks of a timer
-abbrev pub HasInterval : Settings → Type 0
-HasInterval (kinds.Timer t) = 1 ≤ t.interval
-HasInterval _ = Unit {0}
+-- What a step arms is due after the moment of the step. So is a device that has been called because it was due.
+pub record ArmsLaterMoments : Type 0 where
+  pub step : (settings : Settings) (call : Call) (now : ℕ) (world : World) (state : DeviceState) → IsWithinLimits settings
+      → (due : ℕ) → due_of (device_step settings call now world state).0 ≡ Some due → (due_of state ≡ Some due) ⊎ (now < due)
+  pub fired : (settings : Settings) (now : ℕ) (world : World) (state : DeviceState) → IsWithinLimits settings → HasShape settings state
+      → IfSome (due_of (device_step settings calls.Fire now world state).0) (λ due. now < due)
 
--- What a step arms is due after the moment of the step.
-abbrev pub ArmsLaterMoments : Type 0
-ArmsLaterMoments =
-    (settings : Settings) (call : Call) (now : ℕ) (world : World) (state : DeviceState) → HasInterval settings
-    → (due_of (device_step settings call now world state).0 ≡ due_of state) ⊎ IfSome (due_of (device_step settings call now world state).0) (λ due. now < due)
+-- Every list that a device answers is one of its row.
+abbrev pub OutcomesAreOfTheRow : Type 0
+OutcomesAreOfTheRow = (settings : Settings) (call : Call) → All (All (λ list. list < list_count settings)) (outcomes settings call)
 
 -- At first nothing is due, nor when the device's mode has stopped.
 pub record NothingIsDue : Type 0 where
   pub first : (settings : Settings) → due_of (first_state settings) ≡ None
-  pub stopped : (settings : Settings) (now : ℕ) (world : World) (state : DeviceState) → IsStateOf settings state
-      → due_of (device_step settings calls.Stop now world state).0 ≡ None
+  pub stopped : (settings : Settings) (now : ℕ) (world : World) (state : DeviceState) → HasShape settings state
+      → due_of (device_step settings calls.ModeStop now world state).0 ≡ None

@@ -1,5 +1,5 @@
 -- The lists that a call of a device can answer, whatever its state.
-use Rattle.std.specs.Prelude.{ℕ, suc, ℤ, ◌==◌, nat_lt, Bool, is_some, if◌then◌else◌, List, [], ◌∷◌, ◌++◌, map}
+use Rattle.std.specs.Prelude.{ℕ, suc, ◌==◌, nat_lt, Bool, is_some, if◌then◌else◌, List, [], ◌∷◌, ◌++◌}
 use Rattle.plan_tables.specs.declared.devices.Act.{Act}
 use Rattle.plan_tables.specs.declared.devices.Act.TheVariants as acts
 use Rattle.plan_tables.specs.declared.devices.BlockSettings.{BlockSettings}
@@ -16,11 +16,18 @@ use Rattle.device_objects.specs.Slots as block
 use Rattle.device_objects.specs.Timer.{started, stopped, paused, tick}
 use Rattle.device_objects.specs.Timer as timer
 
+-- how many effect lists a row has: three of a block, five of a timer
+abbrev pub list_count : Settings → ℕ
+list_count (kinds.Counter c) = 3
+list_count (kinds.Accrual a) = 3
+list_count (kinds.Sequence q) = 3
+list_count (kinds.Timer t) = 5
+
 -- no list at all
 abbrev pub silent : List (List ℕ)
 silent = [] ∷ []
 
--- these where it holds
+-- these answers if it holds, else none
 abbrev pub only_if : Bool → List (List ℕ) → List (List ℕ)
 only_if holds answers = if holds then answers else []
 
@@ -74,17 +81,17 @@ of_timer_act t (acts.Jump n) = [] ∷ only_if (is_at_end t.direction t.end (clam
 of_timer_act t _ = silent
 
 abbrev pub of_timer : TimerSettings → Call → List (List ℕ)
-of_timer t calls.Start = (if t.start_running then started ∷ [] else []) ∷ []
-of_timer t calls.Stop = silent
+of_timer t calls.ModeStart = (if t.start_running then started ∷ [] else []) ∷ []
+of_timer t calls.ModeStop = silent
 of_timer t calls.Fire = (tick ∷ []) ∷ only_if (is_some t.end) ((tick ∷ timer_completing t) ∷ [])
 of_timer t (calls.Act act) = of_timer_act t act
 
--- what a block answers by its acts; it is silent when it starts and stops
+-- what a block answers to its acts; it is silent when its mode starts and stops, and is never due
 abbrev pub by_act : (Act → List (List ℕ)) → Call → List (List ℕ)
 by_act answers (calls.Act act) = answers act
 by_act answers _ = silent
 
--- Each is what some state answers, and no state answers anything else.
+-- each sequence of lists that some state answers to the call
 abbrev pub outcomes : Settings → Call → List (List ℕ)
 outcomes (kinds.Counter c) call = by_act (of_counter c) call
 outcomes (kinds.Accrual a) call = by_act (of_accrual a) call

@@ -1,5 +1,5 @@
 -- A sequence: its steps are done in order.
-use Rattle.std.specs.Prelude.{ℕ, suc, ◌==◌, nat_lt, Bool, true, false, not, ◌&&◌, if◌then◌else◌, List, [], ◌∷◌, replicate, slice_set}
+use Rattle.std.specs.Prelude.{ℕ, suc, ◌==◌, nat_lt, true, false, not, ◌&&◌, if◌then◌else◌, List, [], ◌∷◌, replicate, slice_set}
 use Rattle.plan_tables.specs.declared.devices.Act.{Act}
 use Rattle.plan_tables.specs.declared.devices.Act.TheVariants as acts
 use Rattle.plan_tables.specs.declared.devices.StepSettings.{StepSettings}
@@ -46,8 +46,8 @@ current q world slot = if is_of_other_game q.block.persist world slot.game then 
 
 -- a sequence that each player has for themselves goes on when its mode starts; another begins anew
 abbrev pub sequence_step : StepSettings → Call → World → List SequenceSlot → List SequenceSlot × List ℕ
-sequence_step q calls.Start world slots = (if q.block.persist then slots else slice_set slots 0 (first_slot q 0), [])
-sequence_step q calls.Stop world slots = (slots, [])
+sequence_step q calls.ModeStart world slots = (if q.block.persist then slots else slice_set slots 0 (first_slot q 0), [])
+sequence_step q calls.ModeStop world slots = (slots, [])
 sequence_step q calls.Fire world slots = (slots, [])
 sequence_step q (calls.Act act) world slots =
     step_in_use (λ slot. slot_step q act (current q world slot)) slots (slot_in_use q.block.persist world)

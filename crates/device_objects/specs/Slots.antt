@@ -6,7 +6,7 @@ use Rattle.device_objects.specs.declared.state.World.{World}
 abbrev pub slot_in_use : Bool → World → Option ℕ
 slot_in_use persist world = if persist then (if world.player == 0 then None else Some (world.player - 1)) else Some 0
 
--- whether a player's slot is of another game than this one; it counts as it is at first then
+-- whether a player's slot is left over from another game; then it counts as a first slot
 abbrev pub is_of_other_game : Bool → World → ℕ → Bool
 is_of_other_game persist world game = persist && not (game == world.games)
 

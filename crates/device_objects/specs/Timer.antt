@@ -1,5 +1,5 @@
 -- A timer.
-use Rattle.std.specs.Prelude.{ℕ, ◌+◌, ℤ, pos, ◌+ℤ◌, ◌-ℤ◌, Bool, ◌&&◌, is_some, if◌then◌else◌, None, Some, List, [], ◌∷◌}
+use Rattle.std.specs.Prelude.{ℕ, ◌+◌, pos, ◌+ℤ◌, ◌-ℤ◌, Bool, ◌&&◌, is_some, if◌then◌else◌, None, Some, List, [], ◌∷◌}
 use Rattle.plan_tables.specs.declared.devices.Act.{Act}
 use Rattle.plan_tables.specs.declared.devices.Act.TheVariants as acts
 use Rattle.plan_tables.specs.declared.devices.TimerSettings.{TimerSettings}
@@ -69,7 +69,9 @@ act_step t (acts.Jump n) now s = changed t now (record s { value = clamped n })
 act_step t _ now s = (s, [])
 
 abbrev pub timer_step : TimerSettings → Call → ℕ → TimerState → TimerState × List ℕ
-timer_step t calls.Start now s = if t.start_running then (run t now (first_state t), started ∷ []) else (first_state t, [])
-timer_step t calls.Stop now s = (halt s, [])
+timer_step t calls.ModeStart now s =
+    let anew = record s { value = t.start } in
+    if t.start_running then (run t now anew, started ∷ []) else (anew, [])
+timer_step t calls.ModeStop now s = (halt s, [])
 timer_step t calls.Fire now s = ticked t now (record s { value = moved t.direction (pos 1) s.value })
 timer_step t (calls.Act act) now s = act_step t act now s

@@ -7,13 +7,13 @@ use plan_tables::{Act, DeviceRow};
 /// What is done with a device.
 #[derive(Clone, Copy)]
 pub enum Call {
-    /// Its mode starts, or the machine does.
-    Start,
-    /// Its mode stops.
-    Stop,
+    /// Its mode starts.
+    ModeStart,
+    /// Its mode stops, or it is taken out of the machine.
+    ModeStop,
     /// The moment has come at which it is due.
     Fire,
-    /// This.
+    /// It is told to do this.
     Act(Act),
 }
 
@@ -21,8 +21,9 @@ pub enum Call {
 /// among the lists of the device's row.
 pub type Outcome = ArrayVec<u16, 4>;
 
-/// A device of a machine. It has a row, which never changes, and a state. What each call does to
-/// the state, and which lists it answers, follows from both. No call takes memory.
+/// A device of a machine. It has a row, which never changes, and a state. What a call does to the
+/// state, and which lists it answers, depends on the row, the state, the moment and the world. No
+/// call takes memory.
 ///
 /// Moments are in milliseconds from the start of the machine, and below 2^40.
 pub trait Device: Drop {
@@ -49,19 +50,20 @@ pub trait Device: Drop {
     fn due(&self) -> Option<u64>
         ensures { result ≡ due_of (state_of self.now) };
 
-    /// The mode of the device starts, or the machine does.
+    /// The mode of the device starts.
     fn start(&mut self, now: u64, world: World) -> Outcome
         requires { now < 2 ^ 40 }
         ensures row { row_of self.new ≡ row_of self.old }
-        ensures state { state_of self.new ≡ (device_step (row_of self.old).settings calls.Start now world (state_of self.old)).0 }
-        ensures outcome { result.items ≡ (device_step (row_of self.old).settings calls.Start now world (state_of self.old)).1 };
+        ensures state { state_of self.new ≡ (device_step (row_of self.old).settings calls.ModeStart now world (state_of self.old)).0 }
+        ensures outcome { result.items ≡ (device_step (row_of self.old).settings calls.ModeStart now world (state_of self.old)).1 };
 
-    /// The mode of the device stops. Nothing of the device is due then.
+    /// The mode of the device stops, or the device is taken out of the machine. Nothing of it is due
+    /// then.
     fn stop(&mut self, now: u64, world: World) -> Outcome
         requires { now < 2 ^ 40 }
         ensures row { row_of self.new ≡ row_of self.old }
-        ensures state { state_of self.new ≡ (device_step (row_of self.old).settings calls.Stop now world (state_of self.old)).0 }
-        ensures outcome { result.items ≡ (device_step (row_of self.old).settings calls.Stop now world (state_of self.old)).1 };
+        ensures state { state_of self.new ≡ (device_step (row_of self.old).settings calls.ModeStop now world (state_of self.old)).0 }
+        ensures outcome { result.items ≡ (device_step (row_of self.old).settings calls.ModeStop now world (state_of self.old)).1 };
 
     /// The moment has come at which the device is due.
     fn fire(&mut self, now: u64, world: World) -> Outcome
@@ -71,7 +73,7 @@ pub trait Device: Drop {
         ensures state { state_of self.new ≡ (device_step (row_of self.old).settings calls.Fire now world (state_of self.old)).0 }
         ensures outcome { result.items ≡ (device_step (row_of self.old).settings calls.Fire now world (state_of self.old)).1 };
 
-    /// Something is done with the device.
+    /// The device is told to do something.
     fn act(&mut self, act: Act, now: u64, world: World) -> Outcome
         requires { now < 2 ^ 40 }
         ensures row { row_of self.new ≡ row_of self.old }

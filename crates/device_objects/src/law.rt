@@ -1,22 +1,29 @@
 //! What holds of every step of a device.
 
-ghost use Rattle.device_objects.specs.Laws.{AnswersAreOutcomes, ArmsLaterMoments, NothingIsDue, StatesKeepTheirKind};
+ghost use Rattle.device_objects.specs.Laws.{AnswersAreOutcomes, ArmsLaterMoments, NothingIsDue, OutcomesAreOfTheRow, StatesKeepTheirShape};
 
-/// The first state of a device is of its kind, and each step leaves it so.
+/// The first state of a device has the shape of its row, and each step leaves it so.
 ///
 /// It does nothing: its contract is the law, over all steps.
-pub fn states_keep_their_kind()
-    ensures { StatesKeepTheirKind }
+pub fn states_keep_their_shape()
+    ensures { StatesKeepTheirShape }
 {}
 
-/// No state of a device answers anything but one of the outcomes of the call.
+/// Whatever its state, a device answers one of the call's outcomes.
 ///
 /// It does nothing: its contract is the law, over all steps.
 pub fn answers_are_outcomes()
     ensures { AnswersAreOutcomes }
 {}
 
-/// What a step arms is due after the moment of the step.
+/// Every list that a device answers is one of its row.
+///
+/// It does nothing: its contract is the law, over all outcomes.
+pub fn outcomes_are_of_the_row()
+    ensures { OutcomesAreOfTheRow }
+{}
+
+/// What a step arms is due after the moment of the step. So is a device that was due and has fired.
 ///
 /// It does nothing: its contract is the law, over all steps.
 pub fn arms_later_moments()

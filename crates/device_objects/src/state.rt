@@ -4,7 +4,7 @@
 #[derive(Clone, Copy)]
 pub struct World {
     /// How many games have begun.
-    pub games: u32,
+    pub games: u64,
     /// The current player, from 1 to 4; 0 where there is none.
     pub player: usize,
 }
@@ -12,20 +12,22 @@ pub struct World {
 /// What a counter remembers for one player.
 #[derive(Clone, Copy)]
 pub struct CounterSlot {
-    /// The game to which it belongs, as counted by [`World::games`].
-    pub game: u32,
+    /// The game to which it belongs, as [`World::games`] counts it; 0 where players have no slots of
+    /// their own.
+    pub game: u64,
     pub enabled: bool,
     /// Within plus or minus 999,999,999,999,999.
     pub value: i64,
-    /// The moment of the last hit that counted.
-    pub last: Option<u64>,
+    /// The moment of the last counted hit.
+    pub last_hit: Option<u64>,
 }
 
 /// What an accrual remembers for one player.
 #[derive(Clone, Copy)]
 pub struct AccrualSlot {
-    /// The game to which it belongs, as counted by [`World::games`].
-    pub game: u32,
+    /// The game to which it belongs, as [`World::games`] counts it; 0 where players have no slots of
+    /// their own.
+    pub game: u64,
     pub enabled: bool,
     /// Which steps are done.
     pub done: [bool; 16],
@@ -34,8 +36,9 @@ pub struct AccrualSlot {
 /// What a sequence remembers for one player.
 #[derive(Clone, Copy)]
 pub struct SequenceSlot {
-    /// The game to which it belongs, as counted by [`World::games`].
-    pub game: u32,
+    /// The game to which it belongs, as [`World::games`] counts it; 0 where players have no slots of
+    /// their own.
+    pub game: u64,
     pub enabled: bool,
     /// How many steps are done: the number of the next one.
     pub next: usize,
@@ -50,7 +53,8 @@ pub struct TimerState {
     pub due: Option<u64>,
 }
 
-/// What a device remembers. A block has a slot for each player, or uses the first one alone.
+/// What a device remembers. A persistent block has a slot for each player; another block uses only
+/// the first.
 #[derive(Clone, Copy)]
 pub enum DeviceState {
     Counter([CounterSlot; 4]),

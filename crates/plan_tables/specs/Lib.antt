@@ -1,3 +1,4 @@
+pub mod Devices
 pub mod PlanView
 pub mod Limits
 pub mod Valid

@@ -3,7 +3,7 @@
 use crate::entries::Owner;
 
 /// A device, by the number of its row in plan order: below 1,024.
-#[derive(Clone, Copy)]
+#[derive(Clone, Copy, Debug)]
 pub struct RowId(pub u16);
 
 /// Which way a value goes.
@@ -18,11 +18,11 @@ pub enum Direction {
 pub struct BlockSettings {
     /// Whether the block is enabled at first: it has no `enable_events`.
     pub enabled: bool,
-    /// Whether it begins anew when it completes.
+    /// Whether completing resets it.
     pub reset_on_complete: bool,
-    /// Whether it is disabled when it completes.
+    /// Whether completing disables it.
     pub disable_on_complete: bool,
-    /// Whether each player has a state of their own, which lasts as long as the game.
+    /// Whether each player has a state of their own, which lasts until the game ends.
     pub persist: bool,
 }
 
@@ -37,7 +37,7 @@ pub struct CounterSettings {
     pub direction: Direction,
     /// It completes when its value reaches or passes this one; none: never.
     pub complete: Option<i64>,
-    /// A hit within so many milliseconds after the last one does not count.
+    /// A hit less than this many milliseconds after the last counted hit is ignored.
     pub window: u32,
 }
 
@@ -54,14 +54,14 @@ pub struct StepSettings {
 pub struct TimerSettings {
     /// Its value at first.
     pub start: i64,
-    /// It completes when its value reaches or passes this one; none: never.
+    /// It completes when its value reaches or passes this one while it runs; none: never.
     pub end: Option<i64>,
     pub direction: Direction,
     /// The milliseconds from one tick to the next: at least 1.
     pub interval: u32,
-    /// Whether it runs from the start of its mode on.
+    /// Whether it starts running when its mode starts.
     pub start_running: bool,
-    /// Whether it runs anew from its first value on when it completes.
+    /// Whether it starts again from its first value when it completes.
     pub restart: bool,
 }
 
@@ -79,15 +79,15 @@ pub enum Settings {
 pub struct DeviceRow {
     /// The number of its row.
     pub number: RowId,
-    /// Whose it is: that of the text that has its entry.
+    /// The owner of the text that defines it.
     pub owner: Owner,
     /// Its kind and settings.
     pub settings: Settings,
 }
 
-/// What a binding, or a switch to which a device listens, does with a device. A device of a kind
-/// that knows no such act does nothing, nor does one that has no step, shot or switch of the number.
-#[derive(Clone, Copy)]
+/// What a device is told to do. It ignores acts of other kinds, and the numbers of steps, shots or
+/// switches that it does not have.
+#[derive(Clone, Copy, Debug)]
 pub enum Act {
     /// A counter counts a hit.
     Count,
@@ -103,9 +103,9 @@ pub enum Act {
     Restart,
     /// A timer runs, or a multiball begins.
     Start,
-    /// A timer does not run any more.
+    /// A timer stops running, and reports `stopped`.
     Stop,
-    /// A timer does not run for now.
+    /// A timer stops running, and reports `paused`.
     Pause,
     /// A timer's value rises by this.
     Add(i64),
@@ -129,11 +129,11 @@ pub enum Act {
     RotateLeft,
     /// A switch of the device became active, by its number from 0 in the device.
     SwitchOn(usize),
-    /// A switch of the device became inactive.
+    /// A switch of the device became inactive, by its number from 0 in the device.
     SwitchOff(usize),
     /// The ball that a ball device sent off has arrived.
     Confirm,
-    /// A trough is to send off so many balls more.
+    /// A trough is asked to eject this many more balls.
     Request(usize),
     /// A ball save gives a drained ball back.
     Save,

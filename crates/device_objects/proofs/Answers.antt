@@ -1,0 +1,269 @@
+-- What devices answer is among their outcomes.
+use Rattle.std.proofs.Common.{◌≡◌, ℕ, zero, ◌==◌, suc, nat_lt, ◌<◌, Bool, true, false, Option, None, Some, List, [], ◌∷◌, ◌++◌, length, take, slice_get, slice_set, if◌then◌else◌, is_some, refl, sym, ap, ◌∙◌, ◌&&◌, not, zero-le, suc-le-suc, ℤ, pos, ◌+ℤ◌, ◌-ℤ◌, arith}
+use Rattle.std.specs.List.{Contains, list_all}
+use Rattle.std.proofs.lemmas.Bool.{and_parts, ltb-true, lt-ltb, false≢true, true≢false}
+use Rattle.plan_tables.specs.declared.devices.BlockSettings.{BlockSettings}
+use Rattle.plan_tables.specs.declared.devices.CounterSettings.{CounterSettings}
+use Rattle.plan_tables.specs.declared.devices.StepSettings.{StepSettings}
+use Rattle.plan_tables.specs.declared.devices.TimerSettings.{TimerSettings}
+use Rattle.plan_tables.specs.declared.devices.Settings.TheVariants as kinds
+use Rattle.plan_tables.specs.declared.devices.Direction.{Direction}
+use Rattle.plan_tables.specs.declared.devices.Act.{Act}
+use Rattle.plan_tables.specs.declared.devices.Act.TheVariants as acts
+use Rattle.device_objects.specs.declared.device.Call.{Call}
+use Rattle.device_objects.specs.declared.device.Call.TheVariants as calls
+use Rattle.device_objects.specs.declared.state.CounterSlot.{CounterSlot}
+use Rattle.device_objects.specs.declared.state.AccrualSlot.{AccrualSlot}
+use Rattle.device_objects.specs.declared.state.SequenceSlot.{SequenceSlot}
+use Rattle.device_objects.specs.declared.state.TimerState.{TimerState}
+use Rattle.device_objects.specs.declared.state.DeviceState.TheVariants as states
+use Rattle.device_objects.specs.declared.state.World.{World}
+use Rattle.device_objects.specs.Values.{clamped, is_at_end, moved}
+use Rattle.device_objects.specs.Slots.{updated}
+use Rattle.device_objects.specs.Counter as counter
+use Rattle.device_objects.specs.Accrual as accrual
+use Rattle.device_objects.specs.Sequence as sequence
+use Rattle.device_objects.specs.Timer as timer
+use Rattle.device_objects.specs.Laws.{AnswersAreOutcomes}
+use Rattle.device_objects.specs.Outcomes.{silent, only_if, completing, going_on, resetting, of_counter, of_accrual, of_sequence, of_timer, of_timer_act, timer_completing, outcomes}
+use Rattle.device_objects.proofs.Slots.{in_use-answers}
+
+-- ---- lists of answers
+
+data In {X : Type 0} (x : X) : List X → Type 0 where
+  here : {xs : List X} → In x (x ∷ xs)
+  there : {y : X} {xs : List X} → In x xs → In x (y ∷ xs)
+
+contains : {X : Type 0} {x : X} {xs : List X} → In x xs → Contains xs x
+contains here = (0, suc-le-suc zero-le, refl)
+contains (there at) = let rest = contains at in (suc rest.0, suc-le-suc rest.1, rest.2)
+
+at_last : {X : Type 0} {y : X} (xs : List X) → In y (xs ++ y ∷ [])
+at_last [] = here
+at_last (x ∷ xs) = there (at_last xs)
+
+if_holds : {x : List ℕ} {xs : List (List ℕ)} (holds : Bool) → holds ≡ true → In x xs → In x (only_if holds xs)
+if_holds true is at = at
+if_holds false is at = absurd (false≢true is)
+
+by : {x y : List ℕ} {xs : List (List ℕ)} → x ≡ y → In y xs → In x xs
+by is at = rw is at
+
+-- an answer that is one of two
+either : {S : Type 0} {xs : List (List ℕ)} (test : Bool) (x y : S × List ℕ) → (test ≡ true → In x.1 xs) → (test ≡ false → In y.1 xs)
+    → In (if test then x else y).1 xs
+either true x y first second = first refl
+either false x y first second = second refl
+
+-- ---- values
+
+-- a value is at its end only where there is one
+at_end-some : (direction : Direction) (end : Option ℤ) (value : ℤ) → is_at_end direction end value ≡ true → is_some end ≡ true
+at_end-some direction None value is = absurd (false≢true is)
+at_end-some direction (Some end) value is = refl
+
+-- ---- blocks
+
+reset-in : (b : BlockSettings) → In (updated ∷ []) (resetting b)
+reset-in b = at_last (only_if b.persist silent)
+
+silent_if : (persist : Bool) → persist ≡ true → In [] (only_if persist silent ++ (updated ∷ []) ∷ [])
+silent_if true is = here
+silent_if false is = absurd (false≢true is)
+
+no_player-in : (b : BlockSettings) → b.persist ≡ true → In [] (resetting b)
+no_player-in b is = silent_if b.persist is
+
+-- ---- counters
+
+hit-in : (c : CounterSettings) (slot : CounterSlot) → In (counter.counted c slot).1 (of_counter c acts.Count)
+hit-in c slot = either (is_at_end c.direction c.complete slot.value) (counter.completed c slot, completing) (slot, going_on)
+  (λ ends. there (there (if_holds (is_some c.complete) (at_end-some c.direction c.complete slot.value ends) here)))
+  (λ goes_on. there here)
+
+counter_slot-in : (c : CounterSettings) (act : Act) (now : ℕ) (slot : CounterSlot) → In (counter.slot_step c act now slot).1 (of_counter c act)
+counter_slot-in c acts.Count now slot =
+    let moves : CounterSlot = record slot { value = moved c.direction c.interval slot.value; last_hit = Some now } in
+    either (slot.enabled && not (counter.is_early c.window slot.last_hit now)) (counter.counted c moves) (slot, [])
+      (λ counts. hit-in c moves) (λ not. here)
+counter_slot-in c acts.Reset now slot = reset-in c.block
+counter_slot-in c acts.Restart now slot = reset-in c.block
+counter_slot-in c _ now slot = here
+
+counter_none-in : (c : CounterSettings) (act : Act) → c.block.persist ≡ true → In [] (of_counter c act)
+counter_none-in c acts.Count is = here
+counter_none-in c acts.Reset is = no_player-in c.block is
+counter_none-in c acts.Restart is = no_player-in c.block is
+counter_none-in c _ is = here
+
+counter-in : (c : CounterSettings) (call : Call) (now : ℕ) (world : World) (slots : List CounterSlot) → length slots ≡ 4
+    → In (counter.counter_step c call now world slots).1 (outcomes (kinds.Counter c) call)
+counter-in c calls.ModeStart now world slots four = here
+counter-in c calls.ModeStop now world slots four = here
+counter-in c calls.Fire now world slots four = here
+counter-in c (calls.Act act) now world slots four = in_use-answers (λ answer. In answer (of_counter c act)) (λ slot. counter.slot_step c act now (counter.current c world slot))
+    (λ slot. counter_slot-in c act now (counter.current c world slot)) c.block.persist world slots four (counter_none-in c act)
+
+-- ---- accruals
+
+nat_lt-not_zero : (i : ℕ) → nat_lt i 0 ≡ true → ⊥
+nat_lt-not_zero i is = let low : i < 0 = ltb-true i 0 is in omega (arith, low)
+
+not_below_one : (i : ℕ) → nat_lt (suc i) 1 ≡ true → ⊥
+not_below_one i is = let low : suc i < 1 = ltb-true (suc i) 1 is in omega (arith, low)
+
+one_below : (n : ℕ) → nat_lt 1 (suc (suc n)) ≡ false → ⊥
+one_below n is = true≢false (sym (lt-ltb 1 (suc (suc n)) (omega arith)) ∙ is)
+
+-- where there is but one step, it completes the accrual
+alone : (steps i : ℕ) (done : List Bool) → nat_lt i steps ≡ true → nat_lt 1 steps ≡ false → accrual.is_open (slice_get done i) ≡ true
+    → list_all (λ d. d) (take steps (slice_set done i true)) ≡ true
+alone zero i done within one opens = absurd (nat_lt-not_zero i within)
+alone (suc zero) zero [] within one opens = absurd (false≢true opens)
+alone (suc zero) zero (d ∷ done) within one opens = refl
+alone (suc zero) (suc i) done within one opens = absurd (not_below_one i within)
+alone (suc (suc n)) i done within one opens = absurd (one_below n one)
+
+goes_on-in : (several : Bool) → (several ≡ false → ⊥) → In going_on (only_if several (going_on ∷ []) ++ completing ∷ [])
+goes_on-in true is = here
+goes_on-in false is = absurd (is refl)
+
+step-in : (a : StepSettings) (i : ℕ) (slot : AccrualSlot) → nat_lt i a.steps ≡ true → accrual.is_open (slice_get slot.done i) ≡ true
+    → In (accrual.stepped a (record slot { done = slice_set slot.done i true })).1 (of_accrual a (acts.Step i))
+step-in a i slot within opens =
+    let stepped : AccrualSlot = record slot { done = slice_set slot.done i true } in
+    there (if_holds (nat_lt i a.steps) within (either (accrual.are_all_done a stepped.done) (accrual.completed a stepped, completing) (stepped, going_on)
+      (λ all. at_last (only_if (nat_lt 1 a.steps) (going_on ∷ [])))
+      (λ some. goes_on-in (nat_lt 1 a.steps) (λ one. true≢false (sym (alone a.steps i slot.done within one opens) ∙ some)))))
+
+accrual_slot-in : (a : StepSettings) (act : Act) (slot : AccrualSlot) → In (accrual.slot_step a act slot).1 (of_accrual a act)
+accrual_slot-in a (acts.Step i) slot =
+    either (slot.enabled && accrual.is_step_open a i slot.done) (accrual.stepped a (record slot { done = slice_set slot.done i true })) (slot, [])
+      (λ is. let parts = and_parts slot.enabled (accrual.is_step_open a i slot.done) is in
+        let at = and_parts (nat_lt i a.steps) (accrual.is_open (slice_get slot.done i)) parts.1 in
+        step-in a i slot at.0 at.1)
+      (λ not. here)
+accrual_slot-in a acts.Reset slot = reset-in a.block
+accrual_slot-in a acts.Restart slot = reset-in a.block
+accrual_slot-in a _ slot = here
+
+accrual_none-in : (a : StepSettings) (act : Act) → a.block.persist ≡ true → In [] (of_accrual a act)
+accrual_none-in a (acts.Step i) is = here
+accrual_none-in a acts.Reset is = no_player-in a.block is
+accrual_none-in a acts.Restart is = no_player-in a.block is
+accrual_none-in a _ is = here
+
+accrual-in : (a : StepSettings) (call : Call) (world : World) (slots : List AccrualSlot) → length slots ≡ 4
+    → In (accrual.accrual_step a call world slots).1 (outcomes (kinds.Accrual a) call)
+accrual-in a calls.ModeStart world slots four = here
+accrual-in a calls.ModeStop world slots four = here
+accrual-in a calls.Fire world slots four = here
+accrual-in a (calls.Act act) world slots four = in_use-answers (λ answer. In answer (of_accrual a act)) (λ slot. accrual.slot_step a act (accrual.current a world slot))
+    (λ slot. accrual_slot-in a act (accrual.current a world slot)) a.block.persist world slots four (accrual_none-in a act)
+
+-- ---- sequences
+
+takes-in : (last : Bool) (done going : SequenceSlot × List ℕ) → done.1 ≡ completing → going.1 ≡ going_on → In (if last then done else going).1 ((if last then completing else going_on) ∷ [])
+takes-in true done going completes goes_on = by completes here
+takes-in false done going completes goes_on = by goes_on here
+
+sequence_slot-in : (q : StepSettings) (act : Act) (slot : SequenceSlot) → In (sequence.slot_step q act slot).1 (of_sequence q act)
+sequence_slot-in q (acts.Step i) slot =
+    let next : SequenceSlot = record slot { next = suc i } in
+    either (slot.enabled && (i == slot.next) && nat_lt i q.steps) (sequence.stepped q next) (slot, [])
+      (λ is. let within = and_parts (slot.enabled && (i == slot.next)) (nat_lt i q.steps) is in
+        there (if_holds (nat_lt i q.steps) within.1 (takes-in (suc i == q.steps) (sequence.completed q next, completing) (next, going_on) refl refl)))
+      (λ not. here)
+sequence_slot-in q acts.Reset slot = reset-in q.block
+sequence_slot-in q acts.Restart slot = reset-in q.block
+sequence_slot-in q _ slot = here
+
+sequence_none-in : (q : StepSettings) (act : Act) → q.block.persist ≡ true → In [] (of_sequence q act)
+sequence_none-in q (acts.Step i) is = here
+sequence_none-in q acts.Reset is = no_player-in q.block is
+sequence_none-in q acts.Restart is = no_player-in q.block is
+sequence_none-in q _ is = here
+
+sequence-in : (q : StepSettings) (call : Call) (world : World) (slots : List SequenceSlot) → length slots ≡ 4
+    → In (sequence.sequence_step q call world slots).1 (outcomes (kinds.Sequence q) call)
+sequence-in q calls.ModeStart world slots four = here
+sequence-in q calls.ModeStop world slots four = here
+sequence-in q calls.Fire world slots four = here
+sequence-in q (calls.Act act) world slots four = in_use-answers (λ answer. In answer (of_sequence q act)) (λ slot. sequence.slot_step q act (sequence.current q world slot))
+    (λ slot. sequence_slot-in q act (sequence.current q world slot)) q.block.persist world slots four (sequence_none-in q act)
+
+-- ---- timers
+
+second : {S : Type 0} (test : Bool) (x y : S × List ℕ) → (if test then x else y).1 ≡ (if test then x.1 else y.1)
+second true x y = refl
+second false x y = refl
+
+completed-is : (t : TimerSettings) (now : ℕ) (s : TimerState) → (timer.completed t now s).1 ≡ timer_completing t
+completed-is t now s = second t.restart (timer.run t now (timer.first_state t), timer.complete ∷ timer.started ∷ []) (timer.halt s, timer.complete ∷ [])
+
+changed-in : (t : TimerSettings) (now : ℕ) (s : TimerState) → In (timer.changed t now s).1 ([] ∷ only_if (is_at_end t.direction t.end s.value) (timer_completing t ∷ []))
+changed-in t now s = either (timer.is_running s && is_at_end t.direction t.end s.value) (timer.completed t now s) (s, [])
+  (λ is. there (if_holds (is_at_end t.direction t.end s.value) (and_parts (timer.is_running s) _ is).1 (by (completed-is t now s) here)))
+  (λ not. here)
+
+more-in : {x : List ℕ} (y : List ℕ) (test more : Bool) → (test ≡ true → more ≡ true) → In x ([] ∷ only_if test (y ∷ [])) → In x ([] ∷ only_if more (y ∷ []))
+more-in y true more has here = here
+more-in y true more has (there at) = there (if_holds more (has refl) at)
+more-in y false more has here = here
+more-in y false more has (there at) = elim at [ ]
+
+ticked-in : (t : TimerSettings) (ends : Bool) (done going : TimerState × List ℕ) → (ends ≡ true → is_some t.end ≡ true) → done.1 ≡ timer_completing t → going.1 ≡ []
+    → In (timer.tick ∷ (if ends then done else going).1) (of_timer t calls.Fire)
+ticked-in t true done going has completes goes_on = there (if_holds (is_some t.end) (has refl) (by (ap (λ answer. timer.tick ∷ answer) completes) here))
+ticked-in t false done going has completes goes_on = by (ap (λ answer. timer.tick ∷ answer) goes_on) here
+
+starts-in : (running : Bool) (s run : TimerState) (list : ℕ) → In (if◌then◌else◌ {A = TimerState × List ℕ} running (s, []) (run, list ∷ [])).1 ([] ∷ (list ∷ []) ∷ [])
+starts-in true s run list = here
+starts-in false s run list = there here
+
+stops-in : (running : Bool) (s halt : TimerState) (list : ℕ) → In (if◌then◌else◌ {A = TimerState × List ℕ} running (halt, list ∷ []) (s, [])).1 ([] ∷ (list ∷ []) ∷ [])
+stops-in true s halt list = there here
+stops-in false s halt list = here
+
+begins-in : (t : TimerSettings) (now : ℕ) (s : TimerState) → In (timer.timer_step t calls.ModeStart now s).1 (of_timer t calls.ModeStart)
+begins-in t now s =
+    let anew : TimerState = record s { value = t.start } in
+    by (second t.start_running (timer.run t now anew, timer.started ∷ []) (anew, [])) here
+
+timer_act-in : (t : TimerSettings) (act : Act) (now : ℕ) (s : TimerState) → In (timer.act_step t act now s).1 (of_timer_act t act)
+timer_act-in t acts.Start now s = starts-in (timer.is_running s) s (timer.run t now s) timer.started
+timer_act-in t acts.Stop now s = stops-in (timer.is_running s) s (timer.halt s) timer.stopped
+timer_act-in t acts.Pause now s = stops-in (timer.is_running s) s (timer.halt s) timer.paused
+timer_act-in t acts.Restart now s = here
+timer_act-in t (acts.Add n) now s = more-in (timer_completing t) (is_at_end t.direction t.end (clamped (s.value +ℤ n))) (is_some t.end) (at_end-some t.direction t.end (clamped (s.value +ℤ n))) (changed-in t now (record s { value = clamped (s.value +ℤ n) }))
+timer_act-in t (acts.Subtract n) now s = more-in (timer_completing t) (is_at_end t.direction t.end (clamped (s.value -ℤ n))) (is_some t.end) (at_end-some t.direction t.end (clamped (s.value -ℤ n))) (changed-in t now (record s { value = clamped (s.value -ℤ n) }))
+timer_act-in t (acts.Jump n) now s = changed-in t now (record s { value = clamped n })
+timer_act-in t _ now s = here
+
+timer-in : (t : TimerSettings) (call : Call) (now : ℕ) (s : TimerState) → In (timer.timer_step t call now s).1 (of_timer t call)
+timer-in t calls.ModeStart now s = begins-in t now s
+timer-in t calls.ModeStop now s = here
+timer-in t calls.Fire now s =
+    let next : TimerState = record s { value = moved t.direction (pos 1) s.value } in
+    ticked-in t (is_at_end t.direction t.end next.value) (timer.completed t now next) (timer.run t now next, []) (at_end-some t.direction t.end next.value) (completed-is t now next) refl
+timer-in t (calls.Act act) now s = timer_act-in t act now s
+
+-- ---- all kinds
+
+pub answers_are_outcomes : AnswersAreOutcomes
+answers_are_outcomes (kinds.Counter c) call now world (states.Counter slots) four = contains (counter-in c call now world slots four)
+answers_are_outcomes (kinds.Accrual a) call now world (states.Accrual slots) shape = contains (accrual-in a call world slots shape.0)
+answers_are_outcomes (kinds.Sequence q) call now world (states.Sequence slots) four = contains (sequence-in q call world slots four)
+answers_are_outcomes (kinds.Timer t) call now world (states.Timer s) shape = contains (timer-in t call now s)
+answers_are_outcomes (kinds.Counter c) call now world (states.Accrual slots) shape = elim shape [ ]
+answers_are_outcomes (kinds.Counter c) call now world (states.Sequence slots) shape = elim shape [ ]
+answers_are_outcomes (kinds.Counter c) call now world (states.Timer s) shape = elim shape [ ]
+answers_are_outcomes (kinds.Accrual a) call now world (states.Counter slots) shape = elim shape [ ]
+answers_are_outcomes (kinds.Accrual a) call now world (states.Sequence slots) shape = elim shape [ ]
+answers_are_outcomes (kinds.Accrual a) call now world (states.Timer s) shape = elim shape [ ]
+answers_are_outcomes (kinds.Sequence q) call now world (states.Counter slots) shape = elim shape [ ]
+answers_are_outcomes (kinds.Sequence q) call now world (states.Accrual slots) shape = elim shape [ ]
+answers_are_outcomes (kinds.Sequence q) call now world (states.Timer s) shape = elim shape [ ]
+answers_are_outcomes (kinds.Timer t) call now world (states.Counter slots) shape = elim shape [ ]
+answers_are_outcomes (kinds.Timer t) call now world (states.Accrual slots) shape = elim shape [ ]
+answers_are_outcomes (kinds.Timer t) call now world (states.Sequence slots) shape = elim shape [ ]

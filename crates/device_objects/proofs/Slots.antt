@@ -1,0 +1,56 @@
+-- Steps of slots.
+use Rattle.std.proofs.Common.{◌≡◌, ℕ, ◌-◌, ◌==◌, Bool, true, false, Option, None, Some, List, [], ◌∷◌, length, slice_get, if◌then◌else◌, get_or, refl, sym, ap, subst, ◌∙◌, arith}
+use Rattle.std.specs.List.{All}
+use Rattle.std.proofs.lemmas.List.{length-set}
+use Rattle.std.proofs.lemmas.Option.{slice_get_within, slice_get-get_or}
+use Rattle.std.proofs.lemmas.List.Elements.{All-set}
+use Rattle.device_objects.specs.declared.state.World.{World}
+use Rattle.device_objects.specs.Slots.{slot_in_use, step_at, step_in_use}
+
+-- a step of a slot leaves their number
+step_at-length : {S : Type 0} (step : S → S × List ℕ) (i : ℕ) (slots : List S) (slot : Option S) → length (step_at step i slots slot).0 ≡ length slots
+step_at-length step i slots None = refl
+step_at-length step i slots (Some s) = length-set slots i (step s).0
+
+pub step_in_use-length : {S : Type 0} (step : S → S × List ℕ) (slots : List S) (at : Option ℕ) → length (step_in_use step slots at).0 ≡ length slots
+step_in_use-length step slots None = refl
+step_in_use-length step slots (Some i) = step_at-length step i slots (slice_get slots i)
+
+abbrev value_or : {S : Type 0} → S → Option S → S
+value_or d None = d
+value_or d (Some x) = x
+
+All-at : {S : Type 0} (P : S → Type 0) (slots : List S) (i : ℕ) (s : S) → slice_get slots i ≡ Some s → All P slots → P s
+All-at P slots i s is all =
+    let within = slice_get_within slots i s is in
+    let same : get_or slots i s ≡ s = ap (value_or s) (sym (slice_get-get_or slots i s within) ∙ is) in
+    subst P same (all i s within)
+
+-- what holds of every slot after a step, and held before, holds of all
+step_at-all : {S : Type 0} (P : S → Type 0) (step : S → S × List ℕ) → ((s : S) → P s → P (step s).0) → (i : ℕ) (slots : List S) (slot : Option S)
+    → ((s : S) → slot ≡ Some s → P s) → All P slots → All P (step_at step i slots slot).0
+step_at-all P step keeps i slots None held all = all
+step_at-all P step keeps i slots (Some s) held all = All-set P slots i (step s).0 (keeps s (held s refl)) all
+
+pub step_in_use-all : {S : Type 0} (P : S → Type 0) (step : S → S × List ℕ) → ((s : S) → P s → P (step s).0) → (slots : List S) (at : Option ℕ) → All P slots
+    → All P (step_in_use step slots at).0
+step_in_use-all P step keeps slots None all = all
+step_in_use-all P step keeps slots (Some i) all = step_at-all P step keeps i slots (slice_get slots i) (λ s is. All-at P slots i s is all) all
+
+-- what every slot answers, and what no slot answers where each player has one, is what the slots answer
+module _ {S : Type 0} (P : List ℕ → Type 0) (step : S → S × List ℕ) (each : (s : S) → P (step s).1) where
+  at_slot : (i : ℕ) (slots : List S) (slot : Option S) → P [] → P (step_at step i slots slot).1
+  at_slot i slots None none = none
+  at_slot i slots (Some s) none = each s
+
+  of_player : (is_none : Bool) (slots : List S) (i : ℕ) → P [] → P (step_in_use step slots (if is_none then None else Some i)).1
+  of_player true slots i none = none
+  of_player false slots i none = at_slot i slots (slice_get slots i) none
+
+  at_first : (slots : List S) → length slots ≡ 4 → P (step_at step 0 slots (slice_get slots 0)).1
+  at_first [] four = absurd (omega (arith, four))
+  at_first (s ∷ ss) four = each s
+
+  pub in_use-answers : (persist : Bool) (world : World) (slots : List S) → length slots ≡ 4 → (persist ≡ true → P []) → P (step_in_use step slots (slot_in_use persist world)).1
+  in_use-answers true world slots four none = of_player (world.player == 0) slots (world.player - 1) (none refl)
+  in_use-answers false world slots four none = at_first slots four

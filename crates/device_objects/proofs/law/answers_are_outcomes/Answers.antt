@@ -1,0 +1,5 @@
+use Rattle.device_objects.proofs.Answers.{answers_are_outcomes}
+use Rattle.device_objects.proofs.law.answers_are_outcomes.Goals as goal
+
+pub returns : goal.returns
+returns c = answers_are_outcomes

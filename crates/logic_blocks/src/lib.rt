@@ -1,0 +1,15 @@
+//! Logic blocks and timers: counters, accruals, sequences and timers as devices.
+#![tactic(auto)]
+
+pub mod accrual;
+pub mod counter;
+mod lists;
+pub mod sequence;
+mod slots;
+pub mod timer;
+mod values;
+
+pub use accrual::Accrual;
+pub use counter::Counter;
+pub use sequence::Sequence;
+pub use timer::Timer;

@@ -1,0 +1,43 @@
+//! The lists that devices answer.
+
+ghost use Rattle.std.specs.Prelude.{◌≡◌, ◌≤◌, [], ◌∷◌, length};
+ghost use Rattle.device_objects.specs.Slots.{updated, hit, complete};
+
+use arrayvec::ArrayVec;
+use device_objects::Outcome;
+
+/// No list.
+pub(crate) fn silent() -> Outcome
+    ensures { result.items ≡ [] }
+{
+    ArrayVec::new()
+}
+
+/// One list.
+pub(crate) fn one(list: u16) -> Outcome
+    ensures { result.items ≡ list ∷ [] }
+{
+    let mut lists = ArrayVec::new();
+    lists.push(list);
+    lists
+}
+
+/// The list of a block that is reset.
+pub(crate) fn reset() -> Outcome
+    ensures { result.items ≡ updated ∷ [] }
+{
+    one(0)
+}
+
+/// The lists of a block that is hit, and completes or not.
+pub(crate) fn hit(completes: bool) -> Outcome
+    ensures goes_on { completes ≡ Bool.false → result.items ≡ updated ∷ hit ∷ [] }
+    ensures completes { completes ≡ Bool.true → result.items ≡ updated ∷ hit ∷ complete ∷ [] }
+{
+    let mut lists = one(0);
+    lists.push(1);
+    if completes {
+        lists.push(2);
+    }
+    lists
+}

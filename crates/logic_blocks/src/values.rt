@@ -1,0 +1,44 @@
+//! Values that move, and the ends that they reach.
+
+ghost use Rattle.std.specs.Prelude.{◌≡◌};
+ghost use Rattle.device_objects.specs.Values.{clamped, is_at_end, moved};
+
+use plan_tables::Direction;
+
+/// No value is further from 0.
+const GREATEST: i128 = 999_999_999_999_999;
+
+/// The nearest value that there is.
+#[tactic(auto, unfolding(device_objects::specs::Values::clamped))]
+pub(crate) fn clamped(n: i128) -> i64
+    ensures { result ≡ clamped n }
+{
+    if n <= -GREATEST {
+        return -GREATEST as i64;
+    }
+    if GREATEST <= n {
+        return GREATEST as i64;
+    }
+    n as i64
+}
+
+/// A value that moves by so much.
+pub(crate) fn moved(direction: Direction, by: i64, value: i64) -> i64
+    ensures { result ≡ moved direction by value }
+{
+    match direction {
+        Direction::Up => clamped(i128::from(value) + i128::from(by)),
+        Direction::Down => clamped(i128::from(value) - i128::from(by)),
+    }
+}
+
+/// Whether a value has reached or passed its end, if it has one.
+pub(crate) fn is_at_end(direction: Direction, end: Option<i64>, value: i64) -> bool
+    ensures { result ≡ is_at_end direction end value }
+{
+    match (direction, end) {
+        (_, None) => false,
+        (Direction::Up, Some(end)) => end <= value,
+        (Direction::Down, Some(end)) => value <= end,
+    }
+}

@@ -1,0 +1,19 @@
+-- The limits of a device's settings.
+use Rattle.std.specs.Prelude.{ℕ, ◌≤◌, ℤ, pos, neg_ℤ, ◌≤ℤ◌, Option, IfSome}
+use Rattle.plan_tables.specs.declared.devices.Settings.{Settings}
+use Rattle.plan_tables.specs.declared.devices.Settings.TheVariants.{Counter, Accrual, Sequence, Timer}
+
+-- a number of a setting
+abbrev pub IsNumberWithin : ℤ → Type 0
+IsNumberWithin n = (neg_ℤ (pos 1000000000) ≤ℤ n) × (n ≤ℤ pos 1000000000)
+
+-- a value that is reached
+abbrev pub IsEndWithin : Option ℤ → Type 0
+IsEndWithin end = IfSome end IsNumberWithin
+
+-- At most 16 steps, at least a millisecond between the ticks of a timer, and ends that a value can pass.
+abbrev pub IsWithinLimits : Settings → Type 0
+IsWithinLimits (Counter c) = IsEndWithin c.complete
+IsWithinLimits (Accrual a) = a.steps ≤ 16
+IsWithinLimits (Sequence q) = q.steps ≤ 16
+IsWithinLimits (Timer t) = (1 ≤ t.interval) × IsEndWithin t.end
