@@ -3,6 +3,8 @@
 ghost use Rattle.std.specs.Prelude.{◌≡◌, ◌<◌, ◌^◌};
 ghost use Rattle.device_objects.specs.Counter.{first_slot, is_early, completed, counted, slot_step, current, counter_step};
 ghost use Rattle.device_objects.specs.declared.device.Call.TheVariants as calls;
+ghost use Rattle.plan_tables.specs.declared.devices.Act.TheVariants as acts;
+ghost use Rattle.plan_tables.specs.declared.devices.Settings.TheVariants as kinds;
 
 use crate::lists::{hit, reset, silent};
 use crate::slots::{is_of_other_game, slot_in_use};
@@ -13,9 +15,6 @@ use plan_tables::{Act, CounterSettings, DeviceRow, Settings};
 /// A counter: it counts hits, and completes when its value reaches or passes the one that is set.
 #[derive(Drop)]
 pub struct Counter {
-    ghost use Rattle.std.specs.Prelude.{◌≡◌};
-    ghost use Rattle.plan_tables.specs.declared.devices.Settings.TheVariants as kinds;
-
     row: DeviceRow,
     settings: CounterSettings,
     slots: [CounterSlot; 4],

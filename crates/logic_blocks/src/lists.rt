@@ -1,6 +1,6 @@
 //! The lists that devices answer.
 
-ghost use Rattle.std.specs.Prelude.{◌≡◌, ◌≤◌, [], ◌∷◌, length};
+ghost use Rattle.std.specs.Prelude.{◌≡◌, [], ◌∷◌, if◌then◌else◌};
 ghost use Rattle.device_objects.specs.Slots.{updated, hit, complete};
 
 use arrayvec::ArrayVec;
@@ -31,8 +31,7 @@ pub(crate) fn reset() -> Outcome
 
 /// The lists of a block that is hit, and completes or not.
 pub(crate) fn hit(completes: bool) -> Outcome
-    ensures goes_on { completes ≡ Bool.false → result.items ≡ updated ∷ hit ∷ [] }
-    ensures completes { completes ≡ Bool.true → result.items ≡ updated ∷ hit ∷ complete ∷ [] }
+    ensures { result.items ≡ if completes then updated ∷ hit ∷ complete ∷ [] else updated ∷ hit ∷ [] }
 {
     let mut lists = one(0);
     lists.push(1);

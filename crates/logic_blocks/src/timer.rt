@@ -1,0 +1,207 @@
+//! A timer.
+
+ghost use Rattle.std.specs.Prelude.{◌≡◌, ◌<◌, ◌^◌, if◌then◌else◌, [], ◌∷◌};
+ghost use Rattle.device_objects.specs.Values.{clamped};
+ghost use Rattle.device_objects.specs.Timer.{is_running, run, halt, completed, changed, act_step, timer_step};
+ghost use Rattle.plan_tables.specs.declared.devices.Act.TheVariants as acts;
+ghost use Rattle.device_objects.specs.declared.device.Call.TheVariants as calls;
+ghost use Rattle.plan_tables.specs.declared.devices.Settings.TheVariants as kinds;
+
+use crate::lists::{one, silent};
+use crate::values::{clamped, is_at_end, moved};
+use device_objects::{Device, DeviceState, Outcome, TimerState, World};
+use plan_tables::{Act, DeviceRow, Settings, TimerSettings};
+
+/// The list of a timer that starts to run.
+const STARTED: u16 = 0;
+/// The list of a timer that is stopped.
+const STOPPED: u16 = 1;
+/// The list of a timer that is paused.
+const PAUSED: u16 = 2;
+/// The list of a tick.
+const TICK: u16 = 3;
+/// The list of a timer that completes.
+const COMPLETE: u16 = 4;
+
+/// A timer: while it runs its value goes on by one at each tick, and it completes at its end.
+#[derive(Drop)]
+pub struct Timer {
+    row: DeviceRow,
+    settings: TimerSettings,
+    state: TimerState,
+    ghost kind: { row.settings ≡ kinds.Timer settings },
+}
+
+impl Timer {
+    ghost use Rattle.std.specs.Prelude.{◌≡◌, ◌↔◌, IsSome, IfSome};
+    ghost use Rattle.device_objects.specs.DeviceStep.{first_state};
+    ghost use Rattle.logic_blocks.specs.Kind.{IsTimer};
+
+    /// The timer of a row, in its first state. None exactly where the row is of another kind.
+    pub fn new(row: &DeviceRow) -> Option<Self>
+        ensures kind { IsSome result ↔ IsTimer row.now.settings }
+        ensures row { IfSome result (λ d. ⟦<Timer as Device>⟧.row_of d ≡ row.now) }
+        ensures first { IfSome result (λ d. ⟦<Timer as Device>⟧.state_of d ≡ first_state row.now.settings) }
+    {
+        match row.settings {
+            Settings::Timer(settings) => Some(Timer {
+                row: *row,
+                settings,
+                state: TimerState {
+                    value: settings.start,
+                    due: None,
+                },
+            }),
+            _ => None,
+        }
+    }
+}
+
+impl Device for Timer {
+    ghost use Rattle.device_objects.specs.declared.state.DeviceState.TheVariants as states;
+
+    ghost row_of = { λ d. d.row };
+    ghost state_of = { λ d. states.Timer d.state };
+
+    fn row(&self) -> DeviceRow {
+        self.row
+    }
+
+    fn state(&self) -> DeviceState {
+        DeviceState::Timer(self.state)
+    }
+
+    fn due(&self) -> Option<u64> {
+        self.state.due
+    }
+
+    fn start(&mut self, now: u64, _world: World) -> Outcome {
+        self.state.value = self.settings.start;
+        if !self.settings.start_running {
+            return silent();
+        }
+        run(&self.settings, &mut self.state, now);
+        one(STARTED)
+    }
+
+    fn stop(&mut self, _now: u64, _world: World) -> Outcome {
+        self.state.due = None;
+        silent()
+    }
+
+    fn fire(&mut self, now: u64, _world: World) -> Outcome {
+        tick(&self.settings, &mut self.state, now)
+    }
+
+    fn act(&mut self, act: Act, now: u64, _world: World) -> Outcome {
+        step(&self.settings, &mut self.state, act, now)
+    }
+}
+
+/// The timer runs from now on.
+fn run(settings: &TimerSettings, state: &mut TimerState, now: u64)
+    requires { now < 2 ^ 40 }
+    ensures { state.new ≡ run settings.now now state.old }
+{
+    state.due = Some(now + u64::from(settings.interval));
+}
+
+/// The timer completes.
+fn complete(settings: &TimerSettings, state: &mut TimerState, now: u64) -> Outcome
+    requires { now < 2 ^ 40 }
+    ensures state { state.new ≡ (completed settings.now now state.old).0 }
+    ensures outcome { result.items ≡ (completed settings.now now state.old).1 }
+{
+    let mut lists = one(COMPLETE);
+    if settings.restart {
+        state.value = settings.start;
+        run(settings, state, now);
+        lists.push(STARTED);
+    } else {
+        state.due = None;
+    }
+    lists
+}
+
+/// The value was changed: a timer that runs completes if it is at its end now.
+fn change(settings: &TimerSettings, state: &mut TimerState, value: i128, now: u64) -> Outcome
+    requires { now < 2 ^ 40 }
+    ensures state { state.new ≡ (changed settings.now now (record state.old { value = clamped value })).0 }
+    ensures outcome { result.items ≡ (changed settings.now now (record state.old { value = clamped value })).1 }
+{
+    state.value = clamped(value);
+    if state.due.is_some() && is_at_end(settings.direction, settings.end, state.value) {
+        complete(settings, state, now)
+    } else {
+        silent()
+    }
+}
+
+/// The next tick.
+fn tick(settings: &TimerSettings, state: &mut TimerState, now: u64) -> Outcome
+    requires { now < 2 ^ 40 }
+    ensures state { state.new ≡ (timer_step settings.now calls.Fire now state.old).0 }
+    ensures outcome { result.items ≡ (timer_step settings.now calls.Fire now state.old).1 }
+{
+    state.value = moved(settings.direction, 1, state.value);
+    let mut lists = one(TICK);
+    if is_at_end(settings.direction, settings.end, state.value) {
+        lists.push(COMPLETE);
+        complete(settings, state, now);
+        if settings.restart {
+            lists.push(STARTED);
+        }
+    } else {
+        run(settings, state, now);
+    }
+    lists
+}
+
+/// The timer starts to run, if it does not run.
+fn start(settings: &TimerSettings, state: &mut TimerState, now: u64) -> Outcome
+    requires { now < 2 ^ 40 }
+    ensures state { state.new ≡ (act_step settings.now acts.Start now state.old).0 }
+    ensures outcome { result.items ≡ (act_step settings.now acts.Start now state.old).1 }
+{
+    if state.due.is_some() {
+        return silent();
+    }
+    run(settings, state, now);
+    one(STARTED)
+}
+
+/// The timer stops running, if it runs, and this list is answered.
+fn halt(state: &mut TimerState, list: u16) -> Outcome
+    ensures state { state.new ≡ halt state.old }
+    ensures outcome { result.items ≡ if is_running state.old then list ∷ [] else [] }
+{
+    let runs = state.due.is_some();
+    state.due = None;
+    if runs { one(list) } else { silent() }
+}
+
+/// What an act does to a timer.
+fn step(settings: &TimerSettings, state: &mut TimerState, act: Act, now: u64) -> Outcome
+    requires { now < 2 ^ 40 }
+    ensures state { state.new ≡ (act_step settings.now act now state.old).0 }
+    ensures outcome { result.items ≡ (act_step settings.now act now state.old).1 }
+{
+    match act {
+        Act::Start => start(settings, state, now),
+        Act::Stop => halt(state, STOPPED),
+        Act::Pause => halt(state, PAUSED),
+        Act::Reset => {
+            state.value = settings.start;
+            silent()
+        }
+        Act::Restart => {
+            state.value = settings.start;
+            run(settings, state, now);
+            one(STARTED)
+        }
+        Act::Add(n) => change(settings, state, i128::from(state.value) + i128::from(n), now),
+        Act::Subtract(n) => change(settings, state, i128::from(state.value) - i128::from(n), now),
+        Act::Jump(n) => change(settings, state, i128::from(n), now),
+        _ => silent(),
+    }
+}
