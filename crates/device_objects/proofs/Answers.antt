@@ -78,14 +78,14 @@ no_player-in b is = silent_if b.persist is
 
 hit-in : (c : CounterSettings) (slot : CounterSlot) → In (counter.counted c slot).1 (of_counter c acts.Count)
 hit-in c slot = either (is_at_end c.direction c.complete slot.value) (counter.completed c slot, completing) (slot, going_on)
-  (λ ends. there (there (if_holds (is_some c.complete) (at_end-some c.direction c.complete slot.value ends) here)))
-  (λ goes_on. there here)
+    (λ ends. there (there (if_holds (is_some c.complete) (at_end-some c.direction c.complete slot.value ends) here)))
+    (λ goes_on. there here)
 
 counter_slot-in : (c : CounterSettings) (act : Act) (now : ℕ) (slot : CounterSlot) → In (counter.slot_step c act now slot).1 (of_counter c act)
 counter_slot-in c acts.Count now slot =
     let moves : CounterSlot = record slot { value = moved c.direction c.interval slot.value; last_hit = Some now } in
     either (slot.enabled && not (counter.is_early c.window slot.last_hit now)) (counter.counted c moves) (slot, [])
-      (λ counts. hit-in c moves) (λ not. here)
+    (λ counts. hit-in c moves) (λ not. here)
 counter_slot-in c acts.Reset now slot = reset-in c.block
 counter_slot-in c acts.Restart now slot = reset-in c.block
 counter_slot-in c _ now slot = here
@@ -133,16 +133,16 @@ step-in : (a : StepSettings) (i : ℕ) (slot : AccrualSlot) → nat_lt i a.steps
 step-in a i slot within opens =
     let stepped : AccrualSlot = record slot { done = slice_set slot.done i true } in
     there (if_holds (nat_lt i a.steps) within (either (accrual.are_all_done a stepped.done) (accrual.completed a stepped, completing) (stepped, going_on)
-      (λ all. at_last (only_if (nat_lt 1 a.steps) (going_on ∷ [])))
-      (λ some. goes_on-in (nat_lt 1 a.steps) (λ one. true≢false (sym (alone a.steps i slot.done within one opens) ∙ some)))))
+    (λ all. at_last (only_if (nat_lt 1 a.steps) (going_on ∷ [])))
+    (λ some. goes_on-in (nat_lt 1 a.steps) (λ one. true≢false (sym (alone a.steps i slot.done within one opens) ∙ some)))))
 
 accrual_slot-in : (a : StepSettings) (act : Act) (slot : AccrualSlot) → In (accrual.slot_step a act slot).1 (of_accrual a act)
 accrual_slot-in a (acts.Step i) slot =
     either (slot.enabled && accrual.is_step_open a i slot.done) (accrual.stepped a (record slot { done = slice_set slot.done i true })) (slot, [])
-      (λ is. let parts = and_parts slot.enabled (accrual.is_step_open a i slot.done) is in
-        let at = and_parts (nat_lt i a.steps) (accrual.is_open (slice_get slot.done i)) parts.1 in
-        step-in a i slot at.0 at.1)
-      (λ not. here)
+    (λ is. let parts = and_parts slot.enabled (accrual.is_step_open a i slot.done) is in
+    let at = and_parts (nat_lt i a.steps) (accrual.is_open (slice_get slot.done i)) parts.1 in
+    step-in a i slot at.0 at.1)
+    (λ not. here)
 accrual_slot-in a acts.Reset slot = reset-in a.block
 accrual_slot-in a acts.Restart slot = reset-in a.block
 accrual_slot-in a _ slot = here
@@ -171,9 +171,9 @@ sequence_slot-in : (q : StepSettings) (act : Act) (slot : SequenceSlot) → In (
 sequence_slot-in q (acts.Step i) slot =
     let next : SequenceSlot = record slot { next = suc i } in
     either (slot.enabled && (i == slot.next) && nat_lt i q.steps) (sequence.stepped q next) (slot, [])
-      (λ is. let within = and_parts (slot.enabled && (i == slot.next)) (nat_lt i q.steps) is in
-        there (if_holds (nat_lt i q.steps) within.1 (takes-in (suc i == q.steps) (sequence.completed q next, completing) (next, going_on) refl refl)))
-      (λ not. here)
+    (λ is. let within = and_parts (slot.enabled && (i == slot.next)) (nat_lt i q.steps) is in
+    there (if_holds (nat_lt i q.steps) within.1 (takes-in (suc i == q.steps) (sequence.completed q next, completing) (next, going_on) refl refl)))
+    (λ not. here)
 sequence_slot-in q acts.Reset slot = reset-in q.block
 sequence_slot-in q acts.Restart slot = reset-in q.block
 sequence_slot-in q _ slot = here
@@ -203,8 +203,8 @@ completed-is t now s = second t.restart (timer.run t now (timer.first_state t), 
 
 changed-in : (t : TimerSettings) (now : ℕ) (s : TimerState) → In (timer.changed t now s).1 ([] ∷ only_if (is_at_end t.direction t.end s.value) (timer_completing t ∷ []))
 changed-in t now s = either (timer.is_running s && is_at_end t.direction t.end s.value) (timer.completed t now s) (s, [])
-  (λ is. there (if_holds (is_at_end t.direction t.end s.value) (and_parts (timer.is_running s) _ is).1 (by (completed-is t now s) here)))
-  (λ not. here)
+    (λ is. there (if_holds (is_at_end t.direction t.end s.value) (and_parts (timer.is_running s) _ is).1 (by (completed-is t now s) here)))
+    (λ not. here)
 
 more-in : {x : List ℕ} (y : List ℕ) (test more : Bool) → (test ≡ true → more ≡ true) → In x ([] ∷ only_if test (y ∷ [])) → In x ([] ∷ only_if more (y ∷ []))
 more-in y true more has here = here

@@ -54,8 +54,8 @@ slot_step-marks a (acts.Step i) slot marks =
     let stepped : AccrualSlot = record slot { done = slice_set slot.done i true } in
     let still : HasMarks stepped = length-set slot.done i true ∙ marks in
     either (slot.enabled && accrual.is_step_open a i slot.done) (accrual.stepped a stepped) (slot, [])
-      (either (accrual.are_all_done a stepped.done) (accrual.completed a stepped, _) (stepped, _) (completed-marks a stepped a.block.reset_on_complete still) still)
-      marks
+    (either (accrual.are_all_done a stepped.done) (accrual.completed a stepped, _) (stepped, _) (completed-marks a stepped a.block.reset_on_complete still) still)
+    marks
 slot_step-marks a acts.Enable slot marks = marks
 slot_step-marks a acts.Disable slot marks = marks
 slot_step-marks a acts.Reset slot marks = refl
@@ -76,8 +76,8 @@ accrual_step-marks a calls.ModeStop world slots all = all
 accrual_step-marks a calls.Fire world slots all = all
 accrual_step-marks a (calls.Act act) world slots all =
     step_in_use-all HasMarks (λ slot. accrual.slot_step a act (accrual.current a world slot))
-      (λ slot marks. slot_step-marks a act (accrual.current a world slot) (current-marks a world slot (is_of_other_game a.block.persist world slot.game) marks))
-      slots (slot_in_use a.block.persist world) all
+    (λ slot marks. slot_step-marks a act (accrual.current a world slot) (current-marks a world slot (is_of_other_game a.block.persist world slot.game) marks))
+    slots (slot_in_use a.block.persist world) all
 
 accrual_step-length : (a : StepSettings) (call : Call) (world : World) (slots : List AccrualSlot) → length (accrual.accrual_step a call world slots).0 ≡ length slots
 accrual_step-length a calls.ModeStart world slots = anew-length a.block.persist slots (accrual.first_slot a 0)

@@ -48,6 +48,7 @@ impl Device for Accrual {
     ghost use Rattle.device_objects.specs.declared.state.DeviceState.TheVariants as states;
 
     ghost row_of = { λ d. d.row };
+
     ghost state_of = { λ d. states.Accrual d.slots };
 
     fn row(&self) -> DeviceRow {

@@ -47,6 +47,7 @@ impl Device for Sequence {
     ghost use Rattle.device_objects.specs.declared.state.DeviceState.TheVariants as states;
 
     ghost row_of = { λ d. d.row };
+
     ghost state_of = { λ d. states.Sequence d.slots };
 
     fn row(&self) -> DeviceRow {

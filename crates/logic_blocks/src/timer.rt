@@ -61,6 +61,7 @@ impl Device for Timer {
     ghost use Rattle.device_objects.specs.declared.state.DeviceState.TheVariants as states;
 
     ghost row_of = { λ d. d.row };
+
     ghost state_of = { λ d. states.Timer d.state };
 
     fn row(&self) -> DeviceRow {
@@ -199,8 +200,18 @@ fn step(settings: &TimerSettings, state: &mut TimerState, act: Act, now: u64) ->
             run(settings, state, now);
             one(STARTED)
         }
-        Act::Add(n) => change(settings, state, i128::from(state.value) + i128::from(n), now),
-        Act::Subtract(n) => change(settings, state, i128::from(state.value) - i128::from(n), now),
+        Act::Add(n) => change(
+            settings,
+            state,
+            i128::from(state.value) + i128::from(n),
+            now,
+        ),
+        Act::Subtract(n) => change(
+            settings,
+            state,
+            i128::from(state.value) - i128::from(n),
+            now,
+        ),
         Act::Jump(n) => change(settings, state, i128::from(n), now),
         _ => silent(),
     }

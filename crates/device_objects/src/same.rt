@@ -1,0 +1,157 @@
+//! Whether two rows, and two states, are the same.
+
+ghost use Rattle.std.specs.Prelude.{◌≡◌, ◌↔◌, IsTrue};
+
+use crate::state::{AccrualSlot, CounterSlot, DeviceState, SequenceSlot, TimerState};
+use plan_tables::{
+    BlockSettings, CounterSettings, DeviceRow, Direction, Owner, Settings, StepSettings,
+    TimerSettings,
+};
+
+/// Whether two rows are the same.
+pub fn is_same_row(a: &DeviceRow, b: &DeviceRow) -> bool
+    ensures { IsTrue result ↔ (a.now ≡ b.now) }
+{
+    a.number.0 == b.number.0
+        && is_same_owner(a.owner, b.owner)
+        && is_same_settings(&a.settings, &b.settings)
+}
+
+/// Whether two states are the same.
+pub fn is_same_state(a: &DeviceState, b: &DeviceState) -> bool
+    ensures { IsTrue result ↔ (a.now ≡ b.now) }
+{
+    match (a, b) {
+        (DeviceState::Counter(a), DeviceState::Counter(b)) => are_same_counters(a, b),
+        (DeviceState::Accrual(a), DeviceState::Accrual(b)) => are_same_accruals(a, b),
+        (DeviceState::Sequence(a), DeviceState::Sequence(b)) => are_same_sequences(a, b),
+        (DeviceState::Timer(a), DeviceState::Timer(b)) => is_same_timer(a, b),
+        _ => false,
+    }
+}
+
+fn is_same_owner(a: Owner, b: Owner) -> bool
+    ensures { IsTrue result ↔ (a ≡ b) }
+{
+    match (a, b) {
+        (Owner::Machine, Owner::Machine) => true,
+        (Owner::Mode(a), Owner::Mode(b)) => a.0 == b.0,
+        _ => false,
+    }
+}
+
+fn is_same_direction(a: Direction, b: Direction) -> bool
+    ensures { IsTrue result ↔ (a ≡ b) }
+{
+    match (a, b) {
+        (Direction::Up, Direction::Up) => true,
+        (Direction::Down, Direction::Down) => true,
+        _ => false,
+    }
+}
+
+fn is_same_block(a: &BlockSettings, b: &BlockSettings) -> bool
+    ensures { IsTrue result ↔ (a.now ≡ b.now) }
+{
+    a.enabled == b.enabled
+        && a.reset_on_complete == b.reset_on_complete
+        && a.disable_on_complete == b.disable_on_complete
+        && a.persist == b.persist
+}
+
+fn is_same_counter_kind(a: &CounterSettings, b: &CounterSettings) -> bool
+    ensures { IsTrue result ↔ (a.now ≡ b.now) }
+{
+    is_same_block(&a.block, &b.block)
+        && a.start == b.start
+        && a.interval == b.interval
+        && is_same_direction(a.direction, b.direction)
+        && a.complete == b.complete
+        && a.window == b.window
+}
+
+fn is_same_step_kind(a: &StepSettings, b: &StepSettings) -> bool
+    ensures { IsTrue result ↔ (a.now ≡ b.now) }
+{
+    is_same_block(&a.block, &b.block) && a.steps == b.steps
+}
+
+fn is_same_timer_kind(a: &TimerSettings, b: &TimerSettings) -> bool
+    ensures { IsTrue result ↔ (a.now ≡ b.now) }
+{
+    a.start == b.start
+        && a.end == b.end
+        && is_same_direction(a.direction, b.direction)
+        && a.interval == b.interval
+        && a.start_running == b.start_running
+        && a.restart == b.restart
+}
+
+fn is_same_settings(a: &Settings, b: &Settings) -> bool
+    ensures { IsTrue result ↔ (a.now ≡ b.now) }
+{
+    match (a, b) {
+        (Settings::Counter(a), Settings::Counter(b)) => is_same_counter_kind(a, b),
+        (Settings::Accrual(a), Settings::Accrual(b)) => is_same_step_kind(a, b),
+        (Settings::Sequence(a), Settings::Sequence(b)) => is_same_step_kind(a, b),
+        (Settings::Timer(a), Settings::Timer(b)) => is_same_timer_kind(a, b),
+        _ => false,
+    }
+}
+
+fn is_same_counter(a: &CounterSlot, b: &CounterSlot) -> bool
+    ensures { IsTrue result ↔ (a.now ≡ b.now) }
+{
+    a.game == b.game && a.enabled == b.enabled && a.value == b.value && a.last_hit == b.last_hit
+}
+
+fn is_same_accrual(a: &AccrualSlot, b: &AccrualSlot) -> bool
+    ensures { IsTrue result ↔ (a.now ≡ b.now) }
+{
+    a.game == b.game && a.enabled == b.enabled && are_same_marks(&a.done, &b.done)
+}
+
+fn are_same_marks(a: &[bool; 16], b: &[bool; 16]) -> bool
+    ensures { IsTrue result ↔ (a.now ≡ b.now) }
+{
+    *a == *b
+}
+
+fn is_same_sequence(a: &SequenceSlot, b: &SequenceSlot) -> bool
+    ensures { IsTrue result ↔ (a.now ≡ b.now) }
+{
+    a.game == b.game && a.enabled == b.enabled && a.next == b.next
+}
+
+fn is_same_timer(a: &TimerState, b: &TimerState) -> bool
+    ensures { IsTrue result ↔ (a.now ≡ b.now) }
+{
+    a.value == b.value && a.due == b.due
+}
+
+fn are_same_counters(a: &[CounterSlot; 4], b: &[CounterSlot; 4]) -> bool
+    ensures { IsTrue result ↔ (a.now ≡ b.now) }
+{
+    is_same_counter(&a[0], &b[0])
+        && is_same_counter(&a[1], &b[1])
+        && is_same_counter(&a[2], &b[2])
+        && is_same_counter(&a[3], &b[3])
+}
+
+fn are_same_accruals(a: &[AccrualSlot; 4], b: &[AccrualSlot; 4]) -> bool
+    ensures { IsTrue result ↔ (a.now ≡ b.now) }
+{
+    is_same_accrual(&a[0], &b[0])
+        && is_same_accrual(&a[1], &b[1])
+        && is_same_accrual(&a[2], &b[2])
+        && is_same_accrual(&a[3], &b[3])
+}
+
+fn are_same_sequences(a: &[SequenceSlot; 4], b: &[SequenceSlot; 4]) -> bool
+    ensures { IsTrue result ↔ (a.now ≡ b.now) }
+{
+    is_same_sequence(&a[0], &b[0])
+        && is_same_sequence(&a[1], &b[1])
+        && is_same_sequence(&a[2], &b[2])
+        && is_same_sequence(&a[3], &b[3])
+}
