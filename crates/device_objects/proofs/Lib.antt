@@ -1,4 +1,4 @@
 pub mod Marks
 pub mod Slots
 pub mod Shapes
-pub mod Answers
+pub mod Answered

@@ -1,12 +1,15 @@
 //! Devices of a machine behind an interface: their states, and what each call does.
 #![tactic(auto)]
 
+pub mod answers;
 pub mod device;
 pub mod first;
 pub mod law;
 pub mod same;
 pub mod state;
+pub mod values;
 
+pub use answers::{Outcomes, outcomes};
 pub use device::{Call, Device, Outcome};
 pub use first::first_state;
 pub use same::{is_same_row, is_same_state};

@@ -8,7 +8,7 @@ ghost use Rattle.plan_tables.specs.declared.devices.Settings.TheVariants as kind
 
 use crate::lists::{hit, reset, silent};
 use crate::slots::{is_of_other_game, slot_in_use};
-use crate::values::{is_at_end, moved};
+use device_objects::values::{is_at_end, moved};
 use device_objects::{CounterSlot, Device, DeviceState, Outcome, World};
 use plan_tables::{Act, CounterSettings, DeviceRow, Settings};
 

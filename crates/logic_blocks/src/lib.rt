@@ -7,7 +7,6 @@ mod lists;
 pub mod sequence;
 mod slots;
 pub mod timer;
-mod values;
 
 pub use accrual::Accrual;
 pub use counter::Counter;

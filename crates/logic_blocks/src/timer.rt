@@ -8,7 +8,7 @@ ghost use Rattle.device_objects.specs.declared.device.Call.TheVariants as calls;
 ghost use Rattle.plan_tables.specs.declared.devices.Settings.TheVariants as kinds;
 
 use crate::lists::{one, silent};
-use crate::values::{clamped, is_at_end, moved};
+use device_objects::values::{clamped, is_at_end, moved};
 use device_objects::{Device, DeviceState, Outcome, TimerState, World};
 use plan_tables::{Act, DeviceRow, Settings, TimerSettings};
 

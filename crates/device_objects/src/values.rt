@@ -8,9 +8,9 @@ use plan_tables::Direction;
 /// No value is further from 0.
 const GREATEST: i128 = 999_999_999_999_999;
 
-/// The nearest value that there is.
-#[tactic(auto, unfolding(device_objects::specs::Values::clamped))]
-pub(crate) fn clamped(n: i128) -> i64
+/// The nearest value that there is: at most 999,999,999,999,999 from 0.
+#[tactic(auto, unfolding(crate::specs::Values::clamped))]
+pub fn clamped(n: i128) -> i64
     ensures { result ≡ clamped n }
 {
     if n <= -GREATEST {
@@ -23,7 +23,7 @@ pub(crate) fn clamped(n: i128) -> i64
 }
 
 /// A value that moves by so much.
-pub(crate) fn moved(direction: Direction, by: i64, value: i64) -> i64
+pub fn moved(direction: Direction, by: i64, value: i64) -> i64
     ensures { result ≡ moved direction by value }
 {
     match direction {
@@ -33,7 +33,7 @@ pub(crate) fn moved(direction: Direction, by: i64, value: i64) -> i64
 }
 
 /// Whether a value has reached or passed its end, if it has one.
-pub(crate) fn is_at_end(direction: Direction, end: Option<i64>, value: i64) -> bool
+pub fn is_at_end(direction: Direction, end: Option<i64>, value: i64) -> bool
     ensures { result ≡ is_at_end direction end value }
 {
     match (direction, end) {

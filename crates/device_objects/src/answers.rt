@@ -1,0 +1,171 @@
+//! The lists that a call of a device can answer, whatever its state.
+
+ghost use Rattle.std.specs.Prelude.{◌≡◌, ◌+◌, ◌<◌, ◌≤◌, [], ◌∷◌, ◌++◌, length, map, is_some};
+ghost use Rattle.arrayvec.specs.ArrayVec.{array_vec_len};
+ghost use Rattle.device_objects.specs.declared.device.Call.TheVariants as calls;
+ghost use Rattle.device_objects.specs.Outcomes.{of_accrual, of_block, of_change, of_counter, of_sequence, of_timer, of_timer_act, only_if, outcomes, resetting, silent, timer_completing};
+
+use crate::device::{Call, Outcome};
+use crate::values::{clamped, is_at_end};
+use arrayvec::ArrayVec;
+use plan_tables::{Act, BlockSettings, CounterSettings, Settings, StepSettings, TimerSettings};
+
+/// What a call of a device can answer, whatever the device's state.
+pub type Outcomes = ArrayVec<Outcome, 4>;
+
+/// What a call of a device of these settings can answer.
+pub fn outcomes(settings: &Settings, call: Call) -> Outcomes
+    ensures { map (λ o. o.items) result.items ≡ outcomes settings.now call }
+{
+    match (settings, call) {
+        (Settings::Counter(counter), Call::Act(act)) => of_counter(counter, act),
+        (Settings::Accrual(accrual), Call::Act(act)) => of_accrual(accrual, act),
+        (Settings::Sequence(sequence), Call::Act(act)) => of_sequence(sequence, act),
+        (Settings::Timer(timer), call) => of_timer(timer, call),
+        _ => silent(),
+    }
+}
+
+fn none() -> Outcomes
+    ensures none { result.items ≡ [] }
+    ensures count { array_vec_len result ≡ 0 }
+{
+    ArrayVec::new()
+}
+
+/// One answer more.
+fn with(all: Outcomes, lists: &[u16]) -> Outcomes
+    requires room { array_vec_len all < 4 }
+    requires short { length lists.now ≤ 4 }
+    ensures answers { map (λ o. o.items) result.items ≡ map (λ o. o.items) all.items ++ lists.now ∷ [] }
+    ensures count { array_vec_len result ≡ array_vec_len all + 1 }
+{
+    let mut all = all;
+    let mut answer = Outcome::new();
+    let _ = answer.try_extend_from_slice(lists);
+    all.push(answer);
+    all
+}
+
+/// One answer more, if this holds.
+fn with_if(all: Outcomes, holds: bool, lists: &[u16]) -> Outcomes
+    requires room { array_vec_len all < 4 }
+    requires short { length lists.now ≤ 4 }
+    ensures answers { map (λ o. o.items) result.items ≡ map (λ o. o.items) all.items ++ only_if holds (lists.now ∷ []) }
+    ensures count { array_vec_len result ≤ array_vec_len all + 1 }
+{
+    if holds { with(all, lists) } else { all }
+}
+
+/// No list at all.
+fn silent() -> Outcomes
+    ensures answers { map (λ o. o.items) result.items ≡ silent }
+    ensures count { array_vec_len result ≡ 1 }
+{
+    with(none(), &[])
+}
+
+/// A block that is reset.
+fn resetting(block: &BlockSettings) -> Outcomes
+    ensures { map (λ o. o.items) result.items ≡ resetting block.now }
+{
+    with(with_if(none(), block.persist, &[]), &[0])
+}
+
+/// The acts that all blocks know.
+fn of_block(block: &BlockSettings, act: Act) -> Outcomes
+    ensures { map (λ o. o.items) result.items ≡ of_block block.now act }
+{
+    match act {
+        Act::Reset | Act::Restart => resetting(block),
+        _ => silent(),
+    }
+}
+
+fn of_counter(counter: &CounterSettings, act: Act) -> Outcomes
+    ensures { map (λ o. o.items) result.items ≡ of_counter counter.now act }
+{
+    match act {
+        Act::Count => with_if(
+            with(silent(), &[0, 1]),
+            counter.complete.is_some(),
+            &[0, 1, 2],
+        ),
+        _ => of_block(&counter.block, act),
+    }
+}
+
+fn of_accrual(accrual: &StepSettings, act: Act) -> Outcomes
+    ensures { map (λ o. o.items) result.items ≡ of_accrual accrual.now act }
+{
+    match act {
+        Act::Step(i) if i < accrual.steps => {
+            with(with_if(silent(), 1 < accrual.steps, &[0, 1]), &[0, 1, 2])
+        }
+        Act::Step(_) => silent(),
+        _ => of_block(&accrual.block, act),
+    }
+}
+
+fn of_sequence(sequence: &StepSettings, act: Act) -> Outcomes
+    ensures { map (λ o. o.items) result.items ≡ of_sequence sequence.now act }
+{
+    match act {
+        Act::Step(i) if i >= sequence.steps => silent(),
+        Act::Step(i) if i + 1 == sequence.steps => with(silent(), &[0, 1, 2]),
+        Act::Step(_) => with(silent(), &[0, 1]),
+        _ => of_block(&sequence.block, act),
+    }
+}
+
+/// A timer that completes.
+fn timer_completing(timer: &TimerSettings) -> &'static [u16]
+    ensures lists { result.now ≡ timer_completing timer.now }
+    ensures short { length result.now ≤ 2 }
+{
+    if timer.restart { &[4, 0] } else { &[4] }
+}
+
+/// A timer whose value moves by any number.
+fn of_change(timer: &TimerSettings) -> Outcomes
+    ensures { map (λ o. o.items) result.items ≡ of_change timer.now }
+{
+    with_if(silent(), timer.end.is_some(), timer_completing(timer))
+}
+
+fn of_timer_act(timer: &TimerSettings, act: Act) -> Outcomes
+    ensures { map (λ o. o.items) result.items ≡ of_timer_act timer.now act }
+{
+    match act {
+        Act::Start => with(silent(), &[0]),
+        Act::Stop => with(silent(), &[1]),
+        Act::Pause => with(silent(), &[2]),
+        Act::Restart => with(none(), &[0]),
+        Act::Add(_) | Act::Subtract(_) => of_change(timer),
+        Act::Jump(n) => {
+            let ends = is_at_end(timer.direction, timer.end, clamped(i128::from(n)));
+            with_if(silent(), ends, timer_completing(timer))
+        }
+        _ => silent(),
+    }
+}
+
+/// A tick after which a timer goes on, and one that completes it.
+fn of_tick(timer: &TimerSettings) -> Outcomes
+    ensures { map (λ o. o.items) result.items ≡ of_timer timer.now calls.Fire }
+{
+    let goes_on = with(none(), &[3]);
+    let completes: &'static [u16] = if timer.restart { &[3, 4, 0] } else { &[3, 4] };
+    with_if(goes_on, timer.end.is_some(), completes)
+}
+
+fn of_timer(timer: &TimerSettings, call: Call) -> Outcomes
+    ensures { map (λ o. o.items) result.items ≡ of_timer timer.now call }
+{
+    match call {
+        Call::ModeStart if timer.start_running => with(none(), &[0]),
+        Call::ModeStart | Call::ModeStop => silent(),
+        Call::Fire => of_tick(timer),
+        Call::Act(act) => of_timer_act(timer, act),
+    }
+}
