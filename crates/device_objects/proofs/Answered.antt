@@ -24,7 +24,7 @@ use Rattle.device_objects.specs.Counter as counter
 use Rattle.device_objects.specs.Accrual as accrual
 use Rattle.device_objects.specs.Sequence as sequence
 use Rattle.device_objects.specs.Timer as timer
-use Rattle.device_objects.specs.Laws.{AnswersAreOutcomes}
+use Rattle.device_objects.specs.Laws.{MayCome, AnswersAreOutcomes}
 use Rattle.device_objects.specs.Outcomes.{silent, only_if, completing, going_on, resetting, of_counter, of_accrual, of_sequence, of_timer, of_timer_act, timer_completing, outcomes}
 use Rattle.device_objects.proofs.Slots.{in_use-answers}
 
@@ -96,12 +96,12 @@ counter_none-in c acts.Reset is = no_player-in c.block is
 counter_none-in c acts.Restart is = no_player-in c.block is
 counter_none-in c _ is = here
 
-counter-in : (c : CounterSettings) (call : Call) (now : ℕ) (world : World) (slots : List CounterSlot) → length slots ≡ 4
+counter-in : (c : CounterSettings) (call : Call) (now : ℕ) (world : World) (slots : List CounterSlot) → length slots ≡ 4 → MayCome call (states.Counter slots)
     → In (counter.counter_step c call now world slots).1 (outcomes (kinds.Counter c) call)
-counter-in c calls.ModeStart now world slots four = here
-counter-in c calls.ModeStop now world slots four = here
-counter-in c calls.Fire now world slots four = here
-counter-in c (calls.Act act) now world slots four = in_use-answers (λ answer. In answer (of_counter c act)) (λ slot. counter.slot_step c act now (counter.current c world slot))
+counter-in c calls.ModeStart now world slots four may = here
+counter-in c calls.ModeStop now world slots four may = here
+counter-in c calls.Fire now world slots four may = absurd (false≢true may)
+counter-in c (calls.Act act) now world slots four may = in_use-answers (λ answer. In answer (of_counter c act)) (λ slot. counter.slot_step c act now (counter.current c world slot))
     (λ slot. counter_slot-in c act now (counter.current c world slot)) c.block.persist world slots four (counter_none-in c act)
 
 -- ---- accruals
@@ -153,12 +153,12 @@ accrual_none-in a acts.Reset is = no_player-in a.block is
 accrual_none-in a acts.Restart is = no_player-in a.block is
 accrual_none-in a _ is = here
 
-accrual-in : (a : StepSettings) (call : Call) (world : World) (slots : List AccrualSlot) → length slots ≡ 4
+accrual-in : (a : StepSettings) (call : Call) (world : World) (slots : List AccrualSlot) → length slots ≡ 4 → MayCome call (states.Accrual slots)
     → In (accrual.accrual_step a call world slots).1 (outcomes (kinds.Accrual a) call)
-accrual-in a calls.ModeStart world slots four = here
-accrual-in a calls.ModeStop world slots four = here
-accrual-in a calls.Fire world slots four = here
-accrual-in a (calls.Act act) world slots four = in_use-answers (λ answer. In answer (of_accrual a act)) (λ slot. accrual.slot_step a act (accrual.current a world slot))
+accrual-in a calls.ModeStart world slots four may = here
+accrual-in a calls.ModeStop world slots four may = here
+accrual-in a calls.Fire world slots four may = absurd (false≢true may)
+accrual-in a (calls.Act act) world slots four may = in_use-answers (λ answer. In answer (of_accrual a act)) (λ slot. accrual.slot_step a act (accrual.current a world slot))
     (λ slot. accrual_slot-in a act (accrual.current a world slot)) a.block.persist world slots four (accrual_none-in a act)
 
 -- ---- sequences
@@ -184,12 +184,12 @@ sequence_none-in q acts.Reset is = no_player-in q.block is
 sequence_none-in q acts.Restart is = no_player-in q.block is
 sequence_none-in q _ is = here
 
-sequence-in : (q : StepSettings) (call : Call) (world : World) (slots : List SequenceSlot) → length slots ≡ 4
+sequence-in : (q : StepSettings) (call : Call) (world : World) (slots : List SequenceSlot) → length slots ≡ 4 → MayCome call (states.Sequence slots)
     → In (sequence.sequence_step q call world slots).1 (outcomes (kinds.Sequence q) call)
-sequence-in q calls.ModeStart world slots four = here
-sequence-in q calls.ModeStop world slots four = here
-sequence-in q calls.Fire world slots four = here
-sequence-in q (calls.Act act) world slots four = in_use-answers (λ answer. In answer (of_sequence q act)) (λ slot. sequence.slot_step q act (sequence.current q world slot))
+sequence-in q calls.ModeStart world slots four may = here
+sequence-in q calls.ModeStop world slots four may = here
+sequence-in q calls.Fire world slots four may = absurd (false≢true may)
+sequence-in q (calls.Act act) world slots four may = in_use-answers (λ answer. In answer (of_sequence q act)) (λ slot. sequence.slot_step q act (sequence.current q world slot))
     (λ slot. sequence_slot-in q act (sequence.current q world slot)) q.block.persist world slots four (sequence_none-in q act)
 
 -- ---- timers
@@ -198,7 +198,7 @@ second : {S : Type 0} (test : Bool) (x y : S × List ℕ) → (if test then x el
 second true x y = refl
 second false x y = refl
 
-completed-is : (t : TimerSettings) (now : ℕ) (s : TimerState) → (timer.completed t now s).1 ≡ timer_completing t
+pub completed-is : (t : TimerSettings) (now : ℕ) (s : TimerState) → (timer.completed t now s).1 ≡ timer_completing t
 completed-is t now s = second t.restart (timer.run t now (timer.first_state t), timer.complete ∷ timer.started ∷ []) (timer.halt s, timer.complete ∷ [])
 
 changed-in : (t : TimerSettings) (now : ℕ) (s : TimerState) → In (timer.changed t now s).1 ([] ∷ only_if (is_at_end t.direction t.end s.value) (timer_completing t ∷ []))
@@ -251,19 +251,19 @@ timer-in t (calls.Act act) now s = timer_act-in t act now s
 -- ---- all kinds
 
 pub answers_are_outcomes : AnswersAreOutcomes
-answers_are_outcomes (kinds.Counter c) call now world (states.Counter slots) four = contains (counter-in c call now world slots four)
-answers_are_outcomes (kinds.Accrual a) call now world (states.Accrual slots) shape = contains (accrual-in a call world slots shape.0)
-answers_are_outcomes (kinds.Sequence q) call now world (states.Sequence slots) four = contains (sequence-in q call world slots four)
-answers_are_outcomes (kinds.Timer t) call now world (states.Timer s) shape = contains (timer-in t call now s)
-answers_are_outcomes (kinds.Counter c) call now world (states.Accrual slots) shape = elim shape [ ]
-answers_are_outcomes (kinds.Counter c) call now world (states.Sequence slots) shape = elim shape [ ]
-answers_are_outcomes (kinds.Counter c) call now world (states.Timer s) shape = elim shape [ ]
-answers_are_outcomes (kinds.Accrual a) call now world (states.Counter slots) shape = elim shape [ ]
-answers_are_outcomes (kinds.Accrual a) call now world (states.Sequence slots) shape = elim shape [ ]
-answers_are_outcomes (kinds.Accrual a) call now world (states.Timer s) shape = elim shape [ ]
-answers_are_outcomes (kinds.Sequence q) call now world (states.Counter slots) shape = elim shape [ ]
-answers_are_outcomes (kinds.Sequence q) call now world (states.Accrual slots) shape = elim shape [ ]
-answers_are_outcomes (kinds.Sequence q) call now world (states.Timer s) shape = elim shape [ ]
-answers_are_outcomes (kinds.Timer t) call now world (states.Counter slots) shape = elim shape [ ]
-answers_are_outcomes (kinds.Timer t) call now world (states.Accrual slots) shape = elim shape [ ]
-answers_are_outcomes (kinds.Timer t) call now world (states.Sequence slots) shape = elim shape [ ]
+answers_are_outcomes (kinds.Counter c) call now world (states.Counter slots) shape may = contains (counter-in c call now world slots shape may)
+answers_are_outcomes (kinds.Accrual a) call now world (states.Accrual slots) shape may = contains (accrual-in a call world slots shape.0 may)
+answers_are_outcomes (kinds.Sequence q) call now world (states.Sequence slots) shape may = contains (sequence-in q call world slots shape may)
+answers_are_outcomes (kinds.Timer t) call now world (states.Timer s) shape may = contains (timer-in t call now s)
+answers_are_outcomes (kinds.Counter c) call now world (states.Accrual slots) shape may = elim shape [ ]
+answers_are_outcomes (kinds.Counter c) call now world (states.Sequence slots) shape may = elim shape [ ]
+answers_are_outcomes (kinds.Counter c) call now world (states.Timer s) shape may = elim shape [ ]
+answers_are_outcomes (kinds.Accrual a) call now world (states.Counter slots) shape may = elim shape [ ]
+answers_are_outcomes (kinds.Accrual a) call now world (states.Sequence slots) shape may = elim shape [ ]
+answers_are_outcomes (kinds.Accrual a) call now world (states.Timer s) shape may = elim shape [ ]
+answers_are_outcomes (kinds.Sequence q) call now world (states.Counter slots) shape may = elim shape [ ]
+answers_are_outcomes (kinds.Sequence q) call now world (states.Accrual slots) shape may = elim shape [ ]
+answers_are_outcomes (kinds.Sequence q) call now world (states.Timer s) shape may = elim shape [ ]
+answers_are_outcomes (kinds.Timer t) call now world (states.Counter slots) shape may = elim shape [ ]
+answers_are_outcomes (kinds.Timer t) call now world (states.Accrual slots) shape may = elim shape [ ]
+answers_are_outcomes (kinds.Timer t) call now world (states.Sequence slots) shape may = elim shape [ ]

@@ -2,3 +2,4 @@ pub mod Marks
 pub mod Slots
 pub mod Shapes
 pub mod Answered
+pub mod Attained

@@ -91,7 +91,7 @@ sequence_step-length q calls.ModeStop world slots = refl
 sequence_step-length q calls.Fire world slots = refl
 sequence_step-length q (calls.Act act) world slots = step_in_use-length (λ slot. sequence.slot_step q act (sequence.current q world slot)) slots (slot_in_use q.block.persist world)
 
-first-shape : (settings : Settings) → HasShape settings (first_state settings)
+pub first-shape : (settings : Settings) → HasShape settings (first_state settings)
 first-shape (kinds.Counter c) = refl
 first-shape (kinds.Accrual a) = (refl, All-replicate HasMarks 4 (accrual.first_slot a 0) refl)
 first-shape (kinds.Sequence q) = refl

@@ -1,5 +1,5 @@
 -- What holds of every step of a device.
-use Rattle.std.specs.Prelude.{◌≡◌, ℕ, ◌<◌, ◌⊎◌, None, Some, IfSome, length, Contains}
+use Rattle.std.specs.Prelude.{◌≡◌, ℕ, ◌<◌, ◌⊎◌, None, Some, IsSome, IfSome, List, length, Contains}
 use Rattle.std.specs.List.{All}
 use Rattle.plan_tables.specs.declared.devices.Settings.{Settings}
 use Rattle.plan_tables.specs.declared.devices.Settings.TheVariants as kinds
@@ -26,11 +26,29 @@ pub record StatesKeepTheirShape : Type 0 where
   pub step : (settings : Settings) (call : Call) (now : ℕ) (world : World) (state : DeviceState) → HasShape settings state
       → HasShape settings (device_step settings call now world state).0
 
+-- a call that may come in this state: a device fires only while it is due
+abbrev pub MayCome : Call → DeviceState → Type 0
+MayCome calls.Fire state = IsSome (due_of state)
+MayCome _ state = Unit {0}
+
 -- No state answers anything but one of the outcomes.
 abbrev pub AnswersAreOutcomes : Type 0
 AnswersAreOutcomes =
-    (settings : Settings) (call : Call) (now : ℕ) (world : World) (state : DeviceState) → HasShape settings state
+    (settings : Settings) (call : Call) (now : ℕ) (world : World) (state : DeviceState) → HasShape settings state → MayCome call state
     → Contains (outcomes settings call) (device_step settings call now world state).1
+
+-- the lists are what some state answers to the call
+pub record IsAnswer (settings : Settings) (call : Call) (lists : List ℕ) : Type 0 where
+  pub now : ℕ
+  pub world : World
+  pub state : DeviceState
+  pub shape : HasShape settings state
+  pub may_come : MayCome call state
+  pub answer : (device_step settings call now world state).1 ≡ lists
+
+-- Each outcome is the answer of some state, if the settings are within their limits.
+abbrev pub OutcomesComeAbout : Type 0
+OutcomesComeAbout = (settings : Settings) (call : Call) → IsWithinLimits settings → All (IsAnswer settings call) (outcomes settings call)
 
 -- What a step arms is due after the moment of the step. So is a device that has been called because it was due.
 pub record ArmsLaterMoments : Type 0 where

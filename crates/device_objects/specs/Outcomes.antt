@@ -86,10 +86,12 @@ of_timer t calls.ModeStop = silent
 of_timer t calls.Fire = (tick ∷ []) ∷ only_if (is_some t.end) ((tick ∷ timer_completing t) ∷ [])
 of_timer t (calls.Act act) = of_timer_act t act
 
--- what a block answers to its acts; it is silent when its mode starts and stops, and is never due
+-- what a block answers to its acts; it is silent when its mode starts and stops, and never fires
 abbrev pub by_act : (Act → List (List ℕ)) → Call → List (List ℕ)
+by_act answers calls.ModeStart = silent
+by_act answers calls.ModeStop = silent
+by_act answers calls.Fire = []
 by_act answers (calls.Act act) = answers act
-by_act answers _ = silent
 
 -- each sequence of lists that some state answers to the call
 abbrev pub outcomes : Settings → Call → List (List ℕ)

@@ -22,6 +22,7 @@ pub fn outcomes(settings: &Settings, call: Call) -> Outcomes
         (Settings::Accrual(accrual), Call::Act(act)) => of_accrual(accrual, act),
         (Settings::Sequence(sequence), Call::Act(act)) => of_sequence(sequence, act),
         (Settings::Timer(timer), call) => of_timer(timer, call),
+        (_, Call::Fire) => none(),
         _ => silent(),
     }
 }

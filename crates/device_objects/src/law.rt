@@ -1,6 +1,6 @@
 //! What holds of every step of a device.
 
-ghost use Rattle.device_objects.specs.Laws.{AnswersAreOutcomes, ArmsLaterMoments, NothingIsDue, OutcomesAreOfTheRow, StatesKeepTheirShape};
+ghost use Rattle.device_objects.specs.Laws.{AnswersAreOutcomes, ArmsLaterMoments, NothingIsDue, OutcomesAreOfTheRow, OutcomesComeAbout, StatesKeepTheirShape};
 
 /// The first state of a device has the shape of its row, and each step leaves it so.
 ///
@@ -14,6 +14,13 @@ pub fn states_keep_their_shape()
 /// It does nothing: its contract is the law, over all steps.
 pub fn answers_are_outcomes()
     ensures { AnswersAreOutcomes }
+{}
+
+/// Each outcome of a call is the answer of some state, if the settings are within their limits.
+///
+/// It does nothing: its contract is the law, over all outcomes.
+pub fn outcomes_come_about()
+    ensures { OutcomesComeAbout }
 {}
 
 /// Every list that a device answers is one of its row.

@@ -1,0 +1,390 @@
+-- Each outcome is the answer of some state.
+use Rattle.std.proofs.Common.{◌≡◌, ℕ, zero, ◌==◌, suc, nat_lt, ◌<◌, ◌≤◌, Bool, true, false, Option, None, Some, List, [], ◌∷◌, ◌++◌, length, replicate, take, slice_get, slice_set, if◌then◌else◌, is_some, refl, ap, ◌∙◌, ◌&&◌, ℤ, pos, neg_ℤ, ◌+ℤ◌, ◌-ℤ◌, arith}
+use Rattle.std.specs.List.{All, list_all}
+use Rattle.std.specs.Prelude.{int_le}
+use Rattle.std.specs.Prelude.{◌≤ℤ◌}
+use Rattle.std.proofs.lemmas.Int.{ints}
+use Rattle.std.proofs.lemmas.List.Elements.{All-cons, All-append, All-replicate}
+use Rattle.std.proofs.lemmas.List.{length-set, take-replicate}
+use Rattle.std.proofs.lemmas.Bool.{and_from, eq-eqb, ltb-true, false≢true, true≢false}
+use Rattle.plan_tables.specs.declared.devices.CounterSettings.{CounterSettings}
+use Rattle.plan_tables.specs.declared.devices.StepSettings.{StepSettings}
+use Rattle.plan_tables.specs.declared.devices.TimerSettings.{TimerSettings}
+use Rattle.plan_tables.specs.declared.devices.Settings.{Settings}
+use Rattle.plan_tables.specs.declared.devices.Settings.TheVariants as kinds
+use Rattle.plan_tables.specs.declared.devices.Direction.{Direction}
+use Rattle.plan_tables.specs.declared.devices.Direction.TheVariants.{Up, Down}
+use Rattle.plan_tables.specs.declared.devices.Act.{Act}
+use Rattle.plan_tables.specs.declared.devices.Act.TheVariants as acts
+use Rattle.plan_tables.specs.Devices.{IsEndWithin}
+use Rattle.device_objects.specs.declared.device.Call.{Call}
+use Rattle.device_objects.specs.declared.device.Call.TheVariants as calls
+use Rattle.device_objects.specs.declared.state.CounterSlot.{CounterSlot}
+use Rattle.device_objects.specs.declared.state.AccrualSlot.{AccrualSlot}
+use Rattle.device_objects.specs.declared.state.SequenceSlot.{SequenceSlot}
+use Rattle.device_objects.specs.declared.state.TimerState.{TimerState}
+use Rattle.device_objects.specs.declared.state.DeviceState.TheVariants as states
+use Rattle.device_objects.specs.declared.state.World.{World}
+use Rattle.device_objects.specs.Values.{clamped, is_at_end, moved}
+use Rattle.device_objects.specs.Slots.{updated, slot_in_use, is_of_other_game, step_in_use}
+use Rattle.device_objects.specs.Counter as counter
+use Rattle.device_objects.specs.Accrual as accrual
+use Rattle.device_objects.specs.Sequence as sequence
+use Rattle.device_objects.specs.Timer as timer
+use Rattle.device_objects.specs.DeviceStep.{first_state, device_step}
+use Rattle.device_objects.proofs.Shapes.{first-shape}
+use Rattle.device_objects.proofs.Answered.{completed-is}
+use Rattle.device_objects.specs.Laws.{IsAnswer, MayCome, OutcomesComeAbout}
+use Rattle.device_objects.specs.Outcomes.{silent, only_if, completing, going_on, resetting, of_counter, of_accrual, of_sequence, of_timer, of_timer_act, of_change, timer_completing}
+
+-- ---- values
+
+-- what is not far from 0 is not clamped
+near : (n : ℤ) → neg_ℤ (pos 2000000000) ≤ℤ n → n ≤ℤ pos 2000000000 → clamped n ≡ n
+unfolding clamped
+near n low high = grind (arith, ints)
+
+-- a value is moved to this one from some value
+moved_to : (direction : Direction) (by n : ℤ) → neg_ℤ (pos 2000000000) ≤ℤ n → n ≤ℤ pos 2000000000 → (value : ℤ) × (moved direction by value ≡ n)
+moved_to Up by n low high = (n -ℤ by, ap clamped (let e : (n -ℤ by) +ℤ by ≡ n = omega (arith, ints) in e) ∙ near n low high)
+moved_to Down by n low high = (n +ℤ by, ap clamped (let e : (n +ℤ by) -ℤ by ≡ n = omega (arith, ints) in e) ∙ near n low high)
+
+-- a value from which a move, this way or that, reaches the end
+ends_at : (go direction : Direction) (end : Option ℤ) (by : ℤ) → IsEndWithin end → is_some end ≡ true → (value : ℤ) × (is_at_end direction end (moved go by value) ≡ true)
+ends_at go direction None by within some = absurd (false≢true some)
+ends_at go Up (Some end) by within some =
+    let from = moved_to go by end (omega (arith, ints, within.0)) (omega (arith, ints, within.1)) in
+    (from.0, ap (int_le end) from.1 ∙ (let e : int_le end end ≡ true = grind (arith, ints) in e))
+ends_at go Down (Some end) by within some =
+    let from = moved_to go by end (omega (arith, ints, within.0)) (omega (arith, ints, within.1)) in
+    (from.0, ap (λ v. int_le v end) from.1 ∙ (let e : int_le end end ≡ true = grind (arith, ints) in e))
+
+-- a value from which a move does not reach the end
+goes_on_at : (direction : Direction) (end : Option ℤ) (by : ℤ) → IsEndWithin end → (value : ℤ) × (is_at_end direction end (moved direction by value) ≡ false)
+goes_on_at direction None by within = (pos 0, refl)
+goes_on_at Up (Some end) by within =
+    let from = moved_to Up by (end -ℤ pos 1) (omega (arith, ints, within.0)) (omega (arith, ints, within.1)) in
+    (from.0, ap (int_le end) from.1 ∙ (let e : int_le end (end -ℤ pos 1) ≡ false = grind (arith, ints) in e))
+goes_on_at Down (Some end) by within =
+    let from = moved_to Down by (end +ℤ pos 1) (omega (arith, ints, within.0)) (omega (arith, ints, within.1)) in
+    (from.0, ap (λ v. int_le v end) from.1 ∙ (let e : int_le (end +ℤ pos 1) end ≡ false = grind (arith, ints) in e))
+
+-- ---- lists of answers
+
+none : {X : Type 0} (P : X → Type 0) → All P []
+none P k d below = absurd (omega (arith, below))
+
+one : {X : Type 0} (P : X → Type 0) (x : X) → P x → All P (x ∷ [])
+one P x holds = All-cons P x [] holds (none P)
+
+all_if : (P : List ℕ → Type 0) (holds : Bool) (xs : List (List ℕ)) → (holds ≡ true → All P xs) → All P (only_if holds xs)
+all_if P true xs all = all refl
+all_if P false xs all = none P
+
+if_true : {S : Type 0} (test : Bool) (x y : S × List ℕ) → test ≡ true → (if test then x else y).1 ≡ x.1
+if_true true x y is = refl
+if_true false x y is = absurd (false≢true is)
+
+if_false : {S : Type 0} (test : Bool) (x y : S × List ℕ) → test ≡ false → (if test then x else y).1 ≡ y.1
+if_false true x y is = absurd (true≢false is)
+if_false false x y is = refl
+
+-- ---- slots
+
+-- player 1 in no game, and nobody
+abbrev alone : World
+alone = record { games = 0; player = 1 }
+
+abbrev nobody : World
+nobody = record { games = 0; player = 0 }
+
+in_use : {S : Type 0} (step : S → S × List ℕ) (slot : S) (persist : Bool) → (step_in_use step (replicate 4 slot) (slot_in_use persist alone)).1 ≡ (step slot).1
+in_use step slot true = refl
+in_use step slot false = refl
+
+by_nobody : {S : Type 0} (step : S → S × List ℕ) (slots : List S) (persist : Bool) → persist ≡ true → (step_in_use step slots (slot_in_use persist nobody)).1 ≡ []
+by_nobody step slots true is = refl
+by_nobody step slots false is = absurd (false≢true is)
+
+same_game : {S : Type 0} (persist : Bool) (other slot : S) → (if is_of_other_game persist alone 0 then other else slot) ≡ slot
+same_game true other slot = refl
+same_game false other slot = refl
+
+-- ---- counters
+
+abbrev counter_slot : Bool → ℤ → CounterSlot
+counter_slot enabled value = record { game = 0; enabled = enabled; value = value; last_hit = None }
+
+counter_answer : (c : CounterSettings) (act : Act) (lists : List ℕ) (enabled : Bool) (value : ℤ) → (counter.slot_step c act 0 (counter_slot enabled value)).1 ≡ lists
+    → IsAnswer (kinds.Counter c) (calls.Act act) lists
+counter_answer c act lists enabled value answers = record {
+  now = 0;
+  world = alone;
+  state = states.Counter (replicate 4 (counter_slot enabled value));
+  shape = refl;
+  may_come = tt;
+  answer = in_use (λ slot. counter.slot_step c act 0 (counter.current c alone slot)) (counter_slot enabled value) c.block.persist
+      ∙ ap (λ slot. (counter.slot_step c act 0 slot).1) (same_game c.block.persist (counter.first_slot c 0) (counter_slot enabled value)) ∙ answers;
+}
+
+counter_by_nobody : (c : CounterSettings) (act : Act) → c.block.persist ≡ true → IsAnswer (kinds.Counter c) (calls.Act act) []
+counter_by_nobody c act persist = record {
+  now = 0;
+  world = nobody;
+  state = states.Counter (counter.first_slots c);
+  shape = refl;
+  may_come = tt;
+  answer = by_nobody (λ slot. counter.slot_step c act 0 (counter.current c nobody slot)) (counter.first_slots c) c.block.persist persist;
+}
+
+counter_hits : (c : CounterSettings) → IsEndWithin c.complete → All (IsAnswer (kinds.Counter c) (calls.Act acts.Count)) (of_counter c acts.Count)
+counter_hits c within =
+    let Answer : List ℕ → Type 0 = IsAnswer (kinds.Counter c) (calls.Act acts.Count) in
+    let past : ℤ → CounterSlot = λ value. record (counter_slot true (moved c.direction c.interval value)) { last_hit = Some 0 } in
+    let going : Answer going_on =
+    (let from = goes_on_at c.direction c.complete c.interval within in
+    counter_answer c acts.Count going_on true from.0 (if_false (is_at_end c.direction c.complete (past from.0).value) (counter.completed c (past from.0), completing) (past from.0, going_on) from.1)) in
+    let done : is_some c.complete ≡ true → Answer completing =
+    (λ some. let from = ends_at c.direction c.direction c.complete c.interval within some in
+    counter_answer c acts.Count completing true from.0 (if_true (is_at_end c.direction c.complete (past from.0).value) (counter.completed c (past from.0), completing) (past from.0, going_on) from.1)) in
+    All-cons Answer [] (going_on ∷ only_if (is_some c.complete) (completing ∷ [])) (counter_answer c acts.Count [] false (pos 0) refl)
+    (All-cons Answer going_on (only_if (is_some c.complete) (completing ∷ [])) going (all_if Answer (is_some c.complete) (completing ∷ []) (λ some. one Answer completing (done some))))
+
+counter_resets : (c : CounterSettings) (act : Act) → IsAnswer (kinds.Counter c) (calls.Act act) (updated ∷ []) → All (IsAnswer (kinds.Counter c) (calls.Act act)) (resetting c.block)
+counter_resets c act resets = All-append (IsAnswer (kinds.Counter c) (calls.Act act)) (only_if c.block.persist silent) ((updated ∷ []) ∷ [])
+    (all_if (IsAnswer (kinds.Counter c) (calls.Act act)) c.block.persist silent (λ persist. one (IsAnswer (kinds.Counter c) (calls.Act act)) [] (counter_by_nobody c act persist)))
+    (one (IsAnswer (kinds.Counter c) (calls.Act act)) (updated ∷ []) resets)
+
+counter_acts : (c : CounterSettings) (act : Act) → IsEndWithin c.complete → All (IsAnswer (kinds.Counter c) (calls.Act act)) (of_counter c act)
+counter_acts c acts.Count within = counter_hits c within
+counter_acts c acts.Reset within = counter_resets c acts.Reset (counter_answer c acts.Reset (updated ∷ []) true (pos 0) refl)
+counter_acts c acts.Restart within = counter_resets c acts.Restart (counter_answer c acts.Restart (updated ∷ []) true (pos 0) refl)
+counter_acts c act within = one (IsAnswer (kinds.Counter c) (calls.Act act)) [] (counter_answer c act [] true (pos 0) refl)
+
+-- what answers in its first state, and is never due
+abbrev first_answer : (settings : Settings) (call : Call) (lists : List ℕ) → MayCome call (first_state settings) → (device_step settings call 0 alone (first_state settings)).1 ≡ lists → IsAnswer settings call lists
+first_answer settings call lists may answers = record { now = 0; world = alone; state = first_state settings; shape = first-shape settings; may_come = may; answer = answers }
+
+-- ---- accruals
+
+all_set : (n : ℕ) → list_all (λ d. d) (replicate n true) ≡ true
+all_set zero = refl
+all_set (suc n) = all_set n
+
+filled : (n i : ℕ) → slice_set (slice_set (replicate n true) i false) i true ≡ replicate n true
+filled zero i = refl
+filled (suc n) zero = refl
+filled (suc n) (suc i) = ap (λ marks. true ∷ marks) (filled n i)
+
+hole_at : (n i : ℕ) → i < n → slice_get (slice_set (replicate n true) i false) i ≡ Some false
+hole_at zero i below = absurd (omega (arith, below))
+hole_at (suc n) zero below = refl
+hole_at (suc n) (suc i) below = hole_at n i (omega (arith, below))
+
+open_at : (n i : ℕ) → i < n → slice_get (replicate n false) i ≡ Some false
+open_at zero i below = absurd (omega (arith, below))
+open_at (suc n) zero below = refl
+open_at (suc n) (suc i) below = open_at n i (omega (arith, below))
+
+some_left : (steps i : ℕ) → nat_lt 1 steps ≡ true → list_all (λ d. d) (take steps (slice_set accrual.none_done i true)) ≡ false
+some_left zero i several = absurd (false≢true several)
+some_left (suc zero) i several = absurd (false≢true several)
+some_left (suc (suc n)) zero several = refl
+some_left (suc (suc n)) (suc i) several = refl
+
+abbrev accrual_slot : Bool → List Bool → AccrualSlot
+accrual_slot enabled done = record { game = 0; enabled = enabled; done = done }
+
+accrual_answer : (a : StepSettings) (act : Act) (lists : List ℕ) (enabled : Bool) (done : List Bool) → length done ≡ 16 → (accrual.slot_step a act (accrual_slot enabled done)).1 ≡ lists
+    → IsAnswer (kinds.Accrual a) (calls.Act act) lists
+accrual_answer a act lists enabled done marks answers = record {
+  now = 0;
+  world = alone;
+  state = states.Accrual (replicate 4 (accrual_slot enabled done));
+  shape = (refl, All-replicate (λ (slot : AccrualSlot). length slot.done ≡ 16) 4 (accrual_slot enabled done) marks);
+  may_come = tt;
+  answer = in_use (λ slot. accrual.slot_step a act (accrual.current a alone slot)) (accrual_slot enabled done) a.block.persist
+      ∙ ap (λ slot. (accrual.slot_step a act slot).1) (same_game a.block.persist (accrual.first_slot a 0) (accrual_slot enabled done)) ∙ answers;
+}
+
+accrual_by_nobody : (a : StepSettings) (act : Act) → a.block.persist ≡ true → IsAnswer (kinds.Accrual a) (calls.Act act) []
+accrual_by_nobody a act persist = record {
+  now = 0;
+  world = nobody;
+  state = states.Accrual (accrual.first_slots a);
+  shape = first-shape (kinds.Accrual a);
+  may_come = tt;
+  answer = by_nobody (λ slot. accrual.slot_step a act (accrual.current a nobody slot)) (accrual.first_slots a) a.block.persist persist;
+}
+
+is_open : (a : StepSettings) (i : ℕ) (done : List Bool) → nat_lt i a.steps ≡ true → slice_get done i ≡ Some false → accrual.is_step_open a i done ≡ true
+is_open a i done below at = and_from (nat_lt i a.steps) (accrual.is_open (slice_get done i)) below (ap accrual.is_open at)
+
+accrual_goes_on : (a : StepSettings) (i : ℕ) → a.steps ≤ 16 → nat_lt i a.steps ≡ true → nat_lt 1 a.steps ≡ true → IsAnswer (kinds.Accrual a) (calls.Act (acts.Step i)) going_on
+accrual_goes_on a i within below several =
+    let small : i < a.steps = ltb-true i a.steps below in
+    let next : AccrualSlot = accrual_slot true (slice_set accrual.none_done i true) in
+    accrual_answer a (acts.Step i) going_on true accrual.none_done refl
+    (if_true (accrual.is_step_open a i accrual.none_done) (accrual.stepped a next) (accrual_slot true accrual.none_done, []) (is_open a i accrual.none_done below (open_at 16 i (omega (arith, small, within))))
+    ∙ if_false (accrual.are_all_done a next.done) (accrual.completed a next, completing) (next, going_on) (some_left a.steps i several))
+
+accrual_completes : (a : StepSettings) (i : ℕ) → a.steps ≤ 16 → nat_lt i a.steps ≡ true → IsAnswer (kinds.Accrual a) (calls.Act (acts.Step i)) completing
+accrual_completes a i within below =
+    let small : i < a.steps = ltb-true i a.steps below in
+    let done : List Bool = slice_set (replicate 16 true) i false in
+    let next : AccrualSlot = accrual_slot true (slice_set done i true) in
+    accrual_answer a (acts.Step i) completing true done (length-set (replicate 16 true) i false)
+    (if_true (accrual.is_step_open a i done) (accrual.stepped a next) (accrual_slot true done, []) (is_open a i done below (hole_at 16 i (omega (arith, small, within))))
+    ∙ if_true (accrual.are_all_done a next.done) (accrual.completed a next, completing) (next, going_on)
+    (ap (λ marks. list_all (λ d. d) (take a.steps marks)) (filled 16 i) ∙ ap (list_all (λ d. d)) (take-replicate a.steps 16 true within) ∙ all_set a.steps))
+
+accrual_resets : (a : StepSettings) (act : Act) → IsAnswer (kinds.Accrual a) (calls.Act act) (updated ∷ []) → All (IsAnswer (kinds.Accrual a) (calls.Act act)) (resetting a.block)
+accrual_resets a act resets = All-append (IsAnswer (kinds.Accrual a) (calls.Act act)) (only_if a.block.persist silent) ((updated ∷ []) ∷ [])
+    (all_if (IsAnswer (kinds.Accrual a) (calls.Act act)) a.block.persist silent (λ persist. one (IsAnswer (kinds.Accrual a) (calls.Act act)) [] (accrual_by_nobody a act persist)))
+    (one (IsAnswer (kinds.Accrual a) (calls.Act act)) (updated ∷ []) resets)
+
+accrual_acts : (a : StepSettings) (act : Act) → a.steps ≤ 16 → All (IsAnswer (kinds.Accrual a) (calls.Act act)) (of_accrual a act)
+accrual_acts a (acts.Step i) within =
+    let Answer : List ℕ → Type 0 = IsAnswer (kinds.Accrual a) (calls.Act (acts.Step i)) in
+    All-cons Answer [] (only_if (nat_lt i a.steps) (only_if (nat_lt 1 a.steps) (going_on ∷ []) ++ completing ∷ [])) (accrual_answer a (acts.Step i) [] false accrual.none_done refl refl)
+    (all_if Answer (nat_lt i a.steps) (only_if (nat_lt 1 a.steps) (going_on ∷ []) ++ completing ∷ []) (λ below. All-append Answer (only_if (nat_lt 1 a.steps) (going_on ∷ [])) (completing ∷ [])
+    (all_if Answer (nat_lt 1 a.steps) (going_on ∷ []) (λ several. one Answer going_on (accrual_goes_on a i within below several)))
+    (one Answer completing (accrual_completes a i within below))))
+accrual_acts a acts.Reset within = accrual_resets a acts.Reset (accrual_answer a acts.Reset (updated ∷ []) true accrual.none_done refl refl)
+accrual_acts a acts.Restart within = accrual_resets a acts.Restart (accrual_answer a acts.Restart (updated ∷ []) true accrual.none_done refl refl)
+accrual_acts a act within = one (IsAnswer (kinds.Accrual a) (calls.Act act)) [] (accrual_answer a act [] true accrual.none_done refl refl)
+
+-- ---- sequences
+
+abbrev sequence_slot : Bool → ℕ → SequenceSlot
+sequence_slot enabled next = record { game = 0; enabled = enabled; next = next }
+
+sequence_answer : (q : StepSettings) (act : Act) (lists : List ℕ) (enabled : Bool) (next : ℕ) → (sequence.slot_step q act (sequence_slot enabled next)).1 ≡ lists
+    → IsAnswer (kinds.Sequence q) (calls.Act act) lists
+sequence_answer q act lists enabled next answers = record {
+  now = 0;
+  world = alone;
+  state = states.Sequence (replicate 4 (sequence_slot enabled next));
+  shape = refl;
+  may_come = tt;
+  answer = in_use (λ slot. sequence.slot_step q act (sequence.current q alone slot)) (sequence_slot enabled next) q.block.persist
+      ∙ ap (λ slot. (sequence.slot_step q act slot).1) (same_game q.block.persist (sequence.first_slot q 0) (sequence_slot enabled next)) ∙ answers;
+}
+
+sequence_by_nobody : (q : StepSettings) (act : Act) → q.block.persist ≡ true → IsAnswer (kinds.Sequence q) (calls.Act act) []
+sequence_by_nobody q act persist = record {
+  now = 0;
+  world = nobody;
+  state = states.Sequence (sequence.first_slots q);
+  shape = refl;
+  may_come = tt;
+  answer = by_nobody (λ slot. sequence.slot_step q act (sequence.current q nobody slot)) (sequence.first_slots q) q.block.persist persist;
+}
+
+halves : {S : Type 0} (test : Bool) (x y : S) (a b : List ℕ) → (if◌then◌else◌ {A = S × List ℕ} test (x, a) (y, b)).1 ≡ (if test then a else b)
+halves true x y a b = refl
+halves false x y a b = refl
+
+sequence_takes : (q : StepSettings) (i : ℕ) → nat_lt i q.steps ≡ true → IsAnswer (kinds.Sequence q) (calls.Act (acts.Step i)) (if suc i == q.steps then completing else going_on)
+sequence_takes q i below =
+    let next : SequenceSlot = sequence_slot true (suc i) in
+    sequence_answer q (acts.Step i) (if suc i == q.steps then completing else going_on) true i
+    (if_true ((i == i) && nat_lt i q.steps) (sequence.stepped q next) (sequence_slot true i, []) (and_from (i == i) (nat_lt i q.steps) (eq-eqb i i refl) below)
+    ∙ halves (suc i == q.steps) (sequence.completed q next) next completing going_on)
+
+sequence_resets : (q : StepSettings) (act : Act) → IsAnswer (kinds.Sequence q) (calls.Act act) (updated ∷ []) → All (IsAnswer (kinds.Sequence q) (calls.Act act)) (resetting q.block)
+sequence_resets q act resets = All-append (IsAnswer (kinds.Sequence q) (calls.Act act)) (only_if q.block.persist silent) ((updated ∷ []) ∷ [])
+    (all_if (IsAnswer (kinds.Sequence q) (calls.Act act)) q.block.persist silent (λ persist. one (IsAnswer (kinds.Sequence q) (calls.Act act)) [] (sequence_by_nobody q act persist)))
+    (one (IsAnswer (kinds.Sequence q) (calls.Act act)) (updated ∷ []) resets)
+
+sequence_acts : (q : StepSettings) (act : Act) → All (IsAnswer (kinds.Sequence q) (calls.Act act)) (of_sequence q act)
+sequence_acts q (acts.Step i) =
+    let Answer : List ℕ → Type 0 = IsAnswer (kinds.Sequence q) (calls.Act (acts.Step i)) in
+    All-cons Answer [] (only_if (nat_lt i q.steps) ((if suc i == q.steps then completing else going_on) ∷ [])) (sequence_answer q (acts.Step i) [] false 0 refl)
+    (all_if Answer (nat_lt i q.steps) ((if suc i == q.steps then completing else going_on) ∷ []) (λ below. one Answer (if suc i == q.steps then completing else going_on) (sequence_takes q i below)))
+sequence_acts q acts.Reset = sequence_resets q acts.Reset (sequence_answer q acts.Reset (updated ∷ []) true 0 refl)
+sequence_acts q acts.Restart = sequence_resets q acts.Restart (sequence_answer q acts.Restart (updated ∷ []) true 0 refl)
+sequence_acts q act = one (IsAnswer (kinds.Sequence q) (calls.Act act)) [] (sequence_answer q act [] true 0 refl)
+
+-- ---- timers
+
+timer_answer : (t : TimerSettings) (call : Call) (lists : List ℕ) (s : TimerState) → MayCome call (states.Timer s) → (timer.timer_step t call 0 s).1 ≡ lists
+    → IsAnswer (kinds.Timer t) call lists
+timer_answer t call lists s may answers = record { now = 0; world = alone; state = states.Timer s; shape = tt; may_come = may; answer = answers }
+
+-- a timer that does not run, and one that does
+abbrev at_rest : ℤ → TimerState
+at_rest value = record { value = value; due = None }
+
+abbrev under_way : ℤ → TimerState
+under_way value = record { value = value; due = Some 0 }
+
+timer_ticks : (t : TimerSettings) → IsEndWithin t.end → All (IsAnswer (kinds.Timer t) calls.Fire) (of_timer t calls.Fire)
+timer_ticks t within =
+    let Answer : List ℕ → Type 0 = IsAnswer (kinds.Timer t) calls.Fire in
+    let past : ℤ → TimerState = λ value. under_way (moved t.direction (pos 1) value) in
+    let going : Answer (timer.tick ∷ []) =
+    (let from = goes_on_at t.direction t.end (pos 1) within in
+    timer_answer t calls.Fire (timer.tick ∷ []) (under_way from.0) refl
+    (ap (λ lists. timer.tick ∷ lists) (if_false (is_at_end t.direction t.end (past from.0).value) (timer.completed t 0 (past from.0)) (timer.run t 0 (past from.0), []) from.1))) in
+    let done : is_some t.end ≡ true → Answer (timer.tick ∷ timer_completing t) =
+    (λ some. let from = ends_at t.direction t.direction t.end (pos 1) within some in
+    timer_answer t calls.Fire (timer.tick ∷ timer_completing t) (under_way from.0) refl
+    (ap (λ lists. timer.tick ∷ lists) (if_true (is_at_end t.direction t.end (past from.0).value) (timer.completed t 0 (past from.0)) (timer.run t 0 (past from.0), []) from.1 ∙ completed-is t 0 (past from.0)))) in
+    All-cons Answer (timer.tick ∷ []) (only_if (is_some t.end) ((timer.tick ∷ timer_completing t) ∷ [])) going
+    (all_if Answer (is_some t.end) ((timer.tick ∷ timer_completing t) ∷ []) (λ some. one Answer (timer.tick ∷ timer_completing t) (done some)))
+
+two : (t : TimerSettings) (act : Act) (lists : List ℕ) → IsAnswer (kinds.Timer t) (calls.Act act) [] → IsAnswer (kinds.Timer t) (calls.Act act) lists
+    → All (IsAnswer (kinds.Timer t) (calls.Act act)) ([] ∷ lists ∷ [])
+two t act lists first second = All-cons (IsAnswer (kinds.Timer t) (calls.Act act)) [] (lists ∷ []) first (one (IsAnswer (kinds.Timer t) (calls.Act act)) lists second)
+
+-- a timer that runs completes where the value that the act gives it is at the end
+completes : (t : TimerSettings) (act : Act) (value after : ℤ) → timer.act_step t act 0 (under_way value) ≡ timer.changed t 0 (under_way after) → is_at_end t.direction t.end after ≡ true
+    → IsAnswer (kinds.Timer t) (calls.Act act) (timer_completing t)
+completes t act value after is ends = timer_answer t (calls.Act act) (timer_completing t) (under_way value) tt
+    (ap (λ answer. answer.1) is ∙ if_true (is_at_end t.direction t.end after) (timer.completed t 0 (under_way after)) (under_way after, []) ends ∙ completed-is t 0 (under_way after))
+
+timer_changes : (t : TimerSettings) (act : Act) (go : Direction) (n : ℤ) → IsEndWithin t.end → ((value : ℤ) → timer.act_step t act 0 (under_way value) ≡ timer.changed t 0 (under_way (moved go n value)))
+    → IsAnswer (kinds.Timer t) (calls.Act act) [] → All (IsAnswer (kinds.Timer t) (calls.Act act)) (of_change t)
+timer_changes t act go n within moves rests =
+    let Answer : List ℕ → Type 0 = IsAnswer (kinds.Timer t) (calls.Act act) in
+    All-cons Answer [] (only_if (is_some t.end) (timer_completing t ∷ [])) rests
+    (all_if Answer (is_some t.end) (timer_completing t ∷ []) (λ some. one Answer (timer_completing t)
+    (let from = ends_at go t.direction t.end n within some in completes t act from.0 (moved go n from.0) (moves from.0) from.1)))
+
+timer_acts : (t : TimerSettings) (act : Act) → IsEndWithin t.end → All (IsAnswer (kinds.Timer t) (calls.Act act)) (of_timer_act t act)
+timer_acts t acts.Start within = two t acts.Start (timer.started ∷ []) (timer_answer t (calls.Act acts.Start) [] (under_way (pos 0)) tt refl) (timer_answer t (calls.Act acts.Start) (timer.started ∷ []) (at_rest (pos 0)) tt refl)
+timer_acts t acts.Stop within = two t acts.Stop (timer.stopped ∷ []) (timer_answer t (calls.Act acts.Stop) [] (at_rest (pos 0)) tt refl) (timer_answer t (calls.Act acts.Stop) (timer.stopped ∷ []) (under_way (pos 0)) tt refl)
+timer_acts t acts.Pause within = two t acts.Pause (timer.paused ∷ []) (timer_answer t (calls.Act acts.Pause) [] (at_rest (pos 0)) tt refl) (timer_answer t (calls.Act acts.Pause) (timer.paused ∷ []) (under_way (pos 0)) tt refl)
+timer_acts t acts.Restart within = one (IsAnswer (kinds.Timer t) (calls.Act acts.Restart)) (timer.started ∷ []) (timer_answer t (calls.Act acts.Restart) (timer.started ∷ []) (at_rest (pos 0)) tt refl)
+timer_acts t (acts.Add n) within = timer_changes t (acts.Add n) Up n within (λ value. refl) (timer_answer t (calls.Act (acts.Add n)) [] (at_rest (pos 0)) tt refl)
+timer_acts t (acts.Subtract n) within = timer_changes t (acts.Subtract n) Down n within (λ value. refl) (timer_answer t (calls.Act (acts.Subtract n)) [] (at_rest (pos 0)) tt refl)
+timer_acts t (acts.Jump n) within =
+    let Answer : List ℕ → Type 0 = IsAnswer (kinds.Timer t) (calls.Act (acts.Jump n)) in
+    All-cons Answer [] (only_if (is_at_end t.direction t.end (clamped n)) (timer_completing t ∷ [])) (timer_answer t (calls.Act (acts.Jump n)) [] (at_rest (pos 0)) tt refl)
+    (all_if Answer (is_at_end t.direction t.end (clamped n)) (timer_completing t ∷ []) (λ ends. one Answer (timer_completing t) (completes t (acts.Jump n) (pos 0) (clamped n) refl ends)))
+timer_acts t act within = one (IsAnswer (kinds.Timer t) (calls.Act act)) [] (timer_answer t (calls.Act act) [] (at_rest (pos 0)) tt refl)
+
+timer_come_about : (t : TimerSettings) (call : Call) → IsEndWithin t.end → All (IsAnswer (kinds.Timer t) call) (of_timer t call)
+timer_come_about t calls.ModeStart within =
+    let anew : TimerState = record (at_rest (pos 0)) { value = t.start } in
+    one (IsAnswer (kinds.Timer t) calls.ModeStart) (if t.start_running then timer.started ∷ [] else [])
+    (timer_answer t calls.ModeStart (if t.start_running then timer.started ∷ [] else []) (at_rest (pos 0)) tt (halves t.start_running (timer.run t 0 anew) anew (timer.started ∷ []) []))
+timer_come_about t calls.ModeStop within = one (IsAnswer (kinds.Timer t) calls.ModeStop) [] (timer_answer t calls.ModeStop [] (at_rest (pos 0)) tt refl)
+timer_come_about t calls.Fire within = timer_ticks t within
+timer_come_about t (calls.Act act) within = timer_acts t act within
+
+pub outcomes_come_about : OutcomesComeAbout
+outcomes_come_about (kinds.Counter c) (calls.Act act) limits = counter_acts c act limits
+outcomes_come_about (kinds.Counter c) calls.ModeStart limits = one (IsAnswer (kinds.Counter c) calls.ModeStart) [] (first_answer (kinds.Counter c) calls.ModeStart [] tt refl)
+outcomes_come_about (kinds.Counter c) calls.ModeStop limits = one (IsAnswer (kinds.Counter c) calls.ModeStop) [] (first_answer (kinds.Counter c) calls.ModeStop [] tt refl)
+outcomes_come_about (kinds.Counter c) calls.Fire limits = none (IsAnswer (kinds.Counter c) calls.Fire)
+outcomes_come_about (kinds.Accrual a) (calls.Act act) limits = accrual_acts a act limits
+outcomes_come_about (kinds.Accrual a) calls.ModeStart limits = one (IsAnswer (kinds.Accrual a) calls.ModeStart) [] (first_answer (kinds.Accrual a) calls.ModeStart [] tt refl)
+outcomes_come_about (kinds.Accrual a) calls.ModeStop limits = one (IsAnswer (kinds.Accrual a) calls.ModeStop) [] (first_answer (kinds.Accrual a) calls.ModeStop [] tt refl)
+outcomes_come_about (kinds.Accrual a) calls.Fire limits = none (IsAnswer (kinds.Accrual a) calls.Fire)
+outcomes_come_about (kinds.Sequence q) (calls.Act act) limits = sequence_acts q act
+outcomes_come_about (kinds.Sequence q) calls.ModeStart limits = one (IsAnswer (kinds.Sequence q) calls.ModeStart) [] (first_answer (kinds.Sequence q) calls.ModeStart [] tt refl)
+outcomes_come_about (kinds.Sequence q) calls.ModeStop limits = one (IsAnswer (kinds.Sequence q) calls.ModeStop) [] (first_answer (kinds.Sequence q) calls.ModeStop [] tt refl)
+outcomes_come_about (kinds.Sequence q) calls.Fire limits = none (IsAnswer (kinds.Sequence q) calls.Fire)
+outcomes_come_about (kinds.Timer t) call limits = timer_come_about t call limits.1
