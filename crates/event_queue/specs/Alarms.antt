@@ -1,4 +1,5 @@
--- Alarms: for each row, by number, the moment at which it is due, if it is. An alarm is a moment and a row that is due then.
+-- Alarms: for each row, by number, the moment at which it is due, if it is. An alarm is a moment and a row that is due
+-- then.
 use Rattle.std.specs.Prelude.{◌≡◌, ℕ, ◌+◌, ◌≤◌, nat_lt, ◌==◌, ◌&&◌, ◌||◌, if◌then◌else◌, Bool, Option, None, Some, option_map, List, [], ◌∷◌, slice_index_or}
 use Rattle.plan_tables.specs.declared.devices.RowId.{RowId}
 
