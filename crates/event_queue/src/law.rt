@@ -1,5 +1,6 @@
-//! What holds after every list of calls of a queue, and of the handlers of every event.
+//! What holds after every list of calls of a queue, of the handlers of every event, and of alarms.
 
+ghost use Rattle.event_queue.specs.Alarms.{AlarmsGiveTheLeast};
 ghost use Rattle.event_queue.specs.Calls.{IsFirstInFirstOut, IsWithinSize};
 ghost use Rattle.event_queue.specs.PlanOrder.{HandlersAreInPlanOrder};
 
@@ -21,4 +22,13 @@ pub fn first_in_first_out()
 /// It does nothing: its contract is the law, over the order that `nth` gives.
 pub fn handlers_are_in_plan_order()
     ensures { HandlersAreInPlanOrder }
+{}
+
+/// The law of `Alarms`, for all due moments: where `least` gives nothing, no row is due. Where it
+/// gives a moment and a row, this row is due at this moment, no row is due before it, and no lower
+/// row is due at it.
+///
+/// It does nothing: its contract is the law, over the answer that `least` gives.
+pub fn alarms_give_the_least()
+    ensures { AlarmsGiveTheLeast }
 {}

@@ -1,0 +1,232 @@
+-- The least alarm is the one that the definition computes, and stays so where a row's due moment is set.
+use Rattle.std.proofs.Common.{◌≡◌, ◌≢◌, ℕ, zero, suc, ◌+◌, ◌<◌, ◌≤◌, ◌⊎◌, true, false, Option, Some, None, MatchOption, IfSome, List, [], ◌∷◌, length, replicate, slice_index_or, slice_set, refl, ap, ap₂, sym, subst, ◌∙◌, inl, inr, arith}
+use Rattle.std.proofs.lemmas.Bool.{cases_eq, cases_lt, cond_both, eqb-false}
+use Rattle.std.proofs.lemmas.Bool.Decides.{nat_tests}
+use Rattle.std.proofs.lemmas.Option.{none-some, same_Some}
+use Rattle.std.proofs.lemmas.List.{get_or_past, get_or-set_other, get_or-set_same}
+use Rattle.plan_tables.specs.declared.devices.RowId.{RowId}
+use Rattle.event_queue.specs.Alarms.{due_of, comes_before, first_of, alarm_of, least_from, least_of, IsLeast, AlarmsGiveTheLeast}
+use Rattle.event_queue.specs.Inside.{is_of}
+
+-- ---- the least alarm among some
+
+-- Of the rows and moments for which `Is` holds: the row is due at the moment, no row is due before it, and no lower row
+-- is due at it.
+pub record IsLeastOf (Is : ℕ → ℕ → Type 0) (moment row : ℕ) : Type 0 where
+  pub is : Is row moment
+  pub earliest : (r t : ℕ) → Is r t → moment ≤ t
+  pub lowest : (r t : ℕ) → Is r t → moment ≡ t → row ≤ r
+
+abbrev pub LeastAmong : (ℕ → ℕ → Type 0) → Option (ℕ × RowId) → Type 0
+LeastAmong Is o = MatchOption o ((r t : ℕ) → Is r t → ⊥) (λ a. IsLeastOf Is a.0 a.1.0)
+
+-- there is one at most
+unique : (Is : ℕ → ℕ → Type 0) (a b : Option (ℕ × RowId)) → LeastAmong Is a → LeastAmong Is b → a ≡ b
+unique Is None None p q = refl
+unique Is None (Some b) p q = absurd (p b.1.0 b.0 q.is)
+unique Is (Some a) None p q = absurd (q a.1.0 a.0 p.is)
+unique Is (Some a) (Some b) p q =
+    let below = p.earliest b.1.0 b.0 q.is in
+    let above = q.earliest a.1.0 a.0 p.is in
+    let same : a.0 ≡ b.0 = omega arith in
+    let lower = p.lowest b.1.0 b.0 q.is same in
+    let higher = q.lowest a.1.0 a.0 p.is (sym same) in
+    let row : a.1.0 ≡ b.1.0 = omega arith in
+    ap₂ (λ (moment number : ℕ). Some (moment, record { 0 = number })) same row
+
+-- it is the least among the same ones, said in another way
+agree : (P R : ℕ → ℕ → Type 0) (o : Option (ℕ × RowId)) → ((r t : ℕ) → P r t → R r t) → ((r t : ℕ) → R r t → P r t) → LeastAmong P o → LeastAmong R o
+agree P R None to from p = λ r t h. p r t (from r t h)
+agree P R (Some a) to from p = record {
+  is = to a.1.0 a.0 p.is;
+  earliest = λ r t h. p.earliest r t (from r t h);
+  lowest = λ r t h. p.lowest r t (from r t h);
+}
+
+-- ---- of two alarms the one that comes first
+
+before-is : (t u r s : ℕ) → comes_before (t, record { 0 = r }) (u, record { 0 = s }) ≡ true → (t ≤ u) × (t ≡ u → r ≤ s)
+before-is t u r s is = (grind (arith, nat_tests), λ same. grind (arith, nat_tests))
+
+before-not : (t u r s : ℕ) → comes_before (t, record { 0 = r }) (u, record { 0 = s }) ≡ false → (u ≤ t) × (u ≡ t → s ≤ r)
+before-not t u r s is = (grind (arith, nat_tests), λ same. grind (arith, nat_tests))
+
+-- all of `R` is in `P` or in `Q`, and the least of `P` does not come after any of `Q`
+first-is : (P Q R : ℕ → ℕ → Type 0) (moment row : ℕ) → ((r t : ℕ) → P r t → R r t) → ((r t : ℕ) → R r t → P r t ⊎ Q r t) → IsLeastOf P moment row → ((r t : ℕ) → Q r t → moment ≤ t) → ((r t : ℕ) → Q r t → moment ≡ t → row ≤ r) → IsLeastOf R moment row
+first-is P Q R moment row to split p early low = record {
+  is = to row moment p.is;
+  earliest = λ r t h. elim (split r t h) [ inl x ↦ p.earliest r t x | inr y ↦ early r t y ];
+  lowest = λ r t h. elim (split r t h) [ inl x ↦ p.lowest r t x | inr y ↦ low r t y ];
+}
+
+swap : (A B : Type 0) → A ⊎ B → B ⊎ A
+swap A B (inl a) = inr a
+swap A B (inr b) = inl b
+
+-- all of `P` and of `Q` is in `R`, and nothing else
+module _ (P Q R : ℕ → ℕ → Type 0) (from_P : (r t : ℕ) → P r t → R r t) (from_Q : (r t : ℕ) → Q r t → R r t) (split : (r t : ℕ) → R r t → P r t ⊎ Q r t) where
+  chosen : (a b : ℕ × RowId) → IsLeastOf P a.0 a.1.0 → IsLeastOf Q b.0 b.1.0 → LeastAmong R (first_of (Some a) (Some b))
+  chosen a b p q =
+      cond_both (comes_before b a) (Some b) (Some a) (LeastAmong R)
+      (λ e.
+      let first = before-is b.0 a.0 b.1.0 a.1.0 e in
+      first-is Q P R b.0 b.1.0 from_Q (λ r t h. swap (P r t) (Q r t) (split r t h)) q
+      (λ r t h. let le = p.earliest r t h in let ge = first.0 in omega arith)
+      (λ r t h same. let le = p.earliest r t h in let ge = first.0 in let lower = p.lowest r t h (omega arith) in let row = first.1 (omega arith) in omega arith))
+      (λ e.
+      let first = before-not b.0 a.0 b.1.0 a.1.0 e in
+      first-is P Q R a.0 a.1.0 from_P split p
+      (λ r t h. let le = q.earliest r t h in let ge = first.0 in omega arith)
+      (λ r t h same. let le = q.earliest r t h in let ge = first.0 in let lower = q.lowest r t h (omega arith) in let row = first.1 (omega arith) in omega arith))
+
+  first_of-least : (a b : Option (ℕ × RowId)) → LeastAmong P a → LeastAmong Q b → LeastAmong R (first_of a b)
+  first_of-least None None p q = λ r t h. elim (split r t h) [ inl x ↦ p r t x | inr y ↦ q r t y ]
+  first_of-least None (Some b) p q = first-is Q P R b.0 b.1.0 from_Q (λ r t h. swap (P r t) (Q r t) (split r t h)) q (λ r t h. absurd (p r t h)) (λ r t h same. absurd (p r t h))
+  first_of-least (Some a) None p q = first-is P Q R a.0 a.1.0 from_P split p (λ r t h. absurd (q r t h)) (λ r t h same. absurd (q r t h))
+  first_of-least (Some a) (Some b) p q = chosen a b p q
+
+-- the alarm of one row
+alarm_of-least : (row : RowId) (due : Option ℕ) → LeastAmong (λ r t. (r ≡ row.0) × (due ≡ Some t)) (alarm_of row due)
+alarm_of-least row None = λ r t h. none-some t h.1
+alarm_of-least row (Some moment) = record {
+  is = (refl, refl);
+  earliest = λ r t h. let same = same_Some moment t h.1 in omega arith;
+  lowest = λ r t h same. let here = h.0 in omega arith;
+}
+
+-- ---- among all rows
+
+abbrev pub IsDue : List (Option ℕ) → ℕ → ℕ → Type 0
+IsDue dues r t = slice_index_or dues r None ≡ Some t
+
+due_within : (dues : List (Option ℕ)) (r t : ℕ) → IsDue dues r t → r < length dues
+due_within dues r t h =
+    elim (cases_lt r (length dues)) [
+      | inl within ↦ within
+      | inr past ↦ absurd (none-some t (sym (get_or_past dues r None past) ∙ h))
+    ]
+
+-- a row is due, where the rows are numbered from k on
+record IsFrom (k : ℕ) (dues : List (Option ℕ)) (r t : ℕ) : Type 0 where
+  place : ℕ
+  at : r ≡ k + place
+  due : IsDue dues place t
+
+from-cons : (k : ℕ) (due : Option ℕ) (dues : List (Option ℕ)) (r t place : ℕ) → r ≡ k + place → IsDue (due ∷ dues) place t → ((r ≡ k) × (due ≡ Some t)) ⊎ IsFrom (k + 1) dues r t
+from-cons k due dues r t zero at is = inl (omega arith, is)
+from-cons k due dues r t (suc place) at is = inr (record { place = place; at = omega arith; due = is })
+
+least_from-least : (k : ℕ) (dues : List (Option ℕ)) → LeastAmong (IsFrom k dues) (least_from k dues)
+least_from-least k [] = λ r t h. none-some t h.due
+least_from-least k (due ∷ dues) =
+    first_of-least (λ r t. (r ≡ k) × (due ≡ Some t)) (IsFrom (k + 1) dues) (IsFrom k (due ∷ dues))
+    (λ r t h. let here = h.0 in record { place = 0; at = omega arith; due = h.1 })
+    (λ r t h. let at = h.at in record { place = suc h.place; at = omega arith; due = h.due })
+    (λ r t h. from-cons k due dues r t h.place h.at h.due)
+    (alarm_of (record { 0 = k }) due) (least_from (k + 1) dues)
+    (alarm_of-least (record { 0 = k }) due) (least_from-least (k + 1) dues)
+
+pub least_of-least : (dues : List (Option ℕ)) → LeastAmong (IsDue dues) (least_of dues)
+least_of-least dues =
+    agree (IsFrom 0 dues) (IsDue dues) (least_of dues)
+    (λ r t h. let at : r ≡ h.place = let is = h.at in omega arith in ap (λ n. slice_index_or dues n None) at ∙ h.due)
+    (λ r t h. record { place = r; at = omega arith; due = h }) (least_from-least 0 dues)
+
+pub least_of-is : (dues : List (Option ℕ)) (o : Option (ℕ × RowId)) → LeastAmong (IsDue dues) o → o ≡ least_of dues
+least_of-is dues o least = unique (IsDue dues) o (least_of dues) least (least_of-least dues)
+
+-- ---- a walk over the rows
+
+-- the least among the rows below the i-th
+abbrev pub LeastBelow : List (Option ℕ) → ℕ → Option (ℕ × RowId) → Type 0
+LeastBelow dues i o = LeastAmong (λ r t. (r < i) × IsDue dues r t) o
+
+pub least_below-none : (dues : List (Option ℕ)) → LeastBelow dues 0 None
+least_below-none dues = λ r t h. let below = h.0 in absurd (omega arith)
+
+below-more : (dues : List (Option ℕ)) (i r t : ℕ) (due : Option ℕ) → due ≡ slice_index_or dues i None → (r < i + 1) × IsDue dues r t → ((r < i) × IsDue dues r t) ⊎ ((r ≡ i) × (due ≡ Some t))
+below-more dues i r t due at h =
+    let below = h.0 in
+    elim (cases_lt r i) [
+      | inl less ↦ inl (less, h.1)
+      | inr reached ↦ let here : r ≡ i = omega arith in inr (here, at ∙ ap (λ n. slice_index_or dues n None) (sym here) ∙ h.1)
+    ]
+
+pub least_below-more : (dues : List (Option ℕ)) (i : ℕ) (o : Option (ℕ × RowId)) (due : Option ℕ) → due ≡ slice_index_or dues i None → LeastBelow dues i o → LeastBelow dues (i + 1) (first_of o (alarm_of (record { 0 = i }) due))
+least_below-more dues i o due at least =
+    first_of-least (λ r t. (r < i) × IsDue dues r t) (λ r t. (r ≡ i) × (due ≡ Some t)) (λ r t. (r < i + 1) × IsDue dues r t)
+    (λ r t h. let below = h.0 in (omega arith, h.1))
+    (λ r t h. let here = h.0 in (omega arith, ap (λ n. slice_index_or dues n None) here ∙ sym at ∙ h.1))
+    (λ r t h. below-more dues i r t due at h)
+    o (alarm_of (record { 0 = i }) due) least (alarm_of-least (record { 0 = i }) due)
+
+pub least_below-all : (dues : List (Option ℕ)) (i : ℕ) (o : Option (ℕ × RowId)) → length dues ≤ i → LeastBelow dues i o → o ≡ least_of dues
+least_below-all dues i o past least =
+    least_of-is dues o
+    (agree (λ r t. (r < i) × IsDue dues r t) (IsDue dues) o (λ r t h. h.1)
+    (λ r t h. let within = due_within dues r t h in (omega arith, h)) least)
+
+-- ---- a row is set that was not the least
+
+others-least : (dues : List (Option ℕ)) (row : RowId) (o : Option (ℕ × RowId)) → is_of o row ≡ false → LeastAmong (IsDue dues) o → LeastAmong (λ r t. (r ≢ row.0) × IsDue dues r t) o
+others-least dues row None not p = λ r t h. p r t h.1
+others-least dues row (Some a) not p = record {
+  is = (eqb-false a.1.0 row.0 not, p.is);
+  earliest = λ r t h. p.earliest r t h.1;
+  lowest = λ r t h. p.lowest r t h.1;
+}
+
+module _ (dues : List (Option ℕ)) (row : RowId) (due : Option ℕ) (within : row.0 < length dues) where
+  set-cases : (r t : ℕ) → IsDue (slice_set dues row.0 due) r t → ((r ≢ row.0) × IsDue dues r t) ⊎ ((r ≡ row.0) × (due ≡ Some t))
+  set-cases r t h =
+      elim (cases_eq r row.0) [
+        | inl here ↦ inr (here, sym (get_or-set_same dues row.0 due None within) ∙ ap (λ n. slice_index_or (slice_set dues row.0 due) n None) (sym here) ∙ h)
+        | inr other ↦ inl (other, sym (get_or-set_other dues row.0 r due None other) ∙ h)
+      ]
+
+  pub set-least : (o : Option (ℕ × RowId)) → is_of o row ≡ false → o ≡ least_of dues → first_of o (alarm_of row due) ≡ least_of (slice_set dues row.0 due)
+  set-least o not is =
+      least_of-is (slice_set dues row.0 due) (first_of o (alarm_of row due))
+      (first_of-least (λ r t. (r ≢ row.0) × IsDue dues r t) (λ r t. (r ≡ row.0) × (due ≡ Some t)) (IsDue (slice_set dues row.0 due))
+      (λ r t h. get_or-set_other dues row.0 r due None h.0 ∙ h.1)
+      (λ r t h. ap (λ n. slice_index_or (slice_set dues row.0 due) n None) h.0 ∙ get_or-set_same dues row.0 due None within ∙ h.1)
+      set-cases
+      o (alarm_of row due)
+      (others-least dues row o not (subst (LeastAmong (IsDue dues)) (sym is) (least_of-least dues))) (alarm_of-least row due))
+
+-- ---- no row is due
+
+none_from : (k n : ℕ) → least_from k (replicate n None) ≡ None
+none_from k zero = refl
+none_from k (suc n) = none_from (k + 1) n
+
+pub none_of : (n : ℕ) → None ≡ least_of (replicate n None)
+none_of n = sym (none_from 0 n)
+
+-- ---- the row that `least` gives
+
+pub answer-within : (dues : List (Option ℕ)) (o : Option (ℕ × RowId)) → LeastAmong (IsDue dues) o → IfSome o (λ alarm. alarm.1.0 < length dues)
+answer-within dues None p = tt
+answer-within dues (Some a) p = due_within dues a.1.0 a.0 p.is
+
+pub least-within : (dues : List (Option ℕ)) (o : Option (ℕ × RowId)) → o ≡ least_of dues → IfSome o (λ alarm. alarm.1.0 < length dues)
+least-within dues o is = answer-within dues o (subst (LeastAmong (IsDue dues)) (sym is) (least_of-least dues))
+
+-- ---- the law
+
+nothing_due : (o : Option ℕ) → ((t : ℕ) → o ≡ Some t → ⊥) → o ≡ None
+nothing_due None h = refl
+nothing_due (Some t) h = absurd (h t refl)
+
+none_due : (dues : List (Option ℕ)) → least_of dues ≡ None → (row : RowId) → due_of dues row ≡ None
+none_due dues is row =
+    let none : (r t : ℕ) → IsDue dues r t → ⊥ = subst (LeastAmong (IsDue dues)) is (least_of-least dues) in
+    nothing_due (due_of dues row) (none row.0)
+
+is_least : (dues : List (Option ℕ)) (moment : ℕ) (row : RowId) → least_of dues ≡ Some (moment, row) → IsLeast dues moment row
+is_least dues moment row is =
+    let least : IsLeastOf (IsDue dues) moment row.0 = subst (LeastAmong (IsDue dues)) is (least_of-least dues) in
+    record { due = least.is; earliest = λ other at h. least.earliest other.0 at h; lowest = λ other h. least.lowest other.0 moment h refl }
+
+pub alarms_give_the_least : AlarmsGiveTheLeast
+alarms_give_the_least = record { none = none_due; least = is_least }
