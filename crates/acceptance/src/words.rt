@@ -1,6 +1,6 @@
 //! The words of the command line.
 
-use pinball_shell::{AskFault, command};
+use command_line::{AskFault, command};
 use std::alloc::{AllocError, Global};
 use std::test::Fail;
 

@@ -1,10 +1,11 @@
 //! The program `pinball`: words, files and the exit status. All else is in the libraries.
 #![tactic(auto)]
 
+use command_line::{Ask, AskFault, command};
 use mpf_config::{ConfigFault, MACHINE_NAME, mode_names, mode_text_name};
 use pinball_shell::{
-    Ask, AskFault, BUNDLE_LIMIT, Failure, ShellFault, Verdict, check_text, command, join,
-    load_text, play_text, read_all, status, verify_text,
+    BUNDLE_LIMIT, Failure, ShellFault, Verdict, check_text, join, load_text, play_text, read_all,
+    status, verify_text,
 };
 use std::alloc::{AllocError, Global};
 use std::io::{self, BufWriter, ErrorKind, Read, Write};

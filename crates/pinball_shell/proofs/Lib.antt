@@ -1,4 +1,3 @@
-pub mod Words
 pub mod FirstPlace
 pub mod TextLines
 pub mod LineWords

@@ -2,7 +2,6 @@ pub mod Status
 pub mod Reply
 pub mod CheckOutput
 pub mod CheckVerified
-pub mod CommandLine
 pub mod Joined
 pub mod LogText
 pub mod RunOfLog

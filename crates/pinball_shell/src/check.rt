@@ -1,6 +1,6 @@
 //! A bundle is read and checked, and the reply to it is written.
 
-ghost use Rattle.std.specs.Prelude.{◌≡◌, ◌≢◌, ◌<◌, ◌≤◌, IfOk, OnOk, IfErr, IfSome, IsSome, IsErrOf, length, map, option_map, ◌⊎◌};
+ghost use Rattle.std.specs.Prelude.{◌≡◌, ◌≢◌, ◌^◌, ◌<◌, ◌≤◌, IfOk, OnOk, IfErr, IfSome, IsSome, IsErrOf, length, map, option_map, ◌⊎◌};
 ghost use Rattle.std.specs.Io.KnownBytes.{Appends, Keeps};
 ghost use Rattle.mpf_config.specs.View.{rows_view, note_view};
 ghost use Rattle.mpf_config.specs.Reading.{rows_at};
@@ -46,8 +46,8 @@ pub fn check_text<R: Read, W: Write>(
     ensures written { OnOk result (IfSome (R.remaining reader.old)
         (λ bundle. Appends (W.contents writer.old) (W.contents writer.new) (check_output bundle))) }
     ensures silent { IfErr result (λ e. e ≢ ShellFault.Write → Keeps (W.contents writer.old) (W.contents writer.new)) }
-    ensures within { OnOk result (IfSome (R.remaining reader.old) (λ bundle. length bundle ≤ BUNDLE_LIMIT)) }
-    ensures too_long { IsErrOf result ShellFault.TooLong → IfSome (R.remaining reader.old) (λ bundle. BUNDLE_LIMIT < length bundle) }
+    ensures within { OnOk result (IfSome (R.remaining reader.old) (λ bundle. length bundle ≤ 2 ^ 23)) }
+    ensures too_long { IsErrOf result ShellFault.TooLong → IfSome (R.remaining reader.old) (λ bundle. 2 ^ 23 < length bundle) }
 {
     let reply = check_bundle(alloc, reader)?;
     match write_checked(&reply, writer) {
@@ -73,9 +73,9 @@ pub fn verify_text<R: Read, Q: Read, W: Write>(
     ensures written { OnOk result (IfSome (R.remaining bundle.old) (λ text. IfSome (Q.remaining certificate.old)
         (λ stated. Appends (W.contents writer.old) (W.contents writer.new) (verify_output stated text)))) }
     ensures silent { IfErr result (λ e. e ≢ ShellFault.Write → Keeps (W.contents writer.old) (W.contents writer.new)) }
-    ensures within { OnOk result (IfSome (R.remaining bundle.old) (λ text. length text ≤ BUNDLE_LIMIT) × IfSome (Q.remaining certificate.old) (λ stated. length stated ≤ CERTIFICATE_LIMIT)) }
+    ensures within { OnOk result (IfSome (R.remaining bundle.old) (λ text. length text ≤ 2 ^ 23) × IfSome (Q.remaining certificate.old) (λ stated. length stated ≤ 2 ^ 20)) }
     ensures too_long { IsErrOf result ShellFault.TooLong →
-        IfSome (R.remaining bundle.old) (λ text. BUNDLE_LIMIT < length text) ⊎ IfSome (Q.remaining certificate.old) (λ stated. CERTIFICATE_LIMIT < length stated) }
+        IfSome (R.remaining bundle.old) (λ text. 2 ^ 23 < length text) ⊎ IfSome (Q.remaining certificate.old) (λ stated. 2 ^ 20 < length stated) }
 {
     let reply = verify_bundle(alloc, bundle, certificate)?;
     match write_verified(&reply, writer) {
@@ -97,8 +97,8 @@ pub fn load_text<R: Read, W: Write>(
         (λ bundle. Appends (W.contents writer.old) (W.contents writer.new) (load_output bundle))) }
     ensures quiet { IfOk result (λ loaded. IsSome loaded → Keeps (W.contents writer.old) (W.contents writer.new)) }
     ensures silent { IfErr result (λ e. e ≢ ShellFault.Write → Keeps (W.contents writer.old) (W.contents writer.new)) }
-    ensures within { OnOk result (IfSome (R.remaining reader.old) (λ bundle. length bundle ≤ BUNDLE_LIMIT)) }
-    ensures too_long { IsErrOf result ShellFault.TooLong → IfSome (R.remaining reader.old) (λ bundle. BUNDLE_LIMIT < length bundle) }
+    ensures within { OnOk result (IfSome (R.remaining reader.old) (λ bundle. length bundle ≤ 2 ^ 23)) }
+    ensures too_long { IsErrOf result ShellFault.TooLong → IfSome (R.remaining reader.old) (λ bundle. 2 ^ 23 < length bundle) }
 {
     let reply = check_bundle(alloc, reader)?;
     if reply.answer.is_err() && write_checked(&reply, writer).is_err() {
@@ -110,8 +110,8 @@ pub fn load_text<R: Read, W: Write>(
 /// Reads a bundle and checks it. Fails by memory and by the reader, and where it is too long.
 fn check_bundle<R: Read>(alloc: Global, reader: &mut R) -> Result<Reply, ShellFault>
     ensures exact { IfOk result (λ reply. IfSome (R.remaining reader.old) (λ bundle. reply_to bundle ≡ reply_view reply)) }
-    ensures within { OnOk result (IfSome (R.remaining reader.old) (λ bundle. length bundle ≤ BUNDLE_LIMIT)) }
-    ensures too_long { IsErrOf result ShellFault.TooLong → IfSome (R.remaining reader.old) (λ bundle. BUNDLE_LIMIT < length bundle) }
+    ensures within { OnOk result (IfSome (R.remaining reader.old) (λ bundle. length bundle ≤ 2 ^ 23)) }
+    ensures too_long { IsErrOf result ShellFault.TooLong → IfSome (R.remaining reader.old) (λ bundle. 2 ^ 23 < length bundle) }
     ensures reads_only { IfErr result (λ e. e ≢ ShellFault.Write) }
 {
     let bundle = read_all(alloc, reader, BUNDLE_LIMIT)?;
@@ -126,9 +126,9 @@ fn verify_bundle<R: Read, Q: Read>(
     certificate: &mut Q,
 ) -> Result<Reply, ShellFault>
     ensures exact { IfOk result (λ reply. IfSome (R.remaining bundle.old) (λ text. IfSome (Q.remaining certificate.old) (λ stated. reply_with stated text ≡ reply_view reply))) }
-    ensures within { OnOk result (IfSome (R.remaining bundle.old) (λ text. length text ≤ BUNDLE_LIMIT) × IfSome (Q.remaining certificate.old) (λ stated. length stated ≤ CERTIFICATE_LIMIT)) }
+    ensures within { OnOk result (IfSome (R.remaining bundle.old) (λ text. length text ≤ 2 ^ 23) × IfSome (Q.remaining certificate.old) (λ stated. length stated ≤ 2 ^ 20)) }
     ensures too_long { IsErrOf result ShellFault.TooLong →
-        IfSome (R.remaining bundle.old) (λ text. BUNDLE_LIMIT < length text) ⊎ IfSome (Q.remaining certificate.old) (λ stated. CERTIFICATE_LIMIT < length stated) }
+        IfSome (R.remaining bundle.old) (λ text. 2 ^ 23 < length text) ⊎ IfSome (Q.remaining certificate.old) (λ stated. 2 ^ 20 < length stated) }
     ensures reads_only { IfErr result (λ e. e ≢ ShellFault.Write) }
 {
     let text = read_all(alloc, bundle, BUNDLE_LIMIT)?;

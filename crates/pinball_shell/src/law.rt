@@ -1,10 +1,9 @@
 //! What holds of all that is printed and played.
 
+ghost use Rattle.std.specs.Prelude.{◌^◌};
 ghost use Rattle.pinball_shell.specs.CheckVerified.{AcceptedIsAcceptedAgain, AcceptedIsPrintedAgain, AcceptedIsShort};
 ghost use Rattle.pinball_shell.specs.RunGiven.{GivesOneList};
 ghost use Rattle.pinball_shell.specs.SamePlay.{PlaysTheSame};
-
-use crate::check::CERTIFICATE_LIMIT;
 
 /// The law of printed certificates, for all bundles. If `check_text` says yes to a bundle, it
 /// prints the notes, `yes` and a certificate. With that certificate `verify_text` says yes to the
@@ -15,7 +14,7 @@ use crate::check::CERTIFICATE_LIMIT;
 pub fn printed_certificate_is_verified()
     ensures accepted { AcceptedIsAcceptedAgain }
     ensures printed { AcceptedIsPrintedAgain }
-    ensures short { AcceptedIsShort CERTIFICATE_LIMIT }
+    ensures short { AcceptedIsShort (2 ^ 20) }
 {}
 
 /// The law of certificates in play. `play_text` writes the same for every log, and gives the same

@@ -2,7 +2,6 @@
 #![tactic(auto)]
 
 pub mod check;
-pub mod command_line;
 pub mod fault;
 pub mod law;
 mod log_line;
@@ -13,7 +12,6 @@ pub mod text;
 mod trace;
 
 pub use check::{BUNDLE_LIMIT, check_text, load_text, verify_text};
-pub use command_line::{Ask, AskFault, command};
 pub use fault::{Failure, ShellFault, Verdict, status};
 pub use law::{
     any_certificate_plays_the_same, log_gives_one_list_of_stimuli, printed_certificate_is_verified,

@@ -54,8 +54,8 @@ pub fn play_text<R: Read, W: Write>(
     ensures run { OnOk result (IfSome (R.remaining reader.old)
         (λ log. IsRunOfLog checked.now.plan log (traced (printed_for_log checked.now.plan checked.now.bound log)))) }
     ensures silent { IfErr result (λ e. e ≢ ShellFault.Write → Keeps (W.contents writer.old) (W.contents writer.new)) }
-    ensures within { OnOk result (IfSome (R.remaining reader.old) (λ log. length log ≤ LOG_LIMIT)) }
-    ensures too_long { IsErrOf result ShellFault.TooLong → IfSome (R.remaining reader.old) (λ log. LOG_LIMIT < length log) }
+    ensures within { OnOk result (IfSome (R.remaining reader.old) (λ log. length log ≤ 2 ^ 24)) }
+    ensures too_long { IsErrOf result ShellFault.TooLong → IfSome (R.remaining reader.old) (λ log. 2 ^ 24 < length log) }
 {
     let log = read_all(alloc, reader, LOG_LIMIT)?;
     play_log(alloc, checked, &log, writer)
@@ -68,7 +68,7 @@ fn play_log<W: Write>(
     log: &[u8],
     writer: &mut W,
 ) -> Result<Verdict, ShellFault>
-    requires { length log.now ≤ LOG_LIMIT }
+    requires { length log.now ≤ 2 ^ 24 }
     ensures written { OnOk result (Appends (W.contents writer.old) (W.contents writer.new) (trace_text checked.now.plan checked.now.bound log.now)) }
     ensures verdict { IfOk result (λ v. v ≡ log_verdict (printed_for_log checked.now.plan checked.now.bound log.now)) }
     ensures run { IsRunOfLog checked.now.plan log.now (traced (printed_for_log checked.now.plan checked.now.bound log.now)) }
@@ -90,7 +90,7 @@ fn play_lines<W: Write>(
     log: &[u8],
     writer: &mut W,
 ) -> io::Result<Verdict>
-    requires log { length log.now ≤ LOG_LIMIT }
+    requires log { length log.now ≤ 2 ^ 24 }
     requires rig { IsRigOf plan.now rig.old }
     ensures { IfOk result (λ v. AreLinesPlayed plan.now rig.old.checked.bound log.now rig.old.machine (W.contents writer.old) (W.contents writer.new) v) }
 {

@@ -1,6 +1,6 @@
 //! A text is read whole before it is checked, and texts are joined to a bundle.
 
-ghost use Rattle.std.specs.Prelude.{◌≡◌, ◌≢◌, ◌<◌, ◌≤◌, IfOk, OnOk, IfErr, IfSome, IsErrOf, vec_len, length, ◌⊎◌};
+ghost use Rattle.std.specs.Prelude.{◌≡◌, ◌≢◌, ◌^◌, ◌<◌, ◌≤◌, IfOk, OnOk, IfErr, IfSome, IsErrOf, vec_len, length, ◌⊎◌};
 ghost use Rattle.std.specs.Io.KnownBytes.{IsAtEnd};
 ghost use Rattle.pinball_shell.specs.Joined.{joined, line_end};
 
@@ -54,8 +54,8 @@ pub fn read_all<R: Read>(alloc: Global, reader: &mut R, limit: usize) -> Result<
 /// - `NoMemory`: there is no room for it.
 pub fn join(alloc: Global, bundle: &[u8], name: &[u8], text: &[u8]) -> Result<Vec<u8>, ShellFault>
     ensures joined { IfOk result (λ all. all.items ≡ joined bundle.now name.now text.now) }
-    ensures within { IfOk result (λ all. vec_len all ≤ BUNDLE_LIMIT) }
-    ensures too_long { IsErrOf result ShellFault.TooLong → BUNDLE_LIMIT < length (joined bundle.now name.now text.now) }
+    ensures within { IfOk result (λ all. vec_len all ≤ 2 ^ 23) }
+    ensures too_long { IsErrOf result ShellFault.TooLong → 2 ^ 23 < length (joined bundle.now name.now text.now) }
     ensures only { IfErr result (λ e. (e ≡ ShellFault.TooLong) ⊎ (e ≡ ShellFault.NoMemory)) }
 {
     let end = line_end(text);

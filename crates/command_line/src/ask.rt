@@ -2,8 +2,8 @@
 
 ghost use Rattle.std.specs.Prelude.{◌≡◌, ℕ, List, [], ◌∷◌, Some, true, false, IfOk, IfErr, IsSome, map, option_map, None, codes, string_bytes};
 ghost use Rattle.clap.specs.Words.{app_of, kind_of, rule_of, subcommand_rows_of};
-ghost use Rattle.pinball_shell.specs.CommandLine.{path_rule, folder_rule, pinball_app, check, verify, play, ask_view, asked_by, asked_of, asked_at, is_command_line, begins_with_hyphen, Asks};
-ghost use Rattle.pinball_shell.specs.declared.command_line.AskFault.TheVariants.{NoMemory};
+ghost use Rattle.command_line.specs.CommandLine.{path_rule, folder_rule, pinball_app, check, verify, play, ask_view, asked_by, asked_of, asked_at, begins_with_hyphen, Asks};
+ghost use Rattle.command_line.specs.declared.ask.AskFault.TheVariants.{NoMemory};
 
 use clap::error::ErrorKind;
 use clap::{Arg, ArgAction, ArgMatches, Command, Error};
@@ -69,15 +69,15 @@ pub fn command(alloc: Global, words: Vec<String>) -> Result<Ask, AskFault>
     ensures plays { (log : List ℕ) → begins_with_hyphen log ≡ false → map string_bytes words.items ≡ codes "play" ∷ log ∷ [] → Asks (play log None) result }
     ensures plays_folder { (log folder : List ℕ) → begins_with_hyphen log ≡ false → begins_with_hyphen folder ≡ false
         → map string_bytes words.items ≡ codes "play" ∷ log ∷ folder ∷ [] → Asks (play log (Some folder)) result }
-    ensures only { IfErr result (λ fault. is_command_line (map string_bytes words.items) ≡ true → IsSome (asked_at (map string_bytes words.items)) → fault ≡ AskFault.NoMemory) }
+    ensures only { IfErr result (λ fault. IsSome (asked_at (map string_bytes words.items)) → fault ≡ AskFault.NoMemory) }
 {
     read_words(alloc, &words)
 }
 
-/// What the words ask for. Words that are in order, and ask for something, fail only by memory.
+/// What the words ask for. Words that ask for something fail only by memory.
 fn read_words(alloc: Global, words: &[String]) -> Result<Ask, AskFault>
     ensures asked { IfOk result (λ ask. asked_at (map string_bytes words.now) ≡ Some (ask_view ask)) }
-    ensures only { IfErr result (λ fault. is_command_line (map string_bytes words.now) ≡ true → IsSome (asked_at (map string_bytes words.now)) → fault ≡ AskFault.NoMemory) }
+    ensures only { IfErr result (λ fault. IsSome (asked_at (map string_bytes words.now)) → fault ≡ AskFault.NoMemory) }
 {
     match pinball(alloc)?.try_get_matches_from(words) {
         Ok(matches) => ask_of(alloc, &matches),

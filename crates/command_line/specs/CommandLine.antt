@@ -2,12 +2,12 @@
 use Rattle.std.specs.Prelude.{◌≡◌, ◌==◌, ℕ, Bool, true, false, List, [], ◌∷◌, Option, Some, None, Result, Ok, Err, option_map, option_and_then, if◌then◌else◌, codes, string_bytes}
 use Rattle.std.specs.Str.{bytes_eq}
 use Rattle.clap.specs.Simple.{on_top}
-use Rattle.clap.specs.Words.{App, Row, Rule, Text, first_of, new_app, new_rule, subcommand_of, takes, with_rule, with_subcommand}
+use Rattle.clap.specs.Words.{App, Kinds, Row, Rule, Text, fault_of, first_of, new_app, new_rule, subcommand_of, with_rule, with_subcommand}
 use Rattle.clap.specs.declared.builder.action.ArgAction.TheVariants.{Set}
-use Rattle.pinball_shell.specs.declared.command_line.Ask.{Ask}
-use Rattle.pinball_shell.specs.declared.command_line.Ask.TheVariants.{Check, Verify, Play}
-use Rattle.pinball_shell.specs.declared.command_line.AskFault.{AskFault}
-use Rattle.pinball_shell.specs.declared.command_line.AskFault.TheVariants.{NoMemory}
+use Rattle.command_line.specs.declared.ask.Ask.{Ask}
+use Rattle.command_line.specs.declared.ask.Ask.TheVariants.{Check, Verify, Play}
+use Rattle.command_line.specs.declared.ask.AskFault.{AskFault}
+use Rattle.command_line.specs.declared.ask.AskFault.TheVariants.{NoMemory}
 
 -- ---- the command line
 
@@ -65,13 +65,14 @@ asked_by name path folder =
 abbrev pub asked_of : Option (Text × List Row) → Option AskView
 asked_of met = option_and_then (λ p. asked_by p.0 (first_of (codes "path") p.1) (first_of (codes "folder") p.1)) met
 
--- what the words ask for
-unfoldable pub asked_at : List Text → Option AskView
-asked_at words = asked_of (subcommand_of pinball_app words)
+-- this, where nothing is wrong with the words
+abbrev pub where_no_fault : Kinds → Option AskView → Option AskView
+where_no_fault [] asked = asked
+where_no_fault (kind ∷ more) asked = None
 
--- the words are in order
-unfoldable pub is_command_line : List Text → Bool
-is_command_line words = takes pinball_app words
+-- what the words ask for: nothing where `clap` finds a fault in them, such as a word too many
+unfoldable pub asked_at : List Text → Option AskView
+asked_at words = where_no_fault (fault_of pinball_app words) (asked_of (subcommand_of pinball_app words))
 
 -- the text begins with a hyphen, as flags do
 abbrev pub begins_with_hyphen : List ℕ → Bool

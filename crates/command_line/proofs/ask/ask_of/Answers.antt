@@ -2,9 +2,9 @@ use Rattle.std.proofs.Common.{◌≡◌, Some, IsSome, option_map, codes, sym, a
 use Rattle.std.proofs.lemmas.Result.{IfErr-weaker, IfOk-weaker}
 use Rattle.clap.specs.Words.{found_of, rows_of, subcommand_rows_of}
 use Rattle.clap.proofs.WalkLemmas.{first_value-rows}
-use Rattle.pinball_shell.specs.CommandLine.{asked_by, asked_of}
-use Rattle.pinball_shell.proofs.Words.{met_together}
-use Rattle.pinball_shell.proofs.command_line.ask_of.Goals as goal
+use Rattle.command_line.specs.CommandLine.{asked_by, asked_of}
+use Rattle.command_line.proofs.Words.{met_together}
+use Rattle.command_line.proofs.ask.ask_of.Goals as goal
 
 pub returns-in-Some-clause-asked : goal.returns-in-Some-clause-asked
 returns-in-Some-clause-asked c =

@@ -4,8 +4,8 @@ use Rattle.clap.specs.Simple.{app_of_fields, on_top}
 use Rattle.clap.specs.declared.builder.command.Command.{Command}
 use Rattle.clap.specs.declared.builder.command.Command.TheOpen.{Command-F}
 use Rattle.clap.specs.Words.{App, Shape, app_of, new_app, with_rule, with_subcommand}
-use Rattle.pinball_shell.specs.CommandLine.{path_rule, check_app, verify_app, play_app, program_app, pinball_app}
-use Rattle.pinball_shell.proofs.command_line.pinball.Goals as goal
+use Rattle.command_line.specs.CommandLine.{path_rule, check_app, verify_app, play_app, program_app, pinball_app}
+use Rattle.command_line.proofs.ask.pinball.Goals as goal
 
 pub returns : goal.returns
 unfolding pinball_app

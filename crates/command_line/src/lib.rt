@@ -1,0 +1,6 @@
+//! The words of the command line: what they ask for, as the kit's `clap` reads them.
+#![tactic(auto)]
+
+pub mod ask;
+
+pub use ask::{Ask, AskFault, command};
