@@ -25,7 +25,7 @@ use Rattle.mpf_plan.specs.Contributions.{Contribution, gives, reads, active, ina
 use Rattle.mpf_plan.specs.Uses.{Names, names_from, number_among}
 use Rattle.mpf_plan.specs.PlanOf.{DraftView, event_of, new_mode, with_event_in, with_mode, with_mode_event, last_mode, owner_at, target_at, next_binding, lists_for, with_list_for, with_binding, with_contribution, blank, drafted}
 use Rattle.mpf_plan.proofs.Among.{IsKnown, all_known}
-use Rattle.mpf_plan.proofs.Drafted.{given_plan, modes_one}
+use Rattle.mpf_plan.proofs.Drafted.{given_plan, modes_one, no_rows}
 use Rattle.mpf_plan.proofs.Posted.{IsPost, PostMeets, PostsMeet, meet_drafted}
 use Rattle.mpf_plan.proofs.RowFacts.{IsOpenPlace, IsOpenAim, IsOpen, modes_after, AreOpened}
 
@@ -191,6 +191,7 @@ has_entries cs opened =
       switches = meet.switches;
       lists = All-weaker (All (IsPost (IsEventWithin (length plan.events)))) (All (IsActionWithin plan)) (λ actions. All-weaker (IsPost (IsEventWithin (length plan.events))) (IsActionWithin plan) (action_within plan) actions) plan.lists meet.lists;
       bindings = sound.bindings;
+      rows = λ r within. absurd (omega (arith, within, ap length (no_rows cs).0));
     }
   where
     action_within : (plan : PlanView) (a : Action) → IsPost (IsEventWithin (length plan.events)) a → IsActionWithin plan a

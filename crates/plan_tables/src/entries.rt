@@ -26,7 +26,7 @@ pub struct SwitchKind {
     pub quick: bool,
 }
 
-/// An effect list, by its number: below 16,384, with room for the lists of rows of devices.
+/// An effect list, by its number: below 21,504.
 #[derive(Clone, Copy, Debug)]
 pub struct ListId(pub u32);
 
