@@ -3,14 +3,14 @@ use Rattle.std.specs.Prelude.{◌≡◌, ℕ, ◌<◌, ◌⊎◌, None, Some, Is
 use Rattle.std.specs.List.{All}
 use Rattle.plan_tables.specs.declared.devices.Settings.{Settings}
 use Rattle.plan_tables.specs.declared.devices.Settings.TheVariants as kinds
-use Rattle.plan_tables.specs.Devices.{IsWithinLimits}
+use Rattle.plan_tables.specs.Devices.{IsWithinLimits, list_count}
 use Rattle.device_objects.specs.declared.device.Call.{Call}
 use Rattle.device_objects.specs.declared.device.Call.TheVariants as calls
 use Rattle.device_objects.specs.declared.state.World.{World}
 use Rattle.device_objects.specs.declared.state.DeviceState.{DeviceState}
 use Rattle.device_objects.specs.declared.state.DeviceState.TheVariants as states
 use Rattle.device_objects.specs.DeviceStep.{first_state, due_of, device_step}
-use Rattle.device_objects.specs.Outcomes.{list_count, outcomes}
+use Rattle.device_objects.specs.Outcomes.{outcomes, silent}
 
 -- a state of the shape that the settings ask for: of their kind, with four slots, and 16 marks in each of an accrual
 abbrev pub HasShape : Settings → DeviceState → Type 0
@@ -66,3 +66,7 @@ pub record NothingIsDue : Type 0 where
   pub first : (settings : Settings) → due_of (first_state settings) ≡ None
   pub stopped : (settings : Settings) (now : ℕ) (world : World) (state : DeviceState) → HasShape settings state
       → due_of (device_step settings calls.ModeStop now world state).0 ≡ None
+
+-- A device whose mode stops answers no list.
+abbrev pub StopsAreSilent : Type 0
+StopsAreSilent = (settings : Settings) → outcomes settings calls.ModeStop ≡ silent

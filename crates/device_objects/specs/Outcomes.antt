@@ -16,13 +16,6 @@ use Rattle.device_objects.specs.Slots as block
 use Rattle.device_objects.specs.Timer.{started, stopped, paused, tick}
 use Rattle.device_objects.specs.Timer as timer
 
--- how many effect lists a row has: three of a block, five of a timer
-abbrev pub list_count : Settings → ℕ
-list_count (kinds.Counter c) = 3
-list_count (kinds.Accrual a) = 3
-list_count (kinds.Sequence q) = 3
-list_count (kinds.Timer t) = 5
-
 -- no list at all
 abbrev pub silent : List (List ℕ)
 silent = [] ∷ []

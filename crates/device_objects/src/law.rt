@@ -1,6 +1,6 @@
 //! What holds of every step of a device.
 
-ghost use Rattle.device_objects.specs.Laws.{AnswersAreOutcomes, ArmsLaterMoments, NothingIsDue, OutcomesAreOfTheRow, OutcomesComeAbout, StatesKeepTheirShape};
+ghost use Rattle.device_objects.specs.Laws.{AnswersAreOutcomes, ArmsLaterMoments, NothingIsDue, OutcomesAreOfTheRow, OutcomesComeAbout, StatesKeepTheirShape, StopsAreSilent};
 
 /// The first state of a device has the shape of its row, and each step leaves it so.
 ///
@@ -42,4 +42,11 @@ pub fn arms_later_moments()
 /// It does nothing: its contract is the law, over all steps.
 pub fn nothing_is_due()
     ensures { NothingIsDue }
+{}
+
+/// A device whose mode stops answers no list.
+///
+/// It does nothing: its contract is the law, over all settings.
+pub fn stops_are_silent()
+    ensures { StopsAreSilent }
 {}

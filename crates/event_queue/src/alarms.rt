@@ -1,6 +1,6 @@
 //! The alarms of devices, which wait for their moments.
 
-ghost use Rattle.std.specs.Prelude.{◌≡◌, ◌≤◌, length};
+ghost use Rattle.std.specs.Prelude.{◌≡◌, ◌<◌, ◌^◌, length};
 ghost use Rattle.event_queue.specs.Alarms.{comes_before, first_of, alarm_of, least_of};
 ghost use Rattle.event_queue.specs.Inside.{is_of};
 
@@ -8,8 +8,8 @@ use plan_tables::RowId;
 use std::alloc::{AllocError, Global};
 use std::marker::Model;
 
-/// The moment at which each device is due, if it is, by the number of its row. There are at most
-/// 1,024 rows. Moments are milliseconds, and may be any number.
+/// The moment at which each device is due, if it is, by the number of its row. Moments are
+/// milliseconds, and may be any number.
 #[derive(Drop)]
 pub struct Alarms {
     dues: Vec<Option<u64>>,
@@ -24,24 +24,22 @@ impl Model for Alarms {
 
     ghost view = { λ a. a.dues.items };
 
-    ghost use Rattle.std.specs.Prelude.{◌≡◌, ◌≤◌, length};
+    ghost use Rattle.std.specs.Prelude.{◌≡◌, ◌<◌, ◌^◌, length};
     ghost use Rattle.event_queue.specs.Alarms.{least_of};
 
-    ghost invariant = { λ a. (length a.dues.items ≤ 1024) × (a.least ≡ least_of a.dues.items) };
+    ghost invariant = { λ a. (length a.dues.items < 2 ^ 16) × (a.least ≡ least_of a.dues.items) };
 }
 
 impl Alarms {
-    ghost use Rattle.std.specs.Prelude.{◌≡◌, ◌<◌, ◌≤◌, length, replicate, slice_set, None, IfOk, IfSome};
+    ghost use Rattle.std.specs.Prelude.{◌≡◌, ◌<◌, length, replicate, slice_set, None, IfOk, IfSome};
     ghost use Rattle.event_queue.specs.Alarms.{least_of};
 
-    /// So many rows, at most 1,024, none of which is due. Only this call takes memory. Fails only
-    /// by memory.
-    pub fn new(alloc: Global, rows: usize) -> Result<Alarms, AllocError>
-        requires { rows ≤ 1024 }
+    /// So many rows, none of which is due. Only this call takes memory. Fails only by memory.
+    pub fn new(alloc: Global, rows: u16) -> Result<Alarms, AllocError>
         ensures { IfOk result (λ a. a ≡ replicate rows None) }
     {
         Ok(Alarms {
-            dues: vec![in alloc; None; rows]?,
+            dues: vec![in alloc; None; rows as usize]?,
             least: None,
         })
     }
@@ -73,7 +71,7 @@ impl Alarms {
 
 /// The least of these due moments, and its row.
 fn find_least(dues: &[Option<u64>]) -> Option<(u64, RowId)>
-    requires { length dues.now ≤ 1024 }
+    requires { length dues.now < 2 ^ 16 }
     ensures { result ≡ least_of dues.now }
 {
     let mut least = None;

@@ -1,4 +1,4 @@
--- The limits of a device's settings.
+-- The limits of a device's settings, and how many effect lists it has.
 use Rattle.std.specs.Prelude.{ℕ, ◌≤◌, ℤ, pos, neg_ℤ, ◌≤ℤ◌, Option, IfSome}
 use Rattle.plan_tables.specs.declared.devices.Settings.{Settings}
 use Rattle.plan_tables.specs.declared.devices.Settings.TheVariants.{Counter, Accrual, Sequence, Timer}
@@ -17,3 +17,10 @@ IsWithinLimits (Counter c) = IsEndWithin c.complete
 IsWithinLimits (Accrual a) = a.steps ≤ 16
 IsWithinLimits (Sequence q) = q.steps ≤ 16
 IsWithinLimits (Timer t) = (1 ≤ t.interval) × IsEndWithin t.end
+
+-- how many effect lists a row has: three of a block, five of a timer
+abbrev pub list_count : Settings → ℕ
+list_count (Counter c) = 3
+list_count (Accrual a) = 3
+list_count (Sequence q) = 3
+list_count (Timer t) = 5

@@ -43,6 +43,8 @@ tables_view t = record {
   switches = switches_view (name_sets_view t.names Switches) t.switches.items;
   lists = action_lists t.lists.items;
   bindings = t.bindings.items;
+  rows = t.rows.items;
+  row_lists = t.row_lists.items;
 }
 
 abbrev pub plan_view : Inside → PlanView

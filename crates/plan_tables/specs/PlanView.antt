@@ -1,5 +1,5 @@
 -- A plan, apart from where it lies in memory.
-use Rattle.std.specs.Prelude.{ℕ, suc, ◌==◌, List, [], ◌∷◌, Bool, false, Option, Some, None, if◌then◌else◌, length, map, filter, slice_index_or, position, option_map}
+use Rattle.std.specs.Prelude.{ℕ, suc, ◌+◌, ◌==◌, List, [], ◌∷◌, Bool, true, false, Option, Some, None, if◌then◌else◌, length, map, filter, slice_index_or, position, option_map}
 use Rattle.std.specs.List.{range_with_len}
 use Rattle.std.specs.Str.{bytes_eq}
 use Rattle.plan_tables.specs.declared.entries.Contact.TheVariants.{NormallyOpen}
@@ -15,10 +15,15 @@ use Rattle.plan_tables.specs.declared.entries.Work.{Work}
 use Rattle.plan_tables.specs.declared.entries.Work.TheVariants as works
 use Rattle.plan_tables.specs.declared.entries.ListId.{ListId}
 use Rattle.plan_tables.specs.declared.entries.BindingId.{BindingId}
+use Rattle.plan_tables.specs.declared.entries.Owner.{Owner}
 use Rattle.plan_tables.specs.declared.entries.Owner.TheVariants.{Machine}
+use Rattle.plan_tables.specs.declared.entries.Owner.TheVariants as owners
 use Rattle.plan_tables.specs.declared.entries.Action.{Action}
 use Rattle.plan_tables.specs.declared.entries.Target.TheVariants.{Run}
 use Rattle.plan_tables.specs.declared.entries.Binding.{Binding}
+use Rattle.plan_tables.specs.declared.devices.RowId.{RowId}
+use Rattle.plan_tables.specs.declared.devices.DeviceRow.{DeviceRow}
+use Rattle.plan_tables.specs.declared.devices.Settings.TheVariants.{Accrual}
 
 -- a switch: its name, how it is read, and what it posts when it becomes active and inactive
 pub record PlanSwitch : Type 0 where
@@ -55,13 +60,17 @@ no_mode = record {
   };
 }
 
--- names and effect lists stand at their numbers, modes in the order of the machine's list, and bindings in plan order
+-- names, effect lists and rows of devices stand at their numbers, modes in the order of the machine's list, and bindings in
+-- plan order
 pub record PlanView : Type 0 where
   pub modes : List PlanMode
   pub events : List (List ℕ)
   pub switches : List PlanSwitch
   pub lists : List (List Action)
   pub bindings : List Binding
+  pub rows : List DeviceRow
+  -- for each row the first of its effect lists; the others follow it
+  pub row_lists : List ListId
 
 -- the name of an event
 abbrev pub name_of_event : PlanView → EventId → List ℕ
@@ -132,6 +141,37 @@ no_binding = record { event = record { 0 = 0 }; owner = Machine; priority = 0; t
 -- a binding by its place
 abbrev pub binding_at : PlanView → BindingId → Binding
 binding_at plan p = slice_index_or plan.bindings p.0 no_binding
+
+-- in place of a row where there is none
+abbrev pub no_row : DeviceRow
+no_row = record {
+  number = record { 0 = 0 };
+  owner = Machine;
+  settings = Accrual (record { block = record { enabled = false; reset_on_complete = false; disable_on_complete = false; persist = false }; steps = 0 });
+}
+
+-- a device's row, by its number
+abbrev pub row_at : PlanView → RowId → DeviceRow
+row_at plan r = slice_index_or plan.rows r.0 no_row
+
+-- whether two owners are the same
+abbrev pub is_owner : Owner → Owner → Bool
+is_owner owners.Machine owners.Machine = true
+is_owner owners.Machine (owners.Mode m) = false
+is_owner (owners.Mode m) owners.Machine = false
+is_owner (owners.Mode m) (owners.Mode n) = m.0 == n.0
+
+-- the numbers of all rows
+abbrev pub row_numbers : PlanView → List RowId
+row_numbers plan = map (λ n. record { 0 = n }) (range_with_len 0 (length plan.rows))
+
+-- the numbers of an owner's rows, in plan order
+abbrev pub rows_of : PlanView → Owner → List RowId
+rows_of plan owner = filter (λ r. is_owner owner (row_at plan r).owner) (row_numbers plan)
+
+-- an effect list of a row, by its number in the row
+abbrev pub list_of_row : PlanView → RowId → ℕ → ListId
+list_of_row plan r k = record { 0 = (slice_index_or plan.row_lists r.0 (record { 0 = 0 })).0 + k }
 
 -- what is bound to the event, in plan order
 abbrev pub bound_to : PlanView → EventId → List Binding

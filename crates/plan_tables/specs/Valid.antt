@@ -1,5 +1,5 @@
 -- What holds of every plan: each number in it is that of an entry, no two entries of a table have one name, and no table is above its limit.
-use Rattle.std.specs.Prelude.{ℕ, ◌≡◌, ◌<◌, ◌≤◌, ◌≢◌, length}
+use Rattle.std.specs.Prelude.{ℕ, ◌+◌, ◌≡◌, ◌<◌, ◌≤◌, ◌≢◌, length}
 use Rattle.std.specs.List.{All, AllPairs}
 use Rattle.plan_tables.specs.declared.entries.EventId.{EventId}
 use Rattle.plan_tables.specs.declared.entries.Owner.{Owner}
@@ -7,15 +7,17 @@ use Rattle.plan_tables.specs.declared.entries.Owner.TheVariants.{Machine, Mode}
 use Rattle.plan_tables.specs.declared.entries.Action.{Action}
 use Rattle.plan_tables.specs.declared.entries.Action.TheVariants.{Post}
 use Rattle.plan_tables.specs.declared.entries.Target.{Target}
-use Rattle.plan_tables.specs.declared.entries.Target.TheVariants.{Run, Start, Stop}
+use Rattle.plan_tables.specs.declared.entries.Target.TheVariants.{Run, Start, Stop, Act}
 use Rattle.plan_tables.specs.declared.entries.ModeId.{ModeId}
 use Rattle.plan_tables.specs.declared.entries.ModeEvent.{ModeEvent}
 use Rattle.plan_tables.specs.declared.entries.Work.{Work}
 use Rattle.plan_tables.specs.declared.entries.Work.TheVariants as works
 use Rattle.plan_tables.specs.declared.entries.Binding.{Binding}
+use Rattle.plan_tables.specs.declared.devices.RowId.{RowId}
 use Rattle.plan_tables.specs.declared.table.Table.{Table}
+use Rattle.plan_tables.specs.Devices.{IsWithinLimits, list_count}
 use Rattle.plan_tables.specs.Limits.{entry_names}
-use Rattle.plan_tables.specs.PlanView.{PlanMode, PlanSwitch, PlanView, mode_event, work_of}
+use Rattle.plan_tables.specs.PlanView.{PlanMode, PlanSwitch, PlanView, list_of_row, mode_event, row_at, work_of}
 
 abbrev pub IsEventWithin : ℕ → EventId → Type 0
 IsEventWithin events e = e.0 < events
@@ -35,6 +37,7 @@ abbrev pub IsTargetWithin : PlanView → Target → Type 0
 IsTargetWithin plan (Run l) = l.0 < length plan.lists
 IsTargetWithin plan (Start m) = m.0 < length plan.modes
 IsTargetWithin plan (Stop m) = m.0 < length plan.modes
+IsTargetWithin plan (Act r act) = r.0 < length plan.rows
 
 abbrev pub IsOwnerWithin : PlanView → Owner → Type 0
 IsOwnerWithin plan Machine = Unit {0}
@@ -45,6 +48,12 @@ IsBindingWithin plan b = (b.event.0 < length plan.events) × IsOwnerWithin plan 
 
 abbrev pub IsSwitchWithin : ℕ → PlanSwitch → Type 0
 IsSwitchWithin events s = All (IsEventWithin events) s.active × All (IsEventWithin events) s.inactive
+
+-- a row is at its number, its owner is there, and it has its effect lists
+pub record IsRowWithin (plan : PlanView) (r : RowId) : Type 0 where
+  pub number : (row_at plan r).number ≡ r
+  pub owner : IsOwnerWithin plan (row_at plan r).owner
+  pub lists : (list_of_row plan r 0).0 + list_count (row_at plan r).settings ≤ length plan.lists
 
 -- where an event has work, it is this event of a mode of the plan
 abbrev pub IsWorkAt : PlanView → EventId → Work → Type 0
@@ -57,13 +66,18 @@ pub record HasEntries (plan : PlanView) : Type 0 where
   pub switches : All (IsSwitchWithin (length plan.events)) plan.switches
   pub lists : All (All (IsActionWithin plan)) plan.lists
   pub bindings : All (IsBindingWithin plan) plan.bindings
+  pub rows : (r : RowId) → r.0 < length plan.rows → IsRowWithin plan r
 
 pub record IsValid (plan : PlanView) : Type 0 where
   pub mode_limit : length plan.modes ≤ 64
   pub event_limit : length plan.events ≤ 4096
   pub binding_limit : length plan.bindings ≤ 16384
   pub switch_limit : length plan.switches ≤ 256
-  pub list_limit : length plan.lists ≤ 16384
+  -- one of each binding, and at most five of each row
+  pub list_limit : length plan.lists ≤ 21504
+  pub row_limit : length plan.rows ≤ 1024
+  pub row_lists : length plan.row_lists ≡ length plan.rows
+  pub settings : All (λ row. IsWithinLimits row.settings) plan.rows
   -- no effect list has more than 1,024 actions
   pub action_limit : All (λ actions. length actions ≤ 1024) plan.lists
   pub names : (t : Table) → AllPairs (λ x y. x ≢ y) (entry_names plan t)

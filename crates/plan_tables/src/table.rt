@@ -12,10 +12,17 @@ pub enum Table {
     Bindings,
     /// At most 256 switches.
     Switches,
+    /// At most 1,024 rows of devices.
+    Rows,
 }
 
 /// The tables, in the order in which they are judged.
-pub const TABLES: [Table; 3] = [Table::Events, Table::Bindings, Table::Switches];
+pub const TABLES: [Table; 4] = [
+    Table::Events,
+    Table::Bindings,
+    Table::Switches,
+    Table::Rows,
+];
 
 impl Table {
     /// The name by which the table is reported.
@@ -26,6 +33,7 @@ impl Table {
             Table::Events => "events",
             Table::Bindings => "bindings",
             Table::Switches => "switches",
+            Table::Rows => "rows",
         }
     }
 
@@ -37,6 +45,7 @@ impl Table {
             Table::Events => 4_096,
             Table::Bindings => 16_384,
             Table::Switches => 256,
+            Table::Rows => 1_024,
         }
     }
 

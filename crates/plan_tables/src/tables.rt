@@ -1,5 +1,6 @@
 //! The plan, and its tables read by number and by text.
 
+use crate::devices::{DeviceRow, RowId};
 use crate::entries::{
     Action, Binding, BindingId, EventId, ListId, Mode, ModeEntry, ModeId, SwitchEntry, SwitchId,
     SwitchKind, Work,
@@ -24,6 +25,10 @@ pub struct Tables {
     pub lists: Vec<Vec<Action>>,
     /// In plan order.
     pub bindings: Vec<Binding>,
+    /// The rows of devices, in plan order.
+    pub rows: Vec<DeviceRow>,
+    /// For each row the first of its effect lists; the others follow it.
+    pub row_lists: Vec<ListId>,
 }
 
 /// The plan of a configuration. Each number in it is that of an entry of its table, no two
@@ -54,10 +59,11 @@ impl Model for Plan {
 
 impl Plan {
     ghost use Rattle.std.specs.Prelude.{◌≡◌, ◌<◌, length, slice_get, Contains, IfSome, IfNone, IfOk};
-    ghost use Rattle.plan_tables.specs.PlanView.{name_of_event, event_named, mode_at, switch_at, switch_named, posts_of, actions_at, places_of, work_of};
+    ghost use Rattle.plan_tables.specs.PlanView.{name_of_event, event_named, mode_at, switch_at, switch_named, posts_of, actions_at, places_of, row_at, list_of_row, work_of};
     ghost use Rattle.plan_tables.specs.declared.table.Table.TheVariants.{Switches};
     ghost use Rattle.plan_tables.specs.Inside.{name_sets_view, tables_view};
-    ghost use Rattle.plan_tables.specs.Valid.{IsValid, IsWorkAt};
+    ghost use Rattle.plan_tables.specs.Valid.{IsRowWithin, IsValid, IsWorkAt};
+    ghost use Rattle.plan_tables.specs.Devices.{list_count};
 
     /// The plan of these tables.
     ///
@@ -245,5 +251,34 @@ impl Plan {
         ensures valid { IsValid self.now }
     {
         &self.tables.bindings
+    }
+
+    /// The rows of devices, in plan order. They are numbered from 0.
+    pub fn rows(&self) -> &[DeviceRow]
+        ensures rows { result.now ≡ self.now.rows }
+        ensures valid { IsValid self.now }
+    {
+        &self.tables.rows
+    }
+
+    /// The row of a device of the plan.
+    pub fn row(&self, row: RowId) -> DeviceRow
+        requires { row.0 < length self.now.rows }
+        ensures row { result ≡ row_at self.now row }
+        ensures within { IsRowWithin self.now row }
+        ensures valid { IsValid self.now }
+    {
+        self.tables.rows[row.0 as usize]
+    }
+
+    /// An effect list of a row of the plan, by its number from 0 in the row.
+    pub fn list_of_row(&self, row: RowId, list: u16) -> ListId
+        requires row { row.0 < length self.now.rows }
+        requires list { list < list_count (row_at self.now row).settings }
+        ensures list { result ≡ list_of_row self.now row list }
+        ensures within { result.0 < length self.now.lists }
+        ensures valid { IsValid self.now }
+    {
+        ListId(self.tables.row_lists[row.0 as usize].0 + u32::from(list))
     }
 }
