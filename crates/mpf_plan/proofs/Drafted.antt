@@ -13,8 +13,10 @@ use Rattle.mpf_plan.specs.declared.draft.Draft.{Draft}
 use Rattle.plan_tables.specs.declared.entries.Action.{Action}
 use Rattle.plan_tables.specs.declared.entries.Action.TheVariants.{Post}
 use Rattle.plan_tables.specs.declared.entries.Binding.{Binding}
+use Rattle.plan_tables.specs.declared.entries.ListId.{ListId}
+use Rattle.plan_tables.specs.declared.devices.DeviceRow.{DeviceRow}
 use Rattle.plan_tables.specs.declared.table.Table.{Table}
-use Rattle.plan_tables.specs.declared.table.Table.TheVariants.{Events, Bindings, Switches}
+use Rattle.plan_tables.specs.declared.table.Table.TheVariants.{Events, Bindings, Switches, Rows}
 use Rattle.plan_tables.specs.declared.entries.ModeEvent.TheVariants.{WillStart}
 use Rattle.plan_tables.specs.PlanView.{PlanSwitch, no_switch, PlanMode, no_mode, PlanView}
 use Rattle.plan_tables.specs.Limits.{entry_count, entry_names}
@@ -75,6 +77,7 @@ switch_counts change same d = record {
 -- modes, lists and bindings have no names
 unnamed : (plan : PlanView) (modes : List PlanMode) (lists : List (List Action)) (bindings : List Binding) (t : Table) → entry_names (record plan { modes = modes; lists = lists; bindings = bindings }) t ≡ entry_names plan t
 unnamed plan modes lists bindings Bindings = refl
+unnamed plan modes lists bindings Rows = refl
 unnamed plan modes lists bindings _ = refl
 
 modes_counts : (modes : List PlanMode) (d : DraftView) → Counts 0 d (record d { plan = record d.plan { modes = modes } })
@@ -148,6 +151,20 @@ module _ (names : Names) where
   modes_fold d [] = omega arith
   modes_fold d (c ∷ cs) = omega (arith, modes_fold (with_contribution names d c) cs, modes_one d c, sum_by-cons modes_given c cs)
 
+  -- ---- rows of devices
+
+  abbrev rows_in : DraftView → List DeviceRow × List ListId
+  rows_in d = (d.plan.rows, d.plan.row_lists)
+
+  rows_one : (d : DraftView) (c : Contribution) → rows_in (with_contribution names d c) ≡ rows_in d
+  rows_one d (gives t n) = ap (λ p. (p.rows, p.row_lists)) (given_plan t (number_among (names t) n) d)
+  rows_one d _ = refl
+
+  -- no contribution gives one
+  pub rows_fold : (d : DraftView) (cs : List Contribution) → rows_in (fold (with_contribution names) d cs) ≡ rows_in d
+  rows_fold d [] = refl
+  rows_fold d (c ∷ cs) = rows_fold (with_contribution names d c) cs ∙ rows_one d c
+
 blank_switches : (ns : List (List ℕ)) → map (λ (s : PlanSwitch). s.name) (map named_switch ns) ≡ ns
 blank_switches [] = refl
 blank_switches (n ∷ ns) = ap (λ l. n ∷ l) (blank_switches ns)
@@ -176,9 +193,14 @@ module _ (cs : List Contribution) where
   pub count-lists : length (plan_from cs).lists ≤ binding_count cs
   count-lists = omega (arith, counts.lists)
 
+  -- it has no rows of devices
+  pub no_rows : ((plan_from cs).rows ≡ []) × ((plan_from cs).row_lists ≡ [])
+  no_rows = (ap (λ p. p.0) (rows_fold (names_from cs) (blank (names_from cs)) cs), ap (λ p. p.1) (rows_fold (names_from cs) (blank (names_from cs)) cs))
+
   -- and so many entries
   pub count-from : (t : Table) → entry_count (plan_from cs) t ≡ count_of cs t
   count-from Bindings = count-bindings
+  count-from Rows = ap length no_rows.0
   count-from Switches = sym (length-map (plan_from cs).switches (λ (s : PlanSwitch). s.name)) ∙ ap length (names-from Switches)
   count-from Events = ap length (names-from Events)
 

@@ -7,7 +7,7 @@ use Rattle.std.proofs.lemmas.List.{append-nil, length-set}
 use Rattle.std.proofs.lemmas.List.Sums.{fold-append, sum_by-append}
 use Rattle.std.proofs.lemmas.Option.{slice_get_cases}
 use Rattle.plan_tables.specs.declared.table.Table.{Table}
-use Rattle.plan_tables.specs.declared.table.Table.TheVariants.{Bindings}
+use Rattle.plan_tables.specs.declared.table.Table.TheVariants.{Bindings, Rows}
 use Rattle.plan_tables.specs.declared.names.NameTable.{NameTable}
 use Rattle.mpf_plan.specs.declared.first_uses.Found.{Found}
 use Rattle.mpf_plan.specs.Contributions.{Contribution}
@@ -95,9 +95,10 @@ found_none tables count empty = record {
 
 -- ---- limits
 
-named_count : (cs : List Contribution) (t : Table) → (t ≡ Bindings → ⊥) → count_of cs t ≡ length (names_from cs t)
-named_count cs Bindings other = absurd (other refl)
-named_count cs _ other = refl
+named_count : (cs : List Contribution) (t : Table) → (t ≡ Bindings → ⊥) → (t ≡ Rows → ⊥) → count_of cs t ≡ length (names_from cs t)
+named_count cs Bindings other another = absurd (other refl)
+named_count cs Rows other another = absurd (another refl)
+named_count cs _ other another = refl
 
 module _ (cs : List Contribution) (found : Found) (has : HasFound cs found) where
   -- whether there are too many bindings
@@ -109,23 +110,24 @@ module _ (cs : List Contribution) (found : Found) (has : HasFound cs found) wher
       by (inr (same, within)) = ap (nat_lt 16384) (same ∙ sym (count-from cs Bindings))
 
   -- whether there are too many names
-  pub names_above : (t : Table) (k : NameTable) → (t ≡ Bindings → ⊥) → slice_get found.tables.items (order_of t) ≡ Some k → k.above ≡ nat_lt (limit_of t) (entry_count (plan_from cs) t)
-  names_above t k other at = by (has.tables.names t k at)
+  pub names_above : (t : Table) (k : NameTable) → (t ≡ Bindings → ⊥) → (t ≡ Rows → ⊥) → slice_get found.tables.items (order_of t) ≡ Some k → k.above ≡ nat_lt (limit_of t) (entry_count (plan_from cs) t)
+  names_above t k other another at = by (has.tables.names t k at)
     where
       count : entry_count (plan_from cs) t ≡ length (names_from cs t)
-      count = count-from cs t ∙ named_count cs t other
+      count = count-from cs t ∙ named_count cs t other another
 
       by : IsNameTableOf (names_from cs t) k → k.above ≡ nat_lt (limit_of t) (entry_count (plan_from cs) t)
       by (inl (above, more)) = above ∙ sym (lt-ltb (limit_of t) (entry_count (plan_from cs) t) (omega (arith, more, count, has.tables.limits t k at)))
       by (inr (below, names, within)) = below ∙ sym (le-ltb (limit_of t) (entry_count (plan_from cs) t) (omega (arith, within, count, has.tables.limits t k at)))
 
-  -- where the plan is within its limits, and bindings have no names, all names are kept
-  module _ (none : first_above (plan_from cs) ≡ None) (unnamed : names_from cs Bindings ≡ []) where
+  -- where the plan is within its limits, and neither bindings nor rows have names, all names are kept
+  module _ (none : first_above (plan_from cs) ≡ None) (unnamed : (names_from cs Bindings ≡ []) × (names_from cs Rows ≡ [])) where
     pub bindings_fit : binding_count cs ≤ 16384
     bindings_fit = omega (arith, all_within (plan_from cs) none Bindings, count-from cs Bindings)
 
     names_fit : (t : Table) → length (names_from cs t) ≤ limit_of t
-    names_fit Bindings = omega (arith, ap length unnamed)
+    names_fit Bindings = omega (arith, ap length unnamed.0)
+    names_fit Rows = omega (arith, ap length unnamed.1)
     names_fit t = omega (arith, all_within (plan_from cs) none t, count-from cs t)
 
     pub names_are_kept : (t : Table) → names_kept (slice_get found.tables.items (order_of t)) ≡ names_from cs t

@@ -1,72 +1,89 @@
--- Bindings have no names: nothing is given among them under one.
-use Rattle.std.proofs.Common.{◌≡◌, ℕ, Bool, true, false, cond, List, [], ◌∷◌, ◌++◌, map, refl, ◌∙◌, ap, codes}
+-- Bindings and rows have no names: nothing is given among them under one.
+use Rattle.std.proofs.Common.{◌≡◌, ℕ, Bool, true, false, cond, List, [], ◌∷◌, ◌++◌, Some, map, refl, ◌∙◌, ap, codes}
 use Rattle.std.specs.Str.{bytes_eq}
 use Rattle.std.proofs.lemmas.Grind.{flat_map-append}
 use Rattle.mpf_config.specs.Rows.{Entry, Player, Switch, EventPlayer, ModeSettings}
 use Rattle.mpf_config.specs.Typed.{switches_name, event_player_name, switch_of, event_player_of}
+use Rattle.plan_tables.specs.declared.entries.ModeEvent.TheVariants.{WillStart, Starting, Started, Stopping, Stopped}
 use Rattle.mpf_plan.specs.declared.contribution.Place.{Place}
-use Rattle.plan_tables.specs.declared.table.Table.TheVariants.{Bindings}
-use Rattle.mpf_plan.specs.Contributions.{Contribution, active, inactive, post, texts, active_posts, inactive_posts, switch_contributions, player_contributions, starter, stopper, stopper_where, controls, mode_contributions, Row, entry, player, of_mode, entry_contributions, player_entry_contributions, row_contributions, given_by}
+use Rattle.mpf_plan.specs.declared.contribution.Aim.TheVariants.{Run}
+use Rattle.plan_tables.specs.declared.table.Table.{Table}
+use Rattle.plan_tables.specs.declared.table.Table.TheVariants.{Events, Bindings, Switches, Rows}
+use Rattle.mpf_plan.specs.Contributions.{Contribution, gives, reads, active, inactive, mode, mode_event, mode_event_name, binds, post, kind_of, texts, active_posts, inactive_posts, switch_contributions, player_contributions, starter, stopper, stopper_where, later_events, controls, mode_contributions, Row, entry, player, of_mode, entry_contributions, player_entry_contributions, row_contributions, given_by}
 use Rattle.mpf_plan.specs.Uses.{used, name_in_table, uses, first_uses, names_from}
 
-abbrev Unnamed : List Contribution → Type 0
-Unnamed cs = uses Bindings cs ≡ []
+-- a table whose names are neither those of events nor those of switches
+module _ (t : Table) (no_event : (n : List ℕ) → name_in_table t (Some (Events, n)) ≡ []) (no_switch : (n : List ℕ) → name_in_table t (Some (Switches, n)) ≡ []) where
+  abbrev Unnamed : List Contribution → Type 0
+  Unnamed cs = uses t cs ≡ []
 
-both : (cs ds : List Contribution) → Unnamed cs → Unnamed ds → Unnamed (cs ++ ds)
-both cs ds a b = flat_map-append (λ c. name_in_table Bindings (used c)) cs ds ∙ (λ i. a i ++ b i)
+  first : (c : Contribution) (cs : List Contribution) → name_in_table t (used c) ≡ [] → Unnamed cs → Unnamed (c ∷ cs)
+  first c cs a b = λ i. a i ++ b i
 
-each : (f : List ℕ → Contribution) → ((n : List ℕ) → name_in_table Bindings (used (f n)) ≡ []) → (ns : List (List ℕ)) → Unnamed (map f ns)
-each f none [] = refl
-each f none (n ∷ ns) = λ i. none n i ++ each f none ns i
+  both : (cs ds : List Contribution) → Unnamed cs → Unnamed ds → Unnamed (cs ++ ds)
+  both cs ds a b = flat_map-append (λ c. name_in_table t (used c)) cs ds ∙ (λ i. a i ++ b i)
 
-when : (b : Bool) (cs ds : List Contribution) → Unnamed cs → Unnamed ds → Unnamed (cond b cs ds)
-when true cs ds none other = none
-when false cs ds none other = other
+  each : (f : List ℕ → Contribution) → ((n : List ℕ) → name_in_table t (used (f n)) ≡ []) → (ns : List (List ℕ)) → Unnamed (map f ns)
+  each f none [] = refl
+  each f none (n ∷ ns) = first (f n) (map f ns) (none n) (each f none ns)
 
--- ---- rows
+  when : (b : Bool) (cs ds : List Contribution) → Unnamed cs → Unnamed ds → Unnamed (cond b cs ds)
+  when true cs ds none other = none
+  when false cs ds none other = other
 
-in_switch : (s : Switch) → Unnamed (switch_contributions s)
-unfolding switch_contributions
-in_switch s = both (map active (active_posts s)) (map inactive (inactive_posts s)) (each active (λ n. refl) (active_posts s)) (each inactive (λ n. refl) (inactive_posts s))
+  -- ---- rows
 
-in_player : (place : Place) (p : EventPlayer) → Unnamed (player_contributions place p)
-unfolding player_contributions
-in_player place p = each post (λ n. refl) (texts p.posts)
+  in_switch : (s : Switch) → Unnamed (switch_contributions s)
+  unfolding switch_contributions
+  in_switch s =
+      let posts = map active (active_posts s) ++ map inactive (inactive_posts s) in
+      first (gives Switches s.name.text) (reads (kind_of s) ∷ posts) (no_switch s.name.text) (first (reads (kind_of s)) posts refl
+      (both (map active (active_posts s)) (map inactive (inactive_posts s)) (each active no_event (active_posts s)) (each inactive no_event (inactive_posts s))))
 
-in_entry : (section : List ℕ) (e : Entry) → Unnamed (entry_contributions section e)
-unfolding entry_contributions
-in_entry section e = when (bytes_eq section switches_name) (switch_contributions (switch_of e)) [] (in_switch (switch_of e)) refl
+  in_player : (place : Place) (p : EventPlayer) → Unnamed (player_contributions place p)
+  unfolding player_contributions
+  in_player place p = first (binds p.event.text place Run) (map post (texts p.posts)) (no_event p.event.text) (each post no_event (texts p.posts))
 
-in_player_entry : (place : Place) (section : List ℕ) (p : Player) → Unnamed (player_entry_contributions place section p)
-unfolding player_entry_contributions
-in_player_entry place section p = when (bytes_eq section event_player_name) (player_contributions place (event_player_of p)) [] (in_player place (event_player_of p)) refl
+  in_entry : (section : List ℕ) (e : Entry) → Unnamed (entry_contributions section e)
+  unfolding entry_contributions
+  in_entry section e = when (bytes_eq section switches_name) (switch_contributions (switch_of e)) [] (in_switch (switch_of e)) refl
 
-in_stopper : (holds : Bool) (event : List ℕ) → Unnamed (stopper_where holds event)
-in_stopper true event = refl
-in_stopper false event = refl
+  in_player_entry : (place : Place) (section : List ℕ) (p : Player) → Unnamed (player_entry_contributions place section p)
+  unfolding player_entry_contributions
+  in_player_entry place section p = when (bytes_eq section event_player_name) (player_contributions place (event_player_of p)) [] (in_player place (event_player_of p)) refl
 
-in_controls : (s : ModeSettings) → Unnamed (controls s)
-in_controls s =
-    let starts = map starter (texts s.starts) in
-    let stops = map stopper (texts s.stops) in
-    let ball = stopper_where s.stops_with_ball (codes "ball_ending") in
-    let game = stopper_where s.game (codes "game_ending") in
-    both (starts ++ stops ++ ball) game
-    (both (starts ++ stops) ball (both starts stops (each starter (λ n. refl) (texts s.starts)) (each stopper (λ n. refl) (texts s.stops))) (in_stopper s.stops_with_ball (codes "ball_ending")))
-    (in_stopper s.game (codes "game_ending"))
+  in_stopper : (holds : Bool) (event : List ℕ) → Unnamed (stopper_where holds event)
+  in_stopper true event = first (stopper event) [] (no_event event) refl
+  in_stopper false event = refl
 
-in_mode : (name : List ℕ) (s : ModeSettings) → Unnamed (mode_contributions name s)
-unfolding mode_contributions
-in_mode name s = in_controls s
+  in_controls : (s : ModeSettings) → Unnamed (controls s)
+  in_controls s =
+      let starts = map starter (texts s.starts) in
+      let stops = map stopper (texts s.stops) in
+      let ball = stopper_where s.stops_with_ball (codes "ball_ending") in
+      let game = stopper_where s.game (codes "game_ending") in
+      both (starts ++ stops ++ ball) game
+      (both (starts ++ stops) ball (both starts stops (each starter no_event (texts s.starts)) (each stopper no_event (texts s.stops))) (in_stopper s.stops_with_ball (codes "ball_ending")))
+      (in_stopper s.game (codes "game_ending"))
 
-in_row : (r : Row) → Unnamed (row_contributions r)
-in_row (entry section e) = in_entry section e
-in_row (player place section p) = in_player_entry place section p
-in_row (of_mode name s) = in_mode name s
+  in_later : (name : List ℕ) → Unnamed (later_events name)
+  in_later name = λ i. no_event (mode_event_name Starting name) i ++ no_event (mode_event_name Started name) i ++ no_event (mode_event_name Stopping name) i ++ no_event (mode_event_name Stopped name) i ++ []
 
-in_rows : (rs : List Row) → Unnamed (given_by rs)
-in_rows [] = refl
-in_rows (r ∷ rs) = both (row_contributions r) (given_by rs) (in_row r) (in_rows rs)
+  in_mode : (name : List ℕ) (s : ModeSettings) → Unnamed (mode_contributions name s)
+  unfolding mode_contributions
+  in_mode name s = first (mode name s.priority s.game) (later_events name ++ controls s) (no_event (mode_event_name WillStart name)) (both (later_events name) (controls s) (in_later name) (in_controls s))
+
+  in_row : (r : Row) → Unnamed (row_contributions r)
+  in_row (entry section e) = in_entry section e
+  in_row (player place section p) = in_player_entry place section p
+  in_row (of_mode name s) = in_mode name s
+
+  pub in_rows : (rs : List Row) → Unnamed (given_by rs)
+  in_rows [] = refl
+  in_rows (r ∷ rs) = both (row_contributions r) (given_by rs) (in_row r) (in_rows rs)
 
 pub bindings_unnamed : (rs : List Row) → names_from (given_by rs) Bindings ≡ []
-bindings_unnamed rs = ap first_uses (in_rows rs)
+bindings_unnamed rs = ap first_uses (in_rows Bindings (λ n. refl) (λ n. refl) rs)
+
+pub rows_unnamed : (rs : List Row) → names_from (given_by rs) Rows ≡ []
+rows_unnamed rs = ap first_uses (in_rows Rows (λ n. refl) (λ n. refl) rs)

@@ -13,15 +13,16 @@ use Rattle.mpf_plan.specs.declared.contribution.Aim.TheVariants.{Run, Start, Sto
 use Rattle.plan_tables.specs.declared.entries.Action.{Action}
 use Rattle.plan_tables.specs.declared.entries.Action.TheVariants.{Post}
 use Rattle.plan_tables.specs.declared.table.Table.{Table}
-use Rattle.plan_tables.specs.declared.table.Table.TheVariants.{Events, Bindings, Switches}
+use Rattle.plan_tables.specs.declared.table.Table.TheVariants.{Events, Bindings, Switches, Rows}
 use Rattle.plan_tables.specs.PlanView.{PlanView}
+use Rattle.plan_tables.specs.Devices.{IsWithinLimits}
 use Rattle.plan_tables.specs.Valid.{IsValid, HasEntries}
 use Rattle.mpf_plan.specs.Contributions.{Contribution, gives, reads, active, inactive, mode, mode_event, binds, post, contributions_of}
 use Rattle.mpf_plan.specs.Uses.{Names, names_from, uses, first_by}
 use Rattle.plan_tables.specs.Limits.{entry_count, limit_of}
 use Rattle.mpf_plan.specs.PlanOf.{DraftView, event_of, with_contribution, blank, plan_from, plan_of, plan_at}
 use Rattle.mpf_plan.proofs.Counts.{named_of}
-use Rattle.mpf_plan.proofs.Drafted.{given_plan, names-from, count-bindings, count-lists}
+use Rattle.mpf_plan.proofs.Drafted.{given_plan, names-from, no_rows, count-bindings, count-lists}
 use Rattle.mpf_plan.proofs.Judged.{plan_at-Ok}
 use Rattle.mpf_plan.proofs.RowFacts.{AreShort, rows_are_short, rows_are_open}
 use Rattle.mpf_plan.proofs.SoundDraft.{has_entries}
@@ -66,6 +67,7 @@ all_apart (x ∷ xs) apart (suc i) (suc j) d before within = all_apart xs apart.
 
 named_apart : (cs : List Contribution) (t : Table) → AreApart (named_of cs t)
 named_apart cs Bindings = tt
+named_apart cs Rows = tt
 named_apart cs Events = AreApart-first_uses (uses Events cs)
 named_apart cs t = AreApart-first_uses (uses t cs)
 
@@ -133,6 +135,9 @@ valid_from rows short few within =
       binding_limit = limit;
       switch_limit = within Switches;
       list_limit = omega (arith, limit, count-bindings cs, count-lists cs);
+      row_limit = within Rows;
+      row_lists = ap length (no_rows cs).1 ∙ sym (ap length (no_rows cs).0);
+      settings = subst (All (λ row. IsWithinLimits row.settings)) (sym (no_rows cs).0) (All-nil (λ row. IsWithinLimits row.settings));
       action_limit = fit_fold names 1024 cs (blank names) (rows_are_short rows short) none;
       names = λ t. subst (AllPairs (λ x y. x ≢ y)) (sym (names-from cs t)) (all_apart (named_of cs t) (named_apart cs t));
       entries = has_entries cs (rows_are_open rows);

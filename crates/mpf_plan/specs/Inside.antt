@@ -44,7 +44,7 @@ named_view p = (p.0, parts_text p.1)
 
 abbrev pub draft_view : NameSets → Draft → DraftView
 draft_view names d = record {
-  plan = tables_view (record { names = names; modes = d.modes; switches = d.switches; lists = d.lists; bindings = d.bindings });
+  plan = tables_view (record { names = names; modes = d.modes; switches = d.switches; lists = d.lists; bindings = d.bindings; rows = d.rows; row_lists = d.row_lists });
   defined = d.defined.items;
   last = d.last;
 }

@@ -162,7 +162,7 @@ named_switch n = record no_switch { name = n }
 -- before anything is added, names are there alone
 abbrev pub blank : Names → DraftView
 blank names = record {
-  plan = record { modes = []; events = names Events; switches = map named_switch (names Switches); lists = []; bindings = [] };
+  plan = record { modes = []; events = names Events; switches = map named_switch (names Switches); lists = []; bindings = []; rows = []; row_lists = [] };
   defined = map (λ n. false) (names Switches);
   last = length (names Switches);
 }

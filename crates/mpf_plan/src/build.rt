@@ -56,6 +56,8 @@ pub fn plan(alloc: Global, config: &Config) -> Result<Plan, PlanFault>
             switches: draft.switches,
             lists: draft.lists,
             bindings: draft.bindings,
+            rows: draft.rows,
+            row_lists: draft.row_lists,
         },
     )?;
     Ok(plan)

@@ -2,7 +2,8 @@
 
 ghost use Rattle.std.specs.Prelude.{◌≡◌, length};
 
-use plan_tables::entries::{Action, Binding, ModeEntry, SwitchEntry};
+use plan_tables::devices::DeviceRow;
+use plan_tables::entries::{Action, Binding, ListId, ModeEntry, SwitchEntry};
 
 /// The tables of a plan, as far as they are made.
 #[derive(Drop)]
@@ -11,6 +12,8 @@ pub(crate) struct Draft {
     pub(crate) switches: Vec<SwitchEntry>,
     pub(crate) lists: Vec<Vec<Action>>,
     pub(crate) bindings: Vec<Binding>,
+    pub(crate) rows: Vec<DeviceRow>,
+    pub(crate) row_lists: Vec<ListId>,
     /// Which switches are defined.
     pub(crate) defined: Vec<bool>,
     /// The switch that came last, where it was the first of its name; or else one past the last.

@@ -377,6 +377,8 @@ fn blank(alloc: Global, names: &NameSets) -> Result<Draft, AllocError>
         switches,
         lists: Vec::new(alloc),
         bindings: Vec::new(alloc),
+        rows: Vec::new(alloc),
+        row_lists: Vec::new(alloc),
         defined,
         last: count,
     })

@@ -98,6 +98,7 @@ fn is_above(found: &Found, table: Table) -> bool
 {
     match table {
         Table::Bindings => found.bindings > table.limit(),
+        Table::Rows => false,
         _ => found.tables[table.index()].above,
     }
 }

@@ -2,7 +2,7 @@ use Rattle.std.proofs.Common.{sym, ◌∙◌}
 use Rattle.mpf_plan.specs.Contributions.{given_by}
 use Rattle.mpf_plan.specs.Inside.{row_list_view}
 use Rattle.mpf_plan.proofs.Found.{bindings_fit, names_are_kept, kept_fit}
-use Rattle.mpf_plan.proofs.Unnamed.{bindings_unnamed}
+use Rattle.mpf_plan.proofs.Unnamed.{bindings_unnamed, rows_unnamed}
 use Rattle.mpf_plan.proofs.numbering.number.Goals as goal
 
 pub invariant_of-result : goal.invariant_of-result
@@ -10,7 +10,7 @@ invariant_of-result c =
     let rows = row_list_view c.args.rows.now in
     let cs = given_by rows in
     let has = c.in_ok-found.ensures in
-    record { count = c.in_ok-found.found.count; fit = kept_fit cs c.in_ok-found.found has (sym (c.first_above.ensures cs has) ∙ c.in_default.is) (bindings_unnamed rows) }
+    record { count = c.in_ok-found.found.count; fit = kept_fit cs c.in_ok-found.found has (sym (c.first_above.ensures cs has) ∙ c.in_default.is) (bindings_unnamed rows, rows_unnamed rows) }
 
 pub returns : goal.returns
 returns c =
@@ -19,4 +19,4 @@ returns c =
     let found = c.in_ok-found.found in
     let has = c.in_ok-found.ensures in
     let none = sym (c.first_above.ensures cs has) ∙ c.in_default.is in
-    (sym c.in_ok-lacking.ensures ∙ c.if-lacking.false, (λ i t. names_are_kept cs found has none (bindings_unnamed rows) t i), none, bindings_fit cs found has none (bindings_unnamed rows))
+    (sym c.in_ok-lacking.ensures ∙ c.if-lacking.false, (λ i t. names_are_kept cs found has none (bindings_unnamed rows, rows_unnamed rows) t i), none, bindings_fit cs found has none (bindings_unnamed rows, rows_unnamed rows))
