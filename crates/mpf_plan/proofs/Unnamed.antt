@@ -4,6 +4,7 @@ use Rattle.std.specs.Str.{bytes_eq}
 use Rattle.std.proofs.lemmas.Grind.{flat_map-append}
 use Rattle.mpf_config.specs.Rows.{Entry, Player, Switch, EventPlayer, ModeSettings}
 use Rattle.mpf_config.specs.Typed.{switches_name, event_player_name, switch_of, event_player_of}
+use Rattle.plan_tables.specs.declared.entries.ModeEvent.{ModeEvent}
 use Rattle.plan_tables.specs.declared.entries.ModeEvent.TheVariants.{WillStart, Starting, Started, Stopping, Stopped}
 use Rattle.mpf_plan.specs.declared.contribution.Place.{Place}
 use Rattle.mpf_plan.specs.declared.contribution.Aim.TheVariants.{Run}
@@ -67,7 +68,10 @@ module _ (t : Table) (no_event : (n : List ℕ) → name_in_table t (Some (Event
       (in_stopper s.game (codes "game_ending"))
 
   in_later : (name : List ℕ) → Unnamed (later_events name)
-  in_later name = λ i. no_event (mode_event_name Starting name) i ++ no_event (mode_event_name Started name) i ++ no_event (mode_event_name Stopping name) i ++ no_event (mode_event_name Stopped name) i ++ []
+  in_later name = from Starting (mode_event Started name ∷ mode_event Stopping name ∷ mode_event Stopped name ∷ []) (from Started (mode_event Stopping name ∷ mode_event Stopped name ∷ []) (from Stopping (mode_event Stopped name ∷ []) (from Stopped [] refl)))
+    where
+      from : (which : ModeEvent) (cs : List Contribution) → Unnamed cs → Unnamed (mode_event which name ∷ cs)
+      from which cs rest = first (mode_event which name) cs (no_event (mode_event_name which name)) rest
 
   in_mode : (name : List ℕ) (s : ModeSettings) → Unnamed (mode_contributions name s)
   unfolding mode_contributions

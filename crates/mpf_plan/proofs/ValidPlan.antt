@@ -13,7 +13,8 @@ use Rattle.mpf_plan.specs.declared.contribution.Aim.TheVariants.{Run, Start, Sto
 use Rattle.plan_tables.specs.declared.entries.Action.{Action}
 use Rattle.plan_tables.specs.declared.entries.Action.TheVariants.{Post}
 use Rattle.plan_tables.specs.declared.table.Table.{Table}
-use Rattle.plan_tables.specs.declared.table.Table.TheVariants.{Events, Bindings, Switches, Rows}
+use Rattle.plan_tables.specs.declared.table.Table.TheVariants.{Events, Bindings, Switches}
+use Rattle.plan_tables.specs.declared.table.Table.TheVariants as tables
 use Rattle.plan_tables.specs.PlanView.{PlanView}
 use Rattle.plan_tables.specs.Devices.{IsWithinLimits}
 use Rattle.plan_tables.specs.Valid.{IsValid, HasEntries}
@@ -67,7 +68,7 @@ all_apart (x ∷ xs) apart (suc i) (suc j) d before within = all_apart xs apart.
 
 named_apart : (cs : List Contribution) (t : Table) → AreApart (named_of cs t)
 named_apart cs Bindings = tt
-named_apart cs Rows = tt
+named_apart cs tables.Rows = tt
 named_apart cs Events = AreApart-first_uses (uses Events cs)
 named_apart cs t = AreApart-first_uses (uses t cs)
 
@@ -135,7 +136,7 @@ valid_from rows short few within =
       binding_limit = limit;
       switch_limit = within Switches;
       list_limit = omega (arith, limit, count-bindings cs, count-lists cs);
-      row_limit = within Rows;
+      row_limit = within tables.Rows;
       row_lists = ap length (no_rows cs).1 ∙ sym (ap length (no_rows cs).0);
       settings = subst (All (λ row. IsWithinLimits row.settings)) (sym (no_rows cs).0) (All-nil (λ row. IsWithinLimits row.settings));
       action_limit = fit_fold names 1024 cs (blank names) (rows_are_short rows short) none;
