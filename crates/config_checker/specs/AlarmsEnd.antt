@@ -19,7 +19,7 @@ StimuliArmLater =
 -- The source of an alarm, if it is due after that, is due later than the alarm came.
 abbrev pub AlarmsAreDone : Type 0
 AlarmsAreDone =
-    (plan : PlanView) (at : ℕ) (source : Source) (s : Machine) (n : ℕ) (t : Machine) → IsValid plan → HasDevices plan s → EventSteps plan n (begin plan (Alarm at source) s) t
+    (plan : PlanView) (at : ℕ) (source : Source) (s : Machine) (n : ℕ) (t : Machine) → IsValid plan → HasDevices plan s.devices → EventSteps plan n (begin plan (Alarm at source) s) t
     → (due : ℕ) → source_due t source ≡ Some due → at < due
 
 -- So after the alarms that come by a moment, of which there are no more than `most_alarms`, nothing is due by it.

@@ -1,5 +1,5 @@
 -- What holds of the devices in every run, and of what acts on them in an accepted plan.
-use Rattle.std.specs.Prelude.{◌≡◌, ℕ, ◌<◌, length}
+use Rattle.std.specs.Prelude.{◌≡◌, ◌<◌, List, length}
 use Rattle.std.specs.List.{All}
 use Rattle.plan_tables.specs.PlanView.{PlanView, row_at}
 use Rattle.plan_tables.specs.declared.entries.Binding.{Binding}
@@ -8,17 +8,18 @@ use Rattle.plan_tables.specs.declared.entries.Target.{Target}
 use Rattle.plan_tables.specs.declared.entries.Target.TheVariants.{Run, Start, Stop, Act}
 use Rattle.plan_tables.specs.declared.devices.RowId.{RowId}
 use Rattle.device_objects.specs.Laws.{HasShape}
-use Rattle.config_checker.specs.Machine.{Machine, device_at}
+use Rattle.device_objects.specs.declared.state.DeviceState.{DeviceState}
+use Rattle.config_checker.specs.Machine.{device_state}
 use Rattle.config_checker.specs.Run.{InEveryRun}
 
 -- The state of each device has the shape of its row.
-pub record HasDevices (plan : PlanView) (s : Machine) : Type 0 where
-  pub count : length s.devices ≡ length plan.rows
-  pub shapes : (r : RowId) → r.0 < length plan.rows → HasShape (row_at plan r).settings (device_at s r)
+pub record HasDevices (plan : PlanView) (devices : List DeviceState) : Type 0 where
+  pub count : length devices ≡ length plan.rows
+  pub shapes : (r : RowId) → r.0 < length plan.rows → HasShape (row_at plan r).settings (device_state devices r)
 
 -- So it is in every run.
 abbrev pub DevicesKeepTheirShape : PlanView → Type 0
-DevicesKeepTheirShape plan = InEveryRun plan (λ stimuli trace s. HasDevices plan s)
+DevicesKeepTheirShape plan = InEveryRun plan (λ stimuli trace s. HasDevices plan s.devices)
 
 -- an act is on a device of this owner
 abbrev pub IsOwnAct : PlanView → Owner → Target → Type 0

@@ -119,20 +119,23 @@ abbrev pub world_of : Machine → World
 world_of s = record { games = 0; player = 0 }
 
 -- the state of a device by the number of its row
+abbrev pub device_state : List DeviceState → RowId → DeviceState
+device_state devices r = slice_index_or devices r.0 (first_state no_row.settings)
+
 abbrev pub device_at : Machine → RowId → DeviceState
-device_at s r = slice_index_or s.devices r.0 (first_state no_row.settings)
+device_at s r = device_state s.devices r
+
+-- what the call of a device leads to: its next state, and the effect lists that it answers
+abbrev pub called : PlanView → Call → RowId → Machine → DeviceState × List ℕ
+called plan call r s = device_step (row_at plan r).settings call s.moment (world_of s) (device_at s r)
 
 -- effect lists of a row run, one after another, for the row's owner
 abbrev pub do_answer : PlanView → RowId → List ℕ → Machine → Machine
 do_answer plan r lists s = all_do (λ k. do_list plan (row_at plan r).owner (list_of_row plan r k)) lists s
 
--- the device goes on to its next state, and what it answers is done
-abbrev pub do_step : PlanView → RowId → DeviceState × List ℕ → Machine → Machine
-do_step plan r step s = do_answer plan r step.1 (set_device r step.0 s)
-
--- a device is called
+-- A device is called: it goes on to its next state, and what it answers is done.
 abbrev pub call_device : PlanView → Call → RowId → Machine → Machine
-call_device plan call r s = do_step plan r (device_step (row_at plan r).settings call s.moment (world_of s) (device_at s r)) s
+call_device plan call r s = do_answer plan r (called plan call r s).1 (set_device r (called plan call r s).0 s)
 
 -- all devices of a mode are called, in the order of their rows
 abbrev pub call_devices : PlanView → Call → ModeId → Machine → Machine
