@@ -6,7 +6,7 @@ ghost use Rattle.std.specs.Prelude.{◌≡◌, ◌<◌, ◌++◌, length, OnOk};
 ghost use Rattle.std.specs.List.{All};
 ghost use Rattle.plan_tables.specs.declared.entries.Owner.TheVariants as owners;
 ghost use Rattle.plan_tables.specs.Devices.{list_count};
-ghost use Rattle.plan_tables.specs.Valid.{IsActionWithin, IsTargetWithin};
+ghost use Rattle.plan_tables.specs.Valid.{IsTargetWithin, IsValid};
 ghost use Rattle.plan_tables.specs.PlanView.{bound_to, row_at, rows_of};
 ghost use Rattle.device_objects.specs.declared.device.Call.TheVariants as calls;
 ghost use Rattle.cascade_rank.specs.Cost.{each_of, cost_of_action, cost_of_answer, cost_of_binding, cost_of_call, cost_of_event, cost_of_starts, cost_of_target, cost_of_work};
@@ -24,7 +24,8 @@ pub(crate) fn list_posts(
     event: EventId,
 ) -> Result<(), AllocError>
     requires { event.0 < length plan.now.events }
-    ensures { OnOk result (posts.new.items ≡ weights_in (cost_of_event plan.now event)) }
+    ensures posts { OnOk result (posts.new.items ≡ weights_in (cost_of_event plan.now event)) }
+    ensures valid { OnOk result (IsValid plan.now) }
 {
     posts.clear();
     push_bound(posts, plan, event)?;
@@ -34,7 +35,8 @@ pub(crate) fn list_posts(
 /// Of what is bound to an event.
 fn push_bound(posts: &mut Vec<EventId>, plan: &Plan, event: EventId) -> Result<(), AllocError>
     requires { event.0 < length plan.now.events }
-    ensures { OnOk result (posts.new.items ≡ posts.old.items ++ weights_in (each_of (cost_of_binding plan.now) (bound_to plan.now event))) }
+    ensures posts { OnOk result (posts.new.items ≡ posts.old.items ++ weights_in (each_of (cost_of_binding plan.now) (bound_to plan.now event))) }
+    ensures valid { OnOk result (IsValid plan.now) }
 {
     for place in plan.bindings_of(event) {
         push_target(posts, plan, plan.binding(*place).target)?;

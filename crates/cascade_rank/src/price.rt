@@ -3,7 +3,7 @@
 //! Nothing is cut off: a weight is below 2^32, and a plan has too few bindings and devices for a
 //! sum of their prices to reach 2^113.
 
-ghost use Rattle.std.specs.Prelude.{◌≡◌, ◌+◌, ◌^◌, ◌<◌, length};
+ghost use Rattle.std.specs.Prelude.{◌≡◌, ◌+◌, ◌^◌, ◌<◌, ◌≤◌, length};
 ghost use Rattle.std.specs.List.{All};
 ghost use Rattle.plan_tables.specs.Valid.{IsActionWithin, IsTargetWithin, IsBindingWithin, IsEventWithin};
 ghost use Rattle.plan_tables.specs.declared.entries.Owner.TheVariants as owners;
@@ -76,7 +76,7 @@ fn price_of_start(plan: &Plan, weights: &[u32], mode: ModeId, row: RowId) -> u12
     requires row { row.0 < length plan.now.rows }
     requires weights { length weights.now ≡ length plan.now.events }
     ensures price { result ≡ price (weight_of weights.now) (cost_of_start plan.now mode row) }
-    ensures small { result < 2 ^ 98 }
+    ensures small { result ≤ 2 ^ 98 }
 {
     if is_of(plan.row(row).owner, mode) {
         price_of_call(plan, weights, row, Call::ModeStart)
@@ -104,7 +104,7 @@ fn price_of_binding(plan: &Plan, weights: &[u32], binding: Binding) -> u128
     requires binding { IsBindingWithin plan.now binding }
     requires weights { length weights.now ≡ length plan.now.events }
     ensures price { result ≡ price (weight_of weights.now) (cost_of_binding plan.now binding) }
-    ensures small { result < 2 ^ 98 }
+    ensures small { result ≤ 2 ^ 98 }
 {
     price_of_target(plan, weights, binding.target)
 }
@@ -113,7 +113,7 @@ fn price_of_target(plan: &Plan, weights: &[u32], target: Target) -> u128
     requires target { IsTargetWithin plan.now target }
     requires weights { length weights.now ≡ length plan.now.events }
     ensures price { result ≡ price (weight_of weights.now) (cost_of_target plan.now target) }
-    ensures small { result < 2 ^ 98 }
+    ensures small { result ≤ 2 ^ 98 }
 {
     match target {
         Target::Run(list) => price_of_list(plan, weights, list),
@@ -128,7 +128,7 @@ fn price_of_call(plan: &Plan, weights: &[u32], row: RowId, call: Call) -> u128
     requires row { row.0 < length plan.now.rows }
     requires weights { length weights.now ≡ length plan.now.events }
     ensures price { result ≡ price (weight_of weights.now) (cost_of_call plan.now row call) }
-    ensures small { result < 2 ^ 98 }
+    ensures small { result ≤ 2 ^ 98 }
 {
     let answers = outcomes(&plan.row(row).settings, call);
     let mut dearest = 0u128;
@@ -145,7 +145,7 @@ fn price_of_answer(plan: &Plan, weights: &[u32], row: RowId, lists: &[u16]) -> u
     requires few { length lists.now ≤ 4 }
     requires weights { length weights.now ≡ length plan.now.events }
     ensures price { result ≡ price (weight_of weights.now) (cost_of_answer plan.now row lists.now) }
-    ensures small { result < 2 ^ 98 }
+    ensures small { result ≤ 2 ^ 98 }
 {
     let mut total = 0u128;
     for list in lists {
