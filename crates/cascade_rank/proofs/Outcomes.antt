@@ -11,7 +11,7 @@ use Rattle.plan_tables.specs.declared.devices.DeviceRow.{DeviceRow}
 use Rattle.device_objects.specs.declared.device.Call.{Call}
 use Rattle.device_objects.specs.Laws.{OutcomesAreOfTheRow}
 use Rattle.device_objects.specs.Outcomes.{outcomes}
-use Rattle.cascade_rank.specs.Cost.{Cost, Lines, Greater, price, each_of, dearest_of, cost_of_answer, cost_of_call}
+use Rattle.cascade_rank.specs.Cost.{Cost, Greater, price, each_of, dearest_of, cost_of_answer, cost_of_call}
 use Rattle.cascade_rank.specs.Mentions.{weights_in}
 use Rattle.cascade_rank.proofs.Places.{each_of-map}
 use Rattle.cascade_rank.proofs.Posted.{weights-dearest}

@@ -57,11 +57,7 @@ fn push_target(posts: &mut Vec<EventId>, plan: &Plan, target: Target) -> Result<
     Ok(())
 }
 
-fn push_actions(
-    posts: &mut Vec<EventId>,
-    plan: &Plan,
-    actions: &[Action],
-) -> Result<(), AllocError>
+fn push_actions(posts: &mut Vec<EventId>, plan: &Plan, actions: &[Action]) -> Result<(), AllocError>
     ensures { OnOk result (posts.new.items ≡ posts.old.items ++ weights_in (each_of (cost_of_action plan.now) actions.now)) }
 {
     for action in actions {

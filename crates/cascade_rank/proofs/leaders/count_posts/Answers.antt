@@ -1,13 +1,10 @@
-use Rattle.std.proofs.Common.{◌≡◌, List, length, sym, subst, ap, ◌∙◌}
-use Rattle.std.specs.List.{All}
-use Rattle.plan_tables.specs.Valid.{IsEventWithin}
+use Rattle.std.proofs.Common.{List, length, sym, subst, ap, ◌∙◌}
 use Rattle.plan_tables.specs.declared.entries.EventId.{EventId}
-use Rattle.cascade_rank.specs.Cost.{each_of, cost_of_post, cost_of_event}
+use Rattle.cascade_rank.specs.Cost.{each_of, cost_of_post}
 use Rattle.cascade_rank.specs.Leaders.{AddsLeader}
-use Rattle.cascade_rank.specs.Mentions.{weights_in}
 use Rattle.cascade_rank.proofs.Events.{event}
 use Rattle.cascade_rank.proofs.Leading.{leaders_more}
-use Rattle.cascade_rank.proofs.Within.{IsBelow-event, posts_of_event-within}
+use Rattle.cascade_rank.proofs.Within.{posts_of_event-within}
 use Rattle.cascade_rank.proofs.leaders.count_posts.Goals as goal
 
 pub add_event-requires : goal.add_event-requires

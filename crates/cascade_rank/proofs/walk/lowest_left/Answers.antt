@@ -1,6 +1,5 @@
-use Rattle.std.proofs.Common.{◌≡◌, ℕ, nat_lt, true, false, min, Bool, cond, List, length, get_or, ap, ◌∙◌, arith}
+use Rattle.std.proofs.Common.{nat_lt, Bool, cond, length, get_or, ap, arith}
 use Rattle.std.proofs.lemmas.Bool.{lt-ltb, le-ltb}
-use Rattle.plan_tables.specs.declared.entries.EventId.{EventId}
 use Rattle.cascade_rank.specs.Cost.{cost_of_post}
 use Rattle.cascade_rank.specs.Events.{no_event}
 use Rattle.cascade_rank.specs.Order.{left_of}

@@ -1,4 +1,4 @@
-use Rattle.std.proofs.Common.{◌≡◌, ℕ, nat_lt, List, length, ap, ◌∙◌, arith}
+use Rattle.std.proofs.Common.{nat_lt, List, length, ap, ◌∙◌, arith}
 use Rattle.plan_tables.specs.declared.entries.EventId.{EventId}
 use Rattle.cascade_rank.specs.Cost.{each_of, cost_of_post}
 use Rattle.cascade_rank.specs.Lowest.{lowest}
