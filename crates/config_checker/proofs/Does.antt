@@ -1,8 +1,9 @@
 -- What one cost pays for: single changes of the machine, one after another, each by a licence.
-use Rattle.std.proofs.Common.{◌≡◌, ℕ, zero, suc, ◌+◌, ◌≤◌, ◌<◌, inl, inr, Bool, true, false, List, [], ◌∷◌, ◌++◌, length, length-append, slice_index_or, slice_set, Contains, refl, sym, subst, ◌∙◌, arith}
-use Rattle.std.proofs.lemmas.Bool.{cases_eq}
+use Rattle.std.proofs.Common.{◌≡◌, ℕ, zero, suc, ◌+◌, ◌≤◌, ◌<◌, inl, inr, Some, Bool, true, false, List, [], ◌∷◌, ◌++◌, length, length-append, slice_index_or, slice_set, Contains, refl, ap, sym, subst, ◌∙◌, arith}
+use Rattle.std.proofs.lemmas.Bool.{cases_eq, cases_lt}
+use Rattle.std.proofs.lemmas.Option.{none-some}
 use Rattle.std.specs.List.{All, AllByRecursion}
-use Rattle.std.proofs.lemmas.List.{length-set, get_or-set_same, get_or-set_other}
+use Rattle.std.proofs.lemmas.List.{length-set, get_or_past, get_or-set_same, get_or-set_other}
 use Rattle.std.proofs.lemmas.List.Elements.{All-head, All-tail}
 use Rattle.plan_tables.specs.PlanView.{PlanView, mode_event, no_row, row_at}
 use Rattle.plan_tables.specs.Valid.{HasEntries}
@@ -15,7 +16,7 @@ use Rattle.plan_tables.specs.declared.entries.Owner.TheVariants as owners
 use Rattle.plan_tables.specs.declared.devices.RowId.{RowId}
 use Rattle.device_objects.specs.declared.device.Call.{Call}
 use Rattle.device_objects.specs.declared.state.DeviceState.{DeviceState}
-use Rattle.device_objects.specs.DeviceStep.{first_state}
+use Rattle.device_objects.specs.DeviceStep.{due_of, first_state}
 use Rattle.device_objects.specs.Laws.{HasShape}
 use Rattle.device_objects.proofs.Shapes.{states_keep_their_shape}
 use Rattle.mode_stack.specs.declared.phase.ModeState.{ModeState}
@@ -214,7 +215,7 @@ module _ (plan : PlanView) where
   grows-move (Marked m state) s = (omega arith, omega arith)
   grows-move (Turned call r) s = (omega arith, omega arith)
 
-  moment-move : (x : Move) (s : Machine) → (do_move plan x s).moment ≡ s.moment
+  pub moment-move : (x : Move) (s : Machine) → (do_move plan x s).moment ≡ s.moment
   moment-move (Wrote owner what) s = refl
   moment-move (Sent owner e) s = refl
   moment-move (Switched n switch) s = refl
@@ -267,7 +268,27 @@ module _ (plan : PlanView) where
   has_states-move (Marked m state) s h = marked-has_states m state s h
   has_states-move (Turned call r) s h = record { kinds = h.kinds; switches = h.switches; modes = h.modes; devices = turned-has_devices call r s h.devices }
 
+  -- a device that is due is one of the plan
+  pub due-row : (s : Machine) (r : RowId) (due : ℕ) → HasDevices plan s.devices → due_of (device_at s r) ≡ Some due → r.0 < length plan.rows
+  due-row s r due has is =
+      elim (cases_lt r.0 (length s.devices)) [
+        | inl there ↦ let count = has.count in omega (arith, there, count)
+        | inr past ↦ absurd (none-some due (sym (ap due_of (get_or_past s.devices r.0 (first_state no_row.settings) past)) ∙ is))
+      ]
+
+  pub has_devices-move : (x : Move) (s : Machine) → HasDevices plan s.devices → HasDevices plan (do_move plan x s).devices
+  has_devices-move (Wrote owner what) s h = h
+  has_devices-move (Sent owner e) s h = h
+  has_devices-move (Switched n switch) s h = h
+  has_devices-move (Began m) s h = start-by plan m s (λ t. HasDevices plan t.devices) h h
+  has_devices-move (Ended m) s h = stop-by plan m s (λ t. HasDevices plan t.devices) h h
+  has_devices-move (Marked m state) s h = h
+  has_devices-move (Turned call r) s h = turned-has_devices call r s h
+
   module _ {may : Move → Type 0} {c : Cost} {s t : Machine} where
+    pub has_devices-does : Does plan may c s t → HasDevices plan s.devices → HasDevices plan t.devices
+    has_devices-does d h = does-keeps plan may (λ u. HasDevices plan u.devices) (λ x u allowed k. has_devices-move x u k) d h
+
     pub grows-does : Does plan may c s t → Grows s t
     grows-does d =
         does-keeps plan may (Grows s) (λ x u allowed h. let g = grows-move x u in (omega (arith, h.0, g.0), omega (arith, h.1, g.1))) d (omega arith, omega arith)

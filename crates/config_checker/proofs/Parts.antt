@@ -32,7 +32,7 @@ use Rattle.switch_core.specs.Switches.{kind_at, state_at, after_change, reported
 use Rattle.mode_stack.specs.ModeStep.{entered, ended}
 use Rattle.mode_stack.specs.Modes.{mode_state, running_of}
 use Rattle.config_checker.specs.declared.line.Happening.TheVariants as lines
-use Rattle.cascade_rank.specs.Cost.{Cost, Lines, each_of, cost_of_post, cost_of_action, cost_of_list, cost_of_answer, cost_of_target, cost_of_binding, led_by, cost_if_led, cost_of_acceptance}
+use Rattle.cascade_rank.specs.Cost.{Cost, Lines, Both, each_of, cost_of_post, cost_of_action, cost_of_list, cost_of_answer, cost_of_target, cost_of_binding, led_by, cost_if_led, cost_of_acceptance}
 use Rattle.cascade_rank.proofs.Within.{posts-below, mode_event-within}
 use Rattle.event_queue.specs.Handlers.{takes_part, runs_at, handlers, IsHandlerOrder}
 use Rattle.config_checker.specs.Machine.{Machine, write, post, set_switches, set_mode, set_device, all_do, do_action, do_list, called, call_device, call_devices, do_target, do_handler, do_accepted, do_if_accepted}
@@ -264,7 +264,7 @@ module _ (plan : PlanView) where
       works : (x : Move) → MayDo plan (ordinary plan (λ owner. Unit {0}) ⊥) x → MayWork plan x
       works (Wrote owner what) may = may
       works (Sent owner e) may = (may.0, may.1, tt)
-      works (Switched n switch) may = may
+      works (Switched n state) may = may
       works (Began k) may = may
       works (Ended k) may = may
       works (Marked k state) may = absurd may

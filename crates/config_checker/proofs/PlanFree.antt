@@ -157,3 +157,13 @@ module _ (rows : Rows) where
           lists = All-weaker (All (IsPost (IsNameOf IsUnreserved plan))) (All (IsFreeAction plan)) (λ l h. All-weaker (IsPost (IsNameOf IsUnreserved plan)) (IsFreeAction plan) action-free l h) plan.lists meet.lists;
           switches = All-weaker (ArePosts (IsNameOf IsUnreserved plan)) (IsFreeSwitch plan) switch-free plan.switches meet.switches;
         }
+
+-- a plan without devices has no binding that acts on one
+pub plan_own : (rows : Rows) (plan : PlanView) → plan_at rows ≡ Ok plan → ActsAreOwn plan
+plan_own rows plan is = All-weaker (IsBindingWithin plan) (λ b. IsOwnAct plan b.owner b.target) (λ b within. own b.owner b.target within.2) plan.bindings (HasEntries-plan_at rows plan is).bindings
+  where
+    own : (owner : Owner) (t : Target) → IsTargetWithin plan t → IsOwnAct plan owner t
+    own owner (Run l) within = tt
+    own owner (Start m) within = tt
+    own owner (Stop m) within = tt
+    own owner (Act r act) within = absurd (omega (arith, within, ap (λ (rs : List DeviceRow). length rs) (no_devices-plan_at rows plan is)))

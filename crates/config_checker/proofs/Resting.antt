@@ -1,0 +1,85 @@
+-- No device of a mode is due unless the mode runs: what moves of handlers, the machine's works and stimuli keep.
+use Rattle.std.proofs.Common.{◌≡◌, ℕ, ◌<◌, ◌≤◌, ◌⊎◌, inl, inr, Bool, true, false, ◌==◌, None, Some, List, [], ◌∷◌, length, filter, slice_set, refl, ap, sym, subst, ◌∙◌, arith, rules}
+use Rattle.std.specs.Prelude.{Contains}
+use Rattle.std.proofs.lemmas.Bool.{cases_eq, cases_lt}
+use Rattle.std.proofs.lemmas.Option.{none-some}
+use Rattle.std.proofs.lemmas.List.{get_or-map, get_or-set_same, get_or-set_other, length-set}
+use Rattle.plan_tables.specs.PlanView.{PlanView, is_owner, mode_event, no_row, row_at, rows_of}
+use Rattle.plan_tables.specs.Valid.{IsValid}
+use Rattle.plan_tables.specs.declared.entries.ModeId.{ModeId}
+use Rattle.plan_tables.specs.declared.entries.ModeEvent.{ModeEvent}
+use Rattle.plan_tables.specs.declared.entries.ModeEvent.TheVariants.{WillStart, Starting, Started, Stopping, Stopped}
+use Rattle.plan_tables.specs.declared.entries.Owner.{Owner}
+use Rattle.plan_tables.specs.declared.entries.Owner.TheVariants as owners
+use Rattle.plan_tables.specs.declared.entries.Work.{Work}
+use Rattle.plan_tables.specs.declared.entries.Work.TheVariants.{Nothing, Mode}
+use Rattle.plan_tables.specs.declared.devices.RowId.{RowId}
+use Rattle.plan_tables.proofs.Owners.{rows_of-there}
+use Rattle.device_objects.specs.declared.device.Call.{Call}
+use Rattle.device_objects.specs.declared.device.Call.TheVariants as calls
+use Rattle.device_objects.specs.declared.state.DeviceState.{DeviceState}
+use Rattle.device_objects.specs.DeviceStep.{due_of, first_state}
+use Rattle.device_objects.proofs.Moments.{stopped-quiet, stopped-silent}
+use Rattle.mode_stack.specs.declared.phase.Phase.TheVariants as phases
+use Rattle.mode_stack.specs.declared.phase.ModeState.{ModeState}
+use Rattle.mode_stack.specs.ModeStep.{in_phase, is_running, entered, ended}
+use Rattle.mode_stack.specs.Modes.{needs_game, mode_state, running_of}
+use Rattle.mode_stack.proofs.WhoRuns.{starting_keeps_who_runs}
+use Rattle.cascade_rank.specs.Cost.{Cost}
+use Rattle.event_queue.specs.Handlers.{takes_part}
+use Rattle.config_checker.specs.Devices.{HasDevices, ActsAreOwn}
+use Rattle.config_checker.specs.Machine.{Machine, post, set_mode, set_device, has_game, start_mode, stop_mode, all_do, world_of, device_state, device_at, called, do_answer, call_device, call_devices}
+use Rattle.config_checker.specs.EventStep.{do_before, do_after}
+use Rattle.config_checker.proofs.Does.{Move, Wrote, Sent, Switched, Began, Ended, Marked, Turned, do_move, start-by, stop-by, MayDo, Does, does-keeps, due-row, has_devices-move}
+use Rattle.config_checker.proofs.Parts.{ordinary, does-calls}
+
+-- ---- devices whose mode stops
+
+module _ (plan : PlanView) where
+  -- the device goes on to its next state, and answers nothing
+  stop-turns : (r : RowId) (s : Machine) → call_device plan calls.ModeStop r s ≡ set_device r (called plan calls.ModeStop r s).0 s
+  stop-turns r s =
+      ap (λ (lists : List ℕ). do_answer plan r lists (set_device r (called plan calls.ModeStop r s).0 s))
+      (stopped-silent (row_at plan r).settings s.moment (world_of s) (device_at s r))
+
+  -- so nothing but devices changes
+  pub stops-turn : (rs : List RowId) (s : Machine) → (new : List DeviceState) × (all_do (call_device plan calls.ModeStop) rs s ≡ record s { devices = new })
+  stops-turn [] s = (s.devices, refl)
+  stops-turn (r ∷ rs) s =
+      let turned = set_device r (called plan calls.ModeStop r s).0 s in
+      let rest = stops-turn rs turned in
+      (rest.0, ap (all_do (call_device plan calls.ModeStop) rs) (stop-turns r s) ∙ rest.1)
+
+  IsQuiet : Machine → RowId → Type 0
+  IsQuiet s r = due_of (device_at s r) ≡ None
+
+  -- a device that stops is not due, and stays so while others stop
+  turned-quiet : (r q : RowId) (s : Machine) → q.0 < length plan.rows → HasDevices plan s.devices → (q.0 ≡ r.0) ⊎ IsQuiet s q → IsQuiet (set_device r (called plan calls.ModeStop r s).0 s) q
+  unfolding IsQuiet
+  turned-quiet r q s there has quiet =
+      elim (cases_eq q.0 r.0) [
+        | inl same ↦
+            let within : r.0 < length plan.rows = omega (arith, there, same) in
+            let count : r.0 < length s.devices = let is = has.count in omega (arith, within, is) in
+            subst (λ (n : ℕ). due_of (device_state (slice_set s.devices r.0 (called plan calls.ModeStop r s).0) (record { 0 = n })) ≡ None) (sym same)
+            (ap due_of (get_or-set_same s.devices r.0 (called plan calls.ModeStop r s).0 (first_state no_row.settings) count)
+            ∙ stopped-quiet (row_at plan r).settings s.moment (world_of s) (device_at s r) (has.shapes r within))
+        | inr other ↦
+            elim quiet [
+              | inl same ↦ absurd (other same)
+              | inr before ↦ ap due_of (get_or-set_other s.devices r.0 q.0 (called plan calls.ModeStop r s).0 (first_state no_row.settings) other) ∙ before
+            ]
+      ]
+
+  pub stops-quiet : (rs : List RowId) (q : RowId) (s : Machine) → q.0 < length plan.rows → HasDevices plan s.devices → Contains rs q ⊎ IsQuiet s q → IsQuiet (all_do (call_device plan calls.ModeStop) rs s) q
+  stops-quiet [] q s there has (inl (i, within, is)) = absurd (omega arith)
+  stops-quiet [] q s there has (inr quiet) = quiet
+  stops-quiet (r ∷ rs) q s there has listed =
+      let turned = set_device r (called plan calls.ModeStop r s).0 s in
+      subst (λ (t : Machine). IsQuiet (all_do (call_device plan calls.ModeStop) rs t) q) (sym (stop-turns r s))
+      (stops-quiet rs q turned there (has_devices-move plan (Turned calls.ModeStop r) s has) (by listed))
+    where
+      by : Contains (r ∷ rs) q ⊎ IsQuiet s q → Contains rs q ⊎ IsQuiet (set_device r (called plan calls.ModeStop r s).0 s) q
+      by (inl (zero, within, is)) = inr (turned-quiet r q s there has (inl (sym (ap (λ (x : RowId). x.0) is))))
+      by (inl (suc i, within, is)) = inl (i, omega arith, is)
+      by (inr quiet) = inr (turned-quiet r q s there has (inr quiet))
