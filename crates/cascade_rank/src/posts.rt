@@ -32,7 +32,7 @@ pub(crate) fn list_posts(
     push_work(posts, plan, event)
 }
 
-/// Of what is bound to an event.
+/// Adds those of what is bound to an event.
 fn push_bound(posts: &mut Vec<EventId>, plan: &Plan, event: EventId) -> Result<(), AllocError>
     requires { event.0 < length plan.now.events }
     ensures posts { OnOk result (posts.new.items ≡ posts.old.items ++ weights_in (each_of (cost_of_binding plan.now) (bound_to plan.now event))) }
@@ -75,7 +75,7 @@ fn push_action(posts: &mut Vec<EventId>, plan: &Plan, action: Action) -> Result<
     Ok(())
 }
 
-/// Of all that a call of a device can answer.
+/// Adds those of all that a call of a device can answer.
 fn push_call(
     posts: &mut Vec<EventId>,
     plan: &Plan,
@@ -92,7 +92,7 @@ fn push_call(
     Ok(())
 }
 
-/// Of the effect lists of a row that its device answers.
+/// Adds those of the effect lists of a row that its device answers.
 fn push_answer(
     posts: &mut Vec<EventId>,
     plan: &Plan,
@@ -109,7 +109,7 @@ fn push_answer(
     Ok(())
 }
 
-/// Of the machine's work at an event.
+/// Adds those of the machine's work at an event.
 fn push_work(posts: &mut Vec<EventId>, plan: &Plan, event: EventId) -> Result<(), AllocError>
     requires { event.0 < length plan.now.events }
     ensures { OnOk result (posts.new.items ≡ posts.old.items ++ weights_in (cost_of_work plan.now event)) }
@@ -121,7 +121,7 @@ fn push_work(posts: &mut Vec<EventId>, plan: &Plan, event: EventId) -> Result<()
     Ok(())
 }
 
-/// Of the starts of a mode's devices, if the work is that of the mode's event `started`.
+/// Adds those of the starts of a mode's devices, if the work is that of the mode's event `started`.
 fn push_starts(posts: &mut Vec<EventId>, plan: &Plan, work: Work) -> Result<(), AllocError>
     ensures { OnOk result (posts.new.items ≡ posts.old.items ++ weights_in (cost_of_starts plan.now work)) }
 {
@@ -131,7 +131,7 @@ fn push_starts(posts: &mut Vec<EventId>, plan: &Plan, work: Work) -> Result<(), 
     }
 }
 
-/// Of the starts of a mode's devices.
+/// Adds those of the starts of a mode's devices.
 fn push_devices(posts: &mut Vec<EventId>, plan: &Plan, mode: ModeId) -> Result<(), AllocError>
     ensures { OnOk result (posts.new.items ≡ posts.old.items ++ weights_in (each_of (λ r. cost_of_call plan.now r calls.ModeStart) (rows_of plan.now (owners.Mode mode)))) }
 {
@@ -141,7 +141,7 @@ fn push_devices(posts: &mut Vec<EventId>, plan: &Plan, mode: ModeId) -> Result<(
     Ok(())
 }
 
-/// Of the start of a device, if it is one of the mode's.
+/// Adds those of the start of a device, if it is one of the mode's.
 fn push_start(
     posts: &mut Vec<EventId>,
     plan: &Plan,
