@@ -97,7 +97,7 @@ module _ (plan : PlanView) where
     later-move : (x : Move) (s : Machine) → IsLater s (do_move plan x s)
     later-move (Wrote owner what) s = λ r due is. inl is
     later-move (Sent owner e) s = λ r due is. inl is
-    later-move (Switched n switch) s = λ r due is. inl is
+    later-move (Switched n state) s = λ r due is. inl is
     later-move (Began m) s = start-by plan m s (IsLater s) (λ r due is. inl is) (λ r due is. inl is)
     later-move (Ended m) s = stop-by plan m s (IsLater s) (λ r due is. inl is) (λ r due is. inl is)
     later-move (Marked m state) s = λ r due is. inl is
@@ -191,7 +191,7 @@ module _ (plan : PlanView) where
   first_at : (r : RowId) → r.0 < length plan.rows → device_at (initial plan) r ≡ devices.first_state (row_at plan r).settings
   first_at r there = get_or-map (λ (row : DeviceRow). devices.first_state row.settings) plan.rows r.0 no_row (devices.first_state no_row.settings) there
 
-  initial-devices : HasDevices plan (initial plan).devices
+  pub initial-devices : HasDevices plan (initial plan).devices
   initial-devices = record {
     count = length-map plan.rows (λ row. devices.first_state row.settings);
     shapes = λ r there. subst (HasShape (row_at plan r).settings) (sym (first_at r there)) (states_keep_their_shape.first (row_at plan r).settings);

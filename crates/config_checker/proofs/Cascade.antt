@@ -59,7 +59,7 @@ module _ (plan : PlanView) (w : EventId → ℕ) where
   stimulus_cost entries s (Wait at) h allowed = omega arith
 
   -- a device that fires is one of the plan, and due
-  fired : HasEntries plan → (s : Machine) (stimulus : Stimulus) → HasStates plan s → IsAllowed plan s stimulus → IsFired plan entries w s stimulus
+  fired : (entries : HasEntries plan) → (s : Machine) (stimulus : Stimulus) → HasStates plan s → IsAllowed plan s stimulus → IsFired plan entries w s stimulus
   fired entries s (Change at n level) h allowed = tt
   fired entries s (Alarm at (switch n)) h allowed = tt
   fired entries s (Alarm at (device r)) h allowed = (due-row plan s r at h.devices allowed.0.due, allowed.0.due)

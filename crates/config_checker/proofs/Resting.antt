@@ -1,5 +1,5 @@
 -- No device of a mode is due unless the mode runs: what moves of handlers, the machine's works and stimuli keep.
-use Rattle.std.proofs.Common.{◌≡◌, ℕ, ◌<◌, ◌≤◌, ◌⊎◌, inl, inr, Bool, true, false, ◌==◌, None, Some, List, [], ◌∷◌, length, filter, slice_set, refl, ap, sym, subst, ◌∙◌, arith, rules}
+use Rattle.std.proofs.Common.{◌≡◌, ℕ, zero, suc, ◌<◌, ◌≤◌, ◌⊎◌, inl, inr, Bool, true, false, ◌==◌, None, Some, List, [], ◌∷◌, length, filter, slice_set, refl, ap, sym, subst, ◌∙◌, arith, rules}
 use Rattle.std.specs.Prelude.{Contains}
 use Rattle.std.proofs.lemmas.Bool.{cases_eq, cases_lt}
 use Rattle.std.proofs.lemmas.Option.{none-some}
@@ -50,12 +50,11 @@ module _ (plan : PlanView) where
       let rest = stops-turn rs turned in
       (rest.0, ap (all_do (call_device plan calls.ModeStop) rs) (stop-turns r s) ∙ rest.1)
 
-  IsQuiet : Machine → RowId → Type 0
+  abbrev IsQuiet : Machine → RowId → Type 0
   IsQuiet s r = due_of (device_at s r) ≡ None
 
   -- a device that stops is not due, and stays so while others stop
   turned-quiet : (r q : RowId) (s : Machine) → q.0 < length plan.rows → HasDevices plan s.devices → (q.0 ≡ r.0) ⊎ IsQuiet s q → IsQuiet (set_device r (called plan calls.ModeStop r s).0 s) q
-  unfolding IsQuiet
   turned-quiet r q s there has quiet =
       elim (cases_eq q.0 r.0) [
         | inl same ↦
@@ -83,3 +82,66 @@ module _ (plan : PlanView) where
       by (inl (zero, within, is)) = inr (turned-quiet r q s there has (inl (sym (ap (λ (x : RowId). x.0) is))))
       by (inl (suc i, within, is)) = inl (i, omega arith, is)
       by (inr quiet) = inr (turned-quiet r q s there has (inr quiet))
+
+-- ---- what rests
+
+-- The devices have states, and one of the mode that is due is of a mode that runs.
+pub record Rests (plan : PlanView) (m : ModeId) (s : Machine) : Type 0 where
+  pub devices : HasDevices plan s.devices
+  pub rests : (r : RowId) (due : ℕ) → (row_at plan r).owner ≡ owners.Mode m → due_of (device_at s r) ≡ Some due → takes_part (running_of s.modes) (owners.Mode m) ≡ true
+
+module _ (plan : PlanView) (valid : IsValid plan) (own : ActsAreOwn plan) (m : ModeId) where
+  -- where modes and devices are the same
+  pub same-rests : (s t : Machine) → t.modes ≡ s.modes → t.devices ≡ s.devices → Rests plan m s → Rests plan m t
+  same-rests s t modes devices h = record {
+    devices = subst (HasDevices plan) (sym devices) h.devices;
+    rests = λ r due is armed.
+        subst (λ (ms : List ModeState). takes_part (running_of ms) (owners.Mode m) ≡ true) (sym modes)
+        (h.rests r due is (subst (λ (ds : List DeviceState). due_of (device_state ds r) ≡ Some due) devices armed));
+  }
+
+  -- where the same modes run
+  pub running-rests : (s t : Machine) → running_of t.modes ≡ running_of s.modes → t.devices ≡ s.devices → Rests plan m s → Rests plan m t
+  running-rests s t running devices h = record {
+    devices = subst (HasDevices plan) (sym devices) h.devices;
+    rests = λ r due is armed.
+        subst (λ (bs : List Bool). takes_part bs (owners.Mode m) ≡ true) (sym running)
+        (h.rests r due is (subst (λ (ds : List DeviceState). due_of (device_state ds r) ≡ Some due) devices armed));
+  }
+
+  -- where the mode runs
+  pub runs-rests : (s : Machine) → HasDevices plan s.devices → takes_part (running_of s.modes) (owners.Mode m) ≡ true → Rests plan m s
+  runs-rests s has runs = record { devices = has; rests = λ r due is armed. runs }
+
+  -- where no device of the mode is due
+  pub quiet-rests : (s : Machine) → HasDevices plan s.devices → ((r : RowId) → r.0 < length plan.rows → (row_at plan r).owner ≡ owners.Mode m → due_of (device_at s r) ≡ None) → Rests plan m s
+  quiet-rests s has quiet = record {
+    devices = has;
+    rests = λ r due is armed. absurd (none-some due (sym (quiet r (due-row plan s r due has armed) is) ∙ armed));
+  }
+
+  -- ---- moves
+
+  module _ (by : Owner → Type 0) (switches : Type 0) where
+    turned-rests : (call : Call) (r : RowId) (s : Machine) → (by (owners.Mode m) → takes_part (running_of s.modes) (owners.Mode m) ≡ true) → by (row_at plan r).owner → Rests plan m s → Rests plan m (set_device r (called plan call r s).0 s)
+    turned-rests call r s runs may h = record { devices = has_devices-move plan (Turned call r) s h.devices; rests = rests }
+      where
+        rests : (q : RowId) (due : ℕ) → (row_at plan q).owner ≡ owners.Mode m → due_of (device_at (set_device r (called plan call r s).0 s) q) ≡ Some due → takes_part (running_of s.modes) (owners.Mode m) ≡ true
+        rests q due is armed =
+            elim (cases_eq q.0 r.0) [
+              | inl same ↦ runs (subst by (ap (λ (n : ℕ). (row_at plan (record { 0 = n })).owner) (sym same) ∙ is) may)
+              | inr other ↦ h.rests q due is (sym (ap due_of (get_or-set_other s.devices r.0 q.0 (called plan call r s).0 (first_state no_row.settings) other)) ∙ armed)
+            ]
+
+    pub move-rests : (x : Move) (s : Machine) → MayDo plan (ordinary plan by switches) x → (by (owners.Mode m) → takes_part (running_of s.modes) (owners.Mode m) ≡ true) → Rests plan m s → Rests plan m (do_move plan x s)
+    move-rests (Wrote owner what) s may runs h = same-rests s (do_move plan (Wrote owner what) s) refl refl h
+    move-rests (Sent owner e) s may runs h = same-rests s (do_move plan (Sent owner e) s) refl refl h
+    move-rests (Switched n state) s may runs h = same-rests s (do_move plan (Switched n state) s) refl refl h
+    move-rests (Began k) s may runs h =
+        let same = starting_keeps_who_runs.start s.modes k (needs_game plan k) (has_game s) in
+        start-by plan k s (Rests plan m) (running-rests s _ same refl h) (running-rests s _ same refl h)
+    move-rests (Ended k) s may runs h =
+        let same = starting_keeps_who_runs.stop s.modes k in
+        stop-by plan k s (Rests plan m) (running-rests s _ same refl h) (running-rests s _ same refl h)
+    move-rests (Marked k state) s may runs h = absurd may
+    move-rests (Turned call r) s may runs h = turned-rests call r s runs (may own) h
