@@ -18,8 +18,8 @@ pub record HasDevices (plan : PlanView) (devices : List DeviceState) : Type 0 wh
   pub shapes : (r : RowId) → r.0 < length plan.rows → HasShape (row_at plan r).settings (device_state devices r)
 
 -- So it is in every run.
-abbrev pub DevicesKeepTheirShape : PlanView → Type 0
-DevicesKeepTheirShape plan = InEveryRun plan (λ stimuli trace s. HasDevices plan s.devices)
+abbrev pub DevicesKeepTheirShape : Type 0
+DevicesKeepTheirShape = (plan : PlanView) → InEveryRun plan (λ stimuli trace s. HasDevices plan s.devices)
 
 -- an act is on a device of this owner
 abbrev pub IsOwnAct : PlanView → Owner → Target → Type 0

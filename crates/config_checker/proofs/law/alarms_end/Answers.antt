@@ -1,4 +1,5 @@
-use Rattle.config_checker.proofs.Alarms.{arms_later, alarm-done}
+use Rattle.config_checker.specs.Machine.{initial}
+use Rattle.config_checker.proofs.Alarms.{arms_later, alarm-done, has_states-run, has_states-initial}
 use Rattle.config_checker.proofs.AlarmsEnd.{alarms_end}
 use Rattle.config_checker.proofs.law.alarms_end.Goals as goal
 
@@ -10,3 +11,6 @@ returns-clause-done c = λ plan at source s n t valid has steps. alarm-done plan
 
 pub returns-clause-end : goal.returns-clause-end
 returns-clause-end c = alarms_end
+
+pub returns-clause-shapes : goal.returns-clause-shapes
+returns-clause-shapes c = λ plan stimuli trace s run. (has_states-run plan stimuli (initial plan) trace s run (has_states-initial plan)).devices
