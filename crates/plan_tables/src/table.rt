@@ -17,12 +17,7 @@ pub enum Table {
 }
 
 /// The tables, in the order in which they are judged.
-pub const TABLES: [Table; 4] = [
-    Table::Events,
-    Table::Bindings,
-    Table::Switches,
-    Table::Rows,
-];
+pub const TABLES: [Table; 4] = [Table::Events, Table::Bindings, Table::Switches, Table::Rows];
 
 impl Table {
     /// The name by which the table is reported.

@@ -1,14 +1,11 @@
-use Rattle.std.proofs.Common.{◌≡◌, ◌<◌, ◌≤◌, length, map, ap, sym, subst, ◌∙◌, arith}
+use Rattle.std.proofs.Common.{ap, sym, ◌∙◌}
 use Rattle.std.specs.Prelude.{Ok, Err}
-use Rattle.std.specs.List.{All}
-use Rattle.std.proofs.lemmas.List.{length-map}
 use Rattle.std.proofs.lemmas.Result.{err_from_is_err_and}
 use Rattle.mpf_config.specs.View.{rows_view}
 use Rattle.mpf_plan.specs.Contributions.{given_by}
-use Rattle.plan_tables.specs.Inside.{mode_entry_view}
-use Rattle.mpf_plan.specs.Inside.{draft_view, row_list_view as found_view}
+use Rattle.mpf_plan.specs.Inside.{row_list_view as found_view}
 use Rattle.mpf_plan.proofs.Drafted.{entries_count}
-use Rattle.mpf_plan.proofs.Planned.{refused_exact, refused_limit, rows_within, is_plan, is_planned, is_valid, modes_few, events_bound}
+use Rattle.mpf_plan.proofs.Planned.{refused_exact, refused_limit, rows_within, is_plan, is_planned, is_valid, modes_few}
 use Rattle.mpf_plan.proofs.build.plan.Goals as goal
 
 pub returns-in_err-names-clause-exact : goal.returns-in_err-names-clause-exact
