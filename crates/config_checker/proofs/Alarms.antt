@@ -316,7 +316,6 @@ module _ (plan : PlanView) (valid : IsValid plan) where
   forward (Change at n level) s h allowed = allowed.0.forward
   forward (Alarm at source) s h allowed = h source at allowed.0.due
   forward (Wait at) s h allowed = allowed.forward
-
   -- ---- every switch has a state
 
 module _ (plan : PlanView) where

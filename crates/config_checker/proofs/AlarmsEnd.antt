@@ -102,14 +102,18 @@ module _ (plan : PlanView) (bound : ℕ) where
       let states = h.switches in
       let within : n.0 < length plan.switches = omega (arith, there, states) in
       let listed : n.0 < length (switches_of plan) = omega (arith, within, length-switches plan) in
-      let first : n.0 < length of_switches = omega (arith, within, switches-count) in
-      (n.0, omega (arith, first, length-append of_switches of_devices),
-      get_or_append_left of_switches of_devices (switch n) n.0 first ∙ get_or-map switch (switches_of plan) n.0 n (switch n) listed ∙ ap switch (switch_of plan n.0 n within))
+      let first : n.0 < length of_switches = omega (arith, within, switches-count) in (
+        n.0,
+        omega (arith, first, length-append of_switches of_devices),
+        get_or_append_left of_switches of_devices (switch n) n.0 first ∙ get_or-map switch (switches_of plan) n.0 n (switch n) listed ∙ ap switch (switch_of plan n.0 n within),
+      )
   sources-all s (device r) due h is =
       let within : r.0 < length plan.rows = due-row plan s r due h.devices is in
-      let listed : r.0 < length (row_numbers plan) = omega (arith, within, length-rows plan) in
-      (length of_switches + r.0, omega (arith, within, devices-count, length-append of_switches of_devices),
-      get_or-append-add of_switches of_devices r.0 (device r) ∙ get_or-map device (row_numbers plan) r.0 r (device r) listed ∙ ap device (row_of plan r.0 r within))
+      let listed : r.0 < length (row_numbers plan) = omega (arith, within, length-rows plan) in (
+        length of_switches + r.0,
+        omega (arith, within, devices-count, length-append of_switches of_devices),
+        get_or-append-add of_switches of_devices r.0 (device r) ∙ get_or-map device (row_numbers plan) r.0 r (device r) listed ∙ ap device (row_of plan r.0 r within),
+      )
 
   -- ---- an alarm
 

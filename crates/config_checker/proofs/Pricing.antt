@@ -54,8 +54,11 @@ module _ (plan : PlanView) (entries : HasEntries plan) (w : EventId → ℕ) whe
   call-priced : (call : Call) (r : RowId) (s : Machine) → r.0 < length plan.rows → HasDevices plan s.devices → MayCome call (device_at s r) → price w (call_now plan call r s) ≤ price w (cost_of_call plan r call)
   call-priced call r s there has may =
       let settings = (row_at plan r).settings in
-      omega (arith, dearest-of (cost_of_answer plan r) (outcomes settings call) (called plan call r s).1
-      (answers_are_outcomes settings call s.moment (world_of s) (device_at s r) (has.shapes r there) may))
+      omega (
+        arith,
+        dearest-of (cost_of_answer plan r) (outcomes settings call) (called plan call r s).1
+            (answers_are_outcomes settings call s.moment (world_of s) (device_at s r) (has.shapes r there) may),
+      )
 
   call-devices : (call : Call) (r : RowId) (s : Machine) → HasDevices plan s.devices → HasDevices plan (call_device plan call r s).devices
   call-devices call r s has = has_devices-does plan (does-call plan (λ owner. Unit {0}) ⊥ call r (λ own. tt) s) has

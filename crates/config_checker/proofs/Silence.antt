@@ -176,8 +176,8 @@ module _ (plan : PlanView) (valid : IsValid plan) (free : PostsAreFree plan) (ow
   own_ended : (before : List Line) (s : Machine) → Stays before (Stopping ∷ []) s → Stays before [] (do_after plan true (Mode m Stopping) s)
   own_ended before s h = (
     ended-holds before (Stopping ∷ []) m s (λ new.
-    own_change plan valid m within before (Stopping ∷ []) [] Stopped (in_phase phases.Idle) (record s { devices = new }) (with_devices before (Stopping ∷ []) s new h.0)
-    (turn-stopping (phase_in m s) (waiting_of plan m s.waiting) h.0.holds.turns) (λ r. absurd (search rules))),
+        own_change plan valid m within before (Stopping ∷ []) [] Stopped (in_phase phases.Idle) (record s { devices = new }) (with_devices before (Stopping ∷ []) s new h.0)
+        (turn-stopping (phase_in m s) (waiting_of plan m s.waiting) h.0.holds.turns) (λ r. absurd (search rules))),
     quiet-rests plan valid own m (do_after plan true (Mode m Stopping) s) (has_devices-does plan (does-calls plan (λ owner. Unit {0}) calls.ModeStop m tt s) h.1.devices)
         (λ r there is. stops-quiet plan (rows_of plan (owners.Mode m)) r s there h.1.devices
         (inl (rows_of-there plan (owners.Mode m) r there (subst (λ (o : Owner). is_owner (owners.Mode m) o ≡ true) (sym is) (eq-eqb m.0 m.0 refl))))),
@@ -188,8 +188,8 @@ module _ (plan : PlanView) (valid : IsValid plan) (free : PostsAreFree plan) (ow
       let stopped = call_devices plan calls.ModeStop k s in
       let called = calls-hold before [] calls.ModeStop k s (λ same. absurd (other same)) h in (
         ended-holds before [] k s (λ new.
-        other_post plan valid m within before [] k Stopped (set_mode k (ended (mode_state s.modes k)) (record s { devices = new })) there other
-        (other_set plan valid m within before [] k (ended (mode_state s.modes k)) (record s { devices = new }) other (with_devices before [] s new h.0))),
+            other_post plan valid m within before [] k Stopped (set_mode k (ended (mode_state s.modes k)) (record s { devices = new })) there other
+            (other_set plan valid m within before [] k (ended (mode_state s.modes k)) (record s { devices = new }) other (with_devices before [] s new h.0))),
         post-rests (mode_event plan k Stopped) (set_mode k (ended (mode_state s.modes k)) stopped) (other_set-rests k (ended (mode_state s.modes k)) stopped called.0.count other called.1),
       )
 

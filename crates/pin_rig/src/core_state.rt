@@ -276,7 +276,10 @@ fn call_one<D: Device>(device: &mut D, call: Call, now: u64) -> Outcome
     ensures state { D.state_of device.new ≡ (device_step (D.row_of device.old).settings call now no_world (D.state_of device.old)).0 }
     ensures lists { result.items ≡ (device_step (D.row_of device.old).settings call now no_world (D.state_of device.old)).1 }
 {
-    let world = World { games: 0, player: 0 };
+    let world = World {
+        games: 0,
+        player: 0,
+    };
     match call {
         Call::ModeStart => device.start(now, world),
         Call::ModeStop => device.stop(now, world),

@@ -22,9 +22,7 @@ use crate::core_state::Core;
 use crate::stimulus::{Source, Stimulus};
 use config_checker::Happening;
 use device_objects::{Call, Device};
-use plan_tables::{
-    Action, EventId, ModeEvent, ModeId, Owner, Plan, RowId, SwitchId, Target, Work,
-};
+use plan_tables::{Action, EventId, ModeEvent, ModeId, Owner, Plan, RowId, SwitchId, Target, Work};
 use switch_core::Change;
 
 /// What a stimulus does before any event step.

@@ -57,11 +57,7 @@ impl<'c, D: Device> Rig<'c, D> {
     /// - `NoMemory`: memory ran out.
     /// - `WrongDevice`: a device is not the one of its row, in its first state; or there are too
     ///   few devices, or too many.
-    pub fn new(
-        alloc: Global,
-        checked: &'c Checked,
-        devices: Vec<D>,
-    ) -> Result<Rig<'c, D>, RigFault>
+    pub fn new(alloc: Global, checked: &'c Checked, devices: Vec<D>) -> Result<Rig<'c, D>, RigFault>
         ensures checked { IfOk result (λ rig. rig.checked ≡ checked.now) }
         ensures machine { IfOk result (λ rig. rig.machine ≡ initial checked.now.plan) }
         ensures reached { IfOk result (λ rig. IsReached checked.now.plan [] rig.machine) }

@@ -33,14 +33,14 @@ loop-number-preserved g c =
     let is : own (record { 0 = i }) ≡ c.is_of.result = ap (λ (row : DeviceRow). is_owner (owners.Mode c.args.mode) row.owner) (sym c.row.ensures.row) ∙ sym c.is_of.ensures in
     elim c.if-is_of.branch [
       | then-is_of w ↦ (
-            all_do-first (call_device plan call) c.loop-number.core c.if-is_of.core all (record { 0 = i }) rest left (own-first plan c.args.mode i there (is ∙ w.if-is_of.true)) c.loop-number.invariant.0 (w.core-is ∙ w.call_device.ensures),
-            call-calls plan call (record { 0 = i }) c.loop-number.core c.if-is_of.core (w.core-is ∙ w.call_device.ensures) c.loop-number.invariant.1,
-          )
+        all_do-first (call_device plan call) c.loop-number.core c.if-is_of.core all (record { 0 = i }) rest left (own-first plan c.args.mode i there (is ∙ w.if-is_of.true)) c.loop-number.invariant.0 (w.core-is ∙ w.call_device.ensures),
+        call-calls plan call (record { 0 = i }) c.loop-number.core c.if-is_of.core (w.core-is ∙ w.call_device.ensures) c.loop-number.invariant.1,
+      )
       | else-is_of w ↦ (
-            subst (λ (core : CoreView). after (all_do (call_device plan call) rest) core ≡ all) (sym w.core-is)
+        subst (λ (core : CoreView). after (all_do (call_device plan call) rest) core ≡ all) (sym w.core-is)
             (subst (λ (rs : List RowId). after (all_do (call_device plan call) rs) c.loop-number.core ≡ all) (other-first plan c.args.mode i there (is ∙ w.if-is_of.false)) c.loop-number.invariant.0),
-            subst (CanCall plan) (sym w.core-is) c.loop-number.invariant.1,
-          )
+        subst (CanCall plan) (sym w.core-is) c.loop-number.invariant.1,
+      )
     ]
 
 pub returns : goal.returns

@@ -36,12 +36,12 @@ run_target-requires-clause-room g c =
 
 pub loop-place-preserved : goal.loop-place-preserved
 loop-place-preserved g c = (
-    handler-run c.args.plan.now (running_of c.args.core.now.machine.modes) c.args.core.now c.loop-place.core c.requires.handlers c.args.event c.loop-place.from c.loop-place.invariant.0
-    c.in-Some.place c.in-Some.next c.in-Some.ensures.walk c.binding-binding.result c.binding-binding.ensures.binding c.run_target.new.core c.run_target.ensures,
-    handled-calls c.args.plan.now (c.in-Some.place ∷ []) c.loop-place.core c.run_target.new.core
-    (c.run_target.ensures ∙ ap (λ (b : Binding). after (do_binding c.args.plan.now b) c.loop-place.core) (sym (get_or_from_slice_get c.args.plan.now.bindings c.in-Some.place.0 c.binding-binding.result no_binding c.binding-binding.ensures.binding)))
-    c.loop-place.invariant.1,
-  )
+  handler-run c.args.plan.now (running_of c.args.core.now.machine.modes) c.args.core.now c.loop-place.core c.requires.handlers c.args.event c.loop-place.from c.loop-place.invariant.0
+      c.in-Some.place c.in-Some.next c.in-Some.ensures.walk c.binding-binding.result c.binding-binding.ensures.binding c.run_target.new.core c.run_target.ensures,
+  handled-calls c.args.plan.now (c.in-Some.place ∷ []) c.loop-place.core c.run_target.new.core
+      (c.run_target.ensures ∙ ap (λ (b : Binding). after (do_binding c.args.plan.now b) c.loop-place.core) (sym (get_or_from_slice_get c.args.plan.now.bindings c.in-Some.place.0 c.binding-binding.result no_binding c.binding-binding.ensures.binding)))
+      c.loop-place.invariant.1,
+)
 
 pub run_target-requires-clause-calls : goal.run_target-requires-clause-calls
 run_target-requires-clause-calls g c = c.loop-place.invariant.1
