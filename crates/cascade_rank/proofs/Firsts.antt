@@ -1,12 +1,14 @@
 -- The first event that passes a test.
-use Rattle.std.proofs.Common.{◌≡◌, ℕ, zero, suc, ◌+◌, ◌<◌, ◌≤◌, min, Bool, true, false, not, cond, ◌&&◌, ◌||◌, ◌==◌, nat_lt, List, [], ◌∷◌, length, take, get_or, Some, None, position, refl, sym, ◌∙◌, ap, subst, inl, inr, arith}
-use Rattle.std.specs.List.{position_or_len}
+use Rattle.std.proofs.Common.{◌≡◌, ℕ, zero, suc, ◌+◌, ◌<◌, ◌≤◌, min, Bool, true, false, not, cond, ◌&&◌, ◌||◌, ◌==◌, nat_lt, List, [], ◌∷◌, ◌++◌, length, take, get_or, Some, None, position, refl, sym, ◌∙◌, ap, inl, inr, arith}
+use Rattle.std.specs.List.{All, position_or_len}
 use Rattle.std.proofs.lemmas.Bool.{cases_lt, cases_eq, cases_Bool, lt-ltb, le-ltb, ne_eqb, and_from, and_left, and_right, or_cases, eqb-true, eq-eqb, false≢true}
+use Rattle.std.proofs.lemmas.List.Elements.{All-take}
 use Rattle.std.proofs.lemmas.List.Sums.{position_or_len_is, fails_before_first, passes_at_first, prefix_len-le-length}
-use Rattle.plan_tables.specs.PlanView.{PlanView, bound_to}
-use Rattle.plan_tables.specs.Valid.{HasEntries}
+use Rattle.plan_tables.specs.PlanView.{PlanView}
+use Rattle.plan_tables.specs.Valid.{HasEntries, IsEventWithin}
 use Rattle.plan_tables.specs.declared.entries.EventId.{EventId}
-use Rattle.cascade_rank.specs.Cost.{Cost, Lines, Weight, Both, Greater, mentions, each_of, cost_of_binding, cost_of_work, cost_of_event}
+use Rattle.cascade_rank.specs.Cost.{Cost, Lines, Weight, Both, Greater, mentions, each_of, cost_of_post, cost_of_event}
+use Rattle.cascade_rank.specs.Mentions.{weights_in}
 use Rattle.cascade_rank.specs.Events.{events_of, no_event}
 use Rattle.cascade_rank.specs.LeadsTo.{is_open}
 use Rattle.cascade_rank.specs.Cycle.{IsFirst, next_open}
@@ -14,7 +16,7 @@ use Rattle.cascade_rank.specs.Lowest.{lowest, IsLeft}
 use Rattle.cascade_rank.specs.Order.{left_of}
 use Rattle.cascade_rank.specs.Below.{IsBelow}
 use Rattle.cascade_rank.proofs.Events.{event, same_event, tested_event, length-events, event_number}
-use Rattle.cascade_rank.proofs.Within.{IsBelow-event}
+use Rattle.cascade_rank.proofs.Within.{IsBelow-event, each_below}
 
 -- ---- the lowest event of a cost
 
@@ -79,6 +81,27 @@ lowest-each_more n p f (x ∷ xs) (suc i) d h =
     let e : suc i + 1 ≡ suc (i + 1) = omega arith in
     let r = lowest-each_more n p f xs i d (omega (arith, h)) in
     rw e (omega (arith, r))
+
+-- of the first of a list, each of which is below n
+pub lowest_all : (n : ℕ) (p : EventId → Bool) (es : List EventId) → All (IsEventWithin n) es → (i : ℕ) → lowest n p (each_of cost_of_post (take i es)) ≤ n
+lowest_all n p es h i = lowest-at_most n p (each_of cost_of_post (take i es)) (each_below n cost_of_post (IsEventWithin n) (λ e k. k) (take i es) (All-take (IsEventWithin n) i es h))
+
+-- the lowest of a cost is the lowest of its weights
+lowest-append : (n : ℕ) (p : EventId → Bool) (es ds : List EventId) → lowest n p (each_of cost_of_post ds) ≤ n → lowest n p (each_of cost_of_post (es ++ ds)) ≡ min (lowest n p (each_of cost_of_post es)) (lowest n p (each_of cost_of_post ds))
+lowest-append n p [] ds h = omega (arith, h)
+lowest-append n p (e ∷ es) ds h = omega (arith, lowest-append n p es ds h)
+
+pub lowest-posts : (n : ℕ) (p : EventId → Bool) (c : Cost) → IsBelow n c → lowest n p (each_of cost_of_post (weights_in c)) ≡ lowest n p c
+lowest-posts n p (Lines k) h = refl
+lowest-posts n p (Weight e) h = omega (arith, lowest-at_most n p (Weight e) h)
+lowest-posts n p (Both a b) h =
+    let one = lowest-posts n p a h.0 in
+    let two = lowest-posts n p b h.1 in
+    omega (arith, one, two, lowest-append n p (weights_in a) (weights_in b) (omega (arith, two, lowest-at_most n p b h.1)))
+lowest-posts n p (Greater a b) h =
+    let one = lowest-posts n p a h.0 in
+    let two = lowest-posts n p b h.1 in
+    omega (arith, one, two, lowest-append n p (weights_in a) (weights_in b) (omega (arith, two, lowest-at_most n p b h.1)))
 
 -- ---- the first of the plan's events
 
@@ -145,13 +168,11 @@ is_left n = elim (cases_eq n 0) [
   | inr other ↦ lt-ltb 0 n (omega (arith, other)) ∙ sym (ap not (ne_eqb n 0 other))
 ]
 
--- the lowest of those to which what is bound to it leads, and the machine's work
-pub next_is : (plan : PlanView) → HasEntries plan → (left : List ℕ) → IsLeft plan left → (e : EventId) (bound work : ℕ) → bound ≡ lowest (length left) (λ f. nat_lt 0 (left_of left f)) (each_of (cost_of_binding plan) (bound_to plan e))
-    → work ≡ lowest (length left) (λ f. nat_lt 0 (left_of left f)) (cost_of_work plan e) → event (min bound work) ≡ next_open plan e
-next_is plan valid left l e bound work bound_is work_is =
-    let first = lowest-first_event plan (λ f. nat_lt 0 (left_of left f)) (is_open plan) (cost_of_event plan e) (IsBelow-event plan valid e) (λ f k. is_left (left_of left f) ∙ ap not (sym (l.grounded_is f k))) in
+-- the lowest of those to which it leads
+pub next_is : (plan : PlanView) → HasEntries plan → (left : List ℕ) → IsLeft plan left → (e : EventId) (n : ℕ) → n ≡ lowest (length left) (λ f. nat_lt 0 (left_of left f)) (each_of cost_of_post (weights_in (cost_of_event plan e))) → event n ≡ next_open plan e
+next_is plan valid left l e n is =
     let below : IsBelow (length plan.events) (cost_of_event plan e) = IsBelow-event plan valid e in
-    let most = lowest-at_most (length plan.events) (λ f. nat_lt 0 (left_of left f)) (cost_of_work plan e) below.1.1 in
-    let bindings = ap (λ (m : ℕ). lowest m (λ f. nat_lt 0 (left_of left f)) (each_of (cost_of_binding plan) (bound_to plan e))) l.count in
-    let works = ap (λ (m : ℕ). lowest m (λ f. nat_lt 0 (left_of left f)) (cost_of_work plan e)) l.count in
-    same_event (event (min bound work)) (next_open plan e) (omega (arith, first, most, bindings, works, bound_is, work_is))
+    let first = lowest-first_event plan (λ f. nat_lt 0 (left_of left f)) (is_open plan) (cost_of_event plan e) below (λ f k. is_left (left_of left f) ∙ ap not (sym (l.grounded_is f k))) in
+    let posts = lowest-posts (length plan.events) (λ f. nat_lt 0 (left_of left f)) (cost_of_event plan e) below in
+    let count = ap (λ (m : ℕ). lowest m (λ f. nat_lt 0 (left_of left f)) (each_of cost_of_post (weights_in (cost_of_event plan e)))) l.count in
+    same_event (event n) (next_open plan e) (omega (arith, first, posts, count, is))

@@ -1,39 +1,28 @@
--- Events are noted as leading to what they post: one post, a list of them, an event, all events.
-use Rattle.std.proofs.Common.{◌≡◌, ◌≢◌, ℕ, zero, suc, ◌+◌, ◌<◌, ◌≤◌, Bool, true, false, cond, ◌==◌, nat_lt, List, [], ◌∷◌, ◌++◌, length, take, drop, take_at, set, replicate, get_or, Some, refl, sym, ◌∙◌, ap, subst, inl, inr, arith, length-set, take_all, get_or-set_same, get_or-set_other}
-use Rattle.std.specs.List.{slice_get}
-use Rattle.std.proofs.lemmas.Option.{get_or_from_slice_get}
+-- Events are noted as leading to what they post: one post, all posts of an event, all events.
+use Rattle.std.proofs.Common.{◌≡◌, ◌≢◌, ℕ, zero, suc, ◌+◌, ◌<◌, Bool, true, false, cond, ◌==◌, nat_lt, List, [], ◌∷◌, ◌++◌, length, take, drop, take_at, set, replicate, get_or, refl, sym, ◌∙◌, ap, subst, inl, inr, arith, length-set, get_or-set_same, get_or-set_other}
 use Rattle.std.proofs.lemmas.Bool.{cases_lt, cases_eq, eq-eqb, ne_eqb, lt-ltb, le-ltb}
 use Rattle.std.proofs.lemmas.List.{get_or-replicate, length-replicate, get_or_append_left, get_or_push, length_push, get_or_read}
 use Rattle.std.proofs.lemmas.List.Sums.{sum_by_push}
-use Rattle.plan_tables.specs.PlanView.{PlanView, no_binding, binding_at, places_of, bound_to}
+use Rattle.plan_tables.specs.PlanView.{PlanView}
 use Rattle.plan_tables.specs.declared.entries.EventId.{EventId}
-use Rattle.plan_tables.specs.declared.entries.BindingId.{BindingId}
-use Rattle.plan_tables.specs.declared.entries.Binding.{Binding}
-use Rattle.cascade_rank.specs.Cost.{Cost, Lines, Weight, Both, each_of, cost_of_binding, cost_of_work, cost_of_event}
+use Rattle.cascade_rank.specs.Cost.{Cost, Weight, each_of, cost_of_post, cost_of_event}
+use Rattle.cascade_rank.specs.Mentions.{weights_in}
 use Rattle.cascade_rank.specs.Events.{no_event, nth_event}
 use Rattle.cascade_rank.specs.Order.{unmet, occurrences, times, IsOrdering, IsMeeting}
 use Rattle.cascade_rank.specs.Leaders.{leaders_to, AddsLeader, HasLeaders}
-use Rattle.plan_tables.proofs.BoundTo.{places_of-bound}
 use Rattle.cascade_rank.proofs.Events.{event, same_event}
 use Rattle.cascade_rank.proofs.Ordering.{counted}
-use Rattle.cascade_rank.proofs.Places.{each_of-map, cost_at_place}
+use Rattle.cascade_rank.proofs.Posted.{occurrences-posts, unmet-length}
 
 -- ---- one more of a list
 
-module _ (F : Cost → ℕ) (none : F (Lines 0) ≡ 0) (both : (a b : Cost) → F (Both a b) ≡ F a + F b) where
-  each-more : {X : Type 0} (f : X → Cost) (xs : List X) (i : ℕ) (d : X) → i < length xs → F (each_of f (take (i + 1) xs)) ≡ F (each_of f (take i xs)) + F (f (get_or xs i d))
-  each-more f [] i d h = absurd (omega (arith, h))
-  each-more f (x ∷ xs) zero d h = omega (arith, both (f x) (Lines 0), none)
-  each-more f (x ∷ xs) (suc i) d h =
-      let e : suc i + 1 ≡ suc (i + 1) = omega arith in
-      let r = each-more f xs i d (omega (arith, h)) in
-      rw e (omega (arith, r, both (f x) (each_of f (take (i + 1) xs)), both (f x) (each_of f (take i xs))))
-
 pub occurrences-each_more : {X : Type 0} (e : EventId) (f : X → Cost) (xs : List X) (i : ℕ) (d : X) → i < length xs → occurrences e (each_of f (take (i + 1) xs)) ≡ occurrences e (each_of f (take i xs)) + occurrences e (f (get_or xs i d))
-occurrences-each_more e f xs i d h = each-more (occurrences e) refl (λ a b. refl) f xs i d h
-
-pub unmet-each_more : {X : Type 0} (p : EventId → Bool) (f : X → Cost) (xs : List X) (i : ℕ) (d : X) → i < length xs → unmet p (each_of f (take (i + 1) xs)) ≡ unmet p (each_of f (take i xs)) + unmet p (f (get_or xs i d))
-unmet-each_more p f xs i d h = each-more (unmet p) refl (λ a b. refl) f xs i d h
+occurrences-each_more e f [] i d h = absurd (omega (arith, h))
+occurrences-each_more e f (x ∷ xs) zero d h = omega arith
+occurrences-each_more e f (x ∷ xs) (suc i) d h =
+    let one : suc i + 1 ≡ suc (i + 1) = omega arith in
+    let r = occurrences-each_more e f xs i d (omega (arith, h)) in
+    rw one (omega (arith, r))
 
 -- ---- what one event leads to
 
@@ -90,43 +79,12 @@ adds-one leader f old l = record {
     by_not true c h = ap counted h
     by_not false c h = refl
 
--- ---- an event
-
-module _ (plan : PlanView) (places : List BindingId) (i : ℕ) where
-  -- what is at the next place costs what the binding there costs
-  pub place-cost : (b : Binding) → slice_get plan.bindings (get_or places i (record { 0 = 0 })).0 ≡ Some b → cost_at_place plan (get_or places i (record { 0 = 0 })) ≡ cost_of_binding plan b
-  place-cost b at = ap (cost_of_binding plan) (get_or_from_slice_get plan.bindings (get_or places i (record { 0 = 0 })).0 b no_binding at)
-
-  -- what is bound to an event costs what is at the places of it
-  pub bound-places : (e : EventId) → places ≡ places_of plan e → length places ≤ i → each_of (cost_of_binding plan) (bound_to plan e) ≡ each_of (cost_at_place plan) (take i places)
-  bound-places e are whole =
-      let taken : take i places ≡ places_of plan e = take_all i places whole ∙ are in
-      let bound = each_of-map (cost_of_binding plan) (λ (p : BindingId). binding_at plan p) (places_of plan e) ∙ ap (each_of (cost_of_binding plan)) (places_of-bound plan e) in
-      sym (ap (each_of (cost_at_place plan)) taken ∙ bound)
-
-  -- the event leads to what one place more posts
-  pub adds-place : (leader : EventId) (b : Binding) (old mid new : List (List EventId)) → i < length places → slice_get plan.bindings (get_or places i (record { 0 = 0 })).0 ≡ Some b →
-      AddsLeader leader (each_of (cost_at_place plan) (take i places)) old mid → AddsLeader leader (cost_of_binding plan b) mid new → AddsLeader leader (each_of (cost_at_place plan) (take (i + 1) places)) old new
-  adds-place leader b old mid new l at first then =
-      adds-more leader (cost_at_place plan) places i (record { 0 = 0 }) old mid new l first (subst (λ (c : Cost). AddsLeader leader c mid new) (sym (place-cost b at)) then)
-
-  pub unmet-place : (p : EventId → Bool) (b : Binding) → i < length places → slice_get plan.bindings (get_or places i (record { 0 = 0 })).0 ≡ Some b →
-      unmet p (each_of (cost_at_place plan) (take (i + 1) places)) ≡ unmet p (each_of (cost_at_place plan) (take i places)) + unmet p (cost_of_binding plan b)
-  unmet-place p b l at = unmet-each_more p (cost_at_place plan) places i (record { 0 = 0 }) l ∙ ap (λ (c : Cost). unmet p (each_of (cost_at_place plan) (take i places)) + unmet p c) (place-cost b at)
-
-  pub adds-bound : (e : EventId) (old new : List (List EventId)) → places ≡ places_of plan e → length places ≤ i →
-      AddsLeader e (each_of (cost_at_place plan) (take i places)) old new → AddsLeader e (each_of (cost_of_binding plan) (bound_to plan e)) old new
-  adds-bound e old new are whole adds = subst (λ (c : Cost). AddsLeader e c old new) (sym (bound-places e are whole)) adds
-
-  pub unmet-bound : (p : EventId → Bool) (e : EventId) → places ≡ places_of plan e → length places ≤ i → unmet p (each_of (cost_at_place plan) (take i places)) ≡ unmet p (each_of (cost_of_binding plan) (bound_to plan e))
-  unmet-bound p e are whole = sym (ap (unmet p) (bound-places e are whole))
-
--- an event leads to what is bound to it and to the machine's work
-pub adds-event : (plan : PlanView) (e : EventId) (old mid new : List (List EventId)) → AddsLeader e (each_of (cost_of_binding plan) (bound_to plan e)) old mid → AddsLeader e (cost_of_work plan e) mid new
-    → AddsLeader e (cost_of_event plan e) old new
-adds-event plan e old mid new bound work =
-    let bindings = each_of (cost_of_binding plan) (bound_to plan e) in
-    adds-both e bindings (cost_of_work plan e) (Both (Lines 1) (Both bindings (cost_of_work plan e))) old mid new (λ f. omega arith) bound work
+-- an event leads to what it posts as it does to what it costs
+pub adds-posts : (leader : EventId) (c : Cost) (old new : List (List EventId)) → AddsLeader leader (each_of cost_of_post (weights_in c)) old new → AddsLeader leader c old new
+adds-posts leader c old new adds = record {
+  count = adds.count;
+  more = λ f e l. adds.more f e l ∙ ap (λ (n : ℕ). times (leaders_to old f) e + cond (leader.0 == e.0) n 0) (occurrences-posts f c);
+}
 
 -- ---- all events
 
@@ -140,9 +98,9 @@ leaders_start plan leaders is = record {
   left_is = λ e l. absurd (omega (arith, l));
 }
 
-pub leaders_more : (plan : PlanView) (n posts : ℕ) (leaders new : List (List EventId)) (left : List ℕ) → HasLeaders plan n leaders left → AddsLeader (event n) (cost_of_event plan (event n)) leaders new →
-    posts ≡ unmet (λ _. false) (cost_of_event plan (event n)) → HasLeaders plan (n + 1) new (left ++ posts ∷ [])
-leaders_more plan n posts leaders new left has adds is = record {
+pub leaders_more : (plan : PlanView) (n posts : ℕ) (leaders new : List (List EventId)) (left : List ℕ) → HasLeaders plan n leaders left → AddsLeader (event n) (each_of cost_of_post (weights_in (cost_of_event plan (event n)))) leaders new →
+    posts ≡ length (weights_in (cost_of_event plan (event n))) → HasLeaders plan (n + 1) new (left ++ posts ∷ [])
+leaders_more plan n posts leaders new left has posted is = let adds = adds-posts (event n) (cost_of_event plan (event n)) leaders new posted in record {
   count = adds.count ∙ has.count;
   left_count = omega (arith, has.left_count, length_push left posts);
   leads = λ f e l.
@@ -164,7 +122,7 @@ leaders_more plan n posts leaders new left has adds is = record {
     | inl k ↦ get_or_append_left left (posts ∷ []) 0 e.0 (omega (arith, k, has.left_count)) ∙ has.left_is e k
     | inr g ↦
         let here : n ≡ e.0 = omega (arith, l, g) in
-        get_or_push left posts 0 e.0 (has.left_count ∙ here) ∙ is ∙ ap (λ (k : EventId). unmet (λ _. false) (cost_of_event plan k)) (same_event (event n) e here)
+        get_or_push left posts 0 e.0 (has.left_count ∙ here) ∙ is ∙ sym (unmet-length (cost_of_event plan (event n))) ∙ ap (λ (k : EventId). unmet (λ _. false) (cost_of_event plan k)) (same_event (event n) e here)
   ];
 }
   where

@@ -1,6 +1,8 @@
 pub mod Events
 pub mod Limits
 pub mod Prices
+pub mod Outcomes
+pub mod Rows
 pub mod Within
 pub mod Switches
 pub mod Places
@@ -8,6 +10,7 @@ pub mod LeastFitting
 pub mod FirstEvent
 pub mod Verifying
 pub mod Mentioned
+pub mod Posted
 pub mod Ranking
 pub mod Cycles
 pub mod Ordering

@@ -28,13 +28,21 @@ module _ (plan : PlanView) where
   abbrev pub cost_at_place : BindingId → Cost
   cost_at_place p = cost_of_binding plan (binding_at plan p)
 
+  -- it is what that binding costs
+  pub place-cost : (places : List BindingId) (i : ℕ) (b : Binding) → slice_get plan.bindings (get_or places i (record { 0 = 0 })).0 ≡ Some b → cost_at_place (get_or places i (record { 0 = 0 })) ≡ cost_of_binding plan b
+  place-cost places i b at = ap (cost_of_binding plan) (get_or_from_slice_get plan.bindings (get_or places i (record { 0 = 0 })).0 b no_binding at)
+
+  -- what is bound to an event costs what is at the places of it
+  pub bound-places : (places : List BindingId) (e : EventId) → places ≡ places_of plan e → each_of cost_at_place places ≡ each_of (cost_of_binding plan) (bound_to plan e)
+  bound-places places e are =
+      ap (each_of cost_at_place) are ∙ each_of-map (cost_of_binding plan) (λ (p : BindingId). binding_at plan p) (places_of plan e) ∙ ap (each_of (cost_of_binding plan)) (places_of-bound plan e)
+
   -- the price of a line and of what is at the first places, and at one place more
   pub price-places_more : (w : EventId → ℕ) (places : List BindingId) (i : ℕ) (b : Binding) (total cost : ℕ) → i < length places
       → slice_get plan.bindings (get_or places i (record { 0 = 0 })).0 ≡ Some b → cost ≡ price w (cost_of_binding plan b)
       → total ≡ 1 + price w (each_of cost_at_place (take i places)) → total + cost ≡ 1 + price w (each_of cost_at_place (take (i + 1) places))
   price-places_more w places i b total cost h at is so_far =
-      let place : BindingId = get_or places i (record { 0 = 0 }) in
-      let here = ap (λ (x : Binding). price w (cost_of_binding plan x)) (get_or_from_slice_get plan.bindings place.0 b no_binding at) in
+      let here = ap (price w) (place-cost places i b at) in
       omega (arith, price-each_more w cost_at_place places i (record { 0 = 0 }) h, here, is, so_far)
 
   module _ (e : EventId) (places : List BindingId) (are : places ≡ places_of plan e) where
@@ -55,7 +63,5 @@ module _ (plan : PlanView) where
     -- once all places are gone through
     pub price-places_all : (w : EventId → ℕ) (i total : ℕ) → length places ≤ i → total ≡ 1 + price w (each_of cost_at_place (take i places)) → total ≡ 1 + price w (each_of (cost_of_binding plan) (bound_to plan e))
     price-places_all w i total whole so_far =
-        let taken : take i places ≡ places_of plan e = take_all i places whole ∙ are in
-        let bound = each_of-map (cost_of_binding plan) (λ (p : BindingId). binding_at plan p) (places_of plan e) ∙ ap (each_of (cost_of_binding plan)) (places_of-bound plan e) in
-        let each = ap (price w) (ap (each_of cost_at_place) taken ∙ bound) in
+        let each = ap (price w) (ap (each_of cost_at_place) (take_all i places whole) ∙ bound-places places e are) in
         omega (arith, so_far, each)

@@ -1,10 +1,11 @@
 -- The costs of a valid plan mention only events of the plan.
-use Rattle.std.proofs.Common.{◌≡◌, ℕ, ◌<◌, Bool, true, false, ◌==◌, List, [], ◌∷◌, length, sym, subst, inl, inr}
+use Rattle.std.proofs.Common.{◌≡◌, ℕ, ◌<◌, Bool, true, false, ◌==◌, List, [], ◌∷◌, length, sym, subst, inl, inr, arith}
 use Rattle.std.specs.List.{All, AllByRecursion}
 use Rattle.std.proofs.lemmas.Bool.{cases_lt, or_cases, eqb-true, false≢true}
-use Rattle.std.proofs.lemmas.List.Elements.{recursion_from_All, All-get_or, All-weaker, All-nil, All-filter}
+use Rattle.std.proofs.lemmas.List.Elements.{recursion_from_All, All-get_or, All-weaker, All-nil, All-cons, All-append, All-filter}
 use Rattle.std.proofs.lemmas.List.{get_or_past}
-use Rattle.plan_tables.specs.PlanView.{PlanView, no_mode, mode_at, mode_event, work_of, no_switch, switch_at, actions_at, posts_of, bound_to}
+use Rattle.plan_tables.specs.PlanView.{PlanView, no_mode, mode_at, mode_event, work_of, no_switch, switch_at, actions_at, posts_of, bound_to, is_owner, list_of_row, row_at, row_numbers, rows_of}
+use Rattle.plan_tables.specs.Devices.{list_count}
 use Rattle.plan_tables.specs.declared.entries.ModeId.{ModeId}
 use Rattle.plan_tables.specs.declared.entries.ModeEvent.{ModeEvent}
 use Rattle.plan_tables.specs.declared.entries.ModeEvent.TheVariants.{WillStart, Starting, Started, Stopping, Stopped}
@@ -18,10 +19,18 @@ use Rattle.plan_tables.specs.declared.entries.ListId.{ListId}
 use Rattle.plan_tables.specs.declared.entries.Action.{Action}
 use Rattle.plan_tables.specs.declared.entries.Action.TheVariants.{Post}
 use Rattle.plan_tables.specs.declared.entries.Target.{Target}
-use Rattle.plan_tables.specs.declared.entries.Target.TheVariants.{Run, Start, Stop}
+use Rattle.plan_tables.specs.declared.entries.Target.TheVariants.{Run, Start, Stop, Act}
+use Rattle.plan_tables.specs.declared.entries.Owner.TheVariants as owners
+use Rattle.plan_tables.specs.declared.devices.RowId.{RowId}
+use Rattle.device_objects.specs.declared.device.Call.{Call}
+use Rattle.device_objects.specs.declared.device.Call.TheVariants as calls
+use Rattle.device_objects.specs.Outcomes.{outcomes}
 use Rattle.plan_tables.specs.declared.entries.Binding.{Binding}
-use Rattle.cascade_rank.specs.Cost.{Cost, Lines, Weight, Both, Greater, mentions, each_of, dearest_of, cost_of_post, cost_of_action, cost_of_list, cost_of_target, cost_of_binding, led_by, cost_if_led, cost_of_work, cost_of_event, cost_of_acceptance, cost_of_switch, switches_of, cost_of_stimuli}
+use Rattle.cascade_rank.specs.Cost.{Cost, Lines, Weight, Both, Greater, mentions, each_of, dearest_of, cost_of_post, cost_of_action, cost_of_list, cost_of_answer, cost_of_call, cost_of_target, cost_of_binding, led_by, cost_if_led, cost_of_starts, cost_of_work, cost_of_event, cost_of_acceptance, cost_of_switch, switches_of, cost_of_stimuli}
 use Rattle.cascade_rank.specs.Below.{IsBelow}
+use Rattle.cascade_rank.specs.Mentions.{weights_in}
+use Rattle.cascade_rank.proofs.Outcomes.{outcomes_of_row}
+use Rattle.cascade_rank.proofs.Rows.{rows-within}
 
 pub IsBelow-mentioned : (n : ℕ) (c : Cost) (e : EventId) → IsBelow n c → mentions e c ≡ true → e.0 < n
 IsBelow-mentioned n (Lines k) e h m = absurd (false≢true m)
@@ -49,6 +58,21 @@ each_below n f P each xs h =
 pub dearest_below : {X : Type 0} (n : ℕ) (f : X → Cost) → ((x : X) → IsBelow n (f x)) → (xs : List X) → IsBelow n (dearest_of f xs)
 dearest_below n f each [] = tt
 dearest_below n f each (x ∷ xs) = (each x, dearest_below n f each xs)
+
+IsBelow-dearest_of : {X : Type 0} (n : ℕ) (f : X → Cost) (xs : List X) → AllByRecursion (λ x. IsBelow n (f x)) xs → IsBelow n (dearest_of f xs)
+IsBelow-dearest_of n f [] h = tt
+IsBelow-dearest_of n f (x ∷ xs) h = (h.0, IsBelow-dearest_of n f xs h.1)
+
+pub dearest_within : {X : Type 0} (n : ℕ) (f : X → Cost) (P : X → Type 0) → ((x : X) → P x → IsBelow n (f x)) → (xs : List X) → All P xs → IsBelow n (dearest_of f xs)
+dearest_within n f P each xs h =
+    IsBelow-dearest_of n f xs (recursion_from_All (λ x. IsBelow n (f x)) xs (All-weaker P (λ x. IsBelow n (f x)) each xs h))
+
+-- the same of the list of its weights
+pub weights-below : (n : ℕ) (c : Cost) → IsBelow n c → All (IsEventWithin n) (weights_in c)
+weights-below n (Lines k) h = All-nil (IsEventWithin n)
+weights-below n (Weight e) h = All-cons (IsEventWithin n) e [] h (All-nil (IsEventWithin n))
+weights-below n (Both a b) h = All-append (IsEventWithin n) (weights_in a) (weights_in b) (weights-below n a h.0) (weights-below n b h.1)
+weights-below n (Greater a b) h = All-append (IsEventWithin n) (weights_in a) (weights_in b) (weights-below n a h.0) (weights-below n b h.1)
 
 pub IsBelow-action : (plan : PlanView) (a : Action) → IsActionWithin plan a → IsBelow (length plan.events) (cost_of_action plan a)
 IsBelow-action plan (Post e) h = h
@@ -79,13 +103,39 @@ module _ (plan : PlanView) (valid : HasEntries plan) where
   IsBelow-led (works.Mode m Stopping) e h = mode_event-within m Stopped h.0
   IsBelow-led (works.Mode m Stopped) e h = tt
 
+  -- what a device of the plan answers to a call
+  list_of_row-within : (r : RowId) → r.0 < length plan.rows → (k : ℕ) → k < list_count (row_at plan r).settings → (list_of_row plan r k).0 < length plan.lists
+  list_of_row-within r l k less = omega (arith, less, (valid.rows r l).lists)
+
+  IsBelow-answer : (r : RowId) → r.0 < length plan.rows → (lists : List ℕ) → All (λ k. k < list_count (row_at plan r).settings) lists → IsBelow (length plan.events) (cost_of_answer plan r lists)
+  IsBelow-answer r l lists h =
+      each_below (length plan.events) (λ k. cost_of_list plan (list_of_row plan r k)) (λ k. k < list_count (row_at plan r).settings)
+      (λ k less. IsBelow-list (list_of_row plan r k) (list_of_row-within r l k less)) lists h
+
+  pub IsBelow-call : (r : RowId) (call : Call) → r.0 < length plan.rows → IsBelow (length plan.events) (cost_of_call plan r call)
+  IsBelow-call r call l =
+      dearest_within (length plan.events) (cost_of_answer plan r) (All (λ k. k < list_count (row_at plan r).settings)) (IsBelow-answer r l)
+      (outcomes (row_at plan r).settings call) (outcomes_of_row (row_at plan r).settings call)
+
+  -- and what the devices of a mode answer when it starts
+  IsBelow-starts : (w : Work) → IsBelow (length plan.events) (cost_of_starts plan w)
+  IsBelow-starts works.Nothing = tt
+  IsBelow-starts (works.Mode m WillStart) = tt
+  IsBelow-starts (works.Mode m Starting) = tt
+  IsBelow-starts (works.Mode m Started) =
+      each_below (length plan.events) (λ r. cost_of_call plan r calls.ModeStart) (λ r. r.0 < length plan.rows) (λ r. IsBelow-call r calls.ModeStart) (rows_of plan (owners.Mode m))
+      (All-filter (λ r. is_owner (owners.Mode m) (row_at plan r).owner) (λ r. r.0 < length plan.rows) (row_numbers plan) (rows-within plan))
+  IsBelow-starts (works.Mode m Stopping) = tt
+  IsBelow-starts (works.Mode m Stopped) = tt
+
   pub IsBelow-work : (e : EventId) → IsBelow (length plan.events) (cost_of_work plan e)
-  IsBelow-work e = IsBelow-led (work_of plan e) e (work_found plan e)
+  IsBelow-work e = (IsBelow-starts (work_of plan e), IsBelow-led (work_of plan e) e (work_found plan e))
 
   pub IsBelow-target : (t : Target) → IsTargetWithin plan t → IsBelow (length plan.events) (cost_of_target plan t)
   IsBelow-target (Run l) h = IsBelow-list l h
   IsBelow-target (Start m) h = mode_event-within m WillStart h
   IsBelow-target (Stop m) h = mode_event-within m Stopping h
+  IsBelow-target (Act r act) h = IsBelow-call r (calls.Act act) h
 
   pub IsBelow-binding : (b : Binding) → IsBindingWithin plan b → IsBelow (length plan.events) (cost_of_binding plan b)
   IsBelow-binding b h = IsBelow-target b.target h.2
@@ -118,9 +168,17 @@ module _ (plan : PlanView) (valid : HasEntries plan) where
   IsBelow-switch s = (IsBelow-acceptance s true, IsBelow-acceptance s false)
 
   pub IsBelow-stimuli : IsBelow (length plan.events) (cost_of_stimuli plan)
-  IsBelow-stimuli = dearest_below (length plan.events) (cost_of_switch plan) IsBelow-switch (switches_of plan)
+  IsBelow-stimuli = (
+    dearest_below (length plan.events) (cost_of_switch plan) IsBelow-switch (switches_of plan),
+    dearest_within (length plan.events) (λ r. cost_of_call plan r calls.Fire) (λ r. r.0 < length plan.rows) (λ r. IsBelow-call r calls.Fire) (row_numbers plan) (rows-within plan),
+  )
 
 -- the same of as many events as the plan has
 pub posts-within : (plan : PlanView) → HasEntries plan → (s : SwitchId) (active : Bool) (n : ℕ) (es : List EventId) → n ≡ length plan.events → es ≡ posts_of plan s active → All (IsEventWithin n) es
 posts-within plan valid s active n es count is =
     subst (λ (m : ℕ). All (IsEventWithin m) es) (sym count) (subst (All (IsEventWithin (length plan.events))) (sym is) (posts-below plan valid s active))
+
+-- and of the posts of an event
+pub posts_of_event-within : (plan : PlanView) → HasEntries plan → (e : EventId) (n : ℕ) (es : List EventId) → n ≡ length plan.events → es ≡ weights_in (cost_of_event plan e) → All (IsEventWithin n) es
+posts_of_event-within plan valid e n es count is =
+    subst (λ (m : ℕ). All (IsEventWithin m) es) (sym count) (subst (All (IsEventWithin (length plan.events))) (sym is) (weights-below (length plan.events) (cost_of_event plan e) (IsBelow-event plan valid e)))

@@ -1,18 +1,23 @@
 -- What a thing costs: the lines that it prints and the weights of the events that it posts, added up or compared.
 use Rattle.std.specs.Prelude.{ℕ, ◌+◌, max, Bool, true, false, ◌&&◌, ◌||◌, ◌==◌, Option, None, Some, List, [], ◌∷◌, length, map}
 use Rattle.std.specs.List.{range_with_len}
-use Rattle.plan_tables.specs.PlanView.{PlanView, posts_of, actions_at, bound_to, mode_event, work_of}
+use Rattle.plan_tables.specs.PlanView.{PlanView, posts_of, actions_at, bound_to, list_of_row, mode_event, row_at, row_numbers, rows_of, work_of}
 use Rattle.plan_tables.specs.declared.entries.EventId.{EventId}
 use Rattle.plan_tables.specs.declared.entries.SwitchId.{SwitchId}
 use Rattle.plan_tables.specs.declared.entries.ListId.{ListId}
 use Rattle.plan_tables.specs.declared.entries.Action.{Action}
 use Rattle.plan_tables.specs.declared.entries.Action.TheVariants.{Post}
 use Rattle.plan_tables.specs.declared.entries.Target.{Target}
-use Rattle.plan_tables.specs.declared.entries.Target.TheVariants.{Run, Start, Stop}
+use Rattle.plan_tables.specs.declared.entries.Target.TheVariants.{Run, Start, Stop, Act}
 use Rattle.plan_tables.specs.declared.entries.ModeEvent.TheVariants.{WillStart, Starting, Started, Stopping, Stopped}
 use Rattle.plan_tables.specs.declared.entries.Work.{Work}
 use Rattle.plan_tables.specs.declared.entries.Work.TheVariants.{Nothing, Mode}
 use Rattle.plan_tables.specs.declared.entries.Binding.{Binding}
+use Rattle.plan_tables.specs.declared.entries.Owner.TheVariants as owners
+use Rattle.plan_tables.specs.declared.devices.RowId.{RowId}
+use Rattle.device_objects.specs.declared.device.Call.{Call}
+use Rattle.device_objects.specs.declared.device.Call.TheVariants as calls
+use Rattle.device_objects.specs.Outcomes.{outcomes}
 
 pub data Cost : Type 0 where
   Lines : (n : ℕ) → Cost
@@ -62,10 +67,19 @@ cost_of_action plan (Post e) = cost_of_post e
 abbrev pub cost_of_list : PlanView → ListId → Cost
 cost_of_list plan l = each_of (cost_of_action plan) (actions_at plan l)
 
+-- the effect lists of a row that a device answers, one after another
+abbrev pub cost_of_answer : PlanView → RowId → List ℕ → Cost
+cost_of_answer plan r lists = each_of (λ k. cost_of_list plan (list_of_row plan r k)) lists
+
+-- a call of a device costs the dearest of what it can answer, whatever the device's state
+abbrev pub cost_of_call : PlanView → RowId → Call → Cost
+cost_of_call plan r call = dearest_of (cost_of_answer plan r) (outcomes (row_at plan r).settings call)
+
 abbrev pub cost_of_target : PlanView → Target → Cost
 cost_of_target plan (Run l) = cost_of_list plan l
 cost_of_target plan (Start m) = cost_of_post (mode_event plan m WillStart)
 cost_of_target plan (Stop m) = cost_of_post (mode_event plan m Stopping)
+cost_of_target plan (Act r act) = cost_of_call plan r (calls.Act act)
 
 -- what a binding costs: no owner and no priority is looked at
 abbrev pub cost_of_binding : PlanView → Binding → Cost
@@ -85,9 +99,18 @@ abbrev pub cost_if_led : Option EventId → Cost
 cost_if_led None = Lines 0
 cost_if_led (Some e) = cost_of_post e
 
+-- the starts of a mode's devices, at its event `started`
+abbrev pub cost_of_starts : PlanView → Work → Cost
+cost_of_starts plan Nothing = Lines 0
+cost_of_starts plan (Mode m WillStart) = Lines 0
+cost_of_starts plan (Mode m Starting) = Lines 0
+cost_of_starts plan (Mode m Started) = each_of (λ r. cost_of_call plan r calls.ModeStart) (rows_of plan (owners.Mode m))
+cost_of_starts plan (Mode m Stopping) = Lines 0
+cost_of_starts plan (Mode m Stopped) = Lines 0
+
 -- what the machine itself does at an event, before and after its handlers
 abbrev pub cost_of_work : PlanView → EventId → Cost
-cost_of_work plan e = cost_if_led (led_by plan (work_of plan e))
+cost_of_work plan e = Both (cost_of_starts plan (work_of plan e)) (cost_if_led (led_by plan (work_of plan e)))
 
 -- an event costs its line, all that is bound to it, and the machine's work
 abbrev pub cost_of_event : PlanView → EventId → Cost
@@ -105,6 +128,6 @@ cost_of_switch plan switch = Greater (cost_of_acceptance plan switch true) (cost
 abbrev pub switches_of : PlanView → List SwitchId
 switches_of plan = map (λ n. record { 0 = n }) (range_with_len 0 (length plan.switches))
 
--- the greatest cost of a stimulus
+-- the greatest cost of a stimulus: of the acceptance of a switch, or of the alarm of a device
 abbrev pub cost_of_stimuli : PlanView → Cost
-cost_of_stimuli plan = dearest_of (cost_of_switch plan) (switches_of plan)
+cost_of_stimuli plan = Greater (dearest_of (cost_of_switch plan) (switches_of plan)) (dearest_of (λ r. cost_of_call plan r calls.Fire) (row_numbers plan))

@@ -14,7 +14,7 @@ pub(crate) struct Grounding {
     /// Each event comes after those to which it leads.
     pub(crate) order: Vec<EventId>,
     /// How many posts of each event are of events that are not in the order.
-    pub(crate) left: Vec<u128>,
+    pub(crate) left: Vec<usize>,
 }
 
 /// The order is its own queue: an event joins it when all events to which it leads are done.
@@ -34,7 +34,7 @@ pub(crate) fn ground(alloc: Global, plan: &Plan) -> Result<Grounding, AllocError
 }
 
 /// The events that lead to none, in the order of their numbers.
-fn first_grounded(alloc: Global, plan: &Plan, left: &[u128]) -> Result<Vec<EventId>, AllocError>
+fn first_grounded(alloc: Global, plan: &Plan, left: &[usize]) -> Result<Vec<EventId>, AllocError>
     requires count { length left.now ≡ length plan.now.events }
     requires left { CountsPosts plan.now left.now }
     ensures order { IfOk result (λ order. IsOrdering plan.now 0 [] left.now order.items) }
@@ -50,7 +50,7 @@ fn first_grounded(alloc: Global, plan: &Plan, left: &[u128]) -> Result<Vec<Event
 }
 
 /// One post less is left of each of these events, and where none is left the event goes last.
-fn meet(leaders: &[EventId], left: &mut [u128], order: &mut Vec<EventId>) -> Result<(), AllocError>
+fn meet(leaders: &[EventId], left: &mut [usize], order: &mut Vec<EventId>) -> Result<(), AllocError>
     requires { CanMeet leaders.now left.old order.old.items }
     ensures { IfOk result (λ _. Meets leaders.now leaders.now left.old order.old.items left.new order.new.items) }
 {

@@ -7,6 +7,7 @@ mod ground;
 pub mod law;
 mod leaders;
 pub mod least;
+mod posts;
 mod price;
 pub mod verdict;
 mod walk;

@@ -1,24 +1,31 @@
 //! What the parts of a plan cost at given weights.
 //!
-//! Nothing is cut off: a weight is below 2^32, and a plan has too few bindings for a sum of
-//! their prices to reach 2^111.
+//! Nothing is cut off: a weight is below 2^32, and a plan has too few bindings and devices for a
+//! sum of their prices to reach 2^113.
 
-ghost use Rattle.std.specs.Prelude.{◌≡◌, ◌+◌, ◌^◌, ◌<◌, length};
+ghost use Rattle.std.specs.Prelude.{◌≡◌, ◌+◌, ◌^◌, ◌<◌, ◌≤◌, length};
 ghost use Rattle.std.specs.List.{All};
 ghost use Rattle.plan_tables.specs.Valid.{IsActionWithin, IsTargetWithin, IsBindingWithin, IsEventWithin};
-ghost use Rattle.plan_tables.specs.PlanView.{bound_to};
+ghost use Rattle.plan_tables.specs.declared.entries.Owner.TheVariants as owners;
+ghost use Rattle.plan_tables.specs.Devices.{list_count};
+ghost use Rattle.plan_tables.specs.PlanView.{bound_to, row_at, row_numbers, rows_of};
+ghost use Rattle.device_objects.specs.declared.device.Call.TheVariants as calls;
 ghost use Rattle.cascade_rank.specs.Events.{weight_of};
-ghost use Rattle.cascade_rank.specs.Cost.{price, each_of, cost_of_post, cost_of_action, cost_of_list, cost_of_target, cost_of_binding, cost_of_work, cost_of_event, cost_of_switch, cost_of_stimuli};
+ghost use Rattle.cascade_rank.specs.Mentions.{cost_of_start};
+ghost use Rattle.cascade_rank.specs.Cost.{price, each_of, dearest_of, cost_of_post, cost_of_action, cost_of_list, cost_of_answer, cost_of_call, cost_of_target, cost_of_binding, cost_of_starts, cost_of_work, cost_of_event, cost_of_switch, switches_of, cost_of_stimuli};
 
-use crate::work::led_by;
-use plan_tables::{Action, Binding, EventId, ListId, Plan, SwitchId, Target};
+use crate::work::{is_of, led_by};
+use device_objects::{Call, outcomes};
+use plan_tables::{
+    Action, Binding, EventId, ListId, ModeEvent, ModeId, Plan, RowId, SwitchId, Target, Work,
+};
 
 /// What an event costs: its line, all that is bound to it, and the machine's work.
 pub(crate) fn need(plan: &Plan, weights: &[u32], event: EventId) -> u128
     requires event { event.0 < length plan.now.events }
     requires weights { length weights.now ≡ length plan.now.events }
     ensures price { result ≡ price (weight_of weights.now) (cost_of_event plan.now event) }
-    ensures small { result < 2 ^ 111 }
+    ensures small { result < 2 ^ 113 }
 {
     let bound = price_of_bound(plan, weights, event);
     let work = price_of_work(plan, weights, event);
@@ -30,11 +37,51 @@ fn price_of_work(plan: &Plan, weights: &[u32], event: EventId) -> u128
     requires event { event.0 < length plan.now.events }
     requires weights { length weights.now ≡ length plan.now.events }
     ensures price { result ≡ price (weight_of weights.now) (cost_of_work plan.now event) }
-    ensures small { result < 2 ^ 32 }
+    ensures small { result < 2 ^ 109 }
 {
+    let starts = price_of_starts(plan, weights, plan.work(event));
     match led_by(plan, event) {
-        Some(led) => price_of_post(weights, led),
-        None => 0,
+        Some(led) => starts + price_of_post(weights, led),
+        None => starts,
+    }
+}
+
+/// The starts of a mode's devices, if the work is that of the mode's event `started`.
+fn price_of_starts(plan: &Plan, weights: &[u32], work: Work) -> u128
+    requires { length weights.now ≡ length plan.now.events }
+    ensures price { result ≡ price (weight_of weights.now) (cost_of_starts plan.now work) }
+    ensures small { result ≤ 2 ^ 108 }
+{
+    match work {
+        Work::Mode(mode, ModeEvent::Started) => price_of_devices(plan, weights, mode),
+        _ => 0,
+    }
+}
+
+/// The starts of a mode's devices.
+fn price_of_devices(plan: &Plan, weights: &[u32], mode: ModeId) -> u128
+    requires { length weights.now ≡ length plan.now.events }
+    ensures price { result ≡ price (weight_of weights.now) (each_of (λ r. cost_of_call plan.now r calls.ModeStart) (rows_of plan.now (owners.Mode mode))) }
+    ensures small { result ≤ 2 ^ 108 }
+{
+    let mut total = 0u128;
+    for number in 0..plan.rows().len() {
+        total += price_of_start(plan, weights, mode, RowId(number as u16));
+    }
+    total
+}
+
+/// The start of a device, if it is one of the mode's.
+fn price_of_start(plan: &Plan, weights: &[u32], mode: ModeId, row: RowId) -> u128
+    requires row { row.0 < length plan.now.rows }
+    requires weights { length weights.now ≡ length plan.now.events }
+    ensures price { result ≡ price (weight_of weights.now) (cost_of_start plan.now mode row) }
+    ensures small { result ≤ 2 ^ 98 }
+{
+    if is_of(plan.row(row).owner, mode) {
+        price_of_call(plan, weights, row, Call::ModeStart)
+    } else {
+        0
     }
 }
 
@@ -43,7 +90,7 @@ fn price_of_bound(plan: &Plan, weights: &[u32], event: EventId) -> u128
     requires event { event.0 < length plan.now.events }
     requires weights { length weights.now ≡ length plan.now.events }
     ensures price { result ≡ 1 + price (weight_of weights.now) (each_of (cost_of_binding plan.now) (bound_to plan.now event)) }
-    ensures small { result < 2 ^ 110 + 2 }
+    ensures small { result < 2 ^ 112 + 2 }
 {
     let mut total = 1u128;
     for place in plan.bindings_of(event) {
@@ -57,7 +104,7 @@ fn price_of_binding(plan: &Plan, weights: &[u32], binding: Binding) -> u128
     requires binding { IsBindingWithin plan.now binding }
     requires weights { length weights.now ≡ length plan.now.events }
     ensures price { result ≡ price (weight_of weights.now) (cost_of_binding plan.now binding) }
-    ensures small { result < 2 ^ 96 }
+    ensures small { result ≤ 2 ^ 98 }
 {
     price_of_target(plan, weights, binding.target)
 }
@@ -66,13 +113,45 @@ fn price_of_target(plan: &Plan, weights: &[u32], target: Target) -> u128
     requires target { IsTargetWithin plan.now target }
     requires weights { length weights.now ≡ length plan.now.events }
     ensures price { result ≡ price (weight_of weights.now) (cost_of_target plan.now target) }
-    ensures small { result < 2 ^ 96 }
+    ensures small { result ≤ 2 ^ 98 }
 {
     match target {
         Target::Run(list) => price_of_list(plan, weights, list),
         Target::Start(mode) => price_of_post(weights, plan.mode(mode).events.will_start),
         Target::Stop(mode) => price_of_post(weights, plan.mode(mode).events.stopping),
+        Target::Act(row, act) => price_of_call(plan, weights, row, Call::Act(act)),
     }
+}
+
+/// The dearest of what a call of a device can answer.
+fn price_of_call(plan: &Plan, weights: &[u32], row: RowId, call: Call) -> u128
+    requires row { row.0 < length plan.now.rows }
+    requires weights { length weights.now ≡ length plan.now.events }
+    ensures price { result ≡ price (weight_of weights.now) (cost_of_call plan.now row call) }
+    ensures small { result ≤ 2 ^ 98 }
+{
+    let answers = outcomes(&plan.row(row).settings, call);
+    let mut dearest = 0u128;
+    for answer in answers.as_slice() {
+        dearest = dearest.max(price_of_answer(plan, weights, row, answer.as_slice()));
+    }
+    dearest
+}
+
+/// The effect lists of a row that its device answers.
+fn price_of_answer(plan: &Plan, weights: &[u32], row: RowId, lists: &[u16]) -> u128
+    requires row { row.0 < length plan.now.rows }
+    requires lists { All (λ k. k < list_count (row_at plan.now row).settings) lists.now }
+    requires few { length lists.now ≤ 4 }
+    requires weights { length weights.now ≡ length plan.now.events }
+    ensures price { result ≡ price (weight_of weights.now) (cost_of_answer plan.now row lists.now) }
+    ensures small { result ≤ 2 ^ 98 }
+{
+    let mut total = 0u128;
+    for list in lists {
+        total += price_of_list(plan, weights, plan.list_of_row(row, *list));
+    }
+    total
 }
 
 fn price_of_list(plan: &Plan, weights: &[u32], list: ListId) -> u128
@@ -121,9 +200,30 @@ pub(crate) fn bound_of(plan: &Plan, weights: &[u32]) -> u128
     requires { length weights.now ≡ length plan.now.events }
     ensures { result ≡ price (weight_of weights.now) (cost_of_stimuli plan.now) }
 {
+    dearest_switch(plan, weights).max(dearest_alarm(plan, weights))
+}
+
+/// The greatest cost of the acceptance of a switch.
+fn dearest_switch(plan: &Plan, weights: &[u32]) -> u128
+    requires { length weights.now ≡ length plan.now.events }
+    ensures { result ≡ price (weight_of weights.now) (dearest_of (cost_of_switch plan.now) (switches_of plan.now)) }
+{
     let mut bound = 0u128;
     for number in 0..plan.switch_count() {
         bound = bound.max(price_of_switch(plan, weights, SwitchId(number as u16)));
+    }
+    bound
+}
+
+/// The greatest cost of the alarm of a device.
+fn dearest_alarm(plan: &Plan, weights: &[u32]) -> u128
+    requires { length weights.now ≡ length plan.now.events }
+    ensures { result ≡ price (weight_of weights.now) (dearest_of (λ r. cost_of_call plan.now r calls.Fire) (row_numbers plan.now)) }
+{
+    let mut bound = 0u128;
+    for number in 0..plan.rows().len() {
+        let row = RowId(number as u16);
+        bound = bound.max(price_of_call(plan, weights, row, Call::Fire));
     }
     bound
 }

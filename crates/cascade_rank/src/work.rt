@@ -1,12 +1,13 @@
 //! What the machine itself leads to at an event.
 
 ghost use Rattle.std.specs.Prelude.{◌≡◌, ◌<◌, length, IfSome};
+ghost use Rattle.plan_tables.specs.declared.entries.Owner.TheVariants as owners;
 ghost use Rattle.plan_tables.specs.declared.entries.Work.TheVariants as works;
-ghost use Rattle.plan_tables.specs.PlanView.{work_of};
+ghost use Rattle.plan_tables.specs.PlanView.{is_owner, work_of};
 ghost use Rattle.plan_tables.specs.Valid.{IsValid};
 ghost use Rattle.cascade_rank.specs.Cost.{led_by};
 
-use plan_tables::{EventId, ModeEvent, ModeId, Plan, Work};
+use plan_tables::{EventId, ModeEvent, ModeId, Owner, Plan, Work};
 
 /// The event that the machine itself posts as its work at an event, if it posts one.
 pub(crate) fn led_by(plan: &Plan, event: EventId) -> Option<EventId>
@@ -35,5 +36,15 @@ fn next_event(plan: &Plan, mode: ModeId, which: ModeEvent) -> Option<EventId>
         ModeEvent::Started => Some(events.stopping),
         ModeEvent::Stopping => Some(events.stopped),
         ModeEvent::Stopped => None,
+    }
+}
+
+/// Whether it is the mode that acts.
+pub(crate) fn is_of(owner: Owner, mode: ModeId) -> bool
+    ensures { result ≡ is_owner (owners.Mode mode) owner }
+{
+    match owner {
+        Owner::Machine => false,
+        Owner::Mode(acting) => mode.0 == acting.0,
     }
 }

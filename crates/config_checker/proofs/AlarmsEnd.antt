@@ -1,21 +1,23 @@
 -- Playing the next alarm again and again comes to an end: each source comes at most once at each moment.
-use Rattle.std.proofs.Common.{◌≡◌, ℕ, zero, suc, ◌+◌, ◌-◌, ◌*◌, ◌≤◌, ◌<◌, ◌⊎◌, Bool, true, false, if◌then◌else◌, nat_le, Option, Some, None, List, [], ◌∷◌, length, map, Contains, refl, ap, sym, ◌∙◌, subst, inl, inr, arith}
+use Rattle.std.proofs.Common.{◌≡◌, ℕ, zero, suc, ◌+◌, ◌-◌, ◌*◌, ◌≤◌, ◌<◌, ◌⊎◌, Bool, true, false, if◌then◌else◌, nat_le, Option, Some, None, List, [], ◌∷◌, ◌++◌, length, length-append, map, Contains, refl, ap, sym, ◌∙◌, subst, inl, inr, arith}
 use Rattle.std.specs.Option.{option_map_or}
 use Rattle.std.proofs.lemmas.Bool.{cases_lt, cond_both, leb-true, le-leb, lt-leb}
-use Rattle.std.proofs.lemmas.List.{length-map, get_or-map}
-use Rattle.plan_tables.specs.PlanView.{PlanView}
+use Rattle.std.proofs.lemmas.List.{length-map, get_or-map, get_or_append_left, get_or-append-add}
+use Rattle.plan_tables.specs.PlanView.{PlanView, row_numbers}
+use Rattle.plan_tables.specs.Valid.{IsValid}
 use Rattle.cascade_rank.specs.Cost.{switches_of}
+use Rattle.cascade_rank.proofs.Rows.{length-rows, row_of}
 use Rattle.cascade_rank.proofs.Switches.{length-switches, switch_of}
 use Rattle.switch_core.proofs.Lists.{due-within}
 use Rattle.config_checker.specs.declared.line.Line.{Line}
 use Rattle.config_checker.specs.Machine.{Machine}
 use Rattle.config_checker.specs.PlanOrder.{settled}
-use Rattle.config_checker.specs.Run.{Source, switch, source_due, IsNoAlarmDueBy, IsNothingLate, IsNextAlarm, Stimulus, Alarm, begin, IsReached}
+use Rattle.config_checker.specs.Run.{Source, switch, device, source_due, IsNoAlarmDueBy, IsNothingLate, IsNextAlarm, Stimulus, Alarm, begin, IsReached}
 use Rattle.config_checker.specs.NextAlarm.{next_alarm, source_count, most_alarms}
 use Rattle.config_checker.specs.AlarmsBy.{due_by, alarms_by, state_after}
 use Rattle.config_checker.specs.AlarmsEnd.{AlarmsEnd}
 use Rattle.config_checker.proofs.PlanSteps.{IsSteps, plan_steps-are_steps}
-use Rattle.config_checker.proofs.Does.{HasStates}
+use Rattle.config_checker.proofs.Does.{HasStates, due-row}
 use Rattle.config_checker.proofs.Alarms.{has_states-after, arms_later, alarm-done, moment-after, next-first, not_late-from}
 use Rattle.config_checker.proofs.NextAlarms.{due_by-some, due_by-none, nothing-due_by, some-due_by}
 use Rattle.config_checker.proofs.Reached.{reached-not_late, reached-has_states}
@@ -76,11 +78,23 @@ source_due-no at s source later = by (source_due s source) refl
     by (Some due) is = lt-leb due at (later due is)
 
 module _ (plan : PlanView) (bound : ℕ) where
+  abbrev of_switches : List Source
+  of_switches = map switch (switches_of plan)
+
+  abbrev of_devices : List Source
+  of_devices = map device (row_numbers plan)
+
   abbrev sources : List Source
-  sources = map switch (switches_of plan)
+  sources = of_switches ++ of_devices
+
+  switches-count : length of_switches ≡ length plan.switches
+  switches-count = length-map (switches_of plan) switch ∙ length-switches plan
+
+  devices-count : length of_devices ≡ length plan.rows
+  devices-count = length-map (row_numbers plan) device ∙ length-rows plan
 
   sources-count : length sources ≡ source_count plan
-  sources-count = length-map (switches_of plan) switch ∙ length-switches plan
+  sources-count = omega (arith, length-append of_switches of_devices, switches-count, devices-count)
 
   sources-all : (s : Machine) (source : Source) (due : ℕ) → HasStates plan s → source_due s source ≡ Some due → Contains sources source
   sources-all s (switch n) due h is =
@@ -88,7 +102,18 @@ module _ (plan : PlanView) (bound : ℕ) where
       let states = h.switches in
       let within : n.0 < length plan.switches = omega (arith, there, states) in
       let listed : n.0 < length (switches_of plan) = omega (arith, within, length-switches plan) in
-      (n.0, omega (arith, listed, length-map (switches_of plan) switch), get_or-map switch (switches_of plan) n.0 n (switch n) listed ∙ ap switch (switch_of plan n.0 n within))
+      let first : n.0 < length of_switches = omega (arith, within, switches-count) in (
+        n.0,
+        omega (arith, first, length-append of_switches of_devices),
+        get_or_append_left of_switches of_devices (switch n) n.0 first ∙ get_or-map switch (switches_of plan) n.0 n (switch n) listed ∙ ap switch (switch_of plan n.0 n within),
+      )
+  sources-all s (device r) due h is =
+      let within : r.0 < length plan.rows = due-row plan s r due h.devices is in
+      let listed : r.0 < length (row_numbers plan) = omega (arith, within, length-rows plan) in (
+        length of_switches + r.0,
+        omega (arith, within, devices-count, length-append of_switches of_devices),
+        get_or-append-add of_switches of_devices r.0 (device r) ∙ get_or-map device (row_numbers plan) r.0 r (device r) listed ∙ ap device (row_of plan r.0 r within),
+      )
 
   -- ---- an alarm
 
@@ -111,26 +136,26 @@ module _ (plan : PlanView) (bound : ℕ) where
     alarm-moment : (after_alarm at source s).moment ≡ at
     alarm-moment = moment-after plan (Alarm at source) s steps.count (after_alarm at source s) steps.steps
 
-    alarm-goes_on : IsGoing s → IsGoing (after_alarm at source s)
-    alarm-goes_on going = record {
-      not_late = not_late-from plan (Alarm at source) s steps.count (after_alarm at source s) (next-first plan s at source next) steps.steps;
+    alarm-goes_on : IsValid plan → IsGoing s → IsGoing (after_alarm at source s)
+    alarm-goes_on valid going = record {
+      not_late = not_late-from plan valid (Alarm at source) s steps.count (after_alarm at source s) (next-first plan valid s at source next) steps.steps;
       switches = has_states-after plan (Alarm at source) s steps.count (after_alarm at source s) steps.steps going.switches;
     }
 
     -- where it comes at the moment of the state, one source fewer is due then
-    alarm-fewer : IsGoing s → at ≡ s.moment → due_now (after_alarm at source s) + 1 ≤ due_now s
-    alarm-fewer going same =
+    alarm-fewer : IsValid plan → IsGoing s → at ≡ s.moment → due_now (after_alarm at source s) + 1 ≤ due_now s
+    alarm-fewer valid going same =
         let t = after_alarm at source s in
         let here : t.moment ≡ s.moment = alarm-moment ∙ same in
         let fewer = count-fewer (is_source_due s.moment s) (is_source_due s.moment t) weaker sources source (sources-all s source at going.switches next.due)
         (source_due-yes s.moment at s source next.due (omega (arith, same)))
-        (source_due-no s.moment t source (λ due is. let later = alarm-done plan at source s steps.count t steps.steps due is in omega (arith, later, same))) in
+        (source_due-no s.moment t source (λ due is. let later = alarm-done plan valid at source s steps.count t going.switches.devices steps.steps due is in omega (arith, later, same))) in
         subst (λ (m : ℕ). count (is_source_due m t) sources + 1 ≤ due_now s) (sym here) fewer
       where
         weaker : (other : Source) → is_source_due s.moment (after_alarm at source s) other ≡ true → is_source_due s.moment s other ≡ true
         weaker other h =
             let (due, is, by) = source_due-is s.moment (after_alarm at source s) other h in
-            elim (arms_later plan (Alarm at source) s steps.count (after_alarm at source s) steps.steps other due is) [
+            elim (arms_later plan valid (Alarm at source) s steps.count (after_alarm at source s) steps.steps other due is) [
               | inl old ↦ source_due-yes s.moment due s other old by
               | inr later ↦ absurd (omega (arith, later, by, same))
             ]
@@ -173,32 +198,32 @@ module _ (plan : PlanView) (bound : ℕ) where
         by (Some a) is = let (next, on_time) = due_by-some s until a.0 a.1 is in inl (a.0, a.1, next, on_time)
 
     -- so many moments are left, and at this one so many sources are due
-    ends : (k moments few : ℕ) (s : Machine) → IsGoing s → until ≤ s.moment + moments → due_now s ≤ few → moments * (source_count plan + 1) + few ≤ k → LeavesNothing until k s
-    ends zero zero few s going reach due fuel =
+    ends : IsValid plan → (k moments few : ℕ) (s : Machine) → IsGoing s → until ≤ s.moment + moments → due_now s ≤ few → moments * (source_count plan + 1) + few ≤ k → LeavesNothing until k s
+    ends valid zero zero few s going reach due fuel =
         elim (due-cases s) [
           | inr nothing ↦ leaves-none zero s nothing
           | inl (at, source, next, by) ↦
               let not_before = going.not_late source at next.due in
-              let fewer = alarm-fewer at source s next going (omega (arith, not_before, by, reach)) in
+              let fewer = alarm-fewer at source s next valid going (omega (arith, not_before, by, reach)) in
               absurd (omega (arith, fewer, due, fuel))
         ]
-    ends zero (suc moments) few s going reach due fuel = absurd (none_left (source_count plan) moments few fuel)
+    ends valid zero (suc moments) few s going reach due fuel = absurd (none_left (source_count plan) moments few fuel)
       where
         none_left : (n moments few : ℕ) → suc moments * (n + 1) + few ≤ 0 → ⊥
         none_left n moments few h = omega (arith, h)
-    ends (suc k) moments few s going reach due fuel =
+    ends valid (suc k) moments few s going reach due fuel =
         elim (due-cases s) [
           | inr nothing ↦ leaves-none (suc k) s nothing
           | inl (at, source, next, by) ↦
               let t = after_alarm at source s in
-              let on = alarm-goes_on at source s next going in
+              let on = alarm-goes_on at source s next valid going in
               let not_before = going.not_late source at next.due in
               elim (cases_lt s.moment at) [
                 | inr same ↦
-                    let fewer = alarm-fewer at source s next going (omega (arith, not_before, same)) in
+                    let fewer = alarm-fewer at source s next valid going (omega (arith, not_before, same)) in
                     leaves-more k s at source next by
-                    (ends k moments (few - 1) t on (omega (arith, reach, alarm-moment at source s next, not_before, same)) (omega (arith, fewer, due)) (omega (arith, fuel, fewer, due)))
-                | inl later ↦ leaves-more k s at source next by (elsewhere k moments few at s t later by reach fuel on (alarm-moment at source s next) (ends k))
+                    (ends valid k moments (few - 1) t on (omega (arith, reach, alarm-moment at source s next, not_before, same)) (omega (arith, fewer, due)) (omega (arith, fuel, fewer, due)))
+                | inl later ↦ leaves-more k s at source next by (elsewhere k moments few at s t later by reach fuel on (alarm-moment at source s next) (ends valid k))
               ]
         ]
       where
@@ -212,13 +237,13 @@ module _ (plan : PlanView) (bound : ℕ) where
             room : (n moments few k : ℕ) → suc moments * (n + 1) + few ≤ suc k → moments * (n + 1) + n ≤ k
             room n moments few k h = omega (arith, h)
 
-    leaves-nothing : (s : Machine) → IsGoing s → LeavesNothing until (most_alarms plan until s) s
-    leaves-nothing s going =
+    leaves-nothing : IsValid plan → (s : Machine) → IsGoing s → LeavesNothing until (most_alarms plan until s) s
+    leaves-nothing valid s going =
         elim (cases_lt until s.moment) [
           | inl past ↦ leaves-none (most_alarms plan until s) s (λ source due is. let on = going.not_late source due is in omega (arith, on, past))
           | inr here ↦
               let most = count-length (is_source_due s.moment s) sources in
-              ends (most_alarms plan until s) (until - s.moment) (source_count plan) s going (omega (arith, here)) (omega (arith, most, sources-count))
+              ends valid (most_alarms plan until s) (until - s.moment) (source_count plan) s going (omega (arith, here)) (omega (arith, most, sources-count))
               (enough (source_count plan) until s.moment here)
         ]
       where
@@ -245,16 +270,16 @@ module _ (plan : PlanView) (bound : ℕ) where
 
   -- ---- the run of a plan
 
-  module _ (until : ℕ) (trace : List Line) (s : Machine) (reached : IsReached plan trace s) where
+  module _ (valid : IsValid plan) (until : ℕ) (trace : List Line) (s : Machine) (reached : IsReached plan trace s) where
     going : IsGoing s
     going = record {
-      not_late = reached-not_late plan trace s reached;
+      not_late = reached-not_late plan trace s reached valid;
       switches = reached-has_states plan trace s reached;
     }
 
     -- all alarms that are due by the moment come
     pub alarms_by-all : IsNoAlarmDueBy (state_after plan bound (alarms_by plan bound until (most_alarms plan until s) s) s) until
-    alarms_by-all = leaves-nothing until s going
+    alarms_by-all = leaves-nothing until valid s going
 
     -- the next alarm, where it is due by the moment, and then those that are due after it
     pub alarms_by-next : (at : ℕ) (source : Source) → IsNextAlarm s at source → at ≤ until
@@ -273,7 +298,7 @@ module _ (plan : PlanView) (bound : ℕ) where
             let alarm = Alarm at source in
             let left = subst (λ (xs : List Stimulus). IsNoAlarmDueBy (state_after plan bound xs s) until) (alarms_by-more until k s at source next by) h in
             alarms_by-more until k s at source next by
-            ∙ ap (λ (xs : List Stimulus). alarm ∷ xs) (alarms_by-same until k (most_alarms plan until t) t left (leaves-nothing until t (alarm-goes_on at source s next going)))
+            ∙ ap (λ (xs : List Stimulus). alarm ∷ xs) (alarms_by-same until k (most_alarms plan until t) t left (leaves-nothing until valid t (alarm-goes_on at source s next valid going)))
 
 -- the moment of the last alarm is not after it
 pub alarms_by-moment : (plan : PlanView) (bound until k : ℕ) (s : Machine) → s.moment ≤ until → (state_after plan bound (alarms_by plan bound until k s) s).moment ≤ until
@@ -288,4 +313,4 @@ alarms_by-moment plan bound until (suc k) s before =
     ]
 
 pub alarms_end : AlarmsEnd
-alarms_end plan bound trace s reached until = alarms_by-all plan bound until trace s reached
+alarms_end plan bound trace s valid reached until = alarms_by-all plan bound valid until trace s reached

@@ -2,7 +2,7 @@
 use Rattle.std.proofs.Common.{◌≡◌, ℕ, zero, suc, ◌+◌, ◌≤◌, ◌<◌, Bool, true, false, if◌then◌else◌, Some, None, List, [], ◌∷◌, length, refl, ap, sym, subst, arith, length-append}
 use Rattle.plan_tables.specs.PlanView.{PlanView, work_of}
 use Rattle.plan_tables.specs.declared.entries.EventId.{EventId}
-use Rattle.plan_tables.specs.Valid.{IsValid}
+use Rattle.plan_tables.specs.Valid.{HasEntries, IsValid}
 use Rattle.plan_tables.specs.declared.entries.SwitchId.{SwitchId}
 use Rattle.switch_core.specs.declared.change.Change.{Change as Acceptance}
 use Rattle.switch_core.specs.SwitchStep.{is_taken}
@@ -18,12 +18,14 @@ use Rattle.event_queue.specs.declared.queue.Posted.{Posted}
 use Rattle.event_queue.specs.PlanOrder.{by_priority}
 use Rattle.config_checker.specs.Machine.{Machine, initial, all_do, do_handler}
 use Rattle.config_checker.specs.EventStep.{taken, is_kept, before_handlers, handlers_in, EventStep, EventSteps, after_event}
-use Rattle.config_checker.specs.Run.{switch, Stimulus, Change, Alarm, Wait, IsAllowed, begin, InEveryRun}
+use Rattle.config_checker.specs.Run.{switch, device, Stimulus, Change, Alarm, Wait, IsAllowed, begin, InEveryRun}
 use Rattle.config_checker.specs.GoodRun.{cost_if_accepted, cost_of_stimulus, weigh, IsBounded}
 use Rattle.config_checker.specs.CheckedView.{CheckedView}
 use Rattle.cascade_rank.specs.Verified.{IsVerified}
-use Rattle.config_checker.proofs.Does.{potential, potential-does, AreOfPlan, WaitsInPlan, waits-does, HasStates}
-use Rattle.config_checker.proofs.Parts.{TakesPart, IsMachine, ordinary, working, does-order, does-begin, does-before, does-after}
+use Rattle.config_checker.proofs.Does.{potential, potential-does, AreOfPlan, WaitsInPlan, waits-does, HasStates, due-row, has_devices-does}
+use Rattle.config_checker.specs.Devices.{HasDevices}
+use Rattle.config_checker.proofs.Parts.{TakesPart, Begins, ordinary, working, does-order, does-begin, does-before, does-after}
+use Rattle.config_checker.proofs.Pricing.{handlers-priced, before-priced, after-priced, IsFired, stimulus-priced, fire-within_bound}
 use Rattle.config_checker.proofs.Growth.{event-grows}
 use Rattle.config_checker.proofs.Order.{order_cost, plan_order-step}
 use Rattle.config_checker.proofs.Alarms.{has_states-step, has_states-begin, has_states-initial}
@@ -46,14 +48,22 @@ module _ (plan : PlanView) (w : EventId → ℕ) where
   accepted_cost n true a is l = subst (λ (m : SwitchId). price w (cost_of_acceptance plan m a.active) ≤ bound_of plan w) (sym is) (acceptance-within_bound plan w n a.active l)
   accepted_cost n false a is l = omega arith
 
-  pub stimulus_cost : (s : Machine) (stimulus : Stimulus) → HasStates plan s → IsAllowed plan s stimulus → price w (cost_of_stimulus plan s stimulus) ≤ bound_of plan w
-  stimulus_cost s (Change at n level) h allowed =
+  pub stimulus_cost : HasEntries plan → (s : Machine) (stimulus : Stimulus) → HasStates plan s → IsAllowed plan s stimulus → price w (cost_of_stimulus plan s stimulus) ≤ bound_of plan w
+  stimulus_cost entries s (Change at n level) h allowed =
       accepted_cost n (is_taken (kind_at s.switches n) level (state_at s.switches n)) (reported (after_change n level at s.switches) n) refl allowed.1
-  stimulus_cost s (Alarm at (switch n)) h allowed =
+  stimulus_cost entries s (Alarm at (switch n)) h allowed =
       let there = due-within s.switches n at allowed.0.due in
       let count = h.switches in
       acceptance-within_bound plan w n (reported (accept n s.switches) n).active (omega arith)
-  stimulus_cost s (Wait at) h allowed = omega arith
+  stimulus_cost entries s (Alarm at (device r)) h allowed = fire-within_bound plan entries w r (due-row plan s r at h.devices allowed.0.due)
+  stimulus_cost entries s (Wait at) h allowed = omega arith
+
+  -- a device that fires is one of the plan, and due
+  fired : (entries : HasEntries plan) → (s : Machine) (stimulus : Stimulus) → HasStates plan s → IsAllowed plan s stimulus → IsFired plan entries w s stimulus
+  fired entries s (Change at n level) h allowed = tt
+  fired entries s (Alarm at (switch n)) h allowed = tt
+  fired entries s (Alarm at (device r)) h allowed = (due-row plan s r at h.devices allowed.0.due, allowed.0.due)
+  fired entries s (Wait at) h allowed = tt
 
 module _ (plan : PlanView) where
   -- each event step gives a line
@@ -68,54 +78,65 @@ module _ (plan : PlanView) where
   steps-lines (suc n) s t (mid, step, more) = omega (arith, step-line s mid step, steps-lines n mid t more)
 
 module _ (plan : PlanView) (valid : IsValid plan) (w : EventId → ℕ) (fits : IsFitting plan w) where
-  step-potential : (s t : Machine) → EventStep plan s t → WaitsInPlan plan s → potential w t ≤ potential w s
-  step-potential s t st h =
+  step-potential : (s t : Machine) → EventStep plan s t → WaitsInPlan plan s → HasDevices plan s.devices → potential w t ≤ potential w s
+  step-potential s t st h has =
       let front : AreOfPlan plan (st.first ∷ st.rest) = subst (AreOfPlan plan) st.waiting h in
       let fit = fits st.first.event front.0 in
       let ready = before_handlers plan st.first st.rest s in
+      let work = work_of plan st.first.event in
+      let opens = does-before plan work (taken st.first st.rest s) in
       let grown = potential-does plan w (does-order plan ready st.first.event st.order st.in_order) in
-      let before = potential-does plan w (does-before plan (work_of plan st.first.event) (taken st.first st.rest s)) in
-      let after = potential-does plan w (does-after plan (is_kept (work_of plan st.first.event) s) st.first.event (all_do (do_handler plan) st.order ready)) in
+      let handlers = handlers-priced plan valid.entries w st.order ready (has_devices-does plan opens has) in
+      let before = potential-does plan w opens in
+      let starts = before-priced plan valid.entries w work (taken st.first st.rest s) has in
+      let done = all_do (do_handler plan) st.order ready in
+      let after = potential-does plan w (does-after plan (is_kept work s) st.first.event done) in
+      let led = after-priced plan valid.entries w work done in
       let paid = order_cost plan w ready st.first.event st.order st.in_order in
       let line = length-append s.lines (record { moment = s.moment; owner = st.first.owner; happening = lines.Event st.first.event } ∷ []) in
       let weighs = ap (weigh w) st.waiting in
       let is = ap (potential w) st.new_is in
-      omega (arith, fit, grown, before, after, paid, line, weighs, is)
+      omega (arith, fit, grown, handlers, before, starts, after, led, paid, line, weighs, is)
 
   -- the potential is within k, and each waiting event is one of the plan's
   pub record IsWithin (k : ℕ) (s : Machine) : Type 0 where
     pub most : potential w s ≤ k
     pub waits : WaitsInPlan plan s
+    pub states : HasStates plan s
 
   within-step : (k : ℕ) (s t : Machine) → EventStep plan s t → IsWithin k s → IsWithin k t
   within-step k s t st h = record {
-    most = let most = h.most in omega (arith, step-potential s t st h.waits, most);
+    most = let most = h.most in omega (arith, step-potential s t st h.waits h.states.devices, most);
     waits = waits-step plan valid s t st h.waits;
+    states = has_states-step plan s t st h.states;
   }
 
   -- a stimulus begins with no more than it costs
-  within-begin : (stimulus : Stimulus) (s : Machine) → s.waiting ≡ [] → IsWithin (price w (cost_of_stimulus plan s stimulus)) (begin plan stimulus s)
-  within-begin stimulus s empty = record {
-    most = let none = ap (weigh w) empty in omega (arith, potential-does plan w (does-begin plan stimulus s), none);
-    waits = waits-does plan (ordinary plan IsMachine (Unit {0})) valid.entries (does-begin plan stimulus s) (subst (AreOfPlan plan) (sym empty) tt);
+  within-begin : (stimulus : Stimulus) (s : Machine) → s.waiting ≡ [] → HasStates plan s → IsAllowed plan s stimulus → IsWithin (price w (cost_of_stimulus plan s stimulus)) (begin plan stimulus s)
+  within-begin stimulus s empty has allowed = record {
+    most =
+        let none = ap (weigh w) empty in
+        omega (arith, potential-does plan w (does-begin plan stimulus s), stimulus-priced plan valid.entries w stimulus s (fired plan w valid.entries s stimulus has allowed) has.devices, none);
+    waits = waits-does plan (ordinary plan (Begins plan stimulus) (Unit {0})) valid.entries (does-begin plan stimulus s) (subst (AreOfPlan plan) (sym empty) tt);
+    states = has_states-begin plan stimulus s has;
   }
 
   -- what a stimulus leads to stays within what it costs
-  within-cascade : (stimulus : Stimulus) (s : Machine) → s.waiting ≡ [] → (n : ℕ) (t : Machine) → EventSteps plan n (begin plan stimulus s) t → IsWithin (price w (cost_of_stimulus plan s stimulus)) t
-  within-cascade stimulus s empty n t steps =
-      steps-keep plan (λ before. IsWithin (price w (cost_of_stimulus plan s stimulus))) (λ before. within-step (price w (cost_of_stimulus plan s stimulus))) [] n (begin plan stimulus s) t steps (within-begin stimulus s empty)
+  within-cascade : (stimulus : Stimulus) (s : Machine) → s.waiting ≡ [] → HasStates plan s → IsAllowed plan s stimulus → (n : ℕ) (t : Machine) → EventSteps plan n (begin plan stimulus s) t → IsWithin (price w (cost_of_stimulus plan s stimulus)) t
+  within-cascade stimulus s empty has allowed n t steps =
+      steps-keep plan (λ before. IsWithin (price w (cost_of_stimulus plan s stimulus))) (λ before. within-step (price w (cost_of_stimulus plan s stimulus))) [] n (begin plan stimulus s) t steps (within-begin stimulus s empty has allowed)
 
   -- every run stays within the bound
-  pub within-run : InEveryRun plan (λ stimuli trace s. IsWithin (bound_of plan w) s × HasStates plan s)
+  pub within-run : InEveryRun plan (λ stimuli trace s. IsWithin (bound_of plan w) s)
   within-run stimuli trace s run =
-      (run-keeps plan (λ before m. IsWithin (bound_of plan w) m × HasStates plan m) (λ before m t st h. (within-step (bound_of plan w) m t st h.0, has_states-step plan m t st h.1)) begins [] stimuli (initial plan) trace s run
-      (record { most = omega arith; waits = tt }, has_states-initial plan)).1
+      (run-keeps plan (λ before. IsWithin (bound_of plan w)) (λ before. within-step (bound_of plan w)) begins [] stimuli (initial plan) trace s run
+      (record { most = omega arith; waits = tt; states = has_states-initial plan })).1
     where
-      begins : (before : List Line) (stimulus : Stimulus) (m : Machine) → IsAllowed plan m stimulus → m.waiting ≡ [] → IsWithin (bound_of plan w) m × HasStates plan m → IsWithin (bound_of plan w) (begin plan stimulus m) × HasStates plan (begin plan stimulus m)
+      begins : (before : List Line) (stimulus : Stimulus) (m : Machine) → IsAllowed plan m stimulus → m.waiting ≡ [] → IsWithin (bound_of plan w) m → IsWithin (bound_of plan w) (begin plan stimulus m)
       begins before stimulus m allowed empty h =
-          let begun = within-begin stimulus m empty in
+          let begun = within-begin stimulus m empty h.states allowed in
           let most = begun.most in
-          (record { most = omega (arith, most, stimulus_cost plan w m stimulus h.1 allowed); waits = begun.waits }, has_states-begin plan stimulus m h.1)
+          record { most = omega (arith, most, stimulus_cost plan w valid.entries m stimulus h.states allowed); waits = begun.waits; states = begun.states }
 
   -- each waiting event weighs at least 1
   waiting-weigh : (ps : List Posted) → AreOfPlan plan ps → length ps ≤ weigh w ps
@@ -130,20 +151,21 @@ fitting-is_bounded c valid fits bound =
     let plan = c.plan in
     let w = weight_of c.weights in
     record {
-      cascade = λ stimuli trace s run empty stimulus allowed n t steps. (within-cascade plan valid w fits stimulus s empty n t steps).most;
+      cascade = λ stimuli trace s run empty stimulus allowed n t steps. (within-cascade plan valid w fits stimulus s empty (within-run plan valid w fits stimuli trace s run).states allowed n t steps).most;
       within = λ stimuli trace s run.
-          let here = (within-run plan valid w fits stimuli trace s run).0 in
+          let here = within-run plan valid w fits stimuli trace s run in
           let most = here.most in
           let heavy = waiting-weigh plan valid w fits s.waiting here.waits in
           omega (arith, most, heavy, bound);
       goes_on = λ stimuli trace s run first rest is.
           (after_event plan first rest (by_priority plan (handlers_in plan (before_handlers plan first rest s) first.event)) s, plan_order-step plan s first rest is);
       ends = λ stimuli trace s run empty stimulus allowed n t steps.
-          let most = (within-cascade plan valid w fits stimulus s empty n t steps).most in
-          let cost = stimulus_cost plan w s stimulus (within-run plan valid w fits stimuli trace s run).1 allowed in
+          let has = (within-run plan valid w fits stimuli trace s run).states in
+          let most = (within-cascade plan valid w fits stimulus s empty has allowed n t steps).most in
+          let cost = stimulus_cost plan w valid.entries s stimulus has allowed in
           let lines = steps-lines plan n (begin plan stimulus s) t steps in
           omega (arith, most, cost, lines, bound);
-      levels = levels-run plan;
+      levels = levels-run plan valid;
     }
 
 -- So is every run of a plan whose weights were verified.

@@ -148,7 +148,7 @@ module _ (plan : PlanView) (valid : IsValid plan) (m : ModeId) (within : m.0 < l
             ]
       ]
 
-  heard-started : (trace : List Line) → heard m false (all_written plan trace) ≡ true → HasStarted plan m trace
+  pub heard-started : (trace : List Line) → heard m false (all_written plan trace) ≡ true → HasStarted plan m trace
   heard-started trace h =
       elim (since false trace h) [
         | inl there ↦ there

@@ -2,6 +2,7 @@
 -- run.
 use Rattle.std.proofs.Common.{◌≡◌, ℕ, ◌≤◌, ◌<◌, List, [], ◌∷◌, length, ap, sym, ◌∙◌, subst, arith}
 use Rattle.plan_tables.specs.PlanView.{PlanView, switch_at}
+use Rattle.plan_tables.specs.Valid.{IsValid}
 use Rattle.plan_tables.specs.declared.entries.SwitchId.{SwitchId}
 use Rattle.switch_core.specs.SwitchStep.{raw_at_rest}
 use Rattle.switch_core.specs.Switches.{SwitchesView, all_idle, active_at, IsNothingDueBy as IsNoSwitchDueBy}
@@ -12,7 +13,7 @@ use Rattle.switch_core.proofs.DueMoments.{fire-accepts}
 use Rattle.switch_core.proofs.Following.{levels_are_accepted}
 use Rattle.config_checker.specs.declared.line.Line.{Line}
 use Rattle.config_checker.specs.Machine.{Machine, initial}
-use Rattle.config_checker.specs.Run.{switch, Stimulus, Change, Alarm, Wait, IsNothingLate, IsNoAlarmDueBy, begin, IsRun, InEveryRun}
+use Rattle.config_checker.specs.Run.{switch, device, Stimulus, Change, Alarm, Wait, IsNothingLate, IsNoAlarmDueBy, begin, IsRun, InEveryRun}
 use Rattle.config_checker.specs.SwitchCalls.{switch_calls}
 use Rattle.config_checker.proofs.Alarms.{switches-steps, switches-begin, moment-after, not_late-after, not_late-initial, forward}
 use Rattle.config_checker.proofs.NextAlarms.{next_alarm-due}
@@ -32,7 +33,7 @@ called-next moment call more s mid t before in_time one later last = (
   ap (after_calls more) one ∙ last,
 )
 
-module _ (plan : PlanView) where
+module _ (plan : PlanView) (valid : IsValid plan) where
   run-called : (stimuli : List (Stimulus × ℕ)) (s : Machine) (trace : List Line) (t : Machine) → IsRun plan stimuli s trace t → IsNothingLate s → (moment : ℕ) → moment ≤ s.moment → IsCalled moment stimuli s t
   run-called [] s trace t (none, is) on_time moment before = record {
     in_time = tt;
@@ -41,23 +42,33 @@ module _ (plan : PlanView) where
   }
   run-called ((Change at n level, k) ∷ more) s trace t (empty, allowed, (mid, rest, steps, run, lines)) on_time moment before =
       let here = moment-after plan (Change at n level) s k mid steps in
-      let later = run-called more mid rest t run (not_late-after plan (Change at n level) s k mid allowed steps) at (omega (arith, here)) in
+      let later = run-called more mid rest t run (not_late-after plan valid (Change at n level) s k mid allowed steps) at (omega (arith, here)) in
       let there : after_call (calls.Change n level at) s.switches ≡ mid.switches = sym (switches-steps plan k (begin plan (Change at n level) s) mid steps ∙ switches-begin plan (Change at n level) s) in
       let past = allowed.0.forward in
       let both = called-next moment (calls.Change n level at) (switch_calls more) s mid t (omega (arith, past, before)) (λ other due is. allowed.0.quiet (switch other) due is) there later.in_time later.after in
       record { in_time = both.0; after = both.1; last = later.last }
   run-called ((Alarm at (switch n), k) ∷ more) s trace t (empty, allowed, (mid, rest, steps, run, lines)) on_time moment before =
       let here = moment-after plan (Alarm at (switch n)) s k mid steps in
-      let later = run-called more mid rest t run (not_late-after plan (Alarm at (switch n)) s k mid allowed steps) at (omega (arith, here)) in
+      let later = run-called more mid rest t run (not_late-after plan valid (Alarm at (switch n)) s k mid allowed steps) at (omega (arith, here)) in
       let next = next_alarm-due s at n allowed.0 in
       let there : after_call (Fire at) s.switches ≡ mid.switches = fire-accepts n s.switches at next ∙ sym (switches-steps plan k (begin plan (Alarm at (switch n)) s) mid steps ∙ switches-begin plan (Alarm at (switch n)) s) in
-      let past = forward plan (Alarm at (switch n)) s on_time allowed in
+      let past = forward plan valid (Alarm at (switch n)) s on_time allowed in
       let both = called-next moment (Fire at) (switch_calls more) s mid t (omega (arith, past, before)) (n, next) there later.in_time later.after in
       record { in_time = both.0; after = both.1; last = later.last }
+  run-called ((Alarm at (device r), k) ∷ more) s trace t (empty, allowed, (mid, rest, steps, run, lines)) on_time moment before =
+      let here = moment-after plan (Alarm at (device r)) s k mid steps in
+      let past = forward plan valid (Alarm at (device r)) s on_time allowed in
+      let later = run-called more mid rest t run (not_late-after plan valid (Alarm at (device r)) s k mid allowed steps) moment (omega (arith, here, past, before)) in
+      let there : s.switches ≡ mid.switches = sym (switches-steps plan k (begin plan (Alarm at (device r)) s) mid steps ∙ switches-begin plan (Alarm at (device r)) s) in
+      record {
+        in_time = subst (λ (v : SwitchesView). AreInTime moment v (switch_calls more)) (sym there) later.in_time;
+        after = ap (after_calls (switch_calls more)) there ∙ later.after;
+        last = later.last;
+      }
   run-called ((Wait at, k) ∷ more) s trace t (empty, allowed, (mid, rest, steps, run, lines)) on_time moment before =
       let here = moment-after plan (Wait at) s k mid steps in
       let past = allowed.forward in
-      let later = run-called more mid rest t run (not_late-after plan (Wait at) s k mid allowed steps) moment (omega (arith, here, past, before)) in
+      let later = run-called more mid rest t run (not_late-after plan valid (Wait at) s k mid allowed steps) moment (omega (arith, here, past, before)) in
       let there : s.switches ≡ mid.switches = sym (switches-steps plan k (begin plan (Wait at) s) mid steps) in
       record {
         in_time = subst (λ (v : SwitchesView). AreInTime moment v (switch_calls more)) (sym there) later.in_time;
@@ -70,7 +81,7 @@ module _ (plan : PlanView) where
       (at : ℕ) → s.moment ≤ at → IsNoAlarmDueBy s at → (n : SwitchId) → n.0 < length plan.switches →
       active_at s.switches n ≡ accepted_level (switch_at plan n).kind at (raw_changes n (raw_at_rest (switch_at plan n).kind.contact) (switch_calls stimuli)))
   levels-run stimuli trace s run at after quiet n within =
-      let called = run-called stimuli (initial plan) trace s run (not_late-initial plan) 0 (omega arith) in
+      let called = run-called stimuli (initial plan) trace s run (not_late-initial plan valid) 0 (omega arith) in
       let there : after_calls (switch_calls stimuli) (all_idle plan) ≡ s.switches = called.after in
       let last = called.last in
       let still : IsNoSwitchDueBy (after_calls (switch_calls stimuli) (all_idle plan)) at =

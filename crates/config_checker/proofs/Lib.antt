@@ -1,5 +1,6 @@
 pub mod Does
 pub mod Parts
+pub mod Pricing
 pub mod Growth
 pub mod Order
 pub mod Keeps
@@ -22,6 +23,7 @@ pub mod CertificateLength
 pub mod Cycles
 pub mod Hearing
 pub mod Speaking
+pub mod Resting
 pub mod Silence
 pub mod Good
 pub mod ByLine

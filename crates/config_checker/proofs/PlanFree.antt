@@ -14,12 +14,19 @@ use Rattle.plan_tables.specs.declared.entries.ModeEvent.{ModeEvent}
 use Rattle.plan_tables.specs.declared.entries.ModeEvent.TheVariants.{WillStart, Starting, Started, Stopping, Stopped}
 use Rattle.plan_tables.specs.declared.entries.Action.{Action}
 use Rattle.plan_tables.specs.declared.entries.Action.TheVariants.{Post}
+use Rattle.plan_tables.specs.declared.entries.Owner.{Owner}
+use Rattle.plan_tables.specs.declared.entries.Target.{Target}
+use Rattle.plan_tables.specs.declared.entries.Target.TheVariants.{Run, Start, Stop, Act}
+use Rattle.plan_tables.specs.declared.devices.DeviceRow.{DeviceRow}
+use Rattle.plan_tables.specs.Valid.{IsBindingWithin, IsTargetWithin}
 use Rattle.plan_tables.specs.PlanView.{PlanSwitch, PlanView, name_of_event}
 use Rattle.mpf_plan.specs.Contributions.{texts, tag_event, active_posts, inactive_posts, mode_event_name}
 use Rattle.mpf_plan.specs.PlanOf.{plan_at}
 use Rattle.mpf_plan.proofs.Posted.{IsPost, ArePosts}
 use Rattle.mpf_plan.proofs.PostNames.{IsSwitchPosting, IsPlayerPosting, IsPosting, ArePosting, IsNameOf, posts-named}
 use Rattle.mpf_plan.proofs.ModeEventNames.{free-by_name}
+use Rattle.mpf_plan.proofs.ValidPlan.{HasEntries-plan_at, no_devices-plan_at}
+use Rattle.config_checker.specs.Devices.{ActsAreOwn, IsOwnAct}
 use Rattle.config_checker.specs.FreePosts.{IsFree, IsFreeAction, IsFreeSwitch, PostsAreFree}
 use Rattle.config_checker.specs.Reserved.{mode_events, events_of_modes, mode_names, is_reserved, game_events, switch_posts, player_posts, posts_in, posts_of}
 use Rattle.config_checker.specs.Checking.{faults_of_rows}
@@ -157,3 +164,13 @@ module _ (rows : Rows) where
           lists = All-weaker (All (IsPost (IsNameOf IsUnreserved plan))) (All (IsFreeAction plan)) (λ l h. All-weaker (IsPost (IsNameOf IsUnreserved plan)) (IsFreeAction plan) action-free l h) plan.lists meet.lists;
           switches = All-weaker (ArePosts (IsNameOf IsUnreserved plan)) (IsFreeSwitch plan) switch-free plan.switches meet.switches;
         }
+
+-- a plan without devices has no binding that acts on one
+pub plan_own : (rows : Rows) (plan : PlanView) → plan_at rows ≡ Ok plan → ActsAreOwn plan
+plan_own rows plan is = All-weaker (IsBindingWithin plan) (λ b. IsOwnAct plan b.owner b.target) (λ b within. own b.owner b.target within.2) plan.bindings (HasEntries-plan_at rows plan is).bindings
+  where
+    own : (owner : Owner) (t : Target) → IsTargetWithin plan t → IsOwnAct plan owner t
+    own owner (Run l) within = tt
+    own owner (Start m) within = tt
+    own owner (Stop m) within = tt
+    own owner (Act r act) within = absurd (omega (arith, within, ap (λ (rs : List DeviceRow). length rs) (no_devices-plan_at rows plan is)))

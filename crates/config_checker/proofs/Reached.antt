@@ -5,6 +5,7 @@ use Rattle.plan_tables.specs.Valid.{IsValid}
 use Rattle.switch_core.specs.Switches.{IsComplete, all_idle}
 use Rattle.config_checker.specs.declared.line.Line.{Line}
 use Rattle.config_checker.specs.Machine.{Machine, initial}
+use Rattle.config_checker.specs.Devices.{HasDevices}
 use Rattle.config_checker.specs.PlanOrder.{plan_steps, settled}
 use Rattle.config_checker.specs.Run.{IsNothingLate, Stimulus, IsAllowed, begin, IsReached}
 use Rattle.config_checker.specs.CheckedView.{CheckedView}
@@ -37,9 +38,13 @@ module _ (plan : PlanView) where
     pub reached-complete : IsValid plan → IsComplete s.switches
     reached-complete valid = complete plan s valid reached-has_states
 
+    -- each device has a state of its shape
+    pub reached-devices : HasDevices plan s.devices
+    reached-devices = reached-has_states.devices
+
     -- and no alarm is late
-    pub reached-not_late : IsNothingLate s
-    reached-not_late = not_late-run plan reached.stimuli (initial plan) trace s reached.run (not_late-initial plan)
+    pub reached-not_late : IsValid plan → IsNothingLate s
+    reached-not_late valid = not_late-run plan valid reached.stimuli (initial plan) trace s reached.run (not_late-initial plan valid)
 
 -- a stimulus more, for what was accepted
 module _ (c : CheckedView) (accepted : IsAccepted c) (trace : List Line) (s : Machine) (reached : IsReached c.plan trace s) (stimulus : Stimulus) (allowed : IsAllowed c.plan s stimulus) where

@@ -95,8 +95,11 @@ pub record HoldsIn (plan : PlanView) (m : ModeId) (before : List Line) (front : 
 pub takes-runs : (m : ModeId) (s : Machine) (n : ℕ) → length s.modes ≡ n → m.0 < n → Rattle.event_queue.specs.Handlers.takes_part (running_of s.modes) (owners.Mode m) ≡ true → IsRunning m s
 takes-runs m s n count within h = sym (get_or-map (λ (x : ModeState). is_running x.phase) s.modes m.0 (in_phase phases.Idle) false (omega (arith, count, within))) ∙ h
 
+pub runs-takes : (m : ModeId) (s : Machine) (n : ℕ) → length s.modes ≡ n → m.0 < n → IsRunning m s → Rattle.event_queue.specs.Handlers.takes_part (running_of s.modes) (owners.Mode m) ≡ true
+runs-takes m s n count within runs = get_or-map (λ (x : ModeState). is_running x.phase) s.modes m.0 (in_phase phases.Idle) false (omega (arith, count, within)) ∙ runs
+
 module _ (plan : PlanView) (valid : IsValid plan) (m : ModeId) (within : m.0 < length plan.modes) (before : List Line) where
-  own_state : (x : ModeState) (s : Machine) → length s.modes ≡ length plan.modes → mode_state (set_mode m x s).modes m ≡ x
+  pub own_state : (x : ModeState) (s : Machine) → length s.modes ≡ length plan.modes → mode_state (set_mode m x s).modes m ≡ x
   own_state x s count = get_or-set_same s.modes m.0 x (in_phase phases.Idle) (omega (arith, within, count))
 
   pub other_state : (k : ModeId) (x : ModeState) (s : Machine) → (k.0 ≡ m.0 → ⊥) → mode_state (set_mode k x s).modes m ≡ mode_state s.modes m

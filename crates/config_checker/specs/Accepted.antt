@@ -3,9 +3,12 @@ use Rattle.plan_tables.specs.Valid.{IsValid}
 use Rattle.cascade_rank.specs.Verified.{IsVerified}
 use Rattle.config_checker.specs.CheckedView.{CheckedView}
 use Rattle.config_checker.specs.FreePosts.{PostsAreFree}
+use Rattle.config_checker.specs.Devices.{ActsAreOwn}
 
--- The plan is valid, nothing posts an event at which the machine itself does something, the weights fit it, neither they nor the bound are above 10,000, and the bound is theirs.
+-- The plan is valid, nothing posts an event at which the machine itself does something, bindings act on devices of their
+-- own owner alone, the weights fit it, neither they nor the bound are above 10,000, and the bound is theirs.
 pub record IsAccepted (c : CheckedView) : Type 0 where
   pub valid : IsValid c.plan
   pub free : PostsAreFree c.plan
+  pub own : ActsAreOwn c.plan
   pub verified : IsVerified c.plan c.weights c.bound

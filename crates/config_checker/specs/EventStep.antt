@@ -7,12 +7,13 @@ use Rattle.plan_tables.specs.declared.entries.ModeEvent.TheVariants.{WillStart, 
 use Rattle.plan_tables.specs.declared.entries.Work.{Work}
 use Rattle.plan_tables.specs.declared.entries.Work.TheVariants.{Nothing, Mode}
 use Rattle.plan_tables.specs.declared.entries.Owner.TheVariants as owners
+use Rattle.device_objects.specs.declared.device.Call.TheVariants as calls
 use Rattle.mode_stack.specs.ModeStep.{entered, ended}
 use Rattle.mode_stack.specs.Modes.{mode_state, running_of}
 use Rattle.config_checker.specs.declared.line.Happening.TheVariants as lines
 use Rattle.event_queue.specs.declared.queue.Posted.{Posted}
 use Rattle.event_queue.specs.Handlers.{handlers, IsHandlerOrder}
-use Rattle.config_checker.specs.Machine.{Machine, write, post, set_mode, all_do, stop_mode, do_handler}
+use Rattle.config_checker.specs.Machine.{Machine, write, post, set_mode, all_do, stop_mode, call_devices, do_handler}
 
 -- the first waiting event is taken, and its line is written
 abbrev pub taken : Posted → List Posted → Machine → Machine
@@ -20,14 +21,15 @@ taken first rest s = write first.owner (lines.Event first.event) (record s { wai
 
 -- ---- what the machine itself does at an event
 
--- Before the handlers run: a mode is active from its event `started` on, so that its own handlers run then.
-abbrev pub do_before : Work → Machine → Machine
-do_before Nothing s = s
-do_before (Mode m WillStart) s = s
-do_before (Mode m Starting) s = s
-do_before (Mode m Started) s = set_mode m (entered (mode_state s.modes m)) s
-do_before (Mode m Stopping) s = s
-do_before (Mode m Stopped) s = s
+-- Before the handlers run: a mode is active from its event `started` on, so that its own handlers run then. Its devices
+-- start before them.
+abbrev pub do_before : PlanView → Work → Machine → Machine
+do_before plan Nothing s = s
+do_before plan (Mode m WillStart) s = s
+do_before plan (Mode m Starting) s = s
+do_before plan (Mode m Started) s = call_devices plan calls.ModeStart m (set_mode m (entered (mode_state s.modes m)) s)
+do_before plan (Mode m Stopping) s = s
+do_before plan (Mode m Stopped) s = s
 
 -- whether a stop is kept for the mode that becomes active
 abbrev pub is_kept : Work → Machine → Bool
@@ -38,18 +40,18 @@ is_kept (Mode m Started) s = (mode_state s.modes m).kept
 is_kept (Mode m Stopping) s = false
 is_kept (Mode m Stopped) s = false
 
--- After the handlers: a mode goes on from one of its events to the next. It ends at `stopping`, after its own handlers of
--- that event. At `started` it is told to stop, where a stop was kept.
+-- After the handlers: a mode goes on from one of its events to the next. At `stopping`, after its own handlers of that
+-- event, its devices stop and then it ends. At `started` it is told to stop, where a stop was kept.
 abbrev pub do_after : PlanView → Bool → Work → Machine → Machine
 do_after plan kept Nothing s = s
 do_after plan kept (Mode m WillStart) s = post owners.Machine (mode_event plan m Starting) s
 do_after plan kept (Mode m Starting) s = post owners.Machine (mode_event plan m Started) s
 do_after plan kept (Mode m Started) s = if kept then stop_mode plan m s else s
-do_after plan kept (Mode m Stopping) s = post owners.Machine (mode_event plan m Stopped) (set_mode m (ended (mode_state s.modes m)) s)
+do_after plan kept (Mode m Stopping) s = post owners.Machine (mode_event plan m Stopped) (set_mode m (ended (mode_state s.modes m)) (call_devices plan calls.ModeStop m s))
 do_after plan kept (Mode m Stopped) s = s
 
 abbrev pub work_before : PlanView → EventId → Machine → Machine
-work_before plan e s = do_before (work_of plan e) s
+work_before plan e s = do_before plan (work_of plan e) s
 
 -- whether a stop was kept is asked of the state before
 abbrev pub work_after : PlanView → EventId → Machine → Machine → Machine

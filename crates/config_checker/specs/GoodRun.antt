@@ -1,21 +1,25 @@
 -- What is promised of every run.
 use Rattle.std.specs.Prelude.{◌≡◌, ℕ, ◌+◌, ◌<◌, ◌≤◌, Option, Some, None, List, [], ◌∷◌, length}
-use Rattle.plan_tables.specs.PlanView.{PlanView, switch_at}
+use Rattle.plan_tables.specs.PlanView.{PlanView, row_at, switch_at}
 use Rattle.plan_tables.specs.declared.entries.EventId.{EventId}
 use Rattle.plan_tables.specs.declared.entries.SwitchId.{SwitchId}
+use Rattle.plan_tables.specs.declared.entries.ModeId.{ModeId}
+use Rattle.plan_tables.specs.declared.entries.Owner.TheVariants as owners
+use Rattle.plan_tables.specs.declared.devices.RowId.{RowId}
+use Rattle.device_objects.specs.declared.device.Call.TheVariants as calls
 use Rattle.switch_core.specs.declared.change.Change.{Change as Acceptance}
 use Rattle.switch_core.specs.SwitchStep.{raw_at_rest}
 use Rattle.switch_core.specs.Switches.{active_at, accept, reported, reported_by_change}
 use Rattle.switch_core.specs.AcceptedLevel.{accepted_level}
 use Rattle.switch_core.specs.Calls.{raw_changes}
-use Rattle.cascade_rank.specs.Cost.{Cost, Lines, price, cost_of_acceptance}
+use Rattle.cascade_rank.specs.Cost.{Cost, Lines, price, cost_of_acceptance, cost_of_call}
 use Rattle.cascade_rank.specs.Events.{weight_of}
 use Rattle.event_queue.specs.declared.queue.Posted.{Posted}
 use Rattle.config_checker.specs.Machine.{Machine}
 use Rattle.config_checker.specs.EventStep.{EventStep}
-use Rattle.config_checker.specs.Run.{Source, switch, Stimulus, Change, Alarm, Wait, IsNoAlarmDueBy, InEveryRun, InEveryCascade}
+use Rattle.config_checker.specs.Run.{Source, switch, device, source_due, Stimulus, Change, Alarm, Wait, IsNoAlarmDueBy, InEveryRun, InEveryCascade}
 use Rattle.config_checker.specs.SwitchCalls.{switch_calls}
-use Rattle.config_checker.specs.Silent.{IsSilent}
+use Rattle.config_checker.specs.Silent.{HasStarted, IsSilent}
 use Rattle.config_checker.specs.CheckedView.{CheckedView}
 
 -- what the acceptance of a switch costs, if there is one
@@ -23,9 +27,10 @@ abbrev pub cost_if_accepted : PlanView → Option Acceptance → Cost
 cost_if_accepted plan None = Lines 0
 cost_if_accepted plan (Some a) = cost_of_acceptance plan a.switch a.active
 
--- what an alarm costs: that of a switch its acceptance
+-- what an alarm costs: that of a switch its acceptance, that of a device its dearest answer
 abbrev pub cost_of_alarm : PlanView → Machine → Source → Cost
 cost_of_alarm plan s (switch n) = cost_of_acceptance plan n (reported (accept n s.switches) n).active
+cost_of_alarm plan s (device r) = cost_of_call plan r calls.Fire
 
 -- What a stimulus costs: a change costs the acceptance of the switch where it is accepted at once, else nothing.
 -- A wait costs nothing.
@@ -61,3 +66,7 @@ pub record IsGood (c : CheckedView) : Type 0 where
   pub bounded : IsBounded c
   -- Nothing comes from a stopped mode.
   pub silent : InEveryRun c.plan (λ stimuli trace s. IsSilent c.plan trace)
+  -- No device of a stopped mode is due: where one is due, its mode has started, and has not stopped since.
+  pub resting : InEveryRun c.plan (λ stimuli trace s.
+      (m : ModeId) (r : RowId) (due : ℕ) → r.0 < length c.plan.rows → (row_at c.plan r).owner ≡ owners.Mode m →
+      source_due s (device r) ≡ Some due → HasStarted c.plan m trace)

@@ -1,6 +1,7 @@
 pub mod Machine
 pub mod EventStep
 pub mod Run
+pub mod Devices
 pub mod SwitchCalls
 pub mod NextAlarm
 pub mod PlanOrder

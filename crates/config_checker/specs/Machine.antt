@@ -1,6 +1,6 @@
 -- The machine's state, and what each thing does to it.
-use Rattle.std.specs.Prelude.{ℕ, Bool, true, false, if◌then◌else◌, Option, Some, None, List, [], ◌∷◌, ◌++◌, length, slice_set}
-use Rattle.plan_tables.specs.PlanView.{PlanView, posts_of, actions_at, binding_at, mode_event}
+use Rattle.std.specs.Prelude.{ℕ, Bool, true, false, if◌then◌else◌, Option, Some, None, List, [], ◌∷◌, ◌++◌, length, map, slice_index_or, slice_set}
+use Rattle.plan_tables.specs.PlanView.{PlanView, posts_of, actions_at, binding_at, list_of_row, mode_event, no_row, row_at, rows_of}
 use Rattle.plan_tables.specs.declared.entries.EventId.{EventId}
 use Rattle.plan_tables.specs.declared.entries.SwitchId.{SwitchId}
 use Rattle.plan_tables.specs.declared.entries.ListId.{ListId}
@@ -10,10 +10,16 @@ use Rattle.plan_tables.specs.declared.entries.Owner.TheVariants as owners
 use Rattle.plan_tables.specs.declared.entries.Action.{Action}
 use Rattle.plan_tables.specs.declared.entries.Action.TheVariants.{Post}
 use Rattle.plan_tables.specs.declared.entries.Target.{Target}
-use Rattle.plan_tables.specs.declared.entries.Target.TheVariants.{Run, Start, Stop}
+use Rattle.plan_tables.specs.declared.entries.Target.TheVariants.{Run, Start, Stop, Act}
 use Rattle.plan_tables.specs.declared.entries.ModeId.{ModeId}
 use Rattle.plan_tables.specs.declared.entries.ModeEvent.TheVariants.{WillStart, Stopping}
 use Rattle.plan_tables.specs.declared.entries.Binding.{Binding}
+use Rattle.plan_tables.specs.declared.devices.RowId.{RowId}
+use Rattle.device_objects.specs.declared.device.Call.{Call}
+use Rattle.device_objects.specs.declared.device.Call.TheVariants as calls
+use Rattle.device_objects.specs.declared.state.DeviceState.{DeviceState}
+use Rattle.device_objects.specs.declared.state.World.{World}
+use Rattle.device_objects.specs.DeviceStep.{device_step, first_state}
 use Rattle.switch_core.specs.declared.change.Change.{Change as Acceptance}
 use Rattle.switch_core.specs.Switches.{SwitchesView, all_idle, after_change, reported_by_change, accept, reported}
 use Rattle.mode_stack.specs.declared.phase.ModeState.{ModeState}
@@ -34,14 +40,17 @@ pub record Machine : Type 0 where
   pub switches : SwitchesView
   -- the state of each mode, by number
   pub modes : List ModeState
+  -- the state of each device, by the number of its row
+  pub devices : List DeviceState
   -- the events that wait, first posted first
   pub waiting : List Posted
   -- the lines since the latest stimulus began
   pub lines : List Line
 
--- At the beginning it is moment 0, all switches are inactive, all modes idle, and nothing waits.
+-- At the beginning it is moment 0, all switches are inactive, all modes idle, all devices in their first states, and
+-- nothing waits.
 abbrev pub initial : PlanView → Machine
-initial plan = record { moment = 0; switches = all_idle plan; modes = modes.all_idle (length plan.modes); waiting = []; lines = [] }
+initial plan = record { moment = 0; switches = all_idle plan; modes = modes.all_idle (length plan.modes); devices = map (λ row. first_state row.settings) plan.rows; waiting = []; lines = [] }
 
 -- ---- one change each
 
@@ -56,6 +65,9 @@ set_switches switches s = record s { switches = switches }
 
 abbrev pub set_mode : ModeId → ModeState → Machine → Machine
 set_mode m state s = record s { modes = slice_set s.modes m.0 state }
+
+abbrev pub set_device : RowId → DeviceState → Machine → Machine
+set_device r state s = record s { devices = slice_set s.devices r.0 state }
 
 -- one after another
 abbrev pub all_do : {X : Type 0} → (X → Machine → Machine) → List X → Machine → Machine
@@ -100,10 +112,42 @@ do_action plan owner (Post e) s = post owner e s
 abbrev pub do_list : PlanView → Owner → ListId → Machine → Machine
 do_list plan owner l s = all_do (do_action plan owner) (actions_at plan l) s
 
+-- ---- devices
+
+-- what devices know of the game: there is none yet
+abbrev pub world_of : Machine → World
+world_of s = record { games = 0; player = 0 }
+
+-- the state of a device by the number of its row
+abbrev pub device_state : List DeviceState → RowId → DeviceState
+device_state devices r = slice_index_or devices r.0 (first_state no_row.settings)
+
+abbrev pub device_at : Machine → RowId → DeviceState
+device_at s r = device_state s.devices r
+
+-- what the call of a device leads to: its next state, and the effect lists that it answers
+abbrev pub called : PlanView → Call → RowId → Machine → DeviceState × List ℕ
+called plan call r s = device_step (row_at plan r).settings call s.moment (world_of s) (device_at s r)
+
+-- effect lists of a row run, one after another, for the row's owner
+abbrev pub do_answer : PlanView → RowId → List ℕ → Machine → Machine
+do_answer plan r lists s = all_do (λ k. do_list plan (row_at plan r).owner (list_of_row plan r k)) lists s
+
+-- A device is called: it goes on to its next state, and what it answers is done.
+abbrev pub call_device : PlanView → Call → RowId → Machine → Machine
+call_device plan call r s = do_answer plan r (called plan call r s).1 (set_device r (called plan call r s).0 s)
+
+-- all devices of a mode are called, in the order of their rows
+abbrev pub call_devices : PlanView → Call → ModeId → Machine → Machine
+call_devices plan call m s = all_do (call_device plan call) (rows_of plan (owners.Mode m)) s
+
+-- ---- targets
+
 abbrev pub do_target : PlanView → Owner → Target → Machine → Machine
 do_target plan owner (Run l) s = do_list plan owner l s
 do_target plan owner (Start m) s = start_mode plan m s
 do_target plan owner (Stop m) s = stop_mode plan m s
+do_target plan owner (Act r act) s = call_device plan (calls.Act act) r s
 
 abbrev pub do_binding : PlanView → Binding → Machine → Machine
 do_binding plan b s = do_target plan b.owner b.target s

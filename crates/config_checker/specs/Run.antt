@@ -2,24 +2,33 @@
 use Rattle.std.specs.Prelude.{◌≡◌, ℕ, ◌<◌, ◌≤◌, ◌^◌, ◌⊎◌, Bool, Option, Some, List, [], ◌∷◌, ◌++◌, length}
 use Rattle.plan_tables.specs.PlanView.{PlanView}
 use Rattle.plan_tables.specs.declared.entries.SwitchId.{SwitchId}
+use Rattle.plan_tables.specs.declared.devices.RowId.{RowId}
 use Rattle.switch_core.specs.Switches.{due_of}
+use Rattle.device_objects.specs.declared.device.Call.TheVariants as calls
+use Rattle.device_objects.specs.DeviceStep as devices
 use Rattle.config_checker.specs.declared.line.Line.{Line}
-use Rattle.config_checker.specs.Machine.{Machine, initial, change_switch, fire_switch}
+use Rattle.config_checker.specs.Machine.{Machine, initial, call_device, change_switch, device_at, fire_switch}
 use Rattle.config_checker.specs.EventStep.{EventSteps}
 
 -- ---- what can be due
 
--- a source of alarms: the raw level of a switch, which is to be accepted
+-- a source of alarms: the raw level of a switch, which is to be accepted, or a device
 pub data Source : Type 0 where
   switch : SwitchId → Source
+  device : RowId → Source
 
 -- the moment at which the alarm of a source is due, if it is
 abbrev pub source_due : Machine → Source → Option ℕ
 source_due s (switch n) = due_of s.switches n
+source_due s (device r) = devices.due_of (device_at s r)
 
--- of two sources that are due at one moment, the first does not come after the other: switches come by number
+-- of two sources that are due at one moment, the first does not come after the other: switches come before devices, and
+-- each by number
 abbrev pub IsNotAfter : Source → Source → Type 0
 IsNotAfter (switch n) (switch m) = n.0 ≤ m.0
+IsNotAfter (switch n) (device r) = Unit {0}
+IsNotAfter (device r) (switch n) = ⊥
+IsNotAfter (device r) (device q) = r.0 ≤ q.0
 
 -- no alarm is due at or before the moment
 abbrev pub IsNoAlarmDueBy : Machine → ℕ → Type 0
@@ -67,6 +76,7 @@ arrived at s = record s { moment = at; lines = [] }
 -- an alarm comes
 abbrev pub fire : PlanView → Source → Machine → Machine
 fire plan (switch n) s = fire_switch plan n s
+fire plan (device r) s = call_device plan calls.Fire r s
 
 -- what a stimulus does before any event step
 abbrev pub begin : PlanView → Stimulus → Machine → Machine

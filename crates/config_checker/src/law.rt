@@ -1,6 +1,7 @@
 //! What holds of every certificate that is written, and of all that is accepted.
 
 ghost use Rattle.config_checker.specs.AcceptedRuns.{AcceptedIsGood};
+ghost use Rattle.config_checker.specs.Devices.{DevicesKeepTheirShape};
 ghost use Rattle.config_checker.specs.AlarmsEnd.{StimuliArmLater, AlarmsAreDone, AlarmsEnd};
 ghost use Rattle.config_checker.specs.ReadAgain.{FoundIsReadAgain, GivenIsReadAgain, ReadIsReadAgain};
 
@@ -32,15 +33,17 @@ pub fn accepted_is_good()
     ensures { AcceptedIsGood }
 {}
 
-/// The law of alarms, for every plan. A stimulus and its event steps arm nothing for its own moment
-/// or an earlier one: what is due after them was due before, or is due later (`arms_later`). The
-/// source of an alarm, if it is due again, is due later than the alarm came (`done`). So each
-/// source comes at most once at each moment, and alarms come to an end: in a run of the plan, after
-/// at most as many alarms as `most_alarms` says, none is due by the moment (`end`).
+/// The law of alarms, for every valid plan. A stimulus and its event steps arm nothing for its own
+/// moment or an earlier one: what is due after them was due before, or is due later (`arms_later`).
+/// The source of an alarm, if it is due again, is due later than the alarm came, where each device
+/// has a state of its kind (`done`), as it has in every run (`shapes`). So each source comes at most
+/// once at each moment, and alarms come to an end: in a run of the plan, after at most as many
+/// alarms as `most_alarms` says, none is due by the moment (`end`).
 ///
 /// It does nothing: its contract is the law, over the written machine.
 pub fn alarms_end()
     ensures arms_later { StimuliArmLater }
     ensures done { AlarmsAreDone }
+    ensures shapes { DevicesKeepTheirShape }
     ensures end { AlarmsEnd }
 {}

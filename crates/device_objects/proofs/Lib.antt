@@ -3,3 +3,4 @@ pub mod Slots
 pub mod Shapes
 pub mod Answered
 pub mod Attained
+pub mod Moments

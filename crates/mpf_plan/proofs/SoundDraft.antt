@@ -35,6 +35,7 @@ record Grows (p q : PlanView) : Type 0 where
   events : length p.events ≡ length q.events
   modes : length p.modes ≤ length q.modes
   lists : length p.lists ≤ length q.lists
+  rows : length p.rows ≡ length q.rows
 
 module _ (p q : PlanView) (grows : Grows p q) where
   owner_grows : (o : Owner) → IsOwnerWithin p o → IsOwnerWithin q o
@@ -45,6 +46,7 @@ module _ (p q : PlanView) (grows : Grows p q) where
   target_grows (targets.Run l) within = omega (arith, within, grows.lists)
   target_grows (targets.Start m) within = omega (arith, within, grows.modes)
   target_grows (targets.Stop m) within = omega (arith, within, grows.modes)
+  target_grows (targets.Act r act) within = omega (arith, within, grows.rows)
 
   binding_grows : (b : Binding) → IsBindingWithin p b → IsBindingWithin q b
   binding_grows b within = (let event = within.0 in omega (arith, event, grows.events), owner_grows b.owner within.1, target_grows b.target within.2)
@@ -85,13 +87,13 @@ module _ (names : Names) (d : DraftView) (sound : IsSound names d.plan) where
       record {
         events = sound.events;
         modes = sound.modes;
-        bindings = bindings_grow d.plan new (record { events = refl; modes = omega arith; lists = more }) d.plan.bindings sound.bindings;
+        bindings = bindings_grow d.plan new (record { events = refl; modes = omega arith; lists = more; rows = refl }) d.plan.bindings sound.bindings;
       }
 
   mode_sound : (modes : List PlanMode) → length d.plan.modes ≤ length modes → All (IsModeWithin (length d.plan.events)) modes → IsSound names (record d.plan { modes = modes })
   mode_sound modes more within =
       let new : PlanView = record d.plan { modes = modes } in
-      record { events = sound.events; modes = within; bindings = bindings_grow d.plan new (record { events = refl; modes = more; lists = omega arith }) d.plan.bindings sound.bindings }
+      record { events = sound.events; modes = within; bindings = bindings_grow d.plan new (record { events = refl; modes = more; lists = omega arith; rows = refl }) d.plan.bindings sound.bindings }
 
   mode_added : (m : PlanMode) → IsModeWithin (length d.plan.events) m → IsSound names (with_mode m d).plan
   mode_added m within =
@@ -126,7 +128,7 @@ module _ (names : Names) (d : DraftView) (sound : IsSound names d.plan) where
     binding_sound e place aim known placed aimed =
         let b = next_binding d.plan e place aim in
         let new : PlanView = record d.plan { lists = lists_for aim d.plan.lists; bindings = d.plan.bindings ++ b ∷ [] } in
-        let grows : Grows d.plan new = record { events = refl; modes = omega arith; lists = longer aim } in
+        let grows : Grows d.plan new = record { events = refl; modes = omega arith; lists = longer aim; rows = refl } in
         record {
           events = sound.events;
           modes = sound.modes;

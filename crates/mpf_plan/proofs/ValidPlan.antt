@@ -158,6 +158,14 @@ HasEntries-plan_of rows = has_entries (contributions_of rows) (rows_are_open row
 pub HasEntries-plan_at : (rows : Rows) (plan : PlanView) → plan_at rows ≡ Ok plan → HasEntries plan
 HasEntries-plan_at rows plan is = subst HasEntries (sym (plan_at-Ok rows plan is).0) (HasEntries-plan_of rows)
 
+-- no row gives a device
+no_devices-plan_of : (rows : Rows) → (plan_of rows).rows ≡ []
+unfolding plan_of
+no_devices-plan_of rows = (no_rows (contributions_of rows)).0
+
+pub no_devices-plan_at : (rows : Rows) (plan : PlanView) → plan_at rows ≡ Ok plan → plan.rows ≡ []
+no_devices-plan_at rows plan is = subst (λ (p : PlanView). p.rows ≡ []) (sym (plan_at-Ok rows plan is).0) (no_devices-plan_of rows)
+
 -- A plan that planning gives is valid, where no list in the rows is too long, and there are few modes.
 pub IsValid-plan_at : (rows : Rows) → AreListsShort rows → AreFewModes rows.modes → (plan : PlanView) → plan_at rows ≡ Ok plan → IsValid plan
 IsValid-plan_at rows short few plan is =

@@ -1,19 +1,20 @@
 -- A rig that is held acts on an input that is not refused, and is held again.
-use Rattle.std.proofs.Common.{◌≡◌, ℕ, Ok, ◌++◌, List, length, refl, ap, sym, ◌∙◌, subst, arith}
+use Rattle.std.proofs.Common.{◌≡◌, ℕ, ◌<◌, ◌^◌, Ok, ◌++◌, List, length, refl, ap, sym, ◌∙◌, subst, arith}
 use Rattle.std.proofs.lemmas.List.{length-map}
 use Rattle.plan_tables.specs.PlanView.{PlanView}
 use Rattle.plan_tables.specs.declared.entries.SwitchKind.{SwitchKind}
 use Rattle.config_checker.specs.Machine.{Machine}
 use Rattle.config_checker.specs.EventStep.{EventSteps}
 use Rattle.config_checker.specs.PlanOrder.{plan_steps}
-use Rattle.config_checker.specs.Run.{Stimulus, Change, Alarm, Wait, IsAllowed, begin, IsReached}
+use Rattle.config_checker.specs.Run.{Stimulus, Change, Alarm, Wait, moment_of, IsAllowed, begin, IsReached}
 use Rattle.config_checker.specs.CheckedView.{CheckedView}
 use Rattle.config_checker.specs.Accepted.{IsAccepted}
 use Rattle.config_checker.proofs.PlanSteps.{plan_steps-event_steps}
-use Rattle.config_checker.proofs.Reached.{reached-next, reached-within, reached-same, reached-kinds, reached-complete, reached-modes}
+use Rattle.config_checker.proofs.Reached.{reached-next, reached-within, reached-same, reached-has_states, reached-devices, reached-kinds, reached-complete, reached-modes}
+use Rattle.config_checker.proofs.Alarms.{has_states-begin, moment-begin}
 use Rattle.config_checker.proofs.Silence.{begin-still}
 use Rattle.pin_rig.specs.declared.input.Input.{Input}
-use Rattle.pin_rig.specs.Core.{CoreView, HandlesFor, IsPlayable, HasRoom, StaysWithin, HasSettled, after}
+use Rattle.pin_rig.specs.Core.{CoreView, CanCall, HandlesFor, IsPlayable, HasRoom, StaysWithin, HasSettled, after}
 use Rattle.pin_rig.proofs.Settling.{follows-handles}
 use Rattle.pin_rig.specs.Rig.{RigView, stimulus_at, RigStep}
 use Rattle.pin_rig.specs.Inside.{IsHeld}
@@ -23,7 +24,7 @@ use Rattle.pin_rig.proofs.Judging.{judged-allowed, judged-asks, AsksFor}
 asked-playable : (c : CheckedView) (core : CoreView) (stimulus : Stimulus) → length core.machine.switches.kinds ≡ length c.plan.switches → AsksFor (record { checked = c; machine = core.machine }) stimulus → IsPlayable core stimulus
 asked-playable c core (Change at switch level) count asks = let within = asks.1 in (asks.0, omega arith)
 asked-playable c core (Alarm at source) count asks = asks
-asked-playable c core (Wait at) count asks = tt
+asked-playable c core (Wait at) count asks = asks
 
 module _ (c : CheckedView) (core : CoreView) (held : IsHeld c core) (accepted : IsAccepted c)
     (input : Input) (stimulus : Stimulus) (judged : stimulus_at (record { checked = c; machine = core.machine }) input ≡ Ok stimulus) where
@@ -48,6 +49,20 @@ module _ (c : CheckedView) (core : CoreView) (held : IsHeld c core) (accepted : 
   -- the same modes run once the stimulus has begun
   begun-handles : HandlesFor c.plan (after (begin c.plan stimulus) core)
   begun-handles = held.core_is.handlers ∙ (λ i. record { plan = c.plan; running = sym (begin-still c.plan stimulus core.machine) i })
+
+  -- and devices can be called
+  early : moment_of stimulus < 2 ^ 40
+  early = by stimulus allowed
+    where
+      by : (x : Stimulus) → IsAllowed c.plan core.machine x → moment_of x < 2 ^ 40
+      by (Change at n level) h = h.0.early
+      by (Alarm at source) h = h.1
+      by (Wait at) h = h.early
+
+  begun-calls : CanCall c.plan (after (begin c.plan stimulus) core)
+  begun-calls =
+      let states = reached-has_states c.plan held.reached.0 core.machine held.reached.1 in
+      ((has_states-begin c.plan stimulus core.machine states).devices, omega (arith, early, moment-begin c.plan stimulus core.machine))
 
   module _ (new : CoreView) (settled : HasSettled c.plan (after (begin c.plan stimulus) core) new) where
     -- as many steps as the bound allows lead to the same state
@@ -82,12 +97,14 @@ module _ (c : CheckedView) (core : CoreView) (held : IsHeld c core) (accepted : 
         let trace = held.reached.0 ++ (plan_steps c.plan c.bound begun).lines in
         record {
           core_is = record {
+            devices = reached-devices c.plan trace new.machine reached;
             modes = reached-modes c.plan trace new.machine reached;
             handlers = follows-handles c.plan (plan_steps c.plan settled.count) (after (begin c.plan stimulus) core) new begun-handles settled.new_is;
             kinds = ap (λ (kinds : List SwitchKind). length kinds) (reached-kinds c.plan trace new.machine reached) ∙ length-map c.plan.switches (λ s. s.kind);
             complete = reached-complete c.plan trace new.machine reached accepted.valid;
           };
           room = let was = held.room in let is = ap (λ (v : CoreView). v.room) settled.new_is in omega (arith, was, is);
+          accepted = accepted;
           reached = (trace, reached);
         }
 
@@ -101,6 +118,11 @@ module _ (c : CheckedView) (core : CoreView) (held : IsHeld c core) (accepted : 
       begun_core-handles =
           subst (HandlesFor plan) (sym begun_is)
           (subst (λ (p : PlanView). HandlesFor p (after (begin p stimulus) core)) (sym plan_is) begun-handles)
+
+      pub begun_core-calls : CanCall plan begun_core
+      begun_core-calls =
+          subst (CanCall plan) (sym begun_is)
+          (subst (λ (p : PlanView). CanCall p (after (begin p stimulus) core)) (sym plan_is) begun-calls)
 
       pub begun-stays : StaysWithin plan begun_core.room begun_core.machine
       begun-stays =

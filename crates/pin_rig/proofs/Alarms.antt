@@ -1,11 +1,23 @@
--- The switch whose raw level is accepted when the next alarm comes.
-use Rattle.std.proofs.Common.{◌≡◌, ℕ, ◌<◌, Option, Some, None, option_map, MatchOption, length, ap, arith}
+-- What the next alarm comes from.
+use Rattle.std.proofs.Common.{◌≡◌, ℕ, ◌<◌, Option, Some, None, option_map, MatchOption, List, [], ◌∷◌, length, map, refl, ap, sym, ◌∙◌, subst, arith}
+use Rattle.std.specs.Option.{IsSome}
 use Rattle.plan_tables.specs.PlanView.{PlanView}
 use Rattle.plan_tables.specs.declared.entries.SwitchId.{SwitchId}
+use Rattle.plan_tables.specs.declared.devices.RowId.{RowId}
+use Rattle.device_objects.specs.declared.device.Call.TheVariants as calls
+use Rattle.device_objects.specs.declared.state.DeviceState.{DeviceState}
+use Rattle.device_objects.specs.DeviceStep.{due_of}
+use Rattle.device_objects.specs.Laws.{MayCome}
 use Rattle.switch_core.specs.declared.change.Change.{Change as Acceptance}
 use Rattle.switch_core.specs.Switches.{SwitchesView, next_due, IsNextDue, IsNothingDue, reported, after_fire, reported_by_fire}
-use Rattle.switch_core.proofs.NextDue.{next_due-is_due}
+use Rattle.switch_core.proofs.NextDue.{next_due-is, next_due-is_due}
 use Rattle.switch_core.proofs.Lists.{due-within}
+use Rattle.config_checker.specs.Machine.{Machine, device_at}
+use Rattle.config_checker.specs.Devices.{HasDevices}
+use Rattle.config_checker.specs.Run.{Source, switch, device}
+use Rattle.config_checker.specs.NextAlarm.{next_alarm}
+use Rattle.config_checker.proofs.Does.{due-row}
+use Rattle.config_checker.proofs.NextAlarms.{found-is_next, next_alarm-due}
 use Rattle.pin_rig.specs.Core.{CoreView, IsCoreOf}
 
 same_Some : (a b : Acceptance) → Some a ≡ Some b → a ≡ b
@@ -25,3 +37,29 @@ fired-within plan c a core is =
     let states = core.complete.states in
     let kinds = core.kinds in
     omega (arith, within, states, kinds)
+
+-- the moments at which devices are due, by their states
+pub dues-are : {A : Type 0} (state : A → DeviceState) (items : List A) → map (λ d. due_of (state d)) items ≡ map due_of (map state items)
+dues-are state [] = refl
+dues-are state (x ∷ items) = ap (λ (rest : List (Option ℕ)). due_of (state x) ∷ rest) (dues-are state items)
+
+-- ---- which source fires
+
+-- a switch that is the source of the next alarm is due next among the switches
+pub next-switch : (s : Machine) (at : ℕ) (n : SwitchId) → next_alarm s ≡ Some (at, switch n) → next_due s.switches ≡ Some (at, n)
+next-switch s at n next = next_due-is s.switches at n (next_alarm-due s at n (found-is_next s at (switch n) next))
+
+-- a device that is the source of the next alarm is one of the plan, and due
+pub next-row : (plan : PlanView) (s : Machine) (at : ℕ) (r : RowId) → HasDevices plan s.devices → next_alarm s ≡ Some (at, device r) → r.0 < length plan.rows
+next-row plan s at r has next = due-row plan s r at has (found-is_next s at (device r) next).due
+
+pub next-due : (s : Machine) (at : ℕ) (r : RowId) → next_alarm s ≡ Some (at, device r) → MayCome calls.Fire (device_at s r)
+next-due s at r next = subst IsSome (sym (found-is_next s at (device r) next).due) refl
+
+-- the next alarm has a moment
+pub next-of : (s : Machine) (source : Source) → option_map (λ a. a.1) (next_alarm s) ≡ Some source → (at : ℕ) × (next_alarm s ≡ Some (at, source))
+next-of s source is = by (next_alarm s) refl is
+  where
+    by : (o : Option (ℕ × Source)) → next_alarm s ≡ o → option_map (λ a. a.1) o ≡ Some source → (at : ℕ) × (next_alarm s ≡ Some (at, source))
+    by None e h = cc
+    by (Some a) e h = let same : a.1 ≡ source = cc in (a.0, e ∙ ap (λ x. Some (a.0, x)) same)

@@ -13,9 +13,13 @@ use Rattle.mode_stack.specs.Modes.{mode_state, running_of}
 use Rattle.mode_stack.specs.Modes as modes
 use Rattle.mode_stack.proofs.WhoRuns.{starting_keeps_who_runs}
 use Rattle.event_queue.specs.Handlers.{none_running, set_running}
-use Rattle.config_checker.specs.Machine.{Machine, post, set_mode, stop_mode}
+use Rattle.device_objects.specs.declared.device.Call.{Call}
+use Rattle.device_objects.specs.declared.device.Call.TheVariants as calls
+use Rattle.config_checker.specs.Machine.{Machine, post, set_mode, stop_mode, call_devices}
 use Rattle.config_checker.specs.EventStep.{do_before, do_after}
 use Rattle.config_checker.proofs.Does.{stop-by}
+use Rattle.config_checker.proofs.Parts.{does-calls}
+use Rattle.config_checker.proofs.Silence.{still-does}
 use Rattle.pin_rig.specs.Core.{CoreView, after, follow}
 
 -- where the same modes run, the handlers are the same
@@ -48,16 +52,36 @@ idle-runs plan = none_runs (length plan.modes)
 
 -- the core of a mode that is entered, and of one that has ended
 pub entered-follows : (c : CoreView) (m : ModeId) → c.handlers.running ≡ running_of c.machine.modes
-    → record c { machine = set_mode m (entered (mode_state c.machine.modes m)) c.machine; handlers = set_running c.handlers m true } ≡ follow (do_before (Mode m Started)) c
+    → record c { machine = set_mode m (entered (mode_state c.machine.modes m)) c.machine; handlers = set_running c.handlers m true } ≡ follow (λ s. set_mode m (entered (mode_state s.modes m)) s) c
 entered-follows c m is =
     λ i. record { handlers = record { plan = c.handlers.plan; running = entered-runs c.machine.modes m c.handlers.running is i }; machine = set_mode m (entered (mode_state c.machine.modes m)) c.machine; room = c.room }
 
-pub ended-follows : (plan : PlanView) (kept : Bool) (c : CoreView) (m : ModeId) → c.handlers.running ≡ running_of c.machine.modes
-    → after (post owners.Machine (mode_event plan m Stopped)) (record c { machine = set_mode m (ended (mode_state c.machine.modes m)) c.machine; handlers = set_running c.handlers m false })
-    ≡ follow (do_after plan kept (Mode m Stopping)) c
-ended-follows plan kept c m is =
-    λ i. record {
-      handlers = record { plan = c.handlers.plan; running = ended-runs c.machine.modes m c.handlers.running is i };
-      machine = post owners.Machine (mode_event plan m Stopped) (set_mode m (ended (mode_state c.machine.modes m)) c.machine);
+-- while the devices of a mode are called, the same modes run
+pub calls-still : (plan : PlanView) (call : Call) (m : ModeId) (s : Machine) → running_of (call_devices plan call m s).modes ≡ running_of s.modes
+calls-still plan call m s = still-does plan (λ owner. Unit {0}) ⊥ (does-calls plan (λ owner. Unit {0}) call m tt s)
+
+-- the core after the whole work at `started`
+pub started-follows : (plan : PlanView) (c entered_core new : CoreView) (m : ModeId) → entered_core ≡ follow (λ s. set_mode m (entered (mode_state s.modes m)) s) c → new ≡ after (call_devices plan calls.ModeStart m) entered_core
+    → new ≡ follow (do_before plan (Mode m Started)) c
+started-follows plan c entered_core new m was is =
+    is ∙ ap (after (call_devices plan calls.ModeStart m)) was
+    ∙ (λ i. record {
+      handlers = record { plan = c.handlers.plan; running = sym (calls-still plan calls.ModeStart m (set_mode m (entered (mode_state c.machine.modes m)) c.machine)) i };
+      machine = do_before plan (Mode m Started) c.machine;
       room = c.room;
-    }
+    })
+
+pub ended-follows : (plan : PlanView) (kept : Bool) (c stopped ended_core : CoreView) (m : ModeId) → c.handlers.running ≡ running_of c.machine.modes
+    → stopped ≡ after (call_devices plan calls.ModeStop m) c
+    → ended_core ≡ record stopped { machine = set_mode m (ended (mode_state stopped.machine.modes m)) stopped.machine; handlers = set_running stopped.handlers m false }
+    → after (post owners.Machine (mode_event plan m Stopped)) ended_core ≡ follow (do_after plan kept (Mode m Stopping)) c
+ended-follows plan kept c stopped ended_core m is was then =
+    let calls_done = call_devices plan calls.ModeStop m c.machine in
+    let running = is ∙ sym (calls-still plan calls.ModeStop m c.machine) in
+    ap (after (post owners.Machine (mode_event plan m Stopped))) then
+    ∙ ap (λ (v : CoreView). after (post owners.Machine (mode_event plan m Stopped)) (record v { machine = set_mode m (ended (mode_state v.machine.modes m)) v.machine; handlers = set_running v.handlers m false })) was
+    ∙ (λ i. record {
+      handlers = record { plan = c.handlers.plan; running = ended-runs calls_done.modes m c.handlers.running running i };
+      machine = post owners.Machine (mode_event plan m Stopped) (set_mode m (ended (mode_state calls_done.modes m)) calls_done);
+      room = c.room;
+    })

@@ -3,6 +3,7 @@ use Rattle.std.proofs.Common.{◌≡◌, ℕ, ◌<◌, ◌≤◌, ◌^◌, nat_l
 use Rattle.std.specs.Result.{result_and}
 use Rattle.std.proofs.lemmas.Bool.{cond_both, cond-true, cond-false, ltb-true, ltb-false, lt-ltb, le-ltb, leb-false, lt-leb}
 use Rattle.plan_tables.specs.declared.entries.SwitchId.{SwitchId}
+use Rattle.plan_tables.specs.Valid.{IsValid}
 use Rattle.config_checker.specs.Machine.{Machine}
 use Rattle.config_checker.specs.Run.{Source, Stimulus, Change, Alarm, Wait, IsTimely, IsAllowed}
 use Rattle.config_checker.specs.NextAlarm.{next_alarm, is_due_by}
@@ -45,12 +46,12 @@ late_or true given = refl
 late_or false given = refl
 
 -- no alarm is late, so that the moment of one is refused only where it is too late
-pub alarm-judged : (rig : RigView) → IsOfRun rig → (a : ℕ × Source) → next_alarm rig.machine ≡ Some a → alarm_at (next_alarm rig.machine) ≡ result_and (admitted rig.machine.moment a.0) (Ok (Alarm a.0 a.1))
-alarm-judged rig (trace, reached) a next =
+pub alarm-judged : (rig : RigView) → IsValid rig.checked.plan → IsOfRun rig → (a : ℕ × Source) → next_alarm rig.machine ≡ Some a → alarm_at (next_alarm rig.machine) ≡ result_and (admitted rig.machine.moment a.0) (Ok (Alarm a.0 a.1))
+alarm-judged rig valid (trace, reached) a next =
     let given : Result Stimulus StepFault = Ok (Alarm a.0 a.1) in
     let early : Result Unit StepFault = if is_too_late a.0 then Err faults.TooLate else Ok tt in
     let here = found-is_next rig.machine a.0 a.1 next in
-    let ahead = reached-not_late rig.checked.plan trace rig.machine reached a.1 a.0 here.due in
+    let ahead = reached-not_late rig.checked.plan trace rig.machine reached valid a.1 a.0 here.due in
     ap alarm_at next
     ∙ sym (ap (λ (r : Result Unit StepFault). result_and r given) (cond-false (nat_lt a.0 rig.machine.moment) (Err faults.Backwards) early (le-ltb a.0 rig.machine.moment ahead)) ∙ late_or (is_too_late a.0) given)
 
@@ -108,11 +109,11 @@ judged-of_input rig inputs.Alarm given h =
     (a.at, a.source, sym a.given_is)
 judged-of_input rig (inputs.Wait at) given h = let (time, is) = timely-is rig.machine at (Wait at) given h in sym is
 
--- what it asks of the switches is there
+-- what it asks for is there
 abbrev pub AsksFor : RigView → Stimulus → Type 0
 AsksFor rig (Change at switch level) = (at < 2 ^ 40) × (switch.0 < length rig.checked.plan.switches)
-AsksFor rig (Alarm at source) = next_alarm rig.machine ≡ Some (at, source)
-AsksFor rig (Wait at) = Unit {0}
+AsksFor rig (Alarm at source) = (at < 2 ^ 40) × (next_alarm rig.machine ≡ Some (at, source))
+AsksFor rig (Wait at) = at < 2 ^ 40
 
 pub judged-asks : (rig : RigView) (input : Input) (given : Stimulus) → stimulus_at rig input ≡ Ok given → AsksFor rig given
 judged-asks rig (inputs.Change at switch level) given h =
@@ -120,10 +121,10 @@ judged-asks rig (inputs.Change at switch level) given h =
     subst (AsksFor rig) is (time.early, within)
 judged-asks rig inputs.Alarm given h =
     let a = alarm-is rig.machine given (next_alarm rig.machine) refl h in
-    subst (AsksFor rig) a.given_is a.next
+    subst (AsksFor rig) a.given_is (a.early, a.next)
 judged-asks rig (inputs.Wait at) given h =
     let (time, is) = timely-is rig.machine at (Wait at) given h in
-    subst (AsksFor rig) is tt
+    subst (AsksFor rig) is time.early
 
 -- ---- and what may come is taken
 

@@ -1,6 +1,9 @@
 pub mod Alarms
 pub mod Judging
 pub mod Room
+pub mod Calling
+pub mod Listing
+pub mod Fitting
 pub mod Handling
 pub mod Stepping
 pub mod Settling

@@ -13,7 +13,7 @@ use Rattle.config_checker.specs.EventStep.{taken, is_kept, do_after, before_hand
 use Rattle.config_checker.specs.PlanOrder.{plan_step_from, plan_step, plan_steps}
 use Rattle.config_checker.proofs.Growth.{event-grows}
 use Rattle.config_checker.proofs.PlanSteps.{plan_steps-more}
-use Rattle.pin_rig.specs.Core.{CoreView, HandlesFor, HasRoom, StaysWithin, after, follow, after_taken}
+use Rattle.pin_rig.specs.Core.{CoreView, CanCall, HandlesFor, HasRoom, StaysWithin, after, follow, after_taken}
 
 -- whether a stop was kept is the same before and after the event is taken
 kept-same : (w : Work) (first : Posted) (rest : List Posted) (s : Machine) → is_kept w (taken first rest s) ≡ is_kept w s
@@ -37,6 +37,12 @@ follows-handles plan does start now was is = subst (HandlesFor plan) (sym is) (�
 -- after no step it is the same core
 pub follow-none : (plan : PlanView) (c : CoreView) → HandlesFor plan c → c ≡ follow (plan_steps plan 0) c
 follow-none plan c was = λ i. record { handlers = record { plan = c.handlers.plan; running = (ap (λ h. h.running) was) i }; machine = c.machine; room = c.room }
+
+-- where an event is taken and its line written, devices can still be called
+pub written-calls : (plan : PlanView) (now took written : CoreView) (first : Posted) (rest : List Posted) → took ≡ after (λ s. record s { waiting = rest }) now → written ≡ after (write first.owner (happenings.Event first.event)) took
+    → CanCall plan now → CanCall plan written
+written-calls plan now took written first rest took_is written_is h =
+    subst (CanCall plan) (sym (written_is ∙ ap (after (write first.owner (happenings.Event first.event))) took_is)) h
 
 -- After so many event steps of a core that has room for all of them, an event waits.
 module _ (plan : PlanView) (start now : CoreView) (was : HandlesFor plan start) (stays : StaysWithin plan start.room start.machine)

@@ -1,5 +1,6 @@
 -- What is done at an event that was taken: the machine's work before its handlers, they, and the work after them.
-use Rattle.std.proofs.Common.{◌≡◌, Bool, refl, ap, sym, ◌∙◌, subst}
+use Rattle.std.proofs.Common.{◌≡◌, Bool, List, refl, ap, sym, ◌∙◌, subst, arith}
+use Rattle.plan_tables.specs.declared.entries.BindingId.{BindingId}
 use Rattle.plan_tables.specs.PlanView.{PlanView, work_of}
 use Rattle.plan_tables.specs.declared.entries.EventId.{EventId}
 use Rattle.plan_tables.specs.declared.entries.Work.{Work}
@@ -7,15 +8,39 @@ use Rattle.mode_stack.specs.Modes.{running_of}
 use Rattle.event_queue.specs.PlanOrder.{in_order}
 use Rattle.config_checker.specs.Machine.{Machine, all_do, do_handler}
 use Rattle.config_checker.specs.EventStep.{is_kept, do_before, do_after}
-use Rattle.config_checker.proofs.Does.{Grows, grows-does}
-use Rattle.config_checker.proofs.Parts.{does-after}
+use Rattle.config_checker.proofs.Does.{Grows, grows-does, has_devices-does, moment-does}
+use Rattle.config_checker.proofs.Growth.{all_do-grows, handler-grows}
+use Rattle.config_checker.proofs.Parts.{does-handlers, does-before, does-after}
 use Rattle.config_checker.proofs.Silence.{handlers-still}
-use Rattle.pin_rig.specs.Core.{CoreView, HandlesFor, HasRoom, after, follow, after_taken}
+use Rattle.pin_rig.specs.Core.{CoreView, CanCall, HandlesFor, HasRoom, after, follow, after_taken}
 use Rattle.pin_rig.proofs.Room.{room-before}
 
 -- what is done to one machine alike leaves one core alike
 follow-same : (f g : Machine → Machine) (c : CoreView) → f c.machine ≡ g c.machine → follow f c ≡ follow g c
 follow-same f g c same = λ i. record { handlers = record { plan = c.handlers.plan; running = running_of (same i).modes }; machine = same i; room = c.room }
+
+-- ---- devices can still be called
+
+module _ (plan : PlanView) where
+  pub before-calls : (work : Work) (old ready : CoreView) → ready ≡ follow (do_before plan work) old → CanCall plan old → CanCall plan ready
+  before-calls work old ready is h =
+      let does = does-before plan work old.machine in
+      subst (CanCall plan) (sym is) (has_devices-does plan does h.0, omega (arith, h.1, moment-does plan does))
+
+  pub handled-calls : (order : List BindingId) (old then : CoreView) → then ≡ after (all_do (do_handler plan) order) old → CanCall plan old → CanCall plan then
+  handled-calls order old then is h =
+      let does = does-handlers plan (λ owner. Unit {0}) ⊥ order (λ i d there. tt) old.machine in
+      subst (CanCall plan) (sym is) (has_devices-does plan does h.0, omega (arith, h.1, moment-does plan does))
+
+  pub taken-calls : (event : EventId) (old last : CoreView) → last ≡ follow (after_taken plan event) old → CanCall plan old → CanCall plan last
+  taken-calls event old last is h =
+      let opened = follow (do_before plan (work_of plan event)) old in
+      let ready = before-calls (work_of plan event) old opened refl h in
+      let order = in_order plan (running_of opened.machine.modes) event in
+      let then = after (all_do (do_handler plan) order) opened in
+      let done = handled-calls order opened then refl ready in
+      let does = does-after plan (is_kept (work_of plan event) old.machine) event then.machine in
+      subst (CanCall plan) (sym is) (has_devices-does plan does done.0, omega (arith, done.1, moment-does plan does))
 
 module _ (plan : PlanView) (event : EventId) where
   -- the handlers of the event in plan order
@@ -24,13 +49,13 @@ module _ (plan : PlanView) (event : EventId) where
 
   -- the whole, where the work and whether a stop was kept are known
   abbrev whole : Work → Bool → Machine → Machine
-  whole work kept s = do_after plan kept work (handled (do_before work s))
+  whole work kept s = do_after plan kept work (handled (do_before plan work s))
 
   -- from the old core to the last
   module _ (old : CoreView) (was : HandlesFor plan old) (room : HasRoom old.room (after_taken plan event old.machine)) (work : Work) (work_is : work ≡ work_of plan event)
-      (ready : CoreView) (ready_is : ready ≡ follow (do_before work) old) where
+      (ready : CoreView) (ready_is : ready ≡ follow (do_before plan work) old) where
     pub ready-handles : HandlesFor plan ready
-    ready-handles = subst (HandlesFor plan) (sym ready_is) (λ i. record { plan = (was i).plan; running = running_of (do_before work old.machine).modes })
+    ready-handles = subst (HandlesFor plan) (sym ready_is) (λ i. record { plan = (was i).plan; running = running_of (do_before plan work old.machine).modes })
 
     module _ (kept : Bool) (kept_is : kept ≡ is_kept work old.machine) where
       whole-is : whole work kept old.machine ≡ after_taken plan event old.machine
@@ -44,8 +69,13 @@ module _ (plan : PlanView) (event : EventId) where
       work-grows : (s : Machine) → Grows s (do_after plan kept work s)
       work-grows s = subst (λ (w : Work). Grows s (do_after plan kept w s)) (sym work_is) (grows-does plan (does-after plan kept event s))
 
-      room-handled : HasRoom old.room (handled (do_before work old.machine))
-      room-handled = room-before old.room (handled (do_before work old.machine)) (whole work kept old.machine) (work-grows (handled (do_before work old.machine))) room-whole
+      room-handled : HasRoom old.room (handled (do_before plan work old.machine))
+      room-handled = room-before old.room (handled (do_before plan work old.machine)) (whole work kept old.machine) (work-grows (handled (do_before plan work old.machine))) room-whole
+
+      pub before-room : HasRoom old.room (do_before plan work old.machine)
+      before-room =
+          let opened = do_before plan work old.machine in
+          room-before old.room opened (handled opened) (all_do-grows (do_handler plan) (handler-grows plan) (in_order plan (running_of opened.modes) event) opened) room-handled
 
       pub ready-room : HasRoom ready.room (handled ready.machine)
       ready-room = subst (λ (c : CoreView). HasRoom c.room (handled c.machine)) (sym ready_is) room-handled

@@ -3,6 +3,7 @@ use Rattle.std.specs.Prelude.{◌≡◌, ℕ, ◌<◌, ◌≤◌, ◌^◌, Optio
 use Rattle.plan_tables.specs.PlanView.{PlanView}
 use Rattle.plan_tables.specs.declared.entries.Work.{Work}
 use Rattle.plan_tables.specs.declared.entries.Work.TheVariants.{Nothing, Mode}
+use Rattle.device_objects.specs.declared.state.World.{World}
 use Rattle.switch_core.specs.Switches.{IsComplete}
 use Rattle.event_queue.specs.declared.queue.Posted.{Posted}
 use Rattle.event_queue.specs.Handlers.{HandlersView}
@@ -10,6 +11,7 @@ use Rattle.mode_stack.specs.Modes.{running_of}
 use Rattle.plan_tables.specs.declared.entries.EventId.{EventId}
 use Rattle.event_queue.specs.PlanOrder.{by_priority}
 use Rattle.config_checker.specs.Machine.{Machine, all_do, do_handler}
+use Rattle.config_checker.specs.Devices.{HasDevices}
 use Rattle.config_checker.specs.EventStep.{work_before, work_after, handlers_in}
 use Rattle.config_checker.specs.Run.{Stimulus, Change, Alarm, Wait}
 use Rattle.config_checker.specs.NextAlarm.{next_alarm}
@@ -34,6 +36,10 @@ follow does c = record {
   room = c.room;
 }
 
+-- devices can be called: each has a state of its shape, and the moment is not too late
+abbrev pub CanCall : PlanView → CoreView → Type 0
+CanCall plan c = HasDevices plan c.machine.devices × (c.machine.moment < 2 ^ 40)
+
 -- it has the handlers of the modes that run
 abbrev pub HandlesFor : PlanView → CoreView → Type 0
 HandlesFor plan c = c.handlers ≡ record { plan = plan; running = running_of c.machine.modes }
@@ -49,8 +55,13 @@ after_taken plan e s =
     let ready = work_before plan e s in
     work_after plan e s (all_do (do_handler plan) (by_priority plan (handlers_in plan ready e)) ready)
 
--- the machine of the plan is kept: it has its modes, the handlers of those that run, and all its switches
+-- devices know nothing of a game: there is none yet
+abbrev pub no_world : World
+no_world = record { games = 0; player = 0 }
+
+-- the machine of the plan is kept: it has its modes and devices, the handlers of the modes that run, and all its switches
 pub record IsCoreOf (plan : PlanView) (c : CoreView) : Type 0 where
+  pub devices : HasDevices plan c.machine.devices
   pub modes : length c.machine.modes ≡ length plan.modes
   pub handlers : HandlesFor plan c
   pub kinds : length c.machine.switches.kinds ≡ length plan.switches
@@ -61,11 +72,11 @@ abbrev pub TakesFirst : Option Posted → CoreView → CoreView → Type 0
 TakesFirst None old new = (old.machine.waiting ≡ []) × (new ≡ old)
 TakesFirst (Some first) old new = (rest : List Posted) × (old.machine.waiting ≡ first ∷ rest) × (new ≡ after (λ s. record s { waiting = rest }) old)
 
--- a change is that of a switch which there is, at a moment that is not too late, and an alarm is the next one
+-- the moment is not too late, a change is that of a switch which there is, and an alarm is the next one
 abbrev pub IsPlayable : CoreView → Stimulus → Type 0
 IsPlayable c (Change at switch level) = (at < 2 ^ 40) × (switch.0 < length c.machine.switches.kinds)
-IsPlayable c (Alarm at source) = next_alarm c.machine ≡ Some (at, source)
-IsPlayable c (Wait at) = Unit {0}
+IsPlayable c (Alarm at source) = (at < 2 ^ 40) × (next_alarm c.machine ≡ Some (at, source))
+IsPlayable c (Wait at) = at < 2 ^ 40
 
 -- what waits and what was written fits
 pub record HasRoom (room : ℕ) (s : Machine) : Type 0 where

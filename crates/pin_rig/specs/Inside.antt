@@ -1,7 +1,8 @@
 -- What a rig holds, and what is seen of a stimulus, apart from where they lie in memory.
 use Rattle.std.specs.Prelude.{◌≡◌, ℕ, ◌≤◌, Result, Ok, Err}
+use Rattle.config_checker.specs.Accepted.{IsAccepted}
 use Rattle.config_checker.specs.CheckedView.{CheckedView}
-use Rattle.config_checker.specs.Run.{Source, switch, Stimulus, Change, Alarm, Wait}
+use Rattle.config_checker.specs.Run.{Source, switch, device, Stimulus, Change, Alarm, Wait}
 use Rattle.pin_rig.specs.declared.input.StepFault.{StepFault}
 use Rattle.pin_rig.specs.declared.stimulus.Source.{Source as HeldSource}
 use Rattle.pin_rig.specs.declared.stimulus.Source.TheVariants as held_source
@@ -12,6 +13,7 @@ use Rattle.pin_rig.specs.Rig.{IsOfRun}
 
 abbrev pub source_view : HeldSource → Source
 source_view (held_source.Switch n) = switch n
+source_view (held_source.Device r) = device r
 
 -- an alarm: its moment, and what it comes from
 abbrev pub alarm_view : ℕ × HeldSource → ℕ × Source
@@ -27,8 +29,9 @@ abbrev pub GivesStimulus : Result HeldStimulus StepFault → Result Stimulus Ste
 GivesStimulus (Ok stimulus) given = given ≡ Ok (stimulus_view stimulus)
 GivesStimulus (Err fault) given = given ≡ Err fault
 
--- The machine of what was accepted is kept, with room for the bound, in a state to which a run leads.
+-- What was accepted is kept, and its machine, with room for the bound, in a state to which a run leads.
 pub record IsHeld (checked : CheckedView) (core : CoreView) : Type 0 where
+  pub accepted : IsAccepted checked
   pub core_is : IsCoreOf checked.plan core
   pub room : checked.bound ≤ core.room
   pub reached : IsOfRun (record { checked = checked; machine = core.machine })

@@ -1,4 +1,5 @@
 pub mod Refused
+pub mod Fit
 pub mod Rig
 pub mod Steps
 -- What the contracts of private functions cite; `step` cites Lending, for the lines that it lends.

@@ -1,68 +1,106 @@
 //! The state of a machine, with room for the events that wait and the lines.
 
-ghost use Rattle.std.specs.Prelude.{◌≡◌, ◌^◌, ◌<◌, ◌≤◌, Some, true, false, IfOk, IfSome, IsSome, length, option_map};
+ghost use Rattle.std.specs.Prelude.{◌≡◌, ◌^◌, ◌<◌, ◌≤◌, ℕ, Some, true, false, IfOk, IfSome, IsSome, length, option_map};
 ghost use Rattle.event_queue.specs.Handlers.{set_running};
 ghost use Rattle.event_queue.specs.PlanOrder.{bound_in_order, GoesOn};
 ghost use Rattle.mode_stack.specs.ModeStep.{starts, started, stopped, stop_answer, entered, ended};
 ghost use Rattle.mode_stack.specs.Modes.{needs_game, mode_state};
 ghost use Rattle.switch_core.specs.Switches.{after_change, reported_by_change, next_due, after_fire, reported_by_fire};
-ghost use Rattle.config_checker.specs.Machine.{initial, write, post, set_switches, set_mode, is_post};
+ghost use Rattle.device_objects.specs.Laws.{MayCome};
+ghost use Rattle.config_checker.specs.Machine.{initial, write, post, set_switches, set_mode, set_device, device_at, called, is_post};
 ghost use Rattle.config_checker.specs.Run.{arrived};
-ghost use Rattle.config_checker.specs.NextAlarm.{next_alarm, is_due_by};
+ghost use Rattle.device_objects.specs.DeviceStep.{device_step};
+ghost use Rattle.pin_rig.specs.Core.{no_world};
+ghost use Rattle.config_checker.specs.NextAlarm.{next_alarm, is_due_by, first_of};
+ghost use Rattle.config_checker.specs.Run.{switch as of_switch, device as of_device};
 ghost use Rattle.pin_rig.specs.Core.{IsCoreOf, TakesFirst, after};
 ghost use Rattle.pin_rig.specs.Inside.{alarm_view};
 
+use crate::fit::first_wrong;
+use crate::input::RigFault;
 use crate::stimulus::Source;
 use config_checker::{Happening, Line};
-use event_queue::{Handlers, Posted, Queue};
+use device_objects::{Call, Device, DeviceState, Outcome, World};
+use event_queue::{Alarms, Handlers, Posted, Queue};
 use mode_stack::{Modes, StopAnswer};
-use plan_tables::{BindingId, EventId, ModeId, Owner, Plan, SwitchId};
-use std::alloc::{AllocError, Global};
+use plan_tables::{BindingId, EventId, ModeId, Owner, Plan, RowId, SwitchId};
+use std::alloc::Global;
 use std::marker::Model;
 use switch_core::{Change, Switches};
 
-/// The moment of the latest stimulus, the switches, the modes, the events that wait and what
-/// handles them, and the lines of the latest stimulus. Only `new` takes memory.
+/// The moment of the latest stimulus, the switches, the modes, the devices and their alarms, the
+/// events that wait and what handles them, and the lines of the latest stimulus. Only `new` takes
+/// memory.
 #[derive(Drop)]
-pub(crate) struct Core<'p> {
+pub(crate) struct Core<'p, D: Device> {
     moment: u64,
     switches: Switches,
     modes: Modes<'p>,
+    /// At each row's number the device of the row.
+    devices: Vec<D>,
+    alarms: Alarms,
     queue: Queue,
     handlers: Handlers<'p>,
     lines: Vec<Line>,
 }
 
-impl<'p> Model for Core<'p> {
-    ghost use Rattle.std.specs.Prelude.{◌≡◌, ◌≤◌, vec_capacity};
+impl<'p, D: Device> Model for Core<'p, D> {
+    ghost use Rattle.std.specs.Prelude.{◌≡◌, ◌≤◌, map, vec_capacity};
+    ghost use Rattle.device_objects.specs.DeviceStep.{due_of};
     ghost use Rattle.pin_rig.specs.Core.{CoreView};
 
     ghost Value = { CoreView };
 
     ghost view = { λ c. record {
       handlers = c.handlers;
-      machine = record { moment = c.moment; switches = c.switches; modes = c.modes.modes; waiting = c.queue.waiting; lines = c.lines.items };
+      machine = record { moment = c.moment; switches = c.switches; modes = c.modes.modes; devices = map D.state_of c.devices.items; waiting = c.queue.waiting; lines = c.lines.items };
       room = c.queue.size;
     } };
 
-    ghost invariant = { λ c. (c.queue.size ≤ vec_capacity c.lines) × (c.modes.plan ≡ c.handlers.plan) };
+    ghost invariant = { λ c. (c.queue.size ≤ vec_capacity c.lines) × (c.modes.plan ≡ c.handlers.plan) × (map D.row_of c.devices.items ≡ c.handlers.plan.rows) × (c.alarms ≡ map (λ d. due_of (D.state_of d)) c.devices.items) };
 }
 
-impl<'p> Core<'p> {
-    /// The plan's machine at moment 0, with all switches inactive and all modes idle, and with room
-    /// for so many events that wait and so many lines.
-    pub(crate) fn new(alloc: Global, plan: &'p Plan, room: usize) -> Result<Core<'p>, AllocError>
+impl<'p, D: Device> Core<'p, D> {
+    ghost use Rattle.std.specs.Prelude.{map};
+    ghost use Rattle.pin_rig.specs.Fit.{IsFit, IsFirstWrong};
+
+    /// The plan's machine at moment 0, with all switches inactive and all modes idle, with these
+    /// devices, and with room for so many events that wait and so many lines.
+    ///
+    /// # Errors
+    ///
+    /// - `NoMemory`: memory ran out.
+    /// - `WrongDevice`: a device is not the one of its row, in its first state.
+    pub(crate) fn new(
+        alloc: Global,
+        plan: &'p Plan,
+        room: usize,
+        devices: Vec<D>,
+    ) -> Result<Core<'p, D>, RigFault>
         ensures machine { IfOk result (λ c. c.machine ≡ initial plan.now) }
         ensures plan { IfOk result (λ c. IsCoreOf plan.now c) }
         ensures room { IfOk result (λ c. c.room ≡ room) }
+        ensures fit { IfOk result (λ c. IsFit plan.now (map D.row_of devices.items) (map D.state_of devices.items)) }
+        ensures wrong { (row : ℕ) → result ≡ Err (RigFault.WrongDevice (record { 0 = row })) → IsFirstWrong plan.now (map D.row_of devices.items) (map D.state_of devices.items) row }
     {
+        let switches = Switches::new(alloc, plan)?;
+        let modes = Modes::new(alloc, plan)?;
+        let alarms = Alarms::new(alloc, plan.rows().len() as u16)?;
+        let queue = Queue::new(alloc, room)?;
+        let handlers = Handlers::new(alloc, plan)?;
+        let lines = Vec::with_capacity(alloc, room)?;
+        if let Some(row) = first_wrong(plan, &devices) {
+            return Err(RigFault::WrongDevice(row));
+        }
         Ok(Core {
             moment: 0,
-            switches: Switches::new(alloc, plan)?,
-            modes: Modes::new(alloc, plan)?,
-            queue: Queue::new(alloc, room)?,
-            handlers: Handlers::new(alloc, plan)?,
-            lines: Vec::with_capacity(alloc, room)?,
+            switches,
+            modes,
+            devices,
+            alarms,
+            queue,
+            handlers,
+            lines,
         })
     }
 
@@ -84,8 +122,7 @@ impl<'p> Core<'p> {
     pub(crate) fn due(&self) -> Option<(u64, Source)>
         ensures { option_map alarm_view result ≡ next_alarm self.now.machine }
     {
-        let (at, switch) = self.switches.due()?;
-        Some((at, Source::Switch(switch)))
+        first_of(self.switches.due(), self.alarms.least())
     }
 
     /// Whether an alarm is due at or before the moment.
@@ -187,6 +224,30 @@ impl<'p> Core<'p> {
         self.modes.ended(mode);
     }
 
+    /// The state of a device that there is.
+    pub(crate) fn state(&self, row: RowId) -> DeviceState
+        requires { row.0 < length self.now.machine.devices }
+        ensures { result ≡ device_at self.now.machine row }
+    {
+        self.devices[row.0 as usize].state()
+    }
+
+    /// A device that there is is called, and goes on to its next state. Reports the effect lists
+    /// that it answers.
+    pub(crate) fn call(&mut self, row: RowId, call: Call) -> Outcome
+        requires row { row.0 < length self.old.machine.devices }
+        requires moment { self.old.machine.moment < 2 ^ 40 }
+        requires may { MayCome call (device_at self.old.machine row) }
+        ensures called { self.new ≡ after (set_device row (called self.old.handlers.plan call row self.old.machine).0) self.old }
+        ensures lists { result.items ≡ (called self.old.handlers.plan call row self.old.machine).1 }
+    {
+        let device = &mut self.devices[row.0 as usize];
+        let lists = call_one(device, call, self.moment);
+        let due = device.due();
+        self.alarms.set(row, due);
+        lists
+    }
+
     /// A switch that there is has a new raw level. Reports where it is accepted at once.
     pub(crate) fn change(&mut self, at: u64, switch: SwitchId, level: bool) -> Option<Change>
         requires at { at < 2 ^ 40 }
@@ -204,5 +265,44 @@ impl<'p> Core<'p> {
         ensures reported { reported_by_fire self.old.machine.switches ≡ Some result }
     {
         self.switches.fire()
+    }
+}
+
+/// One call of one device.
+fn call_one<D: Device>(device: &mut D, call: Call, now: u64) -> Outcome
+    requires moment { now < 2 ^ 40 }
+    requires may { MayCome call (D.state_of device.old) }
+    ensures row { D.row_of device.new ≡ D.row_of device.old }
+    ensures state { D.state_of device.new ≡ (device_step (D.row_of device.old).settings call now no_world (D.state_of device.old)).0 }
+    ensures lists { result.items ≡ (device_step (D.row_of device.old).settings call now no_world (D.state_of device.old)).1 }
+{
+    let world = World {
+        games: 0,
+        player: 0,
+    };
+    match call {
+        Call::ModeStart => device.start(now, world),
+        Call::ModeStop => device.stop(now, world),
+        Call::Fire => device.fire(now, world),
+        Call::Act(act) => device.act(act, now, world),
+    }
+}
+
+/// Of an alarm of a switch and one of a device the one that comes first: the switch's, where they
+/// are due at one moment.
+fn first_of(switch: Option<(u64, SwitchId)>, device: Option<(u64, RowId)>) -> Option<(u64, Source)>
+    ensures { option_map alarm_view result ≡ first_of (option_map (λ d. (d.0, of_switch d.1)) switch) (option_map (λ d. (d.0, of_device d.1)) device) }
+{
+    match (switch, device) {
+        (None, None) => None,
+        (Some((at, switch)), None) => Some((at, Source::Switch(switch))),
+        (None, Some((at, row))) => Some((at, Source::Device(row))),
+        (Some((at, switch)), Some((later, row))) => {
+            if at <= later {
+                Some((at, Source::Switch(switch)))
+            } else {
+                Some((later, Source::Device(row)))
+            }
+        }
     }
 }

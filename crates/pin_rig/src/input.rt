@@ -4,7 +4,7 @@ ghost use Rattle.std.specs.Prelude.{◌≡◌};
 ghost use Rattle.pin_rig.specs.declared.input.RigFault.TheVariants.{NoMemory};
 ghost use Rattle.pin_rig.specs.Refused.{step_fault_number, step_fault_name, admitted};
 
-use plan_tables::SwitchId;
+use plan_tables::{RowId, SwitchId};
 use std::alloc::{AllocError, AllocFailed};
 use thiserror::Error;
 
@@ -96,6 +96,11 @@ pub enum RigFault {
     /// Memory ran out.
     #[error("NoMemory")]
     NoMemory,
+    /// The first row whose device is not the one of the row, in its first state. Where there are
+    /// too few devices it is the first row without one, and where there are too many the first
+    /// number without a row.
+    #[error("WrongDevice {}", .0.0)]
+    WrongDevice(RowId),
 }
 
 impl From<AllocError> for RigFault {

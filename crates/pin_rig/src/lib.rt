@@ -2,6 +2,7 @@
 #![tactic(auto)]
 
 mod core_state;
+mod fit;
 pub mod input;
 pub mod law;
 mod parts;

@@ -3,24 +3,30 @@
 
 ghost use Rattle.std.specs.Prelude.{◌≡◌, ◌^◌, ◌<◌, Some, length, option_map};
 ghost use Rattle.plan_tables.specs.Valid.{IsTargetWithin};
-ghost use Rattle.plan_tables.specs.PlanView.{work_of};
+ghost use Rattle.plan_tables.specs.declared.entries.Owner.TheVariants as owners;
+ghost use Rattle.plan_tables.specs.PlanView.{is_owner, row_at, work_of};
 ghost use Rattle.mode_stack.specs.Modes.{running_of};
 ghost use Rattle.event_queue.specs.PlanOrder.{in_order};
-ghost use Rattle.config_checker.specs.Machine.{all_do, post, post_if, start_mode, stop_mode, do_action, do_target, do_handler, do_accepted, change_switch};
+ghost use Rattle.std.specs.List.{All};
+ghost use Rattle.plan_tables.specs.Devices.{list_count};
+ghost use Rattle.device_objects.specs.declared.state.DeviceState.{DeviceState as DeviceStateValue};
+ghost use Rattle.device_objects.specs.Laws.{MayCome};
+ghost use Rattle.config_checker.specs.Machine.{all_do, post, post_if, start_mode, stop_mode, device_at, do_action, do_answer, call_device, call_devices, do_target, do_handler, do_accepted, change_switch};
 ghost use Rattle.config_checker.specs.EventStep.{is_kept, do_before, do_after};
 ghost use Rattle.config_checker.specs.Run.{begin as begun, fire as fired};
 ghost use Rattle.config_checker.specs.NextAlarm.{next_alarm};
-ghost use Rattle.pin_rig.specs.Core.{IsCoreOf, HandlesFor, IsWorkOf, IsPlayable, HasRoom, StaysWithin, HasSettled, after, follow, after_taken};
+ghost use Rattle.pin_rig.specs.Core.{IsCoreOf, CanCall, HandlesFor, IsWorkOf, IsPlayable, HasRoom, StaysWithin, HasSettled, after, follow, after_taken};
 ghost use Rattle.pin_rig.specs.Inside.{source_view, stimulus_view};
 
 use crate::core_state::Core;
 use crate::stimulus::{Source, Stimulus};
 use config_checker::Happening;
-use plan_tables::{Action, EventId, ModeEvent, ModeId, Owner, Plan, SwitchId, Target, Work};
+use device_objects::{Call, Device};
+use plan_tables::{Action, EventId, ModeEvent, ModeId, Owner, Plan, RowId, SwitchId, Target, Work};
 use switch_core::Change;
 
 /// What a stimulus does before any event step.
-pub(crate) fn begin(plan: &Plan, core: &mut Core<'_>, stimulus: Stimulus)
+pub(crate) fn begin<D: Device>(plan: &Plan, core: &mut Core<'_, D>, stimulus: Stimulus)
     requires core { IsCoreOf plan.now core.old }
     requires playable { IsPlayable core.old (stimulus_view stimulus) }
     requires room { HasRoom core.old.room (begun plan.now (stimulus_view stimulus) core.old.machine) }
@@ -35,7 +41,7 @@ pub(crate) fn begin(plan: &Plan, core: &mut Core<'_>, stimulus: Stimulus)
 }
 
 /// A switch of the plan has a new raw level, which may be accepted at once.
-fn change(plan: &Plan, core: &mut Core<'_>, at: u64, switch: SwitchId, level: bool)
+fn change<D: Device>(plan: &Plan, core: &mut Core<'_, D>, at: u64, switch: SwitchId, level: bool)
     requires at { at < 2 ^ 40 }
     requires switch { switch.0 < length plan.now.switches }
     requires core { IsCoreOf plan.now core.old }
@@ -48,8 +54,9 @@ fn change(plan: &Plan, core: &mut Core<'_>, at: u64, switch: SwitchId, level: bo
 }
 
 /// The next alarm comes.
-fn fire(plan: &Plan, core: &mut Core<'_>, source: Source)
+fn fire<D: Device>(plan: &Plan, core: &mut Core<'_, D>, source: Source)
     requires core { IsCoreOf plan.now core.old }
+    requires moment { core.old.machine.moment < 2 ^ 40 }
     requires next { option_map (λ a. a.1) (next_alarm core.old.machine) ≡ Some (source_view source) }
     requires room { HasRoom core.old.room (fired plan.now (source_view source) core.old.machine) }
     ensures { core.new ≡ after (fired plan.now (source_view source)) core.old }
@@ -59,12 +66,13 @@ fn fire(plan: &Plan, core: &mut Core<'_>, source: Source)
             let change = core.fire();
             run_accepted(plan, core, change);
         }
+        Source::Device(row) => call_device(plan, core, row, Call::Fire),
     }
 }
 
 /// A switch was accepted as active or inactive: its line is written, and then its events are
 /// posted.
-fn run_accepted(plan: &Plan, core: &mut Core<'_>, change: Change)
+fn run_accepted<D: Device>(plan: &Plan, core: &mut Core<'_, D>, change: Change)
     requires switch { change.switch.0 < length plan.now.switches }
     requires room { HasRoom core.old.room (do_accepted plan.now change core.old.machine) }
     ensures { core.new ≡ after (do_accepted plan.now change) core.old }
@@ -74,7 +82,7 @@ fn run_accepted(plan: &Plan, core: &mut Core<'_>, change: Change)
     post_each(core, Owner::Machine, plan.posts(switch, active));
 }
 
-fn post_each(core: &mut Core<'_>, owner: Owner, events: &[EventId])
+fn post_each<D: Device>(core: &mut Core<'_, D>, owner: Owner, events: &[EventId])
     requires { HasRoom core.old.room (all_do (post owner) events.now core.old.machine) }
     ensures { core.new ≡ after (all_do (post owner) events.now) core.old }
 {
@@ -84,8 +92,9 @@ fn post_each(core: &mut Core<'_>, owner: Owner, events: &[EventId])
 }
 
 /// Takes event steps, in plan order, as long as an event waits.
-pub(crate) fn settle(plan: &Plan, core: &mut Core<'_>)
+pub(crate) fn settle<D: Device>(plan: &Plan, core: &mut Core<'_, D>)
     requires handlers { HandlesFor plan.now core.old }
+    requires calls { CanCall plan.now core.old }
     requires room { StaysWithin plan.now core.old.room core.old.machine }
     ensures { HasSettled plan.now core.old core.new }
 {
@@ -97,13 +106,14 @@ pub(crate) fn settle(plan: &Plan, core: &mut Core<'_>)
 
 /// What is done at an event that was taken: the machine's work before its handlers, its handlers,
 /// and the work after them.
-fn take_step(plan: &Plan, core: &mut Core<'_>, event: EventId)
+fn take_step<D: Device>(plan: &Plan, core: &mut Core<'_, D>, event: EventId)
     requires handlers { HandlesFor plan.now core.old }
+    requires calls { CanCall plan.now core.old }
     requires room { HasRoom core.old.room (after_taken plan.now event core.old.machine) }
     ensures { core.new ≡ follow (after_taken plan.now event) core.old }
 {
     let work = work_of(plan, event);
-    let kept = work_before(core, work);
+    let kept = work_before(plan, core, work);
     handle(plan, core, event);
     work_after(plan, core, kept, work);
 }
@@ -121,25 +131,32 @@ fn work_of(plan: &Plan, event: EventId) -> Work
 
 /// The machine's work before the handlers of an event. Reports whether a stop was kept for the mode
 /// that is active from now on.
-fn work_before(core: &mut Core<'_>, work: Work) -> bool
-    requires work { IsWorkOf core.old.handlers.plan work }
-    requires running { core.old.handlers.running ≡ running_of core.old.machine.modes }
-    ensures done { core.new ≡ follow (do_before work) core.old }
+fn work_before<D: Device>(plan: &Plan, core: &mut Core<'_, D>, work: Work) -> bool
+    requires work { IsWorkOf plan.now work }
+    requires handlers { HandlesFor plan.now core.old }
+    requires calls { CanCall plan.now core.old }
+    requires room { HasRoom core.old.room (do_before plan.now work core.old.machine) }
+    ensures done { core.new ≡ follow (do_before plan.now work) core.old }
     ensures kept { result ≡ is_kept work core.old.machine }
 {
     let Work::Mode(mode, which) = work else {
         return false;
     };
     match which {
-        ModeEvent::Started => core.enter(mode),
+        ModeEvent::Started => {
+            let kept = core.enter(mode);
+            call_devices(plan, core, mode, Call::ModeStart);
+            kept
+        }
         _ => false,
     }
 }
 
 /// The machine's work after them.
-fn work_after(plan: &Plan, core: &mut Core<'_>, kept: bool, work: Work)
+fn work_after<D: Device>(plan: &Plan, core: &mut Core<'_, D>, kept: bool, work: Work)
     requires work { IsWorkOf plan.now work }
     requires handlers { HandlesFor plan.now core.old }
+    requires calls { CanCall plan.now core.old }
     requires room { HasRoom core.old.room (do_after plan.now kept work core.old.machine) }
     ensures { core.new ≡ follow (do_after plan.now kept work) core.old }
 {
@@ -156,6 +173,7 @@ fn work_after(plan: &Plan, core: &mut Core<'_>, kept: bool, work: Work)
             }
         }
         ModeEvent::Stopping => {
+            call_devices(plan, core, mode, Call::ModeStop);
             core.end(mode);
             core.post(Owner::Machine, events.stopped);
         }
@@ -164,8 +182,9 @@ fn work_after(plan: &Plan, core: &mut Core<'_>, kept: bool, work: Work)
 }
 
 /// Runs the handlers of an event, in plan order.
-fn handle(plan: &Plan, core: &mut Core<'_>, event: EventId)
+fn handle<D: Device>(plan: &Plan, core: &mut Core<'_, D>, event: EventId)
     requires handlers { HandlesFor plan.now core.old }
+    requires calls { CanCall plan.now core.old }
     requires room { HasRoom core.old.room (all_do (do_handler plan.now) (in_order plan.now (running_of core.old.machine.modes) event) core.old.machine) }
     ensures { core.new ≡ after (all_do (do_handler plan.now) (in_order plan.now (running_of core.old.machine.modes) event)) core.old }
 {
@@ -177,9 +196,10 @@ fn handle(plan: &Plan, core: &mut Core<'_>, event: EventId)
     }
 }
 
-fn run_target(plan: &Plan, core: &mut Core<'_>, owner: Owner, target: Target)
+fn run_target<D: Device>(plan: &Plan, core: &mut Core<'_, D>, owner: Owner, target: Target)
     requires target { IsTargetWithin plan.now target }
     requires plan { core.old.handlers.plan ≡ plan.now }
+    requires calls { CanCall plan.now core.old }
     requires room { HasRoom core.old.room (do_target plan.now owner target core.old.machine) }
     ensures { core.new ≡ after (do_target plan.now owner target) core.old }
 {
@@ -187,11 +207,54 @@ fn run_target(plan: &Plan, core: &mut Core<'_>, owner: Owner, target: Target)
         Target::Run(list) => run_actions(plan, core, owner, plan.list(list)),
         Target::Start(mode) => start(plan, core, mode),
         Target::Stop(mode) => stop(plan, core, mode),
+        Target::Act(row, act) => call_device(plan, core, row, Call::Act(act)),
+    }
+}
+
+/// The devices of a mode are called, in the order of their rows.
+fn call_devices<D: Device>(plan: &Plan, core: &mut Core<'_, D>, mode: ModeId, call: Call)
+    requires call { (state : DeviceStateValue) → MayCome call state }
+    requires plan { core.old.handlers.plan ≡ plan.now }
+    requires calls { CanCall plan.now core.old }
+    requires room { HasRoom core.old.room (call_devices plan.now call mode core.old.machine) }
+    ensures { core.new ≡ after (call_devices plan.now call mode) core.old }
+{
+    for number in 0..plan.rows().len() {
+        let row = RowId(number as u16);
+        if is_of(plan.row(row).owner, mode) {
+            call_device(plan, core, row, call);
+        }
+    }
+}
+
+/// A device is called, and the effect lists that it answers are run for its owner.
+fn call_device<D: Device>(plan: &Plan, core: &mut Core<'_, D>, row: RowId, call: Call)
+    requires row { row.0 < length plan.now.rows }
+    requires may { MayCome call (device_at core.old.machine row) }
+    requires plan { core.old.handlers.plan ≡ plan.now }
+    requires calls { CanCall plan.now core.old }
+    requires room { HasRoom core.old.room (call_device plan.now call row core.old.machine) }
+    ensures { core.new ≡ after (call_device plan.now call row) core.old }
+{
+    let lists = core.call(row, call);
+    run_lists(plan, core, row, &lists);
+}
+
+/// Effect lists of a row run, one after another, for the row's owner.
+fn run_lists<D: Device>(plan: &Plan, core: &mut Core<'_, D>, row: RowId, lists: &[u16])
+    requires row { row.0 < length plan.now.rows }
+    requires lists { All (λ list. list < list_count (row_at plan.now row).settings) lists.now }
+    requires room { HasRoom core.old.room (do_answer plan.now row lists.now core.old.machine) }
+    ensures { core.new ≡ after (do_answer plan.now row lists.now) core.old }
+{
+    let owner = plan.row(row).owner;
+    for list in lists {
+        run_actions(plan, core, owner, plan.list(plan.list_of_row(row, *list)));
     }
 }
 
 /// A mode is told to start.
-fn start(plan: &Plan, core: &mut Core<'_>, mode: ModeId)
+fn start<D: Device>(plan: &Plan, core: &mut Core<'_, D>, mode: ModeId)
     requires mode { mode.0 < length plan.now.modes }
     requires plan { core.old.handlers.plan ≡ plan.now }
     requires room { HasRoom core.old.room (start_mode plan.now mode core.old.machine) }
@@ -202,7 +265,7 @@ fn start(plan: &Plan, core: &mut Core<'_>, mode: ModeId)
 }
 
 /// A mode is told to stop.
-fn stop(plan: &Plan, core: &mut Core<'_>, mode: ModeId)
+fn stop<D: Device>(plan: &Plan, core: &mut Core<'_, D>, mode: ModeId)
     requires mode { mode.0 < length plan.now.modes }
     requires plan { core.old.handlers.plan ≡ plan.now }
     requires room { HasRoom core.old.room (stop_mode plan.now mode core.old.machine) }
@@ -213,7 +276,7 @@ fn stop(plan: &Plan, core: &mut Core<'_>, mode: ModeId)
 }
 
 /// The machine posts the event, where that is so.
-fn post_if(core: &mut Core<'_>, posts: bool, event: EventId)
+fn post_if<D: Device>(core: &mut Core<'_, D>, posts: bool, event: EventId)
     requires { HasRoom core.old.room (post_if posts event core.old.machine) }
     ensures { core.new ≡ after (post_if posts event) core.old }
 {
@@ -222,7 +285,7 @@ fn post_if(core: &mut Core<'_>, posts: bool, event: EventId)
     }
 }
 
-fn run_actions(plan: &Plan, core: &mut Core<'_>, owner: Owner, actions: &[Action])
+fn run_actions<D: Device>(plan: &Plan, core: &mut Core<'_, D>, owner: Owner, actions: &[Action])
     requires { HasRoom core.old.room (all_do (do_action plan.now owner) actions.now core.old.machine) }
     ensures { core.new ≡ after (all_do (do_action plan.now owner) actions.now) core.old }
 {
@@ -231,11 +294,21 @@ fn run_actions(plan: &Plan, core: &mut Core<'_>, owner: Owner, actions: &[Action
     }
 }
 
-fn run_action(plan: &Plan, core: &mut Core<'_>, owner: Owner, action: Action)
+fn run_action<D: Device>(plan: &Plan, core: &mut Core<'_, D>, owner: Owner, action: Action)
     requires { HasRoom core.old.room (do_action plan.now owner action core.old.machine) }
     ensures { core.new ≡ after (do_action plan.now owner action) core.old }
 {
     match action {
         Action::Post(event) => core.post(owner, event),
+    }
+}
+
+/// Whether the owner is this mode.
+fn is_of(owner: Owner, mode: ModeId) -> bool
+    ensures { result ≡ is_owner (owners.Mode mode) owner }
+{
+    match owner {
+        Owner::Machine => false,
+        Owner::Mode(other) => mode.0 == other.0,
     }
 }

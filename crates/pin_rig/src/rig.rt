@@ -7,18 +7,20 @@ use crate::input::{Input, RigFault, StepFault, check_moment};
 use crate::parts::{begin, settle};
 use crate::stimulus::Stimulus;
 use config_checker::{Checked, Line};
+use device_objects::{Device, DeviceState};
+use plan_tables::RowId;
 use std::alloc::Global;
 use std::marker::Model;
 
 /// The machine of an accepted configuration, between two stimuli: no event waits, and a run of the
 /// plan leads to its state. Moments are milliseconds, below 2^40.
 #[derive(Drop)]
-pub struct Rig<'c> {
+pub struct Rig<'c, D: Device> {
     checked: &'c Checked,
-    core: Core<'c>,
+    core: Core<'c, D>,
 }
 
-impl<'c> Model for Rig<'c> {
+impl<'c, D: Device> Model for Rig<'c, D> {
     ghost use Rattle.pin_rig.specs.Rig.{RigView};
     ghost use Rattle.pin_rig.specs.Inside.{IsHeld};
 
@@ -29,31 +31,44 @@ impl<'c> Model for Rig<'c> {
     ghost invariant = { λ r. IsHeld r.checked.now r.core };
 }
 
-impl<'c> Rig<'c> {
-    ghost use Rattle.std.specs.Prelude.{◌≡◌, Err, IfOk, IsOk, MatchResult, option_map, []};
+impl<'c, D: Device> Rig<'c, D> {
+    ghost use Rattle.std.specs.Prelude.{◌≡◌, ℕ, map, slice_get, Err, IfOk, IsOk, MatchResult, option_map, []};
     ghost use Rattle.std.specs.Borrow.{sem};
     ghost use Rattle.config_checker.specs.Machine.{initial};
     ghost use Rattle.config_checker.specs.Run.{IsReached};
     ghost use Rattle.config_checker.specs.NextAlarm.{next_alarm};
     ghost use Rattle.pin_rig.specs.Rig.{timely, alarm_at, stimulus_at, RigStep, IsOfRun};
     ghost use Rattle.pin_rig.specs.Inside.{stimulus_view, GivesStimulus};
-    ghost use Rattle.pin_rig.specs.Lending.{LendsStep};
+    ghost use Rattle.std.specs.Io.BufRead.{Rests};
+    ghost use mir.Syntax.{named};
+    ghost use Rattle.pin_rig.specs.contracts.rig.Rig.{the_row};
+    ghost use Rattle.pin_rig.specs.Fit.{IsFit, IsFirstWrong};
+    ghost use Rattle.pin_rig.specs.Lending.{IsStepped};
 
     /// The machine of an accepted configuration, as it begins: at moment 0, with all switches
-    /// inactive and no event waiting. Only this call takes memory: room for as many waiting events
-    /// and lines as the bound says.
+    /// inactive and no event waiting. It has a device for each row of the plan, in the order of the
+    /// rows. Only this call takes memory: room for as many waiting events and lines as the bound
+    /// says.
     ///
     /// # Errors
     ///
-    /// `NoMemory`: memory ran out.
-    pub fn new(alloc: Global, checked: &'c Checked) -> Result<Rig<'c>, RigFault>
+    /// The first of these that applies. The devices are dropped then.
+    ///
+    /// - `NoMemory`: memory ran out.
+    /// - `WrongDevice`: a device is not the one of its row, in its first state; or there are too
+    ///   few devices, or too many.
+    pub fn new(alloc: Global, checked: &'c Checked, devices: Vec<D>) -> Result<Rig<'c, D>, RigFault>
         ensures checked { IfOk result (λ rig. rig.checked ≡ checked.now) }
         ensures machine { IfOk result (λ rig. rig.machine ≡ initial checked.now.plan) }
         ensures reached { IfOk result (λ rig. IsReached checked.now.plan [] rig.machine) }
+        ensures fit { IfOk result (λ rig. IsFit checked.now.plan (map D.row_of devices.items) (map D.state_of devices.items)) }
+        ensures wrong { (row : ℕ) → result ≡ Err (RigFault.WrongDevice (record { 0 = row })) → IsFirstWrong checked.now.plan (map D.row_of devices.items) (map D.state_of devices.items) row }
     {
         let room = checked.bound() as usize;
-        let core = Core::new(alloc, checked.plan(), room)?;
-        Ok(Rig { checked, core })
+        match Core::new(alloc, checked.plan(), room, devices) {
+            Ok(core) => Ok(Rig { checked, core }),
+            Err(fault) => Err(fault),
+        }
     }
 
     /// Takes one input, and runs the whole cascade that it begins, the handlers of each event in
@@ -69,7 +84,7 @@ impl<'c> Rig<'c> {
     /// - `TooLate`: the moment of the input is 2^40 ms or later.
     /// - `AlarmPending`: an alarm is due at or before the moment of a change or a wait.
     pub fn step(&mut self, input: Input) -> Result<&[Line], StepFault>
-        ensures* after { sem 𝓛 (LendsStep self.entry input result) }
+        ensures* after { sem 𝓛 (Rests (the_row (record { mir = named 1; lft = [] }) D.row D.Device) self.entry (λ new. IsStepped input self.entry.now new result)) }
         ensures judged { MatchResult result (λ _. IsOk (stimulus_at self.old input)) (λ fault. stimulus_at self.old input ≡ Err fault) }
     {
         self.act(input)?;
@@ -91,6 +106,17 @@ impl<'c> Rig<'c> {
     {
         let (at, _) = self.core.due()?;
         Some(at)
+    }
+
+    /// The state of the device of a row, if the plan has the row.
+    pub fn state(&self, row: RowId) -> Option<DeviceState>
+        ensures state { result ≡ slice_get self.now.machine.devices row.0 }
+        ensures reached { IsOfRun self.now }
+    {
+        if row.0 as usize >= self.checked.plan().rows().len() {
+            return None;
+        }
+        Some(self.core.state(row))
     }
 
     /// The lines of the latest stimulus, in the order in which they came.

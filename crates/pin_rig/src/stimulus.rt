@@ -1,12 +1,14 @@
 //! What an input is to the machine.
 
-use plan_tables::SwitchId;
+use plan_tables::{RowId, SwitchId};
 
 /// What an alarm comes from.
 #[derive(Clone, Copy)]
 pub(crate) enum Source {
     /// The raw level of the switch, which is accepted then.
     Switch(SwitchId),
+    /// The device, which is due then.
+    Device(RowId),
 }
 
 /// A stimulus, at a moment in milliseconds.

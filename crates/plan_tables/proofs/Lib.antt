@@ -4,3 +4,4 @@ pub mod Shown
 pub mod BoundTo
 pub mod Placed
 pub mod Worked
+pub mod Owners

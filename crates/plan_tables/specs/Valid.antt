@@ -7,7 +7,7 @@ use Rattle.plan_tables.specs.declared.entries.Owner.TheVariants.{Machine, Mode}
 use Rattle.plan_tables.specs.declared.entries.Action.{Action}
 use Rattle.plan_tables.specs.declared.entries.Action.TheVariants.{Post}
 use Rattle.plan_tables.specs.declared.entries.Target.{Target}
-use Rattle.plan_tables.specs.declared.entries.Target.TheVariants.{Run, Start, Stop}
+use Rattle.plan_tables.specs.declared.entries.Target.TheVariants.{Run, Start, Stop, Act}
 use Rattle.plan_tables.specs.declared.entries.ModeId.{ModeId}
 use Rattle.plan_tables.specs.declared.entries.ModeEvent.{ModeEvent}
 use Rattle.plan_tables.specs.declared.entries.Work.{Work}
@@ -37,6 +37,7 @@ abbrev pub IsTargetWithin : PlanView → Target → Type 0
 IsTargetWithin plan (Run l) = l.0 < length plan.lists
 IsTargetWithin plan (Start m) = m.0 < length plan.modes
 IsTargetWithin plan (Stop m) = m.0 < length plan.modes
+IsTargetWithin plan (Act r act) = r.0 < length plan.rows
 
 abbrev pub IsOwnerWithin : PlanView → Owner → Type 0
 IsOwnerWithin plan Machine = Unit {0}

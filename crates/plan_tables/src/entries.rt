@@ -1,5 +1,7 @@
 //! The entries of a plan's tables.
 
+use crate::devices::{Act, RowId};
+
 /// An event, by its number in order of first use: below 4,096.
 #[derive(Clone, Copy, Debug, PartialEq, Eq)]
 pub struct EventId(pub u16);
@@ -108,6 +110,8 @@ pub enum Target {
     Start(ModeId),
     /// The mode is told to stop.
     Stop(ModeId),
+    /// The device is told to do this.
+    Act(RowId, Act),
 }
 
 /// What is done when an event is handled.

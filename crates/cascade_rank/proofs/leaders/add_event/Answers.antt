@@ -1,5 +1,29 @@
-use Rattle.cascade_rank.proofs.Leading.{adds-event}
+use Rattle.std.proofs.Common.{◌<◌, List, length, get_or, refl, subst, arith, take_all}
+use Rattle.std.proofs.lemmas.List.Elements.{All-get_or}
+use Rattle.plan_tables.specs.Valid.{IsEventWithin}
+use Rattle.plan_tables.specs.declared.entries.EventId.{EventId}
+use Rattle.cascade_rank.specs.Cost.{Lines, each_of, cost_of_post}
+use Rattle.cascade_rank.specs.Events.{no_event}
+use Rattle.cascade_rank.specs.Leaders.{AddsLeader}
+use Rattle.cascade_rank.proofs.Leading.{adds-none, adds-more, adds-one}
 use Rattle.cascade_rank.proofs.leaders.add_event.Goals as goal
 
-pub returns-clause-leaders : goal.returns-clause-leaders
-returns-clause-leaders c = adds-event c.args.plan.now c.args.event c.args.leaders.now c.add_bound.new.leaders c.add_work.new.leaders c.in_ok-bound.ensures.leaders c.in_ok-work.ensures.leaders
+pub loop-posted-init : goal.loop-posted-init
+loop-posted-init c = adds-none c.args.event (Lines 0) c.args.leaders.now (λ f. refl)
+
+pub add-requires : goal.add-requires
+add-requires c =
+    let below = All-get_or (IsEventWithin (length c.args.leaders.now)) c.args.posts.now c.loop-posted.posted-index no_event c.loop-posted-test.true c.requires in
+    omega (arith, below, c.loop-posted.invariant.count)
+
+pub loop-posted-preserved : goal.loop-posted-preserved
+loop-posted-preserved c =
+    let posted = get_or c.args.posts.now c.loop-posted.posted-index no_event in
+    let below = All-get_or (IsEventWithin (length c.args.leaders.now)) c.args.posts.now c.loop-posted.posted-index no_event c.loop-posted-test.true c.requires in
+    let inside : posted.0 < length c.loop-posted.leaders = omega (arith, below, c.loop-posted.invariant.count) in
+    rw c.in_ok-add.ensures
+    (adds-more c.args.event cost_of_post c.args.posts.now c.loop-posted.posted-index no_event c.args.leaders.now c.loop-posted.leaders _ c.loop-posted-test.true c.loop-posted.invariant (adds-one c.args.event posted c.loop-posted.leaders inside))
+
+pub returns : goal.returns
+returns c =
+    subst (λ (es : List EventId). AddsLeader c.args.event (each_of cost_of_post es) c.args.leaders.now c.loop-posted.leaders) (take_all c.loop-posted.posted-index c.args.posts.now c.loop-posted-test.false) c.loop-posted.invariant

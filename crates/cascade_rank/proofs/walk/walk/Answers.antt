@@ -15,8 +15,8 @@ loop-passed-preserved c =
     let w = c.loop-passed.invariant in
     let inside : at.0 < length passed = omega (arith, w.below, w.count) in
     let new : slice_index_or passed at.0 false ≡ false = sym (get_or_read passed at.0 c.index.result.now inside c.index.ensures false) ∙ c.loop-passed-test.true in
-    subst (λ (es : List EventId). WalkAt c.args.plan.now c.args.start (set c.loop-passed.passed.items c.loop-passed.at.0 true) es c.next-at.result) (sym c.in_ok-push.ensures.items)
-    (subst (WalkAt c.args.plan.now c.args.start (set c.loop-passed.passed.items c.loop-passed.at.0 true) (c.loop-passed.path.items ++ c.loop-passed.at ∷ [])) (sym c.next-at.ensures)
+    subst (λ (es : List EventId). WalkAt c.args.plan.now c.args.start (set c.loop-passed.passed.items c.loop-passed.at.0 true) es c.in_ok-at.at) (sym c.in_ok-push.ensures.items)
+    (subst (WalkAt c.args.plan.now c.args.start (set c.loop-passed.passed.items c.loop-passed.at.0 true) (c.loop-passed.path.items ++ c.loop-passed.at ∷ [])) (sym c.in_ok-at.ensures)
     (walk_goes c.args.plan.now c.args.start c.requires.first passed path at w c.event_count.ensures.valid.entries c.requires.left.leads_on new))
 
 pub returns-clause-cycle : goal.returns-clause-cycle

@@ -1,5 +1,19 @@
-use Rattle.pin_rig.proofs.Alarms.{fired-within}
+use Rattle.std.proofs.Common.{Some, ap, ◌∙◌}
+use Rattle.pin_rig.specs.Inside.{source_view}
+use Rattle.pin_rig.proofs.Alarms.{fired-within, next-of, next-row, next-due}
 use Rattle.pin_rig.proofs.parts.fire.Goals as goal
 
 pub run_accepted-requires-clause-switch : goal.run_accepted-requires-clause-switch
-run_accepted-requires-clause-switch c = fired-within c.args.plan.now c.args.core.now c.fire-change.result c.requires.core c.fire-change.ensures.reported
+run_accepted-requires-clause-switch g c = fired-within c.args.plan.now c.args.core.now c.fire-change.result c.requires.core c.fire-change.ensures.reported
+
+pub call_device-requires-clause-row : goal.call_device-requires-clause-row
+call_device-requires-clause-row g c =
+    let s = c.args.core.now.machine in
+    let next = next-of s (source_view c.args.source) c.requires.next in
+    next-row c.args.plan.now s next.0 c.in-Device.row c.requires.core.devices (next.1 ∙ ap (λ x. Some (next.0, source_view x)) c.in-Device.is)
+
+pub call_device-requires-clause-may : goal.call_device-requires-clause-may
+call_device-requires-clause-may g c =
+    let s = c.args.core.now.machine in
+    let next = next-of s (source_view c.args.source) c.requires.next in
+    next-due s next.0 c.in-Device.row (next.1 ∙ ap (λ x. Some (next.0, source_view x)) c.in-Device.is)

@@ -11,7 +11,7 @@ none = record { 0 = 0 }
 
 pub post-requires : goal.post-requires
 unfolding none
-post-requires c =
+post-requires g c =
     let events = c.args.events.now in
     let i = c.loop-event.event-index in
     post-room c.args.owner c.loop-event.core (after (all_do (post c.args.owner) events) c.args.core.now) (get_or events i none) (drop (i + 1) events) (drop i events)

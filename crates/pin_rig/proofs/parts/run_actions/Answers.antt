@@ -13,7 +13,7 @@ none = Post (record { 0 = 0 })
 
 pub run_action-requires : goal.run_action-requires
 unfolding none
-run_action-requires c =
+run_action-requires g c =
     let plan = c.args.plan.now in
     let owner = c.args.owner in
     let actions = c.args.actions.now in

@@ -5,4 +5,4 @@ use Rattle.pin_rig.proofs.parts.run_actions.Given as goal
 
 -- what is left to do, done now, is all, done at the start
 abbrev pub invariant-loop-action : goal.invariant-loop-action
-invariant-loop-action l = after (all_do (do_action l.plan l.owner) (drop l.action-index l.actions)) l.core ≡ after (all_do (do_action l.plan l.owner) l.actions) l.fn.core
+invariant-loop-action g l = after (all_do (do_action l.plan l.owner) (drop l.action-index l.actions)) l.core ≡ after (all_do (do_action l.plan l.owner) l.actions) l.fn.core

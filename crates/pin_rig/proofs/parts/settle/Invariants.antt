@@ -1,12 +1,12 @@
 use Rattle.std.proofs.Common.{◌≡◌, ℕ, ◌-◌, length}
 use Rattle.config_checker.specs.PlanOrder.{plan_steps}
-use Rattle.pin_rig.specs.Core.{follow}
+use Rattle.pin_rig.specs.Core.{CanCall, follow}
 use Rattle.pin_rig.proofs.parts.settle.Given as goal
 
 -- so many event steps in plan order were taken
 abbrev pub invariant-loop-first : goal.invariant-loop-first
-invariant-loop-first l = (count : ℕ) × (l.core ≡ follow (plan_steps l.plan count) l.fn.core)
+invariant-loop-first g l = (count : ℕ) × (l.core ≡ follow (plan_steps l.plan count) l.fn.core) × CanCall l.plan l.core
 
 -- each gives a line
 abbrev pub decreases-loop-first : goal.decreases-loop-first
-decreases-loop-first l = l.core.room - length l.core.machine.lines
+decreases-loop-first g l = l.core.room - length l.core.machine.lines

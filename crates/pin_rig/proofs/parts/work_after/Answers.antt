@@ -11,7 +11,7 @@ use Rattle.pin_rig.proofs.Following.{follow-still, stop-still, ended-follows}
 use Rattle.pin_rig.proofs.parts.work_after.Goals as goal
 
 pub returns-then-kept : goal.returns-then-kept
-returns-then-kept c =
+returns-then-kept g c =
     let m = c.in-Mode.mode in
     let plan = c.args.plan.now in
     c.stop.ensures
@@ -19,10 +19,10 @@ returns-then-kept c =
     ∙ (λ i. follow (do_after c.args.plan.now (sym c.if-kept.true i) (sym (c.in-Mode.is ∙ ap (Mode c.in-Mode.mode) c.in-Started.is) i)) c.args.core.now)
 
 pub returns-in-Stopping : goal.returns-in-Stopping
-returns-in-Stopping c =
+returns-in-Stopping g c =
     let m = c.in-Mode.mode in
     let plan = c.args.plan.now in
     c.post-in-Stopping.ensures
-    ∙ (λ i. after (post Machine (c.mode.ensures.mode i).events.stopped) (c.end.ensures i))
-    ∙ ended-follows plan c.args.kept c.args.core.now m (ap (λ h. h.running) c.requires.handlers)
+    ∙ ap (λ (e : EventId). after (post Machine e) c.end.new.self) (ap (λ (x : ModeValue). x.events.stopped) c.mode.ensures.mode)
+    ∙ ended-follows plan c.args.kept c.args.core.now c.call_devices.new.core c.end.new.self m (ap (λ h. h.running) c.requires.handlers) c.call_devices.ensures c.end.ensures
     ∙ ap (λ (w : Work). follow (do_after c.args.plan.now c.args.kept w) c.args.core.now) (sym (c.in-Mode.is ∙ ap (Mode c.in-Mode.mode) c.in-Stopping.is))

@@ -1,17 +1,35 @@
-use Rattle.std.proofs.Common.{length, ap, sym, ◌∙◌}
+use Rattle.std.proofs.Common.{rules, None, List, map, replicate, length, ap, sym, subst, ◌∙◌}
+use Rattle.config_checker.specs.Devices.{HasDevices}
+use Rattle.config_checker.proofs.Alarms.{initial-devices}
 use Rattle.std.proofs.lemmas.List.{length-replicate}
 use Rattle.mode_stack.specs.declared.phase.Phase.TheVariants.{Idle}
 use Rattle.mode_stack.specs.ModeStep.{in_phase}
 use Rattle.mode_stack.specs.Modes.{running_of}
+use Rattle.plan_tables.specs.declared.devices.DeviceRow.{DeviceRow}
+use Rattle.device_objects.specs.DeviceStep.{due_of}
+use Rattle.pin_rig.proofs.Alarms.{dues-are}
+use Rattle.pin_rig.proofs.Fitting.{first-dues}
 use Rattle.pin_rig.proofs.Following.{idle-runs}
 use Rattle.pin_rig.proofs.core_state.Core.new.Goals as goal
 
 pub returns-clause-plan : goal.returns-clause-plan
-returns-clause-plan c =
+returns-clause-plan g c =
     let plan = c.args.plan.now in
     record {
-      modes = ap (λ s. length s.modes) c.in_ok-new-2.ensures.idle ∙ length-replicate (length plan.modes) (in_phase Idle);
-      handlers = c.in_ok-new-4.ensures ∙ (λ i. record { plan = plan; running = (idle-runs plan ∙ ap (λ s. running_of s.modes) (sym c.in_ok-new-2.ensures.idle)) i });
-      kinds = c.in_ok-new.ensures.count;
-      complete = c.in_ok-new.ensures.complete;
+      devices = subst (HasDevices plan) (sym (ap (map g.D.Device.state_of) (sym c.deref.ensures.value) ∙ c.in_default.ensures.fit.states_are)) (initial-devices plan);
+      modes = ap (λ s. length s.modes) c.in_ok-modes.ensures.idle ∙ length-replicate (length plan.modes) (in_phase Idle);
+      handlers = c.in_ok-handlers.ensures ∙ (λ i. record { plan = plan; running = (idle-runs plan ∙ ap (λ s. running_of s.modes) (sym c.in_ok-modes.ensures.idle)) i });
+      kinds = c.in_ok-switches.ensures.count;
+      complete = c.in_ok-switches.ensures.complete;
     }
+
+pub invariant_of-result : goal.invariant_of-result
+invariant_of-result g c =
+    let rows = c.args.plan.now.rows in
+    let fit = c.in_default.ensures.fit in
+    let states = ap (map g.D.Device.state_of) (sym c.deref.ensures.value) ∙ fit.states_are in (
+      search rules,
+      search rules,
+      ap (map g.D.Device.row_of) (sym c.deref.ensures.value) ∙ fit.rows_are ∙ sym (ap (λ h. h.plan.rows) c.in_ok-handlers.ensures),
+      c.in_ok-alarms.ensures ∙ ap (λ (rs : List DeviceRow). replicate (length rs) None) c.rows.ensures.rows ∙ sym (dues-are g.D.Device.state_of c.args.devices.items ∙ ap (map due_of) states ∙ first-dues rows),
+    )

@@ -1,0 +1,46 @@
+-- What a call of a device can answer, answer by answer.
+use Rattle.std.proofs.Common.{◌≡◌, ℕ, ◌<◌, List, [], ◌∷◌, length, map, get_or, refl, sym, ap, ◌∙◌, subst, arith, rules}
+use Rattle.std.specs.List.{All}
+use Rattle.std.proofs.lemmas.List.{length-map, get_or-map}
+use Rattle.std.proofs.lemmas.List.Elements.{All-get_or}
+use Rattle.plan_tables.specs.PlanView.{PlanView, row_at}
+use Rattle.plan_tables.specs.Devices.{list_count}
+use Rattle.plan_tables.specs.declared.entries.EventId.{EventId}
+use Rattle.plan_tables.specs.declared.devices.RowId.{RowId}
+use Rattle.plan_tables.specs.declared.devices.DeviceRow.{DeviceRow}
+use Rattle.device_objects.specs.declared.device.Call.{Call}
+use Rattle.device_objects.specs.Laws.{OutcomesAreOfTheRow}
+use Rattle.device_objects.specs.Outcomes.{outcomes}
+use Rattle.cascade_rank.specs.Cost.{Cost, Greater, price, each_of, dearest_of, cost_of_answer, cost_of_call}
+use Rattle.cascade_rank.specs.Mentions.{weights_in}
+use Rattle.cascade_rank.proofs.Places.{each_of-map}
+use Rattle.cascade_rank.proofs.Posted.{weights-dearest}
+
+-- each list of an answer is one of the row
+pub outcomes_of_row : OutcomesAreOfTheRow
+outcomes_of_row = search rules
+
+dearest_of-map : {X Y : Type 0} (f : Y → Cost) (g : X → Y) (xs : List X) → dearest_of (λ x. f (g x)) xs ≡ dearest_of f (map g xs)
+dearest_of-map f g [] = refl
+dearest_of-map f g (x ∷ xs) = ap (Greater (f (g x))) (dearest_of-map f g xs)
+
+-- the answers as they are given
+module _ {X : Type 0} (items : X → List ℕ) (plan : PlanView) (r : RowId) (call : Call) (answers : List X) (are : map items answers ≡ outcomes (row_at plan r).settings call) where
+  pub answer-within : (i : ℕ) (d : X) → i < length answers → All (λ k. k < list_count (row_at plan r).settings) (items (get_or answers i d))
+  answer-within i d l =
+      let listed : i < length (map items answers) = omega (arith, l, length-map answers items) in
+      let whole = subst (λ (ls : List (List ℕ)). All (All (λ k. k < list_count (row_at plan r).settings)) ls) (sym are) (outcomes_of_row (row_at plan r).settings call) in
+      subst (All (λ k. k < list_count (row_at plan r).settings)) (get_or-map items answers i d (items d) l)
+      (All-get_or (All (λ k. k < list_count (row_at plan r).settings)) (map items answers) i (items d) listed whole)
+
+  pub answers-price : (w : EventId → ℕ) → price w (dearest_of (λ a. cost_of_answer plan r (items a)) answers) ≡ price w (cost_of_call plan r call)
+  answers-price w = ap (price w) (dearest_of-map (cost_of_answer plan r) items answers ∙ ap (dearest_of (cost_of_answer plan r)) are)
+
+  pub answers-weights : weights_in (each_of (λ a. cost_of_answer plan r (items a)) answers) ≡ weights_in (cost_of_call plan r call)
+  answers-weights =
+      ap weights_in (each_of-map (cost_of_answer plan r) items answers) ∙ weights-dearest (cost_of_answer plan r) (map items answers)
+      ∙ ap (λ (ls : List (List ℕ)). weights_in (dearest_of (cost_of_answer plan r) ls)) are
+
+-- what was read of a row
+pub outcomes-read : (plan : PlanView) (r : RowId) (call : Call) (row : DeviceRow) (all : List (List ℕ)) → row ≡ row_at plan r → all ≡ outcomes row.settings call → all ≡ outcomes (row_at plan r).settings call
+outcomes-read plan r call row all is given = given ∙ ap (λ (x : DeviceRow). outcomes x.settings call) is

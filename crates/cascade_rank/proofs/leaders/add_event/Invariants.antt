@@ -1,0 +1,8 @@
+use Rattle.std.proofs.Common.{take}
+use Rattle.cascade_rank.specs.Cost.{each_of, cost_of_post}
+use Rattle.cascade_rank.specs.Leaders.{AddsLeader}
+use Rattle.cascade_rank.proofs.leaders.add_event.Given as goal
+
+-- the event leads to each of those so far
+abbrev pub invariant-loop-posted : goal.invariant-loop-posted
+invariant-loop-posted l = AddsLeader l.event (each_of cost_of_post (take l.posted-index l.posts)) l.fn.leaders l.leaders

@@ -1,0 +1,24 @@
+use Rattle.std.proofs.Common.{◌≡◌, ◌<◌, ◌≤◌, List, max, length, ap, ◌∙◌, arith, take_all}
+use Rattle.plan_tables.specs.declared.entries.SwitchId.{SwitchId}
+use Rattle.cascade_rank.specs.Events.{weight_of}
+use Rattle.cascade_rank.specs.Cost.{price, dearest_of, cost_of_switch, switches_of}
+use Rattle.cascade_rank.proofs.Prices.{price-dearest_more}
+use Rattle.cascade_rank.proofs.Switches.{length-switches, switch_of}
+use Rattle.cascade_rank.proofs.price.dearest_switch.Goals as goal
+
+pub loop-number-preserved : goal.loop-number-preserved
+loop-number-preserved c =
+    let plan = c.args.plan.now in
+    let w = weight_of c.args.weights.now in
+    let within : c.loop-number.number < length c.args.plan.now.switches = omega arith in
+    let listed : c.loop-number.number < length (switches_of c.args.plan.now) = omega (arith, within, length-switches plan) in
+    let here = ap (λ (s : SwitchId). price (weight_of c.args.weights.now) (cost_of_switch c.args.plan.now s)) (switch_of plan c.loop-number.number (record { 0 = 0 }) within) in
+    let larger : c.max-bound.result ≡ max c.loop-number.bound c.price_of_switch.result = c.max-bound.ensures in
+    omega (arith, price-dearest_more w (cost_of_switch plan) (switches_of plan) c.loop-number.number (record { 0 = 0 }) listed, here, c.loop-number.invariant, larger, c.price_of_switch.ensures)
+
+pub returns : goal.returns
+returns c =
+    let plan = c.args.plan.now in
+    let whole : length (switches_of c.args.plan.now) ≤ c.loop-number.number = omega (arith, length-switches plan) in
+    c.loop-number.invariant
+    ∙ ap (λ (ss : List SwitchId). price (weight_of c.args.weights.now) (dearest_of (cost_of_switch c.args.plan.now) ss)) (take_all c.loop-number.number (switches_of plan) whole)

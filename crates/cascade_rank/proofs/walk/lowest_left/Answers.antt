@@ -1,0 +1,23 @@
+use Rattle.std.proofs.Common.{nat_lt, Bool, cond, length, get_or, ap, arith}
+use Rattle.std.proofs.lemmas.Bool.{lt-ltb, le-ltb}
+use Rattle.cascade_rank.specs.Cost.{cost_of_post}
+use Rattle.cascade_rank.specs.Events.{no_event}
+use Rattle.cascade_rank.specs.Order.{left_of}
+use Rattle.cascade_rank.proofs.Firsts.{lowest-each_more, lowest_all}
+use Rattle.cascade_rank.proofs.walk.lowest_left.Goals as goal
+use Rattle.cascade_rank.proofs.walk.lowest_left.Goals.{then-left-event-gt0, else-left-event-gt0}
+
+pub loop-event-preserved : goal.loop-event-preserved
+loop-event-preserved c =
+    let left = c.args.left.now in
+    let e = get_or c.args.posts.now c.loop-event.event-index no_event in
+    let more = lowest-each_more (length left) (λ d. nat_lt 0 (left_of left d)) cost_of_post c.args.posts.now c.loop-event.event-index no_event c.loop-event-test.true in
+    let most = lowest_all (length left) (λ d. nat_lt 0 (left_of left d)) c.args.posts.now c.requires.within c.loop-event.event-index in
+    elim c.if-left-event-gt0.branch [
+      | then-left-event-gt0 w ↦
+          let passes = ap (λ (b : Bool). cond b e.0 (length left)) (lt-ltb 0 (left_of left e) w.if-left-event-gt0.true) in
+          omega (arith, more, passes, w.lowest-is, w.min-lowest.ensures, c.loop-event.invariant)
+      | else-left-event-gt0 w ↦
+          let fails = ap (λ (b : Bool). cond b e.0 (length left)) (le-ltb 0 (left_of left e) w.if-left-event-gt0.false) in
+          omega (arith, more, fails, w.lowest-is, most, c.loop-event.invariant)
+    ]

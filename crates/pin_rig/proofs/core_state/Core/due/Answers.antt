@@ -1,0 +1,14 @@
+use Rattle.std.proofs.Common.{◌≡◌, option_map, map, refl, ap, sym, ◌∙◌}
+use Rattle.device_objects.specs.DeviceStep.{due_of}
+use Rattle.event_queue.specs.Alarms.{least_of}
+use Rattle.config_checker.specs.Run.{switch, device}
+use Rattle.config_checker.specs.NextAlarm.{first_of}
+use Rattle.pin_rig.proofs.Alarms.{dues-are}
+use Rattle.pin_rig.proofs.core_state.Core.due.Goals as goal
+
+pub returns : goal.returns
+returns g c =
+    rw (← c.self.view_is)
+    (c.first_of.ensures
+    ∙ (λ i. first_of (option_map (λ d. (d.0, switch d.1)) (c.due.ensures.next i))
+    (option_map (λ d. (d.0, device d.1)) ((c.least.ensures.least ∙ ap least_of (c.self.invariant.3 ∙ dues-are g.D.Device.state_of c.self.inside.devices.items)) i))))

@@ -1,0 +1,14 @@
+use Rattle.std.proofs.Common.{List, ℕ, ◌<◌, sym, ◌∙◌, subst}
+use Rattle.std.specs.List.{All}
+use Rattle.plan_tables.specs.PlanView.{PlanView, row_at}
+use Rattle.plan_tables.specs.Devices.{list_count}
+use Rattle.config_checker.specs.Machine.{called}
+use Rattle.pin_rig.proofs.Listing.{answer-lists}
+use Rattle.pin_rig.proofs.parts.call_device.Goals as goal
+
+pub run_lists-requires-clause-lists : goal.run_lists-requires-clause-lists
+run_lists-requires-clause-lists g c =
+    let plan = c.args.plan.now in
+    let r = c.args.row in
+    let is = c.deref.ensures.0 ∙ c.call-lists.ensures.lists ∙ (λ i. (called (c.requires.plan i) c.args.call r c.args.core.now.machine).1) in
+    subst (All (λ k. k < list_count (row_at plan r).settings)) (sym is) (answer-lists plan c.args.call r c.args.core.now.machine c.requires.row c.requires.calls.0 c.requires.may)

@@ -1,0 +1,10 @@
+use Rattle.std.proofs.Common.{◌≡◌, drop}
+use Rattle.plan_tables.specs.PlanView.{row_numbers}
+use Rattle.config_checker.specs.Machine.{call_devices}
+use Rattle.pin_rig.specs.Core.{CanCall, after}
+use Rattle.pin_rig.proofs.Listing.{call_rows}
+use Rattle.pin_rig.proofs.parts.call_devices.Given as goal
+
+-- the calls that are left, made now, are all, made at the start
+abbrev pub invariant-loop-number : goal.invariant-loop-number
+invariant-loop-number g l = (after (call_rows l.plan l.call l.mode (drop l.number (row_numbers l.plan))) l.core ≡ after (call_devices l.plan l.call l.mode) l.fn.core) × CanCall l.plan l.core

@@ -1,0 +1,25 @@
+use Rattle.std.proofs.Common.{◌≡◌, ◌+◌, List, drop, get_or, sym, ap, ◌∙◌, subst}
+use Rattle.std.proofs.lemmas.List.{drop_more}
+use Rattle.plan_tables.specs.PlanView.{actions_at, list_of_row, row_at}
+use Rattle.plan_tables.specs.declared.entries.Action.{Action}
+use Rattle.plan_tables.specs.declared.entries.Owner.{Owner}
+use Rattle.plan_tables.specs.declared.devices.DeviceRow.{DeviceRow}
+use Rattle.config_checker.specs.Machine.{all_do, do_action, do_answer, do_list}
+use Rattle.pin_rig.specs.Core.{HasRoom, after}
+use Rattle.pin_rig.proofs.Room.{room-first}
+use Rattle.pin_rig.proofs.Listing.{list-grows}
+use Rattle.pin_rig.proofs.parts.run_lists.Goals as goal
+
+pub run_actions-requires : goal.run_actions-requires
+run_actions-requires g c =
+    let plan = c.args.plan.now in
+    let r = c.args.row in
+    let lists = c.args.lists.now in
+    let i = c.loop-list.list-index in
+    let list_is : c.list.result.now ≡ actions_at plan (list_of_row plan r (get_or lists i 0)) = c.list.ensures.actions ∙ ap (actions_at plan) c.list_of_row.ensures.list in
+    let owner_is : c.row-owner.result.owner ≡ (row_at plan r).owner = ap (λ (row : DeviceRow). row.owner) c.row-owner.ensures.row in
+    let core = c.loop-list.core in
+    subst (λ (actions : List Action). HasRoom core.room (all_do (do_action plan c.row-owner.result.owner) actions core.machine)) (sym list_is)
+    (subst (λ (o : Owner). HasRoom core.room (all_do (do_action plan o) (actions_at plan (list_of_row plan r (get_or lists i 0))) core.machine)) (sym owner_is)
+    (room-first (λ k. do_list plan (row_at plan r).owner (list_of_row plan r k)) (list-grows plan r) c.loop-list.core (after (do_answer plan r lists) c.args.core.now)
+    (get_or lists i 0) (drop (i + 1) lists) (drop i lists) (drop_more lists i 0 c.loop-list-test.true) c.loop-list.invariant c.requires.room))
