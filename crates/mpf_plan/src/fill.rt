@@ -408,7 +408,8 @@ fn add_device(
     let first = ListId(draft.lists.len() as u32);
     draft.rows.push(row)?;
     draft.row_lists.push(first)?;
-    begin_lists(alloc, &mut draft.lists, list_count(settings))
+    begin_lists(alloc, &mut draft.lists, list_count(settings))?;
+    Ok(())
 }
 
 /// The next row.

@@ -195,7 +195,13 @@ fn count_binding(before: usize, contribution: &Contribution) -> usize
     ensures { (all : ℕ) → IsCount 16384 all before → IsCount 16384 (all + bindings_given (contribution_view contribution.now)) result }
 {
     match *contribution {
-        Contribution::Binds(_, _, _) => one_more(before, Table::Bindings.limit()),
+        Contribution::Binds(_, _, _) => {
+            if before > Table::Bindings.limit() {
+                before
+            } else {
+                before + 1
+            }
+        }
         _ => before,
     }
 }
@@ -205,20 +211,15 @@ fn count_row(before: usize, contribution: &Contribution) -> usize
     ensures { (all : ℕ) → IsCount 1024 all before → IsCount 1024 (all + rows_given (contribution_view contribution.now)) result }
 {
     match *contribution {
-        Contribution::Device(_, _) => one_more(before, Table::Rows.limit()),
+        Contribution::Device(_, _) => {
+            if before > Table::Rows.limit() {
+                before
+            } else {
+                before + 1
+            }
+        }
         _ => before,
     }
-}
-
-/// One more, or more than the limit.
-fn one_more(before: usize, limit: usize) -> usize
-    requires { limit ≤ 16384 }
-    ensures { (all : ℕ) → IsCount limit all before → IsCount limit (all + 1) result }
-{
-    if before > limit {
-        return before;
-    }
-    before + 1
 }
 
 // ---- names that nothing has
