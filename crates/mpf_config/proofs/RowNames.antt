@@ -31,7 +31,7 @@ use Rattle.mpf_config.proofs.Each.{All-from_zip, all_where}
 
 module _ (sizes : Sizes) (kind : TextKind) where
   content_is_named : (p : Pair) (content : Content) → IsContent sizes kind p content → IsNamedContent content
-  content_is_named p (entries es) h = All-from_recursion IsNamedEntry es (entries_named sizes.longest h.0 p es (shape_named kind p.key (by_entries h.0) h.1) h.2)
+  content_is_named p (entries es) h = All-from_recursion IsNamedEntry es (entries_named sizes.longest h.0 h.1 p es (shape_named kind p.key (by_entries h.0 h.1) h.2) h.3)
   content_is_named p (players ps) h = All-from_recursion IsNamedPlayer ps (players_named sizes.longest h.0 p ps (shape_named kind p.key (by_players h.0) h.1) h.2)
   content_is_named p (entry e) h = entry_named sizes.longest h.0 p e (shape_named kind p.key (by_entry h.0) h.1) h.2
   content_is_named p (listed ws) h = All-from_recursion (λ (w : Written). IsName w.text) ws (lists.names_named sizes.modes p ws h.1.listed)

@@ -34,7 +34,7 @@ none_short = omega arith
 
 content_short : (kind : TextKind) (p : Pair) (content : Content) → IsContent within_limits kind p content → IsShortContent content
 content_short kind p (entries es) h =
-    (entries_short 1024 h.0 p es (shape_short 1024 kind p.key (by_entries h.0) h.1) h.2, All-nil (IsShortPlayer 1024), All-nil (IsShortEntry 1024), none_short)
+    (entries_short 1024 h.0 h.1 p es (shape_short 1024 kind p.key (by_entries h.0 h.1) h.2) h.3, All-nil (IsShortPlayer 1024), All-nil (IsShortEntry 1024), none_short)
 content_short kind p (players ps) h = (All-nil (IsShortEntry 1024), players_short 1024 h.0 p ps h.2, All-nil (IsShortEntry 1024), none_short)
 content_short kind p (entry e) h =
     let short = entry_short 1024 h.0 p e (shape_short 1024 kind p.key (by_entry h.0) h.1) h.2 in
