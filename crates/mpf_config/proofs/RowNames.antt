@@ -68,19 +68,19 @@ modes_are_named bundle rows is =
 
 -- ---- by the names of settings
 
-abbrev IsNamedOption : Option Value → Type 0
+abbrev pub IsNamedOption : Option Value → Type 0
 IsNamedOption None = Unit {0}
 IsNamedOption (Some v) = IsNamedValue v
 
-value_at_named : (row : List Value) (i : ℕ) → AllByRecursion IsNamedValue row → IsNamedOption (slice_get row i)
+pub value_at_named : (row : List Value) (i : ℕ) → AllByRecursion IsNamedValue row → IsNamedOption (slice_get row i)
 value_at_named [] i h = tt
 value_at_named (v ∷ vs) zero h = h.0
 value_at_named (v ∷ vs) (suc i) h = value_at_named vs i h.1
 
-abbrev is_name : Written → Type 0
+abbrev pub is_name : Written → Type 0
 is_name w = IsName w.text
 
-names_named : (o : Option Value) → IsNamedOption o → AllNames (listed_names o)
+pub names_named : (o : Option Value) → IsNamedOption o → AllNames (listed_names o)
 names_named None h = All-nil is_name
 names_named (Some (one x)) h = All-nil is_name
 names_named (Some (names xs)) h = All-from_recursion is_name xs h
@@ -90,7 +90,7 @@ names_named (Some (steps xs)) h = All-nil is_name
 names_named (Some (maps xs)) h = All-nil is_name
 names_named (Some (keyed xs)) h = All-nil is_name
 
-posts_named : (o : Option Value) → IsNamedOption o → AllNames (listed_posts o)
+pub posts_named : (o : Option Value) → IsNamedOption o → AllNames (listed_posts o)
 posts_named None h = All-nil is_name
 posts_named (Some (one x)) h = All-nil is_name
 posts_named (Some (names xs)) h = All-nil is_name
@@ -168,7 +168,7 @@ players_in_named (players ps) h = h
 players_in_named (entry e) h = All-nil IsNamedPlayer
 players_in_named (listed ws) h = All-nil IsNamedPlayer
 
-entries_of_named : (section : List ℕ) (s : SectionRows) → IsNamed s → All IsNamedEntry (entries_of section s)
+pub entries_of_named : (section : List ℕ) (s : SectionRows) → IsNamed s → All IsNamedEntry (entries_of section s)
 entries_of_named section s h = all_where IsNamedEntry (bytes_eq s.name section) (entries_in s.content) (entries_in_named s.content h)
 
 players_of_named : (section : List ℕ) (s : SectionRows) → IsNamed s → All IsNamedPlayer (players_of section s)
