@@ -82,9 +82,9 @@ abbrev made : Pair → Content → SectionRows
 made p content = record { name = p.key; content = content }
 
 content_sound : (kind : TextKind) (text : List ℕ) (p : Pair) (shape : Shape) (content : Content) → shape_of kind p.key ≡ Some shape → content_at text p shape ≡ Ok content → IsContent within_limits kind p content
-content_sound kind text p (by_entries table) content is e =
-    let a = bind_ok (entries_at text table p) (λ es. Ok (entries es)) content e in
-    subst (IsContent within_limits kind p) (ok_is (entries a.0) content a.2) (table, is, entries_sound text table p a.0 a.1)
+content_sound kind text p (by_entries barred table) content is e =
+    let a = bind_ok (entries_at text barred table p) (λ es. Ok (entries es)) content e in
+    subst (IsContent within_limits kind p) (ok_is (entries a.0) content a.2) (barred, table, is, entries_sound text barred table p a.0 a.1)
 content_sound kind text p (by_players kinds) content is e =
     let a = bind_ok (players_at text kinds p) (λ ps. Ok (players ps)) content e in
     subst (IsContent within_limits kind p) (ok_is (players a.0) content a.2) (kinds, is, players_sound text kinds p a.0 a.1)
@@ -118,8 +118,8 @@ module _ (sizes : Sizes) (kind : TextKind) (text : List ℕ) where
 
   content_or : (p : Pair) (content : Content) → IsContent sizes kind p content → IsReadOr Many (section_at kind text p) (made p content)
   content_or p (entries es) h =
-      let found = weaker (1024 < sizes.longest) Many long (entries_at text h.0 p) es (entries_complete text h.0 p sizes.longest es h.2) in
-      section_of p (by_entries h.0) (entries es) h.1 (then_or Many (entries_at text h.0 p) (λ xs. Ok (entries xs)) es (entries es) found (inl refl))
+      let found = weaker (1024 < sizes.longest) Many long (entries_at text h.0 h.1 p) es (entries_complete text h.0 h.1 p sizes.longest es h.3) in
+      section_of p (by_entries h.0 h.1) (entries es) h.2 (then_or Many (entries_at text h.0 h.1 p) (λ xs. Ok (entries xs)) es (entries es) found (inl refl))
   content_or p (players ps) h =
       let found = weaker (1024 < sizes.longest) Many long (players_at text h.0 p) ps (players_complete text h.0 p sizes.longest ps h.2) in
       section_of p (by_players h.0) (players ps) h.1 (then_or Many (players_at text h.0 p) (λ xs. Ok (players xs)) ps (players ps) found (inl refl))

@@ -31,7 +31,7 @@ use Rattle.mpf_config.proofs.Each.{All-from_zip, all_where}
 
 module _ (sizes : Sizes) (kind : TextKind) where
   content_is_named : (p : Pair) (content : Content) → IsContent sizes kind p content → IsNamedContent content
-  content_is_named p (entries es) h = All-from_recursion IsNamedEntry es (entries_named sizes.longest h.0 p es (shape_named kind p.key (by_entries h.0) h.1) h.2)
+  content_is_named p (entries es) h = All-from_recursion IsNamedEntry es (entries_named sizes.longest h.0 h.1 p es (shape_named kind p.key (by_entries h.0 h.1) h.2) h.3)
   content_is_named p (players ps) h = All-from_recursion IsNamedPlayer ps (players_named sizes.longest h.0 p ps (shape_named kind p.key (by_players h.0) h.1) h.2)
   content_is_named p (entry e) h = entry_named sizes.longest h.0 p e (shape_named kind p.key (by_entry h.0) h.1) h.2
   content_is_named p (listed ws) h = All-from_recursion (λ (w : Written). IsName w.text) ws (lists.names_named sizes.modes p ws h.1.listed)
@@ -68,19 +68,19 @@ modes_are_named bundle rows is =
 
 -- ---- by the names of settings
 
-abbrev IsNamedOption : Option Value → Type 0
+abbrev pub IsNamedOption : Option Value → Type 0
 IsNamedOption None = Unit {0}
 IsNamedOption (Some v) = IsNamedValue v
 
-value_at_named : (row : List Value) (i : ℕ) → AllByRecursion IsNamedValue row → IsNamedOption (slice_get row i)
+pub value_at_named : (row : List Value) (i : ℕ) → AllByRecursion IsNamedValue row → IsNamedOption (slice_get row i)
 value_at_named [] i h = tt
 value_at_named (v ∷ vs) zero h = h.0
 value_at_named (v ∷ vs) (suc i) h = value_at_named vs i h.1
 
-abbrev is_name : Written → Type 0
+abbrev pub is_name : Written → Type 0
 is_name w = IsName w.text
 
-names_named : (o : Option Value) → IsNamedOption o → AllNames (listed_names o)
+pub names_named : (o : Option Value) → IsNamedOption o → AllNames (listed_names o)
 names_named None h = All-nil is_name
 names_named (Some (one x)) h = All-nil is_name
 names_named (Some (names xs)) h = All-from_recursion is_name xs h
@@ -90,7 +90,7 @@ names_named (Some (steps xs)) h = All-nil is_name
 names_named (Some (maps xs)) h = All-nil is_name
 names_named (Some (keyed xs)) h = All-nil is_name
 
-posts_named : (o : Option Value) → IsNamedOption o → AllNames (listed_posts o)
+pub posts_named : (o : Option Value) → IsNamedOption o → AllNames (listed_posts o)
 posts_named None h = All-nil is_name
 posts_named (Some (one x)) h = All-nil is_name
 posts_named (Some (names xs)) h = All-nil is_name
@@ -168,7 +168,7 @@ players_in_named (players ps) h = h
 players_in_named (entry e) h = All-nil IsNamedPlayer
 players_in_named (listed ws) h = All-nil IsNamedPlayer
 
-entries_of_named : (section : List ℕ) (s : SectionRows) → IsNamed s → All IsNamedEntry (entries_of section s)
+pub entries_of_named : (section : List ℕ) (s : SectionRows) → IsNamed s → All IsNamedEntry (entries_of section s)
 entries_of_named section s h = all_where IsNamedEntry (bytes_eq s.name section) (entries_in s.content) (entries_in_named s.content h)
 
 players_of_named : (section : List ℕ) (s : SectionRows) → IsNamed s → All IsNamedPlayer (players_of section s)

@@ -34,7 +34,7 @@ none_short = omega arith
 
 content_short : (kind : TextKind) (p : Pair) (content : Content) → IsContent within_limits kind p content → IsShortContent content
 content_short kind p (entries es) h =
-    (entries_short 1024 h.0 p es (shape_short 1024 kind p.key (by_entries h.0) h.1) h.2, All-nil (IsShortPlayer 1024), All-nil (IsShortEntry 1024), none_short)
+    (entries_short 1024 h.0 h.1 p es (shape_short 1024 kind p.key (by_entries h.0 h.1) h.2) h.3, All-nil (IsShortPlayer 1024), All-nil (IsShortEntry 1024), none_short)
 content_short kind p (players ps) h = (All-nil (IsShortEntry 1024), players_short 1024 h.0 p ps h.2, All-nil (IsShortEntry 1024), none_short)
 content_short kind p (entry e) h =
     let short = entry_short 1024 h.0 p e (shape_short 1024 kind p.key (by_entry h.0) h.1) h.2 in
@@ -92,11 +92,11 @@ rows_are_few bundle rows is =
 
 -- ---- by the names of settings
 
-abbrev IsShortOption : Option Value → Type 0
+abbrev pub IsShortOption : Option Value → Type 0
 IsShortOption None = Unit {0}
 IsShortOption (Some v) = IsShortValue 1024 v
 
-value_at_short : (row : List Value) (i : ℕ) → All (IsShortValue 1024) row → IsShortOption (slice_get row i)
+pub value_at_short : (row : List Value) (i : ℕ) → All (IsShortValue 1024) row → IsShortOption (slice_get row i)
 value_at_short [] i h = tt
 value_at_short (v ∷ vs) zero h = All-head (IsShortValue 1024) v vs h
 value_at_short (v ∷ vs) (suc i) h = value_at_short vs i (All-tail (IsShortValue 1024) v vs h)
@@ -111,7 +111,7 @@ names_short (Some (steps xs)) h = none_short
 names_short (Some (maps xs)) h = none_short
 names_short (Some (keyed xs)) h = none_short
 
-posts_short : (o : Option Value) → IsShortOption o → length (listed_posts o) ≤ 1024
+pub posts_short : (o : Option Value) → IsShortOption o → length (listed_posts o) ≤ 1024
 posts_short None h = none_short
 posts_short (Some (one x)) h = none_short
 posts_short (Some (names xs)) h = none_short
@@ -135,7 +135,7 @@ pub event_player_short : (p : Player) → IsShortPlayer 1024 p → IsShortEventP
 unfolding event_player_of
 event_player_short p h = posts_short (Some p.value) h
 
-entries_of_short : (section : List ℕ) (s : SectionRows) → IsShortSection s → All (IsShortEntry 1024) (entries_of section s)
+pub entries_of_short : (section : List ℕ) (s : SectionRows) → IsShortSection s → All (IsShortEntry 1024) (entries_of section s)
 entries_of_short section s h = all_where (IsShortEntry 1024) (bytes_eq s.name section) (entries_in s.content) h.0
 
 players_of_short : (section : List ℕ) (s : SectionRows) → IsShortSection s → All (IsShortPlayer 1024) (players_of section s)

@@ -1,5 +1,5 @@
 -- What contracts of the functions inside this crate see.
-use Rattle.std.specs.Prelude.{ℕ, List, Option, option_map, map}
+use Rattle.std.specs.Prelude.{ℕ, ◌+◌, List, Option, option_map, map, slice_get}
 use Rattle.std.specs.BTreeSet.{BTreeSet}
 use Rattle.std.specs.Borrow.{Bor}
 use Rattle.std.specs.Global.{Vec}
@@ -8,10 +8,11 @@ use Rattle.mpf_config.specs.declared.config.Note as notes
 use Rattle.mpf_config.specs.declared.texts.Text as texts
 use Rattle.mpf_config.specs.declared.bundle.MachineRead as bundles
 use Rattle.mpf_config.specs.declared.modes.ModeRead as modes
-use Rattle.mpf_config.specs.Rows.{SectionRows, Note}
+use Rattle.mpf_config.specs.Rows.{Block, SectionRows, Note}
+use Rattle.mpf_config.specs.Typed.{flag_of, listed_names, listed_posts}
 use Rattle.mpf_config.specs.BundleText.{Text}
 use Rattle.mpf_config.specs.ModeReads.{MachineRead, ModeRead}
-use Rattle.section_tables.specs.Rows.{Written}
+use Rattle.section_tables.specs.Rows.{Written, Value}
 use Rattle.mpf_config.specs.declared.listed_mode.ListedMode.{ListedMode}
 use Rattle.mpf_config.specs.View.{name_view, section_view, mode_view, note_view}
 
@@ -53,3 +54,17 @@ found_modes_view = map (option_map mode_read_view)
 -- the keys of a set
 abbrev pub keys_view : BTreeSet (Bor (List ℕ)) → List (List ℕ)
 keys_view s = map (λ k. k.now) s.keys
+
+-- the settings that all logic blocks have, from this place on in a row
+abbrev pub block_at : ℕ → List Value → Block
+block_at first row = record {
+  reset_on_complete = flag_of (slice_get row first);
+  disable_on_complete = flag_of (slice_get row (first + 1));
+  persist = flag_of (slice_get row (first + 2));
+  enables = listed_names (slice_get row (first + 3));
+  disables = listed_names (slice_get row (first + 4));
+  resets = listed_names (slice_get row (first + 5));
+  restarts = listed_names (slice_get row (first + 6));
+  hit = listed_posts (slice_get row (first + 7));
+  complete = listed_posts (slice_get row (first + 8));
+}

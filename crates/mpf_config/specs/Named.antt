@@ -2,7 +2,7 @@
 use Rattle.std.specs.Prelude.{List}
 use Rattle.std.specs.List.{All}
 pub use Rattle.section_tables.specs.Named.{IsNamedEntry, IsNamedPlayer}
-use Rattle.mpf_config.specs.Rows.{Written, Switch, EventPlayer, ModeSettings, Content, entries, players, entry, listed, SectionRows, ModeRows}
+use Rattle.mpf_config.specs.Rows.{Written, Switch, EventPlayer, Block, Counter, StepBlock, Timer, ModeSettings, Content, entries, players, entry, listed, SectionRows, ModeRows}
 pub use Rattle.mpf_values.specs.Names.{IsName}
 
 -- each name in a list is one
@@ -20,6 +20,32 @@ pub record IsNamedSwitch (s : Switch) : Type 0 where
 pub record IsNamedEventPlayer (p : EventPlayer) : Type 0 where
   pub event : IsName p.event.text
   pub posts : AllNames p.posts
+
+-- the events of a logic block are names
+pub record IsNamedBlock (b : Block) : Type 0 where
+  pub enables : AllNames b.enables
+  pub disables : AllNames b.disables
+  pub resets : AllNames b.resets
+  pub restarts : AllNames b.restarts
+  pub hit : AllNames b.hit
+  pub complete : AllNames b.complete
+
+-- the name of a counter is one, and so are its events
+pub record IsNamedCounter (c : Counter) : Type 0 where
+  pub name : IsName c.name.text
+  pub counts : AllNames c.counts
+  pub block : IsNamedBlock c.block
+
+-- those of an accrual or a sequence, too
+pub record IsNamedStepBlock (b : StepBlock) : Type 0 where
+  pub name : IsName b.name.text
+  pub steps : All AllNames b.steps
+  pub block : IsNamedBlock b.block
+
+-- those of a timer, too
+pub record IsNamedTimer (t : Timer) : Type 0 where
+  pub name : IsName t.name.text
+  pub controls : All (λ c. IsName c.event.text) t.controls
 
 -- the events that start a mode are names, and so are those that stop it
 pub record AreNamedSettings (s : ModeSettings) : Type 0 where

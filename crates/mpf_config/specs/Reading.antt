@@ -41,7 +41,7 @@ modes_at text p = names_at 64 text p >>= λ ws. modes_new_at (key_spot text p) [
 
 -- what stands in a section, by how it is written
 abbrev pub content_at : List ℕ → Pair → Shape → Result Content RowsFault
-content_at text p (by_entries table) = entries_at text table p >>= λ es. Ok (entries es)
+content_at text p (by_entries barred table) = entries_at text barred table p >>= λ es. Ok (entries es)
 content_at text p (by_players kinds) = players_at text kinds p >>= λ ps. Ok (players ps)
 content_at text p (by_entry table) = entry_at text table p >>= λ e. Ok (entry e)
 content_at text p by_names = modes_at text p >>= λ ws. Ok (listed ws)

@@ -98,7 +98,8 @@ pub record AreModesListed (sizes : Sizes) (p : Pair) (ws : List Written) : Type 
 
 -- what stands in a section, by how it is written in a text of this kind
 abbrev pub IsContent : Sizes → TextKind → Pair → Content → Type 0
-IsContent sizes kind p (entries es) = (table : List Setting) × (shape_of kind p.key ≡ Some (by_entries table)) × AreEntries sizes.longest table p es
+IsContent sizes kind p (entries es) =
+    (barred : List (List ℕ)) × (table : List Setting) × (shape_of kind p.key ≡ Some (by_entries barred table)) × AreEntries sizes.longest barred table p es
 IsContent sizes kind p (players ps) = (kinds : PlayerKinds) × (shape_of kind p.key ≡ Some (by_players kinds)) × ArePlayers sizes.longest kinds p ps
 IsContent sizes kind p (entry e) = (table : List Setting) × (shape_of kind p.key ≡ Some (by_entry table)) × IsEntry sizes.longest table p e
 IsContent sizes kind p (listed ws) = (shape_of kind p.key ≡ Some by_names) × AreModesListed sizes p ws

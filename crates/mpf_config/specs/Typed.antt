@@ -1,22 +1,27 @@
 -- The entries of sections, by the names of their settings.
-use Rattle.std.specs.Prelude.{ℕ, pos, ◌^◌, nat_lt, Bool, false, if◌then◌else◌, List, [], ◌∷◌, map, Option, Some, None, slice_get, codes}
+use Rattle.std.specs.Prelude.{ℕ, zero, suc, ℤ, pos, negsuc, ◌^◌, nat_lt, nat_le, Bool, false, if◌then◌else◌, List, [], ◌∷◌, length, map, Option, Some, None, slice_get, codes}
 use Rattle.std.specs.Str.{bytes_eq}
 use Rattle.mpf_config.specs.declared.config.Contact.{Contact}
 use Rattle.mpf_config.specs.declared.config.Contact.TheVariants.{NormallyOpen, NormallyClosed}
 use Rattle.mpf_config.specs.declared.config.Debounce.{Debounce}
 use Rattle.mpf_config.specs.declared.config.Debounce.TheVariants.{Auto, Quick, Normal}
-use Rattle.section_tables.specs.Rows.{Written, Plain, flag, number, word, name, event, Value, one, names, posts, Entry, Player}
+use Rattle.mpf_config.specs.declared.config.Direction.{Direction}
+use Rattle.mpf_config.specs.declared.config.Direction.TheVariants.{Up, Down}
+use Rattle.mpf_config.specs.declared.config.ControlAction.{ControlAction}
+use Rattle.mpf_config.specs.declared.config.ControlAction.TheVariants.{Start, Stop, Pause, Reset, Restart, Add, Subtract, Jump}
+use Rattle.section_tables.specs.Rows.{Written, Plain, flag, number, time, word, name, event, Fields, Value, one, names, posts, steps, maps, Entry, Player}
 use Rattle.section_tables.specs.Kinds.{Setting}
-use Rattle.section_tables.specs.Tables.{found_in, setting_key, setting_default}
+use Rattle.section_tables.specs.Tables.{found_in, field_key, setting_key, setting_default}
 use Rattle.section_tables.specs.SectionTables as tables
-pub use Rattle.section_tables.specs.SectionTables.{switches_name, event_player_name, modes_name, mode_name}
+pub use Rattle.section_tables.specs.SectionTables.{switches_name, event_player_name, counters_name, accruals_name, sequences_name, timers_name, modes_name, mode_name}
 use Rattle.section_tables.specs.Entries.{written_at}
-use Rattle.mpf_config.specs.Rows.{Switch, EventPlayer, ModeSettings, Content, entries, players, entry, listed, SectionRows}
+use Rattle.section_tables.specs.EntryOf.{within}
+use Rattle.mpf_config.specs.Rows.{Switch, EventPlayer, Block, Counter, StepBlock, Control, Timer, ModeSettings, Content, entries, players, entry, listed, SectionRows}
 
 -- ---- values
 
 -- the value of a setting, by its key, in a row of this table
-abbrev pub value_in : Option (ℕ × Setting) → List Value → Option Value
+abbrev pub value_in : {T V : Type 0} → Option (ℕ × T) → List V → Option V
 value_in None row = None
 value_in (Some found) row = slice_get row found.0
 
@@ -46,6 +51,30 @@ abbrev pub natural_of : Option Value → ℕ
 natural_of (Some (one (number (pos n)))) = if nat_lt n (2 ^ 32) then n else 0
 natural_of _ = 0
 
+-- a number
+abbrev pub number_of : Option Value → ℤ
+number_of (Some (one (number n))) = n
+number_of _ = pos 0
+
+-- a number that may be left out: from -1,000,000,000 to 1,000,000,000
+abbrev pub limit_of : Option Value → Option ℤ
+limit_of (Some (one (number n))) = if within (negsuc 999999999) (pos 1000000000) n then Some n else None
+limit_of _ = None
+
+-- a time in milliseconds
+abbrev pub time_of : Option Value → ℕ
+time_of (Some (one (time ms))) = ms
+time_of _ = 0
+
+-- steps, 16 at most
+abbrev pub listed_steps : Option Value → List (List Written)
+listed_steps (Some (steps ss)) = if nat_le (length ss) 16 then ss else []
+listed_steps _ = []
+
+abbrev pub listed_maps : Option Value → List Fields
+listed_maps (Some (maps ms)) = ms
+listed_maps _ = []
+
 -- the name of an event, with the line where it is written
 abbrev pub event_name : Plain → Written
 event_name (name w) = w
@@ -71,6 +100,117 @@ switch_of e = record {
   activated = listed_posts (setting_of tables.switches (codes "events_when_activated") e.values);
   deactivated = listed_posts (setting_of tables.switches (codes "events_when_deactivated") e.values);
 }
+
+-- ---- `counters`, `accruals` and `sequences`
+
+-- the settings that all of them have
+abbrev pub block_of : List Setting → List Value → Block
+block_of table row = record {
+  reset_on_complete = flag_of (setting_of table (codes "reset_on_complete") row);
+  disable_on_complete = flag_of (setting_of table (codes "disable_on_complete") row);
+  persist = flag_of (setting_of table (codes "persist_state") row);
+  enables = listed_names (setting_of table (codes "enable_events") row);
+  disables = listed_names (setting_of table (codes "disable_events") row);
+  resets = listed_names (setting_of table (codes "reset_events") row);
+  restarts = listed_names (setting_of table (codes "restart_events") row);
+  hit = listed_posts (setting_of table (codes "events_when_hit") row);
+  complete = listed_posts (setting_of table (codes "events_when_complete") row);
+}
+
+-- the direction of a word: up or down
+abbrev pub direction_of : List ℕ → Direction
+direction_of w = if bytes_eq w (codes "down") then Down else Up
+
+unfoldable pub counter_of : Entry → Counter
+counter_of e = record {
+  name = e.name;
+  counts = listed_names (setting_of tables.counters (codes "count_events") e.values);
+  start = number_of (setting_of tables.counters (codes "starting_count") e.values);
+  interval = number_of (setting_of tables.counters (codes "count_interval") e.values);
+  end = limit_of (setting_of tables.counters (codes "count_complete_value") e.values);
+  direction = direction_of (word_of (setting_of tables.counters (codes "direction") e.values));
+  window = time_of (setting_of tables.counters (codes "multiple_hit_window") e.values);
+  block = block_of tables.counters e.values;
+}
+
+-- `accruals` and `sequences` have the same settings
+unfoldable pub step_block_of : Entry → StepBlock
+step_block_of e = record {
+  name = e.name;
+  steps = listed_steps (setting_of tables.step_blocks (codes "events") e.values);
+  block = block_of tables.step_blocks e.values;
+}
+
+-- ---- `timers`
+
+-- the value of a field, by its key, in a map of `control_events`
+abbrev pub field_of : List ℕ → Fields → Option Plain
+field_of key m = value_in (found_in field_key key tables.control_events) m.values
+
+-- the name of an event, the word and the number of a field
+abbrev pub event_in : Option Plain → Option Written
+event_in (Some (name w)) = Some w
+event_in _ = None
+
+abbrev pub word_in : Option Plain → List ℕ
+word_in (Some (word w)) = w
+word_in _ = []
+
+abbrev pub number_in : Option Plain → ℤ
+number_in (Some (number n)) = n
+number_in _ = pos 0
+
+-- what a word does with a timer
+abbrev pub action_of : List ℕ → ControlAction
+action_of w =
+    if bytes_eq w (codes "stop") then Stop
+    else (if bytes_eq w (codes "pause") then Pause
+    else (if bytes_eq w (codes "reset") then Reset
+    else (if bytes_eq w (codes "restart") then Restart
+    else (if bytes_eq w (codes "add") then Add
+    else (if bytes_eq w (codes "subtract") then Subtract
+    else (if bytes_eq w (codes "jump") then Jump else Start))))))
+
+abbrev pub control_from : Fields → Option Written → Option Control
+control_from m None = None
+control_from m (Some w) = Some (record { event = w; action = action_of (word_in (field_of (codes "action") m)); value = number_in (field_of (codes "value") m) })
+
+-- a control, or none if the map has no event
+unfoldable pub control_of : Fields → Option Control
+control_of m = control_from m (event_in (field_of (codes "event") m))
+
+abbrev pub with_control : Option Control → List Control → List Control
+with_control None cs = cs
+with_control (Some c) cs = c ∷ cs
+
+abbrev pub controls_of : List Fields → List Control
+controls_of [] = []
+controls_of (m ∷ ms) = with_control (control_of m) (controls_of ms)
+
+-- where no end is written, a timer that goes down ends at 0, and one that goes up nowhere
+abbrev pub end_from : Direction → Option ℤ → Option ℤ
+end_from direction (Some n) = Some n
+end_from Up None = None
+end_from Down None = Some (pos 0)
+
+-- at least a millisecond
+abbrev pub interval_from : ℕ → ℕ
+interval_from zero = 1
+interval_from (suc ms) = suc ms
+
+unfoldable pub timer_of : Entry → Timer
+timer_of e =
+    let direction = direction_of (word_of (setting_of tables.timers (codes "direction") e.values)) in
+    record {
+      name = e.name;
+      start = number_of (setting_of tables.timers (codes "start_value") e.values);
+      end = end_from direction (limit_of (setting_of tables.timers (codes "end_value") e.values));
+      direction = direction;
+      interval = interval_from (time_of (setting_of tables.timers (codes "tick_interval") e.values));
+      start_running = flag_of (setting_of tables.timers (codes "start_running") e.values);
+      restart = flag_of (setting_of tables.timers (codes "restart_on_complete") e.values);
+      controls = controls_of (listed_maps (setting_of tables.timers (codes "control_events") e.values));
+    }
 
 -- ---- `event_player`
 
@@ -122,6 +262,19 @@ switches_in s = map switch_of (entries_of switches_name s)
 -- the same for `event_player`
 unfoldable pub event_players_in : SectionRows → List EventPlayer
 event_players_in s = map event_player_of (players_of event_player_name s)
+
+-- the same for `counters`, `accruals`, `sequences` and `timers`
+unfoldable pub counters_in : SectionRows → List Counter
+counters_in s = map counter_of (entries_of counters_name s)
+
+unfoldable pub accruals_in : SectionRows → List StepBlock
+accruals_in s = map step_block_of (entries_of accruals_name s)
+
+unfoldable pub sequences_in : SectionRows → List StepBlock
+sequences_in s = map step_block_of (entries_of sequences_name s)
+
+unfoldable pub timers_in : SectionRows → List Timer
+timers_in s = map timer_of (entries_of timers_name s)
 
 -- the content of the section of this name, if there is one
 abbrev pub content_named : List ℕ → List SectionRows → Option Content

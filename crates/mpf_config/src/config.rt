@@ -28,6 +28,34 @@ pub enum Debounce {
     Normal,
 }
 
+/// Which way a value goes.
+#[derive(Clone, Copy, Debug)]
+pub enum Direction {
+    Up,
+    Down,
+}
+
+/// What an event that controls a timer does with it.
+#[derive(Clone, Copy, Debug)]
+pub enum ControlAction {
+    /// The timer runs.
+    Start,
+    /// It does not run any more.
+    Stop,
+    /// It does not run any more, until it is started again.
+    Pause,
+    /// Its value becomes the first one.
+    Reset,
+    /// Its value becomes the first one, and it runs.
+    Restart,
+    /// Its value rises.
+    Add,
+    /// Its value falls.
+    Subtract,
+    /// Its value becomes the one of the control.
+    Jump,
+}
+
 /// The content of a section, as written.
 #[derive(Drop)]
 pub enum Content {

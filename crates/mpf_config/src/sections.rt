@@ -73,8 +73,8 @@ fn content(
     ensures { GivesRows content_view result (content_at text.now (pair_view entry.now) (shape_view shape)) }
 {
     match shape {
-        Shape::Entries(table) => {
-            let rows = entries(alloc, table, text, entry)?;
+        Shape::Entries(barred, table) => {
+            let rows = entries(alloc, barred, table, text, entry)?;
             Ok(Content::Entries(rows))
         }
         Shape::Players(kinds) => {

@@ -1,12 +1,13 @@
 //! The entries of sections, by the names of their settings.
 
-ghost use Rattle.std.specs.Prelude.{◌≡◌, None, map, option_map, slice_get};
-ghost use Rattle.section_tables.specs.View.{name_view, plain_view, value_view, values_view, entry_view, entries_view, player_view, players_view};
-ghost use Rattle.mpf_config.specs.Typed.{listed_names, listed_posts, word_of, flag_of, natural_of, mode_settings_of, mode_row, mode_settings, listed_modes, content_named, event_name, contact_of, debounce_of, switch_of, event_player_of, entries_in, players_in, entries_of, players_of, switches_in, event_players_in};
-ghost use Rattle.mpf_config.specs.View.{content_view, section_view, name_at_view, switch_view, event_player_view, mode_settings_view};
+ghost use Rattle.std.specs.Prelude.{◌≡◌, None, map, option_map};
+ghost use Rattle.section_tables.specs.View.{name_view, values_view, entry_view, entries_view, player_view, players_view};
+ghost use Rattle.mpf_config.specs.Typed.{mode_settings_of, mode_row, mode_settings, listed_modes, content_named, contact_of, debounce_of, switch_of, event_player_of, entries_in, players_in, entries_of, players_of, switches_in, event_players_in};
+ghost use Rattle.mpf_config.specs.View.{content_view, section_view, switch_view, event_player_view, mode_settings_view};
 
 use crate::config::{Contact, Content, Debounce, Section};
-use section_tables::rows::{Entry, Name, Plain, Player, Value};
+use crate::values::{event_name, flag, names, natural, posts, posts_at, word};
+use section_tables::rows::{Entry, Name, Player, Value};
 use section_tables::tables::{EVENT_PLAYER_NAME, MODE_NAME, MODES_NAME, SWITCHES_NAME};
 
 /// A name where it is written.
@@ -52,86 +53,6 @@ pub struct ModeSettings<'a> {
     pub game: bool,
     /// Whether it stops with the ball: by default it does.
     pub stops_with_ball: bool,
-}
-
-// ---- values
-
-// The names at a place of a row; none where there is no list of names.
-fn names(row: &[Value], at: usize) -> &[Name]
-    ensures { map name_view result.now ≡ listed_names (slice_get (values_view row.now) at) }
-{
-    match row.get(at) {
-        Some(Value::Names(names)) => names,
-        _ => &[],
-    }
-}
-
-// The posted events that a value is; none where it is no list of them.
-fn posts(value: &Value) -> &[Name]
-    ensures { map name_view result.now ≡ listed_posts (Some (value_view value.now)) }
-{
-    match value {
-        Value::Posts(posts) => posts,
-        _ => &[],
-    }
-}
-
-// The posted events at a place of a row.
-fn posts_at(row: &[Value], at: usize) -> &[Name]
-    ensures { map name_view result.now ≡ listed_posts (slice_get (values_view row.now) at) }
-{
-    match row.get(at) {
-        Some(value) => posts(value),
-        None => &[],
-    }
-}
-
-// The word at a place of a row; the empty one where there is none.
-fn word(row: &[Value], at: usize) -> &'static [u8]
-    ensures { result.now ≡ word_of (slice_get (values_view row.now) at) }
-{
-    match row.get(at) {
-        Some(Value::One(Plain::Word(word))) => word,
-        _ => b"",
-    }
-}
-
-// The flag at a place of a row; false where there is none.
-fn flag(row: &[Value], at: usize) -> bool
-    ensures { result ≡ flag_of (slice_get (values_view row.now) at) }
-{
-    match row.get(at) {
-        Some(Value::One(Plain::Flag(flag))) => *flag,
-        _ => false,
-    }
-}
-
-// The number at a place of a row; 0 where there is none, or it is not of 32 bits.
-fn natural(row: &[Value], at: usize) -> u32
-    ensures { result ≡ natural_of (slice_get (values_view row.now) at) }
-{
-    match row.get(at) {
-        Some(Value::One(Plain::Number(number))) => u32::try_from(*number).unwrap_or(0),
-        _ => 0,
-    }
-}
-
-// The name of an event, where it is written.
-fn event_name(event: &Plain) -> NameAt<'_>
-    ensures { name_at_view result ≡ event_name (plain_view event.now) }
-{
-    match event {
-        Plain::Name(name) => NameAt {
-            line: name.line,
-            text: &name.text,
-        },
-        Plain::DefaultName(text) => NameAt { line: 0, text },
-        Plain::Event(handler) => NameAt {
-            line: handler.line,
-            text: &handler.name,
-        },
-        _ => NameAt { line: 0, text: b"" },
-    }
 }
 
 // ---- `switches`

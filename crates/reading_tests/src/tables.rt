@@ -405,7 +405,9 @@ fn show_shape(
     pair: &(Key, Tree),
 ) -> Result<(), ConfigFault> {
     match shape {
-        Shape::Entries(table) => show_entries(out, &entries(alloc, table, b"t", pair)?)?,
+        Shape::Entries(barred, table) => {
+            show_entries(out, &entries(alloc, barred, table, b"t", pair)?)?;
+        }
         Shape::Players(kinds) => show_players(out, &players(alloc, kinds, b"t", pair)?)?,
         Shape::Entry(table) => show_entry(out, &entry(alloc, table, b"t", pair)?)?,
         Shape::Names => show_names(out, &name_list(alloc, 1024, b"t", pair)?)?,

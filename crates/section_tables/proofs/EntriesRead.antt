@@ -1,5 +1,5 @@
 -- The entries of a section are those that are read, and no others.
-use Rattle.std.proofs.Common.{◌≡◌, ◌<◌, ℕ, List, Ok, refl, sym, subst, inl}
+use Rattle.std.proofs.Common.{◌≡◌, ◌<◌, ℕ, Bool, true, false, List, Ok, refl, sym, subst, ◌∙◌, inl, true≢false}
 use Rattle.yaml_subset.specs.Node.{Node, Pair}
 use Rattle.mpf_values.specs.Reading.{is_name}
 use Rattle.mpf_values.proofs.NameTexts.{IsName-from_is_name, is_name-from_IsName}
@@ -8,11 +8,11 @@ use Rattle.section_tables.specs.Rows.{Written, Plain, Value, Entry, Player}
 use Rattle.section_tables.specs.Kinds.{at_least, Setting, PlayerKinds}
 use Rattle.section_tables.specs.Entries.{pairs_below, is_ignored, written_at}
 use Rattle.section_tables.specs.Tables.{setting_key, setting_default, setting_lacks}
-use Rattle.section_tables.specs.EntryOf.{IsWritten, IsSetting, IsEntry, AreEntries, IsPlayer, ArePlayers, AreNamesListed}
-use Rattle.section_tables.specs.Reading.{most_items, IsReadOr, IsReadOrLong, ◌>>=◌, Spot, rows_fault_at, key_spot, expect, each_read, scalar_of, value_at, setting_at, values_at, entry_at, entries_at, player_at, players_at, written_in, names_at}
-use Rattle.section_tables.proofs.Steps.{bind_ok, guard_true, ok_is, expected}
+use Rattle.section_tables.specs.EntryOf.{IsWritten, IsSetting, IsOneOf, IsEntry, IsOtherEntry, AreEntries, IsPlayer, ArePlayers, AreNamesListed}
+use Rattle.section_tables.specs.Reading.{most_items, IsReadOr, IsReadOrLong, ◌>>=◌, Spot, rows_fault_at, key_spot, expect, each_read, scalar_of, value_at, setting_at, values_at, is_one_of, entry_at, other_entry_at, entries_at, player_at, players_at, written_in, names_at}
+use Rattle.section_tables.proofs.Steps.{bind_ok, guard_true, guard_false, ok_is, expected}
 use Rattle.section_tables.proofs.Outcomes.{then_or, each_sound, each_or}
-use Rattle.section_tables.proofs.ScalarTexts.{scalar_sound, scalar_complete}
+use Rattle.section_tables.proofs.ScalarTexts.{among_sound, among_complete, scalar_sound, scalar_complete}
 use Rattle.section_tables.proofs.RowsRead.{row_sound, row_complete}
 use Rattle.section_tables.proofs.ListValues.{name_sound, name_complete, listed_sound, listed_complete}
 use Rattle.section_tables.proofs.ValuesRead.{value_sound, value_complete}
@@ -49,16 +49,30 @@ entry_complete text table p longest e h =
     rw (is_name-from_IsName p.key h.is_name, h.row.has)
     (then_or (most_items < longest) (values_at spot table h.row.pairs) (λ r. Ok (entry_made p r)) e.values e row (inl (λ i. Ok (record { name = sym h.name i; values = e.values }))))
 
-pub entries_sound : (text : List ℕ) (table : List Setting) (p : Pair) (es : List Entry) → entries_at text table p ≡ Ok es → AreEntries 1024 table p es
-unfolding entries_at
-entries_sound text table p es e =
-    let a = bind_ok (expect (key_spot text p) (pairs_below p.value)) (λ pairs. each_read (entry_at text table) pairs) es e in
-    (a.0, expected (key_spot text p) (pairs_below p.value) a.0 a.1, each_sound (entry_at text table) (IsEntry 1024 table) (entry_sound text table) a.0 es a.2)
+other_sound : (text : List ℕ) (barred : List (List ℕ)) (table : List Setting) (p : Pair) (e : Entry) → other_entry_at text barred table p ≡ Ok e → IsOtherEntry 1024 barred table p e
+unfolding other_entry_at
+other_sound text barred table p e is =
+    let a = guard_false (is_one_of barred p.key) (entry_at text table p) (rows_fault_at BadValue (key_spot text p)) e is in
+    record { other = λ one. true≢false (sym (among_complete barred p.key one) ∙ a.0); entry = entry_sound text table p e a.1 }
 
-pub entries_complete : (text : List ℕ) (table : List Setting) (p : Pair) (longest : ℕ) (es : List Entry) → AreEntries longest table p es → IsReadOrLong longest (entries_at text table p) es
+none_among : (barred : List (List ℕ)) (key : List ℕ) (b : Bool) → is_one_of barred key ≡ b → (IsOneOf barred key → ⊥) → is_one_of barred key ≡ false
+none_among barred key true is none = absurd (none (among_sound barred key is))
+none_among barred key false is none = is
+
+other_complete : (text : List ℕ) (barred : List (List ℕ)) (table : List Setting) (p : Pair) (longest : ℕ) (e : Entry) → IsOtherEntry longest barred table p e → IsReadOrLong longest (other_entry_at text barred table p) e
+unfolding other_entry_at
+other_complete text barred table p longest e h = rw (none_among barred p.key (is_one_of barred p.key) refl h.other) (entry_complete text table p longest e h.entry)
+
+pub entries_sound : (text : List ℕ) (barred : List (List ℕ)) (table : List Setting) (p : Pair) (es : List Entry) → entries_at text barred table p ≡ Ok es → AreEntries 1024 barred table p es
 unfolding entries_at
-entries_complete text table p longest es h =
-    rw h.1 (each_or (entry_at text table) (IsEntry longest table) (most_items < longest) (λ x e k. entry_complete text table x longest e k) h.0 es h.2)
+entries_sound text barred table p es e =
+    let a = bind_ok (expect (key_spot text p) (pairs_below p.value)) (λ pairs. each_read (other_entry_at text barred table) pairs) es e in
+    (a.0, expected (key_spot text p) (pairs_below p.value) a.0 a.1, each_sound (other_entry_at text barred table) (IsOtherEntry 1024 barred table) (other_sound text barred table) a.0 es a.2)
+
+pub entries_complete : (text : List ℕ) (barred : List (List ℕ)) (table : List Setting) (p : Pair) (longest : ℕ) (es : List Entry) → AreEntries longest barred table p es → IsReadOrLong longest (entries_at text barred table p) es
+unfolding entries_at
+entries_complete text barred table p longest es h =
+    rw h.1 (each_or (other_entry_at text barred table) (IsOtherEntry longest barred table) (most_items < longest) (λ x e k. other_complete text barred table x longest e k) h.0 es h.2)
 
 -- ---- players
 

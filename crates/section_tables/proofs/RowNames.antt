@@ -11,7 +11,7 @@ use Rattle.section_tables.specs.Rows.{Written, Handled, Plain, Keyed, Value, Ent
 use Rattle.section_tables.specs.Kinds.{Scalar, a_flag, number_within, time_within, a_power, one_of, a_name, an_event, Bounds, at_least, Field, Kind, single, name_list, post_list, event_list, step_list, map_list, keyed_maps, Setting, PlayerKinds}
 use Rattle.section_tables.specs.Entries.{is_ignored}
 use Rattle.section_tables.specs.Tables.{behind_one, found_in, field_key, field_default, setting_key, setting_default}
-use Rattle.section_tables.specs.EntryOf.{IsScalar, IsPlain, AreListed, AreNodes, AreNamesListed, IsWritten, IsHandled, OverwritesAt, IsOverwritten, IsField, pass, AreFields, IsKeyedRow, IsKeyed, IsStep, IsValue, IsSetting, IsEntry, AreEntries, IsPlayer, ArePlayers}
+use Rattle.section_tables.specs.EntryOf.{IsScalar, IsPlain, AreListed, AreNodes, AreNamesListed, IsWritten, IsHandled, OverwritesAt, IsOverwritten, IsField, pass, AreFields, IsKeyedRow, IsKeyed, IsStep, IsValue, IsSetting, IsEntry, IsOtherEntry, AreEntries, IsPlayer, ArePlayers}
 use Rattle.section_tables.specs.Named.{IsNamedPlain, IsNamedEvent, AreNames, AreNamedEvents, AreNamedPlains, IsNamedKeyed, IsNamedValue, IsNamedEntry, IsNamedPlayer, AreNamedFields, IsNamedKind, IsNamedTable, IsEventKind, IsNamedKinds, IsShortValue, IsShortEntry, IsShortPlayer, IsShortTable}
 
 -- ---- lists
@@ -110,7 +110,7 @@ value_named longest (name_list bounds) node v q h = subst IsNamedValue (sym h.2)
 value_named longest (post_list bounds) node v q h = subst IsNamedValue (sym h.2) (written_named bounds longest node h.0 h.1)
 value_named longest (event_list bounds) node v q h = subst IsNamedValue (sym h.2) (handled_named bounds longest node h.0 h.1)
 value_named longest (step_list bounds) node v q h =
-    subst IsNamedValue (sym h.2) (all_zip (IsStep longest) AreNamedEvents (handled_named _ longest) h.1.nodes h.0 h.1.each)
+    subst IsNamedValue (sym h.2) (all_zip (IsStep longest) AreNames (written_named _ longest) h.1.nodes h.0 h.1.each)
 value_named longest (map_list table others bounds) node v q h =
     subst IsNamedValue (sym h.2) (all_zip (AreFields table others) (λ m. AreNamedPlains m.values) (λ n m k. row_named table others k.row.pairs m.values q k.row.overwritten) h.1.nodes h.0 h.1.each)
 value_named longest (keyed_maps table place short) node v q h =
@@ -126,10 +126,10 @@ nodes_short IsOne bounds longest node xs h = rw (sym (same_length IsOne h.nodes 
 
 -- a list that has no lists in it
 abbrev Few : ℕ → ℕ → Type 0
-Few longest n = (n ≤ longest) × All (λ (hs : List Handled). length hs ≤ longest) []
+Few longest n = (n ≤ longest) × All (λ (ws : List Written). length ws ≤ longest) []
 
 pub few_items : (longest : ℕ) {n : ℕ} → n ≤ longest → Few longest n
-few_items longest few = (few, All-nil (λ (hs : List Handled). length hs ≤ longest))
+few_items longest few = (few, All-nil (λ (ws : List Written). length ws ≤ longest))
 
 pub no_items : (longest : ℕ) → Few longest 0
 no_items longest = let none : 0 ≤ longest = omega arith in few_items longest none
@@ -140,8 +140,8 @@ value_short longest (name_list bounds) node v h = subst (IsShortValue longest) (
 value_short longest (post_list bounds) node v h = subst (IsShortValue longest) (sym h.2) (few_items longest (listed_short IsWritten bounds longest node h.0 h.1))
 value_short longest (event_list bounds) node v h = subst (IsShortValue longest) (sym h.2) (few_items longest (listed_short IsHandled bounds longest node h.0 h.1))
 value_short longest (step_list bounds) node v h =
-    let few : (hs : List Handled) → Type 0 = λ hs. length hs ≤ longest in
-    let each = all_zip (IsStep longest) few (listed_short IsHandled _ longest) h.1.nodes h.0 h.1.each in
+    let few : (ws : List Written) → Type 0 = λ ws. length ws ≤ longest in
+    let each = all_zip (IsStep longest) few (listed_short IsWritten _ longest) h.1.nodes h.0 h.1.each in
     subst (IsShortValue longest) (sym h.2) (nodes_short (IsStep longest) bounds longest node h.0 h.1, All-from_recursion few h.0 each)
 value_short longest (map_list table others bounds) node v h = subst (IsShortValue longest) (sym h.2) (few_items longest (nodes_short (AreFields table others) bounds longest node h.0 h.1))
 value_short longest (keyed_maps table place short) node v h = subst (IsShortValue longest) (sym h.2) (no_items longest)
@@ -161,8 +161,8 @@ entry_named longest table p e q h = record {
       (map setting_default table) e.values q h.row.overwritten (default_named table q);
 }
 
-pub entries_named : (longest : ℕ) (table : List Setting) (p : Pair) (es : List Entry) → IsNamedTable table → AreEntries longest table p es → AllByRecursion IsNamedEntry es
-entries_named longest table p es q h = all_zip (IsEntry longest table) IsNamedEntry (λ x e k. entry_named longest table x e q k) h.0 es h.2
+pub entries_named : (longest : ℕ) (barred : List (List ℕ)) (table : List Setting) (p : Pair) (es : List Entry) → IsNamedTable table → AreEntries longest barred table p es → AllByRecursion IsNamedEntry es
+entries_named longest barred table p es q h = all_zip (IsOtherEntry longest barred table) IsNamedEntry (λ x e k. entry_named longest table x e q k.entry) h.0 es h.2
 
 -- No list in an entry has more items than the limit, where those have not that hold by default.
 pub entry_short : (longest : ℕ) (table : List Setting) (p : Pair) (e : Entry) → IsShortTable longest table → IsEntry longest table p e → IsShortEntry longest e
@@ -171,10 +171,10 @@ entry_short longest table p e q h =
     (overwritten_all setting_key (IsSetting longest) is_ignored (λ s. IsShortValue longest (setting_default s)) (IsShortValue longest) (λ s node v _ i. value_short longest s.kind node v i) table h.row.pairs
     (map setting_default table) e.values q h.row.overwritten (all_map (IsShortValue longest) setting_default table q))
 
-pub entries_short : (longest : ℕ) (table : List Setting) (p : Pair) (es : List Entry) → IsShortTable longest table → AreEntries longest table p es → All (IsShortEntry longest) es
-entries_short longest table p es q h =
+pub entries_short : (longest : ℕ) (barred : List (List ℕ)) (table : List Setting) (p : Pair) (es : List Entry) → IsShortTable longest table → AreEntries longest barred table p es → All (IsShortEntry longest) es
+entries_short longest barred table p es q h =
     All-from_recursion (IsShortEntry longest) es
-    (all_zip (IsEntry longest table) (IsShortEntry longest) (λ x e k. entry_short longest table x e q k) h.0 es h.2)
+    (all_zip (IsOtherEntry longest barred table) (IsShortEntry longest) (λ x e k. entry_short longest table x e q k.entry) h.0 es h.2)
 
 -- ---- players
 

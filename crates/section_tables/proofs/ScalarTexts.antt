@@ -22,7 +22,7 @@ unfolding is_one_of
 among_by xs w x true e h rest = inl (sym (word_is x w e))
 among_by xs w x false e h rest = inr (rest (rw e at h))
 
-among_sound : (words : List (List ℕ)) (w : List ℕ) → is_one_of words w ≡ true → IsOneOf words w
+pub among_sound : (words : List (List ℕ)) (w : List ℕ) → is_one_of words w ≡ true → IsOneOf words w
 unfolding is_one_of
 among_sound [] w h = absurd cc
 among_sound (x ∷ xs) w h = among_by xs w x (bytes_eq x w) refl h (among_sound xs w)
@@ -32,7 +32,7 @@ unfolding is_one_of
 among_again xs w x true e h = rw e refl
 among_again xs w x false e h = rw e h
 
-among_complete : (words : List (List ℕ)) (w : List ℕ) → IsOneOf words w → is_one_of words w ≡ true
+pub among_complete : (words : List (List ℕ)) (w : List ℕ) → IsOneOf words w → is_one_of words w ≡ true
 unfolding is_one_of
 among_complete [] w h = absurd h
 among_complete (x ∷ xs) w (inl e) = rw (is_word x w (sym e)) refl

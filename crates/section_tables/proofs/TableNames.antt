@@ -7,7 +7,7 @@ use Rattle.section_tables.specs.declared.tables.TextKind.{TextKind}
 use Rattle.section_tables.specs.declared.tables.TextKind.TheVariants.{Machine, Mode}
 use Rattle.section_tables.specs.Kinds.{Shape}
 use Rattle.section_tables.specs.Named.{IsNamedKinds, IsNamedTable, IsNamedShape, IsShortTable, IsShortShape}
-use Rattle.section_tables.specs.SectionTables.{switches, mode, event_player, machine_shapes, mode_shapes, named_in, shape_of}
+use Rattle.section_tables.specs.SectionTables.{switches, block, counters, step_blocks, timers, mode, event_player, machine_shapes, mode_shapes, named_in, shape_of}
 use Rattle.section_tables.specs.TableRules.{IsRight}
 use Rattle.section_tables.proofs.RowNames.{no_items}
 use Rattle.section_tables.proofs.Steps.{word_is}
@@ -31,6 +31,34 @@ switches_named = ((tt, tt), ((tt, tt), ((tt, tt), ((tt, tt), ((tt, tt), tt)))))
 switches_short : (longest : ℕ) → IsShortTable longest switches
 switches_short longest = let none = no_items longest in (none, (none, (none, (none, (none, tt)))))
 
+-- ---- `counters`, `accruals` and `sequences`
+
+block_named : IsNamedTable block
+block_named = ((tt, tt), ((tt, tt), ((tt, tt), ((tt, tt), ((tt, tt), ((tt, tt), ((tt, tt), ((tt, tt), ((tt, tt), tt)))))))))
+
+block_short : (longest : ℕ) → IsShortTable longest block
+block_short longest = let none = no_items longest in (none, (none, (none, (none, (none, (none, (none, (none, (none, tt)))))))))
+
+counters_named : IsNamedTable counters
+counters_named = ((tt, tt), ((tt, tt), ((tt, tt), ((tt, tt), ((tt, tt), ((tt, tt), block_named))))))
+
+counters_short : (longest : ℕ) → IsShortTable longest counters
+counters_short longest = let none = no_items longest in (none, (none, (none, (none, (none, (none, block_short longest))))))
+
+step_blocks_named : IsNamedTable step_blocks
+step_blocks_named = ((tt, tt), block_named)
+
+step_blocks_short : (longest : ℕ) → IsShortTable longest step_blocks
+step_blocks_short longest = (no_items longest, block_short longest)
+
+-- ---- `timers`
+
+timers_named : IsNamedTable timers
+timers_named = ((tt, tt), ((tt, tt), ((tt, tt), ((tt, tt), ((tt, tt), ((tt, tt), ((tt, (tt, (tt, (tt, tt)))), tt)))))))
+
+timers_short : (longest : ℕ) → IsShortTable longest timers
+timers_short longest = let none = no_items longest in (none, (none, (none, (none, (none, (none, (none, tt)))))))
+
 -- ---- `mode`
 
 mode_named : IsNamedTable mode
@@ -47,13 +75,17 @@ player_named = record { key = tt; value = tt }
 -- ---- the shapes of sections
 
 pub shape_named : (text : TextKind) (section : List ℕ) (shape : Shape) → shape_of text section ≡ Some shape → IsNamedShape shape
-shape_named Machine section shape is = holds_at (λ name s. IsNamedShape s) section shape machine_shapes is (tt, (switches_named, (player_named, tt)))
-shape_named Mode section shape is = holds_at (λ name s. IsNamedShape s) section shape mode_shapes is (mode_named, (player_named, tt))
+shape_named Machine section shape is = holds_at (λ name s. IsNamedShape s) section shape machine_shapes is
+    (tt, (switches_named, (player_named, (counters_named, (step_blocks_named, (step_blocks_named, tt))))))
+shape_named Mode section shape is = holds_at (λ name s. IsNamedShape s) section shape mode_shapes is
+    (mode_named, (player_named, (timers_named, (counters_named, (step_blocks_named, (step_blocks_named, tt))))))
 
 pub shape_short : (longest : ℕ) (text : TextKind) (section : List ℕ) (shape : Shape) → shape_of text section ≡ Some shape → IsShortShape longest shape
-shape_short longest Machine section shape is = holds_at (λ name s. IsShortShape longest s) section shape machine_shapes is (tt, (switches_short longest, (tt, tt)))
-shape_short longest Mode section shape is = holds_at (λ name s. IsShortShape longest s) section shape mode_shapes is (mode_short longest, (tt, tt))
+shape_short longest Machine section shape is = holds_at (λ name s. IsShortShape longest s) section shape machine_shapes is
+    (tt, (switches_short longest, (tt, (counters_short longest, (step_blocks_short longest, (step_blocks_short longest, tt))))))
+shape_short longest Mode section shape is = holds_at (λ name s. IsShortShape longest s) section shape mode_shapes is
+    (mode_short longest, (tt, (timers_short longest, (counters_short longest, (step_blocks_short longest, (step_blocks_short longest, tt))))))
 
 pub shape_right : (text : TextKind) (section : List ℕ) (shape : Shape) → shape_of text section ≡ Some shape → IsRight shape
-shape_right Machine section shape is = holds_at (λ name s. IsRight s) section shape machine_shapes is (tt, (refl, (refl, tt)))
-shape_right Mode section shape is = holds_at (λ name s. IsRight s) section shape mode_shapes is (refl, (refl, tt))
+shape_right Machine section shape is = holds_at (λ name s. IsRight s) section shape machine_shapes is (tt, (refl, (refl, (refl, (refl, (refl, tt))))))
+shape_right Mode section shape is = holds_at (λ name s. IsRight s) section shape mode_shapes is (refl, (refl, (refl, (refl, (refl, (refl, tt))))))

@@ -122,9 +122,9 @@ AreKeyed table place short node ks = (pairs : List Pair) × (pairs_below node �
 
 -- ---- settings
 
--- a step: a list of handled events that is not empty
-abbrev pub IsStep : ℕ → Node → List Handled → Type 0
-IsStep longest = AreListed IsHandled (at_least 1) longest
+-- a step: a list of names that is not empty
+abbrev pub IsStep : ℕ → Node → List Written → Type 0
+IsStep longest = AreListed IsWritten (at_least 1) longest
 
 -- what a node says as the value of a setting of a kind, with at most so many items in a list
 abbrev pub IsValue : ℕ → Kind → Node → Value → Type 0
@@ -132,7 +132,7 @@ IsValue longest (single kind) node v = (x : Plain) × IsPlain kind node x × (v 
 IsValue longest (name_list bounds) node v = (xs : List Written) × AreListed IsWritten bounds longest node xs × (v ≡ names xs)
 IsValue longest (post_list bounds) node v = (xs : List Written) × AreListed IsWritten bounds longest node xs × (v ≡ posts xs)
 IsValue longest (event_list bounds) node v = (xs : List Handled) × AreListed IsHandled bounds longest node xs × (v ≡ events xs)
-IsValue longest (step_list bounds) node v = (xs : List (List Handled)) × AreNodes (IsStep longest) bounds longest node xs × (v ≡ steps xs)
+IsValue longest (step_list bounds) node v = (xs : List (List Written)) × AreNodes (IsStep longest) bounds longest node xs × (v ≡ steps xs)
 IsValue longest (map_list table others bounds) node v = (xs : List Fields) × AreNodes (AreFields table others) bounds longest node xs × (v ≡ maps xs)
 IsValue longest (keyed_maps table place short) node v = (xs : List Keyed) × AreKeyed table place short node xs × (v ≡ keyed xs)
 
@@ -147,9 +147,14 @@ pub record IsEntry (longest : ℕ) (table : List Setting) (p : Pair) (e : Entry)
   pub name : e.name ≡ written_at p.line p.key
   pub row : IsRow setting_key (IsSetting longest) is_ignored setting_default setting_lacks table p.value e.values
 
--- the entries of a section with this table
-abbrev pub AreEntries : ℕ → List Setting → Pair → List Entry → Type 0
-AreEntries longest table p es = (pairs : List Pair) × (pairs_below p.value ≡ Some pairs) × AllZip (IsEntry longest table) pairs es
+-- the same, under another name than these
+pub record IsOtherEntry (longest : ℕ) (barred : List (List ℕ)) (table : List Setting) (p : Pair) (e : Entry) : Type 0 where
+  pub other : IsOneOf barred p.key → ⊥
+  pub entry : IsEntry longest table p e
+
+-- the entries of a section with this table, none of which has one of these names
+abbrev pub AreEntries : ℕ → List (List ℕ) → List Setting → Pair → List Entry → Type 0
+AreEntries longest barred table p es = (pairs : List Pair) × (pairs_below p.value ≡ Some pairs) × AllZip (IsOtherEntry longest barred table) pairs es
 
 -- An entry of a player: what its key says, and its value.
 pub record IsPlayer (longest : ℕ) (kinds : PlayerKinds) (p : Pair) (row : Player) : Type 0 where

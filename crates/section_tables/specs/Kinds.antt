@@ -36,7 +36,7 @@ pub record KeyRule (K V : Type 0) : Type 0 where
 abbrev pub Field : Type 0
 Field = KeyRule Scalar Plain
 
--- What the value of a setting is to be: a text; a list of names, of posted events or of handled events; steps, each a list of handled events; a list of maps, in which other keys are ignored or not;
+-- What the value of a setting is to be: a text; a list of names, of posted events or of handled events; steps, each a list of names; a list of maps, in which other keys are ignored or not;
 -- or a map of names, each with a map, or with one text that stands for the value of the field at this place.
 pub data Kind : Type 0 where
   single : Scalar → Kind
@@ -55,10 +55,10 @@ pub record PlayerKinds : Type 0 where
   pub key : Scalar
   pub value : Kind
 
--- how a section is written: entries with the settings of a table, those of a player, one entry that is the section itself,
--- or a list of names
+-- how a section is written: entries with the settings of a table, none of which has one of these names; those of a player;
+-- one entry that is the section itself; or a list of names
 pub data Shape : Type 0 where
-  by_entries : List Setting → Shape
+  by_entries : List (List ℕ) → List Setting → Shape
   by_players : PlayerKinds → Shape
   by_entry : List Setting → Shape
   by_names : Shape

@@ -30,7 +30,7 @@ IsNamedValue (one x) = IsNamedPlain x
 IsNamedValue (names xs) = AreNames xs
 IsNamedValue (posts xs) = AreNames xs
 IsNamedValue (events hs) = AreNamedEvents hs
-IsNamedValue (steps ss) = AllByRecursion AreNamedEvents ss
+IsNamedValue (steps ss) = AllByRecursion AreNames ss
 IsNamedValue (maps ms) = AllByRecursion (λ m. AreNamedPlains m.values) ms
 IsNamedValue (keyed ks) = AllByRecursion IsNamedKeyed ks
 
@@ -73,7 +73,7 @@ pub record IsNamedKinds (kinds : PlayerKinds) : Type 0 where
   pub value : IsNamedKind kinds.value
 
 abbrev pub IsNamedShape : Shape → Type 0
-IsNamedShape (by_entries table) = IsNamedTable table
+IsNamedShape (by_entries barred table) = IsNamedTable table
 IsNamedShape (by_players kinds) = IsNamedKinds kinds
 IsNamedShape (by_entry table) = IsNamedTable table
 IsNamedShape by_names = Unit {0}
@@ -90,13 +90,13 @@ item_count (maps ms) = length ms
 item_count _ = 0
 
 -- the lists in that list
-abbrev pub steps_in : Value → List (List Handled)
+abbrev pub steps_in : Value → List (List Written)
 steps_in (steps ss) = ss
 steps_in _ = []
 
 -- no list in a value has more items than this
 abbrev pub IsShortValue : ℕ → Value → Type 0
-IsShortValue longest v = (item_count v ≤ longest) × All (λ hs. length hs ≤ longest) (steps_in v)
+IsShortValue longest v = (item_count v ≤ longest) × All (λ ws. length ws ≤ longest) (steps_in v)
 
 -- no list in an entry, or in one of a player
 abbrev pub IsShortEntry : ℕ → Entry → Type 0
@@ -110,7 +110,7 @@ abbrev pub IsShortTable : ℕ → List Setting → Type 0
 IsShortTable longest = AllByRecursion (λ s. IsShortValue longest (setting_default s))
 
 abbrev pub IsShortShape : ℕ → Shape → Type 0
-IsShortShape longest (by_entries table) = IsShortTable longest table
+IsShortShape longest (by_entries barred table) = IsShortTable longest table
 IsShortShape longest (by_players kinds) = Unit {0}
 IsShortShape longest (by_entry table) = IsShortTable longest table
 IsShortShape longest by_names = Unit {0}

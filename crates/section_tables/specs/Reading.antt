@@ -176,7 +176,7 @@ value_at (single kind) spot node = plain_at kind spot node >>= λ x. Ok (one x)
 value_at (name_list bounds) spot node = listed_at written_in most_items bounds spot node >>= λ xs. Ok (names xs)
 value_at (post_list bounds) spot node = listed_at written_in most_items bounds spot node >>= λ xs. Ok (posts xs)
 value_at (event_list bounds) spot node = listed_at handled_in most_items bounds spot node >>= λ xs. Ok (events xs)
-value_at (step_list bounds) spot node = nodes_at (listed_at handled_in most_items (at_least 1)) bounds spot node >>= λ xs. Ok (steps xs)
+value_at (step_list bounds) spot node = nodes_at (listed_at written_in most_items (at_least 1)) bounds spot node >>= λ xs. Ok (steps xs)
 value_at (map_list table others bounds) spot node = nodes_at (fields_at table others) bounds spot node >>= λ xs. Ok (maps xs)
 value_at (keyed_maps table place short) spot node = keyed_list_at table place short spot node >>= λ xs. Ok (keyed xs)
 
@@ -195,9 +195,13 @@ entry_at text table p =
     then (expect (key_spot text p) (pairs_below p.value) >>= λ pairs. values_at (key_spot text p) table pairs >>= λ row. Ok (record { name = written_at p.line p.key; values = row }))
     else refused BadValue (key_spot text p)
 
--- the entries of a section with this table
-unfoldable pub entries_at : List ℕ → List Setting → Pair → Result (List Entry) RowsFault
-entries_at text table p = expect (key_spot text p) (pairs_below p.value) >>= λ pairs. each_read (entry_at text table) pairs
+-- the same, under another name than these
+unfoldable pub other_entry_at : List ℕ → List (List ℕ) → List Setting → Pair → Result Entry RowsFault
+other_entry_at text barred table p = if is_one_of barred p.key then refused BadValue (key_spot text p) else entry_at text table p
+
+-- the entries of a section with this table, none of which has one of these names
+unfoldable pub entries_at : List ℕ → List (List ℕ) → List Setting → Pair → Result (List Entry) RowsFault
+entries_at text barred table p = expect (key_spot text p) (pairs_below p.value) >>= λ pairs. each_read (other_entry_at text barred table) pairs
 
 -- an entry of a player
 unfoldable pub player_at : List ℕ → PlayerKinds → Pair → Result Player RowsFault

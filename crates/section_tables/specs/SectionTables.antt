@@ -1,10 +1,10 @@
 -- The tables of the sections: what settings each has. The order decides which of several missing settings is reported.
-use Rattle.std.specs.Prelude.{ℕ, pos, true, if◌then◌else◌, List, [], ◌∷◌, Option, Some, None, codes}
+use Rattle.std.specs.Prelude.{ℕ, pos, negsuc, true, false, if◌then◌else◌, List, [], ◌∷◌, Option, Some, None, codes}
 use Rattle.std.specs.Str.{bytes_eq}
-use Rattle.section_tables.specs.Rows.{flag, number, word, one, names, posts}
+use Rattle.section_tables.specs.Rows.{nothing, flag, number, time, word, one, names, posts, maps}
 use Rattle.section_tables.specs.declared.tables.TextKind.{TextKind}
 use Rattle.section_tables.specs.declared.tables.TextKind.TheVariants.{Machine, Mode}
-use Rattle.section_tables.specs.Kinds.{a_flag, number_within, one_of, a_name, at_least, Absent, default, KeyRule, single, name_list, post_list, Setting, PlayerKinds, Shape, by_entries, by_players, by_entry, by_names}
+use Rattle.section_tables.specs.Kinds.{Scalar, a_flag, number_within, time_within, one_of, a_name, at_least, between, Absent, required, default, KeyRule, Field, single, name_list, post_list, step_list, map_list, Setting, PlayerKinds, Shape, by_entries, by_players, by_entry, by_names}
 
 abbrev row : {K V : Type 0} → List ℕ → K → Absent V → KeyRule K V
 row key kind absent = record { key = key; kind = kind; absent = absent }
@@ -47,6 +47,69 @@ mode =
     ∷ choice (codes "use_wait_queue") (codes "no") (codes "No" ∷ codes "NO" ∷ codes "false" ∷ codes "False" ∷ codes "FALSE" ∷ codes "off" ∷ codes "Off" ∷ codes "OFF" ∷ [])
     ∷ []
 
+-- no by default
+abbrev no : List ℕ → Setting
+no key = row key (single a_flag) (default (one (flag false)))
+
+-- a number of a setting
+abbrev any_number : Scalar
+any_number = number_within (negsuc 999999999) (pos 1000000000)
+
+-- 0 by default
+abbrev from_zero : List ℕ → Setting
+from_zero key = row key (single any_number) (default (one (number (pos 0))))
+
+-- which way a value goes
+abbrev direction : Setting
+direction = choice (codes "direction") (codes "up") (codes "down" ∷ [])
+
+-- the settings that all logic blocks have
+abbrev pub block : List Setting
+block =
+    yes (codes "reset_on_complete")
+    ∷ yes (codes "disable_on_complete")
+    ∷ no (codes "persist_state")
+    ∷ naming (codes "enable_events")
+    ∷ naming (codes "disable_events")
+    ∷ naming (codes "reset_events")
+    ∷ naming (codes "restart_events")
+    ∷ posting (codes "events_when_hit")
+    ∷ posting (codes "events_when_complete")
+    ∷ []
+
+abbrev pub counters : List Setting
+counters =
+    row (codes "count_events") (name_list (at_least 0)) required
+    ∷ from_zero (codes "starting_count")
+    ∷ row (codes "count_interval") (single (number_within (pos 1) (pos 1000000))) (default (one (number (pos 1))))
+    ∷ row (codes "count_complete_value") (single any_number) (default (one nothing))
+    ∷ direction
+    ∷ row (codes "multiple_hit_window") (single (time_within 0 4294967295)) (default (one (time 0)))
+    ∷ block
+
+-- the settings of accruals, and of sequences: 16 steps at most
+abbrev pub step_blocks : List Setting
+step_blocks = row (codes "events") (step_list (between 0 16)) required ∷ block
+
+-- an event that controls a timer
+abbrev pub control_events : List Field
+control_events =
+    row (codes "event") a_name required
+    ∷ row (codes "action") (one_of (codes "start" ∷ codes "stop" ∷ codes "pause" ∷ codes "reset" ∷ codes "restart" ∷ codes "add" ∷ codes "subtract" ∷ codes "jump" ∷ [])) required
+    ∷ row (codes "value") any_number (default (number (pos 0)))
+    ∷ []
+
+abbrev pub timers : List Setting
+timers =
+    from_zero (codes "start_value")
+    ∷ row (codes "end_value") (single any_number) (default (one nothing))
+    ∷ direction
+    ∷ row (codes "tick_interval") (single (time_within 1 4294967295)) (default (one (time 1000)))
+    ∷ no (codes "start_running")
+    ∷ no (codes "restart_on_complete")
+    ∷ row (codes "control_events") (map_list control_events false (at_least 0)) (default (maps []))
+    ∷ []
+
 -- an event, and what is posted where it is handled
 abbrev pub event_player : PlayerKinds
 event_player = record { key = a_name; value = post_list (at_least 0) }
@@ -59,6 +122,18 @@ switches_name = codes "switches"
 abbrev pub event_player_name : List ℕ
 event_player_name = codes "event_player"
 
+abbrev pub counters_name : List ℕ
+counters_name = codes "counters"
+
+abbrev pub accruals_name : List ℕ
+accruals_name = codes "accruals"
+
+abbrev pub sequences_name : List ℕ
+sequences_name = codes "sequences"
+
+abbrev pub timers_name : List ℕ
+timers_name = codes "timers"
+
 -- the list of modes
 abbrev pub modes_name : List ℕ
 modes_name = codes "modes"
@@ -67,13 +142,33 @@ modes_name = codes "modes"
 abbrev pub mode_name : List ℕ
 mode_name = codes "mode"
 
--- the sections of the machine text, each with how it is written
+-- the name that no device has
+abbrev pub not_a_device : List (List ℕ)
+not_a_device = codes "playfield" ∷ []
+
+-- the sections of logic blocks, each with how it is written
+abbrev pub block_shapes : List (List ℕ × Shape)
+block_shapes =
+    (counters_name, by_entries not_a_device counters)
+    ∷ (accruals_name, by_entries not_a_device step_blocks)
+    ∷ (sequences_name, by_entries not_a_device step_blocks)
+    ∷ []
+
+-- the sections of the machine text
 abbrev pub machine_shapes : List (List ℕ × Shape)
-machine_shapes = (modes_name, by_names) ∷ (switches_name, by_entries switches) ∷ (event_player_name, by_players event_player) ∷ []
+machine_shapes =
+    (modes_name, by_names)
+    ∷ (switches_name, by_entries [] switches)
+    ∷ (event_player_name, by_players event_player)
+    ∷ block_shapes
 
 -- those of the text of a mode
 abbrev pub mode_shapes : List (List ℕ × Shape)
-mode_shapes = (mode_name, by_entry mode) ∷ (event_player_name, by_players event_player) ∷ []
+mode_shapes =
+    (mode_name, by_entry mode)
+    ∷ (event_player_name, by_players event_player)
+    ∷ (timers_name, by_entries not_a_device timers)
+    ∷ block_shapes
 
 abbrev pub shapes_in : TextKind → List (List ℕ × Shape)
 shapes_in Machine = machine_shapes

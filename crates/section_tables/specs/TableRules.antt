@@ -70,7 +70,7 @@ ArePlayerKinds kinds = (is_event_kind kinds.key && has_fields kinds.value) ≡ t
 
 -- what the shape of a section says is right
 abbrev pub IsRight : Shape → Type 0
-IsRight (by_entries table) = IsTable table
+IsRight (by_entries barred table) = IsTable table
 IsRight (by_players kinds) = ArePlayerKinds kinds
 IsRight (by_entry table) = IsTable table
 IsRight by_names = Unit {0}

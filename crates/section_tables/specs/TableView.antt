@@ -1,5 +1,5 @@
 -- What contracts see of the code's tables.
-use Rattle.std.specs.Prelude.{Bool, true, false, List, [], ◌∷◌, None, map}
+use Rattle.std.specs.Prelude.{ℕ, Bool, true, false, List, [], ◌∷◌, None, map}
 use Rattle.section_tables.specs.declared.table.Scalar as scalars
 use Rattle.section_tables.specs.declared.table.Scalar.TheVariants as scalar
 use Rattle.section_tables.specs.declared.table.Bounds as bounds_of
@@ -15,6 +15,7 @@ use Rattle.section_tables.specs.declared.table.Without as withouts
 use Rattle.section_tables.specs.declared.table.Without.TheVariants as without
 use Rattle.section_tables.specs.declared.table.Setting as settings
 use Rattle.section_tables.specs.declared.table.PlayerKinds as players
+use Rattle.section_tables.specs.declared.table.Barred as barreds
 use Rattle.section_tables.specs.declared.table.Shape as shapes
 use Rattle.section_tables.specs.declared.table.Shape.TheVariants as shape
 use Rattle.section_tables.specs.Rows.{Plain, nothing, flag, number, time, power, word, name, Value, one, names, posts, events, maps}
@@ -81,8 +82,11 @@ table_view = map setting_view
 abbrev pub player_kinds_view : players.PlayerKinds → PlayerKinds
 player_kinds_view k = record { key = scalar_view k.key; value = kind_view k.value }
 
+abbrev pub barred_view : barreds.Barred → List (List ℕ)
+barred_view b = map (λ n. n.now) b.names.now
+
 abbrev pub shape_view : shapes.Shape → Shape
-shape_view (shape.Entries table) = by_entries (table_view table.now)
+shape_view (shape.Entries barred table) = by_entries (barred_view barred) (table_view table.now)
 shape_view (shape.Players k) = by_players (player_kinds_view k)
 shape_view (shape.Entry table) = by_entry (table_view table.now)
 shape_view shape.Names = by_names

@@ -70,7 +70,7 @@ pub enum Value {
     /// Names of events that are posted.
     Posts(Vec<Name>),
     Events(Vec<Handler>),
-    Steps(Vec<Vec<Handler>>),
+    Steps(Vec<Vec<Name>>),
     Maps(Vec<Fields>),
     Keyed(Vec<Keyed>),
 }

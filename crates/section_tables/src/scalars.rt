@@ -65,9 +65,9 @@ fn is_within(least: i64, greatest: i64, n: i64) -> bool
     least <= n && n <= greatest
 }
 
-// The word of a list that a text is.
+/// The word of a list that a text is.
 #[tactic(auto, unfolding(crate::specs::Reading::is_one_of))]
-fn word_in(words: &'static [&'static [u8]], text: &[u8]) -> Option<&'static [u8]>
+pub fn word_in(words: &'static [&'static [u8]], text: &[u8]) -> Option<&'static [u8]>
     ensures { option_slice (λ w. w) result ≡ (if is_one_of (map (λ w. w.now) words.now) text.now then Some text.now else None) }
 {
     for word in words {

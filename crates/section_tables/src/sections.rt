@@ -4,8 +4,8 @@ ghost use Rattle.std.specs.Prelude.{◌≡◌, ◌≢◌, ℕ, ◌<◌, List, If
 ghost use Rattle.yaml_subset.specs.View.{pair_view};
 ghost use Rattle.section_tables.specs.Rows.{Entry as Row, Written};
 ghost use Rattle.section_tables.specs.EntryOf.{IsEntry, AreEntries, AreNamesListed};
-ghost use Rattle.section_tables.specs.Reading.{entry_at, entries_at, names_at};
-ghost use Rattle.section_tables.specs.TableView.{table_view};
+ghost use Rattle.section_tables.specs.Reading.{entry_at, other_entry_at, entries_at, names_at};
+ghost use Rattle.section_tables.specs.TableView.{barred_view, table_view};
 ghost use Rattle.section_tables.specs.View.{names_view, entry_view, entries_view, GivesRows};
 
 use crate::each::each;
@@ -13,10 +13,10 @@ use crate::fault::{ConfigFault, FaultKind};
 use crate::lists::names;
 use crate::nodes::pairs;
 use crate::rows::{Entry, Name};
-use crate::scalars::{is_name, name_of};
+use crate::scalars::{is_name, name_of, word_in};
 use crate::settings::values;
 use crate::spot::spot_of;
-use crate::table::{Bounds, Setting};
+use crate::table::{Barred, Bounds, Setting};
 use std::alloc::Global;
 use yaml_subset::tree::{Key, Tree};
 
@@ -41,23 +41,46 @@ fn read_entry(
     Ok(Entry { name, values })
 }
 
-// The entries of a section with this table; or the first fault.
+// The same, under another name than these; or BadValue, or the first fault.
+#[tactic(auto, unfolding(crate::specs::Reading::other_entry_at))]
+fn read_other_entry(
+    alloc: Global,
+    barred: Barred,
+    table: &[Setting],
+    text: &[u8],
+    pair: &(Key, Tree),
+) -> Result<Entry, ConfigFault>
+    ensures { GivesRows entry_view result (other_entry_at text.now (barred_view barred) (table_view table.now) (pair_view pair.now)) }
+{
+    let key = &pair.0;
+    match word_in(barred.names, &key.text) {
+        None => read_entry(alloc, table, text, pair),
+        Some(_) => {
+            let fault = spot_of(text, key).fault(alloc, FaultKind::BadValue)?;
+            Err(ConfigFault::Bundle(fault))
+        }
+    }
+}
+
+// The entries of a section with this table, none of which has one of these names; or the first
+// fault.
 #[tactic(auto, unfolding(crate::specs::Reading::entries_at))]
 fn read_entries(
     alloc: Global,
+    barred: Barred,
     table: &[Setting],
     text: &[u8],
     pair: &(Key, Tree),
 ) -> Result<Vec<Entry>, ConfigFault>
-    ensures { GivesRows entries_view result (entries_at text.now (table_view table.now) (pair_view pair.now)) }
+    ensures { GivesRows entries_view result (entries_at text.now (barred_view barred) (table_view table.now) (pair_view pair.now)) }
 {
     let pairs = pairs(alloc, spot_of(text, &pair.0), &pair.1)?;
     each(
         alloc,
         pairs,
         |pair|
-            ensures { GivesRows entry_view result (entry_at text.entry.now (table_view table.entry.now) (pair_view pair.now)) }
-        { read_entry(alloc, table, text, pair) },
+            ensures { GivesRows entry_view result (other_entry_at text.entry.now (barred_view barred) (table_view table.entry.now) (pair_view pair.now)) }
+        { read_other_entry(alloc, barred, table, text, pair) },
     )
 }
 
@@ -109,31 +132,33 @@ pub fn entry(
     read_entry(alloc, table, text, pair)
 }
 
-/// The entries of a section by this table, in the text of this name.
+/// The entries of a section by this table, in the text of this name. None of them may have one of
+/// the barred names.
 ///
 /// # Errors
 ///
-/// `NoMemory`; `BadValue` at the section if it is no mapping; or the first fault of an entry, as
-/// [`entry`] reports it.
+/// `NoMemory`; `BadValue` at the section if it is no mapping; or the first fault of an entry, which
+/// is `BadValue` if its name is barred, and else as [`entry`] reports it.
 pub fn entries(
     alloc: Global,
+    barred: Barred,
     table: &[Setting],
     text: &[u8],
     pair: &(Key, Tree),
 ) -> Result<Vec<Entry>, ConfigFault>
     // What is answered are the entries of the section.
-    ensures found { IfOk result (λ xs. AreEntries 1024 (table_view table.now) (pair_view pair.now) (entries_view xs)) }
+    ensures found { IfOk result (λ xs. AreEntries 1024 (barred_view barred) (table_view table.now) (pair_view pair.now) (entries_view xs)) }
 
     // The section has no others, however many items its lists may have.
-    ensures only { IfOk result (λ xs. (longest : ℕ) (es : List Row) → AreEntries longest (table_view table.now) (pair_view pair.now) es → es ≡ entries_view xs) }
+    ensures only { IfOk result (λ xs. (longest : ℕ) (es : List Row) → AreEntries longest (barred_view barred) (table_view table.now) (pair_view pair.now) es → es ≡ entries_view xs) }
 
     // A section that is refused, but for want of memory, has entries only where a list is too long.
-    ensures refused { IfErr result (λ e. e ≢ ConfigFault.NoMemory → (longest : ℕ) (es : List Row) → AreEntries longest (table_view table.now) (pair_view pair.now) es → 1024 < longest) }
+    ensures refused { IfErr result (λ e. e ≢ ConfigFault.NoMemory → (longest : ℕ) (es : List Row) → AreEntries longest (barred_view barred) (table_view table.now) (pair_view pair.now) es → 1024 < longest) }
 
     // Which fault it is, with its line and key, is what reading from the first entry gives.
-    ensures exact { GivesRows entries_view result (entries_at text.now (table_view table.now) (pair_view pair.now)) }
+    ensures exact { GivesRows entries_view result (entries_at text.now (barred_view barred) (table_view table.now) (pair_view pair.now)) }
 {
-    read_entries(alloc, table, text, pair)
+    read_entries(alloc, barred, table, text, pair)
 }
 
 /// The names that a section lists, at most so many, in the text of this name, each with the line

@@ -71,7 +71,7 @@ pub enum Kind {
     Posts(Bounds),
     /// A list of handled events.
     Events(Bounds),
-    /// A YAML list of steps, each a list of handled events that is not empty.
+    /// A YAML list of steps, each a list of names that is not empty.
     Steps(Bounds),
     /// A YAML list of maps with these keys.
     Maps(&'static [Field], Others, Bounds),
@@ -112,11 +112,17 @@ pub struct PlayerKinds {
     pub value: Kind,
 }
 
+/// Names that no entry of a section may have.
+#[derive(Clone, Copy)]
+pub struct Barred {
+    pub names: &'static [&'static [u8]],
+}
+
 /// How a section is written.
 #[derive(Clone, Copy)]
 pub enum Shape {
-    /// Entries, each with the settings of this table.
-    Entries(&'static [Setting]),
+    /// Entries, none of which has a barred name, each with the settings of this table.
+    Entries(Barred, &'static [Setting]),
     /// The entries of a player.
     Players(PlayerKinds),
     /// The section is one entry itself, with the settings of this table.

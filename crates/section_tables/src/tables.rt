@@ -5,12 +5,14 @@ ghost use Rattle.std.specs.Prelude.{◌≡◌, ℕ, List, Some};
 ghost use Rattle.section_tables.specs.declared.tables.TextKind.{TextKind as Text};
 ghost use Rattle.section_tables.specs.declared.tables.TextKind.TheVariants.{Machine, Mode};
 ghost use Rattle.section_tables.specs.Kinds.{Shape as SectionShape};
-ghost use Rattle.section_tables.specs.SectionTables.{shape_of};
+ghost use Rattle.section_tables.specs.SectionTables.{block_shapes, named_in, shape_of};
 ghost use Rattle.section_tables.specs.TableRules.{IsRight};
 ghost use Rattle.section_tables.specs.Reading.{give};
 ghost use Rattle.section_tables.specs.TableView.{shape_view};
 
-use crate::table::{Absent, Bounds, Kind, PlayerKinds, Scalar, Setting, Shape, Without};
+use crate::table::{
+    Absent, Barred, Bounds, Field, Kind, Others, PlayerKinds, Scalar, Setting, Shape, Without,
+};
 
 macro_rules! setting {
     ($key:expr, $kind:expr, $without:expr) => {
@@ -22,7 +24,56 @@ macro_rules! setting {
     };
 }
 
+macro_rules! block_settings {
+    ($($own:expr),*) => {
+        &[
+            $($own,)*
+            setting!(b"reset_on_complete", FLAG, YES),
+            setting!(b"disable_on_complete", FLAG, YES),
+            setting!(b"persist_state", FLAG, NO),
+            setting!(b"enable_events", Kind::Names(ANY), Without::NoNames),
+            setting!(b"disable_events", Kind::Names(ANY), Without::NoNames),
+            setting!(b"reset_events", Kind::Names(ANY), Without::NoNames),
+            setting!(b"restart_events", Kind::Names(ANY), Without::NoNames),
+            setting!(b"events_when_hit", Kind::Posts(ANY), Without::NoPosts),
+            setting!(b"events_when_complete", Kind::Posts(ANY), Without::NoPosts),
+        ]
+    };
+}
+
+macro_rules! field {
+    ($key:expr, $kind:expr, $absent:expr) => {
+        Field {
+            key: $key,
+            kind: $kind,
+            absent: $absent,
+        }
+    };
+}
+
 const ANY: Bounds = Bounds::AtLeast(0);
+
+const FLAG: Kind = Kind::One(Scalar::Flag);
+
+const YES: Without = Without::One(Absent::Flag(true));
+
+const NO: Without = Without::One(Absent::Flag(false));
+
+const ANY_NUMBER: Scalar = Scalar::Number(-1_000_000_000, 1_000_000_000);
+
+const NUMBER: Kind = Kind::One(ANY_NUMBER);
+
+const ZERO: Without = Without::One(Absent::Number(0));
+
+const NOTHING: Without = Without::One(Absent::Nothing);
+
+const REQUIRED: Without = Without::One(Absent::Required);
+
+const DIRECTION: Setting = setting!(
+    b"direction",
+    Kind::One(Scalar::Word(&[b"up", b"down"])),
+    Without::One(Absent::Word(b"up"))
+);
 
 /// `switches`.
 pub const SWITCHES: &[Setting] = &[
@@ -42,6 +93,70 @@ pub const SWITCHES: &[Setting] = &[
         b"events_when_deactivated",
         Kind::Posts(ANY),
         Without::NoPosts
+    ),
+];
+
+/// `counters`.
+pub const COUNTERS: &[Setting] = block_settings!(
+    setting!(b"count_events", Kind::Names(ANY), REQUIRED),
+    setting!(b"starting_count", NUMBER, ZERO),
+    setting!(
+        b"count_interval",
+        Kind::One(Scalar::Number(1, 1_000_000)),
+        Without::One(Absent::Number(1))
+    ),
+    setting!(b"count_complete_value", NUMBER, NOTHING),
+    DIRECTION,
+    setting!(
+        b"multiple_hit_window",
+        Kind::One(Scalar::Time(0, u32::MAX)),
+        Without::One(Absent::Time(0))
+    )
+);
+
+/// `accruals`, and `sequences`: at most 16 steps.
+pub const STEP_BLOCKS: &[Setting] = block_settings!(setting!(
+    b"events",
+    Kind::Steps(Bounds::Between(0, 16)),
+    REQUIRED
+));
+
+/// The maps of `control_events`.
+const CONTROL_EVENTS: &[Field] = &[
+    field!(b"event", Scalar::Name, Absent::Required),
+    field!(
+        b"action",
+        Scalar::Word(&[
+            b"start",
+            b"stop",
+            b"pause",
+            b"reset",
+            b"restart",
+            b"add",
+            b"subtract",
+            b"jump"
+        ]),
+        Absent::Required
+    ),
+    field!(b"value", ANY_NUMBER, Absent::Number(0)),
+];
+
+/// `timers`.
+pub const TIMERS: &[Setting] = &[
+    setting!(b"start_value", NUMBER, ZERO),
+    setting!(b"end_value", NUMBER, NOTHING),
+    DIRECTION,
+    setting!(
+        b"tick_interval",
+        Kind::One(Scalar::Time(1, u32::MAX)),
+        Without::One(Absent::Time(1_000))
+    ),
+    setting!(b"start_running", FLAG, NO),
+    setting!(b"restart_on_complete", FLAG, NO),
+    setting!(
+        b"control_events",
+        Kind::Maps(CONTROL_EVENTS, Others::Refused, ANY),
+        Without::NoMaps
     ),
 ];
 
@@ -85,6 +200,25 @@ pub const SWITCHES_NAME: &[u8] = b"switches";
 /// The name of the section [`EVENT_PLAYER`].
 pub const EVENT_PLAYER_NAME: &[u8] = b"event_player";
 
+/// The name of the section [`COUNTERS`].
+pub const COUNTERS_NAME: &[u8] = b"counters";
+
+/// The name of one of the two sections [`STEP_BLOCKS`].
+pub const ACCRUALS_NAME: &[u8] = b"accruals";
+
+/// The name of the other one.
+pub const SEQUENCES_NAME: &[u8] = b"sequences";
+
+/// The name of the section [`TIMERS`].
+pub const TIMERS_NAME: &[u8] = b"timers";
+
+/// The name that no device has.
+const NOT_A_DEVICE: Barred = Barred {
+    names: &[b"playfield"],
+};
+
+const ANY_NAME: Barred = Barred { names: &[] };
+
 /// The name of the section that lists the modes.
 pub const MODES_NAME: &[u8] = b"modes";
 
@@ -100,6 +234,22 @@ pub enum TextKind {
     Mode,
 }
 
+// How a section of logic blocks is written.
+fn block_shape(section: &[u8]) -> Option<Shape>
+    ensures { give shape_view result ≡ named_in section.now block_shapes }
+{
+    if section == COUNTERS_NAME {
+        return Some(Shape::Entries(NOT_A_DEVICE, COUNTERS));
+    }
+    if section == ACCRUALS_NAME {
+        return Some(Shape::Entries(NOT_A_DEVICE, STEP_BLOCKS));
+    }
+    if section == SEQUENCES_NAME {
+        return Some(Shape::Entries(NOT_A_DEVICE, STEP_BLOCKS));
+    }
+    None
+}
+
 // How a section of the machine text is written.
 fn machine_shape(section: &[u8]) -> Option<Shape>
     ensures { give shape_view result ≡ shape_of Machine section.now }
@@ -108,12 +258,12 @@ fn machine_shape(section: &[u8]) -> Option<Shape>
         return Some(Shape::Names);
     }
     if section == SWITCHES_NAME {
-        return Some(Shape::Entries(SWITCHES));
+        return Some(Shape::Entries(ANY_NAME, SWITCHES));
     }
     if section == EVENT_PLAYER_NAME {
         return Some(Shape::Players(EVENT_PLAYER));
     }
-    None
+    block_shape(section)
 }
 
 // How a section of the text of a mode is written.
@@ -126,7 +276,10 @@ fn mode_shape(section: &[u8]) -> Option<Shape>
     if section == EVENT_PLAYER_NAME {
         return Some(Shape::Players(EVENT_PLAYER));
     }
-    None
+    if section == TIMERS_NAME {
+        return Some(Shape::Entries(NOT_A_DEVICE, TIMERS));
+    }
+    block_shape(section)
 }
 
 /// How a section of this name is written in a text of this kind; none where such a text has no such

@@ -1,0 +1,239 @@
+-- What holds of logic blocks and timers, by the names of their settings: their names are names, and their settings are in their ranges.
+use Rattle.std.proofs.Common.{◌≡◌, ℕ, zero, suc, ◌+◌, ◌≤◌, nat_le, ℤ, pos, negsuc, ◌≤ℤ◌, int_le, Bool, true, false, ◌&&◌, if◌then◌else◌, List, [], ◌∷◌, length, Option, Some, None, slice_get, refl, arith}
+use Rattle.std.specs.List.{All, AllByRecursion}
+use Rattle.std.proofs.lemmas.Bool.{leb-true}
+use Rattle.std.proofs.lemmas.List.Elements.{All-nil, All-cons, All-map, All-weaker, All-from_recursion}
+use Rattle.mpf_values.specs.Names.{IsName}
+use Rattle.std.proofs.lemmas.Int.{ints}
+use Rattle.section_tables.specs.Rows.{Plain, nothing, flag, number, time, power, word, name, event, Fields, Value, one, names, posts, events, steps, maps, keyed, Entry}
+use Rattle.section_tables.specs.Named.{IsNamedPlain, AreNames, AreNamedPlains, IsNamedValue, IsNamedEntry, IsShortValue, IsShortEntry}
+use Rattle.section_tables.specs.EntryOf.{within}
+use Rattle.mpf_config.specs.declared.config.Direction.{Direction}
+use Rattle.mpf_config.specs.declared.config.Direction.TheVariants.{Up, Down}
+use Rattle.mpf_config.specs.Rows.{Written, Control, SectionRows}
+use Rattle.mpf_config.specs.Typed.{counters_name, accruals_name, sequences_name, timers_name, direction_of, word_of, limit_of, time_of, listed_steps, listed_maps, event_in, control_from, control_of, with_control, controls_of, end_from, interval_from, counter_of, step_block_of, timer_of, counters_in, accruals_in, sequences_in, timers_in, entries_of}
+use Rattle.mpf_config.specs.Inside.{block_at}
+use Rattle.mpf_config.specs.Named.{AllNames, IsNamedBlock, IsNamedCounter, IsNamedStepBlock, IsNamedTimer, IsNamed}
+use Rattle.mpf_config.specs.Short.{IsEndInRange, IsShortBlock, IsShortCounter, IsShortStepBlock, IsShortTimer, IsShortSection}
+use Rattle.mpf_config.proofs.Each.{all_where}
+use Rattle.mpf_config.proofs.RowNames.{IsNamedOption, is_name, value_at_named, names_named, posts_named, entries_of_named}
+use Rattle.mpf_config.proofs.ShortRows.{value_at_short, posts_short, entries_of_short}
+
+-- ---- names
+
+block_named : (first : ℕ) (row : List Value) → AllByRecursion IsNamedValue row → IsNamedBlock (block_at first row)
+block_named first row h = record {
+  enables = names_named (slice_get row (first + 3)) (value_at_named row (first + 3) h);
+  disables = names_named (slice_get row (first + 4)) (value_at_named row (first + 4) h);
+  resets = names_named (slice_get row (first + 5)) (value_at_named row (first + 5) h);
+  restarts = names_named (slice_get row (first + 6)) (value_at_named row (first + 6) h);
+  hit = posts_named (slice_get row (first + 7)) (value_at_named row (first + 7) h);
+  complete = posts_named (slice_get row (first + 8)) (value_at_named row (first + 8) h);
+}
+
+-- The names in an entry of `counters` are names.
+pub counter_named : (e : Entry) → IsNamedEntry e → IsNamedCounter (counter_of e)
+unfolding counter_of
+counter_named e h = record {
+  name = h.name;
+  counts = names_named (slice_get e.values 0) (value_at_named e.values 0 h.values);
+  block = block_named 6 e.values h.values;
+}
+
+all_steps : (ss : List (List Written)) → AllByRecursion AreNames ss → All AllNames ss
+all_steps ss h = All-weaker AreNames AllNames (λ ws k. All-from_recursion is_name ws k) ss (All-from_recursion AreNames ss h)
+
+steps_named : (o : Option Value) → IsNamedOption o → All AllNames (listed_steps o)
+steps_named None h = All-nil AllNames
+steps_named (Some (one x)) h = All-nil AllNames
+steps_named (Some (names xs)) h = All-nil AllNames
+steps_named (Some (posts xs)) h = All-nil AllNames
+steps_named (Some (events xs)) h = All-nil AllNames
+steps_named (Some (steps ss)) h = all_where AllNames (nat_le (length ss) 16) ss (all_steps ss h)
+steps_named (Some (maps xs)) h = All-nil AllNames
+steps_named (Some (keyed xs)) h = All-nil AllNames
+
+-- Those in an entry of `accruals` or `sequences` are, too.
+pub step_block_named : (e : Entry) → IsNamedEntry e → IsNamedStepBlock (step_block_of e)
+unfolding step_block_of
+step_block_named e h = record {
+  name = h.name;
+  steps = steps_named (slice_get e.values 0) (value_at_named e.values 0 h.values);
+  block = block_named 1 e.values h.values;
+}
+
+abbrev HasName : Control → Type 0
+HasName c = IsName c.event.text
+
+abbrev IsNamedText : Option Plain → Type 0
+IsNamedText None = Unit {0}
+IsNamedText (Some x) = IsNamedPlain x
+
+text_at_named : (values : List Plain) (i : ℕ) → AreNamedPlains values → IsNamedText (slice_get values i)
+text_at_named [] i h = tt
+text_at_named (x ∷ xs) zero h = h.0
+text_at_named (x ∷ xs) (suc i) h = text_at_named xs i h.1
+
+abbrev IsNamedWritten : Option Written → Type 0
+IsNamedWritten None = Unit {0}
+IsNamedWritten (Some w) = IsName w.text
+
+event_in_named : (o : Option Plain) → IsNamedText o → IsNamedWritten (event_in o)
+event_in_named None h = tt
+event_in_named (Some nothing) h = tt
+event_in_named (Some (flag b)) h = tt
+event_in_named (Some (number n)) h = tt
+event_in_named (Some (time ms)) h = tt
+event_in_named (Some (power n)) h = tt
+event_in_named (Some (word w)) h = tt
+event_in_named (Some (name w)) h = h
+event_in_named (Some (event e)) h = tt
+
+one_control : (m : Fields) (o : Option Written) → IsNamedWritten o → (cs : List Control) → All HasName cs → All HasName (with_control (control_from m o) cs)
+one_control m None h cs rest = rest
+one_control m (Some w) h cs rest = All-cons HasName _ cs h rest
+
+controls_named : (ms : List Fields) → AllByRecursion (λ m. AreNamedPlains m.values) ms → All HasName (controls_of ms)
+unfolding control_of
+controls_named [] h = All-nil HasName
+controls_named (m ∷ ms) h =
+    one_control m (event_in (slice_get m.values 0)) (event_in_named (slice_get m.values 0) (text_at_named m.values 0 h.0)) (controls_of ms) (controls_named ms h.1)
+
+maps_named : (o : Option Value) → IsNamedOption o → All HasName (controls_of (listed_maps o))
+maps_named None h = All-nil HasName
+maps_named (Some (one x)) h = All-nil HasName
+maps_named (Some (names xs)) h = All-nil HasName
+maps_named (Some (posts xs)) h = All-nil HasName
+maps_named (Some (events xs)) h = All-nil HasName
+maps_named (Some (steps ss)) h = All-nil HasName
+maps_named (Some (maps ms)) h = controls_named ms h
+maps_named (Some (keyed xs)) h = All-nil HasName
+
+-- Those in an entry of `timers` are, too.
+pub timer_named : (e : Entry) → IsNamedEntry e → IsNamedTimer (timer_of e)
+unfolding timer_of
+timer_named e h = record { name = h.name; controls = maps_named (slice_get e.values 6) (value_at_named e.values 6 h.values) }
+
+-- so they are in a section
+pub counters_named : (s : SectionRows) → IsNamed s → All IsNamedCounter (counters_in s)
+unfolding counters_in
+counters_named s h =
+    let es = entries_of counters_name s in
+    All-map IsNamedCounter counter_of es (All-weaker IsNamedEntry (λ e. IsNamedCounter (counter_of e)) counter_named es (entries_of_named counters_name s h))
+
+pub accruals_named : (s : SectionRows) → IsNamed s → All IsNamedStepBlock (accruals_in s)
+unfolding accruals_in
+accruals_named s h =
+    let es = entries_of accruals_name s in
+    All-map IsNamedStepBlock step_block_of es (All-weaker IsNamedEntry (λ e. IsNamedStepBlock (step_block_of e)) step_block_named es (entries_of_named accruals_name s h))
+
+pub sequences_named : (s : SectionRows) → IsNamed s → All IsNamedStepBlock (sequences_in s)
+unfolding sequences_in
+sequences_named s h =
+    let es = entries_of sequences_name s in
+    All-map IsNamedStepBlock step_block_of es (All-weaker IsNamedEntry (λ e. IsNamedStepBlock (step_block_of e)) step_block_named es (entries_of_named sequences_name s h))
+
+pub timers_named : (s : SectionRows) → IsNamed s → All IsNamedTimer (timers_in s)
+unfolding timers_in
+timers_named s h =
+    let es = entries_of timers_name s in
+    All-map IsNamedTimer timer_of es (All-weaker IsNamedEntry (λ e. IsNamedTimer (timer_of e)) timer_named es (entries_of_named timers_name s h))
+
+-- ---- ranges
+
+both : (a b : Bool) → a && b ≡ true → (a ≡ true) × (b ≡ true)
+both true b e = (refl, e)
+both false b e = absurd cc
+
+at_most : (a b : ℤ) → int_le a b ≡ true → a ≤ℤ b
+at_most a b h = grind (arith, ints, h)
+
+limit_by : (n : ℤ) (b : Bool) → within (negsuc 999999999) (pos 1000000000) n ≡ b → IsEndInRange (if b then Some n else None)
+limit_by n true h =
+    let a = both (int_le (negsuc 999999999) n) (int_le n (pos 1000000000)) h in
+    (at_most (negsuc 999999999) n a.0, at_most n (pos 1000000000) a.1)
+limit_by n false h = tt
+
+limit_in_range : (o : Option Value) → IsEndInRange (limit_of o)
+limit_in_range None = tt
+limit_in_range (Some (one nothing)) = tt
+limit_in_range (Some (one (flag b))) = tt
+limit_in_range (Some (one (number n))) = limit_by n (within (negsuc 999999999) (pos 1000000000) n) refl
+limit_in_range (Some (one (time ms))) = tt
+limit_in_range (Some (one (power n))) = tt
+limit_in_range (Some (one (word w))) = tt
+limit_in_range (Some (one (name w))) = tt
+limit_in_range (Some (one (event h))) = tt
+limit_in_range (Some (names xs)) = tt
+limit_in_range (Some (posts xs)) = tt
+limit_in_range (Some (events xs)) = tt
+limit_in_range (Some (steps ss)) = tt
+limit_in_range (Some (maps ms)) = tt
+limit_in_range (Some (keyed ks)) = tt
+
+end_in_range : (direction : Direction) (o : Option ℤ) → IsEndInRange o → IsEndInRange (end_from direction o)
+end_in_range direction (Some n) h = h
+end_in_range Up None h = tt
+end_in_range Down None h = (at_most (negsuc 999999999) (pos 0) refl, at_most (pos 0) (pos 1000000000) refl)
+
+interval_in_range : (ms : ℕ) → 1 ≤ interval_from ms
+interval_in_range zero = omega arith
+interval_in_range (suc ms) = omega arith
+
+steps_by : (ss : List (List Written)) (b : Bool) → nat_le (length ss) 16 ≡ b → length (if b then ss else []) ≤ 16
+steps_by ss true h = leb-true (length ss) 16 h
+steps_by ss false h = omega arith
+
+no_steps : 0 ≤ 16
+no_steps = omega arith
+
+steps_few : (o : Option Value) → length (listed_steps o) ≤ 16
+steps_few None = no_steps
+steps_few (Some (one x)) = no_steps
+steps_few (Some (names xs)) = no_steps
+steps_few (Some (posts xs)) = no_steps
+steps_few (Some (events xs)) = no_steps
+steps_few (Some (steps ss)) = steps_by ss (nat_le (length ss) 16) refl
+steps_few (Some (maps ms)) = no_steps
+steps_few (Some (keyed ks)) = no_steps
+
+block_short : (first : ℕ) (row : List Value) → All (IsShortValue 1024) row → IsShortBlock (block_at first row)
+block_short first row h = record {
+  hit = posts_short (slice_get row (first + 7)) (value_at_short row (first + 7) h);
+  complete = posts_short (slice_get row (first + 8)) (value_at_short row (first + 8) h);
+}
+
+-- What a counter has is in its range, and so it is with what an accrual, a sequence or a timer has.
+pub counter_short : (e : Entry) → IsShortEntry 1024 e → IsShortCounter (counter_of e)
+unfolding counter_of
+counter_short e h = record { end = limit_in_range (slice_get e.values 3); block = block_short 6 e.values h }
+
+pub step_block_short : (e : Entry) → IsShortEntry 1024 e → IsShortStepBlock (step_block_of e)
+unfolding step_block_of
+step_block_short e h = record { steps = steps_few (slice_get e.values 0); block = block_short 1 e.values h }
+
+pub timer_in_range : (e : Entry) → IsShortTimer (timer_of e)
+unfolding timer_of
+timer_in_range e = record {
+  end = end_in_range (direction_of (word_of (slice_get e.values 2))) (limit_of (slice_get e.values 1)) (limit_in_range (slice_get e.values 1));
+  interval = interval_in_range (time_of (slice_get e.values 3));
+}
+
+-- so it is with those of a section
+pub counters_short : (s : SectionRows) → IsShortSection s → All IsShortCounter (counters_in s)
+unfolding counters_in
+counters_short s h =
+    let es = entries_of counters_name s in
+    All-map IsShortCounter counter_of es (All-weaker (IsShortEntry 1024) (λ e. IsShortCounter (counter_of e)) counter_short es (entries_of_short counters_name s h))
+
+pub accruals_short : (s : SectionRows) → IsShortSection s → All IsShortStepBlock (accruals_in s)
+unfolding accruals_in
+accruals_short s h =
+    let es = entries_of accruals_name s in
+    All-map IsShortStepBlock step_block_of es (All-weaker (IsShortEntry 1024) (λ e. IsShortStepBlock (step_block_of e)) step_block_short es (entries_of_short accruals_name s h))
+
+pub sequences_short : (s : SectionRows) → IsShortSection s → All IsShortStepBlock (sequences_in s)
+unfolding sequences_in
+sequences_short s h =
+    let es = entries_of sequences_name s in
+    All-map IsShortStepBlock step_block_of es (All-weaker (IsShortEntry 1024) (λ e. IsShortStepBlock (step_block_of e)) step_block_short es (entries_of_short sequences_name s h))

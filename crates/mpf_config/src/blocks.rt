@@ -1,0 +1,160 @@
+//! The entries of `counters`, `accruals` and `sequences`, by the names of their settings.
+
+ghost use Rattle.std.specs.Prelude.{◌≡◌, ◌≤◌, map};
+ghost use Rattle.section_tables.specs.View.{values_view};
+ghost use Rattle.mpf_config.specs.Typed.{counter_of, step_block_of, counters_in, accruals_in, sequences_in};
+ghost use Rattle.mpf_config.specs.View.{entry_view, section_view, block_view, counter_view, step_block_view};
+ghost use Rattle.mpf_config.specs.Inside.{block_at};
+
+use crate::config::{Direction, Section};
+use crate::values::{direction, flag, limit, milliseconds, names, number, posts_at, steps};
+use section_tables::rows::{Entry, Name, Value};
+use section_tables::tables::{ACCRUALS_NAME, COUNTERS_NAME, SEQUENCES_NAME};
+
+/// The settings that all logic blocks have.
+#[derive(Clone, Copy)]
+pub struct Block<'a> {
+    /// Whether completing resets the block: by default it does.
+    pub reset_on_complete: bool,
+    /// Whether completing disables the block: by default it does.
+    pub disable_on_complete: bool,
+    /// Whether each player has a state of their own: by default there is one state.
+    pub persist: bool,
+    /// The events that enable it. Without any it is enabled at first.
+    pub enables: &'a [Name],
+    /// The events that disable it.
+    pub disables: &'a [Name],
+    /// The events that reset it.
+    pub resets: &'a [Name],
+    /// The events that reset and enable it.
+    pub restarts: &'a [Name],
+    /// Posted when the block is hit, in place of its own event; none: its own is.
+    pub hit: &'a [Name],
+    /// Posted when it completes, in place of its own event; none: its own is.
+    pub complete: &'a [Name],
+}
+
+/// An entry of `counters`.
+#[derive(Clone, Copy)]
+pub struct Counter<'a> {
+    pub name: &'a Name,
+    /// The events that it counts.
+    pub counts: &'a [Name],
+    /// Its value at first: 0 by default.
+    pub start: i64,
+    /// By how much a hit moves the value: 1 by default.
+    pub interval: i64,
+    /// It completes when its value reaches or passes this one; by default it never does.
+    pub end: Option<i64>,
+    /// Up by default.
+    pub direction: Direction,
+    /// For how many milliseconds after a hit no other counts: 0 by default.
+    pub window: u32,
+    pub block: Block<'a>,
+}
+
+/// An entry of `accruals`, or of `sequences`.
+#[derive(Clone, Copy)]
+pub struct StepBlock<'a> {
+    pub name: &'a Name,
+    /// The steps, each with the events that do it: at most 16.
+    pub steps: &'a [Vec<Name>],
+    pub block: Block<'a>,
+}
+
+// The places of the settings in the table of `counters`.
+const COUNT_EVENTS: usize = 0;
+
+const STARTING_COUNT: usize = 1;
+
+const COUNT_INTERVAL: usize = 2;
+
+const COUNT_COMPLETE_VALUE: usize = 3;
+
+const DIRECTION: usize = 4;
+
+const MULTIPLE_HIT_WINDOW: usize = 5;
+
+const BLOCK_OF_COUNTER: usize = 6;
+
+// The places in the table of `accruals` and `sequences`.
+const EVENTS: usize = 0;
+
+const BLOCK_OF_STEPS: usize = 1;
+
+// The settings that all logic blocks have, from this place on in a row.
+fn as_block(row: &[Value], first: usize) -> Block<'_>
+    requires { first ≤ 6 }
+    ensures { block_view result ≡ block_at first (values_view row.now) }
+{
+    Block {
+        reset_on_complete: flag(row, first),
+        disable_on_complete: flag(row, first + 1),
+        persist: flag(row, first + 2),
+        enables: names(row, first + 3),
+        disables: names(row, first + 4),
+        resets: names(row, first + 5),
+        restarts: names(row, first + 6),
+        hit: posts_at(row, first + 7),
+        complete: posts_at(row, first + 8),
+    }
+}
+
+/// An entry of `counters`, by the names of its settings.
+#[tactic(auto, unfolding(crate::specs::Typed::counter_of))]
+pub fn as_counter(entry: &Entry) -> Counter<'_>
+    ensures { counter_view result ≡ counter_of (entry_view entry.now) }
+{
+    let row = entry.values.as_slice();
+    Counter {
+        name: &entry.name,
+        counts: names(row, COUNT_EVENTS),
+        start: number(row, STARTING_COUNT),
+        interval: number(row, COUNT_INTERVAL),
+        end: limit(row, COUNT_COMPLETE_VALUE),
+        direction: direction(row, DIRECTION),
+        window: milliseconds(row, MULTIPLE_HIT_WINDOW),
+        block: as_block(row, BLOCK_OF_COUNTER),
+    }
+}
+
+/// An entry of `accruals` or `sequences`, by the names of its settings.
+#[tactic(auto, unfolding(crate::specs::Typed::step_block_of))]
+pub fn as_step_block(entry: &Entry) -> StepBlock<'_>
+    ensures { step_block_view result ≡ step_block_of (entry_view entry.now) }
+{
+    let row = entry.values.as_slice();
+    StepBlock {
+        name: &entry.name,
+        steps: steps(row, EVENTS),
+        block: as_block(row, BLOCK_OF_STEPS),
+    }
+}
+
+impl Section {
+    /// The entries of `counters`, each to be read with [`as_counter`]; none of any other section.
+    #[tactic(auto, unfolding(crate::specs::Typed::counters_in))]
+    pub fn counters(&self) -> &[Entry]
+        ensures { map counter_of (map entry_view result.now) ≡ counters_in (section_view self.now) }
+    {
+        self.entries_of(COUNTERS_NAME)
+    }
+
+    /// The entries of `accruals`, each to be read with [`as_step_block`]; none of any other
+    /// section.
+    #[tactic(auto, unfolding(crate::specs::Typed::accruals_in))]
+    pub fn accruals(&self) -> &[Entry]
+        ensures { map step_block_of (map entry_view result.now) ≡ accruals_in (section_view self.now) }
+    {
+        self.entries_of(ACCRUALS_NAME)
+    }
+
+    /// The entries of `sequences`, each to be read with [`as_step_block`]; none of any other
+    /// section.
+    #[tactic(auto, unfolding(crate::specs::Typed::sequences_in))]
+    pub fn sequences(&self) -> &[Entry]
+        ensures { map step_block_of (map entry_view result.now) ≡ sequences_in (section_view self.now) }
+    {
+        self.entries_of(SEQUENCES_NAME)
+    }
+}

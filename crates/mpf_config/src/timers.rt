@@ -1,0 +1,172 @@
+//! The entries of `timers`, by the names of their settings.
+
+ghost use Rattle.std.specs.Prelude.{◌≡◌, map, option_map};
+ghost use Rattle.mpf_config.specs.Typed.{action_of, end_from, interval_from, control_of, timer_of, timers_in};
+ghost use Rattle.mpf_config.specs.View.{fields_view, entry_view, section_view, control_view, timer_view};
+
+use crate::config::{ControlAction, Direction, Section};
+use crate::typed::NameAt;
+use crate::values::{
+    direction, event_field, flag, limit, maps, milliseconds, number, number_field, word_field,
+};
+use section_tables::rows::{Entry, Fields, Name};
+use section_tables::tables::TIMERS_NAME;
+
+/// An event that controls a timer.
+#[derive(Clone, Copy)]
+pub struct Control<'a> {
+    pub event: NameAt<'a>,
+    pub action: ControlAction,
+    /// What `Add` adds, `Subtract` subtracts and `Jump` jumps to: 0 by default.
+    pub value: i64,
+}
+
+/// An entry of `timers`.
+#[derive(Clone, Copy)]
+pub struct Timer<'a> {
+    pub name: &'a Name,
+    /// Its value at first: 0 by default.
+    pub start: i64,
+    /// It completes when its value reaches or passes this one; none: never. By default a timer that
+    /// goes down completes at 0, and one that goes up never.
+    pub end: Option<i64>,
+    /// Up by default.
+    pub direction: Direction,
+    /// The milliseconds from one tick to the next: at least 1, and 1,000 by default.
+    pub interval: u32,
+    /// Whether it runs when its mode starts: by default it does not.
+    pub start_running: bool,
+    /// Whether it starts again when it completes: by default it does not.
+    pub restart: bool,
+    /// The events that control it, each to be read with [`as_control`].
+    pub controls: &'a [Fields],
+}
+
+// The places of the settings in the section's table.
+const START_VALUE: usize = 0;
+
+const END_VALUE: usize = 1;
+
+const DIRECTION: usize = 2;
+
+const TICK_INTERVAL: usize = 3;
+
+const START_RUNNING: usize = 4;
+
+const RESTART_ON_COMPLETE: usize = 5;
+
+const CONTROL_EVENTS: usize = 6;
+
+// Those of the fields of a control.
+const EVENT: usize = 0;
+
+const ACTION: usize = 1;
+
+const VALUE: usize = 2;
+
+const STOP: &[u8] = b"stop";
+
+const PAUSE: &[u8] = b"pause";
+
+const RESET: &[u8] = b"reset";
+
+const RESTART: &[u8] = b"restart";
+
+const ADD: &[u8] = b"add";
+
+const SUBTRACT: &[u8] = b"subtract";
+
+const JUMP: &[u8] = b"jump";
+
+// What a word does with a timer.
+fn action_of(word: &[u8]) -> ControlAction
+    ensures { result ≡ action_of word.now }
+{
+    if word == STOP {
+        return ControlAction::Stop;
+    }
+    if word == PAUSE {
+        return ControlAction::Pause;
+    }
+    if word == RESET {
+        return ControlAction::Reset;
+    }
+    if word == RESTART {
+        return ControlAction::Restart;
+    }
+    if word == ADD {
+        return ControlAction::Add;
+    }
+    if word == SUBTRACT {
+        return ControlAction::Subtract;
+    }
+    if word == JUMP {
+        return ControlAction::Jump;
+    }
+    ControlAction::Start
+}
+
+// Where a timer ends that has this end written, or none.
+fn end_from(direction: Direction, end: Option<i64>) -> Option<i64>
+    ensures { result ≡ end_from direction end }
+{
+    match (direction, end) {
+        (_, Some(end)) => Some(end),
+        (Direction::Up, None) => None,
+        (Direction::Down, None) => Some(0),
+    }
+}
+
+// At least a millisecond.
+fn interval_from(ms: u32) -> u32
+    ensures { result ≡ interval_from ms }
+{
+    if ms == 0 {
+        return 1;
+    }
+    ms
+}
+
+/// A map of `control_events`, by the names of its fields; none if it has no event, as no map has
+/// that is read.
+#[tactic(auto, unfolding(crate::specs::Typed::control_of))]
+pub fn as_control(map: &Fields) -> Option<Control<'_>>
+    ensures { option_map control_view result ≡ control_of (fields_view map.now) }
+{
+    let values = map.values.as_slice();
+    let event = event_field(values, EVENT)?;
+    Some(Control {
+        event,
+        action: action_of(word_field(values, ACTION)),
+        value: number_field(values, VALUE),
+    })
+}
+
+/// An entry of `timers`, by the names of its settings.
+#[tactic(auto, unfolding(crate::specs::Typed::timer_of))]
+pub fn as_timer(entry: &Entry) -> Timer<'_>
+    ensures { timer_view result ≡ timer_of (entry_view entry.now) }
+{
+    let row = entry.values.as_slice();
+    let direction = direction(row, DIRECTION);
+    Timer {
+        name: &entry.name,
+        start: number(row, START_VALUE),
+        end: end_from(direction, limit(row, END_VALUE)),
+        direction,
+        interval: interval_from(milliseconds(row, TICK_INTERVAL)),
+        start_running: flag(row, START_RUNNING),
+        restart: flag(row, RESTART_ON_COMPLETE),
+        controls: maps(row, CONTROL_EVENTS),
+    }
+}
+
+impl Section {
+    /// The entries of `timers`, each to be read with [`as_timer`]; none of any other section.
+    #[tactic(auto, unfolding(crate::specs::Typed::timers_in))]
+    pub fn timers(&self) -> &[Entry]
+        ensures { map timer_of (map entry_view result.now) ≡ timers_in (section_view self.now) }
+    {
+        self.entries_of(TIMERS_NAME)
+    }
+}

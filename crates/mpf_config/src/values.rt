@@ -1,0 +1,192 @@
+//! Values in a row, by their places.
+
+ghost use Rattle.std.specs.Prelude.{◌≡◌, map, option_map, slice_get, pos, negsuc};
+ghost use Rattle.section_tables.specs.EntryOf.{within};
+ghost use Rattle.section_tables.specs.View.{name_view, names_view, fields_view, plain_view, plains_view, value_view, values_view};
+ghost use Rattle.mpf_config.specs.Typed.{listed_names, listed_posts, listed_steps, listed_maps, word_of, flag_of, natural_of, number_of, direction_of, limit_of, time_of, event_name, event_in, word_in, number_in};
+ghost use Rattle.mpf_config.specs.View.{name_at_view};
+
+use crate::config::Direction;
+use crate::typed::NameAt;
+use section_tables::rows::{Fields, Name, Plain, Value};
+
+// ---- values of settings
+
+const DOWN: &[u8] = b"down";
+
+/// The names at a place of a row; none where there is no list of names.
+pub fn names(row: &[Value], at: usize) -> &[Name]
+    ensures { map name_view result.now ≡ listed_names (slice_get (values_view row.now) at) }
+{
+    match row.get(at) {
+        Some(Value::Names(names)) => names,
+        _ => &[],
+    }
+}
+
+/// The posted events that a value is; none where it is no list of them.
+pub fn posts(value: &Value) -> &[Name]
+    ensures { map name_view result.now ≡ listed_posts (Some (value_view value.now)) }
+{
+    match value {
+        Value::Posts(posts) => posts,
+        _ => &[],
+    }
+}
+
+/// The posted events at a place of a row.
+pub fn posts_at(row: &[Value], at: usize) -> &[Name]
+    ensures { map name_view result.now ≡ listed_posts (slice_get (values_view row.now) at) }
+{
+    match row.get(at) {
+        Some(value) => posts(value),
+        None => &[],
+    }
+}
+
+/// The word at a place of a row; the empty one where there is none.
+pub fn word(row: &[Value], at: usize) -> &'static [u8]
+    ensures { result.now ≡ word_of (slice_get (values_view row.now) at) }
+{
+    match row.get(at) {
+        Some(Value::One(Plain::Word(word))) => word,
+        _ => b"",
+    }
+}
+
+/// The flag at a place of a row; false where there is none.
+pub fn flag(row: &[Value], at: usize) -> bool
+    ensures { result ≡ flag_of (slice_get (values_view row.now) at) }
+{
+    match row.get(at) {
+        Some(Value::One(Plain::Flag(flag))) => *flag,
+        _ => false,
+    }
+}
+
+/// The number at a place of a row; 0 where there is none, or it is not of 32 bits.
+pub fn natural(row: &[Value], at: usize) -> u32
+    ensures { result ≡ natural_of (slice_get (values_view row.now) at) }
+{
+    match row.get(at) {
+        Some(Value::One(Plain::Number(number))) => u32::try_from(*number).unwrap_or(0),
+        _ => 0,
+    }
+}
+
+// Whether a number is within the range of those that may be left out.
+fn is_limit(n: i64) -> bool
+    ensures { result ≡ within (negsuc 999999999) (pos 1000000000) n }
+{
+    -1_000_000_000 <= n && n <= 1_000_000_000
+}
+
+/// The whole number at a place of a row; 0 where there is none.
+pub fn number(row: &[Value], at: usize) -> i64
+    ensures { result ≡ number_of (slice_get (values_view row.now) at) }
+{
+    match row.get(at) {
+        Some(Value::One(Plain::Number(number))) => *number,
+        _ => 0,
+    }
+}
+
+/// The number at a place of a row where there may be none.
+pub fn limit(row: &[Value], at: usize) -> Option<i64>
+    ensures { result ≡ limit_of (slice_get (values_view row.now) at) }
+{
+    match row.get(at) {
+        Some(Value::One(Plain::Number(number))) if is_limit(*number) => Some(*number),
+        _ => None,
+    }
+}
+
+/// The direction at a place of a row; up where there is none.
+pub fn direction(row: &[Value], at: usize) -> Direction
+    ensures { result ≡ direction_of (word_of (slice_get (values_view row.now) at)) }
+{
+    if word(row, at) == DOWN {
+        return Direction::Down;
+    }
+    Direction::Up
+}
+
+/// The milliseconds at a place of a row; 0 where there is no time.
+pub fn milliseconds(row: &[Value], at: usize) -> u32
+    ensures { result ≡ time_of (slice_get (values_view row.now) at) }
+{
+    match row.get(at) {
+        Some(Value::One(Plain::Time(ms))) => *ms,
+        _ => 0,
+    }
+}
+
+/// The steps at a place of a row, 16 at most; none where there are no steps.
+pub fn steps(row: &[Value], at: usize) -> &[Vec<Name>]
+    ensures { map names_view result.now ≡ listed_steps (slice_get (values_view row.now) at) }
+{
+    match row.get(at) {
+        Some(Value::Steps(steps)) if steps.len() <= 16 => steps,
+        _ => &[],
+    }
+}
+
+/// The maps at a place of a row; none where there is no list of them.
+pub fn maps(row: &[Value], at: usize) -> &[Fields]
+    ensures { map fields_view result.now ≡ listed_maps (slice_get (values_view row.now) at) }
+{
+    match row.get(at) {
+        Some(Value::Maps(maps)) => maps,
+        _ => &[],
+    }
+}
+
+/// The name of an event, where it is written.
+pub fn event_name(event: &Plain) -> NameAt<'_>
+    ensures { name_at_view result ≡ event_name (plain_view event.now) }
+{
+    match event {
+        Plain::Name(name) => NameAt {
+            line: name.line,
+            text: &name.text,
+        },
+        Plain::DefaultName(text) => NameAt { line: 0, text },
+        Plain::Event(handler) => NameAt {
+            line: handler.line,
+            text: &handler.name,
+        },
+        _ => NameAt { line: 0, text: b"" },
+    }
+}
+
+// ---- values of fields
+
+/// The name of the event at a place of a map, where it is written; nothing where there is none.
+pub fn event_field(values: &[Plain], at: usize) -> Option<NameAt<'_>>
+    ensures { option_map name_at_view result ≡ event_in (slice_get (plains_view values.now) at) }
+{
+    match values.get(at) {
+        Some(event @ (Plain::Name(_) | Plain::DefaultName(_))) => Some(event_name(event)),
+        _ => None,
+    }
+}
+
+/// The word at a place of a map; the empty one where there is none.
+pub fn word_field(values: &[Plain], at: usize) -> &'static [u8]
+    ensures { result.now ≡ word_in (slice_get (plains_view values.now) at) }
+{
+    match values.get(at) {
+        Some(Plain::Word(word)) => word,
+        _ => b"",
+    }
+}
+
+/// The number at a place of a map; 0 where there is none.
+pub fn number_field(values: &[Plain], at: usize) -> i64
+    ensures { result ≡ number_in (slice_get (plains_view values.now) at) }
+{
+    match values.get(at) {
+        Some(Plain::Number(number)) => *number,
+        _ => 0,
+    }
+}
