@@ -1,6 +1,7 @@
 //! Bundles and their rows, faults and notes.
 
 use crate::cases::{Subject, assert_rows, utf8};
+use crate::devices::show_devices;
 use crate::tables::show_names;
 use mpf_config::{
     Config, ConfigFault, EventPlayer, MODES_NAME, ModeText, Section, Switch, as_event_player,
@@ -188,7 +189,7 @@ fn show_section(out: &mut String, section: &Section) -> Result<(), AllocError> {
     for player in section.event_players() {
         show_player(out, as_event_player(player))?;
     }
-    Ok(())
+    show_devices(out, section)
 }
 
 fn show_machine(out: &mut String, sections: &[Section]) -> Result<(), AllocError> {

@@ -133,7 +133,7 @@ e:¶  x: {a: b}¶  tags: /¶  label:¶  debug: [a]¶  platform: 1¶  platform_se
 e:¶  flag: no¶  pulse: 5s¶  power: 25%¶  word: down¶  name: c_x¶  event: go => e@1: false | 3 | 5000ms | 250 | down | c_x@6 | go@7 |  |  |  ball_started@0 | - |  | - | -
 e:¶  number: -1¶  pulse: 1¶  event: go{ current_player.a-b <= -7 }¶  names: a, b => e@1: true | -1 | 1ms | 1000 | up | default@0 | go{a-b LessOrEqual -7}@4 |  a@5 b@5 |  |  ball_started@0 | - |  | - | -
 e:¶  posts:¶    - a¶    - \"\"¶    - b¶  events: c{current_player.x==1}, d => e@1: true | 3 | 10ms | 1000 | up | default@0 | - |  |  a@3 b@5 |  c{x Equal 1}@6 d@6 | - |  | - | -
-e:¶  events:¶  steps:¶    - a, b¶    - c{current_player.x!=0}¶    - [d, e] => e@1: true | 3 | 10ms | 1000 | up | default@0 | - |  |  |  | [ a@4 b@4][ c{x NotEqual 0}@5][ d@6 e@6] |  | - | -
+e:¶  events:¶  steps:¶    - a, b¶    - c¶    - [d, e] => e@1: true | 3 | 10ms | 1000 | up | default@0 | - |  |  |  | [ a@4 b@4][ c@5][ d@6 e@6] |  | - | -
 e:¶  maps:¶    - name: a¶    - {count: 0, to: b, name: c, power: 0.5} => e@1: true | 3 | 10ms | 1000 | up | default@0 | - |  |  |  ball_started@0 | - | {a@3, -, 4, playfield@0}@3{c@4, 500, 0, b@4}@4 | - | -
 e:¶  open:¶    - {name: a, other: [b]} => e@1: true | 3 | 10ms | 1000 | up | default@0 | - |  |  |  ball_started@0 | - |  | {a@3, -, 4, playfield@0}@3 | -
 e:¶  keyed:¶    c_up: enable¶    c_x: {for: 9, action: pulse} => e@1: true | 3 | 10ms | 1000 | up | default@0 | - |  |  |  ball_started@0 | - |  | - | c_up@3{enable, 7ms}c_x@4{pulse, 9ms}
@@ -163,6 +163,7 @@ e:¶  steps: => BadValue 2 steps
 e:¶  steps: a => BadValue 2 steps
 e:¶  steps:¶    - a¶    - => BadValue 2 steps
 e:¶  steps:¶    - a¶    - {b: c} => BadValue 2 steps
+e:¶  steps:¶    - a¶    - c{current_player.x!=0} => BadValue 2 steps
 e:¶  steps: [1, 2, 3, 4, 5, 6, 7, 8, 9, 10, 11, 12, 13, 14, 15, 16, 17] => BadValue 2 steps
 e:¶  maps: => BadValue 2 maps
 e:¶  maps: a => BadValue 2 maps
@@ -233,6 +234,39 @@ modes:¶  - a¶  - b c¶ => BadValue 1 modes
 modes: {a: b}¶ => BadValue 1 modes
 modes: [«1025 a/, »]¶ => Limit 1 modes
 modes: [«1024 a, »]¶ => «1024  a@1»
+counters:¶  c:¶    count_events: a, b¶ => c@2:  a@3 b@3 | 0 | 1 | - | up | 0ms | true | true | false |  |  |  |  |  | ;
+counters:¶  c:¶    count_events:¶    tags: d¶    starting_count: -1000000000¶    count_interval: 1000000¶    count_complete_value: 1000000000¶    direction: down¶    multiple_hit_window: 2s¶ => c@2:  | -1000000000 | 1000000 | 1000000000 | down | 2000ms | true | true | false |  |  |  |  |  | ;
+counters:¶  c:¶    reset_on_complete: no¶    disable_on_complete: no¶    persist_state: yes¶    enable_events: a¶    disable_events: b¶    reset_events: c¶    restart_events: d, e¶    events_when_hit: f¶    events_when_complete: g h¶    count_events: i¶ => c@2:  i@12 | 0 | 1 | - | up | 0ms | false | false | true |  a@6 |  b@7 |  c@8 |  d@9 e@9 |  f@10 |  g@11 h@11;
+counters:¶  c:¶ => Missing 2 count_events
+counters:¶  c:¶    direction: up¶  d:¶    count_events: a¶ => Missing 2 count_events
+counters:¶  c:¶    count_events: a{current_player.x==1}¶ => BadValue 3 count_events
+counters:¶  c:¶    count_interval: 0¶ => BadValue 3 count_interval
+counters:¶  c:¶    count_interval: 1000001¶ => BadValue 3 count_interval
+counters:¶  c:¶    starting_count: 1000000001¶ => BadValue 3 starting_count
+counters:¶  c:¶    count_complete_value:¶ => BadValue 3 count_complete_value
+counters:¶  c:¶    direction: left¶ => BadValue 3 direction
+counters:¶  c:¶    multiple_hit_window: -1¶ => BadValue 3 multiple_hit_window
+counters:¶  c:¶    events_when_hit: a{current_player.x==1}¶ => BadValue 3 events_when_hit
+counters:¶  c:¶    enable_events: a/¶ => BadValue 3 enable_events
+counters:¶  c:¶    count_event: a¶ => UnknownSetting 3 count_event
+counters:¶  c:¶    count_events: [«1025 a, »]¶ => Limit 3 count_events
+counters:¶  c:¶    count_events: a¶  playfield:¶    count_events: a¶ => BadValue 4 playfield
+counters:¶  playfield:¶    direction: left¶ => BadValue 2 playfield
+counters:¶  c:¶    direction: left¶  playfield:¶ => BadValue 3 direction
+accruals:¶  q:¶    events:¶      - a, b¶      - [c]¶ => q@2: [ a@4 b@4][ c@5] | true | true | false |  |  |  |  |  | ;
+accruals:¶  q:¶    events:¶  r:¶    events: []¶    events_when_hit:¶ => q@2:  | true | true | false |  |  |  |  |  | ; r@4:  | true | true | false |  |  |  |  |  | ;
+accruals:¶  q:¶    events: [1, 2, 3, 4, 5, 6, 7, 8, 9, 10, 11, 12, 13, 14, 15, 16]¶ => q@2: [ 1@3][ 2@3][ 3@3][ 4@3][ 5@3][ 6@3][ 7@3][ 8@3][ 9@3][ 10@3][ 11@3][ 12@3][ 13@3][ 14@3][ 15@3][ 16@3] | true | true | false |  |  |  |  |  | ;
+accruals:¶  q:¶    events: [1, 2, 3, 4, 5, 6, 7, 8, 9, 10, 11, 12, 13, 14, 15, 16, 17]¶ => BadValue 3 events
+accruals:¶  q:¶    events: a¶ => BadValue 3 events
+accruals:¶  q:¶    events:¶      - a¶      -¶ => BadValue 3 events
+accruals:¶  q:¶    events:¶      - a{current_player.x==1}¶ => BadValue 3 events
+accruals:¶  q:¶ => Missing 2 events
+accruals:¶  q:¶    count_events: a¶ => UnknownSetting 3 count_events
+accruals:¶  playfield:¶    events:¶ => BadValue 2 playfield
+sequences:¶  q:¶    persist_state: yes¶    events:¶      - a¶ => q@2: [ a@5] | true | true | true |  |  |  |  |  | ;
+sequences:¶  q:¶ => Missing 2 events
+sequences:¶  playfield:¶ => BadValue 2 playfield
+timers:¶ => no section
 coils:¶ => no section
 mode:¶ => no section
 ";
@@ -257,6 +291,26 @@ mode:¶  start_events: [«1025 a, »]¶ => Limit 2 start_events
 mode:¶  events_when_started: a¶ => UnknownSetting 2 events_when_started
 event_player:¶  a: b, c¶  d:¶ => a@2:  b@2 c@2; d@3: ;
 event_player:¶  a: b/¶ => BadValue 2 a
+counters:¶  c:¶    count_events: a¶ => c@2:  a@3 | 0 | 1 | - | up | 0ms | true | true | false |  |  |  |  |  | ;
+accruals:¶  q:¶ => Missing 2 events
+sequences:¶  q:¶    events:¶ => q@2:  | true | true | false |  |  |  |  |  | ;
+timers:¶  t:¶ => t@2: 0 | - | up | 1000ms | false | false | ;
+timers:¶  t:¶    start_value: 1000000000¶    end_value: -1000000000¶    direction: down¶    tick_interval: 1¶    start_running: yes¶    restart_on_complete: yes¶ => t@2: 1000000000 | -1000000000 | down | 1ms | true | true | ;
+timers:¶  t:¶    control_events:¶      - event: go¶        action: start¶      - {value: -3, action: jump, event: halt}¶ => t@2: 0 | - | up | 1000ms | false | false | {go@4, start, 0}@4{halt@6, jump, -3}@6;
+timers:¶  t:¶    control_events:¶    tick_interval: 4294967295¶ => t@2: 0 | - | up | 4294967295ms | false | false | ;
+timers:¶  t:¶    control_events:¶      - event: go¶ => Missing 4 action
+timers:¶  t:¶    control_events:¶      - value: 1¶ => Missing 4 event
+timers:¶  t:¶    control_events:¶      - event: go¶        number: 1¶ => UnknownSetting 5 number
+timers:¶  t:¶    control_events:¶      - event: go{current_player.x>1}¶ => BadValue 4 event
+timers:¶  t:¶    control_events:¶      - action: begin¶ => BadValue 4 action
+timers:¶  t:¶    control_events:¶      - value: 1000000001¶ => BadValue 4 value
+timers:¶  t:¶    control_events: [a]¶ => BadValue 3 control_events
+timers:¶  t:¶    tick_interval: 0¶ => BadValue 3 tick_interval
+timers:¶  t:¶    tick_interval: 4294967296¶ => BadValue 3 tick_interval
+timers:¶  t:¶    end_value:¶ => BadValue 3 end_value
+timers:¶  t:¶    start_value: 1.5¶ => BadValue 3 start_value
+timers:¶  t:¶    enable_events: a¶ => UnknownSetting 3 enable_events
+timers:¶  t:¶  playfield:¶ => BadValue 3 playfield
 modes: a¶ => no section
 switches:¶ => no section
 coils:¶ => no section
@@ -312,10 +366,10 @@ fn show_handlers(out: &mut String, handlers: &[Handler]) -> Result<(), AllocErro
     Ok(())
 }
 
-fn show_steps(out: &mut String, steps: &[Vec<Handler>]) -> Result<(), AllocError> {
+fn show_steps(out: &mut String, steps: &[Vec<Name>]) -> Result<(), AllocError> {
     for step in steps {
         out.push_str("[")?;
-        show_handlers(out, step)?;
+        show_names(out, step)?;
         out.push_str("]")?;
     }
     Ok(())

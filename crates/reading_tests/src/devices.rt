@@ -1,0 +1,117 @@
+//! Logic blocks and timers of bundles, by the names of their settings.
+
+use crate::cases::{Subject, assert_rows, utf8};
+use crate::tables::show_names;
+use mpf_config::{
+    Block, Control, Counter, Name, Section, StepBlock, Timer, as_control, as_counter,
+    as_step_block, as_timer,
+};
+use std::alloc::AllocError;
+use std::test::Fail;
+
+// Texts, and what is read of them. A counter is shown by its name, the events that it counts, its value
+// at first, its interval, its end, its direction and its window; an accrual or a sequence by its name and
+// steps. Then come whether completing resets and disables it, whether it is kept for each player, and its
+// lists. A timer is shown by its name, its value at first, its end, its direction, its interval, whether
+// it runs at first and whether it starts again; and then what controls it.
+const DEVICES: &str = "\
+@¶counters:¶  c:¶    count_events: a, b¶  d:¶    count_events:¶    starting_count: 9¶    count_interval: 2¶    count_complete_value: -1¶    direction: down¶    multiple_hit_window: 1s¶    enable_events: e¶    disable_events: f¶    reset_events: g¶    restart_events: h¶    events_when_hit: i¶    events_when_complete: j k¶ => counters¶ c@3; a@4 b@4; 0 1 None Up 0; true true false;;;;;;;¶ d@5;; 9 2 Some(-1) Down 1000; true true false; e@12; f@13; g@14; h@15; i@16; j@17 k@17;¶
+@¶accruals:¶  q:¶    reset_on_complete: no¶    events:¶      - a, b¶      - c¶sequences:¶  r:¶    events:¶    disable_on_complete: no¶    persist_state: yes¶ => accruals¶ q@3; [ a@6 b@6][ c@7]; false true false;;;;;;;¶sequences¶ r@9;; true false true;;;;;;;¶
+@¶modes: m¶@m¶timers:¶  t:¶  u:¶    direction: down¶  v:¶    direction: down¶    start_value: 3¶    end_value: -2¶    tick_interval: 5¶    start_running: yes¶    restart_on_complete: yes¶ => modes¶ m@2¶m: 100 true true;;;¶timers¶ t@3; 0 None Up 1000 false false;¶ u@4; 0 Some(0) Down 1000 false false;¶ v@6; 3 Some(-2) Down 5 true true;¶
+@¶modes: m¶@m¶timers:¶  t:¶    control_events:¶      - {event: a, action: start}¶      - {event: b, action: stop}¶      - {event: c, action: pause}¶      - {event: d, action: reset}¶      - {event: e, action: restart}¶      - {event: f, action: add, value: 1}¶      - {event: g, action: subtract, value: 2}¶      - {event: h, action: jump, value: -3}¶ => modes¶ m@2¶m: 100 true true;;;¶timers¶ t@3; 0 None Up 1000 false false; a@5 Start 0; b@6 Stop 0; c@7 Pause 0; d@8 Reset 0; e@9 Restart 0; f@10 Add 1; g@11 Subtract 2; h@12 Jump -3;¶
+@¶timers:¶ => error 4 UnknownSection config/config.yaml 2 timers¶
+@¶counters:¶  c:¶ => error 7 Missing config/config.yaml 3 count_events¶
+@¶modes: m¶@m¶timers:¶  t:¶    control_events:¶      - event: a¶ => error 7 Missing modes/m/config/m.yaml 5 action¶
+@¶modes: m¶@m¶timers:¶  playfield:¶ => error 6 BadValue modes/m/config/m.yaml 3 playfield¶
+";
+
+fn show_name(out: &mut String, name: &Name) -> Result<(), AllocError> {
+    write!(out, " {}@{};", utf8(&name.text), name.line)
+}
+
+fn show_block(out: &mut String, block: Block<'_>) -> Result<(), AllocError> {
+    write!(
+        out,
+        " {} {} {};",
+        block.reset_on_complete, block.disable_on_complete, block.persist
+    )?;
+    let first = [block.enables, block.disables, block.resets];
+    let second = [block.restarts, block.hit, block.complete];
+    for names in first.into_iter().chain(second) {
+        show_names(out, names)?;
+        out.push_str(";")?;
+    }
+    out.push_str("\n")
+}
+
+fn show_counter(out: &mut String, counter: Counter<'_>) -> Result<(), AllocError> {
+    show_name(out, counter.name)?;
+    show_names(out, counter.counts)?;
+    write!(
+        out,
+        "; {} {} {:?} {:?} {};",
+        counter.start, counter.interval, counter.end, counter.direction, counter.window
+    )?;
+    show_block(out, counter.block)
+}
+
+fn show_step_block(out: &mut String, block: StepBlock<'_>) -> Result<(), AllocError> {
+    show_name(out, block.name)?;
+    let mut before = " ";
+    for step in block.steps {
+        write!(out, "{before}[")?;
+        show_names(out, step)?;
+        out.push_str("]")?;
+        before = "";
+    }
+    out.push_str(";")?;
+    show_block(out, block.block)
+}
+
+fn show_control(out: &mut String, control: Control<'_>) -> Result<(), AllocError> {
+    write!(
+        out,
+        " {}@{} {:?} {};",
+        utf8(control.event.text),
+        control.event.line,
+        control.action,
+        control.value
+    )
+}
+
+fn show_timer(out: &mut String, timer: Timer<'_>) -> Result<(), AllocError> {
+    show_name(out, timer.name)?;
+    write!(
+        out,
+        " {} {:?} {:?} {} {} {};",
+        timer.start, timer.end, timer.direction, timer.interval, timer.start_running, timer.restart
+    )?;
+    for map in timer.controls {
+        if let Some(control) = as_control(map) {
+            show_control(out, control)?;
+        }
+    }
+    out.push_str("\n")
+}
+
+/// Adds the logic blocks and the timers of a section.
+pub(crate) fn show_devices(out: &mut String, section: &Section) -> Result<(), AllocError> {
+    for entry in section.counters() {
+        show_counter(out, as_counter(entry))?;
+    }
+    for entry in section.accruals() {
+        show_step_block(out, as_step_block(entry))?;
+    }
+    for entry in section.sequences() {
+        show_step_block(out, as_step_block(entry))?;
+    }
+    for entry in section.timers() {
+        show_timer(out, as_timer(entry))?;
+    }
+    Ok(())
+}
+
+#[test]
+fn logic_blocks_and_timers(rt: HostRuntime) -> Result<(), Fail> {
+    assert_rows(&rt, Subject::Texts, DEVICES)
+}
