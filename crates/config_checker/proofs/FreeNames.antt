@@ -9,7 +9,8 @@ use Rattle.yaml_subset.specs.Keys.{is_among}
 use Rattle.mpf_config.specs.Rows.{Written, SectionRows, ModeRows, Rows}
 use Rattle.mpf_config.specs.BundleText.{machine_name, mode_text_name}
 use Rattle.config_checker.specs.FaultView.{FaultView}
-use Rattle.config_checker.specs.Reserved.{game_events, mode_events, events_of_modes, mode_names, is_reserved_by, is_reserved, posts_of, put_by, ordered_by, reserved_among, reserved_fault, text_faults, mode_faults, faults_by, listed_once, reserved_faults}
+use Rattle.config_checker.specs.Reserved.{game_events, mode_events, events_of_modes, mode_names, is_reserved_by, is_reserved, posts_of, reserved_among}
+use Rattle.config_checker.specs.RowFaults.{put_by, ordered_by, reserved_fault, text_faults, mode_faults, faults_by, listed_once, row_faults}
 use Rattle.config_checker.specs.Checking.{faults_of_rows}
 
 -- ---- lists without items
@@ -76,7 +77,7 @@ pub record PostNothingReserved (rows : Rows) : Type 0 where
   pub modes : All (λ m. All (λ w. is_reserved rows w.text ≡ false) (posts_of m.sections)) rows.modes
 
 pub posts-free : (rows : Rows) → faults_of_rows rows ≡ [] → PostNothingReserved rows
-unfolding reserved_faults
+unfolding row_faults
 posts-free rows none =
     let modes = events_of_modes (mode_names rows) in
     let parts = append-none (text_faults modes machine_name rows.machine) (flat_map (mode_faults modes) rows.modes) (once-none (faults_by modes rows) none) in

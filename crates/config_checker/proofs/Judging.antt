@@ -19,7 +19,7 @@ use Rattle.config_checker.specs.declared.report.Report.TheVariants.{NoMemory, Fa
 use Rattle.config_checker.specs.CheckedView.{CheckedView}
 use Rattle.config_checker.specs.CertificateText.{Certificate, text_of, certificate_text}
 use Rattle.config_checker.specs.CertificateOf.{IsTextOf, certificate_at}
-use Rattle.config_checker.specs.Checking.{FaultView, reserved, limit, cycle, bound, certificate, bad_line, other_events, other_bound, named_fault, weighed, weighed_plan, same_names, certificate_names, certificate_weights, bounded, certified, certified_plan, reported_alone, faults_of_rows, faults_first, checked, checked_at, checked_with_at}
+use Rattle.config_checker.specs.Checking.{FaultView, row, limit, cycle, bound, certificate, bad_line, other_events, other_bound, named_fault, weighed, weighed_plan, same_names, certificate_names, certificate_weights, bounded, certified, certified_plan, reported_alone, faults_of_rows, faults_first, checked, checked_at, checked_with_at}
 use Rattle.config_checker.specs.View.{GivesChecked, ReportsFault, fault_view}
 use Rattle.config_checker.specs.Refused.{IsLimitFault, IsFaultOf, IsNoCertificate, IsCertificateOf, HasOtherEvents, HasOtherBound, HasTooMuch, HasShortEvent, IsFaultWith, IsReport, Reports, ReportsOne, AreOwn, ReportsOwn}
 use Rattle.config_checker.proofs.Certificates.{read-is_text, text-is_read}
@@ -94,7 +94,7 @@ none-some x e = absurd (apart e)
 
 module _ (rows : Rows) where
   limit-checked : (judge : PlanView → Result CheckedView FaultView) (fault : FaultView) → IsLimitFault rows fault → checked judge (plan_at rows) ≡ Err (fault ∷ [])
-  limit-checked judge (reserved text line name) h = absurd h
+  limit-checked judge (row kind text line name) h = absurd h
   limit-checked judge (limit t) h = ap (checked judge) (plan_at-exceeded rows t h)
   limit-checked judge (cycle names) h = absurd h
   limit-checked judge bound h = absurd h
@@ -109,14 +109,14 @@ module _ (rows : Rows) where
   limit-given none text fault h = first-none rows (checked (certified_plan text) (plan_at rows)) none ∙ limit-checked (certified_plan text) fault h
 
   pub limit-fault : (fault : FaultView) → IsLimitFault rows fault → IsFaultOf rows fault
-  limit-fault (reserved text line name) h = absurd h
+  limit-fault (row kind text line name) h = absurd h
   limit-fault (limit t) h = h
   limit-fault (cycle names) h = absurd h
   limit-fault bound h = absurd h
   limit-fault (certificate fault) h = absurd h
 
   pub limit-fault_with : (text : List ℕ) (fault : FaultView) → IsLimitFault rows fault → IsFaultWith rows text fault
-  limit-fault_with text (reserved of line name) h = absurd h
+  limit-fault_with text (row kind of line name) h = absurd h
   limit-fault_with text (limit t) h = h
   limit-fault_with text (cycle names) h = absurd h
   limit-fault_with text bound h = absurd h

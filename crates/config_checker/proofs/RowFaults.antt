@@ -18,7 +18,8 @@ use Rattle.config_checker.specs.FaultView.{FaultView}
 use Rattle.config_checker.specs.ReportText.{report_line}
 use Rattle.mpf_config.specs.Rows.{SectionRows, ModeRows, Rows}
 use Rattle.mpf_config.specs.BundleText.{machine_name, mode_text_name}
-use Rattle.config_checker.specs.Reserved.{game_events, mode_events, events_of_modes, posts_of, ordered_by, reserved_fault, faults_by, listed_once}
+use Rattle.config_checker.specs.Reserved.{game_events, mode_events, events_of_modes, posts_of}
+use Rattle.config_checker.specs.RowFaults.{ordered_by, reserved_fault, faults_by, listed_once}
 use Rattle.config_checker.specs.View.{fault_view, faults_view}
 
 -- ---- sets

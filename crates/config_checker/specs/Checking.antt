@@ -9,8 +9,8 @@ use Rattle.cascade_rank.specs.Weights.{bound_of}
 use Rattle.cascade_rank.specs.Finding.{RankView, found_at, verified_at}
 use Rattle.cascade_rank.specs.Finding as ranks
 use Rattle.config_checker.specs.CheckedView.{CheckedView}
-pub use Rattle.config_checker.specs.FaultView.{CertificateFaultView, bad_line, other_events, short, other_bound, FaultView, reserved, limit, cycle, bound, certificate}
-use Rattle.config_checker.specs.Reserved.{reserved_faults}
+pub use Rattle.config_checker.specs.FaultView.{CertificateFaultView, bad_line, other_events, short, other_bound, FaultView, row, limit, cycle, bound, certificate}
+use Rattle.config_checker.specs.RowFaults.{row_faults}
 use Rattle.config_checker.specs.CertificateText.{Certificate}
 use Rattle.config_checker.specs.CertificateOf.{certificate_at}
 
@@ -60,7 +60,7 @@ certified_plan text plan = certified plan (certificate_at text)
 
 -- the faults of the rows themselves, in the order in which a report lists them: the reserved events that they post
 abbrev pub faults_of_rows : Rows → List FaultView
-faults_of_rows rows = reserved_faults rows
+faults_of_rows rows = row_faults rows
 
 -- A report lists them all. Only where there are none, it says what is wrong with the plan.
 abbrev pub faults_first : {X : Type 0} → List FaultView → Result X (List FaultView) → Result X (List FaultView)

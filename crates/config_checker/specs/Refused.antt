@@ -11,7 +11,7 @@ use Rattle.config_checker.specs.declared.report.Report.{Report}
 use Rattle.config_checker.specs.declared.report.Report.TheVariants as reports
 use Rattle.config_checker.specs.CertificateText.{Certificate}
 use Rattle.config_checker.specs.CertificateOf.{IsTextOf}
-use Rattle.config_checker.specs.Checking.{CertificateFaultView, bad_line, other_events, short, other_bound, FaultView, reserved, limit, cycle, bound, certificate, certificate_names, certificate_weights, faults_of_rows}
+use Rattle.config_checker.specs.Checking.{CertificateFaultView, bad_line, other_events, short, other_bound, FaultView, row, limit, cycle, bound, certificate, certificate_names, certificate_weights, faults_of_rows}
 use Rattle.config_checker.specs.View.{fault_view}
 
 -- the names are those of events that lead to each other: of the cycle that is reported
@@ -22,7 +22,7 @@ pub record IsCycleOf (plan : PlanView) (names : List (List ℕ)) : Type 0 where
 
 -- the table is the first that is above its limit
 abbrev pub IsLimitFault : Rows → FaultView → Type 0
-IsLimitFault rows (reserved text line name) = ⊥
+IsLimitFault rows (row kind text line name) = ⊥
 IsLimitFault rows (limit t) = IsExceeded rows t
 IsLimitFault rows (cycle names) = ⊥
 IsLimitFault rows bound = ⊥
@@ -33,7 +33,7 @@ IsLimitFault rows (certificate fault) = ⊥
 -- The fault says what is wrong where no row has a fault: a table of the plan is above its limit, its events lead to each other,
 -- or its least weights or their bound are above the limit.
 abbrev pub IsFaultOf : Rows → FaultView → Type 0
-IsFaultOf rows (reserved text line name) = ⊥
+IsFaultOf rows (row kind text line name) = ⊥
 IsFaultOf rows (limit t) = IsExceeded rows t
 IsFaultOf rows (cycle names) = IsCycleOf (plan_of rows) names
 IsFaultOf rows bound = IsUnfound (plan_of rows) ranks.bound_too_large
@@ -84,7 +84,7 @@ IsCertificateFault plan text (other_bound right) = HasOtherBound plan text right
 
 -- the fault says what is wrong with the rows or with the certificate
 abbrev pub IsFaultWith : Rows → List ℕ → FaultView → Type 0
-IsFaultWith rows text (reserved of line name) = ⊥
+IsFaultWith rows text (row kind of line name) = ⊥
 IsFaultWith rows text (limit t) = IsExceeded rows t
 IsFaultWith rows text (cycle names) = ⊥
 IsFaultWith rows text bound = HasTooMuch (plan_of rows) text

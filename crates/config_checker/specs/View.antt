@@ -17,7 +17,7 @@ use Rattle.config_checker.specs.declared.report.Fault.TheVariants as faults
 use Rattle.config_checker.specs.declared.report.Report.{Report}
 use Rattle.config_checker.specs.declared.report.Report.TheVariants as reports
 use Rattle.config_checker.specs.CheckedView.{CheckedView}
-use Rattle.config_checker.specs.Checking.{CertificateFaultView, bad_line, other_events, short, other_bound, FaultView, reserved, limit, cycle, bound, certificate}
+use Rattle.config_checker.specs.Checking.{CertificateFaultView, bad_line, other_events, short, other_bound, FaultView, row, limit, cycle, bound, certificate}
 
 abbrev pub certificate_fault_view : CertificateFault → CertificateFaultView
 certificate_fault_view (certificates.Line number) = bad_line number
@@ -26,7 +26,7 @@ certificate_fault_view (certificates.Short event needed) = short event.items nee
 certificate_fault_view (certificates.Bound stated) = other_bound stated
 
 abbrev pub fault_view : Fault → FaultView
-fault_view (faults.Reserved p) = reserved p.text.items p.line p.name.items
+fault_view (faults.Row f) = row f.kind f.text.items f.line f.name.items
 fault_view (faults.Limit t) = limit t
 fault_view (faults.Cycle names) = cycle (map (λ v. v.items) names.items)
 fault_view faults.Bound = bound

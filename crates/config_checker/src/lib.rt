@@ -18,5 +18,5 @@ pub use checked::Checked;
 pub use checker::{check, check_with};
 pub use law::{accepted_is_good, alarms_end, certificate_is_read_again};
 pub use line::{Happening, Line};
-pub use report::{CertificateFault, Fault, Report, ReservedPost};
+pub use report::{CertificateFault, Fault, Report, RowFault, RowFaultKind};
 pub use report_text::write_report;

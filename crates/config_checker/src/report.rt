@@ -2,6 +2,7 @@
 
 ghost use Rattle.std.specs.Prelude.{◌≡◌};
 ghost use Rattle.config_checker.specs.declared.report.Report.TheVariants.{NoMemory};
+ghost use Rattle.config_checker.specs.ReportText.{row_fault_number, row_fault_name};
 
 use plan_tables::table::Table;
 use std::alloc::{AllocError, AllocFailed};
@@ -24,24 +25,55 @@ pub enum CertificateFault {
     Bound(u32),
 }
 
-/// A reserved event that a text posts: an event of a game, or of a mode that the machine text
-/// lists.
+/// What can be wrong with the rows of a text.
+#[derive(Clone, Copy, Debug, PartialEq, Eq)]
+pub enum RowFaultKind {
+    /// A reserved event is posted: one of a game, or of a mode that the machine text lists.
+    Name,
+    /// The value at which a timer starts has reached or passed its end.
+    TimerAtEnd,
+}
+
+impl RowFaultKind {
+    /// The number with which the fault is printed.
+    pub fn number(self) -> u32
+        ensures { result ≡ row_fault_number self }
+    {
+        match self {
+            RowFaultKind::Name => 1,
+            RowFaultKind::TimerAtEnd => 5,
+        }
+    }
+
+    /// The name with which it is printed.
+    pub fn name(self) -> &'static str
+        ensures { result.now ≡ row_fault_name self }
+    {
+        match self {
+            RowFaultKind::Name => "Name",
+            RowFaultKind::TimerAtEnd => "TimerAtEnd",
+        }
+    }
+}
+
+/// What is wrong with the rows of a text.
 #[derive(Debug, Drop)]
-pub struct ReservedPost {
+pub struct RowFault {
+    pub kind: RowFaultKind,
     /// The name of the text.
     pub text: Vec<u8>,
-    /// The line of the event's name, counted from 1.
+    /// The line of the name that is at fault, counted from 1.
     pub line: u32,
-    /// The event's name.
+    /// The name: that of the event, or of the timer.
     pub name: Vec<u8>,
 }
 
 /// A fault of a configuration.
 #[derive(Debug, Drop, Error)]
 pub enum Fault {
-    /// A reserved event is posted.
-    #[error("Name {}", .0.line)]
-    Reserved(ReservedPost),
+    /// Something is wrong with the rows of a text.
+    #[error("{} {}", .0.kind.name(), .0.line)]
+    Row(RowFault),
     /// The first table that is above its limit.
     #[error("Limit {}", .0.name())]
     Limit(Table),

@@ -3,10 +3,10 @@
 ghost use Rattle.std.specs.Prelude.{◌≡◌, OnOk, map};
 ghost use Rattle.std.specs.Io.KnownBytes.{Appends};
 ghost use Rattle.config_checker.specs.View.{certificate_fault_view, fault_view};
-ghost use Rattle.config_checker.specs.FaultView.{cycle, reserved};
+ghost use Rattle.config_checker.specs.FaultView.{cycle, row};
 ghost use Rattle.config_checker.specs.ReportText.{certificate_fault_text, report_line, report_text};
 
-use crate::report::{CertificateFault, Fault, ReservedPost};
+use crate::report::{CertificateFault, Fault, RowFault};
 use mpf_config::write_escaped;
 use std::io::{self, Write};
 
@@ -33,7 +33,7 @@ pub(crate) fn write_fault<W: Write>(fault: &Fault, writer: &mut W) -> io::Result
     ensures { OnOk result (Appends (W.contents writer.old) (W.contents writer.new) (report_line (fault_view fault.now))) }
 {
     match fault {
-        Fault::Reserved(post) => write_reserved(post, writer),
+        Fault::Row(fault) => write_row_fault(fault, writer),
         Fault::Limit(table) => writeln!(writer, "fault 7 Limit {}", table.name()),
         Fault::Cycle(events) => write_cycle(events, writer),
         Fault::Bound => writeln!(writer, "fault 9 Bound"),
@@ -45,14 +45,18 @@ pub(crate) fn write_fault<W: Write>(fault: &Fault, writer: &mut W) -> io::Result
     }
 }
 
-fn write_reserved<W: Write>(post: &ReservedPost, writer: &mut W) -> io::Result<()>
-    ensures { OnOk result (Appends (W.contents writer.old) (W.contents writer.new) (report_line (reserved post.now.text.items post.now.line post.now.name.items))) }
+fn write_row_fault<W: Write>(fault: &RowFault, writer: &mut W) -> io::Result<()>
+    ensures { OnOk result (Appends (W.contents writer.old) (W.contents writer.new) (report_line (row fault.now.kind fault.now.text.items fault.now.line fault.now.name.items))) }
 {
-    writer.write_all(b"fault 1 Name ")?;
-    write_escaped(&post.text, writer)?;
-    write!(writer, " {}", post.line)?;
-    writer.write_all(b" ")?;
-    writer.write_all(&post.name)?;
+    write!(
+        writer,
+        "fault {} {} ",
+        fault.kind.number(),
+        fault.kind.name()
+    )?;
+    write_escaped(&fault.text, writer)?;
+    write!(writer, " {} ", fault.line)?;
+    writer.write_all(&fault.name)?;
     writer.write_all(b"\n")
 }
 

@@ -4,11 +4,13 @@ ghost use Rattle.std.specs.Prelude.{◌≡◌, ◌++◌, ◌∷◌, ℕ, List, m
 ghost use Rattle.std.specs.List.{flat_map};
 ghost use Rattle.yaml_subset.specs.Keys.{is_among};
 ghost use Rattle.mpf_config.specs.View.{name_view, entry_view, player_view, section_view, mode_view};
-ghost use Rattle.mpf_config.specs.Typed.{switch_of, event_player_of};
-ghost use Rattle.config_checker.specs.Reserved.{game_events, mode_events, events_of_modes, is_reserved_by, switch_posts, player_posts, posts_in, posts_of, ordered_by, reserved_among};
+ghost use Rattle.mpf_config.specs.Typed.{switch_of, event_player_of, counter_of, step_block_of};
+ghost use Rattle.config_checker.specs.Reserved.{game_events, mode_events, events_of_modes, is_reserved_by, switch_posts, player_posts, counter_posts, step_posts, posts_in, reserved_among};
 ghost use Rattle.config_checker.specs.View.{keys_view, written_view};
 
-use mpf_config::{Entry, ModeText, Name, Player, Section, as_event_player, as_switch};
+use mpf_config::{
+    Entry, ModeText, Name, Player, Section, as_counter, as_event_player, as_step_block, as_switch,
+};
 use section_tables::is_one_of;
 use std::alloc::{AllocError, Global};
 use std::collections::BTreeSet;
@@ -103,32 +105,21 @@ fn is_reserved(modes: &ModeEvents, name: &[u8]) -> bool
 
 // ---- posts
 
-/// The reserved events that the sections of a text post, by line; those of one line as written.
+/// The reserved events that a section posts, entry by entry as written.
 pub(crate) fn reserved_posts<'a>(
     alloc: Global,
     modes: &ModeEvents,
-    sections: &'a [Section],
+    section: &'a Section,
 ) -> Result<Vec<&'a Name>, AllocError>
-    ensures { IfOk result (λ found. written_view found.items ≡ ordered_by (λ w. w.line) (reserved_among (keys_view modes.now) (posts_of (map section_view sections.now)))) }
+    ensures { IfOk result (λ found. written_view found.items ≡ reserved_among (keys_view modes.now) (posts_in (section_view section.now))) }
 {
     let mut found = Vec::new(alloc);
-    for section in sections {
-        add_section(&mut found, modes, section)?;
-    }
-    found.sort_by_key(|name| name.line)?;
+    add_switches(&mut found, modes, section.switches())?;
+    add_players(&mut found, modes, section.event_players())?;
+    add_counters(&mut found, modes, section.counters())?;
+    add_step_blocks(&mut found, modes, section.accruals())?;
+    add_step_blocks(&mut found, modes, section.sequences())?;
     Ok(found)
-}
-
-/// Adds the reserved events that a section posts, entry by entry as written.
-fn add_section<'a>(
-    found: &mut Vec<&'a Name>,
-    modes: &ModeEvents,
-    section: &'a Section,
-) -> Result<(), AllocError>
-    ensures { OnOk result (written_view found.new.items ≡ written_view found.old.items ++ reserved_among (keys_view modes.now) (posts_in (section_view section.now))) }
-{
-    add_switches(found, modes, section.switches())?;
-    add_players(found, modes, section.event_players())
 }
 
 /// Adds those that switches post.
@@ -158,6 +149,38 @@ fn add_players<'a>(
     for player in players {
         let row = as_event_player(player);
         add_names(found, modes, row.posts)?;
+    }
+    Ok(())
+}
+
+/// Adds those that counters post.
+fn add_counters<'a>(
+    found: &mut Vec<&'a Name>,
+    modes: &ModeEvents,
+    entries: &'a [Entry],
+) -> Result<(), AllocError>
+    ensures { OnOk result (written_view found.new.items ≡ written_view found.old.items ++ reserved_among (keys_view modes.now) (flat_map counter_posts (map counter_of (map entry_view entries.now)))) }
+{
+    for entry in entries {
+        let block = as_counter(entry).block;
+        add_names(found, modes, block.hit)?;
+        add_names(found, modes, block.complete)?;
+    }
+    Ok(())
+}
+
+/// Adds those that accruals or sequences post.
+fn add_step_blocks<'a>(
+    found: &mut Vec<&'a Name>,
+    modes: &ModeEvents,
+    entries: &'a [Entry],
+) -> Result<(), AllocError>
+    ensures { OnOk result (written_view found.new.items ≡ written_view found.old.items ++ reserved_among (keys_view modes.now) (flat_map step_posts (map step_block_of (map entry_view entries.now)))) }
+{
+    for entry in entries {
+        let block = as_step_block(entry).block;
+        add_names(found, modes, block.hit)?;
+        add_names(found, modes, block.complete)?;
     }
     Ok(())
 }

@@ -1,25 +1,29 @@
 //! The faults of the rows themselves.
 
 ghost use Rattle.std.specs.Prelude.{◌≡◌, ◌||◌, ◌++◌, ℕ, List, [], map, not, IfOk, OnOk};
-ghost use Rattle.std.specs.List.{flat_map};
+ghost use Rattle.std.specs.List.{filter, flat_map};
 ghost use Rattle.std.specs.Str.{bytes_eq};
 ghost use Rattle.yaml_subset.specs.Keys.{is_among};
-ghost use Rattle.mpf_config.specs.View.{name_view, section_view, mode_view, rows_view};
+ghost use Rattle.mpf_config.specs.Typed.{timer_of};
+ghost use Rattle.mpf_config.specs.View.{name_view, entry_view, section_view, mode_view, rows_view, timer_view};
 ghost use Rattle.config_checker.specs.ReportText.{report_line};
-ghost use Rattle.config_checker.specs.Reserved.{reserved_fault, text_faults, mode_faults, faults_by, listed_once};
+ghost use Rattle.config_checker.specs.FaultView.{row};
+ghost use Rattle.config_checker.specs.RowFaults.{reserved_fault, starts_at_end, timer_fault, section_faults, fault_order, text_faults, mode_faults, faults_by, listed_once};
 ghost use Rattle.config_checker.specs.Checking.{faults_of_rows};
 ghost use Rattle.config_checker.specs.View.{keys_view, written_view, fault_view, faults_view};
 
-use crate::report::{Fault, ReservedPost};
+use crate::report::{Fault, RowFault, RowFaultKind};
 use crate::report_text::write_fault;
 use crate::reserved::{ModeEvents, add_texts, events_of_modes, reserved_posts};
-use mpf_config::config::Config;
-use mpf_config::{MACHINE_NAME, ModeText, Name, Section, listed_modes, mode_text_name};
+use mpf_config::config::{Config, Direction};
+use mpf_config::{
+    Entry, MACHINE_NAME, ModeText, Name, Section, Timer, as_timer, listed_modes, mode_text_name,
+};
 use std::alloc::{AllocError, Global};
 use std::collections::BTreeSet;
 
 /// The faults of the rows of a configuration, in the order in which a report lists them.
-#[tactic(auto, unfolding(crate::specs::Reserved::reserved_faults))]
+#[tactic(auto, unfolding(crate::specs::RowFaults::row_faults))]
 pub(crate) fn faults_of_rows(alloc: Global, config: &Config) -> Result<Vec<Fault>, AllocError>
     ensures { IfOk result (λ faults. faults_view faults.items ≡ faults_of_rows (rows_view config.now)) }
 {
@@ -65,7 +69,7 @@ fn add_modes(
     Ok(())
 }
 
-/// Adds the faults of the text of this name.
+/// Adds the faults of the text of this name, by line and number.
 fn add_text(
     alloc: Global,
     faults: &mut Vec<Fault>,
@@ -75,8 +79,53 @@ fn add_text(
 ) -> Result<(), AllocError>
     ensures { OnOk result (faults_view faults.new.items ≡ faults_view faults.old.items ++ text_faults (keys_view modes.now) text.now (map section_view sections.now)) }
 {
-    let posts = reserved_posts(alloc, modes, sections)?;
-    add_posts(alloc, faults, text, &posts)
+    let own = faults_of_text(alloc, modes, text, sections)?;
+    for fault in own {
+        faults.push(fault)?;
+    }
+    Ok(())
+}
+
+/// The faults of the text of this name, by line and number.
+fn faults_of_text(
+    alloc: Global,
+    modes: &ModeEvents,
+    text: &[u8],
+    sections: &[Section],
+) -> Result<Vec<Fault>, AllocError>
+    ensures { IfOk result (λ faults. faults_view faults.items ≡ text_faults (keys_view modes.now) text.now (map section_view sections.now)) }
+{
+    let mut faults = Vec::new(alloc);
+    for section in sections {
+        add_section(alloc, &mut faults, modes, text, section)?;
+    }
+    faults.sort_by_key(|fault| order_of(fault))?;
+    Ok(faults)
+}
+
+/// The place of a fault in its text: by line, and on one line by number.
+fn order_of(fault: &Fault) -> u64
+    ensures { result ≡ fault_order (fault_view fault.now) }
+{
+    match fault {
+        Fault::Row(fault) => u64::from(fault.line) * 16 + u64::from(fault.kind.number()),
+        _ => 0,
+    }
+}
+
+/// Adds the faults of a section of the text of this name, as written.
+fn add_section(
+    alloc: Global,
+    faults: &mut Vec<Fault>,
+    modes: &ModeEvents,
+    text: &[u8],
+    section: &Section,
+) -> Result<(), AllocError>
+    ensures { OnOk result (faults_view faults.new.items ≡ faults_view faults.old.items ++ section_faults (keys_view modes.now) text.now (section_view section.now)) }
+{
+    let posts = reserved_posts(alloc, modes, section)?;
+    add_posts(alloc, faults, text, &posts)?;
+    add_timers(alloc, faults, text, section.timers())
 }
 
 /// Adds a fault for each of these reserved events, which the text posts.
@@ -89,20 +138,56 @@ fn add_posts(
     ensures { OnOk result (faults_view faults.new.items ≡ faults_view faults.old.items ++ map (reserved_fault text.now) (written_view posts.now)) }
 {
     for post in posts {
-        let fault = reserved_fault(alloc, text, post)?;
+        let fault = fault_at(alloc, RowFaultKind::Name, text, post)?;
         faults.push(fault)?;
     }
     Ok(())
 }
 
-/// The text posts this reserved event.
-fn reserved_fault(alloc: Global, text: &[u8], post: &Name) -> Result<Fault, AllocError>
-    ensures { IfOk result (λ fault. fault_view fault ≡ reserved_fault text.now (name_view post.now)) }
+/// Adds a fault for each of these timers that starts at its end.
+fn add_timers(
+    alloc: Global,
+    faults: &mut Vec<Fault>,
+    text: &[u8],
+    entries: &[Entry],
+) -> Result<(), AllocError>
+    ensures { OnOk result (faults_view faults.new.items ≡ faults_view faults.old.items ++ map (timer_fault text.now) (filter starts_at_end (map timer_of (map entry_view entries.now)))) }
 {
-    Ok(Fault::Reserved(ReservedPost {
+    for entry in entries {
+        let timer = as_timer(entry);
+        if starts_at_end(timer) {
+            let fault = fault_at(alloc, RowFaultKind::TimerAtEnd, text, timer.name)?;
+            faults.push(fault)?;
+        }
+    }
+    Ok(())
+}
+
+/// Whether a timer is at its end before it runs.
+fn starts_at_end(timer: Timer<'_>) -> bool
+    ensures { result ≡ starts_at_end (timer_view timer.entry) }
+{
+    match (timer.direction, timer.end) {
+        (_, None) => false,
+        (Direction::Up, Some(end)) => end <= timer.start,
+        (Direction::Down, Some(end)) => timer.start <= end,
+    }
+}
+
+/// What is wrong with this name of the text.
+fn fault_at(
+    alloc: Global,
+    kind: RowFaultKind,
+    text: &[u8],
+    name: &Name,
+) -> Result<Fault, AllocError>
+    ensures { IfOk result (λ fault. fault_view fault ≡ row kind text.now (name_view name.now).line (name_view name.now).text) }
+{
+    Ok(Fault::Row(RowFault {
+        kind,
         text: Vec::from_slice(alloc, text)?,
-        line: post.line,
-        name: Vec::from_slice(alloc, &post.text)?,
+        line: name.line,
+        name: Vec::from_slice(alloc, &name.text)?,
     }))
 }
 

@@ -3,7 +3,8 @@ use Rattle.std.proofs.lemmas.Fn.{always_returns_same}
 use Rattle.std.proofs.lemmas.List.{drop_all}
 use Rattle.mpf_config.specs.declared.config.Section.{Section}
 use Rattle.mpf_config.specs.View.{name_view, section_view}
-use Rattle.config_checker.specs.Reserved.{ordered_by, reserved_among, posts_of}
+use Rattle.config_checker.specs.Reserved.{reserved_among, posts_of}
+use Rattle.config_checker.specs.RowFaults.{ordered_by}
 use Rattle.config_checker.specs.View.{keys_view, written_view}
 use Rattle.config_checker.proofs.ByLine.{sorted-is, ordered-seen}
 use Rattle.config_checker.proofs.reserved.reserved_posts.Goals as goal

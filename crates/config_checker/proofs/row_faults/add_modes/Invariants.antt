@@ -1,7 +1,7 @@
 use Rattle.std.proofs.Common.{◌≡◌, ◌++◌, map, drop}
 use Rattle.std.specs.List.{flat_map}
 use Rattle.mpf_config.specs.View.{mode_view}
-use Rattle.config_checker.specs.Reserved.{mode_faults}
+use Rattle.config_checker.specs.RowFaults.{mode_faults}
 use Rattle.config_checker.specs.View.{keys_view, faults_view}
 use Rattle.config_checker.proofs.row_faults.add_modes.Given as goal
 

@@ -1,5 +1,5 @@
 use Rattle.std.proofs.Common.{◌≡◌, ◌++◌, map, drop}
-use Rattle.config_checker.specs.Reserved.{reserved_fault}
+use Rattle.config_checker.specs.RowFaults.{reserved_fault}
 use Rattle.config_checker.specs.View.{written_view, faults_view}
 use Rattle.config_checker.proofs.row_faults.add_posts.Given as goal
 

@@ -3,13 +3,14 @@ use Rattle.std.proofs.lemmas.Result.{IfOk-weaker}
 use Rattle.yaml_subset.specs.Keys.{is_among}
 use Rattle.mpf_config.specs.View.{rows_view, section_view, mode_view}
 use Rattle.mpf_config.specs.Typed.{listed_modes}
-use Rattle.config_checker.specs.Reserved.{events_of_modes, mode_names, listed_once, reserved_faults}
+use Rattle.config_checker.specs.Reserved.{events_of_modes, mode_names}
+use Rattle.config_checker.specs.RowFaults.{listed_once, row_faults}
 use Rattle.config_checker.specs.View.{keys_view}
 use Rattle.config_checker.proofs.RowFaults.{same_faults, joined-events}
 use Rattle.config_checker.proofs.row_faults.faults_of_rows.Goals as goal
 
 pub returns : goal.returns
-unfolding reserved_faults
+unfolding row_faults
 returns c =
     let rows = rows_view c.args.config.now in
     let modes = c.listed_modes.ensures ∙ ap (λ sections. listed_modes (map section_view sections)) c.deref.ensures.value in

@@ -1,5 +1,5 @@
 use Rattle.std.proofs.Common.{◌≡◌, ◌++◌, []}
-use Rattle.config_checker.specs.Reserved.{listed_once}
+use Rattle.config_checker.specs.RowFaults.{listed_once}
 use Rattle.config_checker.specs.View.{keys_view, faults_view}
 use Rattle.config_checker.proofs.row_faults.listed_once.Given as goal
 
