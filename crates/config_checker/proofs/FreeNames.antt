@@ -3,14 +3,14 @@ use Rattle.std.proofs.Common.{◌≡◌, ℕ, ◌==◌, nat_lt, if◌then◌else
 use Rattle.std.specs.List.{All, list_any, flat_map}
 use Rattle.std.specs.Str.{bytes_eq}
 use Rattle.std.proofs.lemmas.Bool.{cases_Bool, eq-eqb}
-use Rattle.std.proofs.lemmas.List.Elements.{All-nil, All-cons, All-weaker}
+use Rattle.std.proofs.lemmas.List.Elements.{All-nil, All-cons, All-head, All-tail, All-append, All-weaker}
 use Rattle.std.proofs.lemmas.Slice.Eq.{bytes_eq-Decides}
 use Rattle.yaml_subset.specs.Keys.{is_among}
 use Rattle.mpf_config.specs.Rows.{Written, SectionRows, ModeRows, Rows}
 use Rattle.mpf_config.specs.BundleText.{machine_name, mode_text_name}
 use Rattle.config_checker.specs.FaultView.{FaultView}
-use Rattle.config_checker.specs.Reserved.{game_events, mode_events, events_of_modes, mode_names, is_reserved_by, is_reserved, posts_of, reserved_among}
-use Rattle.config_checker.specs.RowFaults.{put_by, ordered_by, reserved_fault, text_faults, mode_faults, faults_by, listed_once, row_faults}
+use Rattle.config_checker.specs.Reserved.{game_events, mode_events, events_of_modes, mode_names, is_reserved_by, is_reserved, posts_in, posts_of, reserved_among}
+use Rattle.config_checker.specs.RowFaults.{put_by, ordered_by, reserved_fault, text_faults, mode_faults, faults_by, listed_once, row_faults, section_faults, fault_order}
 use Rattle.config_checker.specs.Checking.{faults_of_rows}
 
 -- ---- lists without items
@@ -62,14 +62,24 @@ once-none (f ∷ fs) e = absurd (filled f _ e)
 
 -- ---- posts as written
 
+-- what holds of all that each item gives
+All-each : {X Y : Type 0} (P : Y → Type 0) (f : X → List Y) (xs : List X) → All (λ x. All P (f x)) xs → All P (flat_map f xs)
+All-each P f [] h = All-nil P
+All-each P f (x ∷ xs) h = All-append P (f x) (flat_map f xs) (All-head (λ y. All P (f y)) x xs h) (All-each P f xs (All-tail (λ y. All P (f y)) x xs h))
+
 -- no post of these sections is reserved
 abbrev pub AreFree : List (List ℕ) → List SectionRows → Type 0
 AreFree modes sections = All (λ w. is_reserved_by modes w.text ≡ false) (posts_of sections)
 
+section-free : (modes : List (List ℕ)) (text : List ℕ) (s : SectionRows) → section_faults modes text s ≡ [] → All (λ w. is_reserved_by modes w.text ≡ false) (posts_in s)
+section-free modes text s e =
+    filter-none (λ w. is_reserved_by modes w.text) (posts_in s) (map-none (reserved_fault text) (reserved_among modes (posts_in s)) (append-none (map (reserved_fault text) (reserved_among modes (posts_in s))) _ e).0)
+
 text-free : (modes : List (List ℕ)) (text : List ℕ) (sections : List SectionRows) → text_faults modes text sections ≡ [] → AreFree modes sections
 text-free modes text sections e =
-    filter-none (λ w. is_reserved_by modes w.text) (posts_of sections)
-    (ordered-none (λ w. w.line) (reserved_among modes (posts_of sections)) (map-none (reserved_fault text) (ordered_by (λ w. w.line) (reserved_among modes (posts_of sections))) e))
+    All-each (λ w. is_reserved_by modes w.text ≡ false) posts_in sections
+    (All-weaker (λ s. section_faults modes text s ≡ []) (λ s. All (λ w. is_reserved_by modes w.text ≡ false) (posts_in s)) (section-free modes text) sections
+    (flat_map-none (section_faults modes text) sections (ordered-none fault_order (flat_map (section_faults modes text) sections) e)))
 
 -- what rows post as written, in the machine text and in the texts of modes, is not reserved
 pub record PostNothingReserved (rows : Rows) : Type 0 where

@@ -8,7 +8,7 @@ use Rattle.std.proofs.lemmas.List.Folds.{list_any-append}
 use Rattle.std.proofs.lemmas.Slice.Eq.{bytes_eq-Decides}
 use Rattle.yaml_subset.specs.Keys.{is_among}
 use Rattle.mpf_config.specs.Rows.{Written, Switch, EventPlayer, SectionRows, ModeRows, Rows}
-use Rattle.mpf_config.specs.Typed.{switches_in, event_players_in, listed_modes}
+use Rattle.mpf_config.specs.Typed.{switches_in, event_players_in, counters_in, accruals_in, sequences_in, listed_modes}
 use Rattle.plan_tables.specs.declared.entries.EventId.{EventId}
 use Rattle.plan_tables.specs.declared.entries.ModeEvent.{ModeEvent}
 use Rattle.plan_tables.specs.declared.entries.ModeEvent.TheVariants.{WillStart, Starting, Started, Stopping, Stopped}
@@ -28,7 +28,7 @@ use Rattle.mpf_plan.proofs.ModeEventNames.{free-by_name}
 use Rattle.mpf_plan.proofs.ValidPlan.{HasEntries-plan_at, no_devices-plan_at}
 use Rattle.config_checker.specs.Devices.{ActsAreOwn, IsOwnAct}
 use Rattle.config_checker.specs.FreePosts.{IsFree, IsFreeAction, IsFreeSwitch, PostsAreFree}
-use Rattle.config_checker.specs.Reserved.{mode_events, events_of_modes, mode_names, is_reserved, game_events, switch_posts, player_posts, posts_in, posts_of}
+use Rattle.config_checker.specs.Reserved.{mode_events, events_of_modes, mode_names, is_reserved, game_events, switch_posts, player_posts, counter_posts, step_posts, posts_in, posts_of}
 use Rattle.config_checker.specs.Checking.{faults_of_rows}
 use Rattle.config_checker.proofs.FreeNames.{posts-free, active-free, inactive-free, tag-free}
 
@@ -121,11 +121,13 @@ module _ (rows : Rows) where
 
   section-posting : (s : SectionRows) → All IsFreePost (posts_in s) → IsPosting IsUnreserved s
   section-posting s h =
-      let parts = all-parts IsFreePost (flat_map switch_posts (switches_in s)) (flat_map player_posts (event_players_in s)) h in
+      let blocks = flat_map counter_posts (counters_in s) ++ flat_map step_posts (accruals_in s) ++ flat_map step_posts (sequences_in s) in
+      let parts = all-parts IsFreePost (flat_map switch_posts (switches_in s)) (flat_map player_posts (event_players_in s) ++ blocks) h in
+      let players = (all-parts IsFreePost (flat_map player_posts (event_players_in s)) blocks parts.1).0 in
       record {
         switches = All-weaker (λ x. All IsFreePost (switch_posts x)) (IsSwitchPosting IsUnreserved) switch-posting (switches_in s) (all-each IsFreePost switch_posts (switches_in s) parts.0);
         players = All-weaker (λ x. All IsFreePost (player_posts x)) (IsPlayerPosting IsUnreserved) (λ p k. written-free p.posts k) (event_players_in s)
-            (all-each IsFreePost player_posts (event_players_in s) parts.1);
+            (all-each IsFreePost player_posts (event_players_in s) players);
       }
 
   sections-posting : (sections : List SectionRows) → All IsFreePost (posts_of sections) → All (IsPosting IsUnreserved) sections

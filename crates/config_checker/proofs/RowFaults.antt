@@ -18,8 +18,9 @@ use Rattle.config_checker.specs.FaultView.{FaultView}
 use Rattle.config_checker.specs.ReportText.{report_line}
 use Rattle.mpf_config.specs.Rows.{SectionRows, ModeRows, Rows}
 use Rattle.mpf_config.specs.BundleText.{machine_name, mode_text_name}
-use Rattle.config_checker.specs.Reserved.{game_events, mode_events, events_of_modes, posts_of}
-use Rattle.config_checker.specs.RowFaults.{ordered_by, reserved_fault, faults_by, listed_once}
+use Rattle.mpf_config.specs.Typed.{timers_in}
+use Rattle.config_checker.specs.Reserved.{game_events, mode_events, events_of_modes, posts_in}
+use Rattle.config_checker.specs.RowFaults.{fault_order, ordered_by, reserved_fault, starts_at_end, timer_fault, faults_by, listed_once}
 use Rattle.config_checker.specs.View.{fault_view, faults_view}
 
 -- ---- sets
@@ -105,7 +106,8 @@ module _ (lines known : List (List ℕ)) (fault : Fault) (old new before : List 
 -- ---- the faults of all texts, by a test of names
 
 abbrev texts_by : (List ℕ → Bool) → List ℕ → List SectionRows → List FaultView
-texts_by test text sections = map (reserved_fault text) (ordered_by (λ w. w.line) (filter (λ w. is_among game_events w.text || test w.text) (posts_of sections)))
+texts_by test text sections =
+    ordered_by fault_order (flat_map (λ (s : SectionRows). map (reserved_fault text) (filter (λ w. is_among game_events w.text || test w.text) (posts_in s)) ++ map (timer_fault text) (filter starts_at_end (timers_in s))) sections)
 
 abbrev all_by : (List ℕ → Bool) → Rows → List FaultView
 all_by test rows = texts_by test machine_name rows.machine ++ flat_map (λ (m : ModeRows). texts_by test (mode_text_name m.name) m.sections) rows.modes

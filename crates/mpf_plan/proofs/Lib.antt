@@ -12,8 +12,6 @@ pub mod Found
 pub mod Among
 pub mod Lacking
 pub mod Posted
-pub mod Placed
-pub mod Owned
 pub mod RowFacts
 pub mod SoundDraft
 pub mod ModeNames

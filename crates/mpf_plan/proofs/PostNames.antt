@@ -11,7 +11,7 @@ use Rattle.mpf_plan.specs.declared.contribution.Place.TheVariants.{Machine, Mode
 use Rattle.plan_tables.specs.declared.entries.EventId.{EventId}
 use Rattle.plan_tables.specs.declared.table.Table.TheVariants.{Events}
 use Rattle.plan_tables.specs.PlanView.{PlanView, name_of_event}
-use Rattle.mpf_plan.specs.Contributions.{Contribution, reads, active, inactive, mode, post, device, post_in, mentions, texts, active_posts, inactive_posts, switch_contributions, player_contributions, starter, stopper, stopper_where, later_events, controls, mode_contributions, Device, act_binding, posts_from, device_contributions, Row, entry, player, of_mode, rows_from, rows_in, mode_rows, rows_of, entry_contributions, player_entry_contributions, row_contributions, contributions_of}
+use Rattle.mpf_plan.specs.Contributions.{Contribution, reads, active, inactive, mode, post, texts, active_posts, inactive_posts, switch_contributions, player_contributions, starter, stopper, stopper_where, later_events, controls, mode_contributions, Row, entry, player, of_mode, rows_from, rows_in, mode_rows, rows_of, entry_contributions, player_entry_contributions, row_contributions, contributions_of}
 use Rattle.mpf_plan.specs.Uses.{names_from, number_among}
 use Rattle.mpf_plan.specs.PlanOf.{event_of, plan_from, plan_of, plan_at}
 use Rattle.mpf_plan.proofs.Among.{IsKnown, all_known}
@@ -19,7 +19,7 @@ use Rattle.mpf_plan.proofs.Drafted.{names-from}
 use Rattle.mpf_plan.proofs.Judged.{plan_at-Ok}
 use Rattle.mpf_plan.proofs.ModeWorks.{at_number}
 use Rattle.mpf_plan.proofs.Posted.{PostMeets, PostsMeet, meet_drafted}
-use Rattle.mpf_plan.proofs.RowFacts.{All-flat_map, All-lists, sections_each}
+use Rattle.mpf_plan.proofs.RowFacts.{All-flat_map, sections_each}
 
 -- what holds of each item as it is seen
 from_map : {X Y : Type 0} (R : Y → Type 0) (f : X → Y) (xs : List X) → All R (map f xs) → All (λ x. R (f x)) xs
@@ -52,11 +52,10 @@ module _ (P : List ℕ → Type 0) where
   Posts (active n) = P n
   Posts (inactive n) = P n
   Posts (post n) = P n
-  Posts (post_in k n) = P n
   Posts _ = Unit {0}
 
   -- where they post nothing
-  all_silent : {X : Type 0} (make : X → Contribution) → ((x : X) → Posts (make x)) → (xs : List X) → All Posts (map make xs)
+  all_silent : (make : List ℕ → Contribution) → ((n : List ℕ) → Posts (make n)) → (ns : List (List ℕ)) → All Posts (map make ns)
   all_silent make silent [] = All-nil Posts
   all_silent make silent (n ∷ ns) = All-cons Posts (make n) (map make ns) (silent n) (all_silent make silent ns)
 
@@ -71,16 +70,6 @@ module _ (P : List ℕ → Type 0) where
   in_player : (place : Place) (p : EventPlayer) → IsPlayerPosting p → All Posts (player_contributions place p)
   unfolding player_contributions
   in_player place p h = All-cons Posts _ (map post (texts p.posts)) tt (All-map Posts post (texts p.posts) h)
-
-  in_device : (place : Place) (d : Device) → All (All P) d.lists → All Posts (device_contributions place d)
-  unfolding device_contributions
-  in_device place d h =
-      let acting = map (act_binding place) d.handled in
-      let named = map mentions d.mentioned in
-      let posting = posts_from 0 d.lists in
-      All-cons Posts (device place d.settings) (acting ++ (named ++ posting)) tt
-      (All-append Posts acting (named ++ posting) (all_silent (act_binding place) (λ x. tt) d.handled)
-      (All-append Posts named posting (all_silent mentions (λ n. tt) d.mentioned) (All-lists Posts P (λ k e m. m) 0 d.lists h)))
 
   in_stopper : (holds : Bool) (event : List ℕ) → All Posts (stopper_where holds event)
   in_stopper true event = All-cons Posts (stopper event) [] tt (All-nil Posts)
@@ -124,7 +113,7 @@ module _ (P : List ℕ → Type 0) where
 
   in_content : (place : Place) (name : List ℕ) (content : Content) → IsPostingContent name content → All GivesPosts (rows_from place name content)
   unfolding switches_in event_players_in entry_contributions player_entry_contributions
-  in_content place name (entries es) h = All-map GivesPosts (entry place name) es (switch_where (bytes_eq name switches_name) es h.0)
+  in_content place name (entries es) h = All-map GivesPosts (entry name) es (switch_where (bytes_eq name switches_name) es h.0)
   in_content place name (players ps) h = All-map GivesPosts (player place name) ps (player_where place (bytes_eq name event_player_name) ps h.1)
   in_content place name (sections.entry e) h = All-nil GivesPosts
   in_content place name (sections.listed ws) h = All-nil GivesPosts
@@ -161,7 +150,6 @@ module _ (P : List ℕ → Type 0) where
     post_meets (active n) known h = at_event n known h
     post_meets (inactive n) known h = at_event n known h
     post_meets (post n) known h = at_event n known h
-    post_meets (post_in k n) known h = at_event n known h
     post_meets _ known h = tt
 
     posts_meet : All Posts cs → PostsMeet (IsNameOf (plan_from cs)) (plan_from cs)

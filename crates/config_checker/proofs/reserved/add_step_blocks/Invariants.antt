@@ -1,0 +1,12 @@
+use Rattle.std.proofs.Common.{◌≡◌, ◌++◌, map, drop}
+use Rattle.std.specs.List.{flat_map}
+use Rattle.mpf_config.specs.View.{entry_view}
+use Rattle.mpf_config.specs.Typed.{step_block_of}
+use Rattle.config_checker.specs.Reserved.{step_posts, reserved_among}
+use Rattle.config_checker.specs.View.{keys_view, written_view}
+use Rattle.config_checker.proofs.reserved.add_step_blocks.Given as goal
+
+abbrev pub invariant-loop-entry : goal.invariant-loop-entry
+invariant-loop-entry l =
+    written_view l.found.items ++ reserved_among (keys_view l.modes) (flat_map step_posts (map step_block_of (map entry_view (drop l.entry-index l.entries))))
+    ≡ written_view l.initial.found.items ++ reserved_among (keys_view l.modes) (flat_map step_posts (map step_block_of (map entry_view l.entries)))

@@ -1,0 +1,12 @@
+use Rattle.std.proofs.Common.{◌≡◌, ◌++◌, map, drop}
+use Rattle.std.specs.List.{filter}
+use Rattle.mpf_config.specs.View.{entry_view}
+use Rattle.mpf_config.specs.Typed.{timer_of}
+use Rattle.config_checker.specs.RowFaults.{starts_at_end, timer_fault}
+use Rattle.config_checker.specs.View.{faults_view}
+use Rattle.config_checker.proofs.row_faults.add_timers.Given as goal
+
+abbrev pub invariant-loop-entry : goal.invariant-loop-entry
+invariant-loop-entry l =
+    faults_view l.faults.items ++ map (timer_fault l.text) (filter starts_at_end (map timer_of (map entry_view (drop l.entry-index l.entries))))
+    ≡ faults_view l.initial.faults.items ++ map (timer_fault l.text) (filter starts_at_end (map timer_of (map entry_view l.entries)))
