@@ -1,5 +1,5 @@
 -- A plan of rows without faults of their own posts no event at which the machine itself does something.
-use Rattle.std.proofs.Common.{◌≡◌, ◌≢◌, ℕ, zero, suc, ◌<◌, Bool, true, false, ◌||◌, List, [], ◌∷◌, ◌++◌, length, map, get_or, Contains, codes, ◌⊎◌, inl, inr, refl, sym, ap, ◌∙◌, subst, true≢false, arith}
+use Rattle.std.proofs.Common.{◌≡◌, ℕ, zero, suc, Bool, true, false, ◌||◌, List, [], ◌∷◌, ◌++◌, length, map, get_or, Contains, codes, ◌⊎◌, inl, inr, refl, sym, ap, ◌∙◌, subst, true≢false, arith}
 use Rattle.std.specs.Prelude.{Ok}
 use Rattle.std.specs.Str.{bytes_eq}
 use Rattle.std.specs.List.{All, flat_map}
@@ -7,7 +7,7 @@ use Rattle.std.proofs.lemmas.List.Elements.{All-nil, All-cons, All-head, All-tai
 use Rattle.std.proofs.lemmas.List.Folds.{list_any-append}
 use Rattle.std.proofs.lemmas.Slice.Eq.{bytes_eq-Decides}
 use Rattle.yaml_subset.specs.Keys.{is_among}
-use Rattle.mpf_config.specs.Rows.{Written, Switch, EventPlayer, SectionRows, ModeRows, Rows}
+use Rattle.mpf_config.specs.Rows.{Written, Switch, SectionRows, ModeRows, Rows}
 use Rattle.mpf_config.specs.Typed.{switches_in, event_players_in, listed_modes}
 use Rattle.plan_tables.specs.declared.entries.EventId.{EventId}
 use Rattle.plan_tables.specs.declared.entries.ModeEvent.{ModeEvent}
@@ -20,7 +20,7 @@ use Rattle.plan_tables.specs.declared.entries.Target.TheVariants.{Run, Start, St
 use Rattle.plan_tables.specs.declared.devices.DeviceRow.{DeviceRow}
 use Rattle.plan_tables.specs.Valid.{IsBindingWithin, IsTargetWithin}
 use Rattle.plan_tables.specs.PlanView.{PlanSwitch, PlanView, name_of_event}
-use Rattle.mpf_plan.specs.Contributions.{texts, tag_event, active_posts, inactive_posts, mode_event_name}
+use Rattle.mpf_plan.specs.Contributions.{texts, tag_event, mode_event_name}
 use Rattle.mpf_plan.specs.PlanOf.{plan_at}
 use Rattle.mpf_plan.proofs.Posted.{IsPost, ArePosts}
 use Rattle.mpf_plan.proofs.PostNames.{IsSwitchPosting, IsPlayerPosting, IsPosting, ArePosting, IsNameOf, posts-named}
