@@ -14,6 +14,9 @@
 //! Behind a fault stands how often each reader or writer was called that may fail.
 
 use crate::ends::{Sink, Source};
+use config_checker::Checked;
+use device_objects::Device;
+use logic_blocks::{Accrual, Counter, Sequence, Timer};
 use pinball_shell::{ShellFault, Verdict, check_text, load_text, play_text, verify_text};
 use std::alloc::{AllocError, Global};
 use std::io::Write;
@@ -109,9 +112,31 @@ fn play(
         return Err(ShellFault::Write);
     }
     match loaded? {
-        Some(checked) => play_text(alloc, &checked, log, writer),
+        Some(checked) => play_log(alloc, &checked, log, writer),
         None => Ok(Verdict::Refused),
     }
+}
+
+/// Plays a log on a machine with a device for each row of the plan.
+fn play_log(
+    alloc: Global,
+    checked: &Checked,
+    log: &mut Source<'_>,
+    writer: &mut Sink,
+) -> Result<Verdict, ShellFault> {
+    let mut devices: Vec<Box<dyn Device>> = Vec::new(alloc);
+    for row in checked.plan().rows() {
+        if let Some(counter) = Counter::new(row) {
+            devices.push(Box::new(alloc, counter)?)?;
+        } else if let Some(accrual) = Accrual::new(row) {
+            devices.push(Box::new(alloc, accrual)?)?;
+        } else if let Some(sequence) = Sequence::new(row) {
+            devices.push(Box::new(alloc, sequence)?)?;
+        } else if let Some(timer) = Timer::new(row) {
+            devices.push(Box::new(alloc, timer)?)?;
+        }
+    }
+    play_text(alloc, checked, devices, log, writer)
 }
 
 fn name_of(answer: Result<Verdict, ShellFault>) -> &'static str {

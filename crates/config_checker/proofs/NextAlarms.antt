@@ -12,7 +12,7 @@ use Rattle.switch_core.proofs.NextDue.{next_due-least, not_due-quiet}
 use Rattle.device_objects.specs.DeviceStep as devices
 use Rattle.event_queue.specs.Alarms.{due_of, least_of}
 use Rattle.event_queue.proofs.Least.{alarms_give_the_least}
-use Rattle.config_checker.specs.Machine.{Machine, device_at}
+use Rattle.config_checker.specs.Machine.{Machine}
 use Rattle.config_checker.specs.Run.{Source, switch, device, source_due, IsNotAfter, IsNoAlarmDueBy, IsNextAlarm}
 use Rattle.config_checker.specs.NextAlarm.{first_of, next_alarm, is_due_by}
 use Rattle.config_checker.specs.AlarmsBy.{due_by}

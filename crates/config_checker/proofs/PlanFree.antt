@@ -1,5 +1,5 @@
 -- A plan of rows without faults of their own posts no event at which the machine itself does something.
-use Rattle.std.proofs.Common.{◌≡◌, ◌≢◌, ℕ, zero, suc, ◌<◌, Bool, true, false, ◌||◌, List, [], ◌∷◌, ◌++◌, length, map, get_or, Contains, codes, ◌⊎◌, inl, inr, refl, sym, ap, ◌∙◌, subst, true≢false, arith}
+use Rattle.std.proofs.Common.{◌≡◌, ℕ, zero, suc, Bool, true, false, ◌||◌, List, [], ◌∷◌, ◌++◌, length, map, get_or, Contains, codes, ◌⊎◌, inl, inr, refl, sym, ap, ◌∙◌, subst, true≢false, arith}
 use Rattle.std.specs.Prelude.{Ok}
 use Rattle.std.specs.Str.{bytes_eq}
 use Rattle.std.specs.List.{All, flat_map}
@@ -20,7 +20,7 @@ use Rattle.plan_tables.specs.declared.entries.Target.TheVariants.{Run, Start, St
 use Rattle.plan_tables.specs.declared.devices.DeviceRow.{DeviceRow}
 use Rattle.plan_tables.specs.Valid.{IsBindingWithin, IsTargetWithin}
 use Rattle.plan_tables.specs.PlanView.{PlanSwitch, PlanView, name_of_event}
-use Rattle.mpf_plan.specs.Contributions.{texts, tag_event, active_posts, inactive_posts, mode_event_name}
+use Rattle.mpf_plan.specs.Contributions.{texts, tag_event, mode_event_name}
 use Rattle.mpf_plan.specs.PlanOf.{plan_at}
 use Rattle.mpf_plan.proofs.Posted.{IsPost, ArePosts}
 use Rattle.mpf_plan.proofs.PostNames.{IsSwitchPosting, IsPlayerPosting, IsPosting, ArePosting, IsNameOf, posts-named}

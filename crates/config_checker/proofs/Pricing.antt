@@ -1,5 +1,5 @@
 -- What things cost in a state is within what they cost in any, where each device has a state of its shape.
-use Rattle.std.proofs.Common.{◌≡◌, ℕ, ◌+◌, ◌<◌, ◌≤◌, inl, inr, Some, List, [], ◌∷◌, length, refl, ap, sym, ◌∙◌, subst, arith}
+use Rattle.std.proofs.Common.{◌≡◌, ℕ, ◌<◌, ◌≤◌, Some, List, [], ◌∷◌, length, refl, ap, sym, subst, arith}
 use Rattle.std.specs.Prelude.{IsSome, Contains}
 use Rattle.std.specs.List.{All}
 use Rattle.std.proofs.lemmas.List.Elements.{All-head, All-tail}
@@ -7,7 +7,6 @@ use Rattle.plan_tables.specs.PlanView.{PlanView, binding_at, row_at, row_numbers
 use Rattle.plan_tables.specs.Valid.{HasEntries}
 use Rattle.plan_tables.specs.declared.entries.EventId.{EventId}
 use Rattle.plan_tables.specs.declared.entries.BindingId.{BindingId}
-use Rattle.plan_tables.specs.declared.entries.ModeId.{ModeId}
 use Rattle.plan_tables.specs.declared.entries.ModeEvent.TheVariants.{WillStart, Starting, Started, Stopping, Stopped}
 use Rattle.plan_tables.specs.declared.entries.Owner.TheVariants as owners
 use Rattle.plan_tables.specs.declared.entries.Target.{Target}
@@ -18,7 +17,6 @@ use Rattle.plan_tables.specs.declared.devices.RowId.{RowId}
 use Rattle.plan_tables.proofs.Owners.{rows_of-within}
 use Rattle.device_objects.specs.declared.device.Call.{Call}
 use Rattle.device_objects.specs.declared.device.Call.TheVariants as calls
-use Rattle.device_objects.specs.DeviceStep.{due_of}
 use Rattle.device_objects.specs.Outcomes.{outcomes}
 use Rattle.device_objects.specs.Laws.{MayCome}
 use Rattle.device_objects.proofs.Answered.{answers_are_outcomes}
@@ -29,12 +27,12 @@ use Rattle.cascade_rank.specs.Cost.{Cost, price, each_of, dearest_of, cost_of_an
 use Rattle.cascade_rank.specs.Weights.{bound_of}
 use Rattle.cascade_rank.proofs.Prices.{price-dearest}
 use Rattle.cascade_rank.proofs.Rows.{length-rows, row_of}
-use Rattle.config_checker.specs.Machine.{Machine, set_mode, world_of, device_at, called, call_device, all_do, do_handler}
+use Rattle.config_checker.specs.Machine.{Machine, set_mode, world_of, device_at, called, call_device, do_handler}
 use Rattle.config_checker.specs.Devices.{HasDevices}
 use Rattle.config_checker.specs.Run.{switch, device, source_due, Stimulus, Change, Alarm, Wait, arrived}
 use Rattle.config_checker.specs.GoodRun.{cost_of_stimulus}
 use Rattle.config_checker.proofs.Does.{each_now, has_devices-does}
-use Rattle.config_checker.proofs.Parts.{IsThere, target-there, cost_of_handler, call_now, target_now, handler_now, calls_now, stimulus_now, before_now, after_now, does-call, does-handler}
+use Rattle.config_checker.proofs.Parts.{IsThere, target-there, cost_of_handler, call_now, target_now, handler_now, stimulus_now, before_now, after_now, does-call, does-handler}
 
 module _ (plan : PlanView) (entries : HasEntries plan) (w : EventId → ℕ) where
   dearest-of : {X : Type 0} (f : X → Cost) (xs : List X) (x : X) → Contains xs x → price w (f x) ≤ price w (dearest_of f xs)

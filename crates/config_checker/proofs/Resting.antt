@@ -1,37 +1,28 @@
 -- No device of a mode is due unless the mode runs: what moves of handlers, the machine's works and stimuli keep.
-use Rattle.std.proofs.Common.{◌≡◌, ℕ, zero, suc, ◌<◌, ◌≤◌, ◌⊎◌, inl, inr, Bool, true, false, ◌==◌, None, Some, List, [], ◌∷◌, length, filter, slice_set, refl, ap, sym, subst, ◌∙◌, arith, rules}
+use Rattle.std.proofs.Common.{◌≡◌, ℕ, zero, suc, ◌<◌, ◌⊎◌, inl, inr, Bool, true, None, Some, List, [], ◌∷◌, length, slice_set, refl, ap, sym, subst, ◌∙◌, arith}
 use Rattle.std.specs.Prelude.{Contains}
-use Rattle.std.proofs.lemmas.Bool.{cases_eq, cases_lt}
+use Rattle.std.proofs.lemmas.Bool.{cases_eq}
 use Rattle.std.proofs.lemmas.Option.{none-some}
-use Rattle.std.proofs.lemmas.List.{get_or-map, get_or-set_same, get_or-set_other, length-set}
-use Rattle.plan_tables.specs.PlanView.{PlanView, is_owner, mode_event, no_row, row_at, rows_of}
+use Rattle.std.proofs.lemmas.List.{get_or-set_same, get_or-set_other}
+use Rattle.plan_tables.specs.PlanView.{PlanView, no_row, row_at}
 use Rattle.plan_tables.specs.Valid.{IsValid}
 use Rattle.plan_tables.specs.declared.entries.ModeId.{ModeId}
-use Rattle.plan_tables.specs.declared.entries.ModeEvent.{ModeEvent}
-use Rattle.plan_tables.specs.declared.entries.ModeEvent.TheVariants.{WillStart, Starting, Started, Stopping, Stopped}
 use Rattle.plan_tables.specs.declared.entries.Owner.{Owner}
 use Rattle.plan_tables.specs.declared.entries.Owner.TheVariants as owners
-use Rattle.plan_tables.specs.declared.entries.Work.{Work}
-use Rattle.plan_tables.specs.declared.entries.Work.TheVariants.{Nothing, Mode}
 use Rattle.plan_tables.specs.declared.devices.RowId.{RowId}
-use Rattle.plan_tables.proofs.Owners.{rows_of-there}
 use Rattle.device_objects.specs.declared.device.Call.{Call}
 use Rattle.device_objects.specs.declared.device.Call.TheVariants as calls
 use Rattle.device_objects.specs.declared.state.DeviceState.{DeviceState}
 use Rattle.device_objects.specs.DeviceStep.{due_of, first_state}
 use Rattle.device_objects.proofs.Moments.{stopped-quiet, stopped-silent}
-use Rattle.mode_stack.specs.declared.phase.Phase.TheVariants as phases
 use Rattle.mode_stack.specs.declared.phase.ModeState.{ModeState}
-use Rattle.mode_stack.specs.ModeStep.{in_phase, is_running, entered, ended}
-use Rattle.mode_stack.specs.Modes.{needs_game, mode_state, running_of}
+use Rattle.mode_stack.specs.Modes.{needs_game, running_of}
 use Rattle.mode_stack.proofs.WhoRuns.{starting_keeps_who_runs}
-use Rattle.cascade_rank.specs.Cost.{Cost}
 use Rattle.event_queue.specs.Handlers.{takes_part}
 use Rattle.config_checker.specs.Devices.{HasDevices, ActsAreOwn}
-use Rattle.config_checker.specs.Machine.{Machine, post, set_mode, set_device, has_game, start_mode, stop_mode, all_do, world_of, device_state, device_at, called, do_answer, call_device, call_devices}
-use Rattle.config_checker.specs.EventStep.{do_before, do_after}
-use Rattle.config_checker.proofs.Does.{Move, Wrote, Sent, Switched, Began, Ended, Marked, Turned, do_move, start-by, stop-by, MayDo, Does, does-keeps, due-row, has_devices-move}
-use Rattle.config_checker.proofs.Parts.{ordinary, does-calls}
+use Rattle.config_checker.specs.Machine.{Machine, set_device, has_game, all_do, world_of, device_state, device_at, called, do_answer, call_device}
+use Rattle.config_checker.proofs.Does.{Move, Wrote, Sent, Switched, Began, Ended, Marked, Turned, do_move, start-by, stop-by, MayDo, due-row, has_devices-move}
+use Rattle.config_checker.proofs.Parts.{ordinary}
 
 -- ---- devices whose mode stops
 

@@ -1,6 +1,6 @@
 -- What holds of a mode at every moment of a run: which of its events wait, and that nothing of it waits to be written where
 -- it must not be heard.
-use Rattle.std.proofs.Common.{◌≡◌, ℕ, ◌<◌, inl, inr, Bool, true, false, ◌==◌, cond, if◌then◌else◌, List, [], ◌∷◌, ◌++◌, length, map, refl, ap, sym, subst, ◌∙◌, append_assoc, arith, rules}
+use Rattle.std.proofs.Common.{◌≡◌, ℕ, ◌<◌, inl, inr, Bool, true, false, cond, if◌then◌else◌, List, [], ◌∷◌, ◌++◌, length, refl, ap, sym, subst, ◌∙◌, append_assoc, arith, rules}
 use Rattle.std.specs.List.{AllByRecursion}
 use Rattle.std.proofs.lemmas.Bool.{cases_eq, eq-eqb, ne_eqb}
 use Rattle.std.proofs.lemmas.List.{append-nil, get_or-set_same, get_or-set_other, get_or-map, length-set}
@@ -23,12 +23,10 @@ use Rattle.event_queue.specs.declared.queue.Posted.{Posted}
 use Rattle.config_checker.specs.declared.line.Line.{Line}
 use Rattle.config_checker.specs.declared.line.Happening.{Happening}
 use Rattle.config_checker.specs.declared.line.Happening.TheVariants as lines
-use Rattle.config_checker.specs.FreePosts.{PostsAreFree}
-use Rattle.config_checker.specs.Machine.{Machine, write, post, set_switches, set_mode, has_game, is_post, post_if, start_mode, stop_mode}
+use Rattle.config_checker.specs.Machine.{Machine, write, post, set_mode, has_game, is_post, post_if, start_mode, stop_mode}
 use Rattle.config_checker.proofs.Cycles.{mine, waiting_of, IsTurn, waiting_of-push, turn-start, turn-stop, IsNoEnd, running-no_end}
 use Rattle.config_checker.proofs.Hearing.{Said, written, all_written, awaited, all_awaited, heard_at, heard_after, heard, IsFine, written-push, awaited-push, heard-push, fine-push}
-use Rattle.config_checker.proofs.Does.{Move, Wrote, Sent, Switched, Began, Ended, Marked, do_move, MayDo, IsNoEvent}
-use Rattle.config_checker.proofs.Parts.{ordinary}
+use Rattle.config_checker.proofs.Does.{IsNoEvent}
 
 -- Of the mode's events: the one that is being handled, as long as its work is still to come, and those that wait. And
 -- whether it may be heard now.

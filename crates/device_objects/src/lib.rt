@@ -2,6 +2,7 @@
 #![tactic(auto)]
 
 pub mod answers;
+pub mod boxed;
 pub mod device;
 pub mod first;
 pub mod law;

@@ -2,6 +2,8 @@
 
 use crate::cases::{Subject, assert_cases, numbers_in};
 use config_checker::check;
+use device_objects::Device;
+use logic_blocks::Counter;
 use mpf_config::Config;
 use pin_rig::{Input, Rig, check_moment};
 use plan_tables::SwitchId;
@@ -27,7 +29,7 @@ fn input_of(text: &str) -> Input {
 
 /// Adds what comes of one input: its lines, or the number and the name of its refusal; then the
 /// latest moment, and that of the alarm that is due next.
-fn step(out: &mut String, rig: &mut Rig<'_>, input: Input) -> Result<(), AllocError> {
+fn step<D: Device>(out: &mut String, rig: &mut Rig<'_, D>, input: Input) -> Result<(), AllocError> {
     match rig.step(input) {
         Ok(lines) => write!(out, "{lines:?}")?,
         Err(fault) => write!(out, "{} {fault}", fault.number())?,
@@ -36,7 +38,11 @@ fn step(out: &mut String, rig: &mut Rig<'_>, input: Input) -> Result<(), AllocEr
 }
 
 /// Adds what comes of the inputs in turn, and the lines of the latest stimulus.
-fn step_all(out: &mut String, rig: &mut Rig<'_>, inputs: &str) -> Result<(), AllocError> {
+fn step_all<D: Device>(
+    out: &mut String,
+    rig: &mut Rig<'_, D>,
+    inputs: &str,
+) -> Result<(), AllocError> {
     for text in inputs.split(',') {
         let input = input_of(text);
         step(out, rig, input)?;
@@ -52,7 +58,8 @@ pub(crate) fn stepped(
     inputs: &str,
 ) -> Result<(), Fail> {
     let checked = check(alloc, config)?;
-    let mut rig = Rig::new(alloc, &checked)?;
+    let devices: Vec<Counter> = Vec::new(alloc);
+    let mut rig = Rig::new(alloc, &checked, devices)?;
     Ok(step_all(out, &mut rig, inputs)?)
 }
 

@@ -2,6 +2,9 @@
 #![tactic(auto)]
 
 use command_line::{Ask, AskFault, command};
+use config_checker::Checked;
+use device_objects::Device;
+use logic_blocks::{Accrual, Counter, Sequence, Timer};
 use mpf_config::{ConfigFault, MACHINE_NAME, mode_names, mode_text_name};
 use pinball_shell::{
     BUNDLE_LIMIT, Failure, ShellFault, Verdict, check_text, join, load_text, play_text, read_all,
@@ -110,7 +113,29 @@ fn play<R: Files + Input + AllocGlobal, W: Write>(
     let Ok(mut log) = fs::open(rt, &path) else {
         return Err(Failure::at(ShellFault::Read, path));
     };
-    play_text(rt.alloc(), &checked, &mut log, writer).map_err(|fault| Failure::at(fault, path))
+    play_log(rt.alloc(), &checked, &mut log, writer).map_err(|fault| Failure::at(fault, path))
+}
+
+/// Plays the log on a machine whose devices are made here, one for each row of the plan.
+fn play_log<L: Read, W: Write>(
+    alloc: Global,
+    checked: &Checked,
+    log: &mut L,
+    writer: &mut W,
+) -> Result<Verdict, ShellFault> {
+    let mut devices: Vec<Box<dyn Device>> = Vec::new(alloc);
+    for row in checked.plan().rows() {
+        if let Some(counter) = Counter::new(row) {
+            devices.push(Box::new(alloc, counter)?)?;
+        } else if let Some(accrual) = Accrual::new(row) {
+            devices.push(Box::new(alloc, accrual)?)?;
+        } else if let Some(sequence) = Sequence::new(row) {
+            devices.push(Box::new(alloc, sequence)?)?;
+        } else if let Some(timer) = Timer::new(row) {
+            devices.push(Box::new(alloc, timer)?)?;
+        }
+    }
+    play_text(alloc, checked, devices, log, writer)
 }
 
 /// The bundle of the configuration in this folder; or the one on standard input.

@@ -1,6 +1,7 @@
 -- The alarms that come by a moment.
 use Rattle.std.proofs.Common.{◌≡◌, ℕ, suc, ◌<◌, ◌≤◌, ◌^◌, ◌⊎◌, Bool, true, false, Ok, List, ◌∷◌, length, inl, inr, refl, ap, subst, arith}
 use Rattle.plan_tables.specs.PlanView.{PlanView}
+use Rattle.plan_tables.specs.Valid.{IsValid}
 use Rattle.config_checker.specs.declared.line.Line.{Line}
 use Rattle.config_checker.specs.Machine.{Machine}
 use Rattle.config_checker.specs.Run.{Source, IsNoAlarmDueBy, IsNextAlarm, Stimulus, Alarm, IsAllowed, IsReached}
@@ -54,9 +55,9 @@ module _ (plan : PlanView) (bound until : ℕ) where
   all-next k s a all = subst (λ (xs : List Stimulus). IsNoAlarmDueBy (state_after plan bound xs s) until) (alarms_by-more plan bound until k s a.at a.source a.next a.by) all
 
   -- of all alarms that come the first is the next one, and one fewer is left after it
-  module _ (trace : List Line) (s : Machine) (reached : IsReached plan trace s) (a : ComesBy s until) where
+  module _ (valid : IsValid plan) (trace : List Line) (s : Machine) (reached : IsReached plan trace s) (a : ComesBy s until) where
     pub all-first : all_alarms_by plan bound until s ≡ Alarm a.at a.source ∷ all_alarms_by plan bound until (settled plan bound (Alarm a.at a.source) s)
-    all-first = alarms_by-next plan bound until trace s reached a.at a.source a.next a.by
+    all-first = alarms_by-next plan bound valid until trace s reached a.at a.source a.next a.by
 
     pub all-fewer : length (all_alarms_by plan bound until (settled plan bound (Alarm a.at a.source) s)) < length (all_alarms_by plan bound until s)
     all-fewer = omega (arith, ap length all-first)

@@ -7,12 +7,12 @@ use Rattle.plan_tables.specs.PlanView.{PlanView, switch_named}
 use Rattle.plan_tables.specs.declared.entries.SwitchId.{SwitchId}
 use Rattle.config_checker.specs.declared.line.Line.{Line}
 use Rattle.config_checker.specs.Machine.{Machine, initial}
-use Rattle.config_checker.specs.Run.{Source, Stimulus, Change, Alarm, Wait, moment_of, IsNoAlarmDueBy, IsAllowed, IsReached}
+use Rattle.config_checker.specs.Run.{Source, Stimulus, Change, Alarm, Wait, moment_of, IsNoAlarmDueBy, IsAllowed, begin, IsReached}
 use Rattle.config_checker.specs.NextAlarm.{most_alarms}
 use Rattle.config_checker.specs.AlarmsBy.{alarms_by, state_after}
 use Rattle.config_checker.specs.CheckedView.{CheckedView}
 use Rattle.config_checker.specs.Accepted.{IsAccepted}
-use Rattle.config_checker.specs.PlanOrder.{settled}
+use Rattle.config_checker.specs.PlanOrder.{plan_steps, settled}
 use Rattle.config_checker.proofs.Alarms.{settled-moment}
 use Rattle.config_checker.proofs.AlarmsEnd.{alarms_by-none, alarms_by-more, alarms_by-all}
 use Rattle.config_checker.proofs.Cascade.{verified-is_bounded}
@@ -24,7 +24,7 @@ use Rattle.pinball_shell.specs.declared.refusal.Refusal.{Refusal}
 use Rattle.pinball_shell.specs.LogText.{Said, Nothing, Unreadable, said}
 use Rattle.pinball_shell.specs.LogText as says
 use Rattle.pinball_shell.specs.RunOfLog.{if_admitted, change_of, given_by_line, trace_of, all_alarms_by, with_alarms, Printed, Traced, Refused, printed_for_line, after_line, printed_for_lines, printed_for_log, traced}
-use Rattle.pinball_shell.specs.RunGiven.{given_of, given_by_lines, without_alarms, IsRunOfLog}
+use Rattle.pinball_shell.specs.RunGiven.{given_of, given_by_lines, stimuli_of, without_alarms, IsRunInOrder, IsPlayOfLog}
 use Rattle.pinball_shell.proofs.FirstPlace.{place_some}
 use Rattle.pinball_shell.proofs.Alarms.{cases_due, alarm-allowed, AreAll, all-next}
 use Rattle.pinball_shell.proofs.Playing.{state_after-append, trace_of-append}
@@ -95,11 +95,29 @@ traced-lines (l ∷ ls) = ap (λ (xs : List Line). l ∷ xs) (traced-lines ls)
 
 -- ---- the stimuli of a run
 
-without_alarms-append : (xs ys : List (Stimulus × ℕ)) → without_alarms (xs ++ ys) ≡ without_alarms xs ++ without_alarms ys
+without_alarms-append : (xs ys : List Stimulus) → without_alarms (xs ++ ys) ≡ without_alarms xs ++ without_alarms ys
 without_alarms-append [] ys = refl
-without_alarms-append ((Change at n level, k) ∷ xs) ys = ap (λ (given : List Stimulus). Change at n level ∷ given) (without_alarms-append xs ys)
-without_alarms-append ((Alarm at source, k) ∷ xs) ys = without_alarms-append xs ys
-without_alarms-append ((Wait at, k) ∷ xs) ys = ap (λ (given : List Stimulus). Wait at ∷ given) (without_alarms-append xs ys)
+without_alarms-append (Change at n level ∷ xs) ys = ap (λ (given : List Stimulus). Change at n level ∷ given) (without_alarms-append xs ys)
+without_alarms-append (Alarm at source ∷ xs) ys = without_alarms-append xs ys
+without_alarms-append (Wait at ∷ xs) ys = ap (λ (given : List Stimulus). Wait at ∷ given) (without_alarms-append xs ys)
+
+-- one stimulus more at the end
+stimuli_of-push : (xs : List (Stimulus × ℕ)) (stimulus : Stimulus) (k : ℕ) → stimuli_of (xs ++ (stimulus, k) ∷ []) ≡ stimuli_of xs ++ stimulus ∷ []
+stimuli_of-push [] stimulus k = refl
+stimuli_of-push (x ∷ xs) stimulus k = ap (λ (more : List Stimulus). x.0 ∷ more) (stimuli_of-push xs stimulus k)
+
+-- of a run in plan order too
+in_order-push : (plan : PlanView) (xs : List Stimulus) (old : Machine) (trace : List Line) (s : Machine) → IsRunInOrder plan xs old trace s → (stimulus : Stimulus) → IsAllowed plan s stimulus
+    → (n : ℕ) → (plan_steps plan n (begin plan stimulus s)).waiting ≡ []
+    → IsRunInOrder plan (xs ++ stimulus ∷ []) old (trace ++ (plan_steps plan n (begin plan stimulus s)).lines) (plan_steps plan n (begin plan stimulus s))
+in_order-push plan [] old trace s (none, is) stimulus allowed n idle =
+    let t = plan_steps plan n (begin plan stimulus s) in
+    subst (λ (m : Machine). IsRunInOrder plan (stimulus ∷ []) m (trace ++ t.lines) t) is
+    (allowed, (n, (idle, ([], (refl, refl), ap (λ (ls : List Line). ls ++ t.lines) none ∙ sym (append-nil t.lines)))))
+in_order-push plan (x ∷ xs) old trace s (first, (k, (idle_first, (rest, run, is)))) stimulus allowed n idle =
+    let mid = plan_steps plan k (begin plan x old) in
+    let t = plan_steps plan n (begin plan stimulus s) in
+    (first, (k, (idle_first, (rest ++ t.lines, in_order-push plan xs mid rest s run stimulus allowed n idle, ap (λ (ls : List Line). ls ++ t.lines) is ∙ append_assoc mid.lines rest t.lines))))
 
 abbrev is_alarm : Stimulus → Bool
 is_alarm (Change at n level) = false
@@ -107,26 +125,26 @@ is_alarm (Alarm at source) = true
 is_alarm (Wait at) = false
 
 -- whether the last of them is an alarm, or `none` where there is none
-abbrev ends_with_alarm : Bool → List (Stimulus × ℕ) → Bool
+abbrev ends_with_alarm : Bool → List Stimulus → Bool
 ends_with_alarm none [] = none
-ends_with_alarm none ((stimulus, k) ∷ more) = ends_with_alarm (is_alarm stimulus) more
+ends_with_alarm none (stimulus ∷ more) = ends_with_alarm (is_alarm stimulus) more
 
-ends_with_alarm-last : (none : Bool) (xs : List (Stimulus × ℕ)) (stimulus : Stimulus) (k : ℕ) → ends_with_alarm none (xs ++ (stimulus, k) ∷ []) ≡ is_alarm stimulus
-ends_with_alarm-last none [] stimulus k = refl
-ends_with_alarm-last none ((first, n) ∷ xs) stimulus k = ends_with_alarm-last (is_alarm first) xs stimulus k
+ends_with_alarm-last : (none : Bool) (xs : List Stimulus) (stimulus : Stimulus) → ends_with_alarm none (xs ++ stimulus ∷ []) ≡ is_alarm stimulus
+ends_with_alarm-last none [] stimulus = refl
+ends_with_alarm-last none (first ∷ xs) stimulus = ends_with_alarm-last (is_alarm first) xs stimulus
 
 -- no alarm is the last
-no_alarm_last : (stimuli : List (Stimulus × ℕ)) → ends_with_alarm false stimuli ≡ false → (before : List (Stimulus × ℕ)) (at : ℕ) (source : Source) (k : ℕ) → stimuli ≢ before ++ (Alarm at source, k) ∷ []
-no_alarm_last stimuli none before at source k is = differ (sym none ∙ ap (ends_with_alarm false) is ∙ ends_with_alarm-last false before (Alarm at source) k)
+no_alarm_last : (stimuli : List Stimulus) → ends_with_alarm false stimuli ≡ false → (before : List Stimulus) (at : ℕ) (source : Source) → stimuli ≢ before ++ Alarm at source ∷ []
+no_alarm_last stimuli none before at source is = differ (sym none ∙ ap (ends_with_alarm false) is ∙ ends_with_alarm-last false before (Alarm at source))
   where
     differ : false ≡ true → ⊥
     differ e = cc
 
 -- what comes in time is no alarm
-in_time-given : (plan : PlanView) (now : ℕ) (stimulus : Stimulus) (k : ℕ) → IsGivenInTime plan now stimulus → without_alarms ((stimulus, k) ∷ []) ≡ stimulus ∷ []
-in_time-given plan now (Change at n level) k time = refl
-in_time-given plan now (Alarm at source) k none = absurd none
-in_time-given plan now (Wait at) k time = refl
+in_time-given : (plan : PlanView) (now : ℕ) (stimulus : Stimulus) → IsGivenInTime plan now stimulus → without_alarms (stimulus ∷ []) ≡ stimulus ∷ []
+in_time-given plan now (Change at n level) time = refl
+in_time-given plan now (Alarm at source) none = absurd none
+in_time-given plan now (Wait at) time = refl
 
 in_time-no_alarm : (plan : PlanView) (now : ℕ) (stimulus : Stimulus) → IsGivenInTime plan now stimulus → is_alarm stimulus ≡ false
 in_time-no_alarm plan now (Change at n level) time = refl
@@ -134,31 +152,39 @@ in_time-no_alarm plan now (Alarm at source) none = absurd none
 in_time-no_alarm plan now (Wait at) time = refl
 
 module _ (c : CheckedView) (accepted : IsAccepted c) where
-  -- Some run was given these stimuli, and alarms, and whether one of those came last; it has this trace and leads to this state,
-  -- where no event waits.
+  -- Some run in plan order was given these stimuli, and alarms, and whether one of those came last; it has this trace and leads
+  -- to this state, where no event waits.
   record IsRunGiven (given : List Stimulus) (alarm : Bool) (trace : List Line) (s : Machine) : Type 0 where
     reached : IsReached c.plan trace s
-    given_is : without_alarms reached.stimuli ≡ given
-    last : ends_with_alarm false reached.stimuli ≡ alarm
+    order : IsRunInOrder c.plan (stimuli_of reached.stimuli) (initial c.plan) trace s
+    given_is : without_alarms (stimuli_of reached.stimuli) ≡ given
+    last : ends_with_alarm false (stimuli_of reached.stimuli) ≡ alarm
 
   given-initial : IsRunGiven [] false [] (initial c.plan)
-  given-initial = record { reached = record { stimuli = []; run = (refl, refl); idle = refl }; given_is = refl; last = refl }
+  given-initial = record { reached = record { stimuli = []; run = (refl, refl); idle = refl }; order = (refl, refl); given_is = refl; last = refl }
 
   -- one stimulus more
   given-next : (given : List Stimulus) (alarm : Bool) (trace : List Line) (s : Machine) → IsRunGiven given alarm trace s → (stimulus : Stimulus) → IsAllowed c.plan s stimulus
-      → (more : List Stimulus) → ((k : ℕ) → without_alarms ((stimulus, k) ∷ []) ≡ more) → IsRunGiven (given ++ more) (is_alarm stimulus) (trace ++ (settled c.plan c.bound stimulus s).lines) (settled c.plan c.bound stimulus s)
+      → (more : List Stimulus) → without_alarms (stimulus ∷ []) ≡ more → IsRunGiven (given ++ more) (is_alarm stimulus) (trace ++ (settled c.plan c.bound stimulus s).lines) (settled c.plan c.bound stimulus s)
   given-next given alarm trace s h stimulus allowed more is =
       let good = verified-is_bounded c accepted.valid accepted.verified in
       let r = h.reached in
       let steps = settled-steps c good r.stimuli trace s r.run r.idle stimulus allowed in
+      let idle = settled-idle c good r.stimuli trace s r.run r.idle stimulus allowed in
+      let names = stimuli_of-push r.stimuli stimulus steps.0 in
+      let next = settled c.plan c.bound stimulus s in
       record {
         reached = record {
           stimuli = r.stimuli ++ (stimulus, steps.0) ∷ [];
           run = settled-run c good r.stimuli trace s r.run r.idle stimulus allowed;
-          idle = settled-idle c good r.stimuli trace s r.run r.idle stimulus allowed;
+          idle = idle;
         };
-        given_is = without_alarms-append r.stimuli ((stimulus, steps.0) ∷ []) ∙ ap (λ (gs : List Stimulus). gs ++ without_alarms ((stimulus, steps.0) ∷ [])) h.given_is ∙ ap (λ (gs : List Stimulus). given ++ gs) (is steps.0);
-        last = ends_with_alarm-last false r.stimuli stimulus steps.0;
+        order = subst (λ (xs : List Stimulus). IsRunInOrder c.plan xs (initial c.plan) (trace ++ next.lines) next) (sym names)
+            (in_order-push c.plan (stimuli_of r.stimuli) (initial c.plan) trace s h.order stimulus allowed c.bound idle);
+        given_is =
+            ap without_alarms names ∙ without_alarms-append (stimuli_of r.stimuli) (stimulus ∷ []) ∙ ap (λ (gs : List Stimulus). gs ++ without_alarms (stimulus ∷ [])) h.given_is
+            ∙ ap (λ (gs : List Stimulus). given ++ gs) is;
+        last = ap (ends_with_alarm false) names ∙ ends_with_alarm-last false (stimuli_of r.stimuli) stimulus;
       }
 
   -- these alarms come, and after them nothing is due by the moment
@@ -191,7 +217,7 @@ module _ (c : CheckedView) (accepted : IsAccepted c) where
       → IsRunGiven given true (trace ++ (settled c.plan c.bound (Alarm at source) s).lines) (settled c.plan c.bound (Alarm at source) s)
   given-alarm given alarm trace s h at source allowed =
       let next = settled c.plan c.bound (Alarm at source) s in
-      subst (λ (gs : List Stimulus). IsRunGiven gs true (trace ++ next.lines) next) (append-nil given) (given-next given alarm trace s h (Alarm at source) allowed [] (λ k. refl))
+      subst (λ (gs : List Stimulus). IsRunGiven gs true (trace ++ next.lines) next) (append-nil given) (given-next given alarm trace s h (Alarm at source) allowed [] refl)
 
   -- the alarms due by the moment, where so much fuel is enough for all
   run-alarms : (until : ℕ) → until < 2 ^ 40 → (given : List Stimulus) (fuel : ℕ) (alarm : Bool) (trace : List Line) (s : Machine) → IsRunGiven given alarm trace s → AreAll c.plan c.bound until fuel s → s.moment ≤ until
@@ -217,12 +243,12 @@ module _ (c : CheckedView) (accepted : IsAccepted c) where
       let (forward, early) = in_time-early c.plan s.moment stimulus time in
       let until = moment_of stimulus in
       let alarms = all_alarms_by c.plan c.bound until s in
-      let all = alarms_by-all c.plan c.bound until trace s run.reached in
+      let all = alarms_by-all c.plan c.bound accepted.valid until trace s run.reached in
       let h = run-alarms until early given (most_alarms c.plan until s) false trace s run all forward in
       let there = state_after c.plan c.bound alarms s in
       let next = settled c.plan c.bound stimulus there in
       let last = given-next given h.alarm (trace ++ trace_of c.plan c.bound alarms s) there h.run stimulus (may_come c.plan s.moment there stimulus time h.moment h.quiet)
-      (stimulus ∷ []) (λ k. in_time-given c.plan s.moment stimulus k time) in
+      (stimulus ∷ []) (in_time-given c.plan s.moment stimulus time) in
       let played : trace_of c.plan c.bound (with_alarms c.plan c.bound stimulus s) s ≡ trace_of c.plan c.bound alarms s ++ next.lines =
       trace_of-append c.plan c.bound alarms (stimulus ∷ []) s ∙ ap (λ (ls : List Line). trace_of c.plan c.bound alarms s ++ ls) (append-nil next.lines) in
       let all_given = given ++ stimulus ∷ [] in
@@ -272,7 +298,10 @@ module _ (c : CheckedView) (accepted : IsAccepted c) where
       )
 
   -- the lines that a log leads to are the trace of the run that it gives
-  pub log_is_run : (log : List ℕ) → IsRunOfLog c.plan log (traced (printed_for_log c.plan c.bound log))
+  pub log_is_run : (log : List ℕ) → IsPlayOfLog c.plan log (traced (printed_for_log c.plan c.bound log))
   log_is_run log =
       let (t, h) = run-lines 1 (lines log) [] [] (initial c.plan) given-initial in
-      record { end = t; reached = h.reached; given = h.given_is; last = no_alarm_last h.reached.stimuli h.last }
+      record {
+        run = record { end = t; reached = h.reached; given = h.given_is; last = no_alarm_last (stimuli_of h.reached.stimuli) h.last };
+        order = h.order;
+      }

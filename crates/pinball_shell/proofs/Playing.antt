@@ -6,6 +6,7 @@ use Rattle.std.specs.Str.Lines.{lines}
 use Rattle.std.proofs.lemmas.Grind.{flat_map-append}
 use Rattle.std.proofs.lemmas.List.Folds.{flat_map-map}
 use Rattle.plan_tables.specs.PlanView.{PlanView}
+use Rattle.plan_tables.specs.Valid.{IsValid}
 use Rattle.config_checker.specs.declared.line.Line.{Line}
 use Rattle.config_checker.specs.Machine.{Machine}
 use Rattle.config_checker.specs.Run.{IsNoAlarmDueBy, Stimulus, Alarm, moment_of, IsReached}
@@ -67,11 +68,11 @@ module _ (plan : PlanView) (bound : ℕ) where
   alarms-start until s a forward = record { done = []; played = played-none s a; whole = refl; moment = forward }
 
   -- the next alarm is played
-  module _ (until : ℕ) (trace : List Line) (s t : Machine) (b c : Option (List ℕ)) (reached : IsReached plan trace s) (next : ComesBy s until) (played : IsPlayed plan bound (Alarm next.at next.source ∷ []) s t b c) where
+  module _ (valid : IsValid plan) (until : ℕ) (trace : List Line) (s t : Machine) (b c : Option (List ℕ)) (reached : IsReached plan trace s) (next : ComesBy s until) (played : IsPlayed plan bound (Alarm next.at next.source ∷ []) s t b c) where
     pub alarms-fewer : length (all_alarms_by plan bound until t) < length (all_alarms_by plan bound until s)
     alarms-fewer =
         subst (λ (m : Machine). length (all_alarms_by plan bound until m) < length (all_alarms_by plan bound until s)) (sym played.state)
-        (all-fewer plan bound until trace s reached next)
+        (all-fewer plan bound until valid trace s reached next)
 
     pub alarms-more : (old : Machine) (a : Option (List ℕ)) (all : List Stimulus) → AreAlarmsGoing until old s a b all → AreAlarmsGoing until old t a c all
     alarms-more old a all h =
@@ -79,7 +80,7 @@ module _ (plan : PlanView) (bound : ℕ) where
         let by = next.by in
         let at : t.moment ≡ next.at = ap (λ (m : Machine). m.moment) played.state ∙ settled-moment plan bound alarm s in
         let going : all_alarms_by plan bound until s ≡ alarm ∷ all_alarms_by plan bound until t =
-        all-first plan bound until trace s reached next ∙ ap (λ (m : Machine). alarm ∷ all_alarms_by plan bound until m) (sym played.state) in
+        all-first plan bound until valid trace s reached next ∙ ap (λ (m : Machine). alarm ∷ all_alarms_by plan bound until m) (sym played.state) in
         record {
           done = h.done ++ alarm ∷ [];
           played = played-then h.done (alarm ∷ []) old s t a b c h.played played;

@@ -120,7 +120,7 @@ module _ (plan : PlanView) (ws vs : List ℕ) (a b : ℕ) where
     same-given s (trace, h) stimulus time =
         let (forward, early) = in_time-early plan s.moment stimulus time in
         let until = moment_of stimulus in
-        let alarms = same-alarms until early (most_alarms plan until s) s (trace, h) (alarms_by-all plan a until trace s h) forward in
+        let alarms = same-alarms until early (most_alarms plan until s) s (trace, h) (alarms_by-all plan a one_is.valid until trace s h) forward in
         same-then s (all_alarms_by plan a until s) (all_alarms_by plan b until s) alarms.are stimulus
         (may_come plan s.moment (state_after plan a (all_alarms_by plan a until s) s) stimulus time alarms.moment alarms.quiet)
 

@@ -1,9 +1,11 @@
 -- What a line gives is taken by the rig, once no alarm is due by its moment.
 use Rattle.std.proofs.Common.{◌≡◌, ℕ, ◌<◌, ◌≤◌, ◌^◌, false, Option, Some, Result, Ok, Err, IsOk, List, [], ◌∷◌, refl, ap, sym, ◌∙◌, subst, arith}
+use Rattle.std.specs.Io.KnownBytes.{Appends}
 use Rattle.plan_tables.specs.PlanView.{PlanView}
+use Rattle.plan_tables.specs.Valid.{IsValid}
 use Rattle.config_checker.specs.CheckedView.{CheckedView}
 use Rattle.config_checker.specs.Accepted.{IsAccepted}
-use Rattle.config_checker.specs.Machine.{Machine}
+use Rattle.config_checker.specs.Machine.{Machine, initial}
 use Rattle.config_checker.specs.Run.{Stimulus, Change, Alarm, Wait, moment_of, IsReached}
 use Rattle.config_checker.specs.NextAlarm.{is_due_by}
 use Rattle.config_checker.proofs.NextAlarms.{not_due-nothing}
@@ -13,12 +15,21 @@ use Rattle.pin_rig.specs.declared.input.StepFault.{StepFault}
 use Rattle.pin_rig.specs.Rig.{RigView, stimulus_at, IsOfRun}
 use Rattle.pin_rig.specs.Steps.{IsOfInput}
 use Rattle.pin_rig.proofs.Judging.{allowed-judged}
+use Rattle.pin_rig.specs.declared.input.RigFault.{RigFault}
+use Rattle.pin_rig.specs.declared.input.RigFault.TheVariants as rig_faults
+use Rattle.pin_rig.specs.Fit.{IsFit, IsFirstWrong}
+use Rattle.plan_tables.specs.declared.devices.DeviceRow.{DeviceRow}
+use Rattle.device_objects.specs.declared.state.DeviceState.{DeviceState}
+use Rattle.pinball_shell.specs.declared.fault.ShellFault.{ShellFault}
+use Rattle.pinball_shell.specs.declared.fault.ShellFault.TheVariants as faults
+use Rattle.pinball_shell.specs.Status.{fault_of_rig}
+use Rattle.pinball_shell.specs.TraceText.{trace_text}
 use Rattle.pinball_shell.specs.declared.fault.Verdict.{Verdict}
 use Rattle.pinball_shell.specs.declared.fault.Verdict.TheVariants as verdicts
 use Rattle.pinball_shell.specs.declared.refusal.Refusal.{Refusal}
 use Rattle.pinball_shell.specs.LogText.{Said, said}
 use Rattle.pinball_shell.specs.RunOfLog.{given_by_line}
-use Rattle.pinball_shell.specs.Played.{input_of, GivesInput, IsPlayed, IsRigOf, IsInputPlayed, AreAlarmsPlayed, IsLinePlayed}
+use Rattle.pinball_shell.specs.Played.{input_of, GivesInput, IsPlayed, IsRigOf, IsInputPlayed, AreAlarmsPlayed, IsLinePlayed, AreLinesPlayed}
 use Rattle.pinball_shell.proofs.Alarms.{ComesBy, alarm-taken}
 use Rattle.pinball_shell.proofs.LogRuns.{IsGivenInTime, given-in_time, in_time-early, may_come}
 use Rattle.pinball_shell.proofs.Playing.{line-played}
@@ -54,6 +65,27 @@ rig_of-same plan old now is h = record {
 pub line-same : (plan : PlanView) (old now : RigView) → now.checked ≡ old.checked → (number : ℕ) (line : List ℕ) (t : Machine) (a b : Option (List ℕ)) (v : Verdict)
     → IsLinePlayed plan now.checked.bound number line now.machine t a b v → IsLinePlayed plan old.checked.bound number line now.machine t a b v
 line-same plan old now is number line t a b v = subst (λ (c : CheckedView). IsLinePlayed plan c.bound number line now.machine t a b v) is
+
+-- the plan is valid
+pub valid-of : (plan : PlanView) (rig : RigView) → IsRigOf plan rig → IsValid plan
+valid-of plan rig h = subst IsValid h.plan_is h.accepted.valid
+
+-- ---- a log from the beginning
+
+-- the lines that were played on a new rig are the text of the log
+pub log-written : (plan : PlanView) (c : CheckedView) (rig : RigView) (log : List ℕ) (a b : Option (List ℕ)) (v : Verdict) → plan ≡ c.plan → rig.checked ≡ c → rig.machine ≡ initial c.plan
+    → AreLinesPlayed plan rig.checked.bound log rig.machine a b v → Appends a b (trace_text c.plan c.bound log)
+log-written plan c rig log a b v plan_is checked_is machine_is h =
+    let begun = subst (λ (m : Machine). AreLinesPlayed plan rig.checked.bound log m a b v) machine_is h in
+    let bound = subst (λ (k : CheckedView). AreLinesPlayed plan k.bound log (initial c.plan) a b v) checked_is begun in
+    let whole = subst (λ (p : PlanView). AreLinesPlayed p c.bound log (initial c.plan) a b v) plan_is bound in
+    whole.text
+
+-- where no rig was made for its devices, they are not those of the plan
+pub wrong-unfit : (plan : PlanView) (rows : List DeviceRow) (states : List DeviceState) (fault : RigFault) → ((row : ℕ) → fault ≡ rig_faults.WrongDevice (record { 0 = row }) → IsFirstWrong plan rows states row)
+    → ◌≡◌ {A = Result Verdict ShellFault} (Err (fault_of_rig fault)) (Err faults.WrongDevice) → IsFit plan rows states → ⊥
+wrong-unfit plan rows states rig_faults.NoMemory wrong is fit = cc
+wrong-unfit plan rows states (rig_faults.WrongDevice row) wrong is fit = (wrong row.0 refl).unfit fit
 
 -- a run of the plan leads to a state of the rig
 pub reached-of : (plan : PlanView) (first now : RigView) → IsRigOf plan first → now.checked ≡ first.checked → (held : IsOfRun now) → IsReached plan held.0 now.machine

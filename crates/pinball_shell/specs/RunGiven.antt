@@ -3,9 +3,11 @@ use Rattle.std.specs.Prelude.{◌≡◌, ◌≢◌, ℕ, Option, None, Result, O
 use Rattle.std.specs.Option.{option_map_or}
 use Rattle.std.specs.Str.Lines.{lines}
 use Rattle.plan_tables.specs.PlanView.{PlanView}
+use Rattle.plan_tables.specs.Valid.{IsValid}
 use Rattle.config_checker.specs.declared.line.Line.{Line}
-use Rattle.config_checker.specs.Machine.{Machine}
-use Rattle.config_checker.specs.Run.{Source, Stimulus, Change, Alarm, Wait, moment_of, IsReached}
+use Rattle.config_checker.specs.Machine.{Machine, initial}
+use Rattle.config_checker.specs.PlanOrder.{plan_steps}
+use Rattle.config_checker.specs.Run.{Source, Stimulus, Change, Alarm, Wait, moment_of, IsAllowed, begin, IsReached}
 use Rattle.pinball_shell.specs.declared.refusal.Refusal.{Refusal}
 use Rattle.pinball_shell.specs.LogText.{said}
 use Rattle.pinball_shell.specs.RunOfLog.{given_by_line}
@@ -27,23 +29,46 @@ given_by_lines plan now (line ∷ more) =
 abbrev pub given_by_log : PlanView → List ℕ → List Stimulus
 given_by_log plan log = given_by_lines plan 0 (lines log)
 
--- the stimuli of a run without the alarms among them
-abbrev pub without_alarms : List (Stimulus × ℕ) → List Stimulus
+-- the stimuli of a run, without how many event steps follow each
+abbrev pub stimuli_of : List (Stimulus × ℕ) → List Stimulus
+stimuli_of = map (λ s. s.0)
+
+-- stimuli without the alarms among them
+abbrev pub without_alarms : List Stimulus → List Stimulus
 without_alarms [] = []
-without_alarms ((Change at switch level, n) ∷ more) = Change at switch level ∷ without_alarms more
-without_alarms ((Alarm at source, n) ∷ more) = without_alarms more
-without_alarms ((Wait at, n) ∷ more) = Wait at ∷ without_alarms more
+without_alarms (Change at switch level ∷ more) = Change at switch level ∷ without_alarms more
+without_alarms (Alarm at source ∷ more) = without_alarms more
+without_alarms (Wait at ∷ more) = Wait at ∷ without_alarms more
 
 -- The lines are the trace of a run of the plan that the log gives: its changes and waits are those of the log, in order; before
 -- each have come the alarms due by its moment, as in every run; no alarm is the last; and at the end no event waits.
 pub record IsRunOfLog (plan : PlanView) (log : List ℕ) (trace : List Line) : Type 0 where
   pub end : Machine
   pub reached : IsReached plan trace end
-  pub given : without_alarms reached.stimuli ≡ given_by_log plan log
-  pub last : (before : List (Stimulus × ℕ)) (at : ℕ) (source : Source) (n : ℕ) → reached.stimuli ≢ before ++ (Alarm at source, n) ∷ []
+  pub given : without_alarms (stimuli_of reached.stimuli) ≡ given_by_log plan log
+  pub last : (before : List Stimulus) (at : ℕ) (source : Source) → stimuli_of reached.stimuli ≢ before ++ Alarm at source ∷ []
 
--- A log gives one list of stimuli: two of its runs differ at most in the order of handlers of equal priority.
-abbrev pub GivesOneList : Type 0
-GivesOneList =
+-- A run in plan order: after each stimulus come event steps in plan order, until no event waits.
+abbrev pub IsRunInOrder : PlanView → List Stimulus → Machine → List Line → Machine → Type 0
+IsRunInOrder plan [] old trace new = (trace ≡ []) × (new ≡ old)
+IsRunInOrder plan (stimulus ∷ more) old trace new =
+    IsAllowed plan old stimulus
+    × ((n : ℕ) × (let settled = plan_steps plan n (begin plan stimulus old) in
+    (settled.waiting ≡ []) × ((rest : List Line) × IsRunInOrder plan more settled rest new × (trace ≡ settled.lines ++ rest))))
+
+-- the lines are the trace of a run that the log gives, and it is in plan order
+pub record IsPlayOfLog (plan : PlanView) (log : List ℕ) (trace : List Line) : Type 0 where
+  pub run : IsRunOfLog plan log trace
+  pub order : IsRunInOrder plan (stimuli_of run.reached.stimuli) (initial plan) trace run.end
+
+-- Every run of a log has the same changes and waits. Which alarms come may depend on the order of handlers of equal priority.
+abbrev pub GivesChangesAndWaits : Type 0
+GivesChangesAndWaits =
     (plan : PlanView) (log : List ℕ) (trace other : List Line) (a : IsRunOfLog plan log trace) (b : IsRunOfLog plan log other)
-    → map (λ s. s.0) a.reached.stimuli ≡ map (λ s. s.0) b.reached.stimuli
+    → without_alarms (stimuli_of a.reached.stimuli) ≡ without_alarms (stimuli_of b.reached.stimuli)
+
+-- In plan order a log gives one run: its stimuli, alarms too, and its trace.
+abbrev pub GivesOnePlay : Type 0
+GivesOnePlay =
+    (plan : PlanView) (log : List ℕ) (trace other : List Line) → IsValid plan → (a : IsPlayOfLog plan log trace) (b : IsPlayOfLog plan log other)
+    → (stimuli_of a.run.reached.stimuli ≡ stimuli_of b.run.reached.stimuli) × (trace ≡ other)

@@ -1,7 +1,9 @@
 -- The status with which the program ends, and what it says of a fault.
 use Rattle.std.specs.Prelude.{ℕ, List, [], ◌∷◌, ◌++◌, Option, None, Some, Result, Ok, Err, codes}
+use Rattle.pin_rig.specs.declared.input.RigFault.{RigFault}
+use Rattle.pin_rig.specs.declared.input.RigFault.TheVariants as rig
 use Rattle.pinball_shell.specs.declared.fault.ShellFault.{ShellFault}
-use Rattle.pinball_shell.specs.declared.fault.ShellFault.TheVariants.{NoMemory, Read, Write, TooLong}
+use Rattle.pinball_shell.specs.declared.fault.ShellFault.TheVariants.{NoMemory, Read, Write, TooLong, WrongDevice}
 use Rattle.pinball_shell.specs.declared.fault.Verdict.{Verdict}
 use Rattle.pinball_shell.specs.declared.fault.Verdict.TheVariants.{Yes, Refused}
 
@@ -17,6 +19,12 @@ fault_name NoMemory = codes "NoMemory"
 fault_name Read = codes "Read"
 fault_name Write = codes "Write"
 fault_name TooLong = codes "TooLong"
+fault_name WrongDevice = codes "WrongDevice"
+
+-- the fault where no rig can be made
+abbrev pub fault_of_rig : RigFault → ShellFault
+fault_of_rig rig.NoMemory = NoMemory
+fault_of_rig (rig.WrongDevice row) = WrongDevice
 
 -- Of a fault in reading the file of this path: its own where a read failed or it is too long.
 abbrev pub file_at_fault : ShellFault → List ℕ → Option (List ℕ)
@@ -24,6 +32,7 @@ file_at_fault NoMemory path = None
 file_at_fault Read path = Some path
 file_at_fault Write path = None
 file_at_fault TooLong path = Some path
+file_at_fault WrongDevice path = None
 
 -- the line that names the file at fault, if there is one
 abbrev pub file_line : Option (List ℕ) → List ℕ

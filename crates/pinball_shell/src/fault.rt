@@ -2,11 +2,11 @@
 
 ghost use Rattle.std.specs.Prelude.{◌≡◌, None, OnOk, option_map, string_bytes};
 ghost use Rattle.std.specs.Io.KnownBytes.{Appends};
-ghost use Rattle.pinball_shell.specs.Status.{status_of, fault_name, file_at_fault, failure_text};
+ghost use Rattle.pinball_shell.specs.Status.{status_of, fault_name, fault_of_rig, file_at_fault, failure_text};
 ghost use Rattle.pinball_shell.specs.declared.fault.ShellFault.TheVariants.{NoMemory};
 
 use pin_rig::RigFault;
-use std::alloc::AllocError;
+use std::alloc::{AllocError, AllocFailed};
 use std::io::{self, Write};
 use thiserror::Error;
 
@@ -22,6 +22,8 @@ pub enum ShellFault {
     Write,
     /// A text is longer than its limit.
     TooLong,
+    /// The devices are not those of the plan's rows, one for each in its first state.
+    WrongDevice,
 }
 
 /// Why there is no verdict, and which file is at fault.
@@ -51,20 +53,21 @@ impl ShellFault {
             ShellFault::Read => "Read",
             ShellFault::Write => "Write",
             ShellFault::TooLong => "TooLong",
+            ShellFault::WrongDevice => "WrongDevice",
         }
     }
 }
 
 impl Failure {
     /// The failure for a fault that came up while this file was read. `Read` and `TooLong` are
-    /// blamed on the file; `NoMemory` and `Write` are not.
+    /// blamed on the file; the others are not.
     pub fn at(fault: ShellFault, path: String) -> Failure
         ensures fault { result.fault ≡ fault }
         ensures file { option_map string_bytes result.file ≡ file_at_fault fault (string_bytes path) }
     {
         let file = match fault {
             ShellFault::Read | ShellFault::TooLong => Some(path),
-            ShellFault::NoMemory | ShellFault::Write => None,
+            ShellFault::NoMemory | ShellFault::Write | ShellFault::WrongDevice => None,
         };
         Failure { fault, file }
     }
@@ -109,12 +112,21 @@ impl From<AllocError> for ShellFault {
     }
 }
 
-impl From<RigFault> for ShellFault {
+impl<T: Drop> From<AllocFailed<T>> for ShellFault {
     ghost from_gives = { λ _ e. e ≡ NoMemory };
+
+    fn from(_e: AllocFailed<T>) -> ShellFault {
+        ShellFault::NoMemory
+    }
+}
+
+impl From<RigFault> for ShellFault {
+    ghost from_gives = { λ fault e. e ≡ fault_of_rig fault };
 
     fn from(fault: RigFault) -> ShellFault {
         match fault {
             RigFault::NoMemory => ShellFault::NoMemory,
+            RigFault::WrongDevice(_row) => ShellFault::WrongDevice,
         }
     }
 }

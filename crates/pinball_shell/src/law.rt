@@ -2,7 +2,7 @@
 
 ghost use Rattle.std.specs.Prelude.{◌^◌};
 ghost use Rattle.pinball_shell.specs.CheckVerified.{AcceptedIsAcceptedAgain, AcceptedIsPrintedAgain, AcceptedIsShort};
-ghost use Rattle.pinball_shell.specs.RunGiven.{GivesOneList};
+ghost use Rattle.pinball_shell.specs.RunGiven.{GivesChangesAndWaits, GivesOnePlay};
 ghost use Rattle.pinball_shell.specs.SamePlay.{PlaysTheSame};
 
 /// The law of printed certificates, for all bundles. If `check_text` says yes to a bundle, it
@@ -26,12 +26,13 @@ pub fn any_certificate_plays_the_same()
     ensures { PlaysTheSame }
 {}
 
-/// The law of logs. A log gives a plan one list of stimuli: its changes and waits in their order,
-/// and before each the alarms that are due by its moment. So what `play_text` promises of the trace
-/// leaves only the order of handlers of equal priority open. What it writes leaves not even that
-/// open.
+/// The law of logs. Every run that a log gives a plan has the same changes and waits, in their
+/// order. Which alarms come between them may depend on the order of handlers of equal priority,
+/// since a handler may start or stop a timer. In plan order, which is that of `play_text`, the log
+/// gives one run: the alarms and the lines are fixed too.
 ///
 /// It does nothing: its contract is the law, over the runs that a log gives.
-pub fn log_gives_one_list_of_stimuli()
-    ensures { GivesOneList }
+pub fn log_gives_one_play()
+    ensures given { GivesChangesAndWaits }
+    ensures play { GivesOnePlay }
 {}

@@ -14,7 +14,7 @@ mod trace;
 pub use check::{BUNDLE_LIMIT, check_text, load_text, verify_text};
 pub use fault::{Failure, ShellFault, Verdict, status};
 pub use law::{
-    any_certificate_plays_the_same, log_gives_one_list_of_stimuli, printed_certificate_is_verified,
+    any_certificate_plays_the_same, log_gives_one_play, printed_certificate_is_verified,
 };
 pub use play::play_text;
 pub use text::{join, read_all};

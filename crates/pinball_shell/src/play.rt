@@ -1,13 +1,14 @@
 //! A log is read and played.
 
-ghost use Rattle.std.specs.Prelude.{◌≡◌, ◌≢◌, ◌^◌, ◌<◌, ◌≤◌, ◌⊎◌, IfOk, IfErr, IsOk, OnOk, IfSome, IsErrOf, length};
+ghost use Rattle.std.specs.Prelude.{◌≡◌, ◌≢◌, ◌^◌, ◌<◌, ◌≤◌, ◌⊎◌, IfOk, IfErr, IsOk, OnOk, IfSome, IsErrOf, length, map};
 ghost use Rattle.std.specs.Io.KnownBytes.{Appends, Keeps};
 ghost use Rattle.config_checker.specs.NextAlarm.{is_due_by};
+ghost use Rattle.pin_rig.specs.Fit.{IsFit};
 ghost use Rattle.pin_rig.specs.Refused.{admitted};
 ghost use Rattle.pin_rig.specs.Rig.{stimulus_at, IsOfRun};
 ghost use Rattle.pinball_shell.specs.LogView.{said_view};
 ghost use Rattle.pinball_shell.specs.RunOfLog.{if_admitted, given_by_line, printed_for_log, traced};
-ghost use Rattle.pinball_shell.specs.RunGiven.{IsRunOfLog};
+ghost use Rattle.pinball_shell.specs.RunGiven.{IsPlayOfLog};
 ghost use Rattle.pinball_shell.specs.TraceText.{trace_text, log_verdict};
 ghost use Rattle.pinball_shell.specs.Played.{worse_of, IsInputPlayed, AreAlarmsPlayed, IsLinePlayed, AreLinesPlayed, GivesInput, IsRigOf};
 
@@ -17,6 +18,7 @@ use crate::refusal::Refusal;
 use crate::text::read_all;
 use crate::trace::{write_lines, write_refused};
 use config_checker::Checked;
+use device_objects::Device;
 use pin_rig::{Input, Rig, StepFault, check_moment};
 use plan_tables::Plan;
 use std::alloc::Global;
@@ -25,25 +27,29 @@ use std::io::{self, Read, Write};
 /// The most bytes that a log may have: 16 MiB.
 pub const LOG_LIMIT: usize = 16_777_216;
 
-/// Reads a log and plays it: writes the lines of the trace as they come, and a line for each line
-/// of the log that is refused. The verdict is `Yes` if none is.
+/// Reads a log and plays it on a machine with these devices, one for each row of the plan, in the
+/// order of the rows. Writes the lines of the trace as they come, and a line for each line of the
+/// log that is refused. The verdict is `Yes` if none is.
 ///
 /// The lines of the trace are those of the run of the plan that the log gives: its changes and
 /// waits in their order, before each the alarms that are due by its moment, and none after the
-/// last. At the end no event waits.
+/// last. Equal handlers run in plan order. At the end no event waits.
 ///
 /// # Errors
 ///
 /// - `TooLong`: the log has more than 16 MiB.
 /// - `Read`: the reader failed.
 /// - `NoMemory`: memory ran out.
+/// - `WrongDevice`: a device is not the one of its row, in its first state; or there are too few
+///   devices, or too many.
 /// - `Write`: the writer failed. How much was written is not said.
 ///
-/// The log is read to its end, and all memory taken, before anything is written. So after the first
-/// three nothing has been written.
-pub fn play_text<R: Read, W: Write>(
+/// The log is read to its end, and all memory taken, before anything is written. So after all but
+/// the last nothing has been written. The devices are dropped in any case.
+pub fn play_text<D: Device, R: Read, W: Write>(
     alloc: Global,
     checked: &Checked,
+    devices: Vec<D>,
     reader: &mut R,
     writer: &mut W,
 ) -> Result<Verdict, ShellFault>
@@ -52,31 +58,37 @@ pub fn play_text<R: Read, W: Write>(
     ensures verdict { IfOk result (λ v. IfSome (R.remaining reader.old)
         (λ log. v ≡ log_verdict (printed_for_log checked.now.plan checked.now.bound log))) }
     ensures run { OnOk result (IfSome (R.remaining reader.old)
-        (λ log. IsRunOfLog checked.now.plan log (traced (printed_for_log checked.now.plan checked.now.bound log)))) }
+        (λ log. IsPlayOfLog checked.now.plan log (traced (printed_for_log checked.now.plan checked.now.bound log)))) }
     ensures silent { IfErr result (λ e. e ≢ ShellFault.Write → Keeps (W.contents writer.old) (W.contents writer.new)) }
     ensures within { OnOk result (IfSome (R.remaining reader.old) (λ log. length log ≤ 2 ^ 24)) }
     ensures too_long { IsErrOf result ShellFault.TooLong → IfSome (R.remaining reader.old) (λ log. 2 ^ 24 < length log) }
+    ensures fit { OnOk result (IsFit checked.now.plan (map D.row_of devices.items) (map D.state_of devices.items)) }
+    ensures wrong { IsErrOf result ShellFault.WrongDevice → ¬ (IsFit checked.now.plan (map D.row_of devices.items) (map D.state_of devices.items)) }
 {
     let log = read_all(alloc, reader, LOG_LIMIT)?;
-    play_log(alloc, checked, &log, writer)
+    play_log(alloc, checked, devices, &log, writer)
 }
 
-/// Plays a log that was read. Fails only by memory, before anything is written, and by the writer.
-fn play_log<W: Write>(
+/// Plays a log that was read. Fails only by memory and by its devices, before anything is written,
+/// and by the writer.
+fn play_log<D: Device, W: Write>(
     alloc: Global,
     checked: &Checked,
+    devices: Vec<D>,
     log: &[u8],
     writer: &mut W,
 ) -> Result<Verdict, ShellFault>
     requires { length log.now ≤ 2 ^ 24 }
     ensures written { OnOk result (Appends (W.contents writer.old) (W.contents writer.new) (trace_text checked.now.plan checked.now.bound log.now)) }
     ensures verdict { IfOk result (λ v. v ≡ log_verdict (printed_for_log checked.now.plan checked.now.bound log.now)) }
-    ensures run { IsRunOfLog checked.now.plan log.now (traced (printed_for_log checked.now.plan checked.now.bound log.now)) }
+    ensures run { IsPlayOfLog checked.now.plan log.now (traced (printed_for_log checked.now.plan checked.now.bound log.now)) }
     ensures silent { IfErr result (λ e. e ≢ ShellFault.Write → Keeps (W.contents writer.old) (W.contents writer.new)) }
-    ensures failed { IfErr result (λ e. (e ≡ ShellFault.NoMemory) ⊎ (e ≡ ShellFault.Write)) }
+    ensures failed { IfErr result (λ e. (e ≡ ShellFault.NoMemory) ⊎ (e ≡ ShellFault.WrongDevice) ⊎ (e ≡ ShellFault.Write)) }
+    ensures fit { OnOk result (IsFit checked.now.plan (map D.row_of devices.items) (map D.state_of devices.items)) }
+    ensures wrong { IsErrOf result ShellFault.WrongDevice → ¬ (IsFit checked.now.plan (map D.row_of devices.items) (map D.state_of devices.items)) }
 {
     let plan = checked.plan();
-    let mut rig = Rig::new(alloc, checked)?;
+    let mut rig = Rig::new(alloc, checked, devices)?;
     match play_lines(plan, &mut rig, log, writer) {
         Ok(verdict) => Ok(verdict),
         Err(_) => Err(ShellFault::Write),
@@ -84,9 +96,9 @@ fn play_log<W: Write>(
 }
 
 /// Plays the lines of a log on the rig of a plan.
-fn play_lines<W: Write>(
+fn play_lines<D: Device, W: Write>(
     plan: &Plan,
-    rig: &mut Rig<'_>,
+    rig: &mut Rig<'_, D>,
     log: &[u8],
     writer: &mut W,
 ) -> io::Result<Verdict>
@@ -117,9 +129,9 @@ fn worse(before: Verdict, line: Verdict) -> Verdict
 }
 
 /// Plays a line that has this number, unless it is refused.
-fn play_line<W: Write>(
+fn play_line<D: Device, W: Write>(
     plan: &Plan,
-    rig: &mut Rig<'_>,
+    rig: &mut Rig<'_, D>,
     number: usize,
     line: &[u8],
     writer: &mut W,
@@ -167,9 +179,9 @@ fn given_at(now: u64, at: u64, input: Input) -> Result<Option<(u64, Input)>, Ref
 }
 
 /// Plays the alarms that come by a moment.
-fn play_alarms<W: Write>(
+fn play_alarms<D: Device, W: Write>(
     plan: &Plan,
-    rig: &mut Rig<'_>,
+    rig: &mut Rig<'_, D>,
     until: u64,
     writer: &mut W,
 ) -> io::Result<()>
@@ -185,7 +197,7 @@ fn play_alarms<W: Write>(
 }
 
 /// Whether an alarm is due at or before a moment.
-fn has_alarm_by(rig: &Rig<'_>, until: u64) -> bool
+fn has_alarm_by<D: Device>(rig: &Rig<'_, D>, until: u64) -> bool
     ensures due { result ≡ is_due_by until rig.now.machine }
     ensures reached { IsOfRun rig.now }
 {
@@ -196,9 +208,9 @@ fn has_alarm_by(rig: &Rig<'_>, until: u64) -> bool
 }
 
 /// Plays an input that the rig takes, and writes its lines.
-fn play_input<W: Write>(
+fn play_input<D: Device, W: Write>(
     plan: &Plan,
-    rig: &mut Rig<'_>,
+    rig: &mut Rig<'_, D>,
     input: Input,
     writer: &mut W,
 ) -> io::Result<()>

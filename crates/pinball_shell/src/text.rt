@@ -27,6 +27,7 @@ pub fn read_all<R: Read>(alloc: Global, reader: &mut R, limit: usize) -> Result<
     ensures within { IfOk result (λ all. vec_len all ≤ limit) }
     ensures too_long { IsErrOf result ShellFault.TooLong → IfSome (R.remaining reader.old) (λ input. limit < length input) }
     ensures reads_only { IfErr result (λ e. e ≢ ShellFault.Write) }
+    ensures no_devices { IfErr result (λ e. e ≢ ShellFault.WrongDevice) }
 {
     let mut all = Vec::new(alloc);
     let mut piece = [0u8; PIECE];

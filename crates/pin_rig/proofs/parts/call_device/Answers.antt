@@ -1,6 +1,6 @@
-use Rattle.std.proofs.Common.{List, ℕ, ◌<◌, sym, ◌∙◌, subst}
+use Rattle.std.proofs.Common.{◌<◌, sym, ◌∙◌, subst}
 use Rattle.std.specs.List.{All}
-use Rattle.plan_tables.specs.PlanView.{PlanView, row_at}
+use Rattle.plan_tables.specs.PlanView.{row_at}
 use Rattle.plan_tables.specs.Devices.{list_count}
 use Rattle.config_checker.specs.Machine.{called}
 use Rattle.pin_rig.proofs.Listing.{answer-lists}

@@ -1,4 +1,4 @@
-use Rattle.std.proofs.Common.{true, ◌≡◌, ◌+◌, ◌<◌, ◌≤◌, List, [], filter, drop, length, sym, ap, ◌∙◌, subst, arith}
+use Rattle.std.proofs.Common.{true, ◌≡◌, ◌+◌, ◌<◌, ◌≤◌, List, filter, drop, length, sym, ap, ◌∙◌, subst, arith}
 use Rattle.plan_tables.specs.PlanView.{is_owner, row_at, row_numbers}
 use Rattle.plan_tables.specs.declared.entries.Owner.TheVariants as owners
 use Rattle.plan_tables.specs.declared.devices.DeviceRow.{DeviceRow}

@@ -6,7 +6,7 @@ use Rattle.plan_tables.specs.declared.entries.Work.{Work}
 use Rattle.plan_tables.specs.declared.entries.Work.TheVariants.{Mode}
 use Rattle.config_checker.specs.Machine.{post, stop_mode}
 use Rattle.config_checker.specs.EventStep.{do_after}
-use Rattle.pin_rig.specs.Core.{CoreView, after, follow}
+use Rattle.pin_rig.specs.Core.{after, follow}
 use Rattle.pin_rig.proofs.Following.{follow-still, stop-still, ended-follows}
 use Rattle.pin_rig.proofs.parts.work_after.Goals as goal
 

@@ -2,7 +2,7 @@ use Rattle.std.proofs.Common.{refl, sym, ◌∙◌}
 use Rattle.config_checker.proofs.NextAlarms.{not_due-nothing}
 use Rattle.pinball_shell.specs.RunOfLog.{all_alarms_by}
 use Rattle.pinball_shell.proofs.Alarms.{comes, alarm-taken}
-use Rattle.pinball_shell.proofs.Taking.{ok_where, alarm-played, reached-of}
+use Rattle.pinball_shell.proofs.Taking.{ok_where, alarm-played, reached-of, valid-of}
 use Rattle.pinball_shell.proofs.Playing.{alarms-start, alarms-fewer, alarms-more, alarms-stop}
 use Rattle.pinball_shell.proofs.play.play_alarms.Goals as goal
 
@@ -22,7 +22,7 @@ loop-rig-smaller g c =
     let next = comes c.loop-rig.rig.machine c.args.until (sym c.has_alarm_by.ensures.due ∙ c.loop-rig-test.true) in
     let played = alarm-played c.args.plan.now c.args.until c.args.rig.now c.loop-rig.rig c.play_input.new.rig (g.W.Write.contents c.loop-rig.writer) (g.W.Write.contents c.play_input.new.writer)
     c.loop-rig.invariant.1 c.requires.until next c.in_ok-play_input.ensures in
-    alarms-fewer c.args.plan.now c.args.rig.now.checked.bound c.args.until c.has_alarm_by.ensures.reached.0 c.loop-rig.rig.machine c.play_input.new.rig.machine
+    alarms-fewer c.args.plan.now c.args.rig.now.checked.bound (valid-of c.args.plan.now c.args.rig.now c.requires.rig) c.args.until c.has_alarm_by.ensures.reached.0 c.loop-rig.rig.machine c.play_input.new.rig.machine
     (g.W.Write.contents c.loop-rig.writer) (g.W.Write.contents c.play_input.new.writer)
     (reached-of c.args.plan.now c.args.rig.now c.loop-rig.rig c.requires.rig c.loop-rig.invariant.1 c.has_alarm_by.ensures.reached) next played
 
@@ -31,7 +31,7 @@ loop-rig-preserved g c =
     let next = comes c.loop-rig.rig.machine c.args.until (sym c.has_alarm_by.ensures.due ∙ c.loop-rig-test.true) in
     let played = alarm-played c.args.plan.now c.args.until c.args.rig.now c.loop-rig.rig c.play_input.new.rig (g.W.Write.contents c.loop-rig.writer) (g.W.Write.contents c.play_input.new.writer)
     c.loop-rig.invariant.1 c.requires.until next c.in_ok-play_input.ensures in (
-      alarms-more c.args.plan.now c.args.rig.now.checked.bound c.args.until c.has_alarm_by.ensures.reached.0 c.loop-rig.rig.machine c.play_input.new.rig.machine
+      alarms-more c.args.plan.now c.args.rig.now.checked.bound (valid-of c.args.plan.now c.args.rig.now c.requires.rig) c.args.until c.has_alarm_by.ensures.reached.0 c.loop-rig.rig.machine c.play_input.new.rig.machine
           (g.W.Write.contents c.loop-rig.writer) (g.W.Write.contents c.play_input.new.writer)
           (reached-of c.args.plan.now c.args.rig.now c.loop-rig.rig c.requires.rig c.loop-rig.invariant.1 c.has_alarm_by.ensures.reached) next played
           c.args.rig.now.machine (g.W.Write.contents c.args.writer.now) (all_alarms_by c.args.plan.now c.args.rig.now.checked.bound c.args.until c.args.rig.now.machine)

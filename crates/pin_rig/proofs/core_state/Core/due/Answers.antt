@@ -1,5 +1,4 @@
-use Rattle.std.proofs.Common.{◌≡◌, option_map, map, refl, ap, sym, ◌∙◌}
-use Rattle.device_objects.specs.DeviceStep.{due_of}
+use Rattle.std.proofs.Common.{option_map, ap, ◌∙◌}
 use Rattle.event_queue.specs.Alarms.{least_of}
 use Rattle.config_checker.specs.Run.{switch, device}
 use Rattle.config_checker.specs.NextAlarm.{first_of}
