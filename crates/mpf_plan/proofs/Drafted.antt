@@ -188,7 +188,7 @@ module _ (names : Names) where
   counts_fold d [] = record { bindings = omega arith; rows = omega arith; row_lists = omega arith; lists = omega arith; names = λ t. refl; defined = refl }
   counts_fold d (c ∷ cs) =
       let both = counts_then (bindings_given c) (binding_count cs) (rows_given c) (row_count cs) d (with_contribution names d c) (fold (with_contribution names) (with_contribution names d c) cs)
-          (counts_one d c) (counts_fold (with_contribution names d c) cs) in
+      (counts_one d c) (counts_fold (with_contribution names d c) cs) in
       subst (λ n. Counts n (row_count (c ∷ cs)) d (fold (with_contribution names) d (c ∷ cs))) (sym (sum_by-cons bindings_given c cs))
       (subst (λ r. Counts (bindings_given c + binding_count cs) r d (fold (with_contribution names) d (c ∷ cs))) (sym (sum_by-cons rows_given c cs)) both)
 

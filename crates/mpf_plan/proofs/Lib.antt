@@ -7,6 +7,7 @@ pub mod Drafted
 pub mod ByTable
 pub mod Judged
 pub mod Collected
+pub mod DeviceParts
 pub mod Unnamed
 pub mod Found
 pub mod Among

@@ -1,5 +1,6 @@
 -- The modes of a plan: one for each mode of the rows, with the events of its name.
 use Rattle.std.proofs.Common.{◌≡◌, ℕ, suc, ◌-◌, Bool, true, false, if◌then◌else◌, List, [], ◌∷◌, ◌++◌, length, map, fold, set, refl, sym, ◌∙◌, ap, arith, codes}
+use Rattle.std.specs.Prelude.{Option, None, Some}
 use Rattle.std.specs.Str.{bytes_eq}
 use Rattle.std.specs.List.{flat_map}
 use Rattle.std.proofs.lemmas.Grind.{flat_map-append}
@@ -15,7 +16,7 @@ use Rattle.plan_tables.specs.declared.entries.ModeEvent.{ModeEvent}
 use Rattle.plan_tables.specs.declared.entries.ModeEvent.TheVariants.{WillStart, Starting, Started, Stopping, Stopped}
 use Rattle.plan_tables.specs.declared.table.Table.TheVariants.{Events}
 use Rattle.plan_tables.specs.PlanView.{PlanMode, no_mode, event_among}
-use Rattle.mpf_plan.specs.Contributions.{Contribution, gives, active, inactive, mode, mode_event, mode_event_name, post, post_in, mentions, texts, active_posts, inactive_posts, switch_contributions, player_contributions, starter, stopper, stopper_where, later_events, controls, mode_contributions, Device, act_binding, posts_from, device_contributions, Row, entry, player, of_mode, rows_from, rows_in, mode_rows, rows_of, entry_contributions, player_entry_contributions, row_contributions, given_by, contributions_of}
+use Rattle.mpf_plan.specs.Contributions.{Contribution, gives, active, inactive, mode, mode_event, mode_event_name, post, post_in, mentions, texts, active_posts, inactive_posts, switch_contributions, player_contributions, starter, stopper, stopper_where, later_events, controls, mode_contributions, Device, act_binding, posts_from, device_contributions, device_of, where_device, Row, entry, player, of_mode, rows_from, rows_in, mode_rows, rows_of, entry_contributions, player_entry_contributions, row_contributions, given_by, contributions_of}
 use Rattle.mpf_plan.specs.Uses.{Names, names_from, number_among}
 use Rattle.mpf_plan.specs.PlanOf.{DraftView, event_of, new_mode, with_event_in, last_with_event, with_contribution, blank, drafted, plan_from}
 use Rattle.mpf_plan.proofs.Drafted.{given_plan}
@@ -96,9 +97,17 @@ module _ (names : Names) where
       let posting = posts_from 0 d.lists in
       both (map (act_binding place) d.handled) (named ++ posting) (each (act_binding place) (λ ms h. refl) d.handled) (both named posting (each mentions (λ ms n. refl) d.mentioned) (in_lists 0 d.lists))
 
+  in_where : (place : Place) (o : Option Device) → Leaves (where_device place o)
+  in_where place None ms = refl
+  in_where place (Some d) ms = in_device place d ms
+
   in_entry : (place : Place) (section : List ℕ) (e : Entry) → Leaves (entry_contributions place section e)
   unfolding entry_contributions
-  in_entry place section e = when (bytes_eq section switches_name) (switch_contributions (switch_of e)) (in_switch (switch_of e))
+  in_entry place section e ms = by (bytes_eq section switches_name)
+    where
+      by : (b : Bool) → fold modes_with ms (if b then switch_contributions (switch_of e) else where_device place (device_of section e)) ≡ ms
+      by true = in_switch (switch_of e) ms
+      by false = in_where place (device_of section e) ms
 
   in_player_entry : (place : Place) (section : List ℕ) (p : Player) → Leaves (player_entry_contributions place section p)
   unfolding player_entry_contributions

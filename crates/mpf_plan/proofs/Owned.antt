@@ -56,10 +56,11 @@ module _ (names : Names) (d : DraftView) (o : Option Place) (own : IsOwn o d.pla
   own_device : (place : Place) (row : DeviceRow) → row.owner ≡ owner_at (last_mode d.plan) place → (p : Place) → Some place ≡ Some p
       → (0 < length (d.plan.rows ++ row ∷ [])) × ((slice_index_or (d.plan.rows ++ row ∷ []) (length (d.plan.rows ++ row ∷ []) - 1) no_row).owner ≡ owner_at (last_mode d.plan) p)
   own_device place row owner p is =
-      let longer = length_push d.plan.rows row in
-      ( omega (arith, longer)
-      , ap (λ (x : DeviceRow). x.owner) (get_or_push d.plan.rows row no_row (length (d.plan.rows ++ row ∷ []) - 1) (omega (arith, longer)))
-        ∙ owner ∙ ap (owner_at (last_mode d.plan)) (same_Some place p is) )
+      let longer = length_push d.plan.rows row in (
+        omega (arith, longer),
+        ap (λ (x : DeviceRow). x.owner) (get_or_push d.plan.rows row no_row (length (d.plan.rows ++ row ∷ []) - 1) (omega (arith, longer)))
+            ∙ owner ∙ ap (owner_at (last_mode d.plan)) (same_Some place p is),
+      )
 
   own_mode_event : (modes : ℕ) → modes ≡ length d.plan.modes → (place : Place) → o ≡ Some place
       → (0 < length d.plan.rows) × ((slice_index_or d.plan.rows (last_row d.plan).0 no_row).owner ≡ owner_at (record { 0 = modes - 1 }) place)

@@ -1,5 +1,5 @@
 -- Bindings and rows have no names: nothing is given among them under one.
-use Rattle.std.proofs.Common.{◌≡◌, ℕ, suc, Bool, true, false, cond, List, [], ◌∷◌, ◌++◌, Some, map, refl, ◌∙◌, ap, codes}
+use Rattle.std.proofs.Common.{◌≡◌, ℕ, suc, Bool, true, false, cond, List, [], ◌∷◌, ◌++◌, Option, None, Some, map, refl, ◌∙◌, ap, codes}
 use Rattle.std.specs.Str.{bytes_eq}
 use Rattle.std.proofs.lemmas.Grind.{flat_map-append}
 use Rattle.mpf_config.specs.Rows.{Entry, Player, Switch, EventPlayer, ModeSettings}
@@ -10,7 +10,7 @@ use Rattle.mpf_plan.specs.declared.contribution.Place.{Place}
 use Rattle.mpf_plan.specs.declared.contribution.Aim.TheVariants.{Run}
 use Rattle.plan_tables.specs.declared.table.Table.{Table}
 use Rattle.plan_tables.specs.declared.table.Table.TheVariants.{Events, Bindings, Switches, Rows}
-use Rattle.mpf_plan.specs.Contributions.{Contribution, gives, reads, active, inactive, mode, mode_event, mode_event_name, binds, post, device, post_in, mentions, kind_of, texts, active_posts, inactive_posts, switch_contributions, player_contributions, starter, stopper, stopper_where, later_events, controls, mode_contributions, Device, act_binding, posts_from, device_contributions, Row, entry, player, of_mode, entry_contributions, player_entry_contributions, row_contributions, given_by}
+use Rattle.mpf_plan.specs.Contributions.{Contribution, gives, reads, active, inactive, mode, mode_event, mode_event_name, binds, post, device, post_in, mentions, kind_of, texts, active_posts, inactive_posts, switch_contributions, player_contributions, starter, stopper, stopper_where, later_events, controls, mode_contributions, Device, act_binding, posts_from, device_contributions, device_of, where_device, Row, entry, player, of_mode, entry_contributions, player_entry_contributions, row_contributions, given_by}
 use Rattle.mpf_plan.specs.Uses.{used, name_in_table, uses, first_uses, names_from}
 
 -- a table whose names are neither those of events nor those of switches
@@ -58,9 +58,13 @@ module _ (t : Table) (no_event : (n : List ℕ) → name_in_table t (Some (Event
       first (device place d.settings) (acting ++ (named ++ posting)) refl
       (both acting (named ++ posting) (each (act_binding place) (λ h. no_event h.0) d.handled) (both named posting (each mentions no_event d.mentioned) (in_lists 0 d.lists)))
 
+  in_where : (place : Place) (o : Option Device) → Unnamed (where_device place o)
+  in_where place None = refl
+  in_where place (Some d) = in_device place d
+
   in_entry : (place : Place) (section : List ℕ) (e : Entry) → Unnamed (entry_contributions place section e)
   unfolding entry_contributions
-  in_entry place section e = when (bytes_eq section switches_name) (switch_contributions (switch_of e)) [] (in_switch (switch_of e)) refl
+  in_entry place section e = when (bytes_eq section switches_name) (switch_contributions (switch_of e)) (where_device place (device_of section e)) (in_switch (switch_of e)) (in_where place (device_of section e))
 
   in_player_entry : (place : Place) (section : List ℕ) (p : Player) → Unnamed (player_entry_contributions place section p)
   unfolding player_entry_contributions

@@ -196,9 +196,12 @@ module _ (n : ℕ) (f : ℕ → ℕ) (plan : PlanView) (fit : AreFit n f plan) w
       here : (k : ℕ) → length (get_or new ((first_of_last firsts).0 + k) []) ≤ 0
       here k =
           let at = length plan.lists + k in
-          omega (arith, ap length (ap (λ (l : ListId). get_or new (l.0 + k) []) begins
-          ∙ blank_end plan.lists (replicate count none) (All-replicate (λ l. l ≡ []) count none refl) at
-          ∙ get_or_past plan.lists at [] (omega arith)))
+          omega (
+            arith,
+            ap length (ap (λ (l : ListId). get_or new (l.0 + k) []) begins
+                ∙ blank_end plan.lists (replicate count none) (All-replicate (λ l. l ≡ []) count none refl) at
+                ∙ get_or_past plan.lists at [] (omega arith)),
+          )
 
 -- the settings of a row are within their limits
 abbrev IsLimitedRow : DeviceRow → Type 0
@@ -255,7 +258,7 @@ valid_from rows short few_modes within =
       list_limit = omega (arith, limit, few, count-bindings cs, count-rows cs, count-lists cs);
       row_limit = few;
       row_lists = count-row_lists cs;
-      settings = limited_fold names cs (blank names) (rows_are_limited rows) (All-nil IsLimitedRow);
+      settings = limited_fold names cs (blank names) (rows_are_limited rows short) (All-nil IsLimitedRow);
       action_limit = fit_fold names 1024 full cs (blank names) (rows_are_short rows short) none;
       names = λ t. subst (AllPairs (λ x y. x ≢ y)) (sym (names-from cs t)) (all_apart (named_of cs t) (named_apart cs t));
       entries = has_entries cs (rows_are_open rows) (rows_are_placed rows);

@@ -1,5 +1,5 @@
 -- What the rows give to a plan, by names and in plan order.
-use Rattle.std.specs.Prelude.{ℕ, suc, Bool, true, false, if◌then◌else◌, List, [], ◌∷◌, ◌++◌, map, codes}
+use Rattle.std.specs.Prelude.{ℕ, suc, Bool, true, false, if◌then◌else◌, List, [], ◌∷◌, ◌++◌, map, Option, None, Some, codes}
 use Rattle.std.specs.List.{flat_map}
 use Rattle.std.specs.Str.{bytes_eq}
 use Rattle.mpf_config.specs.declared.config.Contact.{Contact as WrittenContact}
@@ -21,6 +21,7 @@ use Rattle.plan_tables.specs.declared.devices.Settings.{Settings}
 use Rattle.plan_tables.specs.declared.devices.Act.{Act}
 use Rattle.plan_tables.specs.declared.table.Table.{Table}
 use Rattle.plan_tables.specs.declared.table.Table.TheVariants.{Switches}
+pub use Rattle.mpf_plan.specs.DeviceEntries.{texts, Device, device_of}
 
 -- One thing that a row gives: an entry of a table, by its name; how the last given switch is read; an event that this
 -- switch posts when it becomes active, or inactive; a mode by its name, with its priority, and whether it starts only
@@ -40,9 +41,6 @@ pub data Contribution : Type 0 where
   device : Place → Settings → Contribution
   post_in : ℕ → List ℕ → Contribution
   mentions : List ℕ → Contribution
-
-abbrev pub texts : List Written → List (List ℕ)
-texts ws = map (λ w. w.text) ws
 
 -- ---- switches
 
@@ -128,18 +126,6 @@ mode_contributions name s = mode name s.priority s.game ∷ later_events name ++
 
 -- ---- devices
 
--- What the entry of a device says: its settings; each event that it handles, and what the event does; other events that
--- its settings name; and for each of its effect lists the events that it posts.
-pub record Device : Type 0 where
-  pub settings : Settings
-  pub handled : List (List ℕ × Act)
-  pub mentioned : List (List ℕ)
-  pub lists : List (List (List ℕ))
-
--- each of the events does this
-abbrev pub acts : Act → List Written → List (List ℕ × Act)
-acts act ws = map (λ w. (w.text, act)) ws
-
 -- an event acts on the row that came last
 abbrev pub act_binding : Place → List ℕ × Act → Contribution
 act_binding place h = binds h.0 place (Do h.1)
@@ -153,6 +139,11 @@ posts_from k (es ∷ rest) = map (post_in k) es ++ posts_from (suc k) rest
 unfoldable pub device_contributions : Place → Device → List Contribution
 device_contributions place d =
     device place d.settings ∷ map (act_binding place) d.handled ++ (map mentions d.mentioned ++ posts_from 0 d.lists)
+
+-- what a device gives, where an entry is one
+abbrev pub where_device : Place → Option Device → List Contribution
+where_device place None = []
+where_device place (Some d) = device_contributions place d
 
 -- ---- rows
 
@@ -183,7 +174,7 @@ rows_of rows = rows_in Machine rows.machine ++ flat_map mode_rows rows.modes
 -- what an entry gives, by the name of its section
 unfoldable pub entry_contributions : Place → List ℕ → Entry → List Contribution
 entry_contributions place section e =
-    if bytes_eq section switches_name then switch_contributions (switch_of e) else []
+    if bytes_eq section switches_name then switch_contributions (switch_of e) else where_device place (device_of section e)
 
 -- and an entry of a player
 unfoldable pub player_entry_contributions : Place → List ℕ → Player → List Contribution

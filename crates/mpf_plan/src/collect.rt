@@ -5,6 +5,7 @@ ghost use Rattle.mpf_config.specs.View.{switch_view as switch_row_view, event_pl
 ghost use Rattle.mpf_plan.specs.Contributions.{active, inactive, post, texts, contact_of, is_quick, kind_of, tag_event, active_posts, inactive_posts, switch_contributions, player_contributions, starter, stopper, stopper_where, later_events, controls, mode_contributions, rows_in, rows_from, mode_rows, rows_of, entry, player, entry_contributions, player_entry_contributions, row_contributions};
 ghost use Rattle.mpf_plan.specs.Inside.{contributions_view, row_view, row_list_view};
 
+use crate::collect_devices::collect_device;
 use crate::contribution::{Aim, Contribution, Parts, Place, whole};
 use mpf_config::config::Contact as WrittenContact;
 use mpf_config::{
@@ -139,7 +140,7 @@ fn collect_entry<'a>(
     if section == SWITCHES_NAME {
         return collect_switch(contributions, as_switch(entry));
     }
-    Ok(())
+    collect_device(contributions, place, section, entry)
 }
 
 /// What an entry of a player gives, after what is there.
