@@ -1,12 +1,9 @@
 -- What is collected of the entry of a device, part after part.
-use Rattle.std.proofs.Common.{◌≡◌, ℕ, suc, ◌+◌, ◌<◌, List, [], ◌∷◌, ◌++◌, length, map, drop, get_or, Vec, Global, refl, sym, ◌∙◌, ap, arith}
+use Rattle.std.proofs.Common.{◌≡◌, ℕ, suc, ◌+◌, ◌<◌, List, [], ◌∷◌, ◌++◌, length, map, drop, get_or, refl, sym, ◌∙◌, ap, arith}
 use Rattle.std.specs.Prelude.{Option, None, Some}
 use Rattle.std.proofs.lemmas.List.{append-nil, append_assoc, map-append, drop_more}
-use Rattle.section_tables.specs.declared.rows.Name.{Name}
-use Rattle.section_tables.specs.declared.rows.Fields.{Fields}
-use Rattle.mpf_config.specs.Rows.{Control}
-use Rattle.mpf_config.specs.Typed.{control_of, controls_of, with_control}
-use Rattle.mpf_config.specs.View.{names_view, fields_view}
+use Rattle.mpf_config.specs.Rows.{Written, Control}
+use Rattle.mpf_config.specs.Typed.{with_control}
 use Rattle.plan_tables.specs.declared.devices.Act.{Act}
 use Rattle.plan_tables.specs.declared.devices.Act.TheVariants.{Step}
 use Rattle.plan_tables.specs.declared.devices.Settings.{Settings}
@@ -56,24 +53,17 @@ device_collected place d old a b e first then_ rest =
     ∙ append_assoc old (row ∷ []) (acting ++ posting)
 
 -- one step, and then the others
-pub steps_next : (f : List ℕ × Act → Contribution) (steps : List (Vec Name Global)) (i : ℕ) (d : Vec Name Global) → i < length steps
-    → map f (acts (Step i) (names_view (get_or steps i d))) ++ map f (step_acts (i + 1) (map names_view (drop (i + 1) steps))) ≡ map f (step_acts i (map names_view (drop i steps)))
-steps_next f steps i d within =
-    let here = acts (Step i) (names_view (get_or steps i d)) in
-    let later = map names_view (drop (i + 1) steps) in
+pub steps_next : {X : Type 0} (f : List ℕ × Act → Contribution) (view : X → List Written) (steps : List X) (i : ℕ) (d : X) → i < length steps
+    → map f (acts (Step i) (view (get_or steps i d))) ++ map f (step_acts (i + 1) (map view (drop (i + 1) steps))) ≡ map f (step_acts i (map view (drop i steps)))
+steps_next f view steps i d within =
+    let here = acts (Step i) (view (get_or steps i d)) in
+    let later = map view (drop (i + 1) steps) in
     let next : i + 1 ≡ suc i = omega arith in
     ap (λ k. map f here ++ map f (step_acts k later)) next
     ∙ sym (map-append f here (step_acts (suc i) later))
-    ∙ ap (λ l. map f (step_acts i (map names_view l))) (sym (drop_more steps i d within))
-
-one_control : (f : List ℕ × Act → Contribution) (o : Option Control) (cs : List Control) → map f (map controlled (with_control o [])) ++ map f (map controlled cs) ≡ map f (map controlled (with_control o cs))
-one_control f None cs = refl
-one_control f (Some c) cs = refl
+    ∙ ap (λ l. map f (step_acts i (map view l))) (sym (drop_more steps i d within))
 
 -- one control, and then the others
-pub controls_next : (f : List ℕ × Act → Contribution) (maps : List Fields) (i : ℕ) (d : Fields) → i < length maps
-    → map f (map controlled (with_control (control_of (fields_view (get_or maps i d))) [])) ++ map f (map controlled (controls_of (map fields_view (drop (i + 1) maps))))
-    ≡ map f (map controlled (controls_of (map fields_view (drop i maps))))
-controls_next f maps i d within =
-    one_control f (control_of (fields_view (get_or maps i d))) (controls_of (map fields_view (drop (i + 1) maps)))
-    ∙ ap (λ l. map f (map controlled (controls_of (map fields_view l)))) (sym (drop_more maps i d within))
+pub control_next : (f : List ℕ × Act → Contribution) (o : Option Control) (cs : List Control) → map f (map controlled (with_control o [])) ++ map f (map controlled cs) ≡ map f (map controlled (with_control o cs))
+control_next f None cs = refl
+control_next f (Some c) cs = refl
