@@ -7,7 +7,7 @@ use Rattle.std.proofs.lemmas.Bool.{eqb-true}
 use Rattle.std.proofs.lemmas.Grind.{flat_map-append}
 use Rattle.std.proofs.lemmas.List.{length-map}
 use Rattle.std.proofs.lemmas.List.Elements.{All-nil, All-cons, All-head, All-tail, All-append, All-map, All-weaker}
-use Rattle.mpf_config.specs.Rows.{Written, Entry, Player, Switch, EventPlayer, Block, Counter, StepBlock, Control, Timer, ModeSettings, Content, entries, players, SectionRows, ModeRows, Rows}
+use Rattle.mpf_config.specs.Rows.{Written, Entry, Player, Switch, EventPlayer, Block, Counter, StepBlock, Control as TimerControl, Timer, ModeSettings, Content, entries, players, SectionRows, ModeRows, Rows}
 use Rattle.mpf_config.specs.Rows as sections
 use Rattle.mpf_config.specs.Named.{IsName, AllNames, IsNamedEntry, IsNamedPlayer, IsNamedSwitch, IsNamedEventPlayer, IsNamedBlock, IsNamedCounter, IsNamedStepBlock, IsNamedTimer, AreNamedSettings, IsNamedContent, IsNamed, IsNamedMode}
 use Rattle.mpf_config.specs.Typed.{switches_name, event_player_name, counters_name, accruals_name, sequences_name, timers_name, switch_of, event_player_of, counter_of, step_block_of, timer_of, mode_settings}
@@ -24,12 +24,12 @@ use Rattle.plan_tables.specs.declared.devices.Act.{Act}
 use Rattle.plan_tables.specs.declared.devices.Act.TheVariants.{Count, Step, Enable, Disable, Reset, Restart}
 use Rattle.plan_tables.specs.declared.devices.Settings.{Settings}
 use Rattle.plan_tables.specs.declared.devices.Settings.TheVariants as kinds
-use Rattle.mpf_plan.specs.DeviceEntries.{acts, block_acts, block_mentions, block_event, block_endings, or_own, block_lists, counter_device, step_acts, step_settings, step_device, controlled, timer_event, timer_endings, timer_device}
+use Rattle.mpf_plan.specs.DeviceEntries.{device_of, acts, block_acts, block_mentions, block_event, block_endings, or_own, block_lists, counter_device, step_acts, step_settings, step_device, controlled, timer_event, timer_endings, timer_device}
 use Rattle.plan_tables.specs.declared.entries.ModeEvent.{ModeEvent}
 use Rattle.plan_tables.specs.declared.entries.ModeEvent.TheVariants.{WillStart, Starting, Started, Stopping, Stopped}
 use Rattle.plan_tables.specs.declared.table.Table.{Table}
 use Rattle.plan_tables.specs.declared.table.Table.TheVariants.{Events}
-use Rattle.mpf_plan.specs.Contributions.{Contribution, gives, reads, active, inactive, mode, mode_event, mode_event_name, binds, post, device, post_in, mentions, texts, kind_of, tag_event, active_posts, inactive_posts, switch_contributions, player_contributions, starter, stopper, stopper_where, later_events, controls, mode_contributions, Device, act_binding, posts_from, device_contributions, device_of, where_device, Row, entry, player, of_mode, rows_from, rows_in, mode_rows, rows_of, entry_contributions, player_entry_contributions, row_contributions, given_by, contributions_of}
+use Rattle.mpf_plan.specs.Contributions.{Contribution, gives, reads, active, inactive, mode, mode_event, mode_event_name, binds, post, device, post_in, mentions, texts, kind_of, tag_event, active_posts, inactive_posts, switch_contributions, player_contributions, starter, stopper, stopper_where, later_events, controls, mode_contributions, Device, act_binding, posts_from, device_contributions, where_device, Row, entry, player, of_mode, rows_from, rows_in, mode_rows, rows_of, entry_contributions, player_entry_contributions, row_contributions, given_by, contributions_of}
 use Rattle.mpf_plan.proofs.Placed.{ArePlaced, ArePlaced-append, ArePlaced-before, ArePlaced-each, ArePlaced-posts}
 
 -- ---- what contributions are like
@@ -462,7 +462,7 @@ module _ (P : List ℕ → Type 0) (of : IsOfNames P) (n : ℕ) where
 
   fit_timer : (t : Timer) → IsNamedTimer t → IsFitDevice (timer_device t)
   fit_timer t h = record {
-    handled = All-map (λ (x : List ℕ × Act). P x.0) controlled t.controls (All-weaker (λ (c : Control). IsName c.event.text) (λ c. P c.event.text) (λ c. of.name c.event.text) t.controls h.controls);
+    handled = All-map (λ (x : List ℕ × Act). P x.0) controlled t.controls (All-weaker (λ (c : TimerControl). IsName c.event.text) (λ c. P c.event.text) (λ c. of.name c.event.text) t.controls h.controls);
     mentioned = All-nil P;
     lists = All-map (All P) (λ ending. timer_event t.name.text ending ∷ []) timer_endings
         (All-weaker (λ ending. P (timer_event t.name.text ending)) (λ ending. All P (timer_event t.name.text ending ∷ [])) (λ ending k. All-cons P (timer_event t.name.text ending) [] k (All-nil P)) timer_endings (of.timer t.name.text h.name));
