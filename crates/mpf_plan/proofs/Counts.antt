@@ -4,7 +4,7 @@ use Rattle.plan_tables.specs.declared.table.Table.{Table}
 use Rattle.plan_tables.specs.declared.table.Table.TheVariants.{Bindings, Rows}
 use Rattle.mpf_plan.specs.Contributions.{Contribution}
 use Rattle.mpf_plan.specs.Uses.{names_from}
-use Rattle.mpf_plan.specs.Numbering.{binding_count}
+use Rattle.mpf_plan.specs.Numbering.{binding_count, row_count}
 
 -- the names of a table's entries, where they have names
 abbrev pub named_of : List Contribution → Table → List (List ℕ)
@@ -15,5 +15,5 @@ named_of cs t = names_from cs t
 -- how many entries a table has
 abbrev pub count_of : List Contribution → Table → ℕ
 count_of cs Bindings = binding_count cs
-count_of cs Rows = 0
+count_of cs Rows = row_count cs
 count_of cs t = length (names_from cs t)

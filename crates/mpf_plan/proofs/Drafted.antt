@@ -1,8 +1,8 @@
 -- What contributions make: as many bindings and effect lists as they give, and the names that were there.
-use Rattle.std.proofs.Common.{◌≡◌, ℕ, ◌+◌, ◌-◌, ◌<◌, ◌≤◌, zero, suc, take, Bool, true, false, cond, List, [], ◌∷◌, ◌++◌, length, map, fold, get_or, slice_index_or, slice_set, refl, sym, ◌∙◌, ap, subst, arith}
+use Rattle.std.proofs.Common.{◌≡◌, ℕ, ◌+◌, ◌-◌, ◌*◌, ◌<◌, ◌≤◌, zero, suc, take, Bool, true, false, cond, List, [], ◌∷◌, ◌++◌, length, map, fold, get_or, replicate, slice_index_or, slice_set, refl, sym, ◌∙◌, ap, subst, arith}
 use Rattle.std.specs.List.{sum_by}
 use Rattle.std.proofs.Math.Seq.{map-set_same}
-use Rattle.std.proofs.lemmas.List.{length_push, length-set, length-map}
+use Rattle.std.proofs.lemmas.List.{length_push, length-set, length-map, length-append, length-replicate}
 use Rattle.std.proofs.lemmas.List.Sums.{sum_by-cons}
 use Rattle.mpf_plan.specs.declared.collect.Row as rows
 use Rattle.mpf_plan.specs.declared.contribution.Aim.{Aim}
@@ -15,26 +15,33 @@ use Rattle.plan_tables.specs.declared.entries.Action.TheVariants.{Post}
 use Rattle.plan_tables.specs.declared.entries.Binding.{Binding}
 use Rattle.plan_tables.specs.declared.entries.ListId.{ListId}
 use Rattle.plan_tables.specs.declared.devices.DeviceRow.{DeviceRow}
+use Rattle.plan_tables.specs.declared.devices.Settings.{Settings}
+use Rattle.plan_tables.specs.declared.devices.Settings.TheVariants.{Counter, Accrual, Sequence, Timer}
+use Rattle.mpf_plan.specs.declared.contribution.Place.{Place}
+use Rattle.plan_tables.specs.Devices.{list_count}
 use Rattle.plan_tables.specs.declared.table.Table.{Table}
 use Rattle.plan_tables.specs.declared.table.Table.TheVariants.{Events, Bindings, Switches, Rows}
 use Rattle.plan_tables.specs.declared.entries.ModeEvent.TheVariants.{WillStart}
 use Rattle.plan_tables.specs.PlanView.{PlanSwitch, no_switch, PlanMode, no_mode, PlanView}
 use Rattle.plan_tables.specs.Limits.{entry_count, entry_names}
-use Rattle.mpf_plan.specs.Contributions.{Contribution, gives, reads, active, inactive, mode, mode_event, mode_event_name, binds, post, row_contributions, given_by}
+use Rattle.mpf_plan.specs.Contributions.{Contribution, gives, reads, active, inactive, mode, mode_event, mode_event_name, binds, post, device, post_in, mentions, row_contributions, given_by}
 use Rattle.mpf_plan.specs.Uses.{Names, names_from, number_among}
-use Rattle.mpf_plan.specs.PlanOf.{DraftView, event_of, last_switch, with_given, new_mode, with_event_in, next_binding, lists_for, with_binding, with_list_for, with_action, with_contribution, named_switch, blank, drafted, plan_from}
+use Rattle.mpf_plan.specs.PlanOf.{DraftView, event_of, last_switch, with_given, new_mode, with_event_in, next_binding, lists_for, with_binding, with_list_for, with_one_more, next_row, next_list, with_device, first_of_last, with_contribution, named_switch, blank, drafted, plan_from}
 use Rattle.plan_tables.specs.Inside.{name_sets_view, mode_entry_view}
 use Rattle.mpf_plan.specs.Inside.{draft_view, contribution_view, contributions_view, row_view, row_list_view}
-use Rattle.mpf_plan.specs.Numbering.{bindings_given, binding_count, modes_given, mode_count}
+use Rattle.mpf_plan.specs.Numbering.{bindings_given, binding_count, rows_given, row_count, modes_given, mode_count}
 use Rattle.mpf_plan.proofs.Counts.{named_of, count_of}
-use Rattle.mpf_plan.proofs.Taken.{part_count, part_modes}
+use Rattle.mpf_plan.proofs.Taken.{part_count, part_rows, part_modes}
 
 -- ---- what one contribution changes
 
--- so many bindings more, at most one effect list for each, and the same names
-pub record Counts (n : ℕ) (old new : DraftView) : Type 0 where
+-- so many bindings more, and so many rows of devices, at most one effect list for each binding and five for each row, and
+-- the same names
+pub record Counts (n r : ℕ) (old new : DraftView) : Type 0 where
   pub bindings : length new.plan.bindings ≡ length old.plan.bindings + n
-  pub lists : length new.plan.lists ≤ length old.plan.lists + n
+  pub rows : length new.plan.rows ≡ length old.plan.rows + r
+  pub row_lists : length new.plan.row_lists ≡ length old.plan.row_lists + r
+  pub lists : length new.plan.lists ≤ length old.plan.lists + n + 5 * r
   pub names : (t : Table) → entry_names new.plan t ≡ entry_names old.plan t
   pub defined : length new.defined ≡ length old.defined
 
@@ -55,57 +62,103 @@ given_defined Switches n d = by (slice_index_or d.defined n true)
     by false = length-set d.defined n true
 given_defined _ n d = refl
 
-given_counts : (t : Table) (n : ℕ) (d : DraftView) → Counts 0 d (with_given t n d)
+given_counts : (t : Table) (n : ℕ) (d : DraftView) → Counts 0 0 d (with_given t n d)
 given_counts t n d =
     let same = given_plan t n d in
-    record { bindings = omega (arith, ap (λ p. length p.bindings) same); lists = omega (arith, ap (λ p. length p.lists) same); names = λ u. ap (λ p. entry_names p u) same; defined = given_defined t n d }
+    record {
+      bindings = omega (arith, ap (λ p. length p.bindings) same);
+      rows = omega (arith, ap (λ p. length p.rows) same);
+      row_lists = omega (arith, ap (λ p. length p.row_lists) same);
+      lists = omega (arith, ap (λ p. length p.lists) same);
+      names = λ u. ap (λ p. entry_names p u) same;
+      defined = given_defined t n d;
+    }
 
 switches_names : (plan : PlanView) (switches : List PlanSwitch) → map (λ (s : PlanSwitch). s.name) switches ≡ map (λ (s : PlanSwitch). s.name) plan.switches
     → (t : Table) → entry_names (record plan { switches = switches }) t ≡ entry_names plan t
 switches_names plan switches same Switches = same
 switches_names plan switches same _ = refl
 
-switch_counts : (change : PlanSwitch → PlanSwitch) → ((s : PlanSwitch) → (change s).name ≡ s.name) → (d : DraftView) → Counts 0 d (last_switch change d)
+switch_counts : (change : PlanSwitch → PlanSwitch) → ((s : PlanSwitch) → (change s).name ≡ s.name) → (d : DraftView) → Counts 0 0 d (last_switch change d)
 switch_counts change same d = record {
   bindings = omega arith;
+  rows = omega arith;
+  row_lists = omega arith;
   lists = omega arith;
   names = switches_names d.plan (slice_set d.plan.switches d.last (change (slice_index_or d.plan.switches d.last no_switch)))
       (map-set_same (λ (s : PlanSwitch). s.name) d.plan.switches d.last (change (get_or d.plan.switches d.last no_switch)) no_switch (same (get_or d.plan.switches d.last no_switch)));
   defined = refl;
 }
 
--- modes, lists and bindings have no names
-unnamed : (plan : PlanView) (modes : List PlanMode) (lists : List (List Action)) (bindings : List Binding) (t : Table) → entry_names (record plan { modes = modes; lists = lists; bindings = bindings }) t ≡ entry_names plan t
-unnamed plan modes lists bindings Bindings = refl
-unnamed plan modes lists bindings Rows = refl
-unnamed plan modes lists bindings _ = refl
+-- modes, lists, bindings and rows have no names
+unnamed : (plan : PlanView) (modes : List PlanMode) (lists : List (List Action)) (bindings : List Binding) (rows : List DeviceRow) (firsts : List ListId) (t : Table)
+    → entry_names (record plan { modes = modes; lists = lists; bindings = bindings; rows = rows; row_lists = firsts }) t ≡ entry_names plan t
+unnamed plan modes lists bindings rows firsts Bindings = refl
+unnamed plan modes lists bindings rows firsts Rows = refl
+unnamed plan modes lists bindings rows firsts _ = refl
 
-modes_counts : (modes : List PlanMode) (d : DraftView) → Counts 0 d (record d { plan = record d.plan { modes = modes } })
-modes_counts modes d = record { bindings = omega arith; lists = omega arith; names = unnamed d.plan modes d.plan.lists d.plan.bindings; defined = refl }
+modes_counts : (modes : List PlanMode) (d : DraftView) → Counts 0 0 d (record d { plan = record d.plan { modes = modes } })
+modes_counts modes d = record {
+  bindings = omega arith;
+  rows = omega arith;
+  row_lists = omega arith;
+  lists = omega arith;
+  names = unnamed d.plan modes d.plan.lists d.plan.bindings d.plan.rows d.plan.row_lists;
+  defined = refl;
+}
 
 list_begun : (aim : Aim) (lists : List (List Action)) → length (lists_for aim lists) ≤ length lists + 1
 list_begun Run lists = omega (arith, length_push lists [])
 list_begun _ lists = omega arith
 
-binding_counts : (aim : Aim) (b : Binding) (d : DraftView) → Counts 1 d (with_list_for aim (with_binding b d))
+binding_counts : (aim : Aim) (b : Binding) (d : DraftView) → Counts 1 0 d (with_list_for aim (with_binding b d))
 binding_counts aim b d = record {
   bindings = length_push d.plan.bindings b;
-  lists = list_begun aim d.plan.lists;
-  names = unnamed d.plan d.plan.modes (lists_for aim d.plan.lists) (d.plan.bindings ++ b ∷ []);
+  rows = omega arith;
+  row_lists = omega arith;
+  lists = omega (arith, list_begun aim d.plan.lists);
+  names = unnamed d.plan d.plan.modes (lists_for aim d.plan.lists) (d.plan.bindings ++ b ∷ []) d.plan.rows d.plan.row_lists;
   defined = refl;
 }
 
-post_counts : (a : Action) (d : DraftView) → Counts 0 d (with_action a d)
-post_counts a d =
-    let last = length d.plan.lists - 1 in
-    let more = slice_set d.plan.lists last (get_or d.plan.lists last [] ++ a ∷ []) in
-    record { bindings = omega arith; lists = omega (arith, length-set d.plan.lists last (get_or d.plan.lists last [] ++ a ∷ [])); names = unnamed d.plan d.plan.modes more d.plan.bindings; defined = refl }
+-- an action more in a list
+action_counts : (n : ℕ) (a : Action) (d : DraftView) → Counts 0 0 d (record d { plan = record d.plan { lists = with_one_more n a d.plan.lists } })
+action_counts n a d = record {
+  bindings = omega arith;
+  rows = omega arith;
+  row_lists = omega arith;
+  lists = omega (arith, length-set d.plan.lists n (get_or d.plan.lists n [] ++ a ∷ []));
+  names = unnamed d.plan d.plan.modes (with_one_more n a d.plan.lists) d.plan.bindings d.plan.rows d.plan.row_lists;
+  defined = refl;
+}
+
+five_lists : (settings : Settings) → list_count settings ≤ 5
+five_lists (Counter c) = omega arith
+five_lists (Accrual a) = omega arith
+five_lists (Sequence q) = omega arith
+five_lists (Timer t) = omega arith
+
+-- the effect lists of a row begin
+pub lists_begun : (lists : List (List Action)) (n : ℕ) → length (lists ++ replicate n []) ≡ length lists + n
+lists_begun lists n =
+    let none : List Action = [] in
+    omega (arith, length-append lists (replicate n none), length-replicate n none)
+
+device_counts : (place : Place) (settings : Settings) (d : DraftView) → Counts 0 1 d (with_device place settings d)
+device_counts place settings d = record {
+  bindings = omega arith;
+  rows = length_push d.plan.rows (next_row d.plan place settings);
+  row_lists = length_push d.plan.row_lists (next_list d.plan);
+  lists = omega (arith, lists_begun d.plan.lists (list_count settings), five_lists settings);
+  names = unnamed d.plan d.plan.modes (d.plan.lists ++ replicate (list_count settings) []) d.plan.bindings (d.plan.rows ++ next_row d.plan place settings ∷ []) (d.plan.row_lists ++ next_list d.plan ∷ []);
+  defined = refl;
+}
 
 -- ---- all contributions
 
 module _ (names : Names) where
   -- one contribution more
-  counts_one : (d : DraftView) (c : Contribution) → Counts (bindings_given c) d (with_contribution names d c)
+  counts_one : (d : DraftView) (c : Contribution) → Counts (bindings_given c) (rows_given c) d (with_contribution names d c)
   counts_one d (gives t n) = given_counts t _ d
   counts_one d (reads kind) = switch_counts (λ s. record s { kind = kind }) (λ s. refl) d
   counts_one d (active n) = switch_counts (λ s. record s { active = s.active ++ event_of (names Events) n ∷ [] }) (λ s. refl) d
@@ -115,25 +168,31 @@ module _ (names : Names) where
       let last = length d.plan.modes - 1 in
       modes_counts (slice_set d.plan.modes last (with_event_in which (event_of (names Events) (mode_event_name which n)) (get_or d.plan.modes last no_mode))) d
   counts_one d (binds n place aim) = binding_counts aim (next_binding d.plan (event_of (names Events) n) place aim) d
-  counts_one d (post n) = post_counts (Post (event_of (names Events) n)) d
+  counts_one d (post n) = action_counts (length d.plan.lists - 1) (Post (event_of (names Events) n)) d
+  counts_one d (device place settings) = device_counts place settings d
+  counts_one d (post_in k n) = action_counts ((first_of_last d.plan.row_lists).0 + k) (Post (event_of (names Events) n)) d
+  counts_one d (mentions n) = modes_counts d.plan.modes d
 
-  counts_then : (n m : ℕ) (a b c : DraftView) → Counts n a b → Counts m b c → Counts (n + m) a c
-  counts_then n m a b c first then_ = record {
+  counts_then : (n m r q : ℕ) (a b c : DraftView) → Counts n r a b → Counts m q b c → Counts (n + m) (r + q) a c
+  counts_then n m r q a b c first then_ = record {
     bindings = omega (arith, first.bindings, then_.bindings);
+    rows = omega (arith, first.rows, then_.rows);
+    row_lists = omega (arith, first.row_lists, then_.row_lists);
     lists = omega (arith, first.lists, then_.lists);
     names = λ t. then_.names t ∙ first.names t;
     defined = then_.defined ∙ first.defined;
   }
 
   -- all contributions, in turn
-  pub counts_fold : (d : DraftView) (cs : List Contribution) → Counts (binding_count cs) d (fold (with_contribution names) d cs)
-  counts_fold d [] = record { bindings = omega arith; lists = omega arith; names = λ t. refl; defined = refl }
+  pub counts_fold : (d : DraftView) (cs : List Contribution) → Counts (binding_count cs) (row_count cs) d (fold (with_contribution names) d cs)
+  counts_fold d [] = record { bindings = omega arith; rows = omega arith; row_lists = omega arith; lists = omega arith; names = λ t. refl; defined = refl }
   counts_fold d (c ∷ cs) =
-      subst (λ n. Counts n d (fold (with_contribution names) d (c ∷ cs))) (sym (sum_by-cons bindings_given c cs))
-      (counts_then (bindings_given c) (binding_count cs) d (with_contribution names d c) (fold (with_contribution names) (with_contribution names d c) cs)
-      (counts_one d c) (counts_fold (with_contribution names d c) cs))
+      let both = counts_then (bindings_given c) (binding_count cs) (rows_given c) (row_count cs) d (with_contribution names d c) (fold (with_contribution names) (with_contribution names d c) cs)
+      (counts_one d c) (counts_fold (with_contribution names d c) cs) in
+      subst (λ n. Counts n (row_count (c ∷ cs)) d (fold (with_contribution names) d (c ∷ cs))) (sym (sum_by-cons bindings_given c cs))
+      (subst (λ r. Counts (bindings_given c + binding_count cs) r d (fold (with_contribution names) d (c ∷ cs))) (sym (sum_by-cons rows_given c cs)) both)
 
-  pub counts_drafted : (cs : List Contribution) → Counts (binding_count cs) (blank names) (drafted names cs)
+  pub counts_drafted : (cs : List Contribution) → Counts (binding_count cs) (row_count cs) (blank names) (drafted names cs)
   counts_drafted cs = counts_fold (blank names) cs
 
   -- ---- modes
@@ -151,20 +210,6 @@ module _ (names : Names) where
   modes_fold d [] = omega arith
   modes_fold d (c ∷ cs) = omega (arith, modes_fold (with_contribution names d c) cs, modes_one d c, sum_by-cons modes_given c cs)
 
-  -- ---- rows of devices
-
-  abbrev rows_in : DraftView → List DeviceRow × List ListId
-  rows_in d = (d.plan.rows, d.plan.row_lists)
-
-  rows_one : (d : DraftView) (c : Contribution) → rows_in (with_contribution names d c) ≡ rows_in d
-  rows_one d (gives t n) = ap (λ p. (p.rows, p.row_lists)) (given_plan t (number_among (names t) n) d)
-  rows_one d _ = refl
-
-  -- no contribution gives one
-  pub rows_fold : (d : DraftView) (cs : List Contribution) → rows_in (fold (with_contribution names) d cs) ≡ rows_in d
-  rows_fold d [] = refl
-  rows_fold d (c ∷ cs) = rows_fold (with_contribution names d c) cs ∙ rows_one d c
-
 blank_switches : (ns : List (List ℕ)) → map (λ (s : PlanSwitch). s.name) (map named_switch ns) ≡ ns
 blank_switches [] = refl
 blank_switches (n ∷ ns) = ap (λ l. n ∷ l) (blank_switches ns)
@@ -172,7 +217,7 @@ blank_switches (n ∷ ns) = ap (λ l. n ∷ l) (blank_switches ns)
 -- ---- the plan of contributions
 
 module _ (cs : List Contribution) where
-  abbrev counts : Counts (binding_count cs) (blank (names_from cs)) (drafted (names_from cs) cs)
+  abbrev counts : Counts (binding_count cs) (row_count cs) (blank (names_from cs)) (drafted (names_from cs) cs)
   counts = counts_drafted (names_from cs) cs
 
   blank_names : (t : Table) → entry_names (blank (names_from cs)).plan t ≡ named_of cs t
@@ -190,21 +235,23 @@ module _ (cs : List Contribution) where
   pub count-bindings : length (plan_from cs).bindings ≡ binding_count cs
   count-bindings = omega (arith, counts.bindings)
 
-  pub count-lists : length (plan_from cs).lists ≤ binding_count cs
-  count-lists = omega (arith, counts.lists)
+  pub count-rows : length (plan_from cs).rows ≡ row_count cs
+  count-rows = omega (arith, counts.rows)
 
-  -- it has no rows of devices
-  pub no_rows : ((plan_from cs).rows ≡ []) × ((plan_from cs).row_lists ≡ [])
-  no_rows = (ap (λ p. p.0) (rows_fold (names_from cs) (blank (names_from cs)) cs), ap (λ p. p.1) (rows_fold (names_from cs) (blank (names_from cs)) cs))
+  pub count-row_lists : length (plan_from cs).row_lists ≡ length (plan_from cs).rows
+  count-row_lists = omega (arith, counts.rows, counts.row_lists)
+
+  pub count-lists : length (plan_from cs).lists ≤ binding_count cs + 5 * row_count cs
+  count-lists = omega (arith, counts.lists)
 
   -- and so many entries
   pub count-from : (t : Table) → entry_count (plan_from cs) t ≡ count_of cs t
   count-from Bindings = count-bindings
-  count-from Rows = ap length no_rows.0
+  count-from Rows = count-rows
   count-from Switches = sym (length-map (plan_from cs).switches (λ (s : PlanSwitch). s.name)) ∙ ap length (names-from Switches)
   count-from Events = ap length (names-from Events)
 
--- ---- room for effect lists and modes
+-- ---- room for effect lists, rows and modes
 
 module _ (f : Contribution → ℕ) where
   taken_few : (cs : List contributions.Contribution) (i : ℕ) → sum_by f (contributions_view (take i cs)) ≤ sum_by f (contributions_view cs)
@@ -216,11 +263,18 @@ module _ (f : Contribution → ℕ) where
 
 module _ (names : NameSets) (old new : Draft) (cs : List contributions.Contribution) (i : ℕ) where
   -- there are no more lists than the contributions give
-  pub lists_fit : length old.lists.items + binding_count (contributions_view cs) ≤ 16384
-      → draft_view names new ≡ fold (with_contribution (name_sets_view names)) (draft_view names old) (contributions_view (take i cs)) → length new.lists.items ≤ 16384
+  pub lists_fit : length old.lists.items + binding_count (contributions_view cs) + 5 * row_count (contributions_view cs) ≤ 21504
+      → draft_view names new ≡ fold (with_contribution (name_sets_view names)) (draft_view names old) (contributions_view (take i cs)) → length new.lists.items ≤ 21504
   lists_fit room is =
       let counts = counts_fold (name_sets_view names) (draft_view names old) (contributions_view (take i cs)) in
-      omega (arith, room, ap (λ d. length d.plan.lists) is, counts.lists, taken_few bindings_given cs i, length-map new.lists.items (λ v. v.items), length-map old.lists.items (λ v. v.items))
+      omega (arith, room, ap (λ d. length d.plan.lists) is, counts.lists, taken_few bindings_given cs i, taken_few rows_given cs i, length-map new.lists.items (λ v. v.items), length-map old.lists.items (λ v. v.items))
+
+  -- nor more rows
+  pub device_rows_fit : length old.rows.items + row_count (contributions_view cs) ≤ 1024
+      → draft_view names new ≡ fold (with_contribution (name_sets_view names)) (draft_view names old) (contributions_view (take i cs)) → length new.rows.items ≤ 1024
+  device_rows_fit room is =
+      let counts = counts_fold (name_sets_view names) (draft_view names old) (contributions_view (take i cs)) in
+      omega (arith, room, ap (λ d. length d.plan.rows) is, counts.rows, taken_few rows_given cs i)
 
   -- nor more modes
   pub modes_fit : length old.modes.items + mode_count (contributions_view cs) ≤ 64
@@ -232,10 +286,15 @@ module _ (names : NameSets) (old new : Draft) (cs : List contributions.Contribut
 module _ (names : NameSets) (d : Draft) (rs : List rows.Row) (i : ℕ) (r : rows.Row) (now : List contributions.Contribution) (within : i < length rs) (here : contributions_view now ≡ row_contributions (row_view (get_or rs i r)))
     (is : draft_view names d ≡ drafted (name_sets_view names) (given_by (row_list_view (take i rs)))) where
   -- nor than the rows give
-  pub row_fits : binding_count (given_by (row_list_view rs)) ≤ 16384 → length d.lists.items + binding_count (contributions_view now) ≤ 16384
-  row_fits room =
+  pub row_fits : binding_count (given_by (row_list_view rs)) ≤ 16384 → row_count (given_by (row_list_view rs)) ≤ 1024 → length d.lists.items + binding_count (contributions_view now) + 5 * row_count (contributions_view now) ≤ 21504
+  row_fits room few =
       let counts = counts_drafted (name_sets_view names) (given_by (row_list_view (take i rs))) in
-      omega (arith, room, part_count rs i r within, ap binding_count here, ap (λ x. length x.plan.lists) is, counts.lists, length-map d.lists.items (λ v. v.items))
+      omega (arith, room, few, part_count rs i r within, part_rows rs i r within, ap binding_count here, ap row_count here, ap (λ x. length x.plan.lists) is, counts.lists, length-map d.lists.items (λ v. v.items))
+
+  pub row_rows_fit : row_count (given_by (row_list_view rs)) ≤ 1024 → length d.rows.items + row_count (contributions_view now) ≤ 1024
+  row_rows_fit few =
+      let counts = counts_drafted (name_sets_view names) (given_by (row_list_view (take i rs))) in
+      omega (arith, few, part_rows rs i r within, ap row_count here, ap (λ x. length x.plan.rows) is, counts.rows)
 
   pub row_modes_fit : mode_count (given_by (row_list_view rs)) ≤ 64 → length d.modes.items + mode_count (contributions_view now) ≤ 64
   row_modes_fit room =

@@ -7,7 +7,7 @@ use Rattle.mpf_config.specs.Named.{IsNamed, IsNamedMode}
 use Rattle.plan_tables.specs.declared.entries.ModeEvent.TheVariants.{WillStart}
 use Rattle.plan_tables.specs.declared.table.Table.{Table}
 use Rattle.plan_tables.specs.declared.table.Table.TheVariants.{Events}
-use Rattle.mpf_plan.specs.Contributions.{Contribution, gives, reads, active, inactive, mode, mode_event, mode_event_name, binds, post, contributions_of}
+use Rattle.mpf_plan.specs.Contributions.{Contribution, gives, reads, active, inactive, mode, mode_event, mode_event_name, binds, post, device, post_in, mentions, contributions_of}
 use Rattle.mpf_plan.specs.Uses.{used, uses, name_in_table}
 use Rattle.mpf_plan.specs.PlanOf.{plan_of}
 use Rattle.mpf_plan.proofs.Drafted.{names-from}
@@ -28,6 +28,9 @@ module _ (P : List ℕ → Type 0) where
   name_fit (mode_event which n) h = All-cons P (mode_event_name which n) [] h (All-nil P)
   name_fit (binds n place aim) h = All-cons P n [] h (All-nil P)
   name_fit (post n) h = All-cons P n [] h (All-nil P)
+  name_fit (device place settings) h = All-nil P
+  name_fit (post_in k n) h = All-cons P n [] h (All-nil P)
+  name_fit (mentions n) h = All-cons P n [] h (All-nil P)
 
   uses_fit : (cs : List Contribution) → All (IsFit P) cs → All P (uses Events cs)
   uses_fit cs h = All-flat_map P (λ c. name_in_table Events (used c)) cs (All-weaker (IsFit P) (λ c. All P (name_in_table Events (used c))) name_fit cs h)

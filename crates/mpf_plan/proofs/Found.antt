@@ -15,7 +15,7 @@ use Rattle.mpf_plan.specs.Uses.{used, name_in_table, uses, names_from}
 use Rattle.plan_tables.specs.Limits.{entry_count, limit_of, order_of, tables_in_order, first_above}
 use Rattle.mpf_plan.specs.PlanOf.{plan_from}
 use Rattle.plan_tables.specs.NamesKept.{names_of, names_kept}
-use Rattle.mpf_plan.specs.Numbering.{with_name, IsNameTableOf, AreNameTablesOf, bindings_given, binding_count, IsCount, HasFound}
+use Rattle.mpf_plan.specs.Numbering.{with_name, IsNameTableOf, AreNameTablesOf, bindings_given, binding_count, rows_given, row_count, IsCount, HasFound}
 use Rattle.mpf_plan.proofs.Firsts.{with_names-all}
 use Rattle.mpf_plan.proofs.Counts.{count_of}
 use Rattle.mpf_plan.proofs.Drafted.{count-from}
@@ -53,7 +53,11 @@ module _ (cs : List Contribution) (d : Contribution) where
   count_then : (count : ℕ) → IsCount 16384 (binding_count cs + bindings_given d) count → IsCount 16384 (binding_count more) count
   count_then count is = let e : binding_count cs + bindings_given d ≡ binding_count more = omega (arith, sum_by-append bindings_given cs (d ∷ [])) in subst (λ n. IsCount 16384 n count) e is
 
-  module _ (old new : Found) (has : HasFound cs old) (bindings : (all : ℕ) → IsCount 16384 all old.bindings → IsCount 16384 (all + bindings_given d) new.bindings) where
+  rows_then : (count : ℕ) → IsCount 1024 (row_count cs + rows_given d) count → IsCount 1024 (row_count more) count
+  rows_then count is = let e : row_count cs + rows_given d ≡ row_count more = omega (arith, sum_by-append rows_given cs (d ∷ [])) in subst (λ n. IsCount 1024 n count) e is
+
+  module _ (old new : Found) (has : HasFound cs old) (bindings : (all : ℕ) → IsCount 16384 all old.bindings → IsCount 16384 (all + bindings_given d) new.bindings)
+      (rows : (all : ℕ) → IsCount 1024 all old.rows → IsCount 1024 (all + rows_given d) new.rows) where
     -- a contribution that uses no name
     pub found_nameless : used d ≡ None → new.tables.items ≡ old.tables.items → HasFound more new
     found_nameless none same = record {
@@ -63,6 +67,7 @@ module _ (cs : List Contribution) (d : Contribution) where
         names = λ t kept at. subst (λ ns. IsNameTableOf ns kept) (names_stay none t) (has.tables.names t kept at);
       });
       bindings = count_then new.bindings (bindings (binding_count cs) has.bindings);
+      rows = rows_then new.rows (rows (row_count cs) has.rows);
     }
 
     -- a contribution that uses this name
@@ -77,6 +82,7 @@ module _ (cs : List Contribution) (d : Contribution) where
             (λ t e k h. subst (λ ns. IsNameTableOf ns k) (names_there u n uses_it t e) h) has.tables.names;
       });
       bindings = count_then new.bindings (bindings (binding_count cs) has.bindings);
+      rows = rows_then new.rows (rows (row_count cs) has.rows);
     }
       where
         at : was ≡ get_or old.tables.items (order_of u) was
@@ -109,6 +115,14 @@ module _ (cs : List Contribution) (found : Found) (has : HasFound cs found) wher
       by (inl (more, above)) = lt-ltb 16384 found.bindings above ∙ sym (lt-ltb 16384 (entry_count (plan_from cs) Bindings) (omega (arith, more, count-from cs Bindings)))
       by (inr (same, within)) = ap (nat_lt 16384) (same ∙ sym (count-from cs Bindings))
 
+  -- or rows of devices
+  pub rows_above : nat_lt (limit_of Rows) found.rows ≡ nat_lt (limit_of Rows) (entry_count (plan_from cs) Rows)
+  rows_above = by has.rows
+    where
+      by : IsCount 1024 (row_count cs) found.rows → nat_lt 1024 found.rows ≡ nat_lt 1024 (entry_count (plan_from cs) Rows)
+      by (inl (more, above)) = lt-ltb 1024 found.rows above ∙ sym (lt-ltb 1024 (entry_count (plan_from cs) Rows) (omega (arith, more, count-from cs Rows)))
+      by (inr (same, within)) = ap (nat_lt 1024) (same ∙ sym (count-from cs Rows))
+
   -- whether there are too many names
   pub names_above : (t : Table) (k : NameTable) → (t ≡ Bindings → ⊥) → (t ≡ Rows → ⊥) → slice_get found.tables.items (order_of t) ≡ Some k → k.above ≡ nat_lt (limit_of t) (entry_count (plan_from cs) t)
   names_above t k other another at = by (has.tables.names t k at)
@@ -124,6 +138,9 @@ module _ (cs : List Contribution) (found : Found) (has : HasFound cs found) wher
   module _ (none : first_above (plan_from cs) ≡ None) (unnamed : (names_from cs Bindings ≡ []) × (names_from cs Rows ≡ [])) where
     pub bindings_fit : binding_count cs ≤ 16384
     bindings_fit = omega (arith, all_within (plan_from cs) none Bindings, count-from cs Bindings)
+
+    pub device_rows_fit : row_count cs ≤ 1024
+    device_rows_fit = omega (arith, all_within (plan_from cs) none Rows, count-from cs Rows)
 
     names_fit : (t : Table) → length (names_from cs t) ≤ limit_of t
     names_fit Bindings = omega (arith, ap length unnamed.0)

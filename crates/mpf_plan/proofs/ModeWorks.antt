@@ -22,7 +22,7 @@ use Rattle.mpf_plan.specs.Contributions.{mode_event_name, contributions_of}
 use Rattle.mpf_plan.specs.Uses.{Names, names_from, number_among}
 use Rattle.mpf_plan.specs.PlanOf.{plan_from}
 use Rattle.mpf_plan.proofs.Drafted.{names-from}
-use Rattle.mpf_plan.proofs.RowFacts.{rows_are_open}
+use Rattle.mpf_plan.proofs.RowFacts.{rows_are_open, rows_are_placed}
 use Rattle.mpf_plan.proofs.SoundDraft.{has_entries}
 use Rattle.mpf_plan.proofs.ModeNames.{same_which, same_mode}
 use Rattle.mpf_plan.proofs.ModesMade.{made, made-event, modes-made}
@@ -117,7 +117,7 @@ module _ (rows : Rows) where
 
     known : (which : ModeEvent) → number_among (names Events) (mode_event_name which row.name) < length (names Events)
     known which =
-        let entries = has_entries (contributions_of rows) (rows_are_open rows) in
+        let entries = has_entries (contributions_of rows) (rows_are_open rows) (rows_are_placed rows) in
         let at = subst (IsModeWithin (length plan.events)) made_at (All-get_or (IsModeWithin (length plan.events)) plan.modes m.0 no_mode within entries.modes) in
         subst (λ es. number_among (names Events) (mode_event_name which row.name) < length es) (names-from (contributions_of rows) Events) (by which at)
       where

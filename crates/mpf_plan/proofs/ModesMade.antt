@@ -1,5 +1,6 @@
 -- The modes of a plan: one for each mode of the rows, with the events of its name.
-use Rattle.std.proofs.Common.{◌≡◌, ℕ, ◌-◌, Bool, true, false, if◌then◌else◌, List, [], ◌∷◌, ◌++◌, length, map, fold, set, refl, sym, ◌∙◌, ap, arith, codes}
+use Rattle.std.proofs.Common.{◌≡◌, ℕ, suc, ◌-◌, Bool, true, false, if◌then◌else◌, List, [], ◌∷◌, ◌++◌, length, map, fold, set, refl, sym, ◌∙◌, ap, arith, codes}
+use Rattle.std.specs.Prelude.{Option, None, Some}
 use Rattle.std.specs.Str.{bytes_eq}
 use Rattle.std.specs.List.{flat_map}
 use Rattle.std.proofs.lemmas.Grind.{flat_map-append}
@@ -15,7 +16,7 @@ use Rattle.plan_tables.specs.declared.entries.ModeEvent.{ModeEvent}
 use Rattle.plan_tables.specs.declared.entries.ModeEvent.TheVariants.{WillStart, Starting, Started, Stopping, Stopped}
 use Rattle.plan_tables.specs.declared.table.Table.TheVariants.{Events}
 use Rattle.plan_tables.specs.PlanView.{PlanMode, no_mode, event_among}
-use Rattle.mpf_plan.specs.Contributions.{Contribution, gives, active, inactive, mode, mode_event, mode_event_name, post, texts, active_posts, inactive_posts, switch_contributions, player_contributions, starter, stopper, stopper_where, later_events, controls, mode_contributions, Row, entry, player, of_mode, rows_from, rows_in, mode_rows, rows_of, entry_contributions, player_entry_contributions, row_contributions, given_by, contributions_of}
+use Rattle.mpf_plan.specs.Contributions.{Contribution, gives, active, inactive, mode, mode_event, mode_event_name, post, post_in, mentions, texts, active_posts, inactive_posts, switch_contributions, player_contributions, starter, stopper, stopper_where, later_events, controls, mode_contributions, Device, act_binding, posts_from, device_contributions, device_of, where_device, Row, entry, player, of_mode, rows_from, rows_in, mode_rows, rows_of, entry_contributions, player_entry_contributions, row_contributions, given_by, contributions_of}
 use Rattle.mpf_plan.specs.Uses.{Names, names_from, number_among}
 use Rattle.mpf_plan.specs.PlanOf.{DraftView, event_of, new_mode, with_event_in, last_with_event, with_contribution, blank, drafted, plan_from}
 use Rattle.mpf_plan.proofs.Drafted.{given_plan}
@@ -69,7 +70,7 @@ module _ (names : Names) where
   both : (cs ds : List Contribution) → Leaves cs → Leaves ds → Leaves (cs ++ ds)
   both cs ds first then_ ms = fold-append modes_with ms cs ds ∙ ap (λ x. fold modes_with x ds) (first ms) ∙ then_ ms
 
-  each : (make : List ℕ → Contribution) → ((ms : List PlanMode) (n : List ℕ) → modes_with ms (make n) ≡ ms) → (ns : List (List ℕ)) → Leaves (map make ns)
+  each : {X : Type 0} (make : X → Contribution) → ((ms : List PlanMode) (x : X) → modes_with ms (make x) ≡ ms) → (xs : List X) → Leaves (map make xs)
   each make one [] ms = refl
   each make one (n ∷ ns) ms = ap (λ x. fold modes_with x (map make ns)) (one ms n) ∙ each make one ns ms
 
@@ -85,9 +86,28 @@ module _ (names : Names) where
   unfolding player_contributions
   in_player place p = each post (λ ms n. refl) (texts p.posts)
 
-  in_entry : (section : List ℕ) (e : Entry) → Leaves (entry_contributions section e)
+  in_lists : (k : ℕ) (lists : List (List (List ℕ))) → Leaves (posts_from k lists)
+  in_lists k [] ms = refl
+  in_lists k (es ∷ rest) ms = both (map (post_in k) es) (posts_from (suc k) rest) (each (post_in k) (λ m n. refl) es) (in_lists (suc k) rest) ms
+
+  in_device : (place : Place) (d : Device) → Leaves (device_contributions place d)
+  unfolding device_contributions
+  in_device place d =
+      let named = map mentions d.mentioned in
+      let posting = posts_from 0 d.lists in
+      both (map (act_binding place) d.handled) (named ++ posting) (each (act_binding place) (λ ms h. refl) d.handled) (both named posting (each mentions (λ ms n. refl) d.mentioned) (in_lists 0 d.lists))
+
+  in_where : (place : Place) (o : Option Device) → Leaves (where_device place o)
+  in_where place None ms = refl
+  in_where place (Some d) ms = in_device place d ms
+
+  in_entry : (place : Place) (section : List ℕ) (e : Entry) → Leaves (entry_contributions place section e)
   unfolding entry_contributions
-  in_entry section e = when (bytes_eq section switches_name) (switch_contributions (switch_of e)) (in_switch (switch_of e))
+  in_entry place section e ms = by (bytes_eq section switches_name)
+    where
+      by : (b : Bool) → fold modes_with ms (if b then switch_contributions (switch_of e) else where_device place (device_of section e)) ≡ ms
+      by true = in_switch (switch_of e) ms
+      by false = in_where place (device_of section e) ms
 
   in_player_entry : (place : Place) (section : List ℕ) (p : Player) → Leaves (player_entry_contributions place section p)
   unfolding player_entry_contributions
@@ -133,7 +153,7 @@ module _ (names : Names) where
   modes_of _ = []
 
   row_adds : (r : Row) (ms : List PlanMode) → fold modes_with ms (row_contributions r) ≡ ms ++ modes_of r
-  row_adds (entry section e) ms = in_entry section e ms ∙ sym (append-nil ms)
+  row_adds (entry place section e) ms = in_entry place section e ms ∙ sym (append-nil ms)
   row_adds (player place section p) ms = in_player_entry place section p ms ∙ sym (append-nil ms)
   row_adds (of_mode name s) ms = mode_adds name s ms
 
@@ -151,7 +171,7 @@ module _ (names : Names) where
   none_mapped make none (x ∷ xs) = λ i. none x i ++ none_mapped make none xs i
 
   none_from : (place : Place) (name : List ℕ) (content : Content) → flat_map modes_of (rows_from place name content) ≡ []
-  none_from place name (entries es) = none_mapped (entry name) (λ e. refl) es
+  none_from place name (entries es) = none_mapped (entry place name) (λ e. refl) es
   none_from place name (players ps) = none_mapped (player place name) (λ p. refl) ps
   none_from place name (sections.entry e) = refl
   none_from place name (sections.listed ws) = refl

@@ -1,17 +1,18 @@
 -- What holds of the name of each event that the rows post holds of the name of each that their plan posts.
 use Rattle.std.proofs.Common.{◌≡◌, ◌<◌, ℕ, Bool, true, false, if◌then◌else◌, List, [], ◌∷◌, ◌++◌, length, map, get_or, slice_index_or, zero, suc, Ok, arith, sym, subst, codes}
+use Rattle.std.specs.Prelude.{Option, None, Some}
 use Rattle.std.specs.Str.{bytes_eq}
 use Rattle.std.specs.List.{All, flat_map}
 use Rattle.std.proofs.lemmas.List.Elements.{All-nil, All-cons, All-append, All-map, All-weaker, All-head, All-tail}
 use Rattle.mpf_config.specs.Rows.{Entry, Player, Switch, EventPlayer, ModeSettings, Content, entries, players, SectionRows, ModeRows, Rows}
 use Rattle.mpf_config.specs.Rows as sections
-use Rattle.mpf_config.specs.Typed.{switches_name, event_player_name, switch_of, event_player_of, mode_settings, switches_in, event_players_in}
+use Rattle.mpf_config.specs.Typed.{switches_name, event_player_name, switch_of, event_player_of, mode_settings, entries_in, switches_in, event_players_in}
 use Rattle.mpf_plan.specs.declared.contribution.Place.{Place}
 use Rattle.mpf_plan.specs.declared.contribution.Place.TheVariants.{Machine, Mode}
 use Rattle.plan_tables.specs.declared.entries.EventId.{EventId}
 use Rattle.plan_tables.specs.declared.table.Table.TheVariants.{Events}
 use Rattle.plan_tables.specs.PlanView.{PlanView, name_of_event}
-use Rattle.mpf_plan.specs.Contributions.{Contribution, reads, active, inactive, mode, post, texts, active_posts, inactive_posts, switch_contributions, player_contributions, starter, stopper, stopper_where, later_events, controls, mode_contributions, Row, entry, player, of_mode, rows_from, rows_in, mode_rows, rows_of, entry_contributions, player_entry_contributions, row_contributions, contributions_of}
+use Rattle.mpf_plan.specs.Contributions.{Contribution, reads, active, inactive, mode, post, device, post_in, mentions, texts, active_posts, inactive_posts, switch_contributions, player_contributions, starter, stopper, stopper_where, later_events, controls, mode_contributions, Device, act_binding, posts_from, device_contributions, device_of, where_device, Row, entry, player, of_mode, rows_from, rows_in, mode_rows, rows_of, entry_contributions, player_entry_contributions, row_contributions, contributions_of}
 use Rattle.mpf_plan.specs.Uses.{names_from, number_among}
 use Rattle.mpf_plan.specs.PlanOf.{event_of, plan_from, plan_of, plan_at}
 use Rattle.mpf_plan.proofs.Among.{IsKnown, all_known}
@@ -19,7 +20,7 @@ use Rattle.mpf_plan.proofs.Drafted.{names-from}
 use Rattle.mpf_plan.proofs.Judged.{plan_at-Ok}
 use Rattle.mpf_plan.proofs.ModeWorks.{at_number}
 use Rattle.mpf_plan.proofs.Posted.{PostMeets, PostsMeet, meet_drafted}
-use Rattle.mpf_plan.proofs.RowFacts.{All-flat_map, sections_each}
+use Rattle.mpf_plan.proofs.RowFacts.{All-flat_map, All-lists, sections_each}
 
 -- what holds of each item as it is seen
 from_map : {X Y : Type 0} (R : Y → Type 0) (f : X → Y) (xs : List X) → All R (map f xs) → All (λ x. R (f x)) xs
@@ -36,10 +37,16 @@ module _ (P : List ℕ → Type 0) where
   abbrev pub IsPlayerPosting : EventPlayer → Type 0
   IsPlayerPosting p = All P (texts p.posts)
 
+  -- of each that the effect lists of a device do, where an entry is one
+  abbrev pub IsDevicePosting : Option Device → Type 0
+  IsDevicePosting None = Unit {0}
+  IsDevicePosting (Some d) = All (All P) d.lists
+
   -- and of each event that a section posts
   pub record IsPosting (s : SectionRows) : Type 0 where
     pub switches : All IsSwitchPosting (switches_in s)
     pub players : All IsPlayerPosting (event_players_in s)
+    pub devices : All (λ e. IsDevicePosting (device_of s.name e)) (entries_in s.content)
 
   -- each section of the machine and of the modes
   pub record ArePosting (rows : Rows) : Type 0 where
@@ -52,10 +59,11 @@ module _ (P : List ℕ → Type 0) where
   Posts (active n) = P n
   Posts (inactive n) = P n
   Posts (post n) = P n
+  Posts (post_in k n) = P n
   Posts _ = Unit {0}
 
   -- where they post nothing
-  all_silent : (make : List ℕ → Contribution) → ((n : List ℕ) → Posts (make n)) → (ns : List (List ℕ)) → All Posts (map make ns)
+  all_silent : {X : Type 0} (make : X → Contribution) → ((x : X) → Posts (make x)) → (xs : List X) → All Posts (map make xs)
   all_silent make silent [] = All-nil Posts
   all_silent make silent (n ∷ ns) = All-cons Posts (make n) (map make ns) (silent n) (all_silent make silent ns)
 
@@ -70,6 +78,20 @@ module _ (P : List ℕ → Type 0) where
   in_player : (place : Place) (p : EventPlayer) → IsPlayerPosting p → All Posts (player_contributions place p)
   unfolding player_contributions
   in_player place p h = All-cons Posts _ (map post (texts p.posts)) tt (All-map Posts post (texts p.posts) h)
+
+  in_device : (place : Place) (d : Device) → All (All P) d.lists → All Posts (device_contributions place d)
+  unfolding device_contributions
+  in_device place d h =
+      let acting = map (act_binding place) d.handled in
+      let named = map mentions d.mentioned in
+      let posting = posts_from 0 d.lists in
+      All-cons Posts (device place d.settings) (acting ++ (named ++ posting)) tt
+      (All-append Posts acting (named ++ posting) (all_silent (act_binding place) (λ x. tt) d.handled)
+      (All-append Posts named posting (all_silent mentions (λ n. tt) d.mentioned) (All-lists Posts P (λ k e m. m) 0 d.lists h)))
+
+  in_where : (place : Place) (o : Option Device) → IsDevicePosting o → All Posts (where_device place o)
+  in_where place None h = All-nil Posts
+  in_where place (Some d) h = in_device place d h
 
   in_stopper : (holds : Bool) (event : List ℕ) → All Posts (stopper_where holds event)
   in_stopper true event = All-cons Posts (stopper event) [] tt (All-nil Posts)
@@ -101,11 +123,13 @@ module _ (P : List ℕ → Type 0) where
   GivesPosts r = All Posts (row_contributions r)
 
   abbrev IsPostingContent : List ℕ → Content → Type 0
-  IsPostingContent name content = All IsSwitchPosting (switches_in (record { name = name; content = content })) × All IsPlayerPosting (event_players_in (record { name = name; content = content }))
+  IsPostingContent name content =
+      All IsSwitchPosting (switches_in (record { name = name; content = content })) × All IsPlayerPosting (event_players_in (record { name = name; content = content })) × All (λ e. IsDevicePosting (device_of name e)) (entries_in content)
 
-  switch_where : (b : Bool) (es : List Entry) → All IsSwitchPosting (map switch_of (if b then es else [])) → All (λ e. All Posts (if b then switch_contributions (switch_of e) else [])) es
-  switch_where true es h i d within = in_switch (switch_of (get_or es i d)) (from_map IsSwitchPosting switch_of es h i d within)
-  switch_where false es h i d within = All-nil Posts
+  entry_where : (place : Place) (name : List ℕ) (b : Bool) (es : List Entry) → All IsSwitchPosting (map switch_of (if b then es else [])) → All (λ e. IsDevicePosting (device_of name e)) es
+      → All (λ e. All Posts (if b then switch_contributions (switch_of e) else where_device place (device_of name e))) es
+  entry_where place name true es h k i d within = in_switch (switch_of (get_or es i d)) (from_map IsSwitchPosting switch_of es h i d within)
+  entry_where place name false es h k i d within = in_where place (device_of name (get_or es i d)) (k i d within)
 
   player_where : (place : Place) (b : Bool) (ps : List Player) → All IsPlayerPosting (map event_player_of (if b then ps else [])) → All (λ p. All Posts (if b then player_contributions place (event_player_of p) else [])) ps
   player_where place true ps h i d within = in_player place (event_player_of (get_or ps i d)) (from_map IsPlayerPosting event_player_of ps h i d within)
@@ -113,13 +137,13 @@ module _ (P : List ℕ → Type 0) where
 
   in_content : (place : Place) (name : List ℕ) (content : Content) → IsPostingContent name content → All GivesPosts (rows_from place name content)
   unfolding switches_in event_players_in entry_contributions player_entry_contributions
-  in_content place name (entries es) h = All-map GivesPosts (entry name) es (switch_where (bytes_eq name switches_name) es h.0)
+  in_content place name (entries es) h = All-map GivesPosts (entry place name) es (entry_where place name (bytes_eq name switches_name) es h.0 h.2)
   in_content place name (players ps) h = All-map GivesPosts (player place name) ps (player_where place (bytes_eq name event_player_name) ps h.1)
   in_content place name (sections.entry e) h = All-nil GivesPosts
   in_content place name (sections.listed ws) h = All-nil GivesPosts
 
   in_section : (place : Place) (s : SectionRows) → IsPosting s → All GivesPosts (rows_from place s.name s.content)
-  in_section place s h = in_content place s.name s.content (h.switches, h.players)
+  in_section place s h = in_content place s.name s.content (h.switches, h.players, h.devices)
 
   in_mode_rows : (m : ModeRows) → All IsPosting m.sections → All GivesPosts (mode_rows m)
   in_mode_rows m h =
@@ -150,6 +174,7 @@ module _ (P : List ℕ → Type 0) where
     post_meets (active n) known h = at_event n known h
     post_meets (inactive n) known h = at_event n known h
     post_meets (post n) known h = at_event n known h
+    post_meets (post_in k n) known h = at_event n known h
     post_meets _ known h = tt
 
     posts_meet : All Posts cs → PostsMeet (IsNameOf (plan_from cs)) (plan_from cs)

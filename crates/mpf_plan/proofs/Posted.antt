@@ -1,19 +1,20 @@
 -- What holds of each event that is posted: where it holds of those that contributions post, it holds in their plan.
-use Rattle.std.proofs.Common.{◌≡◌, ℕ, ◌-◌, Bool, true, false, List, [], ◌∷◌, ◌++◌, length, fold, set, get_or, nat_lt, refl, sym, subst}
+use Rattle.std.proofs.Common.{◌≡◌, ℕ, ◌+◌, ◌-◌, Bool, true, false, List, [], ◌∷◌, ◌++◌, length, fold, set, get_or, replicate, nat_lt, refl, sym, subst}
 use Rattle.std.specs.List.{All}
 use Rattle.std.proofs.lemmas.Bool.{ltb-true, ltb-false}
 use Rattle.std.proofs.lemmas.List.{set_past}
-use Rattle.std.proofs.lemmas.List.Elements.{All-nil, All-push, All-set, All-get_or, All-map, All-head, All-tail, All-from_get_or}
+use Rattle.std.proofs.lemmas.List.Elements.{All-nil, All-push, All-append, All-replicate, All-set, All-get_or, All-map, All-head, All-tail, All-from_get_or}
 use Rattle.mpf_plan.specs.declared.contribution.Aim.{Aim}
 use Rattle.mpf_plan.specs.declared.contribution.Aim.TheVariants.{Run}
 use Rattle.plan_tables.specs.declared.entries.Action.{Action}
 use Rattle.plan_tables.specs.declared.entries.Action.TheVariants.{Post}
 use Rattle.plan_tables.specs.declared.entries.EventId.{EventId}
 use Rattle.plan_tables.specs.declared.table.Table.TheVariants.{Events, Switches}
+use Rattle.plan_tables.specs.Devices.{list_count}
 use Rattle.plan_tables.specs.PlanView.{PlanSwitch, no_switch, PlanView}
-use Rattle.mpf_plan.specs.Contributions.{Contribution, gives, reads, active, inactive, mode, mode_event, binds, post}
+use Rattle.mpf_plan.specs.Contributions.{Contribution, gives, reads, active, inactive, mode, mode_event, binds, post, device, post_in, mentions}
 use Rattle.mpf_plan.specs.Uses.{Names, number_among}
-use Rattle.mpf_plan.specs.PlanOf.{DraftView, event_of, last_switch, lists_for, with_action, with_contribution, named_switch, blank, drafted}
+use Rattle.mpf_plan.specs.PlanOf.{DraftView, event_of, last_switch, lists_for, with_one_more, first_of_last, with_contribution, named_switch, blank, drafted}
 use Rattle.mpf_plan.proofs.Drafted.{given_plan}
 
 module _ (Q : EventId → Type 0) where
@@ -33,6 +34,7 @@ module _ (Q : EventId → Type 0) where
   PostMeets names (active n) = Q (event_of (names Events) n)
   PostMeets names (inactive n) = Q (event_of (names Events) n)
   PostMeets names (post n) = Q (event_of (names Events) n)
+  PostMeets names (post_in k n) = Q (event_of (names Events) n)
   PostMeets names _ = Unit {0}
 
   -- ---- one contribution more
@@ -50,12 +52,9 @@ module _ (Q : EventId → Type 0) where
             (keeps (get_or d.plan.switches d.last no_switch) (All-get_or ArePosts d.plan.switches d.last no_switch (ltb-true d.last (length d.plan.switches) is) meet.switches)) meet.switches
         by false is = subst (All ArePosts) (sym (set_past d.plan.switches d.last changed (ltb-false d.last (length d.plan.switches) is))) meet.switches
 
-    action_meets : (a : Action) → IsPost a → PostsMeet (with_action a d).plan
-    action_meets a here = record { switches = meet.switches; lists = by (nat_lt last (length d.plan.lists)) refl }
+    action_meets : (last : ℕ) (a : Action) → IsPost a → All (All IsPost) (with_one_more last a d.plan.lists)
+    action_meets last a here = by (nat_lt last (length d.plan.lists)) refl
       where
-        last : ℕ
-        last = length d.plan.lists - 1
-
         more : List Action
         more = get_or d.plan.lists last [] ++ a ∷ []
 
@@ -79,7 +78,15 @@ module _ (Q : EventId → Type 0) where
     meet_one (mode n priority game) is = record { switches = meet.switches; lists = meet.lists }
     meet_one (mode_event which n) is = record { switches = meet.switches; lists = meet.lists }
     meet_one (binds n place aim) is = record { switches = meet.switches; lists = list_meets aim }
-    meet_one (post n) is = action_meets (Post (event_of (names Events) n)) is
+    meet_one (post n) is = record { switches = meet.switches; lists = action_meets (length d.plan.lists - 1) (Post (event_of (names Events) n)) is }
+    meet_one (device place settings) is =
+        let none : List Action = [] in
+        record {
+          switches = meet.switches;
+          lists = All-append (All IsPost) d.plan.lists (replicate (list_count settings) none) meet.lists (All-replicate (All IsPost) (list_count settings) none (All-nil IsPost));
+        }
+    meet_one (post_in k n) is = record { switches = meet.switches; lists = action_meets ((first_of_last d.plan.row_lists).0 + k) (Post (event_of (names Events) n)) is }
+    meet_one (mentions n) is = meet
 
   -- ---- all contributions
 

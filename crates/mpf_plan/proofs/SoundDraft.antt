@@ -1,8 +1,9 @@
 -- What contributions make has entries for all its numbers, where a mode came before what is of one.
-use Rattle.std.proofs.Common.{◌≡◌, ℕ, ◌-◌, ◌<◌, ◌≤◌, Bool, true, false, nat_lt, List, [], ◌∷◌, ◌++◌, length, fold, set, get_or, refl, sym, ap, subst, arith}
+use Rattle.std.proofs.Common.{◌≡◌, ℕ, ◌+◌, ◌-◌, ◌<◌, ◌≤◌, ◌⊎◌, inl, inr, Bool, true, false, nat_lt, List, [], ◌∷◌, ◌++◌, length, fold, set, get_or, replicate, slice_index_or, refl, sym, ◌∙◌, ap, subst, arith}
+use Rattle.std.specs.Prelude.{Option, None}
 use Rattle.std.specs.List.{All}
-use Rattle.std.proofs.lemmas.Bool.{ltb-true, ltb-false}
-use Rattle.std.proofs.lemmas.List.{length_push, length-set, set_past}
+use Rattle.std.proofs.lemmas.Bool.{cases_lt, ltb-true, ltb-false}
+use Rattle.std.proofs.lemmas.List.{length_push, length-set, set_past, get_or_push, get_or_append_left}
 use Rattle.std.proofs.lemmas.List.Elements.{All-nil, All-push, All-set, All-weaker, All-get_or, All-head, All-tail}
 use Rattle.mpf_plan.specs.declared.contribution.Aim.{Aim}
 use Rattle.mpf_plan.specs.declared.contribution.Aim.TheVariants as aims
@@ -19,23 +20,30 @@ use Rattle.plan_tables.specs.declared.entries.Target.{Target}
 use Rattle.plan_tables.specs.declared.entries.Target.TheVariants as targets
 use Rattle.plan_tables.specs.declared.entries.Binding.{Binding}
 use Rattle.plan_tables.specs.declared.table.Table.TheVariants.{Events}
-use Rattle.plan_tables.specs.PlanView.{PlanSwitch, PlanMode, no_mode, PlanView}
-use Rattle.plan_tables.specs.Valid.{IsEventWithin, IsModeWithin, IsActionWithin, IsOwnerWithin, IsTargetWithin, IsBindingWithin, HasEntries}
-use Rattle.mpf_plan.specs.Contributions.{Contribution, gives, reads, active, inactive, mode, mode_event, mode_event_name, binds, post}
+use Rattle.plan_tables.specs.declared.entries.ListId.{ListId}
+use Rattle.plan_tables.specs.declared.devices.DeviceRow.{DeviceRow}
+use Rattle.plan_tables.specs.declared.devices.RowId.{RowId}
+use Rattle.plan_tables.specs.declared.devices.Settings.{Settings}
+use Rattle.plan_tables.specs.Devices.{list_count}
+use Rattle.plan_tables.specs.PlanView.{PlanSwitch, PlanMode, no_mode, no_row, row_at, list_of_row, PlanView}
+use Rattle.plan_tables.specs.Valid.{IsEventWithin, IsModeWithin, IsActionWithin, IsOwnerWithin, IsTargetWithin, IsBindingWithin, IsRowWithin, HasEntries}
+use Rattle.mpf_plan.specs.Contributions.{Contribution, gives, reads, active, inactive, mode, mode_event, mode_event_name, binds, post, device, post_in, mentions}
 use Rattle.mpf_plan.specs.Uses.{Names, names_from, number_among}
-use Rattle.mpf_plan.specs.PlanOf.{DraftView, event_of, new_mode, with_event_in, with_mode, with_mode_event, last_mode, owner_at, target_at, next_binding, lists_for, with_list_for, with_binding, with_contribution, blank, drafted}
+use Rattle.mpf_plan.specs.PlanOf.{DraftView, event_of, new_mode, with_event_in, with_mode, with_mode_event, last_mode, owner_at, target_at, next_binding, lists_for, with_list_for, with_binding, next_row, next_list, with_device, first_of_last, with_one_more, with_contribution, blank, drafted}
 use Rattle.mpf_plan.proofs.Among.{IsKnown, all_known}
-use Rattle.mpf_plan.proofs.Drafted.{given_plan, modes_one, no_rows}
+use Rattle.mpf_plan.proofs.Drafted.{given_plan, modes_one, lists_begun}
+use Rattle.mpf_plan.proofs.Placed.{row_after, IsPlacedAim, IsPlaced, ArePlaced}
+use Rattle.mpf_plan.proofs.Owned.{IsOwn, own_one, own_blank}
 use Rattle.mpf_plan.proofs.Posted.{IsPost, PostMeets, PostsMeet, meet_drafted}
 use Rattle.mpf_plan.proofs.RowFacts.{IsOpenPlace, IsOpenAim, IsOpen, modes_after, AreOpened}
 
--- ---- a plan with more lists and modes
+-- ---- a plan with more lists, modes and rows
 
 record Grows (p q : PlanView) : Type 0 where
   events : length p.events ≡ length q.events
   modes : length p.modes ≤ length q.modes
   lists : length p.lists ≤ length q.lists
-  rows : length p.rows ≡ length q.rows
+  rows : length p.rows ≤ length q.rows
 
 module _ (p q : PlanView) (grows : Grows p q) where
   owner_grows : (o : Owner) → IsOwnerWithin p o → IsOwnerWithin q o
@@ -54,13 +62,54 @@ module _ (p q : PlanView) (grows : Grows p q) where
   bindings_grow : (bs : List Binding) → All (IsBindingWithin p) bs → All (IsBindingWithin q) bs
   bindings_grow bs all = All-weaker (IsBindingWithin p) (IsBindingWithin q) binding_grows bs all
 
+  row_stays : (r : RowId) → row_at q r ≡ row_at p r → (list_of_row q r 0).0 ≡ (list_of_row p r 0).0 → IsRowWithin p r → IsRowWithin q r
+  row_stays r same first within = record {
+    number = ap (λ (x : DeviceRow). x.number) same ∙ within.number;
+    owner = subst (λ (x : DeviceRow). IsOwnerWithin q x.owner) (sym same) (owner_grows (row_at p r).owner within.owner);
+    lists = omega (arith, within.lists, grows.lists, first, ap (λ (x : DeviceRow). list_count x.settings) same);
+  }
+
+  rows_stay : q.rows ≡ p.rows → q.row_lists ≡ p.row_lists → ((r : RowId) → r.0 < length p.rows → IsRowWithin p r) → (r : RowId) → r.0 < length q.rows → IsRowWithin q r
+  rows_stay same firsts within r inside =
+      row_stays r (ap (λ rows. slice_index_or rows r.0 no_row) same) (ap (λ (ls : List ListId). (slice_index_or ls r.0 (record { 0 = 0 })).0 + 0) firsts) (within r (omega (arith, inside, ap length same)))
+
+  -- a row more
+  module _ (row : DeviceRow) (first : ListId) (rows : q.rows ≡ p.rows ++ row ∷ []) (firsts : q.row_lists ≡ p.row_lists ++ first ∷ []) (each : length p.row_lists ≡ length p.rows)
+      (number : row.number ≡ record { 0 = length p.rows }) (owner : IsOwnerWithin q row.owner) (room : first.0 + list_count row.settings ≤ length q.lists) where
+    row_last : (r : RowId) → length p.rows ≡ r.0 → IsRowWithin q r
+    row_last r here =
+        let is : row_at q r ≡ row = ap (λ rs. slice_index_or rs r.0 no_row) rows ∙ get_or_push p.rows row no_row r.0 here in
+        let begins : slice_index_or q.row_lists r.0 (record { 0 = 0 }) ≡ first = ap (λ (ls : List ListId). slice_index_or ls r.0 (record { 0 = 0 })) firsts ∙ get_or_push p.row_lists first (record { 0 = 0 }) r.0 (each ∙ here) in
+        record {
+          number = ap (λ (x : DeviceRow). x.number) is ∙ number ∙ (λ i. record { 0 = here i });
+          owner = subst (λ (x : DeviceRow). IsOwnerWithin q x.owner) (sym is) owner;
+          lists = omega (arith, room, ap (λ (x : DeviceRow). list_count x.settings) is, ap (λ (l : ListId). l.0) begins);
+        }
+
+    rows_more : ((r : RowId) → r.0 < length p.rows → IsRowWithin p r) → (r : RowId) → r.0 < length q.rows → IsRowWithin q r
+    rows_more within r inside = by (cases_lt r.0 (length p.rows))
+      where
+        by : (r.0 < length p.rows) ⊎ (length p.rows ≤ r.0) → IsRowWithin q r
+        by (inl before) =
+            row_stays r (ap (λ rs. slice_index_or rs r.0 no_row) rows ∙ get_or_append_left p.rows (row ∷ []) no_row r.0 before)
+            (ap (λ (ls : List ListId). (slice_index_or ls r.0 (record { 0 = 0 })).0 + 0) firsts ∙ ap (λ (l : ListId). l.0 + 0) (get_or_append_left p.row_lists (first ∷ []) (record { 0 = 0 }) r.0 (omega (arith, before, each))))
+            (within r before)
+        by (inr from) = row_last r (omega (arith, from, inside, ap length rows, length_push p.rows row))
+
 -- ---- one contribution more
 
--- the events are the names, and every number in modes and bindings is that of an entry
+-- the events are the names, and every number in modes, bindings and rows is that of an entry
 pub record IsSound (names : Names) (plan : PlanView) : Type 0 where
   pub events : plan.events ≡ names Events
   pub modes : All (IsModeWithin (length plan.events)) plan.modes
   pub bindings : All (IsBindingWithin plan) plan.bindings
+  pub rows : (r : RowId) → r.0 < length plan.rows → IsRowWithin plan r
+  pub row_lists : length plan.row_lists ≡ length plan.rows
+
+-- a row is there where one is acted on
+abbrev HasRow : ℕ → Aim → Type 0
+HasRow rows (aims.Do act) = 0 < rows
+HasRow rows _ = Unit {0}
 
 -- a mode came before
 owner_within : (plan : PlanView) (n : ℕ) (place : Place) → n ≤ length plan.modes → IsOpenPlace n place → IsOwnerWithin plan (owner_at (last_mode plan) place)
@@ -80,20 +129,30 @@ module _ (names : Names) (d : DraftView) (sound : IsSound names d.plan) where
   event_within : (n : List ℕ) → number_among (names Events) n < length (names Events) → number_among (names Events) n < length d.plan.events
   event_within n known = subst (λ es. number_among (names Events) n < length es) (sym sound.events) known
 
-  -- the bindings stay, where there are no fewer entries
+  -- the bindings and rows stay, where there are no fewer entries
   same_sound : (switches : List PlanSwitch) (lists : List (List Action)) → length d.plan.lists ≤ length lists → IsSound names (record d.plan { switches = switches; lists = lists })
   same_sound switches lists more =
       let new : PlanView = record d.plan { switches = switches; lists = lists } in
+      let grows : Grows d.plan new = record { events = refl; modes = omega arith; lists = more; rows = omega arith } in
       record {
         events = sound.events;
         modes = sound.modes;
-        bindings = bindings_grow d.plan new (record { events = refl; modes = omega arith; lists = more; rows = refl }) d.plan.bindings sound.bindings;
+        bindings = bindings_grow d.plan new grows d.plan.bindings sound.bindings;
+        rows = rows_stay d.plan new grows refl refl sound.rows;
+        row_lists = sound.row_lists;
       }
 
   mode_sound : (modes : List PlanMode) → length d.plan.modes ≤ length modes → All (IsModeWithin (length d.plan.events)) modes → IsSound names (record d.plan { modes = modes })
   mode_sound modes more within =
       let new : PlanView = record d.plan { modes = modes } in
-      record { events = sound.events; modes = within; bindings = bindings_grow d.plan new (record { events = refl; modes = more; lists = omega arith; rows = refl }) d.plan.bindings sound.bindings }
+      let grows : Grows d.plan new = record { events = refl; modes = more; lists = omega arith; rows = omega arith } in
+      record {
+        events = sound.events;
+        modes = within;
+        bindings = bindings_grow d.plan new grows d.plan.bindings sound.bindings;
+        rows = rows_stay d.plan new grows refl refl sound.rows;
+        row_lists = sound.row_lists;
+      }
 
   mode_added : (m : PlanMode) → IsModeWithin (length d.plan.events) m → IsSound names (with_mode m d).plan
   mode_added m within =
@@ -115,41 +174,72 @@ module _ (names : Names) (d : DraftView) (sound : IsSound names d.plan) where
       by false is = subst (All (IsModeWithin (length d.plan.events))) (sym (set_past d.plan.modes last changed (ltb-false last (length d.plan.modes) is))) sound.modes
 
   module _ (n : ℕ) (few : n ≤ length d.plan.modes) where
-    target_within : (aim : Aim) (plan : PlanView) → IsOpenAim n aim → length plan.modes ≡ length d.plan.modes → plan.lists ≡ lists_for aim d.plan.lists → IsTargetWithin plan (target_at d.plan aim)
-    target_within aims.Run plan opened same lists = omega (arith, ap length lists, length_push d.plan.lists [])
-    target_within aims.Start plan opened same lists = omega (arith, few, opened, same)
-    target_within aims.Stop plan opened same lists = omega (arith, few, opened, same)
+    target_within : (aim : Aim) (plan : PlanView) → IsOpenAim n aim → HasRow (length d.plan.rows) aim → length plan.modes ≡ length d.plan.modes → plan.lists ≡ lists_for aim d.plan.lists → plan.rows ≡ d.plan.rows
+        → IsTargetWithin plan (target_at d.plan aim)
+    target_within aims.Run plan opened some same lists rows = omega (arith, ap length lists, length_push d.plan.lists [])
+    target_within aims.Start plan opened some same lists rows = omega (arith, few, opened, same)
+    target_within aims.Stop plan opened some same lists rows = omega (arith, few, opened, same)
+    target_within (aims.Do act) plan opened some same lists rows = omega (arith, some, ap length rows)
 
     longer : (aim : Aim) → length d.plan.lists ≤ length (lists_for aim d.plan.lists)
     longer aims.Run = omega (arith, length_push d.plan.lists [])
     longer _ = omega arith
 
-    binding_sound : (e : EventId) (place : Place) (aim : Aim) → e.0 < length d.plan.events → IsOpenPlace n place → IsOpenAim n aim → IsSound names (with_list_for aim (with_binding (next_binding d.plan e place aim) d)).plan
-    binding_sound e place aim known placed aimed =
+    binding_sound : (e : EventId) (place : Place) (aim : Aim) → e.0 < length d.plan.events → IsOpenPlace n place → IsOpenAim n aim → HasRow (length d.plan.rows) aim → IsSound names (with_list_for aim (with_binding (next_binding d.plan e place aim) d)).plan
+    binding_sound e place aim known placed aimed some =
         let b = next_binding d.plan e place aim in
         let new : PlanView = record d.plan { lists = lists_for aim d.plan.lists; bindings = d.plan.bindings ++ b ∷ [] } in
-        let grows : Grows d.plan new = record { events = refl; modes = omega arith; lists = longer aim; rows = refl } in
+        let grows : Grows d.plan new = record { events = refl; modes = omega arith; lists = longer aim; rows = omega arith } in
         record {
           events = sound.events;
           modes = sound.modes;
           bindings = All-push (IsBindingWithin new) d.plan.bindings b (bindings_grow d.plan new grows d.plan.bindings sound.bindings)
-              (known, owner_grows d.plan new grows b.owner (owner_within d.plan n place few placed), target_within aim new aimed refl refl);
+              (known, owner_grows d.plan new grows b.owner (owner_within d.plan n place few placed), target_within aim new aimed some refl refl refl);
+          rows = rows_stay d.plan new grows refl refl sound.rows;
+          row_lists = sound.row_lists;
         }
 
-    sound_one : (c : Contribution) → IsOpen n c → IsKnown names c → IsSound names (with_contribution names d c).plan
-    sound_one (gives t x) opened known = subst (IsSound names) (sym (given_plan t (number_among (names t) x) d)) sound
-    sound_one (reads kind) opened known = same_sound (with_contribution names d (reads kind)).plan.switches d.plan.lists (omega arith)
-    sound_one (active x) opened known = same_sound (with_contribution names d (active x)).plan.switches d.plan.lists (omega arith)
-    sound_one (inactive x) opened known = same_sound (with_contribution names d (inactive x)).plan.switches d.plan.lists (omega arith)
-    sound_one (mode x priority game) opened known =
+    device_sound : (place : Place) (settings : Settings) → IsOpenPlace n place → IsSound names (with_device place settings d).plan
+    device_sound place settings placed =
+        let row = next_row d.plan place settings in
+        let first = next_list d.plan in
+        let new : PlanView = (with_device place settings d).plan in
+        let begun = lists_begun d.plan.lists (list_count settings) in
+        let grows : Grows d.plan new = record { events = refl; modes = omega arith; lists = omega (arith, begun); rows = omega (arith, length_push d.plan.rows row) } in
+        let owner : IsOwnerWithin new row.owner = owner_grows d.plan new grows row.owner (owner_within d.plan n place few placed) in
+        record {
+          events = sound.events;
+          modes = sound.modes;
+          bindings = bindings_grow d.plan new grows d.plan.bindings sound.bindings;
+          rows = rows_more d.plan new grows row first refl refl sound.row_lists refl owner (omega (arith, begun)) sound.rows;
+          row_lists = omega (arith, sound.row_lists, length_push d.plan.rows row, length_push d.plan.row_lists first);
+        }
+
+    -- an action more in a list
+    action_sound : (at : ℕ) (a : Action) → IsSound names (record d.plan { lists = with_one_more at a d.plan.lists })
+    action_sound at a = same_sound d.plan.switches (with_one_more at a d.plan.lists) (omega (arith, length-set d.plan.lists at (get_or d.plan.lists at [] ++ a ∷ [])))
+
+    has_row : (o : Option Place) → IsOwn o d.plan → (place : Place) (aim : Aim) → IsPlacedAim o place aim → HasRow (length d.plan.rows) aim
+    has_row o own place (aims.Do act) is = (own.last place is).0
+    has_row o own place aims.Run is = tt
+    has_row o own place aims.Start is = tt
+    has_row o own place aims.Stop is = tt
+
+    sound_one : (c : Contribution) (o : Option Place) → IsOwn o d.plan → IsPlaced o c → IsOpen n c → IsKnown names c → IsSound names (with_contribution names d c).plan
+    sound_one (gives t x) o own placed opened known = subst (IsSound names) (sym (given_plan t (number_among (names t) x) d)) sound
+    sound_one (reads kind) o own placed opened known = same_sound (with_contribution names d (reads kind)).plan.switches d.plan.lists (omega arith)
+    sound_one (active x) o own placed opened known = same_sound (with_contribution names d (active x)).plan.switches d.plan.lists (omega arith)
+    sound_one (inactive x) o own placed opened known = same_sound (with_contribution names d (inactive x)).plan.switches d.plan.lists (omega arith)
+    sound_one (mode x priority game) o own placed opened known =
         let here = event_within (mode_event_name WillStart x) known in
         let some : 0 < length d.plan.events = omega (arith, here) in
         mode_added (new_mode x priority game (event_of (names Events) (mode_event_name WillStart x))) (record { will_start = here; starting = some; started = some; stopping = some; stopped = some })
-    sound_one (mode_event which x) opened known = mode_changed which (event_of (names Events) (mode_event_name which x)) (event_within (mode_event_name which x) known)
-    sound_one (binds x place aim) opened known = binding_sound (event_of (names Events) x) place aim (event_within x known) opened.0 opened.1
-    sound_one (post x) opened known =
-        let lists = (with_contribution names d (post x)).plan.lists in
-        same_sound d.plan.switches lists (omega (arith, length-set d.plan.lists (length d.plan.lists - 1) (get_or d.plan.lists (length d.plan.lists - 1) [] ++ Post (event_of (names Events) x) ∷ [])))
+    sound_one (mode_event which x) o own placed opened known = mode_changed which (event_of (names Events) (mode_event_name which x)) (event_within (mode_event_name which x) known)
+    sound_one (binds x place aim) o own placed opened known = binding_sound (event_of (names Events) x) place aim (event_within x known) opened.0 opened.1 (has_row o own place aim placed)
+    sound_one (post x) o own placed opened known = action_sound (length d.plan.lists - 1) (Post (event_of (names Events) x))
+    sound_one (device place settings) o own placed opened known = device_sound place settings opened
+    sound_one (post_in k x) o own placed opened known = action_sound ((first_of_last d.plan.row_lists).0 + k) (Post (event_of (names Events) x))
+    sound_one (mentions x) o own placed opened known = sound
 
 -- ---- all contributions
 
@@ -161,31 +251,39 @@ module _ (names : Names) where
   more_modes n d (mode_event which x) few = omega (arith, few, modes_one names d (mode_event which x))
   more_modes n d _ few = few
 
-  sound_fold : (cs : List Contribution) (n : ℕ) (d : DraftView) → n ≤ length d.plan.modes → AreOpened n cs → All (IsKnown names) cs → IsSound names d.plan → IsSound names (fold (with_contribution names) d cs).plan
-  sound_fold [] n d few opened known sound = sound
-  sound_fold (c ∷ cs) n d few opened known sound =
-      sound_fold cs (modes_after n c) (with_contribution names d c) (more_modes n d c few) opened.1 (All-tail (IsKnown names) c cs known)
-      (sound_one names d sound n few c opened.0 (All-head (IsKnown names) c cs known))
+  sound_fold : (cs : List Contribution) (n : ℕ) (o : Option Place) (d : DraftView) → n ≤ length d.plan.modes → AreOpened n cs → ArePlaced o cs → All (IsKnown names) cs → IsOwn o d.plan → IsSound names d.plan
+      → IsSound names (fold (with_contribution names) d cs).plan
+  sound_fold [] n o d few opened placed known own sound = sound
+  sound_fold (c ∷ cs) n o d few opened placed known own sound =
+      sound_fold cs (modes_after n c) (row_after o c) (with_contribution names d c) (more_modes n d c few) opened.1 placed.1 (All-tail (IsKnown names) c cs known) (own_one names d o own c placed.0)
+      (sound_one names d sound n few c o own placed.0 opened.0 (All-head (IsKnown names) c cs known))
 
   sound_blank : IsSound names (blank names).plan
-  sound_blank = record { events = refl; modes = All-nil (IsModeWithin (length (names Events))); bindings = All-nil (IsBindingWithin (blank names).plan) }
+  sound_blank = record {
+    events = refl;
+    modes = All-nil (IsModeWithin (length (names Events)));
+    bindings = All-nil (IsBindingWithin (blank names).plan);
+    rows = λ r within. absurd (omega (arith, within));
+    row_lists = refl;
+  }
 
   -- an event that is posted is one of the names
   posts_known : (c : Contribution) → IsKnown names c → PostMeets (IsEventWithin (length (names Events))) names c
   posts_known (active x) known = known
   posts_known (inactive x) known = known
   posts_known (post x) known = known
+  posts_known (post_in k x) known = known
   posts_known _ known = tt
 
--- what contributions make is sound, where a mode came before what is of one
-pub sound_drafted : (cs : List Contribution) → AreOpened 0 cs → IsSound (names_from cs) (drafted (names_from cs) cs).plan
-sound_drafted cs opened = sound_fold (names_from cs) cs 0 (blank (names_from cs)) (omega arith) opened (all_known cs) (sound_blank (names_from cs))
+-- what contributions make is sound, where a mode came before what is of one, and a row before what acts on it
+pub sound_drafted : (cs : List Contribution) → AreOpened 0 cs → ArePlaced None cs → IsSound (names_from cs) (drafted (names_from cs) cs).plan
+sound_drafted cs opened placed = sound_fold (names_from cs) cs 0 None (blank (names_from cs)) (omega arith) opened placed (all_known cs) (own_blank (names_from cs)) (sound_blank (names_from cs))
 
-pub has_entries : (cs : List Contribution) → AreOpened 0 cs → HasEntries (drafted (names_from cs) cs).plan
-has_entries cs opened =
+pub has_entries : (cs : List Contribution) → AreOpened 0 cs → ArePlaced None cs → HasEntries (drafted (names_from cs) cs).plan
+has_entries cs opened placed =
     let names = names_from cs in
     let plan = (drafted names cs).plan in
-    let sound = sound_drafted cs opened in
+    let sound = sound_drafted cs opened placed in
     let posts = meet_drafted (IsEventWithin (length (names Events))) names cs (All-weaker (IsKnown names) (PostMeets (IsEventWithin (length (names Events))) names) (posts_known names) cs (all_known cs)) in
     let meet = subst (λ es. PostsMeet (IsEventWithin (length es)) plan) (sym sound.events) posts in
     record {
@@ -193,7 +291,7 @@ has_entries cs opened =
       switches = meet.switches;
       lists = All-weaker (All (IsPost (IsEventWithin (length plan.events)))) (All (IsActionWithin plan)) (λ actions. All-weaker (IsPost (IsEventWithin (length plan.events))) (IsActionWithin plan) (action_within plan) actions) plan.lists meet.lists;
       bindings = sound.bindings;
-      rows = λ r within. absurd (omega (arith, within, ap length (no_rows cs).0));
+      rows = sound.rows;
     }
   where
     action_within : (plan : PlanView) (a : Action) → IsPost (IsEventWithin (length plan.events)) a → IsActionWithin plan a

@@ -7,7 +7,7 @@ use Rattle.plan_tables.specs.declared.entries.Action.{Action}
 use Rattle.plan_tables.specs.declared.entries.SwitchEntry.{SwitchEntry}
 use Rattle.plan_tables.specs.declared.entries.ModeEntry.{ModeEntry}
 use Rattle.plan_tables.specs.PlanView.{PlanSwitch, no_switch, PlanMode, no_mode}
-use Rattle.mpf_plan.specs.PlanOf.{last_with, named_switch}
+use Rattle.mpf_plan.specs.PlanOf.{with_one_more, last_with, named_switch}
 use Rattle.plan_tables.specs.Inside.{mode_entry_view, switch_entry_view, switches_view, action_lists}
 
 -- an item changed in its place, as it is seen
@@ -15,6 +15,11 @@ shown_at : {X Y : Type 0} (shown : X → Y) (f : Y → Y) (xs : List X) (i : ℕ
     → map shown (set xs i new) ≡ set (map shown xs) i (f (get_or (map shown xs) i d))
 shown_at shown f xs i old new d within is changed =
     map-set shown xs i new ∙ ap (set (map shown xs) i) (changed ∙ ap f (ap shown is ∙ sym (get_or-map shown xs i old d within)))
+
+-- an action pushed to the list of this number
+pub action_pushed_at : (lists : List (Vec Action Global)) (n : ℕ) (old new : Vec Action Global) (a : Action) → n < length lists → old ≡ get_or lists n old → new.items ≡ old.items ++ a ∷ []
+    → action_lists (set lists n new) ≡ with_one_more n a (action_lists lists)
+action_pushed_at lists n old new a within is pushed = shown_at (λ v. v.items) (λ l. l ++ a ∷ []) lists n old new [] within is pushed
 
 -- an action pushed to the last list
 pub action_pushed : (lists : List (Vec Action Global)) (n : ℕ) (old new : Vec Action Global) (a : Action) → n ≡ length lists → 0 < n → old ≡ get_or lists (n - 1) old → new.items ≡ old.items ++ a ∷ []

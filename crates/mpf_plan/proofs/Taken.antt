@@ -8,7 +8,7 @@ use Rattle.mpf_plan.specs.declared.collect.Row as rows
 use Rattle.mpf_plan.specs.declared.contribution.Contribution as contributions
 use Rattle.mpf_plan.specs.Contributions.{Contribution, row_contributions, given_by}
 use Rattle.mpf_plan.specs.Inside.{contribution_view, contributions_view, row_view, row_list_view}
-use Rattle.mpf_plan.specs.Numbering.{bindings_given, binding_count, modes_given, mode_count}
+use Rattle.mpf_plan.specs.Numbering.{bindings_given, binding_count, rows_given, row_count, modes_given, mode_count}
 
 module _ (cs : List contributions.Contribution) (i : ℕ) (d : contributions.Contribution) (within : i < length cs) where
   pub contributions_more : contributions_view (take (i + 1) cs) ≡ contributions_view (take i cs) ++ contribution_view (get_or cs i d) ∷ []
@@ -43,9 +43,12 @@ module _ (f : Contribution → ℕ) where
       omega (arith, sum_by-append f here (given_by (row_list_view rs)), sum_by-append f here (given_by (row_list_view (take i rs))), part_sum rs i d (omega arith))
 
 module _ (rs : List rows.Row) (i : ℕ) (d : rows.Row) (within : i < length rs) where
-  -- so it is with bindings, and with modes
+  -- so it is with bindings, with rows of devices, and with modes
   pub part_count : binding_count (given_by (row_list_view (take i rs))) + binding_count (row_contributions (row_view (get_or rs i d))) ≤ binding_count (given_by (row_list_view rs))
   part_count = part_sum bindings_given rs i d within
+
+  pub part_rows : row_count (given_by (row_list_view (take i rs))) + row_count (row_contributions (row_view (get_or rs i d))) ≤ row_count (given_by (row_list_view rs))
+  part_rows = part_sum rows_given rs i d within
 
   pub part_modes : mode_count (given_by (row_list_view (take i rs))) + mode_count (row_contributions (row_view (get_or rs i d))) ≤ mode_count (given_by (row_list_view rs))
   part_modes = part_sum modes_given rs i d within

@@ -1,5 +1,5 @@
 -- Bindings and rows have no names: nothing is given among them under one.
-use Rattle.std.proofs.Common.{◌≡◌, ℕ, Bool, true, false, cond, List, [], ◌∷◌, ◌++◌, Some, map, refl, ◌∙◌, ap, codes}
+use Rattle.std.proofs.Common.{◌≡◌, ℕ, suc, Bool, true, false, cond, List, [], ◌∷◌, ◌++◌, Option, None, Some, map, refl, ◌∙◌, ap, codes}
 use Rattle.std.specs.Str.{bytes_eq}
 use Rattle.std.proofs.lemmas.Grind.{flat_map-append}
 use Rattle.mpf_config.specs.Rows.{Entry, Player, Switch, EventPlayer, ModeSettings}
@@ -10,7 +10,7 @@ use Rattle.mpf_plan.specs.declared.contribution.Place.{Place}
 use Rattle.mpf_plan.specs.declared.contribution.Aim.TheVariants.{Run}
 use Rattle.plan_tables.specs.declared.table.Table.{Table}
 use Rattle.plan_tables.specs.declared.table.Table.TheVariants.{Events, Bindings, Switches, Rows}
-use Rattle.mpf_plan.specs.Contributions.{Contribution, gives, reads, active, inactive, mode, mode_event, mode_event_name, binds, post, kind_of, texts, active_posts, inactive_posts, switch_contributions, player_contributions, starter, stopper, stopper_where, later_events, controls, mode_contributions, Row, entry, player, of_mode, entry_contributions, player_entry_contributions, row_contributions, given_by}
+use Rattle.mpf_plan.specs.Contributions.{Contribution, gives, reads, active, inactive, mode, mode_event, mode_event_name, binds, post, device, post_in, mentions, kind_of, texts, active_posts, inactive_posts, switch_contributions, player_contributions, starter, stopper, stopper_where, later_events, controls, mode_contributions, Device, act_binding, posts_from, device_contributions, device_of, where_device, Row, entry, player, of_mode, entry_contributions, player_entry_contributions, row_contributions, given_by}
 use Rattle.mpf_plan.specs.Uses.{used, name_in_table, uses, first_uses, names_from}
 
 -- a table whose names are neither those of events nor those of switches
@@ -24,7 +24,7 @@ module _ (t : Table) (no_event : (n : List ℕ) → name_in_table t (Some (Event
   both : (cs ds : List Contribution) → Unnamed cs → Unnamed ds → Unnamed (cs ++ ds)
   both cs ds a b = flat_map-append (λ c. name_in_table t (used c)) cs ds ∙ (λ i. a i ++ b i)
 
-  each : (f : List ℕ → Contribution) → ((n : List ℕ) → name_in_table t (used (f n)) ≡ []) → (ns : List (List ℕ)) → Unnamed (map f ns)
+  each : {X : Type 0} (f : X → Contribution) → ((x : X) → name_in_table t (used (f x)) ≡ []) → (xs : List X) → Unnamed (map f xs)
   each f none [] = refl
   each f none (n ∷ ns) = first (f n) (map f ns) (none n) (each f none ns)
 
@@ -45,9 +45,26 @@ module _ (t : Table) (no_event : (n : List ℕ) → name_in_table t (Some (Event
   unfolding player_contributions
   in_player place p = first (binds p.event.text place Run) (map post (texts p.posts)) (no_event p.event.text) (each post no_event (texts p.posts))
 
-  in_entry : (section : List ℕ) (e : Entry) → Unnamed (entry_contributions section e)
+  in_lists : (k : ℕ) (lists : List (List (List ℕ))) → Unnamed (posts_from k lists)
+  in_lists k [] = refl
+  in_lists k (es ∷ rest) = both (map (post_in k) es) (posts_from (suc k) rest) (each (post_in k) no_event es) (in_lists (suc k) rest)
+
+  in_device : (place : Place) (d : Device) → Unnamed (device_contributions place d)
+  unfolding device_contributions
+  in_device place d =
+      let acting = map (act_binding place) d.handled in
+      let named = map mentions d.mentioned in
+      let posting = posts_from 0 d.lists in
+      first (device place d.settings) (acting ++ (named ++ posting)) refl
+      (both acting (named ++ posting) (each (act_binding place) (λ h. no_event h.0) d.handled) (both named posting (each mentions no_event d.mentioned) (in_lists 0 d.lists)))
+
+  in_where : (place : Place) (o : Option Device) → Unnamed (where_device place o)
+  in_where place None = refl
+  in_where place (Some d) = in_device place d
+
+  in_entry : (place : Place) (section : List ℕ) (e : Entry) → Unnamed (entry_contributions place section e)
   unfolding entry_contributions
-  in_entry section e = when (bytes_eq section switches_name) (switch_contributions (switch_of e)) [] (in_switch (switch_of e)) refl
+  in_entry place section e = when (bytes_eq section switches_name) (switch_contributions (switch_of e)) (where_device place (device_of section e)) (in_switch (switch_of e)) (in_where place (device_of section e))
 
   in_player_entry : (place : Place) (section : List ℕ) (p : Player) → Unnamed (player_entry_contributions place section p)
   unfolding player_entry_contributions
@@ -78,7 +95,7 @@ module _ (t : Table) (no_event : (n : List ℕ) → name_in_table t (Some (Event
   in_mode name s = first (mode name s.priority s.game) (later_events name ++ controls s) (no_event (mode_event_name WillStart name)) (both (later_events name) (controls s) (in_later name) (in_controls s))
 
   in_row : (r : Row) → Unnamed (row_contributions r)
-  in_row (entry section e) = in_entry section e
+  in_row (entry place section e) = in_entry place section e
   in_row (player place section p) = in_player_entry place section p
   in_row (of_mode name s) = in_mode name s
 

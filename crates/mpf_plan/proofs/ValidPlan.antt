@@ -1,31 +1,38 @@
 -- The plan of rows is valid where its tables are within their limits.
-use Rattle.std.proofs.Common.{◌≡◌, ◌≢◌, ℕ, zero, suc, ◌-◌, ◌<◌, ◌≤◌, Bool, true, false, cond, not, List, [], ◌∷◌, ◌++◌, length, filter, fold, set, get_or, slice_index_or, sym, ◌∙◌, ap, subst, true≢false, arith}
-use Rattle.std.specs.Prelude.{Ok}
+use Rattle.std.proofs.Common.{◌≡◌, ◌≢◌, ℕ, zero, suc, ◌+◌, ◌-◌, ◌<◌, ◌≤◌, ◌==◌, ◌⊎◌, inl, inr, if◌then◌else◌, Bool, true, false, cond, not, List, [], ◌∷◌, ◌++◌, length, filter, fold, set, get_or, replicate, slice_index_or, refl, sym, ◌∙◌, ap, subst, true≢false, arith}
+use Rattle.std.specs.Prelude.{Ok, None}
 use Rattle.std.specs.Str.{bytes_eq}
 use Rattle.std.specs.List.{All, AllPairs}
-use Rattle.std.proofs.lemmas.List.{length_push, length-set, get_or-set_same, get_or_push}
-use Rattle.std.proofs.lemmas.List.Elements.{All-nil, All-cons, All-head, All-tail, All-push, All-set, All-weaker, All-filter, filter_passes}
+use Rattle.std.proofs.lemmas.Bool.{cases_lt, eqb-true, eqb-false}
+use Rattle.std.proofs.lemmas.List.{length_push, length-set, get_or-set_same, get_or-set_other, get_or_push, get_or_past, set_past}
+use Rattle.std.proofs.lemmas.List.Elements.{All-nil, All-cons, All-head, All-tail, All-push, All-append, All-replicate, All-get_or, All-set, All-weaker, All-filter, filter_passes}
 use Rattle.std.proofs.lemmas.Slice.Eq.{bytes_eq-Decides}
 use Rattle.mpf_config.specs.Rows.{Rows}
 use Rattle.mpf_config.specs.Short.{AreListsShort}
 use Rattle.mpf_config.specs.FewModes.{AreFewModes}
-use Rattle.mpf_plan.specs.declared.contribution.Aim.TheVariants.{Run, Start, Stop}
+use Rattle.mpf_plan.specs.declared.contribution.Aim.TheVariants.{Run, Start, Stop, Do}
 use Rattle.plan_tables.specs.declared.entries.Action.{Action}
 use Rattle.plan_tables.specs.declared.entries.Action.TheVariants.{Post}
+use Rattle.plan_tables.specs.declared.entries.ListId.{ListId}
+use Rattle.plan_tables.specs.declared.entries.Target.TheVariants as targets
+use Rattle.plan_tables.specs.declared.devices.Act.{Act}
+use Rattle.plan_tables.specs.declared.devices.DeviceRow.{DeviceRow}
+use Rattle.plan_tables.specs.declared.devices.RowId.{RowId}
 use Rattle.plan_tables.specs.declared.table.Table.{Table}
 use Rattle.plan_tables.specs.declared.table.Table.TheVariants.{Events, Bindings, Switches}
 use Rattle.plan_tables.specs.declared.table.Table.TheVariants as tables
-use Rattle.plan_tables.specs.PlanView.{PlanView}
-use Rattle.plan_tables.specs.Devices.{IsWithinLimits}
+use Rattle.plan_tables.specs.PlanView.{PlanView, row_at}
+use Rattle.plan_tables.specs.Devices.{IsWithinLimits, list_count}
 use Rattle.plan_tables.specs.Valid.{IsValid, HasEntries}
-use Rattle.mpf_plan.specs.Contributions.{Contribution, gives, reads, active, inactive, mode, mode_event, binds, post, contributions_of}
-use Rattle.mpf_plan.specs.Uses.{Names, names_from, uses, first_by}
+use Rattle.mpf_plan.specs.Contributions.{Contribution, gives, reads, active, inactive, mode, mode_event, binds, post, device, post_in, mentions, contributions_of}
+use Rattle.mpf_plan.specs.Uses.{Names, names_from, number_among, uses, first_by}
 use Rattle.plan_tables.specs.Limits.{entry_count, limit_of}
-use Rattle.mpf_plan.specs.PlanOf.{DraftView, event_of, with_contribution, blank, plan_from, plan_of, plan_at}
+use Rattle.mpf_plan.specs.PlanOf.{DraftView, event_of, first_of_last, next_row, next_list, with_one_more, with_contribution, blank, plan_from, plan_of, plan_at}
 use Rattle.mpf_plan.proofs.Counts.{named_of}
-use Rattle.mpf_plan.proofs.Drafted.{given_plan, names-from, no_rows, count-bindings, count-lists}
+use Rattle.mpf_plan.proofs.Drafted.{given_plan, names-from, count-bindings, count-rows, count-row_lists, count-lists}
 use Rattle.mpf_plan.proofs.Judged.{plan_at-Ok}
-use Rattle.mpf_plan.proofs.RowFacts.{AreShort, rows_are_short, rows_are_open}
+use Rattle.mpf_plan.proofs.RowFacts.{AreShort, IsRoomy, posts_after, posts_in_after, full, IsLimited, rows_are_short, rows_are_open, rows_are_limited, rows_are_placed}
+use Rattle.mpf_plan.proofs.Owned.{IsOwnTarget, IsOwnBinding, own_fold, own_blank}
 use Rattle.mpf_plan.proofs.SoundDraft.{has_entries}
 use Rattle.mpf_plan.proofs.ModeWorks.{modes-count, works_are}
 
@@ -90,59 +97,172 @@ last_length-set (x ∷ xs) l n short =
     subst (λ k. length (get_or (set (x ∷ xs) at l) (k - 1) []) ≤ n) (sym (length-set (x ∷ xs) at l))
     (subst (λ y. length y ≤ n) (sym (get_or-set_same (x ∷ xs) at l [] (omega arith))) short)
 
--- no effect list has more than 1,024 actions, and that which began last has at most so many
-pub record AreFit (n : ℕ) (plan : PlanView) : Type 0 where
+-- what holds of each list, and of one that is not there
+at_any : (P : List Action → Type 0) → P [] → (ls : List (List Action)) → All P ls → (i : ℕ) → P (get_or ls i [])
+at_any P none ls all i = by (cases_lt i (length ls))
+  where
+    by : (i < length ls) ⊎ (length ls ≤ i) → P (get_or ls i [])
+    by (inl within) = All-get_or P ls i [] within all
+    by (inr past) = subst P (sym (get_or_past ls i [] past)) none
+
+-- empty lists at the end change none
+blank_end : (ls more : List (List Action)) → All (λ l. l ≡ []) more → (i : ℕ) → get_or (ls ++ more) i [] ≡ get_or ls i []
+blank_end [] more empty i = at_any (λ l. l ≡ []) refl more empty i
+blank_end (x ∷ ls) more empty zero = refl
+blank_end (x ∷ ls) more empty (suc i) = blank_end ls more empty i
+
+-- no effect list has more than 1,024 actions; that which began last has at most so many, and so have those of the row that
+-- came last
+pub record AreFit (n : ℕ) (f : ℕ → ℕ) (plan : PlanView) : Type 0 where
   pub lists : All (λ actions. length actions ≤ 1024) plan.lists
   pub last : last_length plan.lists ≤ n
+  pub in_row : (k : ℕ) → length (get_or plan.lists ((first_of_last plan.row_lists).0 + k) []) ≤ f k
+
+abbrev IsFew : List Action → Type 0
+IsFew l = length l ≤ 1024
+
+module _ (n : ℕ) (f : ℕ → ℕ) (plan : PlanView) (fit : AreFit n f plan) where
+  few_at : (ls : List (List Action)) → All IsFew ls → (i : ℕ) → length (get_or ls i []) ≤ 1024
+  few_at ls few i = at_any IsFew (omega arith) ls few i
+
+  -- an action more in the list that began last
+  fit_last : (a : Action) → n < 1024 → AreFit (suc n) full (record plan { lists = with_one_more (length plan.lists - 1) a plan.lists })
+  fit_last a room =
+      let at = length plan.lists - 1 in
+      let more : List Action = slice_index_or plan.lists at [] ++ a ∷ [] in
+      let longer : length more ≤ suc n = omega (arith, fit.last, length_push (slice_index_or plan.lists at []) a) in
+      let few = All-set IsFew plan.lists at more (omega (arith, longer, room)) fit.lists in
+      record { lists = few; last = last_length-set plan.lists more (suc n) longer; in_row = λ k. few_at (set plan.lists at more) few ((first_of_last plan.row_lists).0 + k) }
+
+  -- or in one of those of the row
+  fit_in : (k : ℕ) (a : Action) → f k < 1024 → AreFit 1024 (λ j. if j == k then suc (f j) else f j) (record plan { lists = with_one_more ((first_of_last plan.row_lists).0 + k) a plan.lists })
+  fit_in k a room = record { lists = few; last = few_at new few (length new - 1); in_row = λ j. by j (j == k) refl (cases_lt at (length plan.lists)) }
+    where
+      first : ℕ
+      first = (first_of_last plan.row_lists).0
+
+      at : ℕ
+      at = first + k
+
+      more : List Action
+      more = slice_index_or plan.lists at [] ++ a ∷ []
+
+      longer : length more ≤ suc (f k)
+      longer = omega (arith, fit.in_row k, length_push (slice_index_or plan.lists at []) a)
+
+      new : List (List Action)
+      new = set plan.lists at more
+
+      few : All IsFew new
+      few = All-set IsFew plan.lists at more (omega (arith, longer, room)) fit.lists
+
+      by : (j : ℕ) (b : Bool) → (j == k) ≡ b → (at < length plan.lists) ⊎ (length plan.lists ≤ at) → length (get_or new (first + j) []) ≤ (if b then suc (f j) else f j)
+      by j true same (inl inside) =
+          let e : j ≡ k = eqb-true j k same in
+          omega (arith, longer, ap f e, ap length (ap (λ i. get_or new (first + i) []) e ∙ get_or-set_same plan.lists at more [] inside))
+      by j true same (inr past) =
+          let e : j ≡ k = eqb-true j k same in
+          omega (arith, ap length (ap (λ i. get_or new (first + i) []) e ∙ ap (λ l. get_or l at []) (set_past plan.lists at more past) ∙ get_or_past plan.lists at [] past))
+      by j false other _ = omega (arith, fit.in_row j, ap length (get_or-set_other plan.lists at (first + j) more [] (λ e. eqb-false j k other (omega (arith, e)))))
+
+  -- a list more
+  fit_more : AreFit 0 f (record plan { lists = plan.lists ++ [] ∷ [] })
+  fit_more = record {
+    lists = All-push IsFew plan.lists [] fit.lists (omega arith);
+    last = last_length-push plan.lists;
+    in_row = λ k. let at = (first_of_last plan.row_lists).0 + k in
+        omega (arith, fit.in_row k, ap length (blank_end plan.lists ([] ∷ []) (All-cons (λ l. l ≡ []) [] [] refl (All-nil (λ l. l ≡ []))) at));
+  }
+
+  -- the lists of a row more
+  fit_device : (rows : List DeviceRow) (count : ℕ) → AreFit 1024 (λ j. 0) (record plan { rows = rows; row_lists = plan.row_lists ++ next_list plan ∷ []; lists = plan.lists ++ replicate count [] })
+  fit_device rows count = record { lists = few; last = few_at new few (length new - 1); in_row = here }
+    where
+      none : List Action
+      none = []
+
+      new : List (List Action)
+      new = plan.lists ++ replicate count none
+
+      few : All IsFew new
+      few = All-append IsFew plan.lists (replicate count none) fit.lists (All-replicate IsFew count none (omega arith))
+
+      firsts : List ListId
+      firsts = plan.row_lists ++ next_list plan ∷ []
+
+      begins : first_of_last firsts ≡ next_list plan
+      begins = get_or_push plan.row_lists (next_list plan) (record { 0 = 0 }) (length firsts - 1) (omega (arith, length_push plan.row_lists (next_list plan)))
+
+      here : (k : ℕ) → length (get_or new ((first_of_last firsts).0 + k) []) ≤ 0
+      here k =
+          let at = length plan.lists + k in
+          omega (
+            arith,
+            ap length (ap (λ (l : ListId). get_or new (l.0 + k) []) begins
+                ∙ blank_end plan.lists (replicate count none) (All-replicate (λ l. l ≡ []) count none refl) at
+                ∙ get_or_past plan.lists at [] (omega arith)),
+          )
+
+-- the settings of a row are within their limits
+abbrev IsLimitedRow : DeviceRow → Type 0
+IsLimitedRow row = IsWithinLimits row.settings
 
 module _ (names : Names) where
-  fit_fold : (n : ℕ) (cs : List Contribution) (d : DraftView) → AreShort n cs → AreFit n d.plan
+  fit_one : (n : ℕ) (f : ℕ → ℕ) (d : DraftView) (c : Contribution) → IsRoomy n f c → AreFit n f d.plan → AreFit (posts_after n c) (posts_in_after f c) (with_contribution names d c).plan
+  fit_one n f d (gives t e) room fit = subst (AreFit n f) (sym (given_plan t (number_among (names t) e) d)) fit
+  fit_one n f d (reads kind) room fit = record { lists = fit.lists; last = fit.last; in_row = fit.in_row }
+  fit_one n f d (active e) room fit = record { lists = fit.lists; last = fit.last; in_row = fit.in_row }
+  fit_one n f d (inactive e) room fit = record { lists = fit.lists; last = fit.last; in_row = fit.in_row }
+  fit_one n f d (mode e priority game) room fit = record { lists = fit.lists; last = fit.last; in_row = fit.in_row }
+  fit_one n f d (mode_event which e) room fit = record { lists = fit.lists; last = fit.last; in_row = fit.in_row }
+  fit_one n f d (binds e place Start) room fit = record { lists = fit.lists; last = fit.last; in_row = fit.in_row }
+  fit_one n f d (binds e place Stop) room fit = record { lists = fit.lists; last = fit.last; in_row = fit.in_row }
+  fit_one n f d (binds e place (Do act)) room fit = record { lists = fit.lists; last = fit.last; in_row = fit.in_row }
+  fit_one n f d (binds e place Run) room fit = let more = fit_more n f d.plan fit in record { lists = more.lists; last = more.last; in_row = more.in_row }
+  fit_one n f d (post e) room fit = fit_last n f d.plan fit (Post (event_of (names Events) e)) room
+  fit_one n f d (device place settings) room fit = fit_device n f d.plan fit (d.plan.rows ++ next_row d.plan place settings ∷ []) (list_count settings)
+  fit_one n f d (post_in k e) room fit = fit_in n f d.plan fit k (Post (event_of (names Events) e)) room
+  fit_one n f d (mentions e) room fit = fit
+
+  fit_fold : (n : ℕ) (f : ℕ → ℕ) (cs : List Contribution) (d : DraftView) → AreShort n f cs → AreFit n f d.plan
       → All (λ actions. length actions ≤ 1024) (fold (with_contribution names) d cs).plan.lists
-  fit_fold n [] d short fit = fit.lists
-  fit_fold n (gives t e ∷ cs) d short fit = fit_fold n cs (with_contribution names d (gives t e)) short.1 (subst (AreFit n) (sym (given_plan t _ d)) fit)
-  fit_fold n (reads kind ∷ cs) d short fit = fit_fold n cs (with_contribution names d (reads kind)) short.1 (record { lists = fit.lists; last = fit.last })
-  fit_fold n (active e ∷ cs) d short fit = fit_fold n cs (with_contribution names d (active e)) short.1 (record { lists = fit.lists; last = fit.last })
-  fit_fold n (inactive e ∷ cs) d short fit = fit_fold n cs (with_contribution names d (inactive e)) short.1 (record { lists = fit.lists; last = fit.last })
-  fit_fold n (mode e priority game ∷ cs) d short fit = fit_fold n cs (with_contribution names d (mode e priority game)) short.1 (record { lists = fit.lists; last = fit.last })
-  fit_fold n (mode_event which e ∷ cs) d short fit = fit_fold n cs (with_contribution names d (mode_event which e)) short.1 (record { lists = fit.lists; last = fit.last })
-  fit_fold n (binds e place Start ∷ cs) d short fit = fit_fold n cs (with_contribution names d (binds e place Start)) short.1 (record { lists = fit.lists; last = fit.last })
-  fit_fold n (binds e place Stop ∷ cs) d short fit = fit_fold n cs (with_contribution names d (binds e place Stop)) short.1 (record { lists = fit.lists; last = fit.last })
-  fit_fold n (binds e place Run ∷ cs) d short fit = fit_fold 0 cs (with_contribution names d (binds e place Run)) short.1 (record {
-    lists = All-push (λ (l : List Action). length l ≤ 1024) d.plan.lists [] fit.lists (omega arith);
-    last = last_length-push d.plan.lists;
-  })
-  fit_fold n (post e ∷ cs) d short fit =
-      let at = length d.plan.lists - 1 in
-      let more : List Action = slice_index_or d.plan.lists at [] ++ Post (event_of (names Events) e) ∷ [] in
-      let longer : length more ≤ suc n = omega (arith, fit.last, length_push (slice_index_or d.plan.lists at []) (Post (event_of (names Events) e))) in
-      let room : n < 1024 = short.0 in
-      fit_fold (suc n) cs (with_contribution names d (post e)) short.1 (record {
-        lists = All-set (λ (l : List Action). length l ≤ 1024) d.plan.lists at more (omega (arith, longer, room)) fit.lists;
-        last = last_length-set d.plan.lists more (suc n) longer;
-      })
+  fit_fold n f [] d short fit = fit.lists
+  fit_fold n f (c ∷ cs) d short fit = fit_fold (posts_after n c) (posts_in_after f c) cs (with_contribution names d c) short.1 (fit_one n f d c short.0 fit)
+
+  -- ---- the settings of rows
+
+  limited_one : (d : DraftView) (c : Contribution) → IsLimited c → All IsLimitedRow d.plan.rows → All IsLimitedRow (with_contribution names d c).plan.rows
+  limited_one d (gives t e) is all = subst (λ (p : PlanView). All IsLimitedRow p.rows) (sym (given_plan t (number_among (names t) e) d)) all
+  limited_one d (device place settings) is all = All-push IsLimitedRow d.plan.rows (next_row d.plan place settings) all is
+  limited_one d _ is all = all
+
+  limited_fold : (cs : List Contribution) (d : DraftView) → All IsLimited cs → All IsLimitedRow d.plan.rows → All IsLimitedRow (fold (with_contribution names) d cs).plan.rows
+  limited_fold [] d each all = all
+  limited_fold (c ∷ cs) d each all = limited_fold cs (with_contribution names d c) (All-tail IsLimited c cs each) (limited_one d c (All-head IsLimited c cs each) all)
 
 -- ---- the plan
 
 -- Where each table is within its limit, no list in the rows is too long, and there are few modes, the plan is valid.
 valid_from : (rows : Rows) → AreListsShort rows → AreFewModes rows.modes → ((t : Table) → entry_count (plan_from (contributions_of rows)) t ≤ limit_of t) → IsValid (plan_from (contributions_of rows))
-valid_from rows short few within =
+valid_from rows short few_modes within =
     let cs = contributions_of rows in
     let names = names_from cs in
     let limit : length (plan_from cs).bindings ≤ 16384 = within Bindings in
-    let none : AreFit 1024 (blank names).plan = record { lists = All-nil (λ (l : List Action). length l ≤ 1024); last = omega arith } in
+    let few : length (plan_from cs).rows ≤ 1024 = within tables.Rows in
+    let none : AreFit 1024 full (blank names).plan = record { lists = All-nil (λ (l : List Action). length l ≤ 1024); last = omega arith; in_row = λ k. omega arith } in
     record {
-      mode_limit = omega (arith, few.few, modes-count rows);
+      mode_limit = omega (arith, few_modes.few, modes-count rows);
       event_limit = within Events;
       binding_limit = limit;
       switch_limit = within Switches;
-      list_limit = omega (arith, limit, count-bindings cs, count-lists cs);
-      row_limit = within tables.Rows;
-      row_lists = ap length (no_rows cs).1 ∙ sym (ap length (no_rows cs).0);
-      settings = subst (All (λ row. IsWithinLimits row.settings)) (sym (no_rows cs).0) (All-nil (λ row. IsWithinLimits row.settings));
-      action_limit = fit_fold names 1024 cs (blank names) (rows_are_short rows short) none;
+      list_limit = omega (arith, limit, few, count-bindings cs, count-rows cs, count-lists cs);
+      row_limit = few;
+      row_lists = count-row_lists cs;
+      settings = limited_fold names cs (blank names) (rows_are_limited rows short) (All-nil IsLimitedRow);
+      action_limit = fit_fold names 1024 full cs (blank names) (rows_are_short rows short) none;
       names = λ t. subst (AllPairs (λ x y. x ≢ y)) (sym (names-from cs t)) (all_apart (named_of cs t) (named_apart cs t));
-      entries = has_entries cs (rows_are_open rows);
-      works = works_are rows few.apart;
+      entries = has_entries cs (rows_are_open rows) (rows_are_placed rows);
+      works = works_are rows few_modes.apart;
     }
 
 pub IsValid-plan_of : (rows : Rows) → AreListsShort rows → AreFewModes rows.modes → ((t : Table) → entry_count (plan_of rows) t ≤ limit_of t) → IsValid (plan_of rows)
@@ -153,18 +273,26 @@ IsValid-plan_of rows short few within = valid_from rows short few within
 
 HasEntries-plan_of : (rows : Rows) → HasEntries (plan_of rows)
 unfolding plan_of
-HasEntries-plan_of rows = has_entries (contributions_of rows) (rows_are_open rows)
+HasEntries-plan_of rows = has_entries (contributions_of rows) (rows_are_open rows) (rows_are_placed rows)
 
 pub HasEntries-plan_at : (rows : Rows) (plan : PlanView) → plan_at rows ≡ Ok plan → HasEntries plan
 HasEntries-plan_at rows plan is = subst HasEntries (sym (plan_at-Ok rows plan is).0) (HasEntries-plan_of rows)
 
--- no row gives a device
-no_devices-plan_of : (rows : Rows) → (plan_of rows).rows ≡ []
-unfolding plan_of
-no_devices-plan_of rows = (no_rows (contributions_of rows)).0
+-- bindings act on rows of their own owner alone
+abbrev AreOwn : PlanView → Type 0
+AreOwn plan = All (IsOwnBinding plan.rows) plan.bindings
 
-pub no_devices-plan_at : (rows : Rows) (plan : PlanView) → plan_at rows ≡ Ok plan → plan.rows ≡ []
-no_devices-plan_at rows plan is = subst (λ (p : PlanView). p.rows ≡ []) (sym (plan_at-Ok rows plan is).0) (no_devices-plan_of rows)
+own-plan_of : (rows : Rows) → AreOwn (plan_of rows)
+unfolding plan_of
+own-plan_of rows =
+    let cs = contributions_of rows in
+    own_fold (names_from cs) cs None (blank (names_from cs)) (rows_are_placed rows) (own_blank (names_from cs))
+
+pub own-plan_at : (rows : Rows) (plan : PlanView) → plan_at rows ≡ Ok plan → All (λ b. (r : RowId) (act : Act) → b.target ≡ targets.Act r act → (row_at plan r).owner ≡ b.owner) plan.bindings
+own-plan_at rows plan is =
+    let own = subst AreOwn (sym (plan_at-Ok rows plan is).0) (own-plan_of rows) in
+    All-weaker (IsOwnBinding plan.rows) (λ b. (r : RowId) (act : Act) → b.target ≡ targets.Act r act → (row_at plan r).owner ≡ b.owner)
+    (λ b h r act acts. (subst (IsOwnTarget plan.rows b.owner) acts h).1) plan.bindings own
 
 -- A plan that planning gives is valid, where no list in the rows is too long, and there are few modes.
 pub IsValid-plan_at : (rows : Rows) → AreListsShort rows → AreFewModes rows.modes → (plan : PlanView) → plan_at rows ≡ Ok plan → IsValid plan

@@ -1,5 +1,5 @@
 -- What the rows give to a plan, by names and in plan order.
-use Rattle.std.specs.Prelude.{ℕ, Bool, true, false, if◌then◌else◌, List, [], ◌∷◌, ◌++◌, map, codes}
+use Rattle.std.specs.Prelude.{ℕ, suc, Bool, true, false, if◌then◌else◌, List, [], ◌∷◌, ◌++◌, map, Option, None, Some, codes}
 use Rattle.std.specs.List.{flat_map}
 use Rattle.std.specs.Str.{bytes_eq}
 use Rattle.mpf_config.specs.declared.config.Contact.{Contact as WrittenContact}
@@ -16,14 +16,19 @@ use Rattle.plan_tables.specs.declared.entries.ModeEvent.TheVariants.{WillStart, 
 use Rattle.mpf_plan.specs.declared.contribution.Place.{Place}
 use Rattle.mpf_plan.specs.declared.contribution.Place.TheVariants.{Machine, Control, Mode}
 use Rattle.mpf_plan.specs.declared.contribution.Aim.{Aim}
-use Rattle.mpf_plan.specs.declared.contribution.Aim.TheVariants.{Run, Start, Stop}
+use Rattle.mpf_plan.specs.declared.contribution.Aim.TheVariants.{Run, Start, Stop, Do}
+use Rattle.plan_tables.specs.declared.devices.Settings.{Settings}
+use Rattle.plan_tables.specs.declared.devices.Act.{Act}
 use Rattle.plan_tables.specs.declared.table.Table.{Table}
 use Rattle.plan_tables.specs.declared.table.Table.TheVariants.{Switches}
+pub use Rattle.mpf_plan.specs.DeviceEntries.{texts, Device, device_of}
 
 -- One thing that a row gives: an entry of a table, by its name; how the last given switch is read; an event that this
 -- switch posts when it becomes active, or inactive; a mode by its name, with its priority, and whether it starts only
 -- in a game; an event of the mode that came last, which has this name; a binding of an event, with which an effect list
--- begins where it is to run one; an event that the last list posts.
+-- begins where it is to run one; an event that the list posts that began last; a row of a device with its settings, with
+-- which its effect lists begin; an event that this list of the last row posts, by its number in the row; an event that a
+-- setting names, which gets its number here.
 pub data Contribution : Type 0 where
   gives : Table → List ℕ → Contribution
   reads : SwitchKind → Contribution
@@ -33,9 +38,9 @@ pub data Contribution : Type 0 where
   mode_event : ModeEvent → List ℕ → Contribution
   binds : List ℕ → Place → Aim → Contribution
   post : List ℕ → Contribution
-
-abbrev pub texts : List Written → List (List ℕ)
-texts ws = map (λ w. w.text) ws
+  device : Place → Settings → Contribution
+  post_in : ℕ → List ℕ → Contribution
+  mentions : List ℕ → Contribution
 
 -- ---- switches
 
@@ -119,17 +124,38 @@ controls s =
 unfoldable pub mode_contributions : List ℕ → ModeSettings → List Contribution
 mode_contributions name s = mode name s.priority s.game ∷ later_events name ++ controls s
 
+-- ---- devices
+
+-- an event acts on the row that came last
+abbrev pub act_binding : Place → List ℕ × Act → Contribution
+act_binding place h = binds h.0 place (Do h.1)
+
+-- what the effect lists post, from this one on
+abbrev pub posts_from : ℕ → List (List (List ℕ)) → List Contribution
+posts_from k [] = []
+posts_from k (es ∷ rest) = map (post_in k) es ++ posts_from (suc k) rest
+
+-- a row, then what acts on it, the events that its settings name, and what its effect lists post
+unfoldable pub device_contributions : Place → Device → List Contribution
+device_contributions place d =
+    device place d.settings ∷ map (act_binding place) d.handled ++ (map mentions d.mentioned ++ posts_from 0 d.lists)
+
+-- what a device gives, where an entry is one
+abbrev pub where_device : Place → Option Device → List Contribution
+where_device place None = []
+where_device place (Some d) = device_contributions place d
+
 -- ---- rows
 
--- An entry in the section of this name; or an entry of a player, whose bindings have this place; or a mode by its name,
+-- An entry in the section of this name, or an entry of a player, whose bindings have this place; or a mode by its name,
 -- with what its text says of it.
 pub data Row : Type 0 where
-  entry : List ℕ → Entry → Row
+  entry : Place → List ℕ → Entry → Row
   player : Place → List ℕ → Player → Row
   of_mode : List ℕ → ModeSettings → Row
 
 abbrev pub rows_from : Place → List ℕ → Content → List Row
-rows_from place name (entries es) = map (entry name) es
+rows_from place name (entries es) = map (entry place name) es
 rows_from place name (players ps) = map (player place name) ps
 rows_from place name _ = []
 
@@ -146,8 +172,9 @@ abbrev pub rows_of : Rows → List Row
 rows_of rows = rows_in Machine rows.machine ++ flat_map mode_rows rows.modes
 
 -- what an entry gives, by the name of its section
-unfoldable pub entry_contributions : List ℕ → Entry → List Contribution
-entry_contributions section e = if bytes_eq section switches_name then switch_contributions (switch_of e) else []
+unfoldable pub entry_contributions : Place → List ℕ → Entry → List Contribution
+entry_contributions place section e =
+    if bytes_eq section switches_name then switch_contributions (switch_of e) else where_device place (device_of section e)
 
 -- and an entry of a player
 unfoldable pub player_entry_contributions : Place → List ℕ → Player → List Contribution
@@ -155,7 +182,7 @@ player_entry_contributions place section p =
     if bytes_eq section event_player_name then player_contributions place (event_player_of p) else []
 
 abbrev pub row_contributions : Row → List Contribution
-row_contributions (entry section e) = entry_contributions section e
+row_contributions (entry place section e) = entry_contributions place section e
 row_contributions (player place section p) = player_entry_contributions place section p
 row_contributions (of_mode name s) = mode_contributions name s
 

@@ -10,7 +10,7 @@ use Rattle.mpf_plan.specs.declared.contribution.Parts.{Parts}
 use Rattle.mpf_plan.specs.declared.contribution.Contribution as contributions
 use Rattle.mpf_plan.specs.declared.contribution.Contribution.TheVariants as contribution
 use Rattle.mpf_plan.specs.declared.draft.Draft.{Draft}
-use Rattle.mpf_plan.specs.Contributions.{Contribution, gives, reads, active, inactive, mode, mode_event, binds, post, Row, entry, player, of_mode}
+use Rattle.mpf_plan.specs.Contributions.{Contribution, gives, reads, active, inactive, mode, mode_event, binds, post, device, post_in, mentions, Row, entry, player, of_mode}
 use Rattle.mpf_plan.specs.PlanOf.{DraftView}
 
 -- the name that the parts make
@@ -26,12 +26,15 @@ contribution_view (contribution.Mode n priority game) = mode n.now priority game
 contribution_view (contribution.ModeEvent which n) = mode_event which n.now
 contribution_view (contribution.Binds n place aim) = binds n.now place aim
 contribution_view (contribution.Post n) = post (parts_text n)
+contribution_view (contribution.Device place settings) = device place settings
+contribution_view (contribution.PostIn k n) = post_in k (parts_text n)
+contribution_view (contribution.Mentions n) = mentions n.now
 
 abbrev pub contributions_view : List contributions.Contribution → List Contribution
 contributions_view cs = map contribution_view cs
 
 abbrev pub row_view : rows.Row → Row
-row_view (row.Entry section e) = entry section.now (entry_view e.now)
+row_view (row.Entry place section e) = entry place section.now (entry_view e.now)
 row_view (row.Player place section p) = player place section.now (player_view p.now)
 row_view (row.Mode name s) = of_mode name.now (mode_settings_view s)
 

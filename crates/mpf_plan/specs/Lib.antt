@@ -1,3 +1,4 @@
+pub mod DeviceEntries
 pub mod Contributions
 pub mod Uses
 pub mod PlanOf

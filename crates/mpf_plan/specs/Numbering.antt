@@ -10,7 +10,7 @@ use Rattle.mpf_plan.specs.declared.fault.PlanFault.{PlanFault}
 use Rattle.mpf_plan.specs.declared.fault.PlanFault.TheVariants as faults
 use Rattle.plan_tables.specs.declared.table.Table.{Table}
 use Rattle.mpf_plan.specs.declared.first_uses.Found.{Found}
-use Rattle.mpf_plan.specs.Contributions.{Contribution, mode, binds}
+use Rattle.mpf_plan.specs.Contributions.{Contribution, mode, binds, device}
 use Rattle.mpf_plan.specs.Uses.{given_names, names_from, lacks_name}
 use Rattle.plan_tables.specs.Limits.{limit_of, order_of, tables_in_order, first_above}
 use Rattle.mpf_plan.specs.PlanOf.{plan_from}
@@ -41,6 +41,14 @@ modes_given _ = 0
 abbrev pub mode_count : List Contribution → ℕ
 mode_count cs = sum_by modes_given cs
 
+-- and how many rows of devices
+abbrev pub rows_given : Contribution → ℕ
+rows_given (device place settings) = 1
+rows_given _ = 0
+
+abbrev pub row_count : List Contribution → ℕ
+row_count cs = sum_by rows_given cs
+
 -- all are counted, or both numbers are above the limit
 abbrev pub IsCount : ℕ → ℕ → ℕ → Type 0
 IsCount limit all count = ((limit < all) × (limit < count)) ⊎ ((count ≡ all) × (all ≤ limit))
@@ -61,11 +69,12 @@ module _ {S : Type 0} where
 pub record HasFound (cs : List Contribution) (found : Found) : Type 0 where
   pub tables : AreNameTablesOf cs found.tables.items
   pub bindings : IsCount 16384 (binding_count cs) found.bindings
+  pub rows : IsCount 1024 (row_count cs) found.rows
 
 -- the names of contributions whose plan is within all limits; or they use a name that nothing has; or the first table
 -- that is above its limit
 abbrev pub Numbered : List Contribution → Result NameSets PlanFault → Type 0
-Numbered cs (Ok n) = (lacks_name cs ≡ false) × (name_sets_view n ≡ names_from cs) × (first_above (plan_from cs) ≡ None) × (binding_count cs ≤ 16384)
+Numbered cs (Ok n) = (lacks_name cs ≡ false) × (name_sets_view n ≡ names_from cs) × (first_above (plan_from cs) ≡ None) × (binding_count cs ≤ 16384) × (row_count cs ≤ 1024)
 Numbered cs (Err faults.NoMemory) = Unit {0}
 Numbered cs (Err faults.NoSuchName) = lacks_name cs ≡ true
 Numbered cs (Err (faults.Limit t)) = (lacks_name cs ≡ false) × (first_above (plan_from cs) ≡ Some t)

@@ -1,5 +1,5 @@
 -- The plan of the rows: each contribution adds its own to what is there.
-use Rattle.std.specs.Prelude.{◌≡◌, ℕ, ◌-◌, Bool, true, false, cond, List, [], ◌∷◌, ◌++◌, Option, None, Some, Result, Ok, Err, map, fold, length, slice_set, slice_index_or}
+use Rattle.std.specs.Prelude.{◌≡◌, ℕ, ◌+◌, ◌-◌, Bool, true, false, cond, List, [], ◌∷◌, ◌++◌, Option, None, Some, Result, Ok, Err, map, fold, length, replicate, slice_set, slice_index_or}
 use Rattle.mpf_config.specs.Rows.{Rows}
 use Rattle.plan_tables.specs.declared.entries.EventId.{EventId}
 use Rattle.plan_tables.specs.declared.entries.SwitchKind.{SwitchKind}
@@ -14,16 +14,21 @@ use Rattle.plan_tables.specs.declared.entries.Action.TheVariants.{Post}
 use Rattle.plan_tables.specs.declared.entries.Target.{Target}
 use Rattle.plan_tables.specs.declared.entries.Target.TheVariants as targets
 use Rattle.plan_tables.specs.declared.entries.Binding.{Binding}
+use Rattle.plan_tables.specs.declared.entries.ListId.{ListId}
+use Rattle.plan_tables.specs.declared.devices.DeviceRow.{DeviceRow}
+use Rattle.plan_tables.specs.declared.devices.RowId.{RowId}
+use Rattle.plan_tables.specs.declared.devices.Settings.{Settings}
+use Rattle.plan_tables.specs.Devices.{list_count}
 use Rattle.mpf_plan.specs.declared.contribution.Place.{Place}
 use Rattle.mpf_plan.specs.declared.contribution.Place.TheVariants.{Machine, Control, Mode}
 use Rattle.mpf_plan.specs.declared.contribution.Aim.{Aim}
-use Rattle.mpf_plan.specs.declared.contribution.Aim.TheVariants.{Run, Start, Stop}
+use Rattle.mpf_plan.specs.declared.contribution.Aim.TheVariants.{Run, Start, Stop, Do}
 use Rattle.plan_tables.specs.declared.table.Table.{Table}
 use Rattle.plan_tables.specs.declared.table.Table.TheVariants.{Events, Switches}
 use Rattle.mpf_plan.specs.declared.fault.PlanFault.{PlanFault}
 use Rattle.mpf_plan.specs.declared.fault.PlanFault.TheVariants as faults
 use Rattle.plan_tables.specs.PlanView.{PlanSwitch, no_switch, PlanMode, no_event, no_mode, PlanView}
-use Rattle.mpf_plan.specs.Contributions.{Contribution, gives, reads, active, inactive, mode, mode_event, mode_event_name, binds, post, contributions_of}
+use Rattle.mpf_plan.specs.Contributions.{Contribution, gives, reads, active, inactive, mode, mode_event, mode_event_name, binds, post, device, post_in, mentions, contributions_of}
 use Rattle.mpf_plan.specs.Uses.{Names, names_from, number_among, lacks_name}
 use Rattle.plan_tables.specs.Limits.{first_above, IsFirstAbove}
 
@@ -112,11 +117,17 @@ priority_at of_last Machine = 0
 priority_at of_last Control = of_last
 priority_at of_last Mode = of_last
 
--- what a binding does that is next: it runs the next effect list, or starts or stops the mode that came last
+-- the row of a device that came last
+abbrev pub last_row : PlanView → RowId
+last_row plan = record { 0 = length plan.rows - 1 }
+
+-- what a binding does that is next: it runs the next effect list, starts or stops the mode that came last, or acts on the
+-- row that came last
 abbrev pub target_at : PlanView → Aim → Target
 target_at plan Run = targets.Run (record { 0 = length plan.lists })
 target_at plan Start = targets.Start (last_mode plan)
 target_at plan Stop = targets.Stop (last_mode plan)
+target_at plan (Do act) = targets.Act (last_row plan) act
 
 abbrev pub next_binding : PlanView → EventId → Place → Aim → Binding
 next_binding plan event place aim = record {
@@ -137,12 +148,42 @@ lists_for _ lists = lists
 abbrev pub with_list_for : Aim → DraftView → DraftView
 with_list_for aim d = record d { plan = record d.plan { lists = lists_for aim d.plan.lists } }
 
--- the last of the lists has one action more
+-- the effect list of this number has one action more
+abbrev pub with_one_more : ℕ → Action → List (List Action) → List (List Action)
+with_one_more n a lists = slice_set lists n (slice_index_or lists n [] ++ a ∷ [])
+
+-- so has the last of the lists
 abbrev pub last_with : Action → List (List Action) → List (List Action)
-last_with a lists = slice_set lists (length lists - 1) (slice_index_or lists (length lists - 1) [] ++ a ∷ [])
+last_with a lists = with_one_more (length lists - 1) a lists
 
 abbrev pub with_action : Action → DraftView → DraftView
 with_action a d = record d { plan = record d.plan { lists = last_with a d.plan.lists } }
+
+-- the next row of a device
+abbrev pub next_row : PlanView → Place → Settings → DeviceRow
+next_row plan place settings = record { number = record { 0 = length plan.rows }; owner = owner_at (last_mode plan) place; settings = settings }
+
+-- the number of the next effect list
+abbrev pub next_list : PlanView → ListId
+next_list plan = record { 0 = length plan.lists }
+
+-- a row, and all its effect lists, which begin with it
+abbrev pub with_device : Place → Settings → DraftView → DraftView
+with_device place settings d = record d {
+  plan = record d.plan {
+    rows = d.plan.rows ++ next_row d.plan place settings ∷ [];
+    row_lists = d.plan.row_lists ++ next_list d.plan ∷ [];
+    lists = d.plan.lists ++ replicate (list_count settings) [];
+  };
+}
+
+-- the first effect list of the row that came last
+abbrev pub first_of_last : List ListId → ListId
+first_of_last firsts = slice_index_or firsts (length firsts - 1) (record { 0 = 0 })
+
+-- a list of the row that came last has one action more, by its number in the row
+abbrev pub with_action_in : ℕ → Action → DraftView → DraftView
+with_action_in k a d = record d { plan = record d.plan { lists = with_one_more ((first_of_last d.plan.row_lists).0 + k) a d.plan.lists } }
 
 -- what one contribution adds, where names have these numbers
 abbrev pub with_contribution : Names → DraftView → Contribution → DraftView
@@ -154,6 +195,9 @@ with_contribution names d (mode n priority game) = with_mode (new_mode n priorit
 with_contribution names d (mode_event which n) = with_mode_event which (event_of (names Events) (mode_event_name which n)) d
 with_contribution names d (binds n place aim) = with_list_for aim (with_binding (next_binding d.plan (event_of (names Events) n) place aim) d)
 with_contribution names d (post n) = with_action (Post (event_of (names Events) n)) d
+with_contribution names d (device place settings) = with_device place settings d
+with_contribution names d (post_in k n) = with_action_in k (Post (event_of (names Events) n)) d
+with_contribution names d (mentions n) = d
 
 -- a switch of which the name alone is known
 abbrev pub named_switch : List ℕ → PlanSwitch

@@ -5,7 +5,7 @@ use Rattle.std.specs.Str.{bytes_eq}
 use Rattle.plan_tables.specs.declared.entries.ModeEvent.TheVariants.{WillStart}
 use Rattle.plan_tables.specs.declared.table.Table.{Table}
 use Rattle.plan_tables.specs.declared.table.Table.TheVariants.{Events}
-use Rattle.mpf_plan.specs.Contributions.{Contribution, gives, active, inactive, mode, mode_event, mode_event_name, binds, post}
+use Rattle.mpf_plan.specs.Contributions.{Contribution, gives, active, inactive, mode, mode_event, mode_event_name, binds, post, post_in, mentions}
 use Rattle.plan_tables.specs.Limits.{order_of}
 
 -- ---- one contribution
@@ -19,6 +19,8 @@ used (mode n priority game) = Some (Events, mode_event_name WillStart n)
 used (mode_event which n) = Some (Events, mode_event_name which n)
 used (binds n place aim) = Some (Events, n)
 used (post n) = Some (Events, n)
+used (post_in k n) = Some (Events, n)
+used (mentions n) = Some (Events, n)
 used _ = None
 
 -- the name under which a contribution gives something

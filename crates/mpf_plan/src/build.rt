@@ -20,7 +20,9 @@ use std::alloc::Global;
 /// the modes. Bindings are in this order, and modes are numbered in it. Events are numbered in the
 /// order of their first uses, as sections and entries are written. A switch uses what it posts,
 /// first when it becomes active, then when it becomes inactive, whatever the order of its settings.
-/// An entry of `event_player` uses the event that it handles, then those that it posts. A mode uses
+/// An entry of `event_player` uses the event that it handles, then those that it posts. A device
+/// uses the events that it handles, then those that its settings name, then those that its effect
+/// lists post. A mode uses
 /// its five events in the order of [`plan_tables::ModeEvents`], then the events that start it, then
 /// those that stop it. The rows of its text come after these.
 ///
@@ -33,6 +35,15 @@ use std::alloc::Global;
 /// stop. So is `ball_ending` to its stop where `stop_on_ball_end` holds, and `game_ending` where
 /// `game_mode` holds. These bindings are the machine's, at the mode's priority. The entries of
 /// `event_player` in the mode's text are bindings of the mode, at its priority.
+///
+/// Each entry of `counters`, `accruals`, `sequences` and `timers` is a row of a device, numbered in
+/// the same order, with its effect lists. Events that it handles are bound to what they do with the
+/// row: those that a counter counts, or the steps of an accrual or a sequence, then those that
+/// enable, disable, reset and restart it; of a timer its control events. These bindings have the
+/// owner and the priority of the text, as those of `event_player` do. The effect lists of a block
+/// post `logicblock_NAME_updated`, `logicblock_NAME_hit` and `logicblock_NAME_complete`, the last
+/// two unless events are written in their place; those of a timer post `timer_NAME_started`,
+/// `timer_NAME_stopped`, `timer_NAME_paused`, `timer_NAME_tick` and `timer_NAME_complete`.
 ///
 /// # Errors
 ///

@@ -5,6 +5,7 @@ ghost use Rattle.mpf_config.specs.View.{switch_view as switch_row_view, event_pl
 ghost use Rattle.mpf_plan.specs.Contributions.{active, inactive, post, texts, contact_of, is_quick, kind_of, tag_event, active_posts, inactive_posts, switch_contributions, player_contributions, starter, stopper, stopper_where, later_events, controls, mode_contributions, rows_in, rows_from, mode_rows, rows_of, entry, player, entry_contributions, player_entry_contributions, row_contributions};
 ghost use Rattle.mpf_plan.specs.Inside.{contributions_view, row_view, row_list_view};
 
+use crate::collect_devices::collect_device;
 use crate::contribution::{Aim, Contribution, Parts, Place, whole};
 use mpf_config::config::Contact as WrittenContact;
 use mpf_config::{
@@ -18,8 +19,8 @@ use std::alloc::{AllocError, Global};
 /// A row of a text.
 #[derive(Clone, Copy)]
 pub(crate) enum Row<'a> {
-    /// An entry in the section of this name.
-    Entry(&'a [u8], &'a Entry),
+    /// An entry in the section of this name, whose bindings have this place.
+    Entry(Place, &'a [u8], &'a Entry),
     /// An entry of a player in the section of this name, whose bindings have this place.
     Player(Place, &'a [u8], &'a Player),
     /// A mode by its name, with what its text says of it.
@@ -73,7 +74,7 @@ fn add_rows<'a>(
     ensures { OnOk result (row_list_view rows.new.items ≡ row_list_view rows.old.items ++ rows_from place (section_view section.now).name (section_view section.now).content) }
 {
     match &section.content {
-        Content::Entries(entries) => add_entries(rows, &section.name, entries),
+        Content::Entries(entries) => add_entries(rows, place, &section.name, entries),
         Content::Players(players) => add_players(rows, place, &section.name, players),
         _ => Ok(()),
     }
@@ -81,13 +82,14 @@ fn add_rows<'a>(
 
 fn add_entries<'a>(
     rows: &mut Vec<Row<'a>>,
+    place: Place,
     section: &'a [u8],
     entries: &'a [Entry],
 ) -> Result<(), AllocError>
-    ensures { OnOk result (row_list_view rows.new.items ≡ row_list_view rows.old.items ++ map (entry section.now) (map entry_view entries.now)) }
+    ensures { OnOk result (row_list_view rows.new.items ≡ row_list_view rows.old.items ++ map (entry place section.now) (map entry_view entries.now)) }
 {
     for entry in entries {
-        rows.push(Row::Entry(section, entry))?;
+        rows.push(Row::Entry(place, section, entry))?;
     }
     Ok(())
 }
@@ -117,7 +119,7 @@ pub(crate) fn collect_row<'a>(
 {
     contributions.clear();
     match row {
-        Row::Entry(section, entry) => collect_entry(contributions, section, entry),
+        Row::Entry(place, section, entry) => collect_entry(contributions, place, section, entry),
         Row::Player(place, section, player) => {
             collect_player(contributions, place, section, player)
         }
@@ -129,15 +131,16 @@ pub(crate) fn collect_row<'a>(
 #[tactic(auto, unfolding(crate::specs::Contributions::entry_contributions))]
 fn collect_entry<'a>(
     contributions: &mut Vec<Contribution<'a>>,
+    place: Place,
     section: &[u8],
     entry: &'a Entry,
 ) -> Result<(), AllocError>
-    ensures { OnOk result (contributions_view contributions.new.items ≡ contributions_view contributions.old.items ++ entry_contributions section.now (entry_view entry.now)) }
+    ensures { OnOk result (contributions_view contributions.new.items ≡ contributions_view contributions.old.items ++ entry_contributions place section.now (entry_view entry.now)) }
 {
     if section == SWITCHES_NAME {
         return collect_switch(contributions, as_switch(entry));
     }
-    Ok(())
+    collect_device(contributions, place, section, entry)
 }
 
 /// What an entry of a player gives, after what is there.

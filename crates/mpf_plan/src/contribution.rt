@@ -6,6 +6,7 @@ ghost use Rattle.mpf_plan.specs.Contributions.{event_ending, mode_event_name};
 ghost use Rattle.mpf_plan.specs.PlanOf.{owner_at, priority_at};
 ghost use Rattle.mpf_plan.specs.Inside.{parts_text, named_view, contribution_view};
 
+use plan_tables::devices::{Act, Settings};
 use plan_tables::entries::{ModeEvent, ModeId, Owner, SwitchKind};
 use plan_tables::table::Table;
 use std::alloc::AllocError;
@@ -62,6 +63,8 @@ pub(crate) enum Aim {
     Start,
     /// Stop the mode that came last.
     Stop,
+    /// Act on the device whose row came last.
+    Do(Act),
 }
 
 /// One thing that a row gives to a plan.
@@ -83,6 +86,12 @@ pub(crate) enum Contribution<'a> {
     Binds(&'a [u8], Place, Aim),
     /// The effect list that began last posts the event.
     Post(Parts<'a>),
+    /// A row of a device, with which its effect lists begin.
+    Device(Place, Settings),
+    /// This effect list of the row that came last posts the event, by its number in the row.
+    PostIn(u8, Parts<'a>),
+    /// A setting names the event.
+    Mentions(&'a [u8]),
 }
 
 /// A name as it is written.
@@ -144,6 +153,8 @@ pub(crate) fn used<'a>(contribution: &Contribution<'a>) -> Option<(Table, Parts<
         Contribution::ModeEvent(which, name) => Some((Table::Events, mode_event_name(which, name))),
         Contribution::Binds(name, _, _) => Some((Table::Events, whole(name))),
         Contribution::Post(name) => Some((Table::Events, name)),
+        Contribution::PostIn(_, name) => Some((Table::Events, name)),
+        Contribution::Mentions(name) => Some((Table::Events, whole(name))),
         _ => None,
     }
 }

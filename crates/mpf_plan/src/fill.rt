@@ -1,20 +1,22 @@
 //! The plan of contributions: each adds its own to what is there.
 
-ghost use Rattle.std.specs.Prelude.{◌≡◌, ◌<◌, ◌≤◌, ◌+◌, List, ℕ, false, length, map, fold, IfOk, OnOk};
+ghost use Rattle.std.specs.Prelude.{◌≡◌, ◌<◌, ◌≤◌, ◌+◌, ◌*◌, ◌++◌, List, [], ℕ, false, length, map, fold, replicate, IfOk, OnOk};
 ghost use Rattle.plan_tables.specs.declared.names.NameSets.{NameSets as NameSetsValue};
 ghost use Rattle.plan_tables.specs.declared.table.Table.TheVariants.{Events, Switches};
-ghost use Rattle.mpf_plan.specs.Contributions.{gives, active, inactive, mode, mode_event, binds, post, given_by};
+ghost use Rattle.mpf_plan.specs.Contributions.{gives, active, inactive, mode, mode_event, binds, post, post_in, given_by};
+ghost use Rattle.plan_tables.specs.Devices.{list_count};
 ghost use Rattle.plan_tables.specs.PlanView.{no_switch};
-ghost use Rattle.mpf_plan.specs.PlanOf.{event_of, with_switch, with_kind, with_active, with_inactive, first_event, with_event, last_with_event, next_binding, last_priority, lists_for, last_with, with_contribution, named_switch, blank, drafted};
+ghost use Rattle.mpf_plan.specs.PlanOf.{event_of, with_switch, with_kind, with_active, with_inactive, first_event, with_event, last_with_event, last_mode, last_row, next_binding, last_priority, lists_for, with_one_more, last_with, next_row, next_list, with_device, first_of_last, with_action_in, with_contribution, named_switch, blank, drafted};
 ghost use Rattle.plan_tables.specs.NamesKept.{names_of};
 ghost use Rattle.plan_tables.specs.Inside.{name_sets_view, mode_entry_view, action_lists, switches_view};
 ghost use Rattle.mpf_plan.specs.Inside.{parts_text, contribution_view, contributions_view, row_list_view, draft_view};
-ghost use Rattle.mpf_plan.specs.Numbering.{binding_count, mode_count};
+ghost use Rattle.mpf_plan.specs.Numbering.{binding_count, mode_count, row_count};
 
 use crate::collect::{Row, collect_row};
 use crate::contribution::{Aim, Contribution, Parts, Place, mode_event_name, whole};
 use crate::draft::Draft;
 use crate::numbering::number_among;
+use plan_tables::devices::{DeviceRow, RowId, Settings};
 use plan_tables::entries::{
     Action, Binding, Contact, EventId, ListId, Mode, ModeEntry, ModeEvent, ModeEvents, ModeId,
     SwitchEntry, SwitchKind, Target,
@@ -26,6 +28,7 @@ use std::alloc::{AllocError, Global};
 /// What the rows make, where names have these numbers.
 pub(crate) fn fill(alloc: Global, names: &NameSets, rows: &[Row]) -> Result<Draft, AllocError>
     requires bindings { binding_count (given_by (row_list_view rows.now)) ≤ 16384 }
+    requires rows { row_count (given_by (row_list_view rows.now)) ≤ 1024 }
     requires modes { mode_count (given_by (row_list_view rows.now)) ≤ 64 }
     ensures { IfOk result (λ d. draft_view names.now d ≡ drafted (name_sets_view names.now) (given_by (row_list_view rows.now))) }
 {
@@ -46,7 +49,8 @@ fn add_all(
     draft: &mut Draft,
     contributions: &[Contribution],
 ) -> Result<(), AllocError>
-    requires lists { length draft.old.lists.items + binding_count (contributions_view contributions.now) ≤ 16384 }
+    requires lists { length draft.old.lists.items + binding_count (contributions_view contributions.now) + 5 * row_count (contributions_view contributions.now) ≤ 21504 }
+    requires rows { length draft.old.rows.items + row_count (contributions_view contributions.now) ≤ 1024 }
     requires modes { length draft.old.modes.items + mode_count (contributions_view contributions.now) ≤ 64 }
     ensures { OnOk result (draft_view names.now draft.new ≡ fold (with_contribution (name_sets_view names.now)) (draft_view names.now draft.old) (contributions_view contributions.now)) }
 {
@@ -63,7 +67,8 @@ fn add(
     draft: &mut Draft,
     contribution: &Contribution,
 ) -> Result<(), AllocError>
-    requires lists { length draft.old.lists.items ≤ 16384 }
+    requires lists { length draft.old.lists.items ≤ 21504 }
+    requires rows { length draft.old.rows.items ≤ 1024 }
     requires modes { length draft.old.modes.items ≤ 64 }
     ensures { OnOk result (draft_view names.now draft.new ≡ with_contribution (name_sets_view names.now) (draft_view names.now draft.old) (contribution_view contribution.now)) }
 {
@@ -83,6 +88,9 @@ fn add(
             add_binding(alloc, names, text, draft, name, place, aim)
         }
         Contribution::Post(name) => add_post(names, text, draft, name),
+        Contribution::Device(place, settings) => add_device(alloc, draft, place, settings),
+        Contribution::PostIn(number, name) => add_post_in(names, text, draft, number, name),
+        Contribution::Mentions(_) => Ok(()),
     }
 }
 
@@ -287,7 +295,8 @@ fn add_binding(
     place: Place,
     aim: Aim,
 ) -> Result<(), AllocError>
-    requires lists { length draft.old.lists.items ≤ 16384 }
+    requires lists { length draft.old.lists.items ≤ 21504 }
+    requires rows { length draft.old.rows.items ≤ 1024 }
     requires modes { length draft.old.modes.items ≤ 64 }
     ensures { OnOk result (draft_view names.now draft.new ≡ with_contribution (name_sets_view names.now) (draft_view names.now draft.old) (binds name.now place aim)) }
 {
@@ -299,16 +308,18 @@ fn add_binding(
 
 /// The binding of the event that is next.
 fn next_binding(draft: &Draft, event: EventId, place: Place, aim: Aim) -> Binding
-    requires lists { length draft.now.lists.items ≤ 16384 }
+    requires lists { length draft.now.lists.items ≤ 21504 }
+    requires rows { length draft.now.rows.items ≤ 1024 }
     requires modes { length draft.now.modes.items ≤ 64 }
     ensures { (names : NameSetsValue) → result ≡ next_binding (draft_view names draft.now).plan event place aim }
 {
-    let last = ModeId(draft.modes.len().saturating_sub(1) as u16);
+    let last = last_mode(draft);
     let priority = last_priority(&draft.modes);
     let target = match aim {
         Aim::Run => Target::Run(ListId(draft.lists.len() as u32)),
         Aim::Start => Target::Start(last),
         Aim::Stop => Target::Stop(last),
+        Aim::Do(act) => Target::Act(last_row(draft), act),
     };
     Binding {
         event,
@@ -316,6 +327,22 @@ fn next_binding(draft: &Draft, event: EventId, place: Place, aim: Aim) -> Bindin
         priority: place.priority(priority),
         target,
     }
+}
+
+/// The mode that came last.
+fn last_mode(draft: &Draft) -> ModeId
+    requires modes { length draft.now.modes.items ≤ 64 }
+    ensures { (names : NameSetsValue) → result ≡ last_mode (draft_view names draft.now).plan }
+{
+    ModeId(draft.modes.len().saturating_sub(1) as u16)
+}
+
+/// The row of a device that came last.
+fn last_row(draft: &Draft) -> RowId
+    requires rows { length draft.now.rows.items ≤ 1024 }
+    ensures { (names : NameSetsValue) → result ≡ last_row (draft_view names draft.now).plan }
+{
+    RowId(draft.rows.len().saturating_sub(1) as u16)
 }
 
 /// The priority of the mode that came last; 0 where there is none.
@@ -359,6 +386,102 @@ fn push_action(lists: &mut Vec<Vec<Action>>, action: Action) -> Result<(), Alloc
     let count = lists.len();
     if count > 0 {
         lists[count - 1].push(action)?;
+    }
+    Ok(())
+}
+
+// ---- devices
+
+/// A row, and all its effect lists, which begin with it.
+fn add_device(
+    alloc: Global,
+    draft: &mut Draft,
+    place: Place,
+    settings: Settings,
+) -> Result<(), AllocError>
+    requires lists { length draft.old.lists.items ≤ 21504 }
+    requires rows { length draft.old.rows.items ≤ 1024 }
+    requires modes { length draft.old.modes.items ≤ 64 }
+    ensures { OnOk result ((names : NameSetsValue) → draft_view names draft.new ≡ with_device place settings (draft_view names draft.old)) }
+{
+    let row = next_row(draft, place, settings);
+    let first = ListId(draft.lists.len() as u32);
+    draft.rows.push(row)?;
+    draft.row_lists.push(first)?;
+    begin_lists(alloc, &mut draft.lists, list_count(settings))?;
+    Ok(())
+}
+
+/// The next row.
+fn next_row(draft: &Draft, place: Place, settings: Settings) -> DeviceRow
+    requires rows { length draft.now.rows.items ≤ 1024 }
+    requires modes { length draft.now.modes.items ≤ 64 }
+    ensures { (names : NameSetsValue) → result ≡ next_row (draft_view names draft.now).plan place settings }
+{
+    DeviceRow {
+        number: RowId(draft.rows.len() as u16),
+        owner: place.owner(last_mode(draft)),
+        settings,
+    }
+}
+
+/// How many effect lists a row has.
+fn list_count(settings: Settings) -> usize
+    ensures { result ≡ list_count settings }
+{
+    match settings {
+        Settings::Counter(_) => 3,
+        Settings::Accrual(_) => 3,
+        Settings::Sequence(_) => 3,
+        Settings::Timer(_) => 5,
+    }
+}
+
+/// So many effect lists begin.
+fn begin_lists(alloc: Global, lists: &mut Vec<Vec<Action>>, count: usize) -> Result<(), AllocError>
+    ensures { OnOk result (action_lists lists.new.items ≡ action_lists lists.old.items ++ replicate count []) }
+{
+    for _ in 0..count {
+        lists.push(Vec::new(alloc))?;
+    }
+    Ok(())
+}
+
+fn add_post_in(
+    names: &NameSets,
+    text: &mut Vec<u8>,
+    draft: &mut Draft,
+    number: u8,
+    name: Parts,
+) -> Result<(), AllocError>
+    ensures { OnOk result (draft_view names.now draft.new ≡ with_contribution (name_sets_view names.now) (draft_view names.now draft.old) (post_in number (parts_text name.entry))) }
+{
+    let event = event_of(names, text, name)?;
+    let place = first_of_last(&draft.row_lists).0 as usize + number as usize;
+    push_action_at(&mut draft.lists, place, Action::Post(event))?;
+    Ok(())
+}
+
+/// The first effect list of the row that came last.
+fn first_of_last(firsts: &[ListId]) -> ListId
+    ensures { result ≡ first_of_last firsts.now }
+{
+    match firsts.last() {
+        Some(first) => *first,
+        None => ListId(0),
+    }
+}
+
+/// The action goes to the effect list of this number.
+fn push_action_at(
+    lists: &mut Vec<Vec<Action>>,
+    place: usize,
+    action: Action,
+) -> Result<(), AllocError>
+    ensures { OnOk result (action_lists lists.new.items ≡ with_one_more place action (action_lists lists.old.items)) }
+{
+    if place < lists.len() {
+        lists[place].push(action)?;
     }
     Ok(())
 }

@@ -12,5 +12,7 @@ pub(crate) struct Found {
     pub(crate) tables: Vec<NameTable>,
     /// How many bindings they give, or more than a plan may have.
     pub(crate) bindings: usize,
+    /// How many rows of devices they give, or more than a plan may have.
+    pub(crate) rows: usize,
     ghost count: { length tables.items ≡ length tables_in_order },
 }

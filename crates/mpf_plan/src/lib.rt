@@ -3,6 +3,7 @@
 
 pub mod build;
 mod collect;
+mod collect_devices;
 mod contribution;
 mod draft;
 pub mod fault;

@@ -9,7 +9,7 @@ ghost use Rattle.mpf_plan.specs.PlanOf.{plan_from};
 ghost use Rattle.plan_tables.specs.NamesKept.{names_of};
 ghost use Rattle.plan_tables.specs.Inside.{name_sets_view};
 ghost use Rattle.mpf_plan.specs.Inside.{parts_text, contribution_view, contributions_view, row_list_view};
-ghost use Rattle.mpf_plan.specs.Numbering.{with_name, IsNameTableOf, AreNameTablesOf, bindings_given, IsCount, HoldGivenNames, HasFound, Numbered};
+ghost use Rattle.mpf_plan.specs.Numbering.{with_name, IsNameTableOf, AreNameTablesOf, bindings_given, rows_given, IsCount, HoldGivenNames, HasFound, Numbered};
 
 use crate::collect::{Row, collect_row};
 use crate::contribution::{Contribution, Parts, given, used, write_name};
@@ -98,20 +98,22 @@ fn is_above(found: &Found, table: Table) -> bool
 {
     match table {
         Table::Bindings => found.bindings > table.limit(),
-        Table::Rows => false,
+        Table::Rows => found.rows > table.limit(),
         _ => found.tables[table.index()].above,
     }
 }
 
 // ---- first uses
 
-/// The names that the rows use, each table up to its limit, and how many bindings they give.
+/// The names that the rows use, each table up to its limit, and how many bindings and rows of
+/// devices they give.
 fn find_names(alloc: Global, hashing: NameHashing, rows: &[Row]) -> Result<Found, AllocError>
     ensures { IfOk result (HasFound (given_by (row_list_view rows.now))) }
 {
     let mut found = Found {
         tables: no_names(alloc, hashing)?,
         bindings: 0,
+        rows: 0,
     };
     let mut text = Vec::new(alloc);
     let mut contributions = Vec::new(alloc);
@@ -151,7 +153,7 @@ fn note_all(
     Ok(())
 }
 
-/// The name that the contribution uses, and its binding.
+/// The name that the contribution uses, and its binding or row.
 fn note_one(
     alloc: Global,
     found: &mut Found,
@@ -161,6 +163,7 @@ fn note_one(
     ensures { OnOk result ((before : List ContributionValue) → HasFound before found.old → HasFound (before ++ contribution_view contribution.now ∷ []) found.new) }
 {
     found.bindings = count_binding(found.bindings, contribution);
+    found.rows = count_row(found.rows, contribution);
     let Some((table, name)) = used(contribution) else {
         return Ok(());
     };
@@ -194,6 +197,22 @@ fn count_binding(before: usize, contribution: &Contribution) -> usize
     match *contribution {
         Contribution::Binds(_, _, _) => {
             if before > Table::Bindings.limit() {
+                before
+            } else {
+                before + 1
+            }
+        }
+        _ => before,
+    }
+}
+
+/// So it is with rows of devices.
+fn count_row(before: usize, contribution: &Contribution) -> usize
+    ensures { (all : ℕ) → IsCount 1024 all before → IsCount 1024 (all + rows_given (contribution_view contribution.now)) result }
+{
+    match *contribution {
+        Contribution::Device(_, _) => {
+            if before > Table::Rows.limit() {
                 before
             } else {
                 before + 1

@@ -7,7 +7,7 @@ use Rattle.mpf_plan.proofs.Collected.{row_more}
 use Rattle.mpf_plan.proofs.numbering.find_names.Goals as goal
 
 pub loop-row-init : goal.loop-row-init
-loop-row-init c = record { tables = c.in_ok-no_names.ensures.names; bindings = inr (refl, omega arith) }
+loop-row-init c = record { tables = c.in_ok-no_names.ensures.names; bindings = inr (refl, omega arith); rows = inr (refl, omega arith) }
 
 pub loop-row-preserved : goal.loop-row-preserved
 loop-row-preserved c =

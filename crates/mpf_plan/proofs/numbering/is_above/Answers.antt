@@ -1,11 +1,9 @@
-use Rattle.std.proofs.Common.{◌≡◌, false, length, get_or, nat_lt, sym, ◌∙◌, ap, subst}
+use Rattle.std.proofs.Common.{◌≡◌, length, get_or, nat_lt, sym, ◌∙◌, ap, subst}
 use Rattle.std.proofs.lemmas.Option.{slice_get_read}
-use Rattle.plan_tables.specs.declared.table.Table.TheVariants.{Rows}
 use Rattle.plan_tables.specs.Limits.{entry_count, limit_of, order_of, tables_in_order}
 use Rattle.mpf_plan.specs.PlanOf.{plan_from}
 use Rattle.mpf_plan.proofs.ByTable.{place_within}
-use Rattle.mpf_plan.proofs.Drafted.{count-from}
-use Rattle.mpf_plan.proofs.Found.{bindings_above, names_above}
+use Rattle.mpf_plan.proofs.Found.{bindings_above, rows_above, names_above}
 use Rattle.mpf_plan.proofs.numbering.is_above.Goals as goal
 
 pub returns-in-Bindings : goal.returns-in-Bindings
@@ -16,7 +14,9 @@ returns-in-Bindings c cs has =
 
 pub returns-in-Rows : goal.returns-in-Rows
 returns-in-Rows c cs has =
-    subst (λ t. false ≡ nat_lt (limit_of t) (entry_count (plan_from cs) t)) (sym c.in-Rows.is) (sym (ap (nat_lt (limit_of Rows)) (count-from cs Rows)))
+    let found = c.args.found.now in
+    ap (λ n. nat_lt n found.rows) c.limit-in-Rows.ensures
+    ∙ subst (λ t. nat_lt (limit_of t) found.rows ≡ nat_lt (limit_of t) (entry_count (plan_from cs) t)) (sym c.in-Rows.is) (rows_above cs found has)
 
 pub returns-in_default : goal.returns-in_default
 returns-in_default c cs has =

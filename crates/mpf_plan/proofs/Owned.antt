@@ -1,0 +1,102 @@
+-- Bindings act on rows of devices of their own owner alone.
+use Rattle.std.proofs.Common.{◌≡◌, ℕ, ◌-◌, ◌<◌, List, [], ◌∷◌, ◌++◌, length, fold, set, get_or, slice_index_or, refl, sym, ◌∙◌, ap, subst, arith}
+use Rattle.std.specs.Prelude.{Option, None, Some}
+use Rattle.std.specs.List.{All}
+use Rattle.std.proofs.lemmas.List.{length_push, length-set, get_or_push, get_or_append_left}
+use Rattle.std.proofs.lemmas.List.Elements.{All-nil, All-push, All-weaker}
+use Rattle.std.proofs.lemmas.Option.{none-some, same_Some}
+use Rattle.mpf_plan.specs.declared.contribution.Aim.{Aim}
+use Rattle.mpf_plan.specs.declared.contribution.Aim.TheVariants as aims
+use Rattle.mpf_plan.specs.declared.contribution.Place.{Place}
+use Rattle.plan_tables.specs.declared.devices.DeviceRow.{DeviceRow}
+use Rattle.plan_tables.specs.declared.entries.Binding.{Binding}
+use Rattle.plan_tables.specs.declared.entries.Owner.{Owner}
+use Rattle.plan_tables.specs.declared.entries.Target.{Target}
+use Rattle.plan_tables.specs.declared.entries.Target.TheVariants.{Run, Start, Stop, Act}
+use Rattle.plan_tables.specs.declared.table.Table.TheVariants.{Events}
+use Rattle.plan_tables.specs.PlanView.{PlanView, no_mode, no_row}
+use Rattle.mpf_plan.specs.Contributions.{Contribution, gives, reads, active, inactive, mode, mode_event, mode_event_name, binds, post, device, post_in, mentions}
+use Rattle.mpf_plan.specs.Uses.{Names, number_among}
+use Rattle.mpf_plan.specs.PlanOf.{DraftView, event_of, with_event_in, last_mode, last_row, owner_at, target_at, next_binding, next_row, with_contribution, blank}
+use Rattle.mpf_plan.proofs.Drafted.{given_plan}
+use Rattle.mpf_plan.proofs.Placed.{row_after, IsPlacedAim, IsPlaced, ArePlaced}
+
+-- an act is on a row that is there, and of this owner
+abbrev pub IsOwnTarget : List DeviceRow → Owner → Target → Type 0
+IsOwnTarget rows owner (Act r act) = (r.0 < length rows) × ((slice_index_or rows r.0 no_row).owner ≡ owner)
+IsOwnTarget rows owner _ = Unit {0}
+
+abbrev pub IsOwnBinding : List DeviceRow → Binding → Type 0
+IsOwnBinding rows b = IsOwnTarget rows b.owner b.target
+
+-- so it is with all bindings; and the row that came last, if its mode did too, has the owner of its place
+pub record IsOwn (o : Option Place) (plan : PlanView) : Type 0 where
+  pub bindings : All (IsOwnBinding plan.rows) plan.bindings
+  pub last : (place : Place) → o ≡ Some place → (0 < length plan.rows) × ((slice_index_or plan.rows (last_row plan).0 no_row).owner ≡ owner_at (last_mode plan) place)
+
+-- a row more
+own_target : (rows : List DeviceRow) (row : DeviceRow) (owner : Owner) (t : Target) → IsOwnTarget rows owner t → IsOwnTarget (rows ++ row ∷ []) owner t
+own_target rows row owner (Run l) own = tt
+own_target rows row owner (Start m) own = tt
+own_target rows row owner (Stop m) own = tt
+own_target rows row owner (Act r act) own =
+    let there = own.0 in
+    (omega (arith, there, length_push rows row), ap (λ (x : DeviceRow). x.owner) (get_or_append_left rows (row ∷ []) no_row r.0 there) ∙ own.1)
+
+module _ (names : Names) (d : DraftView) (o : Option Place) (own : IsOwn o d.plan) where
+  own_aim : (place : Place) (aim : Aim) → IsPlacedAim o place aim → IsOwnTarget d.plan.rows (owner_at (last_mode d.plan) place) (target_at d.plan aim)
+  own_aim place aims.Run is = tt
+  own_aim place aims.Start is = tt
+  own_aim place aims.Stop is = tt
+  own_aim place (aims.Do act) is =
+      let last = own.last place is in
+      let some = last.0 in
+      (omega (arith, some), last.1)
+
+  own_device : (place : Place) (row : DeviceRow) → row.owner ≡ owner_at (last_mode d.plan) place → (p : Place) → Some place ≡ Some p
+      → (0 < length (d.plan.rows ++ row ∷ [])) × ((slice_index_or (d.plan.rows ++ row ∷ []) (length (d.plan.rows ++ row ∷ []) - 1) no_row).owner ≡ owner_at (last_mode d.plan) p)
+  own_device place row owner p is =
+      let longer = length_push d.plan.rows row in (
+        omega (arith, longer),
+        ap (λ (x : DeviceRow). x.owner) (get_or_push d.plan.rows row no_row (length (d.plan.rows ++ row ∷ []) - 1) (omega (arith, longer)))
+            ∙ owner ∙ ap (owner_at (last_mode d.plan)) (same_Some place p is),
+      )
+
+  own_mode_event : (modes : ℕ) → modes ≡ length d.plan.modes → (place : Place) → o ≡ Some place
+      → (0 < length d.plan.rows) × ((slice_index_or d.plan.rows (last_row d.plan).0 no_row).owner ≡ owner_at (record { 0 = modes - 1 }) place)
+  own_mode_event modes same place is =
+      let last = own.last place is in
+      (last.0, last.1 ∙ ap (λ n. owner_at (record { 0 = n - 1 }) place) (sym same))
+
+  pub own_one : (c : Contribution) → IsPlaced o c → IsOwn (row_after o c) (with_contribution names d c).plan
+  own_one (gives t n) is = subst (IsOwn o) (sym (given_plan t (number_among (names t) n) d)) own
+  own_one (reads kind) is = record { bindings = own.bindings; last = own.last }
+  own_one (active n) is = record { bindings = own.bindings; last = own.last }
+  own_one (inactive n) is = record { bindings = own.bindings; last = own.last }
+  own_one (mode n priority game) is = record { bindings = own.bindings; last = λ place none. absurd (none-some place none) }
+  own_one (mode_event which n) is =
+      let at = length d.plan.modes - 1 in
+      let changed = with_event_in which (event_of (names Events) (mode_event_name which n)) (get_or d.plan.modes at no_mode) in
+      record { bindings = own.bindings; last = own_mode_event (length (set d.plan.modes at changed)) (length-set d.plan.modes at changed) }
+  own_one (binds n place aim) is = record {
+    bindings = All-push (IsOwnBinding d.plan.rows) d.plan.bindings (next_binding d.plan (event_of (names Events) n) place aim) own.bindings (own_aim place aim is);
+    last = own.last;
+  }
+  own_one (post n) is = record { bindings = own.bindings; last = own.last }
+  own_one (device place settings) is =
+      let row = next_row d.plan place settings in
+      record {
+        bindings = All-weaker (IsOwnBinding d.plan.rows) (IsOwnBinding (d.plan.rows ++ row ∷ [])) (λ b h. own_target d.plan.rows row b.owner b.target h) d.plan.bindings own.bindings;
+        last = own_device place row refl;
+      }
+  own_one (post_in k n) is = record { bindings = own.bindings; last = own.last }
+  own_one (mentions n) is = own
+
+module _ (names : Names) where
+  pub own_blank : IsOwn None (blank names).plan
+  own_blank = record { bindings = All-nil (IsOwnBinding []); last = λ place none. absurd (none-some place none) }
+
+  -- all contributions, in turn
+  pub own_fold : (cs : List Contribution) (o : Option Place) (d : DraftView) → ArePlaced o cs → IsOwn o d.plan → All (IsOwnBinding (fold (with_contribution names) d cs).plan.rows) (fold (with_contribution names) d cs).plan.bindings
+  own_fold [] o d placed own = own.bindings
+  own_fold (c ∷ cs) o d placed own = own_fold cs (row_after o c) (with_contribution names d c) placed.1 (own_one names d o own c placed.0)
