@@ -8,6 +8,7 @@ use Rattle.std.proofs.lemmas.Slice.Eq.{bytes_eq-Decides}
 use Rattle.yaml_subset.specs.Keys.{is_among}
 use Rattle.mpf_config.specs.Rows.{Written, SectionRows, ModeRows, Rows}
 use Rattle.mpf_config.specs.BundleText.{machine_name, mode_text_name}
+use Rattle.mpf_plan.specs.DeviceEntries.{block_event, timer_event}
 use Rattle.config_checker.specs.FaultView.{FaultView}
 use Rattle.config_checker.specs.Reserved.{game_events, mode_events, events_of_modes, mode_names, is_reserved_by, is_reserved, posts_in, posts_of, reserved_among}
 use Rattle.config_checker.specs.RowFaults.{put_by, ordered_by, reserved_fault, text_faults, mode_faults, faults_by, listed_once, row_faults, section_faults, fault_order}
@@ -121,15 +122,29 @@ not_among byte_of name (e ∷ es) h = by (byte_of e == byte_of name) (bytes_eq e
     by false true p q rest r = absurd (true≢false (sym (eq-eqb (byte_of e) (byte_of name) (ap byte_of ((bytes_eq-Decides e name).0 q))) ∙ p))
     by false false p q rest r = rest r
 
+-- a name that begins with a byte with which no event of a game begins, nor one of a mode
+first-other : (byte : ℕ) → (109 == byte) ≡ false → (ws : List (List ℕ)) → list_any (λ e. first_of e == byte) (events_of_modes ws) ≡ false
+first-other byte other [] = refl
+first-other byte other (w ∷ ws) = rw other (first-other byte other ws)
+
+begins-free : (rows : Rows) (byte : ℕ) (rest : List ℕ) → list_any (λ e. first_of e == byte) game_events ≡ false → (109 == byte) ≡ false → is_reserved rows (byte ∷ rest) ≡ false
+begins-free rows byte rest no_game no_mode =
+    let game : is_among game_events (byte ∷ rest) ≡ false = not_among first_of (byte ∷ rest) game_events no_game in
+    let mode : is_among (events_of_modes (mode_names rows)) (byte ∷ rest) ≡ false = not_among first_of (byte ∷ rest) (events_of_modes (mode_names rows)) (first-other byte no_mode (mode_names rows)) in
+    λ i. game i || mode i
+
+-- the events of blocks, and of timers
+pub block-free : (name ending : List ℕ) (rows : Rows) → is_reserved rows (block_event name ending) ≡ false
+block-free name ending rows = begins-free rows 108 _ refl refl
+
+pub timer-free : (name ending : List ℕ) (rows : Rows) → is_reserved rows (timer_event name ending) ≡ false
+timer-free name ending rows = begins-free rows 116 _ refl refl
+
 module _ (front : List ℕ) where
   last-other : (ws : List (List ℕ)) → list_any (λ e. last_from 0 e == 101) (events_of_modes ws) ≡ false
   last-other [] = refl
   last-other (w ∷ ws) =
       rw (last-is w 95 95 (codes "will_start"), last-is w 95 95 (codes "starting"), last-is w 95 95 (codes "started"), last-is w 95 95 (codes "stopping"), last-is w 95 95 (codes "stopped")) (last-other ws)
-
-  first-other : (ws : List (List ℕ)) → list_any (λ e. first_of e == 115) (events_of_modes ws) ≡ false
-  first-other [] = refl
-  first-other (w ∷ ws) = first-other ws
 
   ends-free : (rows : Rows) (name : List ℕ) → last_from 0 name ≡ 101 → is_reserved rows name ≡ false
   ends-free rows name is =
@@ -146,8 +161,4 @@ module _ (front : List ℕ) where
   inactive-free rows = ends-free rows (front ++ codes "_inactive") (last-is front 0 95 (codes "inactive"))
 
   pub tag-free : (rows : Rows) → is_reserved rows (codes "sw_" ++ front) ≡ false
-  tag-free rows =
-      let game : is_among game_events (codes "sw_" ++ front) ≡ false = not_among first_of (codes "sw_" ++ front) game_events refl in
-      let mode : is_among (events_of_modes (mode_names rows)) (codes "sw_" ++ front) ≡ false =
-      not_among first_of (codes "sw_" ++ front) (events_of_modes (mode_names rows)) (first-other (mode_names rows)) in
-      λ i. game i || mode i
+  tag-free rows = begins-free rows 115 _ refl refl

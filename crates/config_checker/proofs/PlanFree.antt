@@ -1,14 +1,14 @@
 -- A plan of rows without faults of their own posts no event at which the machine itself does something.
 use Rattle.std.proofs.Common.{◌≡◌, ℕ, zero, suc, Bool, true, false, ◌||◌, List, [], ◌∷◌, ◌++◌, length, map, get_or, Contains, codes, ◌⊎◌, inl, inr, refl, sym, ap, ◌∙◌, subst, true≢false, arith}
-use Rattle.std.specs.Prelude.{Ok}
+use Rattle.std.specs.Prelude.{if◌then◌else◌, Ok, Some, None}
 use Rattle.std.specs.Str.{bytes_eq}
 use Rattle.std.specs.List.{All, flat_map}
 use Rattle.std.proofs.lemmas.List.Elements.{All-nil, All-cons, All-head, All-tail, All-append, All-map, All-weaker, All-from_get_or, Contains-append_right}
 use Rattle.std.proofs.lemmas.List.Folds.{list_any-append}
 use Rattle.std.proofs.lemmas.Slice.Eq.{bytes_eq-Decides}
 use Rattle.yaml_subset.specs.Keys.{is_among}
-use Rattle.mpf_config.specs.Rows.{Written, Switch, EventPlayer, SectionRows, ModeRows, Rows}
-use Rattle.mpf_config.specs.Typed.{switches_in, event_players_in, counters_in, accruals_in, sequences_in, listed_modes}
+use Rattle.mpf_config.specs.Rows.{Written, Entry, Switch, Block, SectionRows, ModeRows, Rows}
+use Rattle.mpf_config.specs.Typed.{counters_name, accruals_name, sequences_name, timers_name, counter_of, step_block_of, timer_of, entries_in, switches_in, event_players_in, counters_in, accruals_in, sequences_in, listed_modes}
 use Rattle.plan_tables.specs.declared.entries.EventId.{EventId}
 use Rattle.plan_tables.specs.declared.entries.ModeEvent.{ModeEvent}
 use Rattle.plan_tables.specs.declared.entries.ModeEvent.TheVariants.{WillStart, Starting, Started, Stopping, Stopped}
@@ -17,20 +17,22 @@ use Rattle.plan_tables.specs.declared.entries.Action.TheVariants.{Post}
 use Rattle.plan_tables.specs.declared.entries.Owner.{Owner}
 use Rattle.plan_tables.specs.declared.entries.Target.{Target}
 use Rattle.plan_tables.specs.declared.entries.Target.TheVariants.{Run, Start, Stop, Act}
-use Rattle.plan_tables.specs.declared.devices.DeviceRow.{DeviceRow}
-use Rattle.plan_tables.specs.Valid.{IsBindingWithin, IsTargetWithin}
-use Rattle.plan_tables.specs.PlanView.{PlanSwitch, PlanView, name_of_event}
+use Rattle.plan_tables.specs.declared.devices.RowId.{RowId}
+use Rattle.plan_tables.specs.declared.devices.Act.{Act as ActOfDevice}
+use Rattle.plan_tables.specs.declared.devices.Settings.TheVariants as kinds
+use Rattle.plan_tables.specs.PlanView.{PlanSwitch, PlanView, name_of_event, row_at}
+use Rattle.mpf_plan.specs.DeviceEntries.{counter_device, step_device, step_settings, timer_device, device_of, block_event, or_own, block_lists, timer_event, timer_endings, timer_lists}
 use Rattle.mpf_plan.specs.Contributions.{texts, tag_event, mode_event_name}
 use Rattle.mpf_plan.specs.PlanOf.{plan_at}
 use Rattle.mpf_plan.proofs.Posted.{IsPost, ArePosts}
-use Rattle.mpf_plan.proofs.PostNames.{IsSwitchPosting, IsPlayerPosting, IsPosting, ArePosting, IsNameOf, posts-named}
+use Rattle.mpf_plan.proofs.PostNames.{IsSwitchPosting, IsPlayerPosting, IsDevicePosting, IsPosting, ArePosting, IsNameOf, posts-named}
 use Rattle.mpf_plan.proofs.ModeEventNames.{free-by_name}
-use Rattle.mpf_plan.proofs.ValidPlan.{HasEntries-plan_at, no_devices-plan_at}
+use Rattle.mpf_plan.proofs.ValidPlan.{own-plan_at}
 use Rattle.config_checker.specs.Devices.{ActsAreOwn, IsOwnAct}
 use Rattle.config_checker.specs.FreePosts.{IsFree, IsFreeAction, IsFreeSwitch, PostsAreFree}
-use Rattle.config_checker.specs.Reserved.{mode_events, events_of_modes, mode_names, is_reserved, game_events, switch_posts, player_posts, counter_posts, step_posts, posts_in, posts_of}
+use Rattle.config_checker.specs.Reserved.{mode_events, events_of_modes, mode_names, is_reserved, game_events, switch_posts, player_posts, block_posts, counter_posts, step_posts, posts_in, posts_of}
 use Rattle.config_checker.specs.Checking.{faults_of_rows}
-use Rattle.config_checker.proofs.FreeNames.{posts-free, active-free, inactive-free, tag-free}
+use Rattle.config_checker.proofs.FreeNames.{posts-free, active-free, inactive-free, tag-free, block-free, timer-free}
 
 -- ---- parts of lists
 
@@ -119,15 +121,73 @@ module _ (rows : Rows) where
         All-cons IsUnreserved (s.name.text ++ codes "_inactive") (texts s.deactivated) (inactive-free s.name.text rows) (written-free s.deactivated parts.1),
       )
 
+  -- what the effect lists of a block post
+  block-lists_free : (name : List ℕ) (b : Block) → All IsFreePost (block_posts b) → All (All IsUnreserved) (block_lists name b)
+  block-lists_free name b h =
+      let parts = all-parts IsFreePost b.hit b.complete h in
+      All-cons (All IsUnreserved) (block_event name (codes "_updated") ∷ []) _ (one (block-free name (codes "_updated") rows))
+      (All-cons (All IsUnreserved) (or_own b.hit (block_event name (codes "_hit"))) _ (own_or b.hit (block_event name (codes "_hit")) (block-free name (codes "_hit") rows) parts.0)
+      (All-cons (All IsUnreserved) (or_own b.complete (block_event name (codes "_complete"))) [] (own_or b.complete (block_event name (codes "_complete")) (block-free name (codes "_complete") rows) parts.1) (All-nil (All IsUnreserved))))
+    where
+      one : {n : List ℕ} → IsUnreserved n → All IsUnreserved (n ∷ [])
+      one {n} h = All-cons IsUnreserved n [] h (All-nil IsUnreserved)
+
+      own_or : (ws : List Written) (own : List ℕ) → IsUnreserved own → All IsFreePost ws → All IsUnreserved (or_own ws own)
+      own_or [] own free h = one free
+      own_or (w ∷ ws) own free h = written-free (w ∷ ws) h
+
+  timer-lists_free : (name : List ℕ) → All (All IsUnreserved) (timer_lists name)
+  timer-lists_free name =
+      All-map (All IsUnreserved) (λ ending. timer_event name ending ∷ []) timer_endings
+      (λ i d within. All-cons IsUnreserved (timer_event name (get_or timer_endings i d)) [] (timer-free name (get_or timer_endings i d) rows) (All-nil IsUnreserved))
+
+  -- of what an item of a list is made, where it is in the list
+  from_map : {X Y : Type 0} (P : Y → Type 0) (f : X → Y) (xs : List X) → All P (map f xs) → All (λ x. P (f x)) xs
+  from_map P f [] h = All-nil (λ x. P (f x))
+  from_map P f (x ∷ xs) h = All-cons (λ y. P (f y)) x xs (All-head P (f x) (map f xs) h) (from_map P f xs (All-tail P (f x) (map f xs) h))
+
+  where_free : {X : Type 0} (posts_by : X → List Written) (f : Entry → X) (b : Bool) (es : List Entry) → All IsFreePost (flat_map posts_by (map f (if b then es else []))) → b ≡ true → All (λ e. All IsFreePost (posts_by (f e))) es
+  where_free posts_by f true es h is = from_map (λ x. All IsFreePost (posts_by x)) f es (all-each IsFreePost posts_by (map f es) h)
+  where_free posts_by f false es h is = absurd (true≢false (sym is))
+
+  -- what the effect lists of the devices of a section post
+  entries-posting : (s : SectionRows) → All IsFreePost (flat_map counter_posts (counters_in s)) → All IsFreePost (flat_map step_posts (accruals_in s)) → All IsFreePost (flat_map step_posts (sequences_in s))
+      → All (λ e. IsDevicePosting IsUnreserved (device_of s.name e)) (entries_in s.content)
+  unfolding counters_in accruals_in sequences_in device_of
+  entries-posting s counters accruals sequences =
+      by (bytes_eq s.name counters_name) (bytes_eq s.name accruals_name) (bytes_eq s.name sequences_name) (bytes_eq s.name timers_name)
+      (where_free counter_posts counter_of (bytes_eq s.name counters_name) es counters) (where_free step_posts step_block_of (bytes_eq s.name accruals_name) es accruals)
+      (where_free step_posts step_block_of (bytes_eq s.name sequences_name) es sequences)
+    where
+      es : List Entry
+      es = entries_in s.content
+
+      by : (c a q t : Bool) → (c ≡ true → All (λ e. All IsFreePost (counter_posts (counter_of e))) es) → (a ≡ true → All (λ e. All IsFreePost (step_posts (step_block_of e))) es) → (q ≡ true → All (λ e. All IsFreePost (step_posts (step_block_of e))) es)
+          → All (λ e. IsDevicePosting IsUnreserved (if c then Some (counter_device (counter_of e))
+          else (if a then Some (step_device (kinds.Accrual (step_settings (step_block_of e))) (step_block_of e))
+          else (if q then Some (step_device (kinds.Sequence (step_settings (step_block_of e))) (step_block_of e))
+          else (if t then Some (timer_device (timer_of e)) else None))))) es
+      by true a q t hc ha hq = All-weaker (λ e. All IsFreePost (counter_posts (counter_of e))) _ (λ e h. block-lists_free (counter_of e).name.text (counter_of e).block h) es (hc refl)
+      by false true q t hc ha hq = All-weaker (λ e. All IsFreePost (step_posts (step_block_of e))) _ (λ e h. block-lists_free (step_block_of e).name.text (step_block_of e).block h) es (ha refl)
+      by false false true t hc ha hq = All-weaker (λ e. All IsFreePost (step_posts (step_block_of e))) _ (λ e h. block-lists_free (step_block_of e).name.text (step_block_of e).block h) es (hq refl)
+      by false false false true hc ha hq i d within = timer-lists_free (timer_of (get_or es i d)).name.text
+      by false false false false hc ha hq i d within = tt
+
   section-posting : (s : SectionRows) → All IsFreePost (posts_in s) → IsPosting IsUnreserved s
   section-posting s h =
-      let blocks = flat_map counter_posts (counters_in s) ++ flat_map step_posts (accruals_in s) ++ flat_map step_posts (sequences_in s) in
-      let parts = all-parts IsFreePost (flat_map switch_posts (switches_in s)) (flat_map player_posts (event_players_in s) ++ blocks) h in
-      let players = (all-parts IsFreePost (flat_map player_posts (event_players_in s)) blocks parts.1).0 in
+      let switches = flat_map switch_posts (switches_in s) in
+      let players = flat_map player_posts (event_players_in s) in
+      let counters = flat_map counter_posts (counters_in s) in
+      let accruals = flat_map step_posts (accruals_in s) in
+      let last = all-parts IsFreePost (((switches ++ players) ++ counters) ++ accruals) (flat_map step_posts (sequences_in s)) h in
+      let more = all-parts IsFreePost ((switches ++ players) ++ counters) accruals last.0 in
+      let rest = all-parts IsFreePost (switches ++ players) counters more.0 in
+      let parts = all-parts IsFreePost switches players rest.0 in
       record {
         switches = All-weaker (λ x. All IsFreePost (switch_posts x)) (IsSwitchPosting IsUnreserved) switch-posting (switches_in s) (all-each IsFreePost switch_posts (switches_in s) parts.0);
         players = All-weaker (λ x. All IsFreePost (player_posts x)) (IsPlayerPosting IsUnreserved) (λ p k. written-free p.posts k) (event_players_in s)
-            (all-each IsFreePost player_posts (event_players_in s) players);
+            (all-each IsFreePost player_posts (event_players_in s) parts.1);
+        devices = entries-posting s rest.1 more.1 last.1;
       }
 
   sections-posting : (sections : List SectionRows) → All IsFreePost (posts_of sections) → All (IsPosting IsUnreserved) sections
@@ -167,12 +227,14 @@ module _ (rows : Rows) where
           switches = All-weaker (ArePosts (IsNameOf IsUnreserved plan)) (IsFreeSwitch plan) switch-free plan.switches meet.switches;
         }
 
--- a plan without devices has no binding that acts on one
+-- a binding acts on a device of its own owner
 pub plan_own : (rows : Rows) (plan : PlanView) → plan_at rows ≡ Ok plan → ActsAreOwn plan
-plan_own rows plan is = All-weaker (IsBindingWithin plan) (λ b. IsOwnAct plan b.owner b.target) (λ b within. own b.owner b.target within.2) plan.bindings (HasEntries-plan_at rows plan is).bindings
+plan_own rows plan is =
+    All-weaker (λ b. (r : RowId) (act : ActOfDevice) → b.target ≡ Act r act → (row_at plan r).owner ≡ b.owner) (λ b. IsOwnAct plan b.owner b.target) (λ b h. own b.owner b.target h) plan.bindings
+    (own-plan_at rows plan is)
   where
-    own : (owner : Owner) (t : Target) → IsTargetWithin plan t → IsOwnAct plan owner t
-    own owner (Run l) within = tt
-    own owner (Start m) within = tt
-    own owner (Stop m) within = tt
-    own owner (Act r act) within = absurd (omega (arith, within, ap (λ (rs : List DeviceRow). length rs) (no_devices-plan_at rows plan is)))
+    own : (owner : Owner) (t : Target) → ((r : RowId) (act : ActOfDevice) → t ≡ Act r act → (row_at plan r).owner ≡ owner) → IsOwnAct plan owner t
+    own owner (Run l) h = tt
+    own owner (Start m) h = tt
+    own owner (Stop m) h = tt
+    own owner (Act r act) h = h r act refl

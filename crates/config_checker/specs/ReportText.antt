@@ -25,11 +25,17 @@ abbrev pub row_fault_name : RowFaultKind → List ℕ
 row_fault_name Name = codes "Name"
 row_fault_name TimerAtEnd = codes "TimerAtEnd"
 
--- `fault NUMBER NAME TEXT LINE THING` of a row, `fault 7 Limit TABLE`, `fault 8 Cycle E1 E2 ..`, `fault 9 Bound` or
--- `fault 10 Certificate ..`, and LF
+-- `fault NUMBER NAME`
+abbrev pub row_title : RowFaultKind → List ℕ
+row_title kind = codes "fault " ++ decimal (row_fault_number kind) ++ spaced (row_fault_name kind)
+
+-- ` TEXT LINE NAME`, and LF
+abbrev pub row_place : List ℕ → ℕ → List ℕ → List ℕ
+row_place text line name = spaced (escaped text) ++ spaced (decimal line) ++ spaced name ++ 10 ∷ []
+
+-- the line of a fault of a row, `fault 7 Limit TABLE`, `fault 8 Cycle E1 E2 ..`, `fault 9 Bound` or `fault 10 Certificate ..`, and LF
 abbrev pub report_line : FaultView → List ℕ
-report_line (row kind text line name) =
-    codes "fault" ++ spaced (decimal (row_fault_number kind)) ++ spaced (row_fault_name kind) ++ spaced (escaped text) ++ spaced (decimal line) ++ spaced name ++ 10 ∷ []
+report_line (row kind text line name) = row_title kind ++ row_place text line name
 report_line (limit t) = codes "fault 7 Limit " ++ table_name t ++ 10 ∷ []
 report_line (cycle names) = codes "fault 8 Cycle" ++ flat_map spaced names ++ 10 ∷ []
 report_line bound = codes "fault 9 Bound" ++ 10 ∷ []

@@ -114,12 +114,23 @@ pub(crate) fn reserved_posts<'a>(
     ensures { IfOk result (λ found. written_view found.items ≡ reserved_among (keys_view modes.now) (posts_in (section_view section.now))) }
 {
     let mut found = Vec::new(alloc);
-    add_switches(&mut found, modes, section.switches())?;
-    add_players(&mut found, modes, section.event_players())?;
-    add_counters(&mut found, modes, section.counters())?;
-    add_step_blocks(&mut found, modes, section.accruals())?;
-    add_step_blocks(&mut found, modes, section.sequences())?;
+    add_section(&mut found, modes, section)?;
     Ok(found)
+}
+
+/// Adds the reserved events that a section posts, entry by entry as written.
+fn add_section<'a>(
+    found: &mut Vec<&'a Name>,
+    modes: &ModeEvents,
+    section: &'a Section,
+) -> Result<(), AllocError>
+    ensures { OnOk result (written_view found.new.items ≡ written_view found.old.items ++ reserved_among (keys_view modes.now) (posts_in (section_view section.now))) }
+{
+    add_switches(found, modes, section.switches())?;
+    add_players(found, modes, section.event_players())?;
+    add_counters(found, modes, section.counters())?;
+    add_step_blocks(found, modes, section.accruals())?;
+    add_step_blocks(found, modes, section.sequences())
 }
 
 /// Adds those that switches post.
