@@ -1,8 +1,8 @@
 -- The names of a plan's events are words of few bytes, where its rows are those of a bundle.
-use Rattle.std.proofs.Common.{◌≡◌, ◌≢◌, ℕ, ◌+◌, ◌<◌, ◌≤◌, true, ◌||◌, eqb, List, ◌++◌, length, Ok, refl, ap, arith, length-append, codes}
+use Rattle.std.proofs.Common.{◌≡◌, ◌≢◌, ℕ, ◌+◌, ◌<◌, ◌≤◌, true, ◌||◌, eqb, List, [], ◌∷◌, ◌++◌, length, Ok, refl, ap, arith, length-append, codes}
 use Rattle.std.specs.List.{All}
 use Rattle.std.proofs.lemmas.Bool.{ne_eqb, or_from, not_from_false}
-use Rattle.std.proofs.lemmas.List.Elements.{All-append, All-weaker}
+use Rattle.std.proofs.lemmas.List.Elements.{All-nil, All-cons, All-append, All-weaker}
 use Rattle.std.proofs.lemmas.List.Sums.{AllPass-from_list_all}
 use Rattle.yaml_bytes.specs.Bytes.{is_blank}
 use Rattle.mpf_config.specs.Rows.{Rows}
@@ -12,6 +12,7 @@ use Rattle.mpf_config.proofs.RowNames.{rows_are_named, name_bytes, modes_are_nam
 use Rattle.plan_tables.specs.declared.entries.ModeEvent.{ModeEvent}
 use Rattle.plan_tables.specs.declared.entries.ModeEvent.TheVariants.{WillStart, Starting, Started, Stopping, Stopped}
 use Rattle.mpf_plan.specs.Contributions.{event_ending, mode_event_name}
+use Rattle.mpf_plan.specs.DeviceEntries.{block_event, block_endings, timer_event, timer_endings}
 use Rattle.mpf_plan.specs.PlanOf.{plan_of}
 use Rattle.mpf_plan.proofs.EventNames.{event_names}
 use Rattle.config_checker.specs.CertificateOf.{is_in_word, IsWord}
@@ -29,15 +30,15 @@ AllInWord text = All (λ b. is_in_word b ≡ true) text
 name-in_word : (name : List ℕ) → IsName name → AllInWord name
 name-in_word name h = All-weaker (λ b. (b ≢ 32) × (b ≢ 9) × (b ≢ 10)) (λ b. is_in_word b ≡ true) byte-in_word name (name_bytes name h)
 
--- what the name of an event is: a word of at most 80 bytes, as many as `mode_`, a name's 64 and `_will_start` are
+-- what the name of an event is: a word of at most 84 bytes, as many as `logicblock_`, a name's 64 and `_complete` are
 record IsEventWord (text : List ℕ) : Type 0 where
   word : IsWord text
-  few : length text ≤ 80
+  few : length text ≤ 84
 
-some-word : (text : List ℕ) → 0 < length text → length text ≤ 80 → AllInWord text → IsEventWord text
+some-word : (text : List ℕ) → 0 < length text → length text ≤ 84 → AllInWord text → IsEventWord text
 some-word text some few letters = record { word = record { some = λ none. omega (arith, some, ap length none); letters = letters }; few = few }
 
-joined-word : (front behind : List ℕ) → 0 < length front → length front + length behind ≤ 80 → AllInWord front → AllInWord behind → IsEventWord (front ++ behind)
+joined-word : (front behind : List ℕ) → 0 < length front → length front + length behind ≤ 84 → AllInWord front → AllInWord behind → IsEventWord (front ++ behind)
 joined-word front behind some few first last =
     let both = length-append front behind in
     some-word (front ++ behind) (omega (arith, some, both)) (omega (arith, few, both)) (All-append (λ b. is_in_word b ≡ true) front behind first last)
@@ -78,6 +79,33 @@ mode-word which name h =
     joined-word (codes "mode_") (name ++ event_ending which) (omega arith) (omega (arith, few, short, both)) (AllPass-from_list_all is_in_word (codes "mode_") refl)
     (All-append (λ b. is_in_word b ≡ true) name (event_ending which) (name-in_word name h) ending.1)
 
+-- a name between what its kind of device begins with and an ending
+own-word : (front ending name : List ℕ) → 0 < length front → length front + length ending ≤ 20 → AllInWord front → AllInWord ending → IsName name → IsEventWord (front ++ name ++ ending)
+own-word front ending name some small first last h =
+    let few = h.few in
+    let both = length-append front name in
+    joined-word (front ++ name) ending (omega (arith, some, both)) (omega (arith, few, small, both)) (All-append (λ b. is_in_word b ≡ true) front name first (name-in_word name h)) last
+
+block-words : (name : List ℕ) → IsName name → All (λ ending. IsEventWord (block_event name ending)) block_endings
+block-words name h =
+    (All-cons (λ ending. IsEventWord (block_event name ending)) (codes "_updated") (codes "_hit" ∷ codes "_complete" ∷ []) (of_block (codes "_updated") (omega arith) (AllPass-from_list_all is_in_word (codes "_updated") refl))
+    (All-cons (λ ending. IsEventWord (block_event name ending)) (codes "_hit") (codes "_complete" ∷ []) (of_block (codes "_hit") (omega arith) (AllPass-from_list_all is_in_word (codes "_hit") refl))
+    (All-cons (λ ending. IsEventWord (block_event name ending)) (codes "_complete") [] (of_block (codes "_complete") (omega arith) (AllPass-from_list_all is_in_word (codes "_complete") refl)) (All-nil (λ ending. IsEventWord (block_event name ending))))))
+  where
+    of_block : (ending : List ℕ) → length ending ≤ 9 → AllInWord ending → (IsEventWord (block_event name ending))
+    of_block ending few letters = own-word (codes "logicblock_") ending name (omega arith) (omega (arith, few)) (AllPass-from_list_all is_in_word (codes "logicblock_") refl) letters h
+
+timer-words : (name : List ℕ) → IsName name → All (λ ending. IsEventWord (timer_event name ending)) timer_endings
+timer-words name h =
+    (All-cons (λ ending. IsEventWord (timer_event name ending)) (codes "_started") (codes "_stopped" ∷ codes "_paused" ∷ codes "_tick" ∷ codes "_complete" ∷ []) (of_timer (codes "_started") (omega arith) (AllPass-from_list_all is_in_word (codes "_started") refl))
+    (All-cons (λ ending. IsEventWord (timer_event name ending)) (codes "_stopped") (codes "_paused" ∷ codes "_tick" ∷ codes "_complete" ∷ []) (of_timer (codes "_stopped") (omega arith) (AllPass-from_list_all is_in_word (codes "_stopped") refl))
+    (All-cons (λ ending. IsEventWord (timer_event name ending)) (codes "_paused") (codes "_tick" ∷ codes "_complete" ∷ []) (of_timer (codes "_paused") (omega arith) (AllPass-from_list_all is_in_word (codes "_paused") refl))
+    (All-cons (λ ending. IsEventWord (timer_event name ending)) (codes "_tick") (codes "_complete" ∷ []) (of_timer (codes "_tick") (omega arith) (AllPass-from_list_all is_in_word (codes "_tick") refl))
+    (All-cons (λ ending. IsEventWord (timer_event name ending)) (codes "_complete") [] (of_timer (codes "_complete") (omega arith) (AllPass-from_list_all is_in_word (codes "_complete") refl)) (All-nil (λ ending. IsEventWord (timer_event name ending))))))))
+  where
+    of_timer : (ending : List ℕ) → length ending ≤ 9 → AllInWord ending → (IsEventWord (timer_event name ending))
+    of_timer ending few letters = own-word (codes "timer_") ending name (omega arith) (omega (arith, few)) (AllPass-from_list_all is_in_word (codes "timer_") refl) letters h
+
 -- ---- the events of the plan
 
 module _ (bundle : List ℕ) (rows : Rows) (read : rows_at bundle ≡ Ok rows) where
@@ -90,10 +118,12 @@ module _ (bundle : List ℕ) (rows : Rows) (read : rows_at bundle ≡ Ok rows) w
     mode = mode-word;
     ball = some-word (codes "ball_ending") (omega arith) (omega arith) (AllPass-from_list_all is_in_word (codes "ball_ending") refl);
     game = some-word (codes "game_ending") (omega arith) (omega arith) (AllPass-from_list_all is_in_word (codes "game_ending") refl);
+    block = block-words;
+    timer = timer-words;
   }) rows (rows_are_named bundle rows read) (modes_are_named bundle rows read)
 
   pub events_are_words : All IsWord (plan_of rows).events
   events_are_words = All-weaker IsEventWord IsWord (λ name h. h.word) (plan_of rows).events events_are_named
 
-  pub events_are_few : All (λ name. length name ≤ 80) (plan_of rows).events
-  events_are_few = All-weaker IsEventWord (λ name. length name ≤ 80) (λ name h. h.few) (plan_of rows).events events_are_named
+  pub events_are_few : All (λ name. length name ≤ 84) (plan_of rows).events
+  events_are_few = All-weaker IsEventWord (λ name. length name ≤ 84) (λ name h. h.few) (plan_of rows).events events_are_named

@@ -1,5 +1,5 @@
 -- A plan of rows without faults of their own posts no event at which the machine itself does something.
-use Rattle.std.proofs.Common.{◌≡◌, ℕ, zero, suc, Bool, true, false, ◌||◌, List, [], ◌∷◌, ◌++◌, length, map, get_or, Contains, codes, ◌⊎◌, inl, inr, refl, sym, ap, ◌∙◌, subst, true≢false, arith}
+use Rattle.std.proofs.Common.{◌≡◌, ℕ, zero, suc, Bool, true, false, ◌||◌, List, [], ◌∷◌, ◌++◌, map, get_or, Contains, codes, ◌⊎◌, inl, inr, refl, sym, ap, ◌∙◌, subst, true≢false, arith}
 use Rattle.std.specs.Prelude.{if◌then◌else◌, Ok, Some, None}
 use Rattle.std.specs.Str.{bytes_eq}
 use Rattle.std.specs.List.{All, flat_map}
@@ -125,15 +125,18 @@ module _ (rows : Rows) where
   block-lists_free : (name : List ℕ) (b : Block) → All IsFreePost (block_posts b) → All (All IsUnreserved) (block_lists name b)
   block-lists_free name b h =
       let parts = all-parts IsFreePost b.hit b.complete h in
-      All-cons (All IsUnreserved) (block_event name (codes "_updated") ∷ []) _ (one (block-free name (codes "_updated") rows))
-      (All-cons (All IsUnreserved) (or_own b.hit (block_event name (codes "_hit"))) _ (own_or b.hit (block_event name (codes "_hit")) (block-free name (codes "_hit") rows) parts.0)
-      (All-cons (All IsUnreserved) (or_own b.complete (block_event name (codes "_complete"))) [] (own_or b.complete (block_event name (codes "_complete")) (block-free name (codes "_complete") rows) parts.1) (All-nil (All IsUnreserved))))
+      let updated = block_event name (codes "_updated") in
+      let hit = block_event name (codes "_hit") in
+      let complete = block_event name (codes "_complete") in
+      All-cons (All IsUnreserved) (updated ∷ []) (or_own b.hit hit ∷ or_own b.complete complete ∷ []) (one updated (block-free name (codes "_updated") rows))
+      (All-cons (All IsUnreserved) (or_own b.hit hit) (or_own b.complete complete ∷ []) (own_or b.hit hit (block-free name (codes "_hit") rows) parts.0)
+      (All-cons (All IsUnreserved) (or_own b.complete complete) [] (own_or b.complete complete (block-free name (codes "_complete") rows) parts.1) (All-nil (All IsUnreserved))))
     where
-      one : {n : List ℕ} → IsUnreserved n → All IsUnreserved (n ∷ [])
-      one {n} h = All-cons IsUnreserved n [] h (All-nil IsUnreserved)
+      one : (n : List ℕ) → IsUnreserved n → All IsUnreserved (n ∷ [])
+      one n h = All-cons IsUnreserved n [] h (All-nil IsUnreserved)
 
       own_or : (ws : List Written) (own : List ℕ) → IsUnreserved own → All IsFreePost ws → All IsUnreserved (or_own ws own)
-      own_or [] own free h = one free
+      own_or [] own free h = one own free
       own_or (w ∷ ws) own free h = written-free (w ∷ ws) h
 
   timer-lists_free : (name : List ℕ) → All (All IsUnreserved) (timer_lists name)
@@ -170,8 +173,8 @@ module _ (rows : Rows) where
       by true a q t hc ha hq = All-weaker (λ e. All IsFreePost (counter_posts (counter_of e))) _ (λ e h. block-lists_free (counter_of e).name.text (counter_of e).block h) es (hc refl)
       by false true q t hc ha hq = All-weaker (λ e. All IsFreePost (step_posts (step_block_of e))) _ (λ e h. block-lists_free (step_block_of e).name.text (step_block_of e).block h) es (ha refl)
       by false false true t hc ha hq = All-weaker (λ e. All IsFreePost (step_posts (step_block_of e))) _ (λ e h. block-lists_free (step_block_of e).name.text (step_block_of e).block h) es (hq refl)
-      by false false false true hc ha hq i d within = timer-lists_free (timer_of (get_or es i d)).name.text
-      by false false false false hc ha hq i d within = tt
+      by false false false true hc ha hq = λ i d within. timer-lists_free (timer_of (get_or es i d)).name.text
+      by false false false false hc ha hq = λ i d within. tt
 
   section-posting : (s : SectionRows) → All IsFreePost (posts_in s) → IsPosting IsUnreserved s
   section-posting s h =

@@ -113,7 +113,7 @@ pub(crate) fn reserved_posts<'a>(
 ) -> Result<Vec<&'a Name>, AllocError>
     ensures { IfOk result (λ found. written_view found.items ≡ reserved_among (keys_view modes.now) (posts_in (section_view section.now))) }
 {
-    let mut found = Vec::new(alloc);
+    let mut found: Vec<&'a Name> = Vec::new(alloc);
     add_section(&mut found, modes, section)?;
     Ok(found)
 }

@@ -80,6 +80,12 @@ fn add_text(
     ensures { OnOk result (faults_view faults.new.items ≡ faults_view faults.old.items ++ text_faults (keys_view modes.now) text.now (map section_view sections.now)) }
 {
     let own = faults_of_text(alloc, modes, text, sections)?;
+    add_all(faults, own)
+}
+
+fn add_all(faults: &mut Vec<Fault>, own: Vec<Fault>) -> Result<(), AllocError>
+    ensures { OnOk result (faults_view faults.new.items ≡ faults_view faults.old.items ++ faults_view own.items) }
+{
     for fault in own {
         faults.push(fault)?;
     }
