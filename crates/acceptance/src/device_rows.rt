@@ -44,8 +44,8 @@ event_player:
 => Yes
 yes
 pinball-certificate 1
-bound 8
-event s_target_active 7
+bound 7
+event s_target_active 6
 event s_target_inactive 1
 event again 2
 event a 3
