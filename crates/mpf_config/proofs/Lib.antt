@@ -7,6 +7,10 @@ pub mod FirstLines
 pub mod Pieces
 pub mod BundleTexts
 pub mod NewNames
+pub mod EntryKeys
+pub mod EntriesApart
+pub mod TakenEntries
+pub mod NoneBefore
 pub mod TextNames
 pub mod SameTexts
 pub mod ModeLoops

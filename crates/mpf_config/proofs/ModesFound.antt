@@ -1,5 +1,5 @@
 -- The modes that are found in texts: each at its place, by its own text and no other.
-use Rattle.std.proofs.Common.{◌≡◌, ◌≢◌, ℕ, suc, zero, ◌+◌, Bool, true, false, cond, Option, Some, None, Result, Ok, Err, ◌⊎◌, inl, inr}
+use Rattle.std.proofs.Common.{◌≡◌, ◌≢◌, ℕ, suc, zero, ◌+◌, Bool, true, false, cond, ◌||◌, Option, Some, None, Result, Ok, Err, ◌⊎◌, inl, inr}
 use Rattle.std.proofs.Common.{List, [], ◌∷◌, ◌++◌, length, map, set, take, slice_index_or, append_assoc, refl, sym, ap, subst, ◌∙◌, arith}
 use Rattle.std.specs.Prelude.{codes}
 use Rattle.std.specs.List.{Contains, All, AllZip}
@@ -17,15 +17,18 @@ use Rattle.section_tables.specs.Tables.{behind_one, found_in}
 use Rattle.section_tables.specs.Reading.{IsReadOr, ◌>>=◌, rows_fault_at}
 use Rattle.section_tables.proofs.Steps.{bind_ok, guard_false, ok_is}
 use Rattle.section_tables.proofs.Outcomes.{weaker, then_or}
-use Rattle.mpf_config.specs.Rows.{Written}
+use Rattle.mpf_config.specs.Rows.{Written, SectionRows}
 use Rattle.mpf_config.specs.BundleText.{Text, mode_text_name}
 use Rattle.mpf_config.specs.Unread.{mode_text_of, has_text, present_of, mode_notes}
 use Rattle.mpf_config.specs.ModeReads.{ModeRead}
+use Rattle.mpf_config.specs.Apart.{entry_keys}
 use Rattle.mpf_config.specs.RowsOf.{Sizes, within_limits, AreNew, IsText, AreRowsOf, IsModeRead, IsTextOver}
-use Rattle.mpf_config.specs.Reading.{TextRows, line_spot, text_rows_at, mode_read_at, placed_at, modes_from, none_found, found_of}
+use Rattle.mpf_config.specs.Reading.{TextRows, line_spot, text_rows_at, mode_read_at, entries_new_at, new_mode_at, placed_at, modes_from, none_found, found_of, taken_by}
 use Rattle.mpf_config.proofs.NewNames.{here, there, nothing_in, not_again, all_other, fresh_sound, fresh_complete}
 use Rattle.mpf_config.proofs.TextNames.{named, names_in, text_name}
 use Rattle.mpf_config.proofs.TextRows.{text_rows_sound, text_rows_or}
+use Rattle.mpf_config.proofs.EntryKeys.{new_sound, new_complete}
+use Rattle.mpf_config.proofs.EntriesApart.{AreModesApart, IsNewMode, mode_entries, none_apart, still_apart, is_fresh}
 
 -- ---- what is taken from texts
 
@@ -172,6 +175,23 @@ mode_or sizes names t ts w m new same h =
     then_or (IsTextOver sizes t.text) (text_rows_at Mode t.name t.text) (λ x. Ok (mode_made w t x)) r m read
     (inl (ap (λ (x : ModeRead). Ok x) whole))
 
+-- a mode whose entries are new, once it is read
+new_sound_mode : (taken : List (List ℕ)) (t : Text) (w : Written) (m : ModeRead) → new_mode_at taken w t ≡ Ok m
+    → (mode_read_at w t ≡ Ok m) × IsNewMode taken m
+unfolding new_mode_at
+new_sound_mode taken t w m e =
+    let a = bind_ok (mode_read_at w t) (λ x. entries_new_at t.name taken (mode_entries x) >>= λ all_new. Ok x) m e in
+    let b = bind_ok (entries_new_at t.name taken (mode_entries a.0)) (λ all_new. Ok a.0) m a.2 in
+    let n = new_sound t.name taken (mode_entries a.0) b.0 b.1 in
+    let same : a.0 ≡ m = ok_is a.0 m b.2 in
+    (a.1 ∙ ap (λ (x : ModeRead). Ok x) same, subst (IsNewMode taken) same (record { distinct = n.0; fresh = n.1 }))
+
+new_mode_or : (Above : Type 0) (taken : List (List ℕ)) (t : Text) (w : Written) (m : ModeRead) → entries_new_at t.name taken (mode_entries m) ≡ Ok tt
+    → IsReadOr Above (mode_read_at w t) m → IsReadOr Above (new_mode_at taken w t) m
+unfolding new_mode_at
+new_mode_or Above taken t w m new h =
+    then_or Above (mode_read_at w t) (λ x. entries_new_at t.name taken (mode_entries x) >>= λ all_new. Ok x) m m h (inl (rw new refl))
+
 -- a mode with one more text in front, or one fewer
 read_still : (sizes : Sizes) (t : Text) (ts : List Text) (w : Written) (m : ModeRead) → IsModeRead sizes ts w m
     → IsModeRead sizes (t ∷ ts) w m
@@ -188,30 +208,30 @@ read_behind sizes t ts w m other h =
 -- ---- one text, taken to its place
 
 -- the place of a mode: what the text says where it is that of the mode, and else as it was
-abbrev IsPlaced : Text → Written → Option ModeRead → Option ModeRead → Type 0
-IsPlaced t w before after =
+abbrev IsPlaced : Text → List (List ℕ) → Written → Option ModeRead → Option ModeRead → Type 0
+IsPlaced t taken w before after =
     ((t.name ≢ mode_text_of w) × (after ≡ before))
-    ⊎ ((m : ModeRead) × (after ≡ Some m) × (t.name ≡ mode_text_of w) × (mode_read_at w t ≡ Ok m))
+    ⊎ ((m : ModeRead) × (after ≡ Some m) × (t.name ≡ mode_text_of w) × (new_mode_at taken w t ≡ Ok m))
 
-abbrev Placed : Text → List Written → Found → Found → Type 0
-Placed t [] [] [] = Unit {0}
-Placed t (w ∷ ws) (before ∷ found) (after ∷ next) = IsPlaced t w before after × Placed t ws found next
-Placed t ws found next = ⊥
+abbrev Placed : Text → List (List ℕ) → List Written → Found → Found → Type 0
+Placed t taken [] [] [] = Unit {0}
+Placed t taken (w ∷ ws) (before ∷ found) (after ∷ next) = IsPlaced t taken w before after × Placed t taken ws found next
+Placed t taken ws found next = ⊥
 
-placed_long : (t : Text) (ws : List Written) (found next : Found) → Placed t ws found next → length next ≡ length ws
-placed_long t [] [] [] h = refl
-placed_long t (w ∷ ws) (before ∷ found) (after ∷ next) h = ap suc (placed_long t ws found next h.1)
-placed_long t ws found next h = absurd h
+placed_long : (t : Text) (taken : List (List ℕ)) (ws : List Written) (found next : Found) → Placed t taken ws found next → length next ≡ length ws
+placed_long t taken [] [] [] h = refl
+placed_long t taken (w ∷ ws) (before ∷ found) (after ∷ next) h = ap suc (placed_long t taken ws found next h.1)
+placed_long t taken ws found next h = absurd h
 
-untouched : (t : Text) (ws : List Written) (found : Found) → length found ≡ length ws → All (IsOther t) (names_of ws)
-    → Placed t ws found found
-untouched t [] [] long other = tt
-untouched t [] (before ∷ found) long other = absurd (omega (arith, long))
-untouched t (w ∷ ws) [] long other = absurd (omega (arith, long))
-untouched t (w ∷ ws) (before ∷ found) long other =
+untouched : (t : Text) (taken : List (List ℕ)) (ws : List Written) (found : Found) → length found ≡ length ws → All (IsOther t) (names_of ws)
+    → Placed t taken ws found found
+untouched t taken [] [] long other = tt
+untouched t taken [] (before ∷ found) long other = absurd (omega (arith, long))
+untouched t taken (w ∷ ws) [] long other = absurd (omega (arith, long))
+untouched t taken (w ∷ ws) (before ∷ found) long other =
     let first = All-head (IsOther t) w.text (names_of ws) other in
     let rest = All-tail (IsOther t) w.text (names_of ws) other in
-    (inl (first, refl), untouched t ws found (omega (arith, long)) rest)
+    (inl (first, refl), untouched t taken ws found (omega (arith, long)) rest)
 
 set_behind : (before : Option ModeRead) (found : Found) (i : ℕ) (r : Result ModeRead RowsFault)
     → (r >>= λ m. Ok (set (before ∷ found) (suc i) (Some m))) ≡ ((r >>= λ m. Ok (set found i (Some m))) >>= λ next. Ok (before ∷ next))
@@ -219,10 +239,10 @@ set_behind before found i (Ok m) = refl
 set_behind before found i (Err f) = refl
 
 -- a place behind the first is one among those behind the first
-placed_behind : (t : Text) (before : Option ModeRead) (found : Found) (o : Option (ℕ × Written))
-    → placed_at t (before ∷ found) (behind_one o) ≡ (placed_at t found o >>= λ next. Ok (before ∷ next))
-placed_behind t before found None = refl
-placed_behind t before found (Some p) = set_behind before found p.0 (mode_read_at p.1 t)
+placed_behind : (t : Text) (taken : List (List ℕ)) (before : Option ModeRead) (found : Found) (o : Option (ℕ × Written))
+    → placed_at t taken (before ∷ found) (behind_one o) ≡ (placed_at t taken found o >>= λ next. Ok (before ∷ next))
+placed_behind t taken before found None = refl
+placed_behind t taken before found (Some p) = set_behind before found p.0 (new_mode_at taken p.1 t)
 
 -- the place of a text among the modes
 abbrev place_of : Text → List Written → Option (ℕ × Written)
@@ -233,8 +253,8 @@ abbrev first_or : Bool → Text → Written → List Written → Option (ℕ × 
 first_or same t w ws = cond same (Some (0, w)) (behind_one (place_of t ws))
 
 -- what is placed among these modes is placed rightly
-abbrev IsPlacedRightly : Text → List Written → Found → Type 0
-IsPlacedRightly t ws found = (next : Found) → placed_at t found (place_of t ws) ≡ Ok next → Placed t ws found next
+abbrev IsPlacedRightly : Text → List (List ℕ) → List Written → Found → Type 0
+IsPlacedRightly t taken ws found = (next : Found) → placed_at t taken found (place_of t ws) ≡ Ok next → Placed t taken ws found next
 
 same_name : (t : Text) (w : Written) → bytes_eq (mode_text_of w) t.name ≡ true → t.name ≡ mode_text_of w
 same_name t w e = sym ((bytes_eq-Decides (mode_text_of w) t.name).0 e)
@@ -242,59 +262,115 @@ same_name t w e = sym ((bytes_eq-Decides (mode_text_of w) t.name).0 e)
 other_mode : (t : Text) (w : Written) → bytes_eq (mode_text_of w) t.name ≡ false → t.name ≢ mode_text_of w
 other_mode t w e same = both_ways (bytes_eq (mode_text_of w) t.name) e ((bytes_eq-Decides (mode_text_of w) t.name).1 (sym same))
 
-module _ (t : Text) (w : Written) (ws : List Written) (before : Option ModeRead) (found next : Found) where
+module _ (t : Text) (taken : List (List ℕ)) (w : Written) (ws : List Written) (before : Option ModeRead) (found next : Found) where
   placed_first : length found ≡ length ws → All (IsOther t) (names_of ws) → t.name ≡ mode_text_of w
-      → placed_at t (before ∷ found) (Some (0, w)) ≡ Ok next → Placed t (w ∷ ws) (before ∷ found) next
+      → placed_at t taken (before ∷ found) (Some (0, w)) ≡ Ok next → Placed t taken (w ∷ ws) (before ∷ found) next
   placed_first long other same e =
-      let a = bind_ok (mode_read_at w t) (λ m. Ok (in_front (Some m) found)) next e in
+      let a = bind_ok (new_mode_at taken w t) (λ m. Ok (in_front (Some m) found)) next e in
       let is = ok_is (in_front (Some a.0) found) next a.2 in
-      subst (Placed t (w ∷ ws) (before ∷ found)) is (inr (a.0, refl, same, a.1), untouched t ws found long other)
+      subst (Placed t taken (w ∷ ws) (before ∷ found)) is (inr (a.0, refl, same, a.1), untouched t taken ws found long other)
 
-  placed_later : IsPlacedRightly t ws found → t.name ≢ mode_text_of w
-      → placed_at t (before ∷ found) (behind_one (place_of t ws)) ≡ Ok next → Placed t (w ∷ ws) (before ∷ found) next
+  placed_later : IsPlacedRightly t taken ws found → t.name ≢ mode_text_of w
+      → placed_at t taken (before ∷ found) (behind_one (place_of t ws)) ≡ Ok next → Placed t taken (w ∷ ws) (before ∷ found) next
   placed_later so other e =
-      let behind = sym (placed_behind t before found (place_of t ws)) ∙ e in
-      let a = bind_ok (placed_at t found (place_of t ws)) (λ rest. Ok (in_front before rest)) next behind in
-      subst (Placed t (w ∷ ws) (before ∷ found)) (ok_is (in_front before a.0) next a.2) (inl (other, refl), so a.0 a.1)
+      let behind = sym (placed_behind t taken before found (place_of t ws)) ∙ e in
+      let a = bind_ok (placed_at t taken found (place_of t ws)) (λ rest. Ok (in_front before rest)) next behind in
+      subst (Placed t taken (w ∷ ws) (before ∷ found)) (ok_is (in_front before a.0) next a.2) (inl (other, refl), so a.0 a.1)
 
-  placed_by : (names : List (List ℕ)) → length found ≡ length ws → AreNew names (names_of (w ∷ ws)) → IsPlacedRightly t ws found
+  placed_by : (names : List (List ℕ)) → length found ≡ length ws → AreNew names (names_of (w ∷ ws)) → IsPlacedRightly t taken ws found
       → (b : Bool) → bytes_eq (mode_text_of w) t.name ≡ b
-      → placed_at t (before ∷ found) (first_or b t w ws) ≡ Ok next → Placed t (w ∷ ws) (before ∷ found) next
+      → placed_at t taken (before ∷ found) (first_or b t w ws) ≡ Ok next → Placed t taken (w ∷ ws) (before ∷ found) next
   placed_by names long apart so true k e =
       let same = same_name t w k in
       placed_first long (others_behind names t w ws apart same) same e
   placed_by names long apart so false k e = placed_later so (other_mode t w k) e
 
-placed_sound : (names : List (List ℕ)) (t : Text) (ws : List Written) (found : Found) → length found ≡ length ws
-    → AreNew names (names_of ws) → IsPlacedRightly t ws found
-placed_sound names t [] [] long apart next e = subst (Placed t [] []) (ok_is [] next e) tt
-placed_sound names t [] (before ∷ found) long apart next e = absurd (omega (arith, long))
-placed_sound names t (w ∷ ws) [] long apart next e = absurd (omega (arith, long))
-placed_sound names t (w ∷ ws) (before ∷ found) long apart next e =
+placed_sound : (names : List (List ℕ)) (t : Text) (taken : List (List ℕ)) (ws : List Written) (found : Found) → length found ≡ length ws
+    → AreNew names (names_of ws) → IsPlacedRightly t taken ws found
+placed_sound names t taken [] [] long apart next e = subst (Placed t taken [] []) (ok_is [] next e) tt
+placed_sound names t taken [] (before ∷ found) long apart next e = absurd (omega (arith, long))
+placed_sound names t taken (w ∷ ws) [] long apart next e = absurd (omega (arith, long))
+placed_sound names t taken (w ∷ ws) (before ∷ found) long apart next e =
     let less : length found ≡ length ws = omega (arith, long) in
-    let so = placed_sound (w.text ∷ names) t ws found less apart.1 in
-    placed_by t w ws before found next names less apart so (bytes_eq (mode_text_of w) t.name) refl e
+    let so = placed_sound (w.text ∷ names) t taken ws found less apart.1 in
+    placed_by t taken w ws before found next names less apart so (bytes_eq (mode_text_of w) t.name) refl e
+
+-- ---- what was found before, and what is found of one text
+
+still : (o : Option ModeRead) (os : Found) (m : ModeRead) → Contains (found_of os) m → Contains (found_of (o ∷ os)) m
+still None os m c = c
+still (Some n) os m c = there n m (found_of os) c
+
+first_or_later : (o : Option ModeRead) (os : Found) (m : ModeRead) → Contains (found_of (o ∷ os)) m → (o ≡ Some m) ⊎ Contains (found_of os) m
+first_or_later None os m c = inr c
+first_or_later (Some n) os m (zero, lt, at) = inl (ap (λ (x : ModeRead). Some x) at)
+first_or_later (Some n) os m (suc k, lt, at) = inr (k, omega (arith, lt), at)
+
+at_first : (o : Option ModeRead) (os : Found) (m : ModeRead) → o ≡ Some m → Contains (found_of (o ∷ os)) m
+at_first o os m is = subst (λ (x : Option ModeRead). Contains (found_of (x ∷ os)) m) (sym is) (here m (found_of os))
+
+some_is : (m n : ModeRead) → Some m ≡ Some n → m ≡ n
+some_is m n e = cc
+
+-- a mode that this text is
+abbrev IsOfText : Text → List (List ℕ) → ModeRead → Type 0
+IsOfText t taken m = (w : Written) × (t.name ≡ mode_text_of w) × (new_mode_at taken w t ≡ Ok m)
+
+module _ (t : Text) (taken : List (List ℕ)) where
+  one_placed : (w : Written) (before after : Option ModeRead) (os : Found) (m : ModeRead) → IsPlaced t taken w before after → after ≡ Some m
+      → Contains (found_of (before ∷ os)) m ⊎ IsOfText t taken m
+  one_placed w before after os m (inl p) is = inl (at_first before os m (sym p.1 ∙ is))
+  one_placed w before after os m (inr p) is =
+      let same : p.0 ≡ m = some_is p.0 m (sym p.1 ∙ is) in
+      inr (w, p.2, p.3 ∙ ap (λ (x : ModeRead). Ok x) same)
+
+  placed_old_or_new : (ws : List Written) (found next : Found) → Placed t taken ws found next → (m : ModeRead) → Contains (found_of next) m
+      → Contains (found_of found) m ⊎ IsOfText t taken m
+  placed_old_or_new [] [] [] p m c = absurd (nothing_in m c)
+  placed_old_or_new (w ∷ ws) (before ∷ found) (after ∷ next) p m c =
+      elim (first_or_later after next m c) [
+        | inl is ↦ one_placed w before after found m p.0 is
+        | inr later ↦ elim (placed_old_or_new ws found next p.1 m later) [
+          | inl old ↦ inl (still before found m old)
+          | inr new ↦ inr new
+        ]
+      ]
+  placed_old_or_new ws found next p m c = absurd p
+
+-- the text is that of the mode, whose entries are new
+abbrev IsTextOf : Text → ModeRead → Type 0
+IsTextOf t m = t.name ≡ mode_text_name m.mode.name
+
+of_text : (t : Text) (ts : List Text) (taken : List (List ℕ)) (m : ModeRead) → IsOfText t taken m → IsTextOf t m × IsNewMode taken m
+of_text t ts taken m new =
+    let a = new_sound_mode taken t new.0 m new.2 in
+    let named_so = (mode_sound t ts new.0 m new.1 a.0).name in
+    (new.1 ∙ ap mode_text_name (sym named_so), a.1)
+
+one_text : (t : Text) (m n : ModeRead) → IsTextOf t m → IsTextOf t n → m.mode.name ≡ n.mode.name
+one_text t m n is also = same_mode m.mode.name n.mode.name (sym is ∙ also)
 
 -- ---- what is read is what is taken
 
-taken_once : (names : List (List ℕ)) (t : Text) (ts : List Text) (w : Written) (before middle after : Option ModeRead)
+taken_once : (names : List (List ℕ)) (t : Text) (ts : List Text) (keys : List (List ℕ)) (w : Written) (before middle after : Option ModeRead)
     → AreNew names (names_in (t ∷ ts))
-    → IsPlaced t w before middle → IsTaken within_limits ts w middle after → IsTaken within_limits (t ∷ ts) w before after
-taken_once names t ts w before middle after new (inl p) (inl q) = inl (has_behind t ts (mode_text_of w) p.0 ∙ q.0, q.1 ∙ p.1)
-taken_once names t ts w before middle after new (inl p) (inr q) = inr (q.0, q.1, read_still within_limits t ts w q.0 q.2)
-taken_once names t ts w before middle after new (inr p) (inl q) = inr (p.0, q.1 ∙ p.1, mode_sound t ts w p.0 p.2 p.3)
-taken_once names t ts w before middle after new (inr p) (inr q) =
+    → IsPlaced t keys w before middle → IsTaken within_limits ts w middle after → IsTaken within_limits (t ∷ ts) w before after
+taken_once names t ts keys w before middle after new (inl p) (inl q) = inl (has_behind t ts (mode_text_of w) p.0 ∙ q.0, q.1 ∙ p.1)
+taken_once names t ts keys w before middle after new (inl p) (inr q) = inr (q.0, q.1, read_still within_limits t ts w q.0 q.2)
+taken_once names t ts keys w before middle after new (inr p) (inl q) =
+    inr (p.0, q.1 ∙ p.1, mode_sound t ts w p.0 p.2 (new_sound_mode keys t w p.0 p.3).0)
+taken_once names t ts keys w before middle after new (inr p) (inr q) =
     absurd (not_behind names t ts new (mode_text_of w) p.2 q.2.text q.2.is_there)
 
-taken_with : (names : List (List ℕ)) (t : Text) (ts : List Text) (ws : List Written) (found next out : Found)
+taken_with : (names : List (List ℕ)) (t : Text) (ts : List Text) (keys : List (List ℕ)) (ws : List Written) (found next out : Found)
     → AreNew names (names_in (t ∷ ts))
-    → Placed t ws found next → Taken within_limits ts ws next out → Taken within_limits (t ∷ ts) ws found out
-taken_with names t ts [] [] [] [] new p q = tt
-taken_with names t ts [] [] [] (after ∷ out) new p q = absurd q
-taken_with names t ts (w ∷ ws) (before ∷ found) (middle ∷ next) [] new p q = absurd q
-taken_with names t ts (w ∷ ws) (before ∷ found) (middle ∷ next) (after ∷ out) new p q =
-    (taken_once names t ts w before middle after new p.0 q.0, taken_with names t ts ws found next out new p.1 q.1)
-taken_with names t ts ws found next out new p q = absurd p
+    → Placed t keys ws found next → Taken within_limits ts ws next out → Taken within_limits (t ∷ ts) ws found out
+taken_with names t ts keys [] [] [] [] new p q = tt
+taken_with names t ts keys [] [] [] (after ∷ out) new p q = absurd q
+taken_with names t ts keys (w ∷ ws) (before ∷ found) (middle ∷ next) [] new p q = absurd q
+taken_with names t ts keys (w ∷ ws) (before ∷ found) (middle ∷ next) (after ∷ out) new p q =
+    (taken_once names t ts keys w before middle after new p.0 q.0, taken_with names t ts keys ws found next out new p.1 q.1)
+taken_with names t ts keys ws found next out new p q = absurd p
 
 nothing_taken : (ws : List Written) (found : Found) → length found ≡ length ws → Taken within_limits [] ws found found
 nothing_taken [] [] long = tt
@@ -302,21 +378,37 @@ nothing_taken [] (before ∷ found) long = absurd (omega (arith, long))
 nothing_taken (w ∷ ws) [] long = absurd (omega (arith, long))
 nothing_taken (w ∷ ws) (before ∷ found) long = (inl (refl, refl), nothing_taken ws found (omega (arith, long)))
 
-pub taken_sound : (ws : List Written) (ts : List Text) (names : List (List ℕ)) (found out : Found) → length found ≡ length ws
-    → AreNew [] (names_of ws) → modes_from ws names found ts ≡ Ok out
-    → AreNew names (names_in ts) × Taken within_limits ts ws found out
-taken_sound ws [] names found out long apart e =
-    (tt, subst (Taken within_limits [] ws found) (ok_is found out e) (nothing_taken ws found long))
-taken_sound ws (t ∷ ts) names found out long apart e =
-    let placed = placed_at t found (place_of t ws) in
-    let from_next : Found → Result Found RowsFault = λ next. modes_from ws (t.name ∷ names) next ts in
-    let again = rows_fault_at Duplicate (line_spot t.name 1) in
-    let a = guard_false (is_among names t.name) (placed >>= from_next) again out e in
-    let b = bind_ok placed from_next out a.1 in
-    let p = placed_sound [] t ws found long apart b.0 b.1 in
-    let c = taken_sound ws ts (t.name ∷ names) b.0 out (placed_long t ws found b.0 p) apart b.2 in
-    let new : AreNew names (names_in (t ∷ ts)) = (fresh_sound names t.name a.0, c.0) in
-    (new, taken_with names t ts ws found b.0 out new p c.1)
+module _ (machine : List SectionRows) where
+  -- the keys that are taken where these are found
+  abbrev keys_at : Found → List (List ℕ)
+  keys_at found = taken_by (entry_keys machine) (found_of found)
+
+  next_apart : (t : Text) (ts : List Text) (ws : List Written) (found next : Found) → AreModesApart machine (found_of found)
+      → Placed t (keys_at found) ws found next → AreModesApart machine (found_of next)
+  next_apart t ts ws found next h p =
+      still_apart machine (found_of found) (found_of next) h (IsTextOf t) (one_text t)
+      (λ m c. elim (placed_old_or_new t (keys_at found) ws found next p m c) [
+        | inl old ↦ inl old
+        | inr new ↦ inr (of_text t ts (keys_at found) m new)
+      ])
+
+  pub taken_sound : (ws : List Written) (ts : List Text) (names : List (List ℕ)) (found out : Found) → length found ≡ length ws
+      → AreNew [] (names_of ws) → AreModesApart machine (found_of found) → modes_from (entry_keys machine) ws names found ts ≡ Ok out
+      → AreNew names (names_in ts) × Taken within_limits ts ws found out × AreModesApart machine (found_of out)
+  taken_sound ws [] names found out long apart distinct e =
+      let same : found ≡ out = ok_is found out e in
+      (tt, subst (Taken within_limits [] ws found) same (nothing_taken ws found long), subst (λ (os : Found). AreModesApart machine (found_of os)) same distinct)
+  taken_sound ws (t ∷ ts) names found out long apart distinct e =
+      let placed = placed_at t (keys_at found) found (place_of t ws) in
+      let from_next : Found → Result Found RowsFault = λ next. modes_from (entry_keys machine) ws (t.name ∷ names) next ts in
+      let again = rows_fault_at Duplicate (line_spot t.name 1) in
+      let a = guard_false (is_among names t.name) (placed >>= from_next) again out e in
+      let b = bind_ok placed from_next out a.1 in
+      let p = placed_sound [] t (keys_at found) ws found long apart b.0 b.1 in
+      let still = next_apart t ts ws found b.0 distinct p in
+      let c = taken_sound ws ts (t.name ∷ names) b.0 out (placed_long t (keys_at found) ws found b.0 p) apart still b.2 in
+      let new : AreNew names (names_in (t ∷ ts)) = (fresh_sound names t.name a.0, c.0) in
+      (new, taken_with names t ts (keys_at found) ws found b.0 out new p c.1, c.2)
 
 -- the modes that have a text are these
 abbrev pub AreModes : Sizes → List Text → List Written → List ModeRead → Type 0
@@ -335,13 +427,18 @@ module _ (sizes : Sizes) (ts : List Text) where
   all_found (w ∷ ws) [] h = absurd h
   all_found (w ∷ ws) (after ∷ out) h = found_once w ws after out h.0 (all_found ws out h.1)
 
--- the modes that are found are those that have a text
-pub modes_found : (ws : List Written) (ts : List Text) (out : Found) → AreNew [] (names_of ws)
-    → modes_from ws [] (none_found ws) ts ≡ Ok out
-    → AreNew [] (names_in ts) × AreModes within_limits ts ws (found_of out)
-modes_found ws ts out apart e =
-    let h = taken_sound ws ts [] (none_found ws) out (length-map ws (λ w. None)) apart e in
-    (h.0, all_found within_limits ts ws out h.1)
+none_yet : (ws : List Written) → found_of (none_found ws) ≡ []
+none_yet [] = refl
+none_yet (w ∷ ws) = none_yet ws
+
+-- the modes that are found are those that have a text, and no two have an entry of one section and name
+pub modes_found : (machine : List SectionRows) (ws : List Written) (ts : List Text) (out : Found) → AreNew [] (names_of ws)
+    → modes_from (entry_keys machine) ws [] (none_found ws) ts ≡ Ok out
+    → AreNew [] (names_in ts) × AreModes within_limits ts ws (found_of out) × AreModesApart machine (found_of out)
+modes_found machine ws ts out apart e =
+    let first = none_apart machine (found_of (none_found ws)) (none_yet ws) in
+    let h = taken_sound machine ws ts [] (none_found ws) out (length-map ws (λ w. None)) apart first e in
+    (h.0, all_found within_limits ts ws out h.1, h.2)
 
 -- ---- what is taken is read
 
@@ -405,68 +502,139 @@ IsAboveWhere sizes Above ts ws =
 abbrev IsAboveAt : Sizes → Type 0 → Text → List Written → Type 0
 IsAboveAt sizes Above t ws = (w : Written) → Contains ws w → t.name ≡ mode_text_of w → IsTextOver sizes t.text → Above
 
-module _ (sizes : Sizes) (Above : Type 0) (names : List (List ℕ)) (t : Text) (ts : List Text) where
+-- ---- what was found before a text
+
+none_with : (a b : Bool) → (a || b) ≡ false → b ≡ false
+none_with true b e = absurd cc
+none_with false b e = e
+
+-- a mode of these, whose text is not one of those to come
+abbrev IsOld : List ModeRead → List Text → Written → Option ModeRead → Type 0
+IsOld modes ts w None = Unit {0}
+IsOld modes ts w (Some m) = (m.mode.name ≡ w.text) × (has_text ts (mode_text_of w) ≡ false) × Contains modes m
+
+abbrev AreOld : List ModeRead → List Text → List Written → Found → Type 0
+AreOld modes ts [] [] = Unit {0}
+AreOld modes ts (w ∷ ws) (o ∷ os) = IsOld modes ts w o × AreOld modes ts ws os
+AreOld modes ts ws os = ⊥
+
+none_old : (modes : List ModeRead) (ts : List Text) (ws : List Written) → AreOld modes ts ws (none_found ws)
+none_old modes ts [] = tt
+none_old modes ts (w ∷ ws) = (tt, none_old modes ts ws)
+
+-- the same where one text fewer is to come
+old_behind : (modes : List ModeRead) (t : Text) (ts : List Text) (w : Written) (o : Option ModeRead) → IsOld modes (t ∷ ts) w o → IsOld modes ts w o
+old_behind modes t ts w None h = tt
+old_behind modes t ts w (Some m) h = (h.0, none_with (bytes_eq t.name (mode_text_of w)) (has_text ts (mode_text_of w)) h.1, h.2)
+
+all_old : (modes : List ModeRead) (t : Text) (ts : List Text) (ws : List Written) (found : Found) → AreOld modes (t ∷ ts) ws found
+    → AreOld modes ts ws found
+all_old modes t ts [] [] h = tt
+all_old modes t ts (w ∷ ws) (o ∷ os) h = (old_behind modes t ts w o h.0, all_old modes t ts ws os h.1)
+all_old modes t ts ws os h = absurd h
+
+-- so is each that was found
+abbrev WasFound : List ModeRead → List Text → ModeRead → Type 0
+WasFound modes ts m = (w : Written) × (m.mode.name ≡ w.text) × (has_text ts (mode_text_of w) ≡ false) × Contains modes m
+
+was_found : (modes : List ModeRead) (ts : List Text) (ws : List Written) (found : Found) → AreOld modes ts ws found
+    → (m : ModeRead) → Contains (found_of found) m → WasFound modes ts m
+was_found modes ts [] [] h m c = absurd (nothing_in m c)
+was_found modes ts (w ∷ ws) (o ∷ os) h m c =
+    elim (first_or_later o os m c) [
+      | inl is ↦ (let k = subst (IsOld modes ts w) is h.0 in (w, k.0, k.1, k.2))
+      | inr later ↦ was_found modes ts ws os h.1 m later
+    ]
+was_found modes ts ws os h m c = absurd h
+
+module _ (sizes : Sizes) (Above : Type 0) (names : List (List ℕ)) (t : Text) (ts : List Text) (keys : List (List ℕ)) (modes : List ModeRead) where
   -- the first text is taken, and the others are still to be
   abbrev Next : Option (ℕ × Written) → List Written → Found → Found → Type 0
-  Next place ws found out = (next : Found) × IsReadOr Above (placed_at t found place) next × Taken sizes ts ws next out
+  Next place ws found out = (next : Found) × IsReadOr Above (placed_at t keys found place) next × Taken sizes ts ws next out × AreOld modes ts ws next
+
+  -- the entries of a mode that this text is are new
+  abbrev AreEntriesNew : Type 0
+  AreEntriesNew = (w : Written) (m : ModeRead) → t.name ≡ mode_text_of w → m.mode.name ≡ w.text → Contains modes m → entries_new_at t.name keys (mode_entries m) ≡ Ok tt
 
   next_first : (w : Written) (ws : List Written) (before after : Option ModeRead) (found out : Found)
-      → AreNew names (names_in (t ∷ ts)) → (IsTextOver sizes t.text → Above) → All (IsOther t) (names_of ws) → t.name ≡ mode_text_of w
+      → AreNew names (names_in (t ∷ ts)) → AreEntriesNew → (IsTextOver sizes t.text → Above) → All (IsOther t) (names_of ws) → t.name ≡ mode_text_of w
+      → ((m : ModeRead) → Contains (found_of (after ∷ out)) m → Contains modes m) → AreOld modes (t ∷ ts) ws found
       → IsTaken sizes (t ∷ ts) w before after → Taken sizes (t ∷ ts) ws found out
       → Next (Some (0, w)) (w ∷ ws) (before ∷ found) (after ∷ out)
-  next_first w ws before after found out new so other same (inl h) rest =
+  next_first w ws before after found out new fine so other same among old (inl h) rest =
       absurd (both_ways (has_text (t ∷ ts) (mode_text_of w)) h.0 (has_first t ts (mode_text_of w) same))
-  next_first w ws before after found out new so other same (inr h) rest =
+  next_first w ws before after found out new fine so other same among old (inr h) rest =
+      let inside = among h.0 (at_first after out h.0 h.1) in
       let read = weaker (IsTextOver sizes t.text) Above so (mode_read_at w t) h.0 (mode_or sizes names t ts w h.0 new same h.2) in
+      let all_new = new_mode_or Above keys t w h.0 (fine w h.0 same h.2.name inside) read in
       let next = in_front (Some h.0) found in
-      let placed = then_or Above (mode_read_at w t) (λ m. Ok (in_front (Some m) found)) h.0 next read (inl refl) in
+      let placed = then_or Above (new_mode_at keys w t) (λ m. Ok (in_front (Some m) found)) h.0 next all_new (inl refl) in
       let gone = none_behind names t ts new (mode_text_of w) same in
-      (next, placed, (inl (gone, h.1), all_behind sizes t ts ws found out other rest))
+      (next, placed, (inl (gone, h.1), all_behind sizes t ts ws found out other rest), ((h.2.name, gone, inside), all_old modes t ts ws found old))
 
   next_later : (w : Written) (ws : List Written) (before after : Option ModeRead) (found out : Found)
-      → t.name ≢ mode_text_of w → IsTaken sizes (t ∷ ts) w before after
+      → t.name ≢ mode_text_of w → IsOld modes (t ∷ ts) w before → IsTaken sizes (t ∷ ts) w before after
       → Next (place_of t ws) ws found out → Next (behind_one (place_of t ws)) (w ∷ ws) (before ∷ found) (after ∷ out)
-  next_later w ws before after found out other h rest =
+  next_later w ws before after found out other old h rest =
       let next = in_front before rest.0 in
-      let read = then_or Above (placed_at t found (place_of t ws)) (λ os. Ok (in_front before os)) rest.0 next rest.1 (inl refl) in
-      (next, rw (placed_behind t before found (place_of t ws)) read, (taken_behind sizes t ts w before after other h, rest.2))
+      let read = then_or Above (placed_at t keys found (place_of t ws)) (λ os. Ok (in_front before os)) rest.0 next rest.1 (inl refl) in
+      (next, rw (placed_behind t keys before found (place_of t ws)) read, (taken_behind sizes t ts w before after other h, rest.2), (old_behind modes t ts w before old, rest.3))
 
   next_by : (ahead : List (List ℕ)) (w : Written) (ws : List Written) (before after : Option ModeRead) (found out : Found)
-      → AreNew names (names_in (t ∷ ts)) → IsAboveAt sizes Above t (w ∷ ws) → AreNew ahead (names_of (w ∷ ws))
+      → AreNew names (names_in (t ∷ ts)) → AreEntriesNew → IsAboveAt sizes Above t (w ∷ ws) → AreNew ahead (names_of (w ∷ ws))
+      → ((m : ModeRead) → Contains (found_of (after ∷ out)) m → Contains modes m) → AreOld modes (t ∷ ts) (w ∷ ws) (before ∷ found)
       → Taken sizes (t ∷ ts) (w ∷ ws) (before ∷ found) (after ∷ out) → Next (place_of t ws) ws found out
       → (b : Bool) → bytes_eq (mode_text_of w) t.name ≡ b → Next (first_or b t w ws) (w ∷ ws) (before ∷ found) (after ∷ out)
-  next_by ahead w ws before after found out new so apart h rest true e =
+  next_by ahead w ws before after found out new fine so apart among old h rest true e =
       let same = same_name t w e in
-      next_first w ws before after found out new (so w (here w ws) same) (others_behind ahead t w ws apart same) same h.0 h.1
-  next_by ahead w ws before after found out new so apart h rest false e = next_later w ws before after found out (other_mode t w e) h.0 rest
+      next_first w ws before after found out new fine (so w (here w ws) same) (others_behind ahead t w ws apart same) same among old.1 h.0 h.1
+  next_by ahead w ws before after found out new fine so apart among old h rest false e =
+      next_later w ws before after found out (other_mode t w e) old.0 h.0 rest
 
   next_or : (ahead : List (List ℕ)) (ws : List Written) (found out : Found)
-      → AreNew names (names_in (t ∷ ts)) → IsAboveAt sizes Above t ws → AreNew ahead (names_of ws)
+      → AreNew names (names_in (t ∷ ts)) → AreEntriesNew → IsAboveAt sizes Above t ws → AreNew ahead (names_of ws)
+      → ((m : ModeRead) → Contains (found_of out) m → Contains modes m) → AreOld modes (t ∷ ts) ws found
       → Taken sizes (t ∷ ts) ws found out → Next (place_of t ws) ws found out
-  next_or ahead [] [] [] new so apart h = ([], inl refl, tt)
-  next_or ahead (w ∷ ws) (before ∷ found) (after ∷ out) new so apart h =
-      let rest = next_or (w.text ∷ ahead) ws found out new (λ v c. so v (there w v ws c)) apart.1 h.1 in
-      next_by ahead w ws before after found out new so apart h rest (bytes_eq (mode_text_of w) t.name) refl
-  next_or ahead ws found out new so apart h = absurd h
+  next_or ahead [] [] [] new fine so apart among old h = ([], inl refl, tt, tt)
+  next_or ahead (w ∷ ws) (before ∷ found) (after ∷ out) new fine so apart among old h =
+      let rest = next_or (w.text ∷ ahead) ws found out new fine (λ v c. so v (there w v ws c)) apart.1 (λ m c. among m (still after out m c)) old.1 h.1 in
+      next_by ahead w ws before after found out new fine so apart among old h rest (bytes_eq (mode_text_of w) t.name) refl
+  next_or ahead ws found out new fine so apart among old h = absurd h
 
-module _ (sizes : Sizes) (Above : Type 0) (ws : List Written) (apart : AreNew [] (names_of ws)) where
+module _ (sizes : Sizes) (Above : Type 0) (machine : List SectionRows) (ws : List Written) (apart : AreNew [] (names_of ws)) (modes : List ModeRead) (distinct : AreModesApart machine modes) where
+  -- the entries of a mode of this text are new where no text of what was found is to come
+  all_entries_new : (t : Text) (ts : List Text) (found : Found) → AreOld modes (t ∷ ts) ws found
+      → (w : Written) (m : ModeRead) → t.name ≡ mode_text_of w → m.mode.name ≡ w.text → Contains modes m
+      → entries_new_at t.name (keys_at machine found) (mode_entries m) ≡ Ok tt
+  all_entries_new t ts found old w m same name inside =
+      let others : (n : ModeRead) → Contains (found_of found) n → Contains modes n × (n.mode.name ≢ m.mode.name) =
+      λ n c. (let k = was_found modes (t ∷ ts) ws found old n c in (
+        k.3,
+        λ equal. both_ways (has_text (t ∷ ts) (mode_text_of k.0)) k.2
+            (has_first t ts (mode_text_of k.0) (same ∙ ap mode_text_name (sym name ∙ sym equal ∙ k.1))),
+      )) in
+      new_complete t.name (keys_at machine found) (mode_entries m) (distinct.in_mode m inside)
+      (is_fresh machine modes (found_of found) distinct m inside others)
+
   pub taken_or : (ts : List Text) (names : List (List ℕ)) (found out : Found) → AreNew names (names_in ts)
-      → Taken sizes ts ws found out → IsAboveWhere sizes Above ts ws → IsReadOr Above (modes_from ws names found ts) out
-  taken_or [] names found out new h so =
+      → ((m : ModeRead) → Contains (found_of out) m → Contains modes m) → AreOld modes ts ws found
+      → Taken sizes ts ws found out → IsAboveWhere sizes Above ts ws → IsReadOr Above (modes_from (entry_keys machine) ws names found ts) out
+  taken_or [] names found out new among old h so =
       let same : found ≡ out = sym (as_before sizes ws found out h) in
       inl (ap (λ (os : Found). Ok os) same)
-  taken_or (t ∷ ts) names found out new h so =
+  taken_or (t ∷ ts) names found out new among old h so =
       let first : IsAboveAt sizes Above t ws = λ w c same. so w t.text c (is_first t ts (mode_text_of w) same) in
       let later : IsAboveWhere sizes Above ts ws = λ w text c is. so w text c (there t (named (mode_text_of w) text) ts is) in
-      let a = next_or sizes Above names t ts [] ws found out new first apart h in
-      let rest = taken_or ts (t.name ∷ names) a.0 out new.1 a.2 later in
-      let from_next : Found → Result Found RowsFault = λ next. modes_from ws (t.name ∷ names) next ts in
-      rw (fresh_complete names t.name new.0) (then_or Above (placed_at t found (place_of t ws)) from_next a.0 out a.1 rest)
+      let a = next_or sizes Above names t ts (keys_at machine found) modes [] ws found out new (all_entries_new t ts found old) first apart among old h in
+      let rest = taken_or ts (t.name ∷ names) a.0 out new.1 among a.3 a.2 later in
+      let from_next : Found → Result Found RowsFault = λ next. modes_from (entry_keys machine) ws (t.name ∷ names) next ts in
+      rw (fresh_complete names t.name new.0) (then_or Above (placed_at t (keys_at machine found) found (place_of t ws)) from_next a.0 out a.1 rest)
 
 -- the modes that have a text are those that are found, but above the limits
-pub modes_found_or : (sizes : Sizes) (Above : Type 0) (ts : List Text) (ws : List Written) (modes : List ModeRead)
-    → AreNew [] (names_in ts) → AreNew [] (names_of ws) → AreModes sizes ts ws modes → IsAboveWhere sizes Above ts ws
-    → (out : Found) × (found_of out ≡ modes) × IsReadOr Above (modes_from ws [] (none_found ws) ts) out
-modes_found_or sizes Above ts ws modes new apart each so =
+pub modes_found_or : (sizes : Sizes) (Above : Type 0) (machine : List SectionRows) (ts : List Text) (ws : List Written) (modes : List ModeRead)
+    → AreNew [] (names_in ts) → AreNew [] (names_of ws) → AreModes sizes ts ws modes → AreModesApart machine modes → IsAboveWhere sizes Above ts ws
+    → (out : Found) × (found_of out ≡ modes) × IsReadOr Above (modes_from (entry_keys machine) ws [] (none_found ws) ts) out
+modes_found_or sizes Above machine ts ws modes new apart each distinct so =
     let a = places_for sizes ts ws modes each in
-    (a.0, a.1, taken_or sizes Above ws apart ts [] (none_found ws) a.0 new a.2 so)
+    let among : (m : ModeRead) → Contains (found_of a.0) m → Contains modes m = λ m c. subst (λ (ms : List ModeRead). Contains ms m) a.1 c in
+    (a.0, a.1, taken_or sizes Above machine ws apart modes distinct ts [] (none_found ws) a.0 new among (none_old modes ts ws) a.2 so)

@@ -1,68 +1,131 @@
 -- Texts that are read as they are reached, where the names of those before are kept in a set.
-use Rattle.std.proofs.Common.{◌≡◌, ℕ, ◌+◌, ◌<◌, Bool, true, false, not, ◌||◌, if◌then◌else◌, List, [], ◌∷◌, length, drop, get_or, add-one, Option, Result, Ok, Err, refl, sym, ap, ◌∙◌}
+use Rattle.std.proofs.Common.{◌≡◌, ℕ, ◌+◌, ◌<◌, Bool, true, false, not, ◌||◌, if◌then◌else◌, List, [], ◌∷◌, length, drop, get_or, set, add-one, Option, Some, None, Result, Ok, Err, refl, sym, ap, subst, ◌∙◌}
+use Rattle.std.specs.List.{flat_map}
 use Rattle.std.specs.Str.{bytes_eq}
 use Rattle.std.proofs.Math.Seq.{drop-cons}
 use Rattle.yaml_subset.specs.Keys.{is_among}
 use Rattle.section_tables.specs.declared.fault.FaultKind.TheVariants.{Duplicate}
+use Rattle.section_tables.specs.declared.fault.ConfigFault.{ConfigFault}
+use Rattle.section_tables.specs.declared.fault.ConfigFault.TheVariants as faults
 use Rattle.section_tables.specs.Tables.{found_in}
 use Rattle.section_tables.specs.Reading.{◌>>=◌, refused}
 use Rattle.mpf_config.specs.declared.texts.Text as texts
-use Rattle.mpf_config.specs.Rows.{Written, RowsFault}
-use Rattle.mpf_config.specs.BundleText.{Text}
+use Rattle.mpf_config.specs.Rows.{Written, SectionRows, RowsFault}
+use Rattle.mpf_config.specs.BundleText.{Text, machine_name}
 use Rattle.mpf_config.specs.ModeReads.{ModeRead}
 use Rattle.mpf_config.specs.Unread.{mode_text_of}
-use Rattle.mpf_config.specs.Reading.{line_spot, placed_at, modes_from}
+use Rattle.mpf_config.specs.Apart.{entry_names, entry_keys}
+use Rattle.mpf_config.specs.Reading.{line_spot, mode_read_at, entries_new_at, new_mode_at, placed_at, modes_from, modes_in_texts, none_found, found_of, taken_by}
+use Rattle.mpf_config.specs.View.{FailsRows}
+use Rattle.mpf_config.proofs.TakenEntries.{SameKeys, HasTaken, entries_same, among_append}
 use Rattle.mpf_config.specs.Inside.{text_view, texts_view}
 
 -- which names were taken matters, and not in which order
-abbrev SameNames : List (List ℕ) → List (List ℕ) → Type 0
-SameNames names others = (q : List ℕ) → is_among names q ≡ is_among others q
-
-same_step : (names others : List (List ℕ)) (k : List ℕ) → SameNames names others → SameNames (k ∷ names) (k ∷ others)
+same_step : (names others : List (List ℕ)) (k : List ℕ) → SameKeys names others → SameKeys (k ∷ names) (k ∷ others)
 same_step names others k h q = ap (λ (b : Bool). bytes_eq k q || b) (h q)
 
-module _ (ws : List Written) where
-  abbrev Found : Type 0
-  Found = List (Option ModeRead)
+after_both : {A B : Type 0} (r : Result A RowsFault) (f g : A → Result B RowsFault) → ((x : A) → f x ≡ g x) → (r >>= f) ≡ (r >>= g)
+after_both (Ok x) f g h = h x
+after_both (Err d) f g h = refl
 
-  same_from : (names others : List (List ℕ)) (found : Found) (ts : List Text) → SameNames names others → modes_from ws names found ts ≡ modes_from ws others found ts
-  same_from names others found [] h = refl
-  same_from names others found (t ∷ ts) h =
+abbrev Found : Type 0
+Found = List (Option ModeRead)
+
+new_mode_same : (taken others : List (List ℕ)) (w : Written) (t : Text) → SameKeys taken others → new_mode_at taken w t ≡ new_mode_at others w t
+unfolding new_mode_at
+new_mode_same taken others w t h =
+    after_both (mode_read_at w t) (λ m. entries_new_at t.name taken (entry_names m.mode.sections) >>= λ all_new. Ok m)
+    (λ m. entries_new_at t.name others (entry_names m.mode.sections) >>= λ all_new. Ok m)
+    (λ m. ap (λ (r : Result (Unit {0}) RowsFault). r >>= λ all_new. Ok m) (entries_same t.name taken others (entry_names m.mode.sections) h))
+
+placed_same : (t : Text) (taken others : List (List ℕ)) (found : Found) (o : Option (ℕ × Written)) → SameKeys taken others
+    → placed_at t taken found o ≡ placed_at t others found o
+placed_same t taken others found None h = refl
+placed_same t taken others found (Some p) h = ap (λ (r : Result ModeRead RowsFault). r >>= λ m. Ok (set found p.0 (Some m))) (new_mode_same taken others p.1 t h)
+
+taken_same : (machine others : List (List ℕ)) (modes : List ModeRead) → SameKeys machine others → SameKeys (taken_by machine modes) (taken_by others modes)
+taken_same machine others modes h q =
+    let rest = flat_map (λ (m : ModeRead). entry_keys m.mode.sections) modes in
+    among_append machine rest q ∙ ap (λ (b : Bool). b || is_among rest q) (h q) ∙ sym (among_append others rest q)
+
+module _ (ws : List Written) where
+  after : (t : Text) (ts : List Text) (names others : List (List ℕ)) (machine also : List (List ℕ))
+      → ((next : Found) → modes_from machine ws (t.name ∷ names) next ts ≡ modes_from also ws (t.name ∷ others) next ts)
+      → (b : Bool) (placed : Result Found RowsFault)
+      → (if b then refused Duplicate (line_spot t.name 1) else (placed >>= λ next. modes_from machine ws (t.name ∷ names) next ts))
+      ≡ (if b then refused Duplicate (line_spot t.name 1) else (placed >>= λ next. modes_from also ws (t.name ∷ others) next ts))
+  after t ts names others machine also same true placed = refl
+  after t ts names others machine also same false (Ok next) = same next
+  after t ts names others machine also same false (Err f) = refl
+
+  same_from : (machine also names others : List (List ℕ)) (found : Found) (ts : List Text) → SameKeys machine also → SameKeys names others
+      → modes_from machine ws names found ts ≡ modes_from also ws others found ts
+  same_from machine also names others found [] m h = refl
+  same_from machine also names others found (t ∷ ts) m h =
       let step = same_step names others t.name h in
-      rw (h t.name) (after (λ next. same_from (t.name ∷ names) (t.name ∷ others) next ts step) (is_among others t.name) (placed_at t found (found_in mode_text_of t.name ws)))
-    where
-      after : ((next : Found) → modes_from ws (t.name ∷ names) next ts ≡ modes_from ws (t.name ∷ others) next ts)
-          → (b : Bool) (placed : Result Found RowsFault)
-          → (if b then refused Duplicate (line_spot t.name 1) else (placed >>= λ next. modes_from ws (t.name ∷ names) next ts))
-          ≡ (if b then refused Duplicate (line_spot t.name 1) else (placed >>= λ next. modes_from ws (t.name ∷ others) next ts))
-      after same true placed = refl
-      after same false (Ok next) = same next
-      after same false (Err f) = refl
+      let place = found_in mode_text_of t.name ws in
+      let keys = taken_same machine also (found_of found) m in
+      rw (h t.name, placed_same t (taken_by machine (found_of found)) (taken_by also (found_of found)) found place keys)
+      (after t ts names others machine also (λ next. same_from machine also (t.name ∷ names) (t.name ∷ others) next ts m step) (is_among others t.name)
+      (placed_at t (taken_by also (found_of found)) found place))
+
+  -- the keys of the machine in another order
+  pub same_machine : (machine also : List (List ℕ)) (found : Found) (ts : List Text) → SameKeys machine also → modes_from machine ws [] found ts ≡ modes_from also ws [] found ts
+  same_machine machine also found ts m = same_from machine also [] [] found ts m (λ q. refl)
 
 not_true : (b : Bool) → not b ≡ true → b ≡ false
 not_true true e = absurd cc
 not_true false e = refl
 
-abbrev placed_in : List Written → List (Option ModeRead) → Text → Result (List (Option ModeRead)) RowsFault
-placed_in ws found t = placed_at t found (found_in mode_text_of t.name ws)
-
-module _ (ws : List Written) (names : List (List ℕ)) (found : List (Option ModeRead)) (all : List texts.Text) (i : ℕ) (nothing : texts.Text) (lt : i < length all) (taken : Bool) where
+module _ (ws : List Written) (machine taken names : List (List ℕ)) (found : Found) (all : List texts.Text) (i : ℕ) (nothing : texts.Text) (lt : i < length all) (fresh : Bool) where
   abbrev one : texts.Text
   one = get_or all i nothing
 
-  cut : modes_from ws names found (texts_view (drop i all)) ≡ modes_from ws names found (text_view one ∷ texts_view (drop (i + 1) all))
+  abbrev place : Option (ℕ × Written)
+  place = found_in mode_text_of one.name.now ws
+
+  cut : modes_from machine ws names found (texts_view (drop i all)) ≡ modes_from machine ws names found (text_view one ∷ texts_view (drop (i + 1) all))
   cut =
       let first : drop i all ≡ one ∷ drop (i + 1) all = rw add-one (drop-cons all i nothing lt) in
-      ap (λ (ts : List texts.Text). modes_from ws names found (texts_view ts)) first
+      ap (λ (ts : List texts.Text). modes_from machine ws names found (texts_view ts)) first
+
+  pub is_fresh : fresh ≡ not (is_among names one.name.now) → fresh ≡ true → is_among names one.name.now ≡ false
+  is_fresh said is = not_true (is_among names one.name.now) (sym said ∙ is)
 
   -- a text that is new, and was placed
-  pub takes_next : (known : List (List ℕ)) (next : List (Option ModeRead))
-      → taken ≡ not (is_among names one.name.now) → taken ≡ true
+  pub takes_next : (known : List (List ℕ)) (next : Found)
+      → fresh ≡ not (is_among names one.name.now) → fresh ≡ true
       → ((q : List ℕ) → is_among known q ≡ (bytes_eq one.name.now q || is_among names q))
-      → placed_in ws found (text_view one) ≡ Ok next
-      → modes_from ws known next (texts_view (drop (i + 1) all)) ≡ modes_from ws names found (texts_view (drop i all))
-  takes_next known next fresh is k placed =
-      let none : is_among names one.name.now ≡ false = not_true (is_among names one.name.now) (sym fresh ∙ is) in
+      → SameKeys taken (taken_by machine (found_of found))
+      → placed_at (text_view one) taken found place ≡ Ok next
+      → modes_from machine ws known next (texts_view (drop (i + 1) all)) ≡ modes_from machine ws names found (texts_view (drop i all))
+  takes_next known next said is k keys placed =
+      let none : is_among names one.name.now ≡ false = is_fresh said is in
       let rest = texts_view (drop (i + 1) all) in
-      let whole : modes_from ws names found (texts_view (drop i all)) ≡ modes_from ws (one.name.now ∷ names) next rest = cut ∙ rw (none, placed) refl in
-      same_from ws known (one.name.now ∷ names) next rest k ∙ sym whole
+      let at = sym (placed_same (text_view one) taken (taken_by machine (found_of found)) found place keys) ∙ placed in
+      let whole : modes_from machine ws names found (texts_view (drop i all)) ≡ modes_from machine ws (one.name.now ∷ names) next rest = cut ∙ rw (none, at) refl in
+      same_from ws machine machine known (one.name.now ∷ names) next rest (λ q. refl) k ∙ sym whole
+
+  -- a text that is new, and was not placed
+  pub fails_next : (e : ConfigFault) → fresh ≡ not (is_among names one.name.now) → fresh ≡ true → SameKeys taken (taken_by machine (found_of found))
+      → FailsRows e (placed_at (text_view one) taken found place) → FailsRows e (modes_from machine ws names found (texts_view (drop i all)))
+  fails_next faults.NoMemory said is keys h = tt
+  fails_next (faults.Bundle f) said is keys h =
+      let none : is_among names one.name.now ≡ false = is_fresh said is in
+      let at = sym (placed_same (text_view one) taken (taken_by machine (found_of found)) found place keys) ∙ h in
+      cut ∙ rw (none, at) refl
+
+-- ---- the machine's entries first
+
+or_none : (a : Bool) → (a || false) ≡ a
+or_none true = refl
+or_none false = refl
+
+pub after_machine : (machine : List SectionRows) (ws : List Written) (ts : List Text) (taken known : List (List ℕ)) (u : Unit {0}) → taken ≡ []
+    → entries_new_at machine_name taken (entry_names machine) ≡ Ok u → HasTaken known (entry_names machine) taken
+    → modes_in_texts machine ws ts ≡ modes_from known ws [] (none_found ws) ts
+unfolding modes_in_texts
+after_machine machine ws ts taken known u none new k =
+    let first : entries_new_at machine_name [] (entry_names machine) ≡ Ok u = subst (λ (keys : List (List ℕ)). entries_new_at machine_name keys (entry_names machine) ≡ Ok u) none new in
+    let has : HasTaken known (entry_names machine) [] = subst (HasTaken known (entry_names machine)) none k in
+    rw first (same_machine ws (entry_keys machine) known (none_found ws) ts (λ q. sym (has q ∙ or_none (is_among (entry_keys machine) q))))

@@ -6,17 +6,21 @@ use Rattle.section_tables.specs.declared.tables.TextKind.TheVariants.{Machine}
 use Rattle.section_tables.specs.Reading.{IsReadOr, ◌>>=◌, rows_fault_at}
 use Rattle.section_tables.proofs.Steps.{bind_ok, guard_false, ok_is}
 use Rattle.section_tables.proofs.Outcomes.{weaker, then_or}
-use Rattle.mpf_config.specs.Rows.{Rows, RowsFault}
+use Rattle.mpf_config.specs.Rows.{Written, SectionRows, Rows, RowsFault}
 use Rattle.mpf_config.specs.BundleText.{Text, machine_name}
 use Rattle.mpf_config.specs.Typed.{listed_modes}
 use Rattle.mpf_config.specs.Unread.{read_of, machine_notes}
 use Rattle.mpf_config.specs.ModeReads.{MachineRead, ModeRead, rows_notes}
+use Rattle.mpf_config.specs.Apart.{AreDistinct, AreNamesApart, entry_names, entry_keys}
 use Rattle.mpf_config.specs.RowsOf.{Sizes, within_limits, AreRowsOf, IsRowsOf, IsTextOver, IsAbove}
-use Rattle.mpf_config.specs.Reading.{line_spot, TextRows, texts_at, machine_at, text_rows_at, machine_read_at, modes_from, none_found, found_of, rows_from, rows_at}
+use Rattle.mpf_config.specs.Reading.{line_spot, TextRows, texts_at, machine_at, text_rows_at, machine_read_at, entries_new_at, modes_from, modes_in_texts, none_found, found_of, rows_from, rows_at}
 use Rattle.mpf_config.proofs.BundleTexts.{texts_sound, texts_complete}
 use Rattle.mpf_config.proofs.TextNames.{machine_sound, machine_complete}
 use Rattle.mpf_config.proofs.TextRows.{text_rows_sound, text_rows_or}
 use Rattle.mpf_config.proofs.ListedModes.{modes_listed}
+use Rattle.mpf_config.proofs.EntryKeys.{new_sound, new_complete}
+use Rattle.mpf_config.proofs.EntriesApart.{rows_apart, modes_apart}
+use Rattle.mpf_config.proofs.NewNames.{nothing_in}
 use Rattle.mpf_config.proofs.ModesFound.{modes_found, modes_found_or}
 
 -- ---- the machine text
@@ -49,7 +53,20 @@ machine_or sizes texts text r is h =
 -- ---- the rows that are read
 
 abbrev modes_in : List Text → MachineRead → Result (List (Option ModeRead)) RowsFault
-modes_in texts m = modes_from (listed_modes m.rows) [] (none_found (listed_modes m.rows)) texts
+modes_in texts m = modes_in_texts m.rows (listed_modes m.rows) texts
+
+-- the modes that are found, where the entries of the machine text are new
+modes_parts : (machine : List SectionRows) (ws : List Written) (texts : List Text) (found : List (Option ModeRead)) → modes_in_texts machine ws texts ≡ Ok found
+    → AreDistinct (entry_names machine) × (modes_from (entry_keys machine) ws [] (none_found ws) texts ≡ Ok found)
+unfolding modes_in_texts
+modes_parts machine ws texts found e =
+    let a = bind_ok (entries_new_at machine_name [] (entry_names machine)) (λ all_new. modes_from (entry_keys machine) ws [] (none_found ws) texts) found e in
+    ((new_sound machine_name [] (entry_names machine) a.0 a.1).0, a.2)
+
+modes_or : (Above : Type 0) (machine : List SectionRows) (ws : List Written) (texts : List Text) (found : List (Option ModeRead)) → AreDistinct (entry_names machine)
+    → IsReadOr Above (modes_from (entry_keys machine) ws [] (none_found ws) texts) found → IsReadOr Above (modes_in_texts machine ws texts) found
+unfolding modes_in_texts
+modes_or Above machine ws texts found distinct h = rw (new_complete machine_name [] (entry_names machine) distinct (λ e c old. nothing_in _ old)) h
 
 abbrev from_modes : List Text → MachineRead → List (Option ModeRead) → Result Rows RowsFault
 from_modes texts m found = Ok (rows_from texts m (found_of found))
@@ -66,7 +83,8 @@ machine_first bundle texts m found are w e =
     let r = w.read in
     let rows = text_rows_sound Machine machine_name w.text r w.is_read in
     let listed = modes_listed within_limits Machine (read_of r.sections) r.rows rows.each in
-    let modes = modes_found (listed_modes r.rows) texts found listed.apart (subst (λ (n : MachineRead). modes_in texts n ≡ Ok found) (sym w.same) e) in
+    let parts = modes_parts r.rows (listed_modes r.rows) texts found (subst (λ (n : MachineRead). modes_in texts n ≡ Ok found) (sym w.same) e) in
+    let modes = modes_found r.rows (listed_modes r.rows) texts found listed.apart parts.1 in
     subst (λ (n : MachineRead). IsRowsOf within_limits bundle (rows_from texts n (found_of found))) w.same
     (record {
       texts = texts;
@@ -79,6 +97,7 @@ machine_first bundle texts m found are w e =
       modes = found_of found;
       each_mode = modes.1;
       mode_rows = refl;
+      apart = rows_apart r.rows (found_of found) parts.0 modes.2;
       notes = refl;
     })
 
@@ -119,8 +138,11 @@ module _ (sizes : Sizes) (bundle : List ℕ) (rows : Rows) (h : IsRowsOf sizes b
   modes_read : IsReadOr Above (from_machine h.texts its_machine) rows
   modes_read =
       let listed = modes_listed sizes Machine (read_of h.sections) rows.machine h.machine.each in
-      let found = modes_found_or sizes Above h.texts (listed_modes rows.machine) h.modes h.all_new listed.apart h.each_mode (λ w text there is over. inr (text, (h.texts, h.are_texts, inr (w, there, is)), over)) in
-      then_or Above (modes_in h.texts its_machine) (from_modes h.texts its_machine) found.0 rows found.2 (inl (ap (λ (rs : Rows). Ok rs) (whole (found_of found.0) found.1)))
+      let rows_are = subst (AreNamesApart rows.machine) h.mode_rows h.apart in
+      let distinct = modes_apart rows.machine h.modes rows_are in
+      let found = modes_found_or sizes Above rows.machine h.texts (listed_modes rows.machine) h.modes h.all_new listed.apart h.each_mode distinct (λ w text there is over. inr (text, (h.texts, h.are_texts, inr (w, there, is)), over)) in
+      let read = modes_or Above rows.machine (listed_modes rows.machine) h.texts found.0 rows_are.in_machine found.2 in
+      then_or Above (modes_in h.texts its_machine) (from_modes h.texts its_machine) found.0 rows read (inl (ap (λ (rs : Rows). Ok rs) (whole (found_of found.0) found.1)))
 
   machine_read : IsReadOr Above (machine_read_at h.texts) its_machine
   machine_read =

@@ -1,5 +1,5 @@
 -- What contracts of the functions inside this crate see.
-use Rattle.std.specs.Prelude.{ℕ, ◌+◌, List, Option, option_map, map, slice_get}
+use Rattle.std.specs.Prelude.{ℕ, ◌+◌, List, [], Option, Some, None, option_map, map, slice_get}
 use Rattle.std.specs.BTreeSet.{BTreeSet}
 use Rattle.std.specs.Borrow.{Bor}
 use Rattle.std.specs.Global.{Vec}
@@ -12,6 +12,7 @@ use Rattle.mpf_config.specs.Rows.{Block, SectionRows, Note}
 use Rattle.mpf_config.specs.Typed.{flag_of, listed_names, listed_posts}
 use Rattle.mpf_config.specs.BundleText.{Text}
 use Rattle.mpf_config.specs.ModeReads.{MachineRead, ModeRead}
+use Rattle.mpf_config.specs.Apart.{entry_keys}
 use Rattle.section_tables.specs.Rows.{Written, Value}
 use Rattle.mpf_config.specs.declared.listed_mode.ListedMode.{ListedMode}
 use Rattle.mpf_config.specs.View.{name_view, section_view, mode_view, note_view}
@@ -54,6 +55,19 @@ found_modes_view = map (option_map mode_read_view)
 -- the keys of a set
 abbrev pub keys_view : BTreeSet (Bor (List ℕ)) → List (List ℕ)
 keys_view s = map (λ k. k.now) s.keys
+
+-- the keys of a set that has copies of them
+abbrev pub copies_view : BTreeSet (Vec ℕ) → List (List ℕ)
+copies_view s = map (λ k. k.items) s.keys
+
+-- the keys of the entries of the mode at a place, if there is one
+abbrev pub mode_keys : Option (Option ModeRead) → List (List ℕ)
+mode_keys (Some (Some m)) = entry_keys m.mode.sections
+mode_keys _ = []
+
+abbrev pub placed_keys : List (Option ModeRead) → Option (ℕ × Written) → List (List ℕ)
+placed_keys found None = []
+placed_keys found (Some p) = mode_keys (slice_get found p.0)
 
 -- the settings that all logic blocks have, from this place on in a row
 abbrev pub block_at : ℕ → List Value → Block

@@ -3,6 +3,7 @@ pub mod Typed
 pub mod BundleText
 pub mod Unread
 pub mod ModeReads
+pub mod Apart
 pub mod RowsOf
 pub mod Named
 pub mod Short

@@ -21,6 +21,7 @@ use Rattle.mpf_config.specs.BundleText.{Text, machine_name, machine_owner, first
 use Rattle.mpf_config.specs.Typed.{listed_modes}
 use Rattle.mpf_config.specs.Unread.{read_of, mode_text_of, machine_notes, mode_notes, unlisted_notes}
 use Rattle.mpf_config.specs.ModeReads.{MachineRead, ModeRead}
+use Rattle.mpf_config.specs.Apart.{EntryName, entry_names, entry_key, entry_keys}
 
 -- a line of a bundle, or of a text as a whole
 abbrev pub line_spot : List ℕ → ℕ → Spot
@@ -111,28 +112,43 @@ unfoldable pub mode_read_at : Written → Text → Result ModeRead RowsFault
 mode_read_at w t =
     text_rows_at Mode t.name t.text >>= λ r. Ok (record { mode = record { name = w.text; sections = r.rows }; notes = mode_notes t.name r.sections })
 
+-- Each entry is new: its key is not among these, and not that of an earlier one.
+abbrev pub entries_new_at : List ℕ → List (List ℕ) → List EntryName → Result (Unit {0}) RowsFault
+entries_new_at text keys [] = Ok tt
+entries_new_at text keys (e ∷ es) =
+    if is_among keys (entry_key e) then refused Duplicate (record { text = text; line = e.name.line; key = e.name.text })
+    else entries_new_at text (entry_key e ∷ keys) es
+
+-- a mode by its text, once it is read, has no entry that is taken
+unfoldable pub new_mode_at : List (List ℕ) → Written → Text → Result ModeRead RowsFault
+new_mode_at taken w t = mode_read_at w t >>= λ m. entries_new_at t.name taken (entry_names m.mode.sections) >>= λ all_new. Ok m
+
 -- What is found so far, with the mode of this text at its place; unchanged if the text is that of no listed mode.
-abbrev pub placed_at : Text → List (Option ModeRead) → Option (ℕ × Written) → Result (List (Option ModeRead)) RowsFault
-placed_at t found None = Ok found
-placed_at t found (Some p) = mode_read_at p.1 t >>= λ m. Ok (set found p.0 (Some m))
-
--- The modes that are found in texts, each at its place in the list of modes. Texts are read one after the other, and a name that
--- came before is a fault.
-abbrev pub modes_from : List Written → List (List ℕ) → List (Option ModeRead) → List Text → Result (List (Option ModeRead)) RowsFault
-modes_from ws names found [] = Ok found
-modes_from ws names found (t ∷ ts) =
-    if is_among names t.name then refused Duplicate (line_spot t.name 1)
-    else (placed_at t found (found_in mode_text_of t.name ws) >>= λ next. modes_from ws (t.name ∷ names) next ts)
-
--- none is found before the first text
-abbrev pub none_found : List Written → List (Option ModeRead)
-none_found ws = map (λ w. None) ws
+abbrev pub placed_at : Text → List (List ℕ) → List (Option ModeRead) → Option (ℕ × Written) → Result (List (Option ModeRead)) RowsFault
+placed_at t taken found None = Ok found
+placed_at t taken found (Some p) = new_mode_at taken p.1 t >>= λ m. Ok (set found p.0 (Some m))
 
 -- those that were found
 abbrev pub found_of : List (Option ModeRead) → List ModeRead
 found_of [] = []
 found_of (None ∷ os) = found_of os
 found_of (Some m ∷ os) = m ∷ found_of os
+
+-- the keys of entries that are taken: those of the machine, and of the modes that were found
+abbrev pub taken_by : List (List ℕ) → List ModeRead → List (List ℕ)
+taken_by machine modes = machine ++ flat_map (λ m. entry_keys m.mode.sections) modes
+
+-- The modes that are found in texts, each at its place in the list of modes. Texts are read one after the other, and a name that
+-- came before is a fault, of a text and of an entry. These are the keys of the machine's entries.
+abbrev pub modes_from : List (List ℕ) → List Written → List (List ℕ) → List (Option ModeRead) → List Text → Result (List (Option ModeRead)) RowsFault
+modes_from machine ws names found [] = Ok found
+modes_from machine ws names found (t ∷ ts) =
+    if is_among names t.name then refused Duplicate (line_spot t.name 1)
+    else (placed_at t (taken_by machine (found_of found)) found (found_in mode_text_of t.name ws) >>= λ next. modes_from machine ws (t.name ∷ names) next ts)
+
+-- none is found before the first text
+abbrev pub none_found : List Written → List (Option ModeRead)
+none_found ws = map (λ w. None) ws
 
 -- ---- the rows
 
@@ -143,11 +159,15 @@ rows_from texts machine modes = record {
   notes = (machine.notes ++ flat_map (λ m. m.notes) modes) ++ unlisted_notes (listed_modes machine.rows) texts;
 }
 
+-- the modes of a machine text with these sections, which lists these modes; its own entries are taken first
+unfoldable pub modes_in_texts : List SectionRows → List Written → List Text → Result (List (Option ModeRead)) RowsFault
+modes_in_texts machine ws texts = entries_new_at machine_name [] (entry_names machine) >>= λ all_new. modes_from (entry_keys machine) ws [] (none_found ws) texts
+
 -- The rows of a bundle: its machine text is read first, and then the texts of the modes that it lists.
 unfoldable pub rows_at : List ℕ → Result Rows RowsFault
 rows_at bundle =
     if nat_lt (2 ^ 23) (length bundle) then refused Limit (line_spot (codes "-") 1)
-    else (texts_at bundle >>= λ texts. machine_read_at texts >>= λ machine. modes_from (listed_modes machine.rows) [] (none_found (listed_modes machine.rows)) texts
+    else (texts_at bundle >>= λ texts. machine_read_at texts >>= λ machine. modes_in_texts machine.rows (listed_modes machine.rows) texts
     >>= λ found. Ok (rows_from texts machine (found_of found)))
 
 -- the names of the modes that a machine text lists

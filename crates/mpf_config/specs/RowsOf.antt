@@ -17,6 +17,7 @@ use Rattle.mpf_config.specs.BundleText.{Text, machine_name, machine_owner, versi
 use Rattle.mpf_config.specs.Typed.{listed_modes}
 use Rattle.mpf_config.specs.Unread.{read_of, mode_text_of, present_of, mode_notes}
 use Rattle.mpf_config.specs.ModeReads.{ModeRead, rows_notes}
+use Rattle.mpf_config.specs.Apart.{AreNamesApart}
 
 -- ---- the bundle and its texts
 
@@ -143,6 +144,7 @@ pub record IsRowsOf (sizes : Sizes) (bundle : List ℕ) (rows : Rows) : Type 0 w
   pub modes : List ModeRead
   pub each_mode : AllZip (IsModeRead sizes texts) (present_of texts (listed_modes rows.machine)) modes
   pub mode_rows : rows.modes ≡ map (λ m. m.mode) modes
+  pub apart : AreNamesApart rows.machine rows.modes
   pub notes : rows.notes ≡ rows_notes texts (listed_modes rows.machine) sections modes
 
 -- the names of the modes that a machine text lists

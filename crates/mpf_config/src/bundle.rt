@@ -1,18 +1,20 @@
 //! A bundle of texts.
 
 ghost use Rattle.std.specs.Prelude.{◌≡◌, ◌≢◌, ℕ, List, map, IfOk, IfErr};
-ghost use Rattle.mpf_config.specs.Reading.{machine_read_at, rows_at, mode_names_at};
+ghost use Rattle.mpf_config.specs.Reading.{machine_read_at, modes_in_texts, rows_at, mode_names_at};
 ghost use Rattle.mpf_config.specs.Rows.{Rows};
 ghost use Rattle.mpf_config.specs.RowsOf.{Sizes, within_limits, IsRowsOf, IsAbove, AreModesOf, IsTextOver};
-ghost use Rattle.mpf_config.specs.View.{name_view, rows_view, GivesRows};
-ghost use Rattle.mpf_config.specs.Inside.{texts_view, names_only_view, machine_read_view};
+ghost use Rattle.mpf_config.specs.View.{name_view, section_view, rows_view, GivesRows};
+ghost use Rattle.mpf_config.specs.Inside.{texts_view, names_only_view, machine_read_view, modes_view, found_modes_view};
 
 use crate::config::{Config, MachineText, Note, Section};
 use crate::fault::{ConfigFault, FaultKind};
 use crate::listed::listed_modes;
-use crate::modes::{find_modes, take_modes};
+use crate::listed_mode::ListedMode;
+use crate::modes::{ModeRead, find_modes, take_modes};
 use crate::sections::{sections, sections_in};
 use crate::spot::{NONE, line_of};
+use crate::taken::take_entries;
 use crate::texts::{MACHINE_NAME, Text, machine_text, texts};
 use crate::typed::listed_modes as modes_in;
 use crate::unread::{add_unlisted, machine_notes};
@@ -20,6 +22,7 @@ use crate::version::tree_of;
 use section_tables::rows::Name;
 use section_tables::tables::TextKind;
 use std::alloc::{AllocError, Global};
+use std::collections::BTreeSet;
 
 /// The most bytes of a bundle: 8 MiB.
 const MAX_BUNDLE_LEN: usize = 8_388_608;
@@ -46,6 +49,22 @@ fn read_machine(alloc: Global, texts: &[Text<'_>]) -> Result<MachineRead, Config
     Ok(MachineRead { sections, notes })
 }
 
+// The modes of a machine text with these sections, which lists these modes; or the first fault.
+#[tactic(auto, unfolding(crate::specs::Reading::modes_in_texts))]
+fn read_modes(
+    alloc: Global,
+    sections: &[Section],
+    listed: &[ListedMode<'_>],
+    texts: &[Text<'_>],
+) -> Result<Vec<Option<ModeRead>>, ConfigFault>
+    ensures { GivesRows (λ found. found_modes_view found.items) result (modes_in_texts (map section_view sections.now) (modes_view listed.now) (texts_view texts.now)) }
+{
+    let mut taken = BTreeSet::new(alloc);
+    take_entries(alloc, MACHINE_NAME, sections, &mut taken)?;
+    let found = find_modes(alloc, listed, texts, &mut taken)?;
+    Ok(found)
+}
+
 // The rows of a bundle, or its first fault.
 #[tactic(auto, unfolding(crate::specs::Reading::rows_at))]
 fn read_exactly(alloc: Global, bundle: &[u8]) -> Result<Config, ConfigFault>
@@ -61,7 +80,7 @@ fn read_exactly(alloc: Global, bundle: &[u8]) -> Result<Config, ConfigFault>
         mut notes,
     } = read_machine(alloc, &texts)?;
     let listed = listed_modes(alloc, modes_in(&sections))?;
-    let found = find_modes(alloc, &listed, &texts)?;
+    let found = read_modes(alloc, &sections, &listed, &texts)?;
     let modes = take_modes(alloc, found, &mut notes)?;
     add_unlisted(alloc, &listed, &texts, &mut notes)?;
     drop(listed);
@@ -88,7 +107,9 @@ fn read_exactly(alloc: Global, bundle: &[u8]) -> Result<Config, ConfigFault>
 /// - The faults of the machine text.
 /// - The faults of the other texts, in the order of the bundle. A text with the name of an earlier
 ///   one is `Duplicate`, at its line 1. This is judged before anything else in it, and even if the
-///   text is not read.
+///   text is not read. An entry of the same section and name as one of the machine text, or of an
+///   earlier mode, is `Duplicate` at its line, with its name. This is judged after anything else in
+///   the text. Players have no such entries: an event may be handled in several texts.
 ///
 /// The faults of a text are looked for in this order:
 ///

@@ -12,6 +12,7 @@ mod modes;
 pub mod notes;
 mod sections;
 mod spot;
+mod taken;
 mod texts;
 pub mod timers;
 pub mod typed;

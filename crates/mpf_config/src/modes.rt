@@ -1,12 +1,14 @@
 //! The texts of modes.
 
-ghost use Rattle.std.specs.Prelude.{◌≡◌, ◌++◌, [], length, map, IfOk};
+ghost use Rattle.std.specs.Prelude.{◌≡◌, ◌++◌, ◌||◌, ℕ, List, [], length, map, IfOk};
 ghost use Rattle.std.specs.List.{flat_map};
+ghost use Rattle.yaml_subset.specs.Keys.{is_among};
 ghost use Rattle.section_tables.specs.Tables.{found_in};
 ghost use Rattle.mpf_config.specs.Unread.{mode_text_of};
-ghost use Rattle.mpf_config.specs.Reading.{mode_read_at, placed_at, modes_from, none_found, found_of};
+ghost use Rattle.mpf_config.specs.Apart.{entry_keys};
+ghost use Rattle.mpf_config.specs.Reading.{mode_read_at, new_mode_at, placed_at, modes_from, none_found, found_of};
 ghost use Rattle.mpf_config.specs.View.{name_view, mode_view, GivesRows};
-ghost use Rattle.mpf_config.specs.Inside.{text_view, texts_view, modes_view, notes_view, mode_read_view, found_modes_view};
+ghost use Rattle.mpf_config.specs.Inside.{text_view, texts_view, modes_view, notes_view, mode_read_view, found_modes_view, copies_view, placed_keys};
 
 use crate::config::{ModeText, Note};
 use crate::fault::{ConfigFault, FaultKind};
@@ -14,6 +16,7 @@ use crate::listed::mode_of;
 use crate::listed_mode::ListedMode;
 use crate::sections::{sections, sections_in};
 use crate::spot::line_of;
+use crate::taken::take_entries;
 use crate::texts::{Text, take_name};
 use crate::unread::mode_notes;
 use crate::version::tree_of;
@@ -45,19 +48,38 @@ fn read_mode(alloc: Global, name: &Name, text: Text<'_>) -> Result<ModeRead, Con
     })
 }
 
+/// The same, once none of its entries is taken; or Duplicate at the first that is. They are taken
+/// then.
+#[tactic(auto, unfolding(crate::specs::Reading::new_mode_at))]
+fn read_new_mode(
+    alloc: Global,
+    name: &Name,
+    text: Text<'_>,
+    taken: &mut BTreeSet<Vec<u8>>,
+) -> Result<ModeRead, ConfigFault>
+    ensures value { GivesRows mode_read_view result (new_mode_at (copies_view taken.old) (name_view name.now) (text_view text.entry)) }
+    ensures known { IfOk result (λ read. (q : List ℕ) → is_among (copies_view taken.new) q ≡ (is_among (entry_keys (mode_read_view read).mode.sections) q || is_among (copies_view taken.old) q)) }
+{
+    let read = read_mode(alloc, name, text)?;
+    take_entries(alloc, text.name, &read.mode.sections, taken)?;
+    Ok(read)
+}
+
 /// Reads a text, and puts its mode at its place in the list; or the first fault in it. Does nothing
 /// if it is the text of no listed mode.
 fn place(
     alloc: Global,
     modes: &[ListedMode<'_>],
     text: Text<'_>,
+    taken: &mut BTreeSet<Vec<u8>>,
     found: &mut [Option<ModeRead>],
 ) -> Result<(), ConfigFault>
     requires { length found.old ≡ length modes.now }
-    ensures { GivesRows (λ _. found_modes_view found.new) result (placed_at (text_view text.entry) (found_modes_view found.old) (found_in mode_text_of text.entry.name.now (modes_view modes.now))) }
+    ensures value { GivesRows (λ _. found_modes_view found.new) result (placed_at (text_view text.entry) (copies_view taken.old) (found_modes_view found.old) (found_in mode_text_of text.entry.name.now (modes_view modes.now))) }
+    ensures known { IfOk result (λ _. (q : List ℕ) → is_among (copies_view taken.new) q ≡ (is_among (placed_keys (found_modes_view found.new) (found_in mode_text_of text.entry.name.now (modes_view modes.now))) q || is_among (copies_view taken.old) q)) }
 {
     if let Some((place, name)) = mode_of(modes, text.name) {
-        found[place] = Some(read_mode(alloc, name, text)?);
+        found[place] = Some(read_new_mode(alloc, name, text, taken)?);
     }
     Ok(())
 }
@@ -74,15 +96,17 @@ fn none_found(alloc: Global, modes: &[ListedMode<'_>]) -> Result<Vec<Option<Mode
 }
 
 /// Takes each text to the place of its mode, in the order of the bundle; or the first fault, which
-/// may also be Duplicate at a text with the name of an earlier one.
+/// may also be Duplicate at a text with the name of an earlier one. The entries of the machine text
+/// are taken before.
 fn place_all(
     alloc: Global,
     modes: &[ListedMode<'_>],
     texts: &[Text<'_>],
+    taken: &mut BTreeSet<Vec<u8>>,
     found: &mut [Option<ModeRead>],
 ) -> Result<(), ConfigFault>
-    requires { length found.old ≡ length modes.now }
-    ensures { GivesRows (λ _. found_modes_view found.new) result (modes_from (modes_view modes.now) [] (found_modes_view found.old) (texts_view texts.now)) }
+    requires none { found_modes_view found.old ≡ none_found (modes_view modes.now) }
+    ensures { GivesRows (λ _. found_modes_view found.new) result (modes_from (copies_view taken.old) (modes_view modes.now) [] (found_modes_view found.old) (texts_view texts.now)) }
 {
     let mut names = BTreeSet::new(alloc);
     for text in texts {
@@ -91,22 +115,24 @@ fn place_all(
             let fault = line_of(text.name, 1).fault(alloc, FaultKind::Duplicate)?;
             return Err(ConfigFault::Bundle(fault));
         }
-        place(alloc, modes, *text, found)?;
+        place(alloc, modes, *text, taken, found)?;
     }
     Ok(())
 }
 
 /// The modes that are found in texts, each at its place in the list of modes; or the first fault in
-/// the order of the bundle. No two texts may have one name.
+/// the order of the bundle. No two texts may have one name, and no entry may be taken: neither by
+/// the machine text nor by an earlier mode.
 pub fn find_modes(
     alloc: Global,
     modes: &[ListedMode<'_>],
     texts: &[Text<'_>],
+    taken: &mut BTreeSet<Vec<u8>>,
 ) -> Result<Vec<Option<ModeRead>>, ConfigFault>
-    ensures { GivesRows (λ found. found_modes_view found.items) result (modes_from (modes_view modes.now) [] (none_found (modes_view modes.now)) (texts_view texts.now)) }
+    ensures { GivesRows (λ found. found_modes_view found.items) result (modes_from (copies_view taken.old) (modes_view modes.now) [] (none_found (modes_view modes.now)) (texts_view texts.now)) }
 {
     let mut found = none_found(alloc, modes)?;
-    place_all(alloc, modes, texts, &mut found)?;
+    place_all(alloc, modes, texts, taken, &mut found)?;
     Ok(found)
 }
 

@@ -206,7 +206,7 @@ fn section_named<'a>(sections: &'a [Section], name: &[u8]) -> Option<&'a Content
 }
 
 impl Content {
-    fn entries(&self) -> &[Entry]
+    pub(crate) fn entries(&self) -> &[Entry]
         ensures { map entry_view result.now ≡ entries_in (content_view self.now) }
     {
         match self {

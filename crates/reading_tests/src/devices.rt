@@ -25,6 +25,20 @@ const DEVICES: &str = "\
 @¶modes: m¶@m¶timers:¶  playfield:¶ => error 6 BadValue modes/m/config/m.yaml 3 playfield¶
 ";
 
+// Texts that have entries of one section and name, or of two sections and one name, and what is read of them.
+const SAME_NAMES: &str = "\
+@¶modes: m¶counters:¶  c:¶    count_events: a¶@m¶counters:¶  b:¶    count_events: a¶  c:¶    count_events: d¶ => error 8 Duplicate modes/m/config/m.yaml 5 c¶
+@m¶accruals:¶  c:¶    events:¶@¶modes: m¶accruals:¶  c:¶    events:¶ => error 8 Duplicate modes/m/config/m.yaml 3 c¶
+@¶modes: a, b¶@b¶timers:¶  t:¶@a¶timers:¶  s:¶  t:¶ => error 8 Duplicate modes/a/config/a.yaml 4 t¶
+@¶modes: m¶counters:¶  c:¶    count_events:¶sequences:¶  s:¶    events:¶@m¶sequences:¶  r:¶    events:¶  s:¶    events:¶counters:¶  c:¶    count_events:¶ => error 8 Duplicate modes/m/config/m.yaml 5 s¶
+@¶modes: a, b, c¶@a¶timers:¶  t:¶@b¶timers:¶  t:¶@c¶coils:¶ => error 8 Duplicate modes/b/config/b.yaml 3 t¶
+@¶modes: a, b, c¶@a¶timers:¶  t:¶@b¶coils:¶@c¶timers:¶  t:¶ => error 4 UnknownSection modes/b/config/b.yaml 2 coils¶
+@¶modes: a, b¶@a¶timers:¶  t:¶@b¶timers:¶  t:¶  u:¶    start_value: x¶ => error 6 BadValue modes/b/config/b.yaml 5 start_value¶
+@¶modes: x, «63 m№, »¶«63 @m№¶timers:¶  t№:¶»@x¶timers:¶  t63:¶ => error 8 Duplicate modes/x/config/x.yaml 3 t63¶
+@¶modes: a, b¶@a¶sequences:¶  t:¶    events:¶@b¶timers:¶  t:¶ => modes¶ a@2 b@2¶a: 100 true true;;;¶sequences¶ t@3;; true true false;;;;;;;¶b: 100 true true;;;¶timers¶ t@3; 0 None Up 1000 false false;¶
+@¶modes: a¶@a¶timers:¶  t:¶@b¶timers:¶  t:¶ => modes¶ a@2¶a: 100 true true;;;¶timers¶ t@3; 0 None Up 1000 false false;¶note modes/b/config/b.yaml 0 unlisted modes/b/config/b.yaml¶
+";
+
 fn show_name(out: &mut String, name: &Name) -> Result<(), AllocError> {
     write!(out, " {}@{};", utf8(&name.text), name.line)
 }
@@ -114,4 +128,9 @@ pub(crate) fn show_devices(out: &mut String, section: &Section) -> Result<(), Al
 #[test]
 fn logic_blocks_and_timers(rt: HostRuntime) -> Result<(), Fail> {
     assert_rows(&rt, Subject::Texts, DEVICES)
+}
+
+#[test]
+fn entries_of_one_name(rt: HostRuntime) -> Result<(), Fail> {
+    assert_rows(&rt, Subject::Texts, SAME_NAMES)
 }

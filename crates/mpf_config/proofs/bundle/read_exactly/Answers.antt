@@ -1,11 +1,11 @@
-use Rattle.std.proofs.Common.{◌≡◌, List, [], map, Ok, ap, sym, subst, ◌∙◌}
+use Rattle.std.proofs.Common.{◌≡◌, List, map, Ok, ap, sym, subst, ◌∙◌}
 use Rattle.std.specs.List.{All}
 use Rattle.mpf_config.specs.declared.config.Section.{Section}
 use Rattle.mpf_config.specs.Rows.{Written}
 use Rattle.mpf_config.specs.View.{section_view}
 use Rattle.mpf_config.specs.Short.{IsShortMode}
 use Rattle.mpf_config.specs.FewModes.{AreFewModes}
-use Rattle.mpf_config.specs.Reading.{modes_from, none_found, found_of, rows_from}
+use Rattle.mpf_config.specs.Reading.{modes_in_texts, found_of, rows_from}
 use Rattle.mpf_config.specs.Typed.{listed_modes}
 use Rattle.mpf_config.specs.Inside.{texts_view, modes_view, machine_read_view, found_modes_view}
 use Rattle.mpf_config.proofs.Theorem.{rows_again}
@@ -19,7 +19,7 @@ invariant_of-result c =
     let machine = machine_read_view c.in_ok-sections.field-0 in
     let found = found_modes_view c.in_ok-found.found.items in
     let listed : modes_view c.in_ok-listed.listed.items ≡ listed_modes machine.rows = c.in_ok-listed.ensures ∙ c.listed_modes.ensures ∙ ap (λ (s : List Section). listed_modes (map section_view s)) c.deref-2.ensures.value in
-    let modes = subst (λ (ws : List Written). modes_from ws [] (none_found ws) texts ≡ Ok found) listed (rw (c.deref-3.ensures.value, c.deref-4.ensures.value) at c.in_ok-found.ensures) in
+    let modes = subst (λ (ws : List Written). modes_in_texts machine.rows ws texts ≡ Ok found) listed (rw (c.deref-3.ensures.value, c.deref-4.ensures.value, c.deref-5.ensures.value) at c.in_ok-found.ensures) in
     let is = rows_again bundle texts machine found c.if-bundle-gt-MAX_BUNDLE_LEN.false c.in_ok-texts.ensures (rw c.deref.ensures.value at c.in_ok-sections.ensures) modes in
     let rows = rows_from texts machine (found_of found) in
     let short = rows_are_short bundle rows is in

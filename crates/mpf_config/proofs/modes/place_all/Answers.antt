@@ -1,22 +1,62 @@
-use Rattle.std.proofs.Common.{[], ◌∙◌, arith}
+use Rattle.std.proofs.Common.{◌||◌, [], get_or, ap, subst, refl, ◌∙◌, arith}
+use Rattle.std.proofs.lemmas.Result.{err_from_is_err_and}
+use Rattle.yaml_subset.specs.Keys.{is_among}
 use Rattle.mpf_config.specs.declared.texts.Text as texts
-use Rattle.mpf_config.specs.Inside.{keys_view, modes_view, found_modes_view}
-use Rattle.mpf_config.proofs.SameTexts.{takes_next}
+use Rattle.section_tables.specs.Tables.{found_in}
+use Rattle.mpf_config.specs.Unread.{mode_text_of}
+use Rattle.mpf_config.specs.View.{FailsRows}
+use Rattle.mpf_config.specs.Inside.{keys_view, copies_view, modes_view, found_modes_view, placed_keys}
+use Rattle.mpf_config.proofs.NoneBefore.{none_before, machine_only, none_long, next_before, next_taken}
+use Rattle.mpf_config.proofs.SameTexts.{takes_next, fails_next, is_fresh}
 use Rattle.mpf_config.proofs.modes.place_all.Goals as goal
 
 -- the text that a place past the end would have
 abbrev nothing : texts.Text
 nothing = record { name = record { ref_ptr = (0, 0); now = [] }; text = record { ref_ptr = (0, 0); now = [] } }
 
+pub loop-text-init : goal.loop-text-init
+loop-text-init c =
+    let ws = modes_view c.args.modes.now in
+    let found = found_modes_view c.args.found.now in
+    record {
+      as_long = none_long c.args.found.now c.args.modes.now c.requires.none;
+      none = none_before (keys_view c.new-names.result) ws found c.requires.none;
+      known = λ q. ap (λ keys. is_among keys q) (machine_only (copies_view c.args.taken.now) ws found c.requires.none);
+      so_far = rw c.new-names.ensures.empty refl;
+    }
+
+pub returns-in_err-place : goal.returns-in_err-place
+returns-in_err-place c =
+    let fault = c.in_err-place.field-0.0 in
+    let fails =
+    fails_next (modes_view c.args.modes.now) (copies_view c.args.taken.now) (copies_view c.loop-text.taken) (keys_view c.loop-text.names) (found_modes_view c.loop-text.found)
+    c.args.texts.now c.loop-text.text-index nothing c.loop-text-test.true c.in_ok-fresh.fresh fault
+    c.in_ok-fresh.ensures.fresh c.if-not-fresh.false c.loop-text.invariant.known c.in_err-place.ensures.value in
+    let p = err_from_is_err_and c.from_residual-in_err-place.result c.from_residual-in_err-place.ensures.1 in
+    rw (p.1, p.2) (subst (FailsRows fault) c.loop-text.invariant.so_far fails)
+
 pub loop-text-preserved : goal.loop-text-preserved
 loop-text-preserved c =
     let ws = modes_view c.args.modes.now in
     let found = found_modes_view c.loop-text.found in
+    let next = found_modes_view c.place.new.found in
+    let machine = copies_view c.args.taken.now in
+    let keys = copies_view c.loop-text.taken in
+    let names = keys_view c.loop-text.names in
+    let known = keys_view c.take_name.new.names in
+    let hit = found_in mode_text_of (get_or c.args.texts.now c.loop-text.text-index nothing).name.now ws in
+    let fresh =
+    is_fresh ws machine keys names found c.args.texts.now c.loop-text.text-index nothing c.loop-text-test.true c.in_ok-fresh.fresh
+    c.in_ok-fresh.ensures.fresh c.if-not-fresh.false in
     record {
       as_long = omega arith;
+      none = next_before names known _ c.in_ok-fresh.ensures.known fresh _ keys ws found next c.loop-text.invariant.none c.in_ok-place.ensures.value;
+      known = λ q.
+          c.in_ok-place.ensures.known q
+          ∙ ap (λ b. is_among (placed_keys next hit) q || b) (c.loop-text.invariant.known q)
+          ∙ next_taken names known _ c.in_ok-fresh.ensures.known fresh machine _ keys ws found next c.loop-text.invariant.none c.in_ok-place.ensures.value q;
       so_far =
-          takes_next ws (keys_view c.loop-text.names) found c.args.texts.now c.loop-text.text-index nothing c.loop-text-test.true c.in_ok-fresh.fresh
-          (keys_view c.take_name.new.names) (found_modes_view c.place.new.found)
-          c.in_ok-fresh.ensures.fresh c.if-not-fresh.false c.in_ok-fresh.ensures.known c.in_ok-place.ensures
+          takes_next ws machine keys names found c.args.texts.now c.loop-text.text-index nothing c.loop-text-test.true c.in_ok-fresh.fresh known next
+          c.in_ok-fresh.ensures.fresh c.if-not-fresh.false c.in_ok-fresh.ensures.known c.loop-text.invariant.known c.in_ok-place.ensures.value
           ∙ c.loop-text.invariant.so_far;
     }
