@@ -15,6 +15,7 @@ import sys
 import tempfile
 
 import cascades
+import devices
 import stacked
 import texts
 import waits
@@ -104,7 +105,7 @@ def checks_growth(bench: Bench, base: float) -> None:
 
 
 def checks_growth_of_plans(bench: Bench) -> None:
-    """Both are measured in turn, since each is compared with the other and with its own parts."""
+    """Events and modes are measured in turn, since each is compared with the other and with its own parts."""
     events = [texts.bundle("".join(cascades.largest(part))) for part in PARTS]
     modes = [stacked.largest(part) for part in PARTS]
     costs = bench.check_in_turn(events + modes)
@@ -119,6 +120,9 @@ def checks_growth_of_plans(bench: Bench) -> None:
     )
     of_modes = show_growth("bindings", stacked.BINDINGS, modes, costs[len(PARTS) :])
     print(f"for each byte {of_modes / of_events:.2f} times as long as of the largest events above")
+    rows = [texts.bundle("".join(devices.largest(part))) for part in PARTS]
+    print(f"\nhow the time of check grows with the devices ({devices.ROWS:,} counters, and parts of it)")
+    show_growth("devices", devices.ROWS, rows, bench.check_in_turn(rows))
 
 
 def show_growth(what: str, count: int, bundles: list[bytes], costs: list[Cost]) -> float:
@@ -179,6 +183,13 @@ def plays_modes(bench: Bench, runs: int) -> None:
     plays_both(bench, f" with {stacked.STACKED} stacked modes", bundle, log, runs)
 
 
+def plays_devices(bench: Bench, runs: int) -> None:
+    bundle, log = bench.folder / "devices.bundle", bench.folder / "devices.log"
+    bundle.write_bytes(devices.machine())
+    log.write_text(devices.log())
+    plays_both(bench, f" with {devices.BLOCKS} logic blocks and {devices.TIMERS} timers", bundle, log, runs)
+
+
 def plays_waits(bench: Bench, runs: int) -> None:
     log = bench.folder / "waits.log"
     log.write_text(waits.log())
@@ -208,6 +219,7 @@ def main() -> None:
         checks_growth_of_plans(bench)
         plays_cascades(bench, max(runs // 3, 1))
         plays_modes(bench, max(runs // 3, 1))
+        plays_devices(bench, max(runs // 3, 1))
         plays_waits(bench, max(runs // 3, 1))
 
 

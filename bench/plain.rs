@@ -1,6 +1,6 @@
 //! plain LOG < BUNDLE: plays a log like `pinball play`, in plain Rust and without proofs: the other side of the
-//! measurement. Of bundles it reads only the form that `cascades.py` and `stacked.py` write, and checks nothing there.
-//! It refuses the lines of a log that `pinball play` refuses. Moments are in milliseconds. Built by rustc alone.
+//! measurement. Of bundles it reads only the form that `cascades.py`, `stacked.py` and `devices.py` write, and checks
+//! nothing there. It refuses the lines of a log that `pinball play` refuses. Moments are in milliseconds. Built by rustc alone.
 use std::collections::{HashMap, VecDeque};
 use std::fmt::Write as _;
 use std::io::{self, BufWriter, Read, Write};
@@ -96,6 +96,171 @@ enum Effect {
     Post(Vec<u16>),
     Start(u8),
     Stop(u8),
+    /// Does this to the device of the number.
+    Act(u16, Act),
+}
+
+#[derive(Clone, Copy)]
+enum Act {
+    Count,
+    Step(usize),
+    Start,
+    Pause,
+}
+
+/// What a logic block posts when it is hit: the first two of these, or all of them.
+const BLOCK_POSTS: [&str; 3] = ["updated", "hit", "complete"];
+const TIMER_POSTS: [&str; 4] = ["started", "paused", "tick", "complete"];
+
+/// What a timer posts, by its place in `TIMER_POSTS`.
+const RUNS: usize = 0;
+const PAUSES: usize = 1;
+const TICKS: usize = 2;
+const ENDS: usize = 3;
+
+#[derive(Default)]
+struct Counter {
+    complete: i64,
+    window: u64,
+    value: i64,
+    last_hit: Option<u64>,
+}
+
+#[derive(Default)]
+struct Timer {
+    end: i64,
+    interval: u64,
+    starts: bool,
+    restarts: bool,
+    value: i64,
+    due: Option<u64>,
+}
+
+impl Timer {
+    fn run(&mut self, now: u64) -> usize {
+        self.due = Some(now + self.interval);
+        RUNS
+    }
+
+    fn fire(&mut self, now: u64) -> Vec<usize> {
+        self.value += 1;
+        if self.value < self.end {
+            self.due = Some(now + self.interval);
+            return vec![TICKS];
+        }
+        self.due = None;
+        if !self.restarts {
+            return vec![TICKS, ENDS];
+        }
+        self.value = 0;
+        vec![TICKS, ENDS, self.run(now)]
+    }
+}
+
+enum Kind {
+    Counter(Counter),
+    Accrual(Vec<bool>),
+    Sequence { steps: usize, next: usize },
+    Timer(Timer),
+}
+
+struct Device {
+    owner: Owner,
+    kind: Kind,
+    /// The numbers of what it may post.
+    events: Vec<u16>,
+}
+
+impl Device {
+    fn due(&self) -> Option<u64> {
+        match &self.kind {
+            Kind::Timer(timer) => timer.due,
+            _ => None,
+        }
+    }
+
+    /// Its mode has started. Gives the places of what it posts, as all that follow do.
+    fn start(&mut self, now: u64) -> Vec<usize> {
+        match &mut self.kind {
+            Kind::Counter(counter) => (counter.value, counter.last_hit) = (0, None),
+            Kind::Accrual(done) => done.fill(false),
+            Kind::Sequence { next, .. } => *next = 0,
+            Kind::Timer(timer) => {
+                timer.value = 0;
+                return if timer.starts { vec![timer.run(now)] } else { vec![] };
+            }
+        }
+        vec![]
+    }
+
+    fn stop(&mut self) {
+        if let Kind::Timer(timer) = &mut self.kind {
+            timer.due = None;
+        }
+    }
+
+    fn fire(&mut self, now: u64) -> Vec<usize> {
+        match &mut self.kind {
+            Kind::Timer(timer) => timer.fire(now),
+            _ => vec![],
+        }
+    }
+
+    fn act(&mut self, act: Act, now: u64) -> Vec<usize> {
+        let completes = match (&mut self.kind, act) {
+            (Kind::Counter(counter), Act::Count) => {
+                if counter.last_hit.is_some_and(|last| now < last + counter.window) {
+                    return vec![];
+                }
+                counter.last_hit = Some(now);
+                counter.value += 1;
+                counter.value >= counter.complete
+            }
+            (Kind::Accrual(done), Act::Step(step)) => {
+                if std::mem::replace(&mut done[step], true) {
+                    return vec![];
+                }
+                done.iter().all(|&done| done)
+            }
+            (Kind::Sequence { steps, next }, Act::Step(step)) => {
+                if step != *next {
+                    return vec![];
+                }
+                *next += 1;
+                next == steps
+            }
+            (Kind::Timer(timer), Act::Start) if timer.due.is_none() => return vec![timer.run(now)],
+            (Kind::Timer(timer), Act::Pause) if timer.due.is_some() => {
+                timer.due = None;
+                return vec![PAUSES];
+            }
+            _ => return vec![],
+        };
+        if !completes {
+            return vec![0, 1];
+        }
+        self.reset();
+        vec![0, 1, 2]
+    }
+
+    fn reset(&mut self) {
+        match &mut self.kind {
+            Kind::Counter(counter) => counter.value = 0,
+            Kind::Accrual(done) => done.fill(false),
+            Kind::Sequence { next, .. } => *next = 0,
+            Kind::Timer(_) => (),
+        }
+    }
+}
+
+/// Milliseconds.
+fn time(text: &str) -> u64 {
+    text.strip_suffix("ms").unwrap_or(text).parse().expect("a time in ms")
+}
+
+/// The items of a list in brackets.
+fn items(text: &str) -> Vec<&str> {
+    text.trim_matches(['[', ']']).split(", ").collect()
 }
 
 struct Handler {
@@ -128,6 +293,7 @@ struct Machine {
     switches: Vec<Switch>,
     switch_numbers: HashMap<String, u16>,
     modes: Vec<Mode>,
+    devices: Vec<Device>,
     events: Names,
     /// For each event its handlers, in the order in which they run.
     handlers: Vec<Vec<Handler>>,
@@ -158,6 +324,8 @@ impl Machine {
                 (0, _) => section = key,
                 (2, "switches") => machine.add_switch(key),
                 (_, "switches") => machine.set(key, value.trim()),
+                (2, "counters" | "accruals" | "sequences" | "timers") => machine.add_device(owner, section, key),
+                (_, "counters" | "accruals" | "sequences" | "timers") => machine.set_device(key, value.trim()),
                 (_, "mode") => machine.set_mode(owner.expect("a text of a mode"), key, value.trim()),
                 _ => machine.add_posts(owner, key, value.trim()),
             }
@@ -221,6 +389,54 @@ impl Machine {
         }
     }
 
+    fn add_device(&mut self, owner: Owner, section: &str, name: &str) {
+        let (kind, family, posts) = match section {
+            "counters" => (Kind::Counter(Counter::default()), "logicblock", &BLOCK_POSTS[..]),
+            "accruals" => (Kind::Accrual(vec![]), "logicblock", &BLOCK_POSTS[..]),
+            "sequences" => (Kind::Sequence { steps: 0, next: 0 }, "logicblock", &BLOCK_POSTS[..]),
+            _ => (Kind::Timer(Timer::default()), "timer", &TIMER_POSTS[..]),
+        };
+        let events = posts.iter().map(|post| self.events.number(&format!("{family}_{name}_{post}"))).collect();
+        self.devices.push(Device { owner, kind, events });
+    }
+
+    /// A setting of the device that was added last.
+    fn set_device(&mut self, setting: &str, value: &str) {
+        let number = self.devices.len() as u16 - 1;
+        let Device { owner, kind, .. } = self.devices.last_mut().expect("a device");
+        let mut handlers = vec![];
+        match (kind, setting) {
+            (Kind::Counter(_), "count_events") => handlers.push((value, Act::Count)),
+            (Kind::Counter(counter), "count_complete_value") => counter.complete = value.parse().expect("a number"),
+            (Kind::Counter(counter), "multiple_hit_window") => counter.window = time(value),
+            (Kind::Accrual(done), "events") => {
+                *done = vec![false; items(value).len()];
+                handlers.extend(items(value).into_iter().enumerate().map(|(n, event)| (event, Act::Step(n))));
+            }
+            (Kind::Sequence { steps, .. }, "events") => {
+                *steps = items(value).len();
+                handlers.extend(items(value).into_iter().enumerate().map(|(n, event)| (event, Act::Step(n))));
+            }
+            (Kind::Timer(timer), "end_value") => timer.end = value.parse().expect("a number"),
+            (Kind::Timer(timer), "tick_interval") => timer.interval = time(value),
+            (Kind::Timer(timer), "start_running") => timer.starts = value == "yes",
+            (Kind::Timer(timer), "restart_on_complete") => timer.restarts = value == "yes",
+            // `[{event: E, action: start}, {event: E, action: pause}]`
+            (Kind::Timer(_), "control_events") => {
+                let words = value.split(['[', ']', '{', '}', ':', ',', ' ']).filter(|word| !word.is_empty());
+                let words: Vec<&str> = words.collect();
+                handlers.extend(words.chunks(4).map(|control| {
+                    (control[1], if control[3] == "start" { Act::Start } else { Act::Pause })
+                }));
+            }
+            _ => (),
+        }
+        let owner = *owner;
+        for (event, act) in handlers {
+            self.add_handler(event, owner, Effect::Act(number, act));
+        }
+    }
+
     fn add_posts(&mut self, owner: Owner, event: &str, posts: &str) {
         let posts = posts.split(", ").map(|name| self.events.number(name)).collect();
         self.add_handler(event, owner, Effect::Post(posts));
@@ -258,8 +474,11 @@ impl Machine {
         }
     }
 
-    fn next_due(&self) -> Option<(u64, u16)> {
-        (0u16..).zip(&self.switches).filter_map(|(n, s)| Some((s.due?, n))).min()
+    /// The least moment at which something is due: a switch, or else a device, with its number.
+    fn next_due(&self) -> Option<(u64, bool, u16)> {
+        let switches = (0u16..).zip(&self.switches).filter_map(|(n, s)| Some((s.due?, false, n)));
+        let devices = (0u16..).zip(&self.devices).filter_map(|(n, d)| Some((d.due()?, true, n)));
+        switches.chain(devices).min()
     }
 
     /// Takes events until none waits.
@@ -269,18 +488,30 @@ impl Machine {
             let step = self.steps[event as usize];
             if let Some((mode, STARTED)) = step {
                 self.modes[mode as usize].phase = Phase::Active;
+                self.start_devices(mode);
             }
             self.handle(event);
             if let Some((mode, step)) = step {
+                if step == STOPPING {
+                    self.devices.iter_mut().filter(|d| d.owner == Some(mode)).for_each(Device::stop);
+                }
                 let posted = self.modes[mode as usize].after(step);
                 self.waiting.extend(posted.map(|event| (None, event)));
             }
         }
     }
 
+    fn start_devices(&mut self, mode: u8) {
+        let Machine { devices, waiting, now, .. } = self;
+        for device in devices.iter_mut().filter(|device| device.owner == Some(mode)) {
+            let places = device.start(*now);
+            waiting.extend(places.iter().map(|&place| (device.owner, device.events[place])));
+        }
+    }
+
     /// Runs the handlers of an event whose owners take part.
     fn handle(&mut self, event: u16) {
-        let Machine { handlers, modes, waiting, .. } = self;
+        let Machine { handlers, modes, devices, waiting, now, .. } = self;
         for handler in &handlers[event as usize] {
             if handler.owner.is_some_and(|mode| !modes[mode as usize].takes_part()) {
                 continue;
@@ -289,6 +520,11 @@ impl Machine {
                 Effect::Post(posts) => waiting.extend(posts.iter().map(|&event| (handler.owner, event))),
                 Effect::Start(mode) => waiting.extend(modes[*mode as usize].start().map(|event| (None, event))),
                 Effect::Stop(mode) => waiting.extend(modes[*mode as usize].stop().map(|event| (None, event))),
+                Effect::Act(number, act) => {
+                    let device = &mut devices[*number as usize];
+                    let places = device.act(*act, *now);
+                    waiting.extend(places.iter().map(|&place| (device.owner, device.events[place])));
+                }
             }
         }
     }
@@ -344,12 +580,18 @@ impl Machine {
         Ok(())
     }
 
-    /// Accepts all that is due by a moment.
+    /// Does all that is due by a moment.
     fn catch_up(&mut self, at: u64, text: &mut String, out: &mut impl Write) -> io::Result<()> {
-        while let Some((due, switch)) = self.next_due().filter(|&(due, _)| due <= at) {
+        while let Some((due, is_device, number)) = self.next_due().filter(|&(due, ..)| due <= at) {
             self.now = due;
-            let raw = self.switches[switch as usize].raw;
-            self.accept(switch, raw);
+            if is_device {
+                let device = &mut self.devices[number as usize];
+                let places = device.fire(due);
+                self.waiting.extend(places.iter().map(|&place| (device.owner, device.events[place])));
+            } else {
+                let raw = self.switches[number as usize].raw;
+                self.accept(number, raw);
+            }
             self.settle();
             self.write(text, out)?;
         }

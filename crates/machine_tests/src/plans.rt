@@ -149,7 +149,8 @@ fn plans(rt: HostRuntime) -> Result<(), Fail> {
     assert_cases(&rt, Subject::Plan, PLANS)
 }
 
-// How many events, bindings and switches there are, at the limits and above them.
+// How many events, bindings and switches there are, at the limits and above them; with as many
+// devices as there may be, and with one more.
 const LIMITS: &str = "\
 event_player:
 «4096   p#:
@@ -221,7 +222,17 @@ switches:
   s_d:
     tags: «1021 d#, »
 ?
-limits => Limit events";
+limits => Limit events
+
+counters:
+«1024   c#: {count_events: a}
+»?
+limits => 3073 1024 0
+
+counters:
+«1025   c#: {count_events: a}
+»?
+limits => Limit rows";
 
 #[test]
 fn limits(rt: HostRuntime) -> Result<(), Fail> {

@@ -1,0 +1,152 @@
+//! Boxes that count how many of them have been dropped, and the rigs that they are handed to.
+
+use crate::cases::{Subject, assert_cases};
+use config_checker::{Checked, check};
+use device_objects::{Device, DeviceState, Outcome, World};
+use logic_blocks::{Counter, Timer};
+use mpf_config::Config;
+use pin_rig::Rig;
+use plan_tables::{Act, DeviceRow};
+use std::alloc::{AllocError, Global};
+use std::cell::Cell;
+use std::rc::Rc;
+use std::test::Fail;
+
+/// How many of the devices that share it have been dropped.
+type Drops = Rc<Cell<u32>>;
+
+/// A device whose drop is counted.
+struct Counted<D: Device> {
+    device: D,
+    drops: Drops,
+}
+
+impl<D: Device> Drop for Counted<D> {
+    fn drop(self) {
+        let Counted { device: _, drops } = self;
+        drops.set(drops.get().wrapping_add(1));
+    }
+}
+
+impl<D: Device> Device for Counted<D> {
+    ghost row_of = { λ c. D.row_of c.device };
+
+    ghost state_of = { λ c. D.state_of c.device };
+
+    fn row(&self) -> DeviceRow {
+        self.device.row()
+    }
+
+    fn state(&self) -> DeviceState {
+        self.device.state()
+    }
+
+    fn due(&self) -> Option<u64> {
+        self.device.due()
+    }
+
+    fn start(&mut self, now: u64, world: World) -> Outcome {
+        self.device.start(now, world)
+    }
+
+    fn stop(&mut self, now: u64, world: World) -> Outcome {
+        self.device.stop(now, world)
+    }
+
+    fn fire(&mut self, now: u64, world: World) -> Outcome {
+        self.device.fire(now, world)
+    }
+
+    fn act(&mut self, act: Act, now: u64, world: World) -> Outcome {
+        self.device.act(act, now, world)
+    }
+}
+
+/// Adds the box of a row, in the state after its mode has started where the word says so.
+fn add_box(
+    alloc: Global,
+    boxes: &mut Vec<Box<dyn Device>>,
+    row: &DeviceRow,
+    started: bool,
+    drops: &Drops,
+) -> Result<(), AllocError> {
+    let drops = drops.clone()?;
+    let world = World {
+        games: 0,
+        player: 0,
+    };
+    if let Some(device) = Counter::new(row) {
+        boxes.push(Box::new(alloc, Counted { device, drops })?)?;
+    } else if let Some(mut device) = Timer::new(row) {
+        if started {
+            device.start(0, world);
+        }
+        boxes.push(Box::new(alloc, Counted { device, drops })?)?;
+    }
+    Ok(())
+}
+
+/// Adds the boxes that the words name: each is the number of a row, after `+` where its mode has
+/// started.
+fn add_boxes(
+    alloc: Global,
+    boxes: &mut Vec<Box<dyn Device>>,
+    checked: &Checked,
+    words: &str,
+    drops: &Drops,
+) -> Result<(), Fail> {
+    for word in words.split_whitespace() {
+        let number = word.trim_start_matches('+').parse::<usize>()?;
+        let row = checked.plan().rows().get(number).ok_or("a row")?;
+        add_box(alloc, boxes, row, word.starts_with('+'), drops)?;
+    }
+    Ok(())
+}
+
+/// Adds whether the boxes of these words make a rig, how many of them are dropped then, and how many
+/// after that.
+pub(crate) fn boxed(
+    alloc: Global,
+    out: &mut String,
+    config: &Config,
+    words: &str,
+) -> Result<(), Fail> {
+    let checked = check(alloc, config)?;
+    let drops = Rc::new(alloc, Cell::new(0))?;
+    let mut boxes: Vec<Box<dyn Device>> = Vec::new(alloc);
+    add_boxes(alloc, &mut boxes, &checked, words, &drops)?;
+    match Rig::new(alloc, &checked, boxes) {
+        Ok(_rig) => write!(out, "a rig, {} dropped, ", drops.get())?,
+        Err(fault) => write!(out, "{fault:?}, {} dropped, ", drops.get())?,
+    }
+    Ok(write!(out, "{} in all", drops.get())?)
+}
+
+// Row 0 is a counter, 1 a timer that its mode starts, and 2 another one.
+const BOXES: &str = "\
+modes: m
+counters:
+  hits:
+    count_events: hit
+@ modes/m/config/m.yaml
+#config_version=6
+timers:
+  first:
+    start_running: yes
+  second:
+    start_value: 3
+?
+0 1 2 => a rig, 0 dropped, 3 in all
+1 2 => WrongDevice(RowId(0)), 2 dropped, 2 in all
+0 2 => WrongDevice(RowId(1)), 2 dropped, 2 in all
+0 1 => WrongDevice(RowId(2)), 2 dropped, 2 in all
+0 1 2 2 => WrongDevice(RowId(3)), 4 dropped, 4 in all
+0 2 1 => WrongDevice(RowId(1)), 3 dropped, 3 in all
+0 1 1 => WrongDevice(RowId(2)), 3 dropped, 3 in all
+0 +1 2 => WrongDevice(RowId(1)), 3 dropped, 3 in all
+ => WrongDevice(RowId(0)), 0 dropped, 0 in all";
+
+#[test]
+fn boxes(rt: HostRuntime) -> Result<(), Fail> {
+    assert_cases(&rt, Subject::Boxes, BOXES)
+}
