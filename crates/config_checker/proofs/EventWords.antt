@@ -6,9 +6,10 @@ use Rattle.std.proofs.lemmas.List.Elements.{All-nil, All-cons, All-append, All-w
 use Rattle.std.proofs.lemmas.List.Sums.{AllPass-from_list_all}
 use Rattle.yaml_bytes.specs.Bytes.{is_blank}
 use Rattle.mpf_config.specs.Rows.{Rows}
-use Rattle.mpf_config.specs.Named.{IsName}
+use Rattle.mpf_sections.specs.Named.{IsName}
 use Rattle.mpf_config.specs.Reading.{rows_at}
-use Rattle.mpf_config.proofs.RowNames.{rows_are_named, name_bytes, modes_are_named}
+use Rattle.mpf_sections.proofs.RowNames.{name_bytes}
+use Rattle.mpf_config.proofs.RowNames.{rows_are_named, modes_are_named}
 use Rattle.plan_tables.specs.declared.entries.ModeEvent.{ModeEvent}
 use Rattle.plan_tables.specs.declared.entries.ModeEvent.TheVariants.{WillStart, Starting, Started, Stopping, Stopped}
 use Rattle.mpf_plan.specs.Contributions.{event_ending, mode_event_name}

@@ -6,7 +6,8 @@ use Rattle.std.proofs.lemmas.Bool.{cases_Bool, eq-eqb}
 use Rattle.std.proofs.lemmas.List.Elements.{All-nil, All-cons, All-head, All-tail, All-append, All-weaker}
 use Rattle.std.proofs.lemmas.Slice.Eq.{bytes_eq-Decides}
 use Rattle.yaml_subset.specs.Keys.{is_among}
-use Rattle.mpf_config.specs.Rows.{SectionRows, Rows}
+use Rattle.mpf_sections.specs.Rows.{SectionRows}
+use Rattle.mpf_config.specs.Rows.{Rows}
 use Rattle.mpf_config.specs.BundleText.{machine_name, mode_text_name}
 use Rattle.mpf_plan.specs.DeviceEntries.{block_event, timer_event}
 use Rattle.config_checker.specs.FaultView.{FaultView}

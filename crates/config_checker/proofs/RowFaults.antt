@@ -15,9 +15,10 @@ use Rattle.yaml_subset.proofs.KeySets.{contains_key}
 use Rattle.config_checker.specs.declared.report.Fault.{Fault}
 use Rattle.config_checker.specs.FaultView.{FaultView}
 use Rattle.config_checker.specs.ReportText.{report_line}
-use Rattle.mpf_config.specs.Rows.{SectionRows, ModeRows, Rows}
+use Rattle.mpf_sections.specs.Rows.{SectionRows}
+use Rattle.mpf_config.specs.Rows.{ModeRows, Rows}
 use Rattle.mpf_config.specs.BundleText.{machine_name, mode_text_name}
-use Rattle.mpf_config.specs.Typed.{timers_in}
+use Rattle.mpf_sections.specs.Typed.{timers_in}
 use Rattle.config_checker.specs.Reserved.{game_events, mode_events, events_of_modes, posts_in}
 use Rattle.config_checker.specs.RowFaults.{fault_order, ordered_by, reserved_fault, starts_at_end, timer_fault, faults_by, listed_once}
 use Rattle.config_checker.specs.View.{fault_view, faults_view}

@@ -2,8 +2,9 @@
 use Rattle.std.specs.Prelude.{ℕ, Bool, ◌||◌, List, [], ◌∷◌, ◌++◌, map, filter, codes}
 use Rattle.std.specs.List.{flat_map}
 use Rattle.yaml_subset.specs.Keys.{is_among}
-use Rattle.mpf_config.specs.Rows.{Written, Switch, EventPlayer, Block, Counter, StepBlock, SectionRows, Rows}
-use Rattle.mpf_config.specs.Typed.{switches_in, event_players_in, counters_in, accruals_in, sequences_in, listed_modes}
+use Rattle.mpf_sections.specs.Rows.{Written, Switch, EventPlayer, Block, Counter, StepBlock, SectionRows}
+use Rattle.mpf_config.specs.Rows.{Rows}
+use Rattle.mpf_sections.specs.Typed.{switches_in, event_players_in, counters_in, accruals_in, sequences_in, listed_modes}
 
 -- ---- reserved events
 

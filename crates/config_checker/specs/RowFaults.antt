@@ -2,10 +2,11 @@
 use Rattle.std.specs.Prelude.{ℕ, ◌+◌, ◌*◌, nat_lt, ℤ, int_le, Bool, false, if◌then◌else◌, List, [], ◌∷◌, ◌++◌, Option, None, Some, map, filter}
 use Rattle.std.specs.List.{flat_map}
 use Rattle.yaml_subset.specs.Keys.{is_among}
-use Rattle.mpf_config.specs.declared.config.Direction.{Direction}
-use Rattle.mpf_config.specs.declared.config.Direction.TheVariants.{Up, Down}
-use Rattle.mpf_config.specs.Rows.{Written, Timer, SectionRows, ModeRows, Rows}
-use Rattle.mpf_config.specs.Typed.{timers_in}
+use Rattle.mpf_sections.specs.declared.words.Direction.{Direction}
+use Rattle.mpf_sections.specs.declared.words.Direction.TheVariants.{Up, Down}
+use Rattle.mpf_sections.specs.Rows.{Written, Timer, SectionRows}
+use Rattle.mpf_config.specs.Rows.{ModeRows, Rows}
+use Rattle.mpf_sections.specs.Typed.{timers_in}
 use Rattle.mpf_config.specs.BundleText.{machine_name, mode_text_name}
 use Rattle.config_checker.specs.declared.report.RowFaultKind.TheVariants.{Name, TimerAtEnd}
 use Rattle.config_checker.specs.FaultView.{FaultView, row}

@@ -3,8 +3,9 @@
 ghost use Rattle.std.specs.Prelude.{◌≡◌, ◌++◌, ◌∷◌, ℕ, List, map, codes, IfOk, OnOk};
 ghost use Rattle.std.specs.List.{flat_map};
 ghost use Rattle.yaml_subset.specs.Keys.{is_among};
-ghost use Rattle.mpf_config.specs.View.{name_view, entry_view, player_view, section_view, mode_view};
-ghost use Rattle.mpf_config.specs.Typed.{switch_of, event_player_of, counter_of, step_block_of};
+ghost use Rattle.mpf_sections.specs.View.{name_view, entry_view, player_view, section_view};
+ghost use Rattle.mpf_config.specs.View.{mode_view};
+ghost use Rattle.mpf_sections.specs.Typed.{switch_of, event_player_of, counter_of, step_block_of};
 ghost use Rattle.config_checker.specs.Reserved.{game_events, mode_events, events_of_modes, is_reserved_by, switch_posts, player_posts, counter_posts, step_posts, posts_in, reserved_among};
 ghost use Rattle.config_checker.specs.View.{keys_view, written_view};
 

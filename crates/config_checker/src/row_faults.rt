@@ -4,8 +4,9 @@ ghost use Rattle.std.specs.Prelude.{◌≡◌, ◌||◌, ◌++◌, ℕ, List, []
 ghost use Rattle.std.specs.List.{filter, flat_map};
 ghost use Rattle.std.specs.Str.{bytes_eq};
 ghost use Rattle.yaml_subset.specs.Keys.{is_among};
-ghost use Rattle.mpf_config.specs.Typed.{timer_of};
-ghost use Rattle.mpf_config.specs.View.{name_view, entry_view, section_view, mode_view, rows_view, timer_view};
+ghost use Rattle.mpf_sections.specs.Typed.{timer_of};
+ghost use Rattle.mpf_sections.specs.View.{name_view, entry_view, section_view, timer_view};
+ghost use Rattle.mpf_config.specs.View.{mode_view, rows_view};
 ghost use Rattle.config_checker.specs.ReportText.{report_line};
 ghost use Rattle.config_checker.specs.FaultView.{row};
 ghost use Rattle.config_checker.specs.RowFaults.{reserved_fault, starts_at_end, timer_fault, section_faults, fault_order, text_faults, mode_faults, faults_by, listed_once};

@@ -1,5 +1,5 @@
 -- What holds of each element of a list.
-use Rattle.std.proofs.Common.{Bool, true, false, if◌then◌else◌, List, [], ◌∷◌}
+use Rattle.std.proofs.Common.{List, [], ◌∷◌}
 use Rattle.std.specs.List.{All, AllZip}
 use Rattle.std.proofs.lemmas.List.Elements.{All-nil, All-cons}
 
@@ -9,8 +9,3 @@ All-from_zip R P so [] [] each = All-nil P
 All-from_zip R P so [] (y ∷ ys) each = absurd each
 All-from_zip R P so (x ∷ xs) [] each = absurd each
 All-from_zip R P so (x ∷ xs) (y ∷ ys) each = All-cons P y ys (so x y each.0) (All-from_zip R P so xs ys each.1)
-
--- it holds of all, or of none
-pub all_where : {A : Type 0} (P : A → Type 0) (b : Bool) (xs : List A) → All P xs → All P (if b then xs else [])
-all_where P true xs h = h
-all_where P false xs h = All-nil P

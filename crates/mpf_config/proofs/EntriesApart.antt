@@ -1,7 +1,8 @@
 -- Modes of which no two have an entry of one section and name, and none has one of the machine's.
 use Rattle.std.proofs.Common.{◌≡◌, ◌≢◌, ℕ, List, [], map, sym, ap, subst, ◌∙◌, ◌⊎◌, inl, inr}
 use Rattle.std.specs.List.{Contains}
-use Rattle.mpf_config.specs.Rows.{SectionRows, ModeRows}
+use Rattle.mpf_sections.specs.Rows.{SectionRows}
+use Rattle.mpf_config.specs.Rows.{ModeRows}
 use Rattle.mpf_config.specs.Apart.{EntryName, AreDistinct, AreApart, AreNamesApart, entry_key, entry_names, entry_keys}
 use Rattle.mpf_config.specs.ModeReads.{ModeRead}
 use Rattle.mpf_config.specs.Reading.{taken_by}

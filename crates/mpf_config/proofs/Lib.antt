@@ -26,4 +26,3 @@ pub mod NoteLoops
 pub mod SameModes
 pub mod RowNames
 pub mod ShortRows
-pub mod DeviceRows

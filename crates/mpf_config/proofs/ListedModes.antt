@@ -5,11 +5,11 @@ use Rattle.std.specs.Str.{bytes_eq}
 use Rattle.std.proofs.lemmas.List.Elements.{All-nil, All-from_recursion}
 use Rattle.yaml_subset.specs.Node.{Pair}
 use Rattle.mpf_values.specs.Names.{IsName}
-use Rattle.section_tables.specs.declared.tables.TextKind.{TextKind}
+use Rattle.mpf_sections.specs.declared.tables.TextKind.{TextKind}
 use Rattle.section_tables.proofs.RowNames.{names_named, names_short}
-use Rattle.mpf_config.specs.Rows.{Written, Content, entries, players, entry, listed, SectionRows}
-use Rattle.mpf_config.specs.Named.{AllNames}
-use Rattle.mpf_config.specs.Typed.{modes_name, names_in, content_named, names_of_content, listed_modes}
+use Rattle.mpf_sections.specs.Rows.{Written, Content, entries, players, entry, listed, SectionRows}
+use Rattle.mpf_sections.specs.Named.{AllNames}
+use Rattle.mpf_sections.specs.Typed.{modes_name, names_in, content_named, names_of_content, listed_modes}
 use Rattle.mpf_config.specs.RowsOf.{Sizes, AreNew, IsContent, IsSection}
 
 pub record AreListed (sizes : Sizes) (ws : List Written) : Type 0 where

@@ -11,13 +11,13 @@ use Rattle.std.proofs.lemmas.List.Elements.{All-head, All-tail}
 use Rattle.std.proofs.lemmas.Slice.Eq.{bytes_eq-Decides}
 use Rattle.yaml_subset.specs.Keys.{is_among}
 use Rattle.section_tables.specs.declared.fault.FaultKind.TheVariants.{Duplicate}
-use Rattle.section_tables.specs.declared.tables.TextKind.TheVariants.{Mode}
+use Rattle.mpf_sections.specs.declared.tables.TextKind.TheVariants.{Mode}
 use Rattle.section_tables.specs.Rows.{RowsFault}
 use Rattle.section_tables.specs.Tables.{behind_one, found_in}
 use Rattle.section_tables.specs.Reading.{IsReadOr, ◌>>=◌, rows_fault_at}
 use Rattle.section_tables.proofs.Steps.{bind_ok, guard_false, ok_is}
 use Rattle.section_tables.proofs.Outcomes.{weaker, then_or}
-use Rattle.mpf_config.specs.Rows.{Written, SectionRows}
+use Rattle.mpf_sections.specs.Rows.{Written, SectionRows}
 use Rattle.mpf_config.specs.BundleText.{Text, mode_text_name}
 use Rattle.mpf_config.specs.Unread.{mode_text_of, has_text, present_of, mode_notes}
 use Rattle.mpf_config.specs.ModeReads.{ModeRead}

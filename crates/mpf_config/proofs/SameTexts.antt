@@ -10,7 +10,8 @@ use Rattle.section_tables.specs.declared.fault.ConfigFault.TheVariants as faults
 use Rattle.section_tables.specs.Tables.{found_in}
 use Rattle.section_tables.specs.Reading.{◌>>=◌, refused}
 use Rattle.mpf_config.specs.declared.texts.Text as texts
-use Rattle.mpf_config.specs.Rows.{Written, SectionRows, RowsFault}
+use Rattle.mpf_sections.specs.Rows.{Written, SectionRows}
+use Rattle.mpf_config.specs.Rows.{RowsFault}
 use Rattle.mpf_config.specs.BundleText.{Text, machine_name}
 use Rattle.mpf_config.specs.ModeReads.{ModeRead}
 use Rattle.mpf_config.specs.Unread.{mode_text_of}

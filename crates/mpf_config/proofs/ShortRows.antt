@@ -1,36 +1,33 @@
 -- No list in the rows of a bundle has more than 1,024 items, and there are few modes.
-use Rattle.std.proofs.Common.{◌≡◌, ◌≢◌, ℕ, zero, suc, ◌≤◌, not, List, [], ◌∷◌, length, map, Option, Some, None, slice_get, Ok, refl, sym, ap, subst, ◌∙◌, arith}
+use Rattle.std.proofs.Common.{◌≡◌, ◌≢◌, ℕ, ◌≤◌, not, List, [], ◌∷◌, length, map, Ok, refl, sym, ap, subst, ◌∙◌, arith}
 use Rattle.std.specs.List.{All, AllPairs, AllZip}
-use Rattle.std.specs.Str.{bytes_eq}
 use Rattle.std.proofs.lemmas.List.{length-map}
-use Rattle.std.proofs.lemmas.List.Elements.{All-nil, All-cons, All-head, All-tail, All-map, All-weaker}
+use Rattle.std.proofs.lemmas.List.Elements.{All-nil, All-cons, All-map}
 use Rattle.std.proofs.lemmas.List.Filters.{length-filter_both}
 use Rattle.yaml_subset.specs.Node.{Pair}
-use Rattle.section_tables.specs.declared.tables.TextKind.{TextKind}
-use Rattle.section_tables.specs.declared.tables.TextKind.TheVariants.{Machine, Mode}
-use Rattle.section_tables.specs.Rows.{Value, one, names, posts, events, steps, maps, keyed, Entry, Player}
 use Rattle.section_tables.specs.Kinds.{by_entries, by_entry}
-use Rattle.section_tables.specs.Named.{IsShortValue, IsShortEntry, IsShortPlayer}
-use Rattle.section_tables.specs.SectionTables.{switches_name, event_player_name}
+use Rattle.section_tables.specs.Named.{IsShortEntry, IsShortPlayer}
 use Rattle.section_tables.proofs.RowNames.{entry_short, entries_short, players_short}
 use Rattle.section_tables.proofs.RowNames as lists
-use Rattle.section_tables.proofs.TableNames.{shape_short}
-use Rattle.mpf_config.specs.Rows.{Written, Content, entries, players, entry, listed, SectionRows, Rows}
+use Rattle.mpf_sections.specs.declared.tables.TextKind.{TextKind}
+use Rattle.mpf_sections.specs.declared.tables.TextKind.TheVariants.{Machine, Mode}
+use Rattle.mpf_sections.specs.Rows.{Content, entries, players, entry, listed, SectionRows}
+use Rattle.mpf_sections.specs.Typed.{listed_modes}
+use Rattle.mpf_sections.specs.Short.{IsShortContent, IsShortSection}
+use Rattle.mpf_sections.proofs.TableNames.{shape_short}
+use Rattle.mpf_sections.proofs.ShortRows.{none_short}
+use Rattle.mpf_config.specs.Rows.{Written, Rows}
 use Rattle.mpf_config.specs.BundleText.{Text}
-use Rattle.mpf_config.specs.Typed.{listed_modes, listed_names, listed_posts, switch_of, event_player_of, entries_in, players_in, entries_of, players_of, switches_in, event_players_in}
 use Rattle.mpf_config.specs.Unread.{read_of, is_present, present_of}
 use Rattle.mpf_config.specs.ModeReads.{ModeRead}
 use Rattle.mpf_config.specs.RowsOf.{within_limits, IsContent, IsSection, IsModeRead}
-use Rattle.mpf_config.specs.Short.{IsShortContent, IsShortSection, IsShortMode, AreListsShort, IsShortSwitch, IsShortEventPlayer}
+use Rattle.mpf_config.specs.Short.{IsShortMode, AreListsShort}
 use Rattle.mpf_config.specs.FewModes.{AreFewModes}
 use Rattle.mpf_config.specs.Reading.{rows_at}
 use Rattle.mpf_config.proofs.NewNames.{new_kept, new_apart}
 use Rattle.mpf_config.proofs.ListedModes.{AreListed, modes_listed}
 use Rattle.mpf_config.proofs.Theorem.{rows_sound}
-use Rattle.mpf_config.proofs.Each.{All-from_zip, all_where}
-
-none_short : 0 ≤ 1024
-none_short = omega arith
+use Rattle.mpf_config.proofs.Each.{All-from_zip}
 
 content_short : (kind : TextKind) (p : Pair) (content : Content) → IsContent within_limits kind p content → IsShortContent content
 content_short kind p (entries es) h =
@@ -89,69 +86,3 @@ rows_are_few bundle rows is =
     let h = rows_sound bundle rows is in
     let apart = modes_listed within_limits Machine (read_of h.sections) rows.machine h.machine.each in
     subst AreFewModes (sym h.mode_rows) (modes_few h.texts (listed_modes rows.machine) h.modes apart h.each_mode)
-
--- ---- by the names of settings
-
-abbrev pub IsShortOption : Option Value → Type 0
-IsShortOption None = Unit {0}
-IsShortOption (Some v) = IsShortValue 1024 v
-
-pub value_at_short : (row : List Value) (i : ℕ) → All (IsShortValue 1024) row → IsShortOption (slice_get row i)
-value_at_short [] i h = tt
-value_at_short (v ∷ vs) zero h = All-head (IsShortValue 1024) v vs h
-value_at_short (v ∷ vs) (suc i) h = value_at_short vs i (All-tail (IsShortValue 1024) v vs h)
-
-names_short : (o : Option Value) → IsShortOption o → length (listed_names o) ≤ 1024
-names_short None h = none_short
-names_short (Some (one x)) h = none_short
-names_short (Some (names xs)) h = h.0
-names_short (Some (posts xs)) h = none_short
-names_short (Some (events xs)) h = none_short
-names_short (Some (steps xs)) h = none_short
-names_short (Some (maps xs)) h = none_short
-names_short (Some (keyed xs)) h = none_short
-
-pub posts_short : (o : Option Value) → IsShortOption o → length (listed_posts o) ≤ 1024
-posts_short None h = none_short
-posts_short (Some (one x)) h = none_short
-posts_short (Some (names xs)) h = none_short
-posts_short (Some (posts xs)) h = h.0
-posts_short (Some (events xs)) h = none_short
-posts_short (Some (steps xs)) h = none_short
-posts_short (Some (maps xs)) h = none_short
-posts_short (Some (keyed xs)) h = none_short
-
--- No list in an entry of `switches` has more items.
-pub switch_short : (e : Entry) → IsShortEntry 1024 e → IsShortSwitch (switch_of e)
-unfolding switch_of
-switch_short e h = record {
-  tags = names_short (slice_get e.values 2) (value_at_short e.values 2 h);
-  activated = posts_short (slice_get e.values 3) (value_at_short e.values 3 h);
-  deactivated = posts_short (slice_get e.values 4) (value_at_short e.values 4 h);
-}
-
--- No list in an entry of `event_player` has, either.
-pub event_player_short : (p : Player) → IsShortPlayer 1024 p → IsShortEventPlayer (event_player_of p)
-unfolding event_player_of
-event_player_short p h = posts_short (Some p.value) h
-
-pub entries_of_short : (section : List ℕ) (s : SectionRows) → IsShortSection s → All (IsShortEntry 1024) (entries_of section s)
-entries_of_short section s h = all_where (IsShortEntry 1024) (bytes_eq s.name section) (entries_in s.content) h.0
-
-players_of_short : (section : List ℕ) (s : SectionRows) → IsShortSection s → All (IsShortPlayer 1024) (players_of section s)
-players_of_short section s h = all_where (IsShortPlayer 1024) (bytes_eq s.name section) (players_in s.content) h.1
-
--- No list in the switches of a section has more items.
-pub switches_short : (s : SectionRows) → IsShortSection s → All IsShortSwitch (switches_in s)
-unfolding switches_in
-switches_short s h =
-    let es = entries_of switches_name s in
-    All-map IsShortSwitch switch_of es (All-weaker (IsShortEntry 1024) (λ e. IsShortSwitch (switch_of e)) switch_short es (entries_of_short switches_name s h))
-
--- No list in the entries of `event_player` has, either.
-pub event_players_short : (s : SectionRows) → IsShortSection s → All IsShortEventPlayer (event_players_in s)
-unfolding event_players_in
-event_players_short s h =
-    let ps = players_of event_player_name s in
-    All-map IsShortEventPlayer event_player_of ps
-    (All-weaker (IsShortPlayer 1024) (λ p. IsShortEventPlayer (event_player_of p)) event_player_short ps (players_of_short event_player_name s h))

@@ -8,7 +8,8 @@ use Rattle.section_tables.specs.declared.fault.ConfigFault.{ConfigFault}
 use Rattle.section_tables.specs.declared.fault.ConfigFault.TheVariants as faults
 use Rattle.section_tables.specs.Reading.{refused, rows_fault_at}
 use Rattle.section_tables.proofs.Steps.{guard_false}
-use Rattle.mpf_config.specs.Rows.{RowsFault, SectionRows}
+use Rattle.mpf_sections.specs.Rows.{SectionRows}
+use Rattle.mpf_config.specs.Rows.{RowsFault}
 use Rattle.mpf_config.specs.Apart.{EntryName, entries_named, entry_names, entry_key, entry_keys}
 use Rattle.mpf_config.specs.Reading.{entries_new_at}
 use Rattle.mpf_config.specs.View.{FailsRows}

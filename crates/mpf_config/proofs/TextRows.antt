@@ -10,11 +10,11 @@ use Rattle.yaml_subset.proofs.LineContents.{one_content}
 use Rattle.yaml_subset.proofs.Levels.{one_tree}
 use Rattle.yaml_subset.proofs.Theorem.{read_sound, is_refused as no_tree}
 use Rattle.section_tables.specs.declared.fault.FaultKind.TheVariants.{Version}
-use Rattle.section_tables.specs.declared.tables.TextKind.{TextKind}
+use Rattle.mpf_sections.specs.declared.tables.TextKind.{TextKind}
 use Rattle.section_tables.specs.Reading.{IsReadOr, ◌>>=◌, rows_fault_at}
 use Rattle.section_tables.proofs.Steps.{bind_ok, guard_true, ok_is}
 use Rattle.section_tables.proofs.Outcomes.{weaker, then_or}
-use Rattle.mpf_config.specs.Rows.{SectionRows}
+use Rattle.mpf_sections.specs.Rows.{SectionRows}
 use Rattle.mpf_config.specs.BundleText.{behind_first_line, has_version}
 use Rattle.mpf_config.specs.RowsOf.{Sizes, within_limits, AreRowsOf, AreManyItems, IsTextOver}
 use Rattle.mpf_config.specs.Reading.{TextRows, line_spot, tree_from, text_tree_at, sections_in, sections_at, text_rows_at}

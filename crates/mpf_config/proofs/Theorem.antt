@@ -2,13 +2,14 @@
 use Rattle.std.proofs.Common.{◌≡◌, ℕ, ◌≤◌, ◌^◌, ltb, List, [], length, map, Option, Result, Ok, refl, sym, ap, subst, ◌∙◌, inl, inr, codes}
 use Rattle.std.proofs.lemmas.Bool.{cases_lt, le-ltb, lt-ltb}
 use Rattle.section_tables.specs.declared.fault.FaultKind.TheVariants.{Limit}
-use Rattle.section_tables.specs.declared.tables.TextKind.TheVariants.{Machine}
+use Rattle.mpf_sections.specs.declared.tables.TextKind.TheVariants.{Machine}
 use Rattle.section_tables.specs.Reading.{IsReadOr, ◌>>=◌, rows_fault_at}
 use Rattle.section_tables.proofs.Steps.{bind_ok, guard_false, ok_is}
 use Rattle.section_tables.proofs.Outcomes.{weaker, then_or}
-use Rattle.mpf_config.specs.Rows.{Written, SectionRows, Rows, RowsFault}
+use Rattle.mpf_sections.specs.Rows.{Written, SectionRows}
+use Rattle.mpf_config.specs.Rows.{Rows, RowsFault}
 use Rattle.mpf_config.specs.BundleText.{Text, machine_name}
-use Rattle.mpf_config.specs.Typed.{listed_modes}
+use Rattle.mpf_sections.specs.Typed.{listed_modes}
 use Rattle.mpf_config.specs.Unread.{read_of, machine_notes}
 use Rattle.mpf_config.specs.ModeReads.{MachineRead, ModeRead, rows_notes}
 use Rattle.mpf_config.specs.Apart.{AreDistinct, AreNamesApart, entry_names, entry_keys}

@@ -1,21 +1,22 @@
 -- What contracts of the functions inside this crate see.
-use Rattle.std.specs.Prelude.{ℕ, ◌+◌, List, [], Option, Some, None, option_map, map, slice_get}
+use Rattle.std.specs.Prelude.{ℕ, List, [], Option, Some, None, option_map, map, slice_get}
 use Rattle.std.specs.BTreeSet.{BTreeSet}
 use Rattle.std.specs.Borrow.{Bor}
 use Rattle.std.specs.Global.{Vec}
-use Rattle.mpf_config.specs.declared.config.Section.{Section}
+use Rattle.mpf_sections.specs.declared.section.Section.{Section}
+use Rattle.mpf_sections.specs.Rows.{SectionRows}
+use Rattle.mpf_sections.specs.SectionView.{section_view}
 use Rattle.mpf_config.specs.declared.config.Note as notes
 use Rattle.mpf_config.specs.declared.texts.Text as texts
 use Rattle.mpf_config.specs.declared.bundle.MachineRead as bundles
 use Rattle.mpf_config.specs.declared.modes.ModeRead as modes
-use Rattle.mpf_config.specs.Rows.{Block, SectionRows, Note}
-use Rattle.mpf_config.specs.Typed.{flag_of, listed_names, listed_posts}
+use Rattle.mpf_config.specs.Rows.{Note}
 use Rattle.mpf_config.specs.BundleText.{Text}
 use Rattle.mpf_config.specs.ModeReads.{MachineRead, ModeRead}
 use Rattle.mpf_config.specs.Apart.{entry_keys}
-use Rattle.section_tables.specs.Rows.{Written, Value}
+use Rattle.section_tables.specs.Rows.{Written}
 use Rattle.mpf_config.specs.declared.listed_mode.ListedMode.{ListedMode}
-use Rattle.mpf_config.specs.View.{name_view, section_view, mode_view, note_view}
+use Rattle.mpf_config.specs.View.{name_view, mode_view, note_view}
 
 abbrev pub bytes_view : Bor (List ℕ) → List ℕ
 bytes_view bytes = bytes.now
@@ -68,17 +69,3 @@ mode_keys _ = []
 abbrev pub placed_keys : List (Option ModeRead) → Option (ℕ × Written) → List (List ℕ)
 placed_keys found None = []
 placed_keys found (Some p) = mode_keys (slice_get found p.0)
-
--- the settings that all logic blocks have, from this place on in a row
-abbrev pub block_at : ℕ → List Value → Block
-block_at first row = record {
-  reset_on_complete = flag_of (slice_get row first);
-  disable_on_complete = flag_of (slice_get row (first + 1));
-  persist = flag_of (slice_get row (first + 2));
-  enables = listed_names (slice_get row (first + 3));
-  disables = listed_names (slice_get row (first + 4));
-  resets = listed_names (slice_get row (first + 5));
-  restarts = listed_names (slice_get row (first + 6));
-  hit = listed_posts (slice_get row (first + 7));
-  complete = listed_posts (slice_get row (first + 8));
-}

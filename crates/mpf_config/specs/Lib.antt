@@ -1,5 +1,4 @@
 pub mod Rows
-pub mod Typed
 pub mod BundleText
 pub mod Unread
 pub mod ModeReads
@@ -9,7 +8,7 @@ pub mod Named
 pub mod Short
 pub mod FewModes
 pub mod Reading
-pub mod SectionView
+pub mod ModeView
 pub mod View
 pub mod Inside
 pub mod Escaped

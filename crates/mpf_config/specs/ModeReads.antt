@@ -2,7 +2,8 @@
 use Rattle.std.specs.Prelude.{List, ◌++◌}
 use Rattle.std.specs.List.{flat_map}
 use Rattle.yaml_subset.specs.Node.{Pair}
-use Rattle.mpf_config.specs.Rows.{Written, SectionRows, ModeRows, Note}
+use Rattle.mpf_sections.specs.Rows.{Written, SectionRows}
+use Rattle.mpf_config.specs.Rows.{ModeRows, Note}
 use Rattle.mpf_config.specs.BundleText.{Text}
 use Rattle.mpf_config.specs.Unread.{machine_notes, unlisted_notes}
 

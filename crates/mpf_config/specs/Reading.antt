@@ -9,16 +9,17 @@ use Rattle.yaml_subset.specs.Reading.{read_at}
 use Rattle.yaml_subset.specs.Keys.{is_among}
 use Rattle.yaml_subset.specs.View.{line_of, pairs_in}
 use Rattle.section_tables.specs.declared.fault.FaultKind.TheVariants.{Bundle, Version, Yaml, UnknownSection, BadValue, Duplicate, Limit}
-use Rattle.section_tables.specs.declared.tables.TextKind.{TextKind}
-use Rattle.section_tables.specs.declared.tables.TextKind.TheVariants.{Machine, Mode}
+use Rattle.mpf_sections.specs.declared.tables.TextKind.{TextKind}
+use Rattle.mpf_sections.specs.declared.tables.TextKind.TheVariants.{Machine, Mode}
 use Rattle.section_tables.specs.Kinds.{Shape, by_entries, by_players, by_entry, by_names}
-use Rattle.section_tables.specs.SectionTables.{shape_of}
+use Rattle.mpf_sections.specs.SectionTables.{shape_of}
 use Rattle.section_tables.specs.Tables.{found_in}
 use Rattle.section_tables.specs.Reading.{Spot, refused, key_spot, expect, each_read, entry_at, entries_at, players_at, names_at}
-use Rattle.mpf_config.specs.Rows.{Written, Content, entries, players, entry, listed, SectionRows, Rows, RowsFault}
+use Rattle.mpf_sections.specs.Rows.{Written, Content, entries, players, entry, listed, SectionRows}
+use Rattle.mpf_config.specs.Rows.{Rows, RowsFault}
 use Rattle.mpf_config.specs.FaultLine.{yaml_kind_name}
 use Rattle.mpf_config.specs.BundleText.{Text, machine_name, machine_owner, first_line, behind_first_line, name_in, pieces_of, numbered, has_version}
-use Rattle.mpf_config.specs.Typed.{listed_modes}
+use Rattle.mpf_sections.specs.Typed.{listed_modes}
 use Rattle.mpf_config.specs.Unread.{read_of, mode_text_of, machine_notes, mode_notes, unlisted_notes}
 use Rattle.mpf_config.specs.ModeReads.{MachineRead, ModeRead}
 use Rattle.mpf_config.specs.Apart.{EntryName, entry_names, entry_key, entry_keys}

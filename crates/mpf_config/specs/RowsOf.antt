@@ -7,14 +7,15 @@ use Rattle.yaml_bytes.specs.Lines.{ends_line}
 use Rattle.yaml_subset.specs.Node.{Node, Pair}
 use Rattle.yaml_subset.specs.View.{pairs_in}
 use Rattle.yaml_subset.specs.TreeOf.{IsTreeOf, IsTextAbove}
-use Rattle.section_tables.specs.declared.tables.TextKind.{TextKind}
-use Rattle.section_tables.specs.declared.tables.TextKind.TheVariants.{Machine, Mode}
+use Rattle.mpf_sections.specs.declared.tables.TextKind.{TextKind}
+use Rattle.mpf_sections.specs.declared.tables.TextKind.TheVariants.{Machine, Mode}
 use Rattle.section_tables.specs.Kinds.{Setting, PlayerKinds, by_entries, by_players, by_entry, by_names}
-use Rattle.section_tables.specs.SectionTables.{shape_of}
+use Rattle.mpf_sections.specs.SectionTables.{shape_of}
 use Rattle.section_tables.specs.EntryOf.{IsEntry, AreEntries, ArePlayers, AreNamesListed}
-use Rattle.mpf_config.specs.Rows.{Written, Content, entries, players, entry, listed, SectionRows, Rows}
+use Rattle.mpf_sections.specs.Rows.{Written, Content, entries, players, entry, listed, SectionRows}
+use Rattle.mpf_config.specs.Rows.{Rows}
 use Rattle.mpf_config.specs.BundleText.{Text, machine_name, machine_owner, version_line}
-use Rattle.mpf_config.specs.Typed.{listed_modes}
+use Rattle.mpf_sections.specs.Typed.{listed_modes}
 use Rattle.mpf_config.specs.Unread.{read_of, mode_text_of, present_of, mode_notes}
 use Rattle.mpf_config.specs.ModeReads.{ModeRead, rows_notes}
 use Rattle.mpf_config.specs.Apart.{AreNamesApart}

@@ -4,7 +4,8 @@ ghost use Rattle.std.specs.Prelude.{◌≡◌, ◌≢◌, ℕ, List, map, IfOk, 
 ghost use Rattle.mpf_config.specs.Reading.{machine_read_at, modes_in_texts, rows_at, mode_names_at};
 ghost use Rattle.mpf_config.specs.Rows.{Rows};
 ghost use Rattle.mpf_config.specs.RowsOf.{Sizes, within_limits, IsRowsOf, IsAbove, AreModesOf, IsTextOver};
-ghost use Rattle.mpf_config.specs.View.{name_view, section_view, rows_view, GivesRows};
+ghost use Rattle.mpf_sections.specs.View.{name_view, section_view};
+ghost use Rattle.mpf_config.specs.View.{rows_view, GivesRows};
 ghost use Rattle.mpf_config.specs.Inside.{texts_view, names_only_view, machine_read_view, modes_view, found_modes_view};
 
 use crate::config::{Config, MachineText, Note, Section};
@@ -16,11 +17,11 @@ use crate::sections::{sections, sections_in};
 use crate::spot::{NONE, line_of};
 use crate::taken::take_entries;
 use crate::texts::{MACHINE_NAME, Text, machine_text, texts};
-use crate::typed::listed_modes as modes_in;
 use crate::unread::{add_unlisted, machine_notes};
 use crate::version::tree_of;
+use mpf_sections::listed_modes as modes_in;
+use mpf_sections::tables::TextKind;
 use section_tables::rows::Name;
-use section_tables::tables::TextKind;
 use std::alloc::{AllocError, Global};
 use std::collections::BTreeSet;
 

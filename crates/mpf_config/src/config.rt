@@ -3,78 +3,12 @@
 ghost use Rattle.std.specs.Prelude.{map};
 ghost use Rattle.std.specs.List.{All};
 ghost use Rattle.mpf_config.specs.FewModes.{AreFewModes};
-ghost use Rattle.mpf_config.specs.Short.{IsShortSection, IsShortMode};
-ghost use Rattle.mpf_config.specs.SectionView.{section_view, mode_view};
+ghost use Rattle.mpf_sections.specs.Short.{IsShortSection};
+ghost use Rattle.mpf_sections.specs.SectionView.{section_view};
+ghost use Rattle.mpf_config.specs.Short.{IsShortMode};
+ghost use Rattle.mpf_config.specs.ModeView.{mode_view};
 
-use section_tables::rows::{Entry, Name, Player};
-
-/// The state of a switch's contact while nothing presses it.
-#[derive(Clone, Copy, Debug)]
-pub enum Contact {
-    /// Open: raw level 1 is active.
-    NormallyOpen,
-    /// Closed: raw level 0 is active.
-    NormallyClosed,
-}
-
-/// How long a raw level has to last before it is accepted.
-#[derive(Clone, Copy, Debug)]
-pub enum Debounce {
-    /// As long as the use of the switch needs: as `Normal` for all that can be configured.
-    Auto,
-    /// It is accepted at once.
-    Quick,
-    /// 5 ms.
-    Normal,
-}
-
-/// Which way a value goes.
-#[derive(Clone, Copy, Debug)]
-pub enum Direction {
-    Up,
-    Down,
-}
-
-/// What an event that controls a timer does with it.
-#[derive(Clone, Copy, Debug)]
-pub enum ControlAction {
-    /// The timer runs.
-    Start,
-    /// It does not run any more.
-    Stop,
-    /// It does not run any more, until it is started again.
-    Pause,
-    /// Its value becomes the first one.
-    Reset,
-    /// Its value becomes the first one, and it runs.
-    Restart,
-    /// Its value rises.
-    Add,
-    /// Its value falls.
-    Subtract,
-    /// Its value becomes the one of the control.
-    Jump,
-}
-
-/// The content of a section, as written.
-#[derive(Drop)]
-pub enum Content {
-    /// Entries by the table of the section.
-    Entries(Vec<Entry>),
-    /// The entries of a player.
-    Players(Vec<Player>),
-    /// The section is one entry, as `mode` is.
-    Entry(Entry),
-    /// The section is a list of names, as `modes` is.
-    Names(Vec<Name>),
-}
-
-/// A section of a text, by its name.
-#[derive(Drop)]
-pub struct Section {
-    pub name: Vec<u8>,
-    pub content: Content,
-}
+pub use mpf_sections::{Contact, Content, ControlAction, Debounce, Direction, Section};
 
 /// The machine text: its sections as written; in the rows of a bundle no name occurs twice.
 #[derive(Drop)]

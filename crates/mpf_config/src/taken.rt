@@ -5,7 +5,8 @@ ghost use Rattle.std.specs.Str.{bytes_eq};
 ghost use Rattle.yaml_subset.specs.Keys.{is_among};
 ghost use Rattle.mpf_config.specs.Apart.{joined, entry_key, entries_named, entry_keys, entry_names};
 ghost use Rattle.mpf_config.specs.Reading.{entries_new_at};
-ghost use Rattle.mpf_config.specs.View.{section_view, GivesRows};
+ghost use Rattle.mpf_sections.specs.View.{section_view};
+ghost use Rattle.mpf_config.specs.View.{GivesRows};
 ghost use Rattle.mpf_config.specs.Inside.{copies_view};
 
 use crate::config::Section;

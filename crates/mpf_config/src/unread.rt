@@ -14,9 +14,9 @@ use crate::fault::ConfigFault;
 use crate::listed::mode_of;
 use crate::listed_mode::ListedMode;
 use crate::texts::{MACHINE_NAME, Text};
+use mpf_sections::tables::MODES_NAME;
 use section_tables::is_one_of;
 use section_tables::rows::Name;
-use section_tables::tables::MODES_NAME;
 use std::alloc::{AllocError, Global};
 use yaml_subset::tree::{Key, Tree};
 

@@ -2,8 +2,8 @@
 use Rattle.std.proofs.Common.{◌≡◌, ℕ, suc, ◌+◌, ◌<◌, List, [], ◌∷◌, ◌++◌, length, map, drop, get_or, refl, sym, ◌∙◌, ap, arith}
 use Rattle.std.specs.Prelude.{Option, None, Some}
 use Rattle.std.proofs.lemmas.List.{append-nil, append_assoc, map-append, drop_more}
-use Rattle.mpf_config.specs.Rows.{Written, Control}
-use Rattle.mpf_config.specs.Typed.{with_control}
+use Rattle.mpf_sections.specs.Rows.{Written, Control}
+use Rattle.mpf_sections.specs.Typed.{with_control}
 use Rattle.plan_tables.specs.declared.devices.Act.{Act}
 use Rattle.plan_tables.specs.declared.devices.Act.TheVariants.{Step}
 use Rattle.plan_tables.specs.declared.devices.Settings.{Settings}

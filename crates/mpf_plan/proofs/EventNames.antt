@@ -3,7 +3,8 @@ use Rattle.std.proofs.Common.{List, [], sym, subst, ℕ}
 use Rattle.std.specs.List.{All}
 use Rattle.std.proofs.lemmas.List.Elements.{All-nil, All-cons, All-weaker}
 use Rattle.mpf_config.specs.Rows.{Rows}
-use Rattle.mpf_config.specs.Named.{IsNamed, IsNamedMode}
+use Rattle.mpf_sections.specs.Named.{IsNamed}
+use Rattle.mpf_config.specs.Named.{IsNamedMode}
 use Rattle.plan_tables.specs.declared.entries.ModeEvent.TheVariants.{WillStart}
 use Rattle.plan_tables.specs.declared.table.Table.{Table}
 use Rattle.plan_tables.specs.declared.table.Table.TheVariants.{Events}

@@ -6,9 +6,10 @@ use Rattle.std.specs.List.{flat_map}
 use Rattle.std.proofs.lemmas.Grind.{flat_map-append}
 use Rattle.std.proofs.lemmas.List.{append-nil, append_assoc, set_at, get_or_push, length_push}
 use Rattle.std.proofs.lemmas.List.Sums.{fold-append}
-use Rattle.mpf_config.specs.Rows.{Entry, Player, Switch, EventPlayer, ModeSettings, Content, entries, players, SectionRows, ModeRows, Rows}
-use Rattle.mpf_config.specs.Rows as sections
-use Rattle.mpf_config.specs.Typed.{switches_name, event_player_name, switch_of, event_player_of, mode_settings}
+use Rattle.mpf_sections.specs.Rows.{Entry, Player, Switch, EventPlayer, ModeSettings, Content, entries, players, SectionRows}
+use Rattle.mpf_config.specs.Rows.{ModeRows, Rows}
+use Rattle.mpf_sections.specs.Rows as sections
+use Rattle.mpf_sections.specs.Typed.{switches_name, event_player_name, switch_of, event_player_of, mode_settings}
 use Rattle.mpf_plan.specs.declared.contribution.Place.{Place}
 use Rattle.mpf_plan.specs.declared.contribution.Place.TheVariants.{Machine, Mode}
 use Rattle.plan_tables.specs.declared.entries.EventId.{EventId}

@@ -7,14 +7,17 @@ use Rattle.std.proofs.lemmas.Bool.{eqb-true}
 use Rattle.std.proofs.lemmas.Grind.{flat_map-append}
 use Rattle.std.proofs.lemmas.List.{length-map}
 use Rattle.std.proofs.lemmas.List.Elements.{All-nil, All-cons, All-head, All-tail, All-append, All-map, All-weaker}
-use Rattle.mpf_config.specs.Rows.{Written, Entry, Player, Switch, EventPlayer, Block, Counter, StepBlock, Control as TimerControl, Timer, ModeSettings, Content, entries, players, SectionRows, ModeRows, Rows}
-use Rattle.mpf_config.specs.Rows as sections
-use Rattle.mpf_config.specs.Named.{IsName, AllNames, IsNamedEntry, IsNamedPlayer, IsNamedSwitch, IsNamedEventPlayer, IsNamedBlock, IsNamedCounter, IsNamedStepBlock, IsNamedTimer, AreNamedSettings, IsNamedContent, IsNamed, IsNamedMode}
-use Rattle.mpf_config.specs.Typed.{switches_name, event_player_name, counters_name, accruals_name, sequences_name, timers_name, switch_of, event_player_of, counter_of, step_block_of, timer_of, mode_settings}
-use Rattle.mpf_config.specs.Short.{IsShortEntry, IsShortPlayer, IsShortBlock, IsShortCounter, IsShortStepBlock, IsShortTimer, IsShortContent, IsShortSection, IsShortMode, AreListsShort}
-use Rattle.mpf_config.proofs.RowNames.{switch_named, event_player_named, mode_settings_named}
-use Rattle.mpf_config.proofs.ShortRows.{event_player_short}
-use Rattle.mpf_config.proofs.DeviceRows.{counter_named, step_block_named, timer_named, counter_short, step_block_short, timer_in_range}
+use Rattle.mpf_sections.specs.Rows.{Written, Entry, Player, Switch, EventPlayer, Block, Counter, StepBlock, Control as TimerControl, Timer, ModeSettings, Content, entries, players, SectionRows}
+use Rattle.mpf_config.specs.Rows.{ModeRows, Rows}
+use Rattle.mpf_sections.specs.Rows as sections
+use Rattle.mpf_sections.specs.Named.{IsName, AllNames, IsNamedEntry, IsNamedPlayer, IsNamedSwitch, IsNamedEventPlayer, IsNamedBlock, IsNamedCounter, IsNamedStepBlock, IsNamedTimer, AreNamedSettings, IsNamedContent, IsNamed}
+use Rattle.mpf_config.specs.Named.{IsNamedMode}
+use Rattle.mpf_sections.specs.Typed.{switches_name, event_player_name, counters_name, accruals_name, sequences_name, timers_name, switch_of, event_player_of, counter_of, step_block_of, timer_of, mode_settings}
+use Rattle.mpf_sections.specs.Short.{IsShortEntry, IsShortPlayer, IsShortBlock, IsShortCounter, IsShortStepBlock, IsShortTimer, IsShortContent, IsShortSection}
+use Rattle.mpf_config.specs.Short.{IsShortMode, AreListsShort}
+use Rattle.mpf_sections.proofs.RowNames.{switch_named, event_player_named, mode_settings_named}
+use Rattle.mpf_sections.proofs.ShortRows.{event_player_short}
+use Rattle.mpf_sections.proofs.DeviceRows.{counter_named, step_block_named, timer_named, counter_short, step_block_short, timer_in_range}
 use Rattle.mpf_plan.specs.declared.contribution.Aim.{Aim}
 use Rattle.mpf_plan.specs.declared.contribution.Aim.TheVariants.{Run, Start, Stop, Do}
 use Rattle.mpf_plan.specs.declared.contribution.Place.{Place}

@@ -2,12 +2,13 @@
 use Rattle.std.specs.Prelude.{ℕ, suc, Bool, true, false, if◌then◌else◌, List, [], ◌∷◌, ◌++◌, map, Option, None, Some, codes}
 use Rattle.std.specs.List.{flat_map}
 use Rattle.std.specs.Str.{bytes_eq}
-use Rattle.mpf_config.specs.declared.config.Contact.{Contact as WrittenContact}
-use Rattle.mpf_config.specs.declared.config.Contact.TheVariants as written
-use Rattle.mpf_config.specs.declared.config.Debounce.{Debounce}
-use Rattle.mpf_config.specs.declared.config.Debounce.TheVariants.{Auto, Quick, Normal}
-use Rattle.mpf_config.specs.Rows.{Written, Entry, Player, Switch, EventPlayer, ModeSettings, Content, entries, players, SectionRows, ModeRows, Rows}
-use Rattle.mpf_config.specs.Typed.{switches_name, event_player_name, switch_of, event_player_of, mode_settings}
+use Rattle.mpf_sections.specs.declared.words.Contact.{Contact as WrittenContact}
+use Rattle.mpf_sections.specs.declared.words.Contact.TheVariants as written
+use Rattle.mpf_sections.specs.declared.words.Debounce.{Debounce}
+use Rattle.mpf_sections.specs.declared.words.Debounce.TheVariants.{Auto, Quick, Normal}
+use Rattle.mpf_sections.specs.Rows.{Written, Entry, Player, Switch, EventPlayer, ModeSettings, Content, entries, players, SectionRows}
+use Rattle.mpf_config.specs.Rows.{ModeRows, Rows}
+use Rattle.mpf_sections.specs.Typed.{switches_name, event_player_name, switch_of, event_player_of, mode_settings}
 use Rattle.plan_tables.specs.declared.entries.Contact.{Contact}
 use Rattle.plan_tables.specs.declared.entries.Contact.TheVariants.{NormallyOpen, NormallyClosed}
 use Rattle.plan_tables.specs.declared.entries.SwitchKind.{SwitchKind}

@@ -1,12 +1,12 @@
 -- What the entries of devices say: of counters, accruals, sequences and timers.
 use Rattle.std.specs.Prelude.{ℕ, suc, ℤ, Bool, true, false, if◌then◌else◌, List, [], ◌∷◌, ◌++◌, length, map, Option, None, Some, codes}
 use Rattle.std.specs.Str.{bytes_eq}
-use Rattle.mpf_config.specs.declared.config.Direction.{Direction as WrittenDirection}
-use Rattle.mpf_config.specs.declared.config.Direction.TheVariants as written
-use Rattle.mpf_config.specs.declared.config.ControlAction.{ControlAction}
-use Rattle.mpf_config.specs.declared.config.ControlAction.TheVariants as actions
-use Rattle.mpf_config.specs.Rows.{Written, Entry, Block, Counter, StepBlock, Control, Timer}
-use Rattle.mpf_config.specs.Typed.{counters_name, accruals_name, sequences_name, timers_name, counter_of, step_block_of, timer_of}
+use Rattle.mpf_sections.specs.declared.words.Direction.{Direction as WrittenDirection}
+use Rattle.mpf_sections.specs.declared.words.Direction.TheVariants as written
+use Rattle.mpf_sections.specs.declared.words.ControlAction.{ControlAction}
+use Rattle.mpf_sections.specs.declared.words.ControlAction.TheVariants as actions
+use Rattle.mpf_sections.specs.Rows.{Written, Entry, Block, Counter, StepBlock, Control, Timer}
+use Rattle.mpf_sections.specs.Typed.{counters_name, accruals_name, sequences_name, timers_name, counter_of, step_block_of, timer_of}
 use Rattle.plan_tables.specs.declared.devices.Direction.{Direction}
 use Rattle.plan_tables.specs.declared.devices.Direction.TheVariants.{Up, Down}
 use Rattle.plan_tables.specs.declared.devices.BlockSettings.{BlockSettings}

@@ -1,6 +1,6 @@
 -- What contributions, rows and a plan that is being made hold.
 use Rattle.std.specs.Prelude.{ℕ, ◌++◌, List, map}
-use Rattle.mpf_config.specs.View.{entry_view, player_view, mode_settings_view}
+use Rattle.mpf_sections.specs.View.{entry_view, player_view, mode_settings_view}
 use Rattle.plan_tables.specs.declared.table.Table.{Table}
 use Rattle.plan_tables.specs.declared.names.NameSets.{NameSets}
 use Rattle.plan_tables.specs.Inside.{tables_view}

@@ -1,7 +1,8 @@
 //! What rows give to a plan, by names and in plan order.
 
 ghost use Rattle.std.specs.Prelude.{◌≡◌, ◌++◌, map, codes, IfOk, OnOk};
-ghost use Rattle.mpf_config.specs.View.{switch_view as switch_row_view, event_player_view, mode_settings_view, section_view, mode_view, rows_view, entry_view, player_view, name_view};
+ghost use Rattle.mpf_sections.specs.View.{switch_view as switch_row_view, event_player_view, mode_settings_view, section_view, entry_view, player_view, name_view};
+ghost use Rattle.mpf_config.specs.View.{mode_view, rows_view};
 ghost use Rattle.mpf_plan.specs.Contributions.{active, inactive, post, texts, contact_of, is_quick, kind_of, tag_event, active_posts, inactive_posts, switch_contributions, player_contributions, starter, stopper, stopper_where, later_events, controls, mode_contributions, rows_in, rows_from, mode_rows, rows_of, entry, player, entry_contributions, player_entry_contributions, row_contributions};
 ghost use Rattle.mpf_plan.specs.Inside.{contributions_view, row_view, row_list_view};
 

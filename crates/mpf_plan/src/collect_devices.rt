@@ -1,8 +1,8 @@
 //! What the entries of devices give to a plan: counters, accruals, sequences and timers.
 
 ghost use Rattle.std.specs.Prelude.{◌≡◌, ◌++◌, [], map, OnOk};
-ghost use Rattle.mpf_config.specs.Typed.{control_of, controls_of, with_control};
-ghost use Rattle.mpf_config.specs.View.{name_view, names_view, fields_view, entry_view, block_view, counter_view, step_block_view, timer_view};
+ghost use Rattle.mpf_sections.specs.Typed.{control_of, controls_of, with_control};
+ghost use Rattle.mpf_sections.specs.View.{name_view, names_view, fields_view, entry_view, block_view, counter_view, step_block_view, timer_view};
 ghost use Rattle.mpf_plan.specs.DeviceEntries.{acts, direction_in_plan, is_none, block_settings, block_acts, block_mentions, block_event, or_own, block_lists, counter_settings, counter_device, step_acts, step_settings, step_device, control_act, controlled, timer_event, timer_lists, timer_settings, timer_device, device_of};
 ghost use Rattle.mpf_plan.specs.Contributions.{mentions, post_in, posts_from, texts, act_binding, device_contributions, where_device};
 ghost use Rattle.mpf_plan.specs.Inside.{parts_text, contributions_view};

@@ -1,12 +1,12 @@
 //! Entries and players that are read by tables.
 
 use crate::cases::{Subject, assert_rows, utf8};
+use mpf_sections::tables::{TextKind, shape_of};
 use section_tables::fault::ConfigFault;
 use section_tables::rows::{Entry, Fields, Handler, Keyed, Name, Plain, Player, Value};
 use section_tables::table::{
     Absent, Bounds, Field, Kind, Others, PlayerKinds, Scalar, Setting, Shape, Without,
 };
-use section_tables::tables::{TextKind, shape_of};
 use section_tables::{entries, entry, name_list, players};
 use std::alloc::{AllocError, Global};
 use std::test::Fail;

@@ -11,4 +11,3 @@ pub mod ValuesRead
 pub mod EntriesRead
 pub mod AnswersOf
 pub mod RowNames
-pub mod TableNames

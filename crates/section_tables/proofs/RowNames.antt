@@ -131,7 +131,7 @@ Few longest n = (n ≤ longest) × All (λ (ws : List Written). length ws ≤ lo
 pub few_items : (longest : ℕ) {n : ℕ} → n ≤ longest → Few longest n
 few_items longest few = (few, All-nil (λ (ws : List Written). length ws ≤ longest))
 
-pub no_items : (longest : ℕ) → Few longest 0
+pub no_items : (longest : ℕ) → (0 ≤ longest) × All (λ (ws : List Written). length ws ≤ longest) []
 no_items longest = let none : 0 ≤ longest = omega arith in few_items longest none
 
 value_short : (longest : ℕ) (kind : Kind) (node : Node) (v : Value) → IsValue longest kind node v → IsShortValue longest v

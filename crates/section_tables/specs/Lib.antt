@@ -3,8 +3,6 @@ pub mod Rows
 pub mod Entries
 pub mod Kinds
 pub mod Tables
-pub mod SectionTables
-pub mod TableRules
 pub mod EntryOf
 pub mod Named
 pub mod Reading

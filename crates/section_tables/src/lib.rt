@@ -3,7 +3,7 @@
 //! A table says for each setting its key, of which kind its value is, and what holds where it is
 //! not written. One reader serves all tables: [`entries`] for the entries of a section, [`entry`]
 //! for a section that is one entry itself, [`players`] for sections whose keys are events, and
-//! [`name_list`] for a section that is a list of names. [`tables::shape_of`] says which it is.
+//! [`name_list`] for a section that is a list of names. A [`table::Shape`] says which it is.
 #![tactic(auto)]
 
 mod each;
@@ -18,7 +18,6 @@ mod sections;
 mod settings;
 pub mod spot;
 pub mod table;
-pub mod tables;
 
 pub use handling::players;
 pub use sections::{entries, entry, name_list};

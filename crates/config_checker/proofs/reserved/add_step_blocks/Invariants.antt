@@ -1,7 +1,7 @@
 use Rattle.std.proofs.Common.{◌≡◌, ◌++◌, map, drop}
 use Rattle.std.specs.List.{flat_map}
-use Rattle.mpf_config.specs.View.{entry_view}
-use Rattle.mpf_config.specs.Typed.{step_block_of}
+use Rattle.mpf_sections.specs.View.{entry_view}
+use Rattle.mpf_sections.specs.Typed.{step_block_of}
 use Rattle.config_checker.specs.Reserved.{step_posts, reserved_among}
 use Rattle.config_checker.specs.View.{keys_view, written_view}
 use Rattle.config_checker.proofs.reserved.add_step_blocks.Given as goal

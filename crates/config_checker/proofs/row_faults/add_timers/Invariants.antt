@@ -1,7 +1,7 @@
 use Rattle.std.proofs.Common.{◌≡◌, ◌++◌, map, drop}
 use Rattle.std.specs.List.{filter}
-use Rattle.mpf_config.specs.View.{entry_view}
-use Rattle.mpf_config.specs.Typed.{timer_of}
+use Rattle.mpf_sections.specs.View.{entry_view}
+use Rattle.mpf_sections.specs.Typed.{timer_of}
 use Rattle.config_checker.specs.RowFaults.{starts_at_end, timer_fault}
 use Rattle.config_checker.specs.View.{faults_view}
 use Rattle.config_checker.proofs.row_faults.add_timers.Given as goal

@@ -1,8 +1,9 @@
 use Rattle.std.proofs.Common.{◌≡◌, ℕ, List, map, ◌++◌, [], ap, ◌∙◌}
 use Rattle.std.proofs.lemmas.Result.{IfOk-weaker}
 use Rattle.yaml_subset.specs.Keys.{is_among}
-use Rattle.mpf_config.specs.View.{rows_view, section_view, mode_view}
-use Rattle.mpf_config.specs.Typed.{listed_modes}
+use Rattle.mpf_sections.specs.View.{section_view}
+use Rattle.mpf_config.specs.View.{rows_view, mode_view}
+use Rattle.mpf_sections.specs.Typed.{listed_modes}
 use Rattle.config_checker.specs.Reserved.{events_of_modes, mode_names}
 use Rattle.config_checker.specs.RowFaults.{listed_once, row_faults}
 use Rattle.config_checker.specs.View.{keys_view}

@@ -2,8 +2,8 @@ use Rattle.std.proofs.Common.{◌≡◌, List, map, append-nil, ◌++◌, rules,
 use Rattle.std.specs.List.{flat_map}
 use Rattle.std.proofs.lemmas.Fn.{always_returns_same}
 use Rattle.std.proofs.lemmas.List.{drop_all}
-use Rattle.mpf_config.specs.declared.config.Section.{Section}
-use Rattle.mpf_config.specs.View.{section_view}
+use Rattle.mpf_sections.specs.declared.section.Section.{Section}
+use Rattle.mpf_sections.specs.View.{section_view}
 use Rattle.config_checker.specs.RowFaults.{fault_order, ordered_by, section_faults}
 use Rattle.config_checker.specs.View.{keys_view, fault_view, faults_view}
 use Rattle.config_checker.proofs.ByLine.{sorted-is, ordered-seen}

@@ -1,6 +1,6 @@
 use Rattle.std.proofs.Common.{◌≡◌, ◌++◌, map, drop}
 use Rattle.std.specs.List.{flat_map}
-use Rattle.mpf_config.specs.View.{section_view}
+use Rattle.mpf_sections.specs.View.{section_view}
 use Rattle.config_checker.specs.RowFaults.{section_faults}
 use Rattle.config_checker.specs.View.{keys_view, faults_view}
 use Rattle.config_checker.proofs.row_faults.faults_of_text.Given as goal

@@ -1,12 +1,12 @@
 use Rattle.std.proofs.Common.{◌≡◌, List, map, Ok, ap, sym, subst, ◌∙◌}
 use Rattle.std.specs.List.{All}
-use Rattle.mpf_config.specs.declared.config.Section.{Section}
+use Rattle.mpf_sections.specs.declared.section.Section.{Section}
 use Rattle.mpf_config.specs.Rows.{Written}
-use Rattle.mpf_config.specs.View.{section_view}
+use Rattle.mpf_sections.specs.View.{section_view}
 use Rattle.mpf_config.specs.Short.{IsShortMode}
 use Rattle.mpf_config.specs.FewModes.{AreFewModes}
 use Rattle.mpf_config.specs.Reading.{modes_in_texts, found_of, rows_from}
-use Rattle.mpf_config.specs.Typed.{listed_modes}
+use Rattle.mpf_sections.specs.Typed.{listed_modes}
 use Rattle.mpf_config.specs.Inside.{texts_view, modes_view, machine_read_view, found_modes_view}
 use Rattle.mpf_config.proofs.Theorem.{rows_again}
 use Rattle.mpf_config.proofs.ShortRows.{rows_are_short, rows_are_few}

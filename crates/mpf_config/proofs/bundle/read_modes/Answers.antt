@@ -1,6 +1,7 @@
 use Rattle.std.proofs.Common.{◌≡◌, [], map, refl, sym, subst, ◌∙◌}
 use Rattle.std.proofs.lemmas.Result.{err_from_is_err_and}
-use Rattle.mpf_config.specs.View.{section_view, FailsRows}
+use Rattle.mpf_sections.specs.View.{section_view}
+use Rattle.mpf_config.specs.View.{FailsRows}
 use Rattle.mpf_config.specs.Inside.{copies_view, modes_view, texts_view}
 use Rattle.mpf_config.proofs.SameTexts.{after_machine}
 use Rattle.mpf_config.proofs.bundle.read_modes.Goals as goal

@@ -5,7 +5,7 @@ use Rattle.yaml_subset.specs.View.{pair_view}
 use Rattle.mpf_config.specs.Unread.{is_skipped, read_of}
 use Rattle.section_tables.specs.Reading.{each_read}
 use Rattle.mpf_config.specs.Reading.{section_at, sections_at}
-use Rattle.mpf_config.specs.View.{section_view}
+use Rattle.mpf_sections.specs.View.{section_view}
 use Rattle.section_tables.specs.View.{pairs_view}
 use Rattle.mpf_config.specs.Inside.{sections_view}
 use Rattle.mpf_config.proofs.EachRead.{goes_on, fails, is_done}

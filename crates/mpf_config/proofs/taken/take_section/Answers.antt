@@ -1,6 +1,6 @@
 use Rattle.std.proofs.Common.{◌≡◌, ◌+◌, ◌∷◌, drop, map, ap, ◌∙◌}
 use Rattle.mpf_config.specs.Apart.{named_entry}
-use Rattle.mpf_config.specs.View.{entry_view}
+use Rattle.mpf_sections.specs.View.{entry_view}
 use Rattle.mpf_config.specs.Inside.{copies_view}
 use Rattle.mpf_config.proofs.ListLoops.{mapped_at}
 use Rattle.mpf_config.proofs.TakenEntries.{takes_entry, knows_entry}

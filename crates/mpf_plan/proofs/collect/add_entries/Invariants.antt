@@ -1,5 +1,5 @@
 use Rattle.std.proofs.Common.{◌≡◌, ◌++◌, map, drop}
-use Rattle.mpf_config.specs.View.{entry_view}
+use Rattle.mpf_sections.specs.View.{entry_view}
 use Rattle.mpf_plan.specs.Contributions.{entry}
 use Rattle.mpf_plan.specs.Inside.{row_list_view}
 use Rattle.mpf_plan.proofs.collect.add_entries.Given as goal

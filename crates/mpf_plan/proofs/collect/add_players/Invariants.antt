@@ -1,5 +1,5 @@
 use Rattle.std.proofs.Common.{◌≡◌, ◌++◌, map, drop}
-use Rattle.mpf_config.specs.View.{player_view}
+use Rattle.mpf_sections.specs.View.{player_view}
 use Rattle.mpf_plan.specs.Contributions.{player}
 use Rattle.mpf_plan.specs.Inside.{row_list_view}
 use Rattle.mpf_plan.proofs.collect.add_players.Given as goal

@@ -1,5 +1,5 @@
 use Rattle.std.proofs.Common.{◌≡◌, ◌++◌, map, drop}
-use Rattle.mpf_config.specs.View.{section_view}
+use Rattle.mpf_sections.specs.View.{section_view}
 use Rattle.mpf_plan.specs.Contributions.{rows_in}
 use Rattle.mpf_plan.specs.Inside.{row_list_view}
 use Rattle.mpf_plan.proofs.collect.add_sections.Given as goal

@@ -1,6 +1,6 @@
 use Rattle.std.proofs.Common.{◌++◌, map, ap, ◌∙◌}
 use Rattle.std.proofs.lemmas.List.{append_assoc}
-use Rattle.mpf_config.specs.View.{name_view, block_view}
+use Rattle.mpf_sections.specs.View.{name_view, block_view}
 use Rattle.mpf_plan.specs.DeviceEntries.{block_lists}
 use Rattle.mpf_plan.specs.Contributions.{mentions, texts, posts_from}
 use Rattle.mpf_plan.specs.Inside.{contributions_view}

@@ -1,5 +1,5 @@
 use Rattle.std.proofs.Common.{◌++◌, map, ap, ◌∙◌}
-use Rattle.mpf_config.specs.View.{name_view, block_view, counter_view}
+use Rattle.mpf_sections.specs.View.{name_view, block_view, counter_view}
 use Rattle.plan_tables.specs.declared.devices.Act.TheVariants.{Count}
 use Rattle.mpf_plan.specs.DeviceEntries.{acts, block_acts, block_mentions, block_lists, counter_settings, counter_device}
 use Rattle.mpf_plan.specs.Contributions.{act_binding, mentions, posts_from}

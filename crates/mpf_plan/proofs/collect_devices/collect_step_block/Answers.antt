@@ -1,5 +1,5 @@
 use Rattle.std.proofs.Common.{◌++◌, map, refl, ap, ◌∙◌}
-use Rattle.mpf_config.specs.View.{names_view, block_view, step_block_view}
+use Rattle.mpf_sections.specs.View.{names_view, block_view, step_block_view}
 use Rattle.mpf_plan.specs.DeviceEntries.{block_acts, block_mentions, block_lists, step_acts, step_device}
 use Rattle.mpf_plan.specs.Contributions.{act_binding, mentions, posts_from}
 use Rattle.mpf_plan.specs.Inside.{contributions_view}

@@ -1,6 +1,6 @@
 use Rattle.std.proofs.Common.{◌+◌, ◌++◌, map, drop, get_or, ap, ◌∙◌}
 use Rattle.std.proofs.lemmas.List.{append_assoc}
-use Rattle.mpf_config.specs.View.{name_view, names_view}
+use Rattle.mpf_sections.specs.View.{name_view, names_view}
 use Rattle.plan_tables.specs.declared.devices.Act.TheVariants.{Step}
 use Rattle.mpf_plan.specs.DeviceEntries.{acts, step_acts}
 use Rattle.mpf_plan.specs.Contributions.{act_binding}

@@ -1,5 +1,5 @@
 use Rattle.std.proofs.Common.{◌≡◌, ◌++◌, map, drop}
-use Rattle.mpf_config.specs.View.{names_view}
+use Rattle.mpf_sections.specs.View.{names_view}
 use Rattle.mpf_plan.specs.DeviceEntries.{step_acts}
 use Rattle.mpf_plan.specs.Contributions.{act_binding}
 use Rattle.mpf_plan.specs.Inside.{contributions_view}

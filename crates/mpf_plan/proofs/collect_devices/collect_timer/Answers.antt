@@ -1,5 +1,5 @@
 use Rattle.std.proofs.Common.{◌++◌, ap, ◌∙◌}
-use Rattle.mpf_config.specs.View.{timer_view}
+use Rattle.mpf_sections.specs.View.{timer_view}
 use Rattle.mpf_plan.specs.DeviceEntries.{timer_lists, timer_settings, timer_device}
 use Rattle.mpf_plan.specs.Contributions.{posts_from}
 use Rattle.mpf_plan.specs.Inside.{contributions_view}

@@ -1,7 +1,7 @@
 use Rattle.std.proofs.Common.{◌+◌, [], ◌++◌, map, drop, get_or, sym, ap, ◌∙◌}
 use Rattle.std.proofs.lemmas.List.{append_assoc, drop_more}
-use Rattle.mpf_config.specs.Typed.{control_of, controls_of, with_control}
-use Rattle.mpf_config.specs.View.{fields_view}
+use Rattle.mpf_sections.specs.Typed.{control_of, controls_of, with_control}
+use Rattle.mpf_sections.specs.View.{fields_view}
 use Rattle.mpf_plan.specs.DeviceEntries.{controlled}
 use Rattle.mpf_plan.specs.Contributions.{act_binding}
 use Rattle.mpf_plan.specs.Inside.{contributions_view}

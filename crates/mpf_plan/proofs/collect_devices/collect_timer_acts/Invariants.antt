@@ -1,6 +1,6 @@
 use Rattle.std.proofs.Common.{◌≡◌, ◌++◌, map, drop}
-use Rattle.mpf_config.specs.Typed.{controls_of}
-use Rattle.mpf_config.specs.View.{fields_view}
+use Rattle.mpf_sections.specs.Typed.{controls_of}
+use Rattle.mpf_sections.specs.View.{fields_view}
 use Rattle.mpf_plan.specs.DeviceEntries.{controlled}
 use Rattle.mpf_plan.specs.Contributions.{act_binding}
 use Rattle.mpf_plan.specs.Inside.{contributions_view}

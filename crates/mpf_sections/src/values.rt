@@ -3,11 +3,11 @@
 ghost use Rattle.std.specs.Prelude.{◌≡◌, map, option_map, slice_get, pos, negsuc};
 ghost use Rattle.section_tables.specs.EntryOf.{within};
 ghost use Rattle.section_tables.specs.View.{name_view, names_view, fields_view, plain_view, plains_view, value_view, values_view};
-ghost use Rattle.mpf_config.specs.Typed.{listed_names, listed_posts, listed_steps, listed_maps, word_of, flag_of, natural_of, number_of, direction_of, limit_of, time_of, event_name, event_in, word_in, number_in};
-ghost use Rattle.mpf_config.specs.View.{name_at_view};
+ghost use Rattle.mpf_sections.specs.Typed.{listed_names, listed_posts, listed_steps, listed_maps, word_of, flag_of, natural_of, number_of, direction_of, limit_of, time_of, event_name, event_in, word_in, number_in};
+ghost use Rattle.mpf_sections.specs.View.{name_at_view};
 
-use crate::config::Direction;
 use crate::typed::NameAt;
+use crate::words::Direction;
 use section_tables::rows::{Fields, Name, Plain, Value};
 
 // ---- values of settings

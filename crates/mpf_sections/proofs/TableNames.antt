@@ -3,12 +3,12 @@ use Rattle.std.proofs.Common.{◌≡◌, ℕ, Bool, true, false, cond, List, [],
 use Rattle.std.specs.List.{AllByRecursion}
 use Rattle.std.specs.Str.{bytes_eq}
 use Rattle.std.proofs.lemmas.Option.{same_Some, none-some}
-use Rattle.section_tables.specs.declared.tables.TextKind.{TextKind}
-use Rattle.section_tables.specs.declared.tables.TextKind.TheVariants.{Machine, Mode}
+use Rattle.mpf_sections.specs.declared.tables.TextKind.{TextKind}
+use Rattle.mpf_sections.specs.declared.tables.TextKind.TheVariants.{Machine, Mode}
 use Rattle.section_tables.specs.Kinds.{Shape}
 use Rattle.section_tables.specs.Named.{IsNamedKinds, IsNamedTable, IsNamedShape, IsShortTable, IsShortShape}
-use Rattle.section_tables.specs.SectionTables.{switches, block, counters, step_blocks, timers, mode, event_player, machine_shapes, mode_shapes, named_in, shape_of}
-use Rattle.section_tables.specs.TableRules.{IsRight}
+use Rattle.mpf_sections.specs.SectionTables.{switches, block, counters, step_blocks, timers, mode, event_player, machine_shapes, mode_shapes, named_in, shape_of}
+use Rattle.mpf_sections.specs.TableRules.{IsRight}
 use Rattle.section_tables.proofs.RowNames.{no_items}
 use Rattle.section_tables.proofs.Steps.{word_is}
 

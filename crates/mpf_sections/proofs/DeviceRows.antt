@@ -8,16 +8,16 @@ use Rattle.std.proofs.lemmas.Int.{ints}
 use Rattle.section_tables.specs.Rows.{Plain, nothing, flag, number, time, power, word, name, event, Fields, Value, one, names, posts, events, steps, maps, keyed, Entry}
 use Rattle.section_tables.specs.Named.{IsNamedPlain, AreNames, AreNamedPlains, IsNamedValue, IsNamedEntry, IsShortValue, IsShortEntry}
 use Rattle.section_tables.specs.EntryOf.{within}
-use Rattle.mpf_config.specs.declared.config.Direction.{Direction}
-use Rattle.mpf_config.specs.declared.config.Direction.TheVariants.{Up, Down}
-use Rattle.mpf_config.specs.Rows.{Written, Control, SectionRows}
-use Rattle.mpf_config.specs.Typed.{counters_name, accruals_name, sequences_name, timers_name, direction_of, word_of, limit_of, time_of, listed_steps, listed_maps, event_in, control_from, control_of, with_control, controls_of, end_from, interval_from, counter_of, step_block_of, timer_of, counters_in, accruals_in, sequences_in, timers_in, entries_of}
-use Rattle.mpf_config.specs.Inside.{block_at}
-use Rattle.mpf_config.specs.Named.{AllNames, IsNamedBlock, IsNamedCounter, IsNamedStepBlock, IsNamedTimer, IsNamed}
-use Rattle.mpf_config.specs.Short.{IsEndInRange, IsShortBlock, IsShortCounter, IsShortStepBlock, IsShortTimer, IsShortSection}
-use Rattle.mpf_config.proofs.Each.{all_where}
-use Rattle.mpf_config.proofs.RowNames.{IsNamedOption, is_name, value_at_named, names_named, posts_named, entries_of_named}
-use Rattle.mpf_config.proofs.ShortRows.{value_at_short, posts_short, entries_of_short}
+use Rattle.mpf_sections.specs.declared.words.Direction.{Direction}
+use Rattle.mpf_sections.specs.declared.words.Direction.TheVariants.{Up, Down}
+use Rattle.mpf_sections.specs.Rows.{Written, Control, SectionRows}
+use Rattle.mpf_sections.specs.Typed.{counters_name, accruals_name, sequences_name, timers_name, direction_of, word_of, limit_of, time_of, listed_steps, listed_maps, event_in, control_from, control_of, with_control, controls_of, end_from, interval_from, counter_of, step_block_of, timer_of, counters_in, accruals_in, sequences_in, timers_in, entries_of}
+use Rattle.mpf_sections.specs.Inside.{block_at}
+use Rattle.mpf_sections.specs.Named.{AllNames, IsNamedBlock, IsNamedCounter, IsNamedStepBlock, IsNamedTimer, IsNamed}
+use Rattle.mpf_sections.specs.Short.{IsEndInRange, IsShortBlock, IsShortCounter, IsShortStepBlock, IsShortTimer, IsShortSection}
+use Rattle.mpf_sections.proofs.Each.{all_where}
+use Rattle.mpf_sections.proofs.RowNames.{IsNamedOption, is_name, value_at_named, names_named, posts_named, entries_of_named}
+use Rattle.mpf_sections.proofs.ShortRows.{value_at_short, posts_short, entries_of_short}
 
 -- ---- names
 

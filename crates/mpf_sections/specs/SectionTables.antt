@@ -2,8 +2,8 @@
 use Rattle.std.specs.Prelude.{ℕ, pos, negsuc, true, false, if◌then◌else◌, List, [], ◌∷◌, Option, Some, None, codes}
 use Rattle.std.specs.Str.{bytes_eq}
 use Rattle.section_tables.specs.Rows.{nothing, flag, number, time, word, one, names, posts, maps}
-use Rattle.section_tables.specs.declared.tables.TextKind.{TextKind}
-use Rattle.section_tables.specs.declared.tables.TextKind.TheVariants.{Machine, Mode}
+use Rattle.mpf_sections.specs.declared.tables.TextKind.{TextKind}
+use Rattle.mpf_sections.specs.declared.tables.TextKind.TheVariants.{Machine, Mode}
 use Rattle.section_tables.specs.Kinds.{Scalar, a_flag, number_within, time_within, one_of, a_name, at_least, between, Absent, required, default, KeyRule, Field, single, name_list, post_list, step_list, map_list, Setting, PlayerKinds, Shape, by_entries, by_players, by_entry, by_names}
 
 abbrev row : {K V : Type 0} → List ℕ → K → Absent V → KeyRule K V

@@ -2,15 +2,15 @@
 //! settings is reported.
 
 ghost use Rattle.std.specs.Prelude.{◌≡◌, ℕ, List, Some};
-ghost use Rattle.section_tables.specs.declared.tables.TextKind.{TextKind as Text};
-ghost use Rattle.section_tables.specs.declared.tables.TextKind.TheVariants.{Machine, Mode};
+ghost use Rattle.mpf_sections.specs.declared.tables.TextKind.{TextKind as Text};
+ghost use Rattle.mpf_sections.specs.declared.tables.TextKind.TheVariants.{Machine, Mode};
 ghost use Rattle.section_tables.specs.Kinds.{Shape as SectionShape};
-ghost use Rattle.section_tables.specs.SectionTables.{block_shapes, named_in, shape_of};
-ghost use Rattle.section_tables.specs.TableRules.{IsRight};
+ghost use Rattle.mpf_sections.specs.SectionTables.{block_shapes, named_in, shape_of};
+ghost use Rattle.mpf_sections.specs.TableRules.{IsRight};
 ghost use Rattle.section_tables.specs.Reading.{give};
 ghost use Rattle.section_tables.specs.TableView.{shape_view};
 
-use crate::table::{
+use section_tables::table::{
     Absent, Barred, Bounds, Field, Kind, Others, PlayerKinds, Scalar, Setting, Shape, Without,
 };
 

@@ -2,13 +2,14 @@
 
 ghost use Rattle.std.specs.Prelude.{◌≡◌, None, map, option_map};
 ghost use Rattle.section_tables.specs.View.{name_view, values_view, entry_view, entries_view, player_view, players_view};
-ghost use Rattle.mpf_config.specs.Typed.{mode_settings_of, mode_row, mode_settings, listed_modes, content_named, contact_of, debounce_of, switch_of, event_player_of, entries_in, players_in, entries_of, players_of, switches_in, event_players_in};
-ghost use Rattle.mpf_config.specs.View.{content_view, section_view, switch_view, event_player_view, mode_settings_view};
+ghost use Rattle.mpf_sections.specs.Typed.{mode_settings_of, mode_row, mode_settings, listed_modes, content_named, contact_of, debounce_of, switch_of, event_player_of, entries_in, players_in, entries_of, players_of, switches_in, event_players_in};
+ghost use Rattle.mpf_sections.specs.View.{content_view, section_view, switch_view, event_player_view, mode_settings_view};
 
-use crate::config::{Contact, Content, Debounce, Section};
+use crate::section::{Content, Section};
+use crate::tables::{EVENT_PLAYER_NAME, MODE_NAME, MODES_NAME, SWITCHES_NAME};
 use crate::values::{event_name, flag, names, natural, posts, posts_at, word};
+use crate::words::{Contact, Debounce};
 use section_tables::rows::{Entry, Name, Player, Value};
-use section_tables::tables::{EVENT_PLAYER_NAME, MODE_NAME, MODES_NAME, SWITCHES_NAME};
 
 /// A name where it is written.
 #[derive(Clone, Copy)]
@@ -206,7 +207,8 @@ fn section_named<'a>(sections: &'a [Section], name: &[u8]) -> Option<&'a Content
 }
 
 impl Content {
-    pub(crate) fn entries(&self) -> &[Entry]
+    /// The entries of a section that is written as entries; none of any other.
+    pub fn entries(&self) -> &[Entry]
         ensures { map entry_view result.now ≡ entries_in (content_view self.now) }
     {
         match self {

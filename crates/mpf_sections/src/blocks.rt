@@ -2,14 +2,15 @@
 
 ghost use Rattle.std.specs.Prelude.{◌≡◌, ◌≤◌, map};
 ghost use Rattle.section_tables.specs.View.{values_view};
-ghost use Rattle.mpf_config.specs.Typed.{counter_of, step_block_of, counters_in, accruals_in, sequences_in};
-ghost use Rattle.mpf_config.specs.View.{entry_view, section_view, block_view, counter_view, step_block_view};
-ghost use Rattle.mpf_config.specs.Inside.{block_at};
+ghost use Rattle.mpf_sections.specs.Typed.{counter_of, step_block_of, counters_in, accruals_in, sequences_in};
+ghost use Rattle.mpf_sections.specs.View.{entry_view, section_view, block_view, counter_view, step_block_view};
+ghost use Rattle.mpf_sections.specs.Inside.{block_at};
 
-use crate::config::{Direction, Section};
+use crate::section::Section;
+use crate::tables::{ACCRUALS_NAME, COUNTERS_NAME, SEQUENCES_NAME};
 use crate::values::{direction, flag, limit, milliseconds, names, number, posts_at, steps};
+use crate::words::Direction;
 use section_tables::rows::{Entry, Name, Value};
-use section_tables::tables::{ACCRUALS_NAME, COUNTERS_NAME, SEQUENCES_NAME};
 
 /// The settings that all logic blocks have.
 #[derive(Clone, Copy)]

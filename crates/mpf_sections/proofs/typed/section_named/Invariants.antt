@@ -1,7 +1,7 @@
 use Rattle.std.proofs.Common.{◌≡◌, map, drop}
-use Rattle.mpf_config.specs.Typed.{content_named}
-use Rattle.mpf_config.specs.View.{section_view}
-use Rattle.mpf_config.proofs.typed.section_named.Given as goal
+use Rattle.mpf_sections.specs.Typed.{content_named}
+use Rattle.mpf_sections.specs.View.{section_view}
+use Rattle.mpf_sections.proofs.typed.section_named.Given as goal
 
 abbrev pub invariant-loop-section : goal.invariant-loop-section
 invariant-loop-section l = content_named l.name (map section_view l.sections) ≡ content_named l.name (map section_view (drop l.section-index l.sections))

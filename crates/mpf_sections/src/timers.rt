@@ -1,16 +1,17 @@
 //! The entries of `timers`, by the names of their settings.
 
 ghost use Rattle.std.specs.Prelude.{◌≡◌, map, option_map};
-ghost use Rattle.mpf_config.specs.Typed.{action_of, end_from, interval_from, control_of, timer_of, timers_in};
-ghost use Rattle.mpf_config.specs.View.{fields_view, entry_view, section_view, control_view, timer_view};
+ghost use Rattle.mpf_sections.specs.Typed.{action_of, end_from, interval_from, control_of, timer_of, timers_in};
+ghost use Rattle.mpf_sections.specs.View.{fields_view, entry_view, section_view, control_view, timer_view};
 
-use crate::config::{ControlAction, Direction, Section};
+use crate::section::Section;
+use crate::tables::TIMERS_NAME;
 use crate::typed::NameAt;
 use crate::values::{
     direction, event_field, flag, limit, maps, milliseconds, number, number_field, word_field,
 };
+use crate::words::{ControlAction, Direction};
 use section_tables::rows::{Entry, Fields, Name};
-use section_tables::tables::TIMERS_NAME;
 
 /// An event that controls a timer.
 #[derive(Clone, Copy)]

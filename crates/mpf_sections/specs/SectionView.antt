@@ -1,11 +1,9 @@
 -- What contracts see of the rows of a section.
-use Rattle.mpf_config.specs.declared.config.Content as contents
-use Rattle.mpf_config.specs.declared.config.Content.TheVariants as content
-use Rattle.mpf_config.specs.declared.config.Section.{Section}
-use Rattle.mpf_config.specs.declared.config.ModeText.{ModeText}
+use Rattle.mpf_sections.specs.declared.section.Content as contents
+use Rattle.mpf_sections.specs.declared.section.Content.TheVariants as content
+use Rattle.mpf_sections.specs.declared.section.Section.{Section}
 use Rattle.section_tables.specs.View.{names_view, entry_view, entries_view, players_view}
-use Rattle.std.specs.Prelude.{map}
-use Rattle.mpf_config.specs.Rows.{Content, entries, players, entry, listed, SectionRows, ModeRows}
+use Rattle.mpf_sections.specs.Rows.{Content, entries, players, entry, listed, SectionRows}
 
 abbrev pub content_view : contents.Content → Content
 content_view (content.Entries es) = entries (entries_view es)
@@ -15,6 +13,3 @@ content_view (content.Names ws) = listed (names_view ws)
 
 abbrev pub section_view : Section → SectionRows
 section_view s = record { name = s.name.items; content = content_view s.content }
-
-abbrev pub mode_view : ModeText → ModeRows
-mode_view m = record { name = m.name.items; sections = map section_view m.sections.items }

@@ -1,22 +1,22 @@
 -- The entries of sections, by the names of their settings.
 use Rattle.std.specs.Prelude.{ℕ, zero, suc, ℤ, pos, negsuc, ◌^◌, nat_lt, nat_le, Bool, false, if◌then◌else◌, List, [], ◌∷◌, length, map, Option, Some, None, slice_get, codes}
 use Rattle.std.specs.Str.{bytes_eq}
-use Rattle.mpf_config.specs.declared.config.Contact.{Contact}
-use Rattle.mpf_config.specs.declared.config.Contact.TheVariants.{NormallyOpen, NormallyClosed}
-use Rattle.mpf_config.specs.declared.config.Debounce.{Debounce}
-use Rattle.mpf_config.specs.declared.config.Debounce.TheVariants.{Auto, Quick, Normal}
-use Rattle.mpf_config.specs.declared.config.Direction.{Direction}
-use Rattle.mpf_config.specs.declared.config.Direction.TheVariants.{Up, Down}
-use Rattle.mpf_config.specs.declared.config.ControlAction.{ControlAction}
-use Rattle.mpf_config.specs.declared.config.ControlAction.TheVariants.{Start, Stop, Pause, Reset, Restart, Add, Subtract, Jump}
+use Rattle.mpf_sections.specs.declared.words.Contact.{Contact}
+use Rattle.mpf_sections.specs.declared.words.Contact.TheVariants.{NormallyOpen, NormallyClosed}
+use Rattle.mpf_sections.specs.declared.words.Debounce.{Debounce}
+use Rattle.mpf_sections.specs.declared.words.Debounce.TheVariants.{Auto, Quick, Normal}
+use Rattle.mpf_sections.specs.declared.words.Direction.{Direction}
+use Rattle.mpf_sections.specs.declared.words.Direction.TheVariants.{Up, Down}
+use Rattle.mpf_sections.specs.declared.words.ControlAction.{ControlAction}
+use Rattle.mpf_sections.specs.declared.words.ControlAction.TheVariants.{Start, Stop, Pause, Reset, Restart, Add, Subtract, Jump}
 use Rattle.section_tables.specs.Rows.{Written, Plain, flag, number, time, word, name, event, Fields, Value, one, names, posts, steps, maps, Entry, Player}
 use Rattle.section_tables.specs.Kinds.{Setting}
 use Rattle.section_tables.specs.Tables.{found_in, field_key, setting_key, setting_default}
-use Rattle.section_tables.specs.SectionTables as tables
-pub use Rattle.section_tables.specs.SectionTables.{switches_name, event_player_name, counters_name, accruals_name, sequences_name, timers_name, modes_name, mode_name}
+use Rattle.mpf_sections.specs.SectionTables as tables
+pub use Rattle.mpf_sections.specs.SectionTables.{switches_name, event_player_name, counters_name, accruals_name, sequences_name, timers_name, modes_name, mode_name}
 use Rattle.section_tables.specs.Entries.{written_at}
 use Rattle.section_tables.specs.EntryOf.{within}
-use Rattle.mpf_config.specs.Rows.{Switch, EventPlayer, Block, Counter, StepBlock, Control, Timer, ModeSettings, Content, entries, players, entry, listed, SectionRows}
+use Rattle.mpf_sections.specs.Rows.{Switch, EventPlayer, Block, Counter, StepBlock, Control, Timer, ModeSettings, Content, entries, players, entry, listed, SectionRows}
 
 -- ---- values
 

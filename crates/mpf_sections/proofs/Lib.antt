@@ -1,0 +1,5 @@
+pub mod TableNames
+pub mod Each
+pub mod RowNames
+pub mod ShortRows
+pub mod DeviceRows

@@ -1,0 +1,79 @@
+-- No list in the rows of a section has more than 1,024 items, by the names of settings either.
+use Rattle.std.proofs.Common.{ℕ, zero, suc, ◌≤◌, List, [], ◌∷◌, length, Option, Some, None, slice_get, arith}
+use Rattle.std.specs.List.{All}
+use Rattle.std.specs.Str.{bytes_eq}
+use Rattle.std.proofs.lemmas.List.Elements.{All-head, All-tail, All-map, All-weaker}
+use Rattle.section_tables.specs.Rows.{Value, one, names, posts, events, steps, maps, keyed, Entry, Player}
+use Rattle.section_tables.specs.Named.{IsShortValue, IsShortEntry, IsShortPlayer}
+use Rattle.mpf_sections.specs.Rows.{SectionRows}
+use Rattle.mpf_sections.specs.SectionTables.{switches_name, event_player_name}
+use Rattle.mpf_sections.specs.Typed.{listed_names, listed_posts, switch_of, event_player_of, entries_in, players_in, entries_of, players_of, switches_in, event_players_in}
+use Rattle.mpf_sections.specs.Short.{IsShortSection, IsShortSwitch, IsShortEventPlayer}
+use Rattle.mpf_sections.proofs.Each.{all_where}
+
+pub none_short : 0 ≤ 1024
+none_short = omega arith
+
+abbrev pub IsShortOption : Option Value → Type 0
+IsShortOption None = Unit {0}
+IsShortOption (Some v) = IsShortValue 1024 v
+
+pub value_at_short : (row : List Value) (i : ℕ) → All (IsShortValue 1024) row → IsShortOption (slice_get row i)
+value_at_short [] i h = tt
+value_at_short (v ∷ vs) zero h = All-head (IsShortValue 1024) v vs h
+value_at_short (v ∷ vs) (suc i) h = value_at_short vs i (All-tail (IsShortValue 1024) v vs h)
+
+names_short : (o : Option Value) → IsShortOption o → length (listed_names o) ≤ 1024
+names_short None h = none_short
+names_short (Some (one x)) h = none_short
+names_short (Some (names xs)) h = h.0
+names_short (Some (posts xs)) h = none_short
+names_short (Some (events xs)) h = none_short
+names_short (Some (steps xs)) h = none_short
+names_short (Some (maps xs)) h = none_short
+names_short (Some (keyed xs)) h = none_short
+
+pub posts_short : (o : Option Value) → IsShortOption o → length (listed_posts o) ≤ 1024
+posts_short None h = none_short
+posts_short (Some (one x)) h = none_short
+posts_short (Some (names xs)) h = none_short
+posts_short (Some (posts xs)) h = h.0
+posts_short (Some (events xs)) h = none_short
+posts_short (Some (steps xs)) h = none_short
+posts_short (Some (maps xs)) h = none_short
+posts_short (Some (keyed xs)) h = none_short
+
+-- No list in an entry of `switches` has more items.
+pub switch_short : (e : Entry) → IsShortEntry 1024 e → IsShortSwitch (switch_of e)
+unfolding switch_of
+switch_short e h = record {
+  tags = names_short (slice_get e.values 2) (value_at_short e.values 2 h);
+  activated = posts_short (slice_get e.values 3) (value_at_short e.values 3 h);
+  deactivated = posts_short (slice_get e.values 4) (value_at_short e.values 4 h);
+}
+
+-- No list in an entry of `event_player` has, either.
+pub event_player_short : (p : Player) → IsShortPlayer 1024 p → IsShortEventPlayer (event_player_of p)
+unfolding event_player_of
+event_player_short p h = posts_short (Some p.value) h
+
+pub entries_of_short : (section : List ℕ) (s : SectionRows) → IsShortSection s → All (IsShortEntry 1024) (entries_of section s)
+entries_of_short section s h = all_where (IsShortEntry 1024) (bytes_eq s.name section) (entries_in s.content) h.0
+
+players_of_short : (section : List ℕ) (s : SectionRows) → IsShortSection s → All (IsShortPlayer 1024) (players_of section s)
+players_of_short section s h = all_where (IsShortPlayer 1024) (bytes_eq s.name section) (players_in s.content) h.1
+
+-- No list in the switches of a section has more items.
+pub switches_short : (s : SectionRows) → IsShortSection s → All IsShortSwitch (switches_in s)
+unfolding switches_in
+switches_short s h =
+    let es = entries_of switches_name s in
+    All-map IsShortSwitch switch_of es (All-weaker (IsShortEntry 1024) (λ e. IsShortSwitch (switch_of e)) switch_short es (entries_of_short switches_name s h))
+
+-- No list in the entries of `event_player` has, either.
+pub event_players_short : (s : SectionRows) → IsShortSection s → All IsShortEventPlayer (event_players_in s)
+unfolding event_players_in
+event_players_short s h =
+    let ps = players_of event_player_name s in
+    All-map IsShortEventPlayer event_player_of ps
+    (All-weaker (IsShortPlayer 1024) (λ p. IsShortEventPlayer (event_player_of p)) event_player_short ps (players_of_short event_player_name s h))

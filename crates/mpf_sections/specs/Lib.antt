@@ -1,0 +1,9 @@
+pub mod SectionTables
+pub mod TableRules
+pub mod Rows
+pub mod Typed
+pub mod Named
+pub mod Short
+pub mod SectionView
+pub mod View
+pub mod Inside

@@ -1,0 +1,63 @@
+-- What it means that every name in the rows of a section is one: 1 to 64 letters, digits, `_`, `-` and `.`.
+use Rattle.std.specs.Prelude.{List}
+use Rattle.std.specs.List.{All}
+pub use Rattle.section_tables.specs.Named.{IsNamedEntry, IsNamedPlayer}
+use Rattle.mpf_sections.specs.Rows.{Written, Switch, EventPlayer, Block, Counter, StepBlock, Timer, ModeSettings, Content, entries, players, entry, listed, SectionRows}
+pub use Rattle.mpf_values.specs.Names.{IsName}
+
+-- each name in a list is one
+abbrev pub AllNames : List Written → Type 0
+AllNames names = All (λ w. IsName w.text) names
+
+-- the name of a switch is one, and so are those of its tags and of the events that its entry lists
+pub record IsNamedSwitch (s : Switch) : Type 0 where
+  pub name : IsName s.name.text
+  pub tags : AllNames s.tags
+  pub activated : AllNames s.activated
+  pub deactivated : AllNames s.deactivated
+
+-- the name of the event that an entry handles is one, and so are those of the events that it posts
+pub record IsNamedEventPlayer (p : EventPlayer) : Type 0 where
+  pub event : IsName p.event.text
+  pub posts : AllNames p.posts
+
+-- the events of a logic block are names
+pub record IsNamedBlock (b : Block) : Type 0 where
+  pub enables : AllNames b.enables
+  pub disables : AllNames b.disables
+  pub resets : AllNames b.resets
+  pub restarts : AllNames b.restarts
+  pub hit : AllNames b.hit
+  pub complete : AllNames b.complete
+
+-- the name of a counter is one, and so are its events
+pub record IsNamedCounter (c : Counter) : Type 0 where
+  pub name : IsName c.name.text
+  pub counts : AllNames c.counts
+  pub block : IsNamedBlock c.block
+
+-- those of an accrual or a sequence, too
+pub record IsNamedStepBlock (b : StepBlock) : Type 0 where
+  pub name : IsName b.name.text
+  pub steps : All AllNames b.steps
+  pub block : IsNamedBlock b.block
+
+-- those of a timer, too
+pub record IsNamedTimer (t : Timer) : Type 0 where
+  pub name : IsName t.name.text
+  pub controls : All (λ c. IsName c.event.text) t.controls
+
+-- the events that start a mode are names, and so are those that stop it
+pub record AreNamedSettings (s : ModeSettings) : Type 0 where
+  pub starts : AllNames s.starts
+  pub stops : AllNames s.stops
+
+-- Each name in a section is one, whatever its settings are.
+abbrev pub IsNamedContent : Content → Type 0
+IsNamedContent (entries es) = All IsNamedEntry es
+IsNamedContent (players ps) = All IsNamedPlayer ps
+IsNamedContent (entry e) = IsNamedEntry e
+IsNamedContent (listed ws) = AllNames ws
+
+abbrev pub IsNamed : SectionRows → Type 0
+IsNamed s = IsNamedContent s.content

@@ -1,0 +1,93 @@
+-- The rows of a section, apart from where they lie in memory.
+use Rattle.std.specs.Prelude.{ℕ, ℤ, Bool, List, Option}
+use Rattle.mpf_sections.specs.declared.words.Contact.{Contact}
+use Rattle.mpf_sections.specs.declared.words.Debounce.{Debounce}
+use Rattle.mpf_sections.specs.declared.words.Direction.{Direction}
+use Rattle.mpf_sections.specs.declared.words.ControlAction.{ControlAction}
+pub use Rattle.section_tables.specs.Rows.{Written, Entry, Player}
+
+-- an entry of `switches`
+pub record Switch : Type 0 where
+  pub name : Written
+  pub contact : Contact
+  pub debounce : Debounce
+  pub tags : List Written
+  pub activated : List Written
+  pub deactivated : List Written
+
+-- an entry of `event_player`
+pub record EventPlayer : Type 0 where
+  pub event : Written
+  pub posts : List Written
+
+-- what `mode` says of a mode: the events that start and stop it, its priority, whether it runs only in a game, and
+-- whether it stops with the ball
+pub record ModeSettings : Type 0 where
+  pub starts : List Written
+  pub stops : List Written
+  pub priority : ℕ
+  pub game : Bool
+  pub stops_with_ball : Bool
+
+-- what all logic blocks have: whether completing resets and disables the block, whether each player has a state of their
+-- own, the events that enable, disable, reset and restart it, and those that are posted in place of its own when it is hit
+-- and when it completes; none where its own are posted
+pub record Block : Type 0 where
+  pub reset_on_complete : Bool
+  pub disable_on_complete : Bool
+  pub persist : Bool
+  pub enables : List Written
+  pub disables : List Written
+  pub resets : List Written
+  pub restarts : List Written
+  pub hit : List Written
+  pub complete : List Written
+
+-- an entry of `counters`: the events that it counts, its value at first, by how much and which way a hit moves it, the value
+-- at which it completes, if there is one, and for how many milliseconds after a hit no other counts
+pub record Counter : Type 0 where
+  pub name : Written
+  pub counts : List Written
+  pub start : ℤ
+  pub interval : ℤ
+  pub end : Option ℤ
+  pub direction : Direction
+  pub window : ℕ
+  pub block : Block
+
+-- an entry of `accruals` or `sequences`: its steps, each with the events that do it
+pub record StepBlock : Type 0 where
+  pub name : Written
+  pub steps : List (List Written)
+  pub block : Block
+
+-- an event that controls a timer: what it does, and with which value
+pub record Control : Type 0 where
+  pub event : Written
+  pub action : ControlAction
+  pub value : ℤ
+
+-- an entry of `timers`: its value at first, the value at which it completes, if one is written, which way it goes, the
+-- milliseconds from one tick to the next, whether it runs when its mode starts, whether it starts again when it completes,
+-- and the events that control it
+pub record Timer : Type 0 where
+  pub name : Written
+  pub start : ℤ
+  pub end : Option ℤ
+  pub direction : Direction
+  pub interval : ℕ
+  pub start_running : Bool
+  pub restart : Bool
+  pub controls : List Control
+
+-- what stands in a section, as written: entries by its table, those of a player, one entry, or a list of names
+pub data Content : Type 0 where
+  entries : List Entry → Content
+  players : List Player → Content
+  entry : Entry → Content
+  listed : List Written → Content
+
+-- a section by its name
+pub record SectionRows : Type 0 where
+  pub name : List ℕ
+  pub content : Content

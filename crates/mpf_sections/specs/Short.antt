@@ -1,0 +1,45 @@
+-- What it means that no list in a section has more than 1,024 items, and that settings are in their ranges.
+use Rattle.std.specs.Prelude.{◌≤◌, ℤ, pos, neg_ℤ, ◌≤ℤ◌, Option, IfSome, length}
+use Rattle.std.specs.List.{All}
+pub use Rattle.section_tables.specs.Named.{IsShortEntry, IsShortPlayer}
+use Rattle.mpf_sections.specs.Rows.{Switch, EventPlayer, Block, Counter, StepBlock, Timer, Content, SectionRows}
+use Rattle.mpf_sections.specs.Typed.{entries_in, players_in, entry_in, names_in}
+
+-- No list in a section is longer, whatever its settings are.
+abbrev pub IsShortContent : Content → Type 0
+IsShortContent content =
+    All (IsShortEntry 1024) (entries_in content) × All (IsShortPlayer 1024) (players_in content) × All (IsShortEntry 1024) (entry_in content) × (length (names_in content) ≤ 1024)
+
+abbrev pub IsShortSection : SectionRows → Type 0
+IsShortSection s = IsShortContent s.content
+
+-- ---- by the names of settings
+
+pub record IsShortSwitch (s : Switch) : Type 0 where
+  pub tags : length s.tags ≤ 1024
+  pub activated : length s.activated ≤ 1024
+  pub deactivated : length s.deactivated ≤ 1024
+
+abbrev pub IsShortEventPlayer : EventPlayer → Type 0
+IsShortEventPlayer p = length p.posts ≤ 1024
+
+-- the events that a logic block posts
+pub record IsShortBlock (b : Block) : Type 0 where
+  pub hit : length b.hit ≤ 1024
+  pub complete : length b.complete ≤ 1024
+
+-- the value at which something completes
+abbrev pub IsEndInRange : Option ℤ → Type 0
+IsEndInRange end = IfSome end (λ n. (neg_ℤ (pos 1000000000) ≤ℤ n) × (n ≤ℤ pos 1000000000))
+
+pub record IsShortCounter (c : Counter) : Type 0 where
+  pub end : IsEndInRange c.end
+  pub block : IsShortBlock c.block
+
+pub record IsShortStepBlock (b : StepBlock) : Type 0 where
+  pub steps : length b.steps ≤ 16
+  pub block : IsShortBlock b.block
+
+pub record IsShortTimer (t : Timer) : Type 0 where
+  pub end : IsEndInRange t.end
+  pub interval : 1 ≤ t.interval

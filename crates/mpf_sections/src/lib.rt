@@ -1,0 +1,25 @@
+//! What the sections of a text are: which there are, how each is written, and its entries by the
+//! names of their settings.
+//!
+//! [`tables::shape_of`] gives the table of a section in a text of the machine or of a mode. A
+//! [`Section`] has the entries that were read by it. They are rows of values in the order of the
+//! table: [`as_switch`], [`as_event_player`], [`as_counter`], [`as_step_block`], [`as_timer`] and
+//! [`mode_settings`] give each setting by its name.
+#![tactic(auto)]
+
+pub mod blocks;
+pub mod section;
+pub mod tables;
+pub mod timers;
+pub mod typed;
+mod values;
+pub mod words;
+
+pub use blocks::{Block, Counter, StepBlock, as_counter, as_step_block};
+pub use section::{Content, Section};
+pub use timers::{Control, Timer, as_control, as_timer};
+pub use typed::{
+    EventPlayer, ModeSettings, NameAt, Switch, as_event_player, as_switch, listed_modes,
+    mode_settings,
+};
+pub use words::{Contact, ControlAction, Debounce, Direction};
