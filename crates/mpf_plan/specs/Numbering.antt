@@ -10,8 +10,9 @@ use Rattle.mpf_plan.specs.declared.fault.PlanFault.{PlanFault}
 use Rattle.mpf_plan.specs.declared.fault.PlanFault.TheVariants as faults
 use Rattle.plan_tables.specs.declared.table.Table.{Table}
 use Rattle.mpf_plan.specs.declared.first_uses.Found.{Found}
-use Rattle.mpf_plan.specs.Contributions.{Contribution, mode, binds, device}
-use Rattle.mpf_plan.specs.Uses.{given_names, names_from, lacks_name}
+use Rattle.plan_contributions.specs.Contributions.{Contribution, mode, binds, device}
+use Rattle.plan_contributions.specs.UsedNames.{given_names}
+use Rattle.mpf_plan.specs.Uses.{names_from, lacks_name}
 use Rattle.plan_tables.specs.Limits.{limit_of, order_of, tables_in_order, first_above}
 use Rattle.mpf_plan.specs.PlanOf.{plan_from}
 use Rattle.plan_tables.specs.NamesKept.{names_of}
