@@ -8,7 +8,8 @@ use Rattle.plan_contributions.specs.Contributions.{Contribution, gives}
 
 -- ---- numbers
 
--- each item whose name no item before it has: the first, and of the rest those of other names, each where it comes first
+-- each item whose name no item before it has: the first, and of the rest those of other names, each where it comes
+-- first
 abbrev pub first_by : {X : Type 0} → (X → List ℕ) → List X → List X
 first_by name [] = []
 first_by name (x ∷ xs) = x ∷ filter (λ y. not (bytes_eq (name x) (name y))) (first_by name xs)

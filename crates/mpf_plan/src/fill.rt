@@ -20,8 +20,8 @@ use plan_contributions::{
 };
 use plan_tables::devices::{DeviceRow, RowId, Settings};
 use plan_tables::entries::{
-    Action, Binding, Contact, EventId, ListId, Mode, ModeEntry, ModeEvent, ModeEvents, ModeId, Owner,
-    SwitchEntry, SwitchKind, Target,
+    Action, Binding, Contact, EventId, ListId, Mode, ModeEntry, ModeEvent, ModeEvents, ModeId,
+    Owner, SwitchEntry, SwitchKind, Target,
 };
 use plan_tables::names::NameSets;
 use plan_tables::table::Table;

@@ -26,9 +26,9 @@ pub use Rattle.plan_contributions.specs.DeviceEntries.{texts, Device, device_of}
 -- One thing that a row gives: an entry of a table, by its name; how the last given switch is read; an event that this
 -- switch posts when it becomes active, or inactive; a mode by its name, with its priority, and whether it starts only
 -- in a game; an event of the mode that came last, which has this name; a binding of an event, with which an effect list
--- begins where it is to run one; an event that the list posts that began last; a row of a device with its settings, with
--- which its effect lists begin; an event that this list of the last row posts, by its number in the row; an event that a
--- setting names, which gets its number here.
+-- begins where it is to run one; an event that the list posts that began last; a row of a device with its settings,
+-- with which its effect lists begin; an event that this list of the last row posts, by its number in the row; an event
+-- that a setting names, which gets its number here.
 pub data Contribution : Type 0 where
   gives : Table → List ℕ → Contribution
   reads : SwitchKind → Contribution
@@ -110,7 +110,8 @@ stopper_where holds event = if holds then stopper event ∷ [] else []
 
 -- the other four events of a mode
 abbrev pub later_events : List ℕ → List Contribution
-later_events name = mode_event Starting name ∷ mode_event Started name ∷ mode_event Stopping name ∷ mode_event Stopped name ∷ []
+later_events name =
+    mode_event Starting name ∷ mode_event Started name ∷ mode_event Stopping name ∷ mode_event Stopped name ∷ []
 
 -- what starts a mode and what stops it, as it is written; then the end of the ball, and of the game, where they stop it
 abbrev pub controls : ModeSettings → List Contribution
@@ -174,7 +175,8 @@ rows_of rows = rows_in Machine rows.machine ++ flat_map mode_rows rows.modes
 -- what an entry gives, by the name of its section
 unfoldable pub entry_contributions : Place → List ℕ → Entry → List Contribution
 entry_contributions place section e =
-    if bytes_eq section switches_name then switch_contributions (switch_of e) else where_device place (device_of section e)
+    if bytes_eq section switches_name then switch_contributions (switch_of e)
+    else where_device place (device_of section e)
 
 -- and an entry of a player
 unfoldable pub player_entry_contributions : Place → List ℕ → Player → List Contribution

@@ -44,7 +44,12 @@ is_none (w ∷ ws) = false
 
 -- a block is enabled at first where no event enables it
 abbrev pub block_settings : Block → BlockSettings
-block_settings b = record { enabled = is_none b.enables; reset_on_complete = b.reset_on_complete; disable_on_complete = b.disable_on_complete; persist = b.persist }
+block_settings b = record {
+  enabled = is_none b.enables;
+  reset_on_complete = b.reset_on_complete;
+  disable_on_complete = b.disable_on_complete;
+  persist = b.persist;
+}
 
 -- what enables a block, disables, resets and restarts it
 abbrev pub block_acts : Block → List (List ℕ × Act)
@@ -69,7 +74,10 @@ or_own ws own = if is_none ws then own ∷ [] else texts ws
 -- what a block posts when its value changes, when it is hit, and when it completes
 abbrev pub block_lists : List ℕ → Block → List (List (List ℕ))
 block_lists name b =
-    (block_event name (codes "_updated") ∷ []) ∷ or_own b.hit (block_event name (codes "_hit")) ∷ or_own b.complete (block_event name (codes "_complete")) ∷ []
+    (block_event name (codes "_updated") ∷ [])
+    ∷ or_own b.hit (block_event name (codes "_hit"))
+    ∷ or_own b.complete (block_event name (codes "_complete"))
+    ∷ []
 
 abbrev pub counter_settings : Counter → Settings
 counter_settings c = kinds.Counter (record {
@@ -158,6 +166,8 @@ timer_device t = record {
 unfoldable pub device_of : List ℕ → Entry → Option Device
 device_of section e =
     if bytes_eq section counters_name then Some (counter_device (counter_of e))
-    else (if bytes_eq section accruals_name then Some (step_device (kinds.Accrual (step_settings (step_block_of e))) (step_block_of e))
-    else (if bytes_eq section sequences_name then Some (step_device (kinds.Sequence (step_settings (step_block_of e))) (step_block_of e))
+    else (if bytes_eq section accruals_name
+    then Some (step_device (kinds.Accrual (step_settings (step_block_of e))) (step_block_of e))
+    else (if bytes_eq section sequences_name
+    then Some (step_device (kinds.Sequence (step_settings (step_block_of e))) (step_block_of e))
     else (if bytes_eq section timers_name then Some (timer_device (timer_of e)) else None)))

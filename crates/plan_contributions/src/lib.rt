@@ -1,7 +1,9 @@
-//! What a configuration gives to a plan: the names that its rows use and give, and what they say of them, in plan order.
+//! What a configuration gives to a plan: its rows in plan order, and what each of them contributes,
+//! by names.
 //!
-//! This layer stands between the rows of texts and the tables of a plan. Each section says here what its entries give.
-//! Whoever makes a plan goes over contributions alone, whatever section they come from.
+//! This layer stands between the rows of texts and the tables of a plan. Each section says here what
+//! its entries give. Whoever makes a plan goes over contributions alone, whatever section they come
+//! from.
 #![tactic(auto)]
 
 pub mod collect;
