@@ -12,8 +12,8 @@ use Rattle.mpf_sections.proofs.RowNames.{name_bytes}
 use Rattle.mpf_config.proofs.RowNames.{rows_are_named, modes_are_named}
 use Rattle.plan_tables.specs.declared.entries.ModeEvent.{ModeEvent}
 use Rattle.plan_tables.specs.declared.entries.ModeEvent.TheVariants.{WillStart, Starting, Started, Stopping, Stopped}
-use Rattle.mpf_plan.specs.Contributions.{event_ending, mode_event_name}
-use Rattle.mpf_plan.specs.DeviceEntries.{block_event, block_endings, timer_event, timer_endings}
+use Rattle.plan_contributions.specs.Contributions.{event_ending, mode_event_name}
+use Rattle.plan_contributions.specs.DeviceEntries.{block_event, block_endings, timer_event, timer_endings}
 use Rattle.mpf_plan.specs.PlanOf.{plan_of}
 use Rattle.mpf_plan.proofs.EventNames.{event_names}
 use Rattle.config_checker.specs.CertificateOf.{is_in_word, IsWord}

@@ -9,7 +9,7 @@ use Rattle.yaml_subset.specs.Keys.{is_among}
 use Rattle.mpf_sections.specs.Rows.{SectionRows}
 use Rattle.mpf_config.specs.Rows.{Rows}
 use Rattle.mpf_config.specs.BundleText.{machine_name, mode_text_name}
-use Rattle.mpf_plan.specs.DeviceEntries.{block_event, timer_event}
+use Rattle.plan_contributions.specs.DeviceEntries.{block_event, timer_event}
 use Rattle.config_checker.specs.FaultView.{FaultView}
 use Rattle.config_checker.specs.Reserved.{game_events, events_of_modes, mode_names, is_reserved_by, is_reserved, posts_in, posts_of, reserved_among}
 use Rattle.config_checker.specs.RowFaults.{put_by, ordered_by, reserved_fault, text_faults, mode_faults, faults_by, listed_once, row_faults, section_faults, fault_order}

@@ -22,11 +22,12 @@ use Rattle.plan_tables.specs.declared.devices.RowId.{RowId}
 use Rattle.plan_tables.specs.declared.devices.Act.{Act as ActOfDevice}
 use Rattle.plan_tables.specs.declared.devices.Settings.TheVariants as kinds
 use Rattle.plan_tables.specs.PlanView.{PlanSwitch, PlanView, name_of_event, row_at}
-use Rattle.mpf_plan.specs.DeviceEntries.{counter_device, step_device, step_settings, timer_device, device_of, block_event, or_own, block_lists, timer_event, timer_endings, timer_lists}
-use Rattle.mpf_plan.specs.Contributions.{texts, tag_event, mode_event_name}
+use Rattle.plan_contributions.specs.DeviceEntries.{counter_device, step_device, step_settings, timer_device, device_of, block_event, or_own, block_lists, timer_event, timer_endings, timer_lists}
+use Rattle.plan_contributions.specs.Contributions.{texts, tag_event, mode_event_name}
 use Rattle.mpf_plan.specs.PlanOf.{plan_at}
 use Rattle.mpf_plan.proofs.Posted.{IsPost, ArePosts}
-use Rattle.mpf_plan.proofs.PostNames.{IsSwitchPosting, IsPlayerPosting, IsDevicePosting, IsPosting, ArePosting, IsNameOf, posts-named}
+use Rattle.plan_contributions.specs.Posting.{IsSwitchPosting, IsPlayerPosting, IsDevicePosting, IsPosting, ArePosting}
+use Rattle.mpf_plan.proofs.PostNames.{IsNameOf, posts-named}
 use Rattle.mpf_plan.proofs.ModeEventNames.{free-by_name}
 use Rattle.mpf_plan.proofs.ValidPlan.{own-plan_at}
 use Rattle.config_checker.specs.Devices.{ActsAreOwn, IsOwnAct}

@@ -7,8 +7,9 @@ use Rattle.std.proofs.lemmas.List.Folds.{list_any-append}
 use Rattle.std.proofs.lemmas.Slice.Eq.{bytes_eq-Decides}
 use Rattle.plan_tables.specs.declared.table.Table.{Table}
 use Rattle.plan_tables.specs.declared.table.Table.TheVariants.{Events}
-use Rattle.mpf_plan.specs.Contributions.{Contribution, post}
-use Rattle.mpf_plan.specs.Uses.{Names, names_from, number_among, used, uses, name_in_table}
+use Rattle.plan_contributions.specs.Contributions.{Contribution, post}
+use Rattle.mpf_plan.specs.Uses.{Names, names_from, number_among}
+use Rattle.plan_contributions.specs.UsedNames.{used, uses, name_in_table}
 use Rattle.mpf_plan.proofs.Lacking.{any_first}
 
 place_within : {X : Type 0} (p : X → Bool) (xs : List X) → list_any p xs ≡ true → position_or_len p xs < length xs

@@ -5,10 +5,10 @@ use Rattle.std.specs.List.{list_any}
 use Rattle.std.proofs.lemmas.Bool.{or_from}
 use Rattle.std.proofs.lemmas.List.{append_assoc, drop_more}
 use Rattle.std.proofs.lemmas.List.Folds.{list_any-append, list_any_at}
-use Rattle.mpf_plan.specs.declared.collect.Row as rows
-use Rattle.mpf_plan.specs.declared.contribution.Contribution as contributions
-use Rattle.mpf_plan.specs.Contributions.{Contribution, row_contributions, given_by}
-use Rattle.mpf_plan.specs.Inside.{contribution_view, contributions_view, row_view, row_list_view}
+use Rattle.plan_contributions.specs.declared.collect.Row as rows
+use Rattle.plan_contributions.specs.declared.contribution.Contribution as contributions
+use Rattle.plan_contributions.specs.Contributions.{Contribution, row_contributions, given_by}
+use Rattle.plan_contributions.specs.View.{contribution_view, contributions_view, row_view, row_list_view}
 use Rattle.mpf_plan.proofs.Taken.{contributions_more, rows_more}
 
 -- what two calls' clauses say together

@@ -2,7 +2,7 @@
 use Rattle.std.proofs.Common.{ℕ, List, [], length}
 use Rattle.plan_tables.specs.declared.table.Table.{Table}
 use Rattle.plan_tables.specs.declared.table.Table.TheVariants.{Bindings, Rows}
-use Rattle.mpf_plan.specs.Contributions.{Contribution}
+use Rattle.plan_contributions.specs.Contributions.{Contribution}
 use Rattle.mpf_plan.specs.Uses.{names_from}
 use Rattle.mpf_plan.specs.Numbering.{binding_count, row_count}
 

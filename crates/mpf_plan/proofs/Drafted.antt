@@ -4,10 +4,10 @@ use Rattle.std.specs.List.{sum_by}
 use Rattle.std.proofs.Math.Seq.{map-set_same}
 use Rattle.std.proofs.lemmas.List.{length_push, length-set, length-map, length-append, length-replicate}
 use Rattle.std.proofs.lemmas.List.Sums.{sum_by-cons}
-use Rattle.mpf_plan.specs.declared.collect.Row as rows
-use Rattle.mpf_plan.specs.declared.contribution.Aim.{Aim}
-use Rattle.mpf_plan.specs.declared.contribution.Aim.TheVariants.{Run}
-use Rattle.mpf_plan.specs.declared.contribution.Contribution as contributions
+use Rattle.plan_contributions.specs.declared.collect.Row as rows
+use Rattle.plan_contributions.specs.declared.contribution.Aim.{Aim}
+use Rattle.plan_contributions.specs.declared.contribution.Aim.TheVariants.{Run}
+use Rattle.plan_contributions.specs.declared.contribution.Contribution as contributions
 use Rattle.plan_tables.specs.declared.names.NameSets.{NameSets}
 use Rattle.mpf_plan.specs.declared.draft.Draft.{Draft}
 use Rattle.plan_tables.specs.declared.entries.Action.{Action}
@@ -17,18 +17,19 @@ use Rattle.plan_tables.specs.declared.entries.ListId.{ListId}
 use Rattle.plan_tables.specs.declared.devices.DeviceRow.{DeviceRow}
 use Rattle.plan_tables.specs.declared.devices.Settings.{Settings}
 use Rattle.plan_tables.specs.declared.devices.Settings.TheVariants.{Counter, Accrual, Sequence, Timer}
-use Rattle.mpf_plan.specs.declared.contribution.Place.{Place}
+use Rattle.plan_contributions.specs.declared.contribution.Place.{Place}
 use Rattle.plan_tables.specs.Devices.{list_count}
 use Rattle.plan_tables.specs.declared.table.Table.{Table}
 use Rattle.plan_tables.specs.declared.table.Table.TheVariants.{Events, Bindings, Switches, Rows}
 use Rattle.plan_tables.specs.declared.entries.ModeEvent.TheVariants.{WillStart}
 use Rattle.plan_tables.specs.PlanView.{PlanSwitch, no_switch, PlanMode, no_mode, PlanView}
 use Rattle.plan_tables.specs.Limits.{entry_count, entry_names}
-use Rattle.mpf_plan.specs.Contributions.{Contribution, gives, reads, active, inactive, mode, mode_event, mode_event_name, binds, post, device, post_in, mentions, row_contributions, given_by}
+use Rattle.plan_contributions.specs.Contributions.{Contribution, gives, reads, active, inactive, mode, mode_event, mode_event_name, binds, post, device, post_in, mentions, row_contributions, given_by}
 use Rattle.mpf_plan.specs.Uses.{Names, names_from, number_among}
 use Rattle.mpf_plan.specs.PlanOf.{DraftView, event_of, last_switch, with_given, new_mode, with_event_in, next_binding, lists_for, with_binding, with_list_for, with_one_more, next_row, next_list, with_device, first_of_last, with_contribution, named_switch, blank, drafted, plan_from}
 use Rattle.plan_tables.specs.Inside.{name_sets_view, mode_entry_view}
-use Rattle.mpf_plan.specs.Inside.{draft_view, contribution_view, contributions_view, row_view, row_list_view}
+use Rattle.mpf_plan.specs.Inside.{draft_view}
+use Rattle.plan_contributions.specs.View.{contribution_view, contributions_view, row_view, row_list_view}
 use Rattle.mpf_plan.specs.Numbering.{bindings_given, binding_count, rows_given, row_count, modes_given, mode_count}
 use Rattle.mpf_plan.proofs.Counts.{named_of, count_of}
 use Rattle.mpf_plan.proofs.Taken.{part_count, part_rows, part_modes}

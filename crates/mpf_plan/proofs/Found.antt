@@ -10,8 +10,9 @@ use Rattle.plan_tables.specs.declared.table.Table.{Table}
 use Rattle.plan_tables.specs.declared.table.Table.TheVariants.{Bindings, Rows}
 use Rattle.plan_tables.specs.declared.names.NameTable.{NameTable}
 use Rattle.mpf_plan.specs.declared.first_uses.Found.{Found}
-use Rattle.mpf_plan.specs.Contributions.{Contribution}
-use Rattle.mpf_plan.specs.Uses.{used, name_in_table, uses, names_from}
+use Rattle.plan_contributions.specs.Contributions.{Contribution, Row, given_by}
+use Rattle.plan_contributions.specs.UsedNames.{used, name_in_table, uses}
+use Rattle.mpf_plan.specs.Uses.{first_uses, names_from}
 use Rattle.plan_tables.specs.Limits.{entry_count, limit_of, order_of, tables_in_order, first_above}
 use Rattle.mpf_plan.specs.PlanOf.{plan_from}
 use Rattle.plan_tables.specs.NamesKept.{names_of, names_kept}
@@ -21,6 +22,7 @@ use Rattle.mpf_plan.proofs.Counts.{count_of}
 use Rattle.mpf_plan.proofs.Drafted.{count-from}
 use Rattle.mpf_plan.proofs.ByTable.{place_within, each_changed}
 use Rattle.mpf_plan.proofs.Judged.{all_within}
+use Rattle.plan_contributions.proofs.Unnamed.{bindings_unnamed, rows_unnamed}
 
 -- ---- one contribution more
 
@@ -161,3 +163,7 @@ module _ (cs : List Contribution) (found : Found) (has : HasFound cs found) wher
 
     pub kept_fit : (t : Table) → length (names_kept (slice_get found.tables.items (order_of t))) ≤ limit_of t
     kept_fit t = omega (arith, names_fit t, ap length (names_are_kept t))
+
+-- neither bindings nor rows of devices have names, whatever rows give
+pub nameless : (rows : List Row) → (names_from (given_by rows) Bindings ≡ []) × (names_from (given_by rows) Rows ≡ [])
+nameless rows = (ap first_uses (bindings_unnamed rows), ap first_uses (rows_unnamed rows))

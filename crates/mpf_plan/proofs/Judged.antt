@@ -10,8 +10,9 @@ use Rattle.std.proofs.lemmas.Slice.Eq.{bytes_eq-Decides}
 use Rattle.mpf_config.specs.Rows.{Rows}
 use Rattle.plan_tables.specs.declared.table.Table.{Table}
 use Rattle.plan_tables.specs.PlanView.{PlanView, no_switch}
-use Rattle.mpf_plan.specs.Contributions.{Contribution, gives, reads, contributions_of}
-use Rattle.mpf_plan.specs.Uses.{used, given, is_to_be_given, name_in_table, given_names, is_lacking, lacks_name}
+use Rattle.plan_contributions.specs.Contributions.{Contribution, gives, reads, contributions_of}
+use Rattle.plan_contributions.specs.UsedNames.{used, given, name_in_table, given_names}
+use Rattle.mpf_plan.specs.Uses.{is_to_be_given, is_lacking, lacks_name}
 use Rattle.plan_tables.specs.Limits.{entry_count, limit_of, order_of, tables_in_order, first_above, IsFirstAbove}
 use Rattle.mpf_plan.specs.PlanOf.{plan_of, plan_at, PlanRefusal, no_such_name, above_limit, fitting, IsExceeded}
 use Rattle.mpf_plan.proofs.ByTable.{place_within, same_place, in_place}

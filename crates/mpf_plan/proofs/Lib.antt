@@ -7,17 +7,12 @@ pub mod Drafted
 pub mod ByTable
 pub mod Judged
 pub mod Collected
-pub mod DeviceParts
-pub mod Unnamed
 pub mod Found
 pub mod Among
 pub mod Lacking
 pub mod Posted
-pub mod Placed
 pub mod Owned
-pub mod RowFacts
 pub mod SoundDraft
-pub mod ModeNames
 pub mod ModesMade
 pub mod ModeWorks
 pub mod ValidPlan

@@ -8,7 +8,7 @@ use Rattle.plan_tables.specs.declared.entries.Work.{Work}
 use Rattle.plan_tables.specs.declared.entries.Work.TheVariants as works
 use Rattle.plan_tables.specs.PlanView.{PlanView, name_of_event, mode_at, mode_event, work_of}
 use Rattle.plan_tables.specs.Valid.{IsWorkAt}
-use Rattle.mpf_plan.specs.Contributions.{mode_event_name}
+use Rattle.plan_contributions.specs.Contributions.{mode_event_name}
 use Rattle.mpf_plan.specs.PlanOf.{plan_of, plan_at}
 use Rattle.mpf_plan.proofs.Judged.{plan_at-Ok}
 use Rattle.mpf_plan.proofs.ModeWorks.{event_name_is, name_there}

@@ -18,13 +18,13 @@ use Rattle.plan_tables.specs.declared.entries.Work.TheVariants as works
 use Rattle.plan_tables.specs.declared.table.Table.TheVariants.{Events}
 use Rattle.plan_tables.specs.PlanView.{PlanMode, PlanView, no_mode, name_of_event, event_among, mode_at, mode_event, which_event, work_or, work_from, work_of}
 use Rattle.plan_tables.specs.Valid.{IsModeWithin, IsWorkAt}
-use Rattle.mpf_plan.specs.Contributions.{mode_event_name, contributions_of}
+use Rattle.plan_contributions.specs.Contributions.{mode_event_name, contributions_of}
 use Rattle.mpf_plan.specs.Uses.{Names, names_from, number_among}
 use Rattle.mpf_plan.specs.PlanOf.{plan_from}
 use Rattle.mpf_plan.proofs.Drafted.{names-from}
-use Rattle.mpf_plan.proofs.RowFacts.{rows_are_open, rows_are_placed}
+use Rattle.plan_contributions.proofs.RowFacts.{rows_are_open, rows_are_placed}
 use Rattle.mpf_plan.proofs.SoundDraft.{has_entries}
-use Rattle.mpf_plan.proofs.ModeNames.{same_which, same_mode}
+use Rattle.plan_contributions.proofs.ModeNames.{same_which, same_mode}
 use Rattle.mpf_plan.proofs.ModesMade.{made, made-event, modes-made}
 use Rattle.plan_tables.proofs.Worked.{work_found}
 

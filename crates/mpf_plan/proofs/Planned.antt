@@ -6,7 +6,7 @@ use Rattle.std.proofs.lemmas.List.Elements.{All-weaker}
 use Rattle.mpf_config.specs.Rows.{Rows}
 use Rattle.mpf_config.specs.Short.{AreListsShort}
 use Rattle.mpf_config.specs.FewModes.{AreFewModes}
-use Rattle.mpf_plan.specs.declared.collect.Row as found
+use Rattle.plan_contributions.specs.declared.collect.Row as found
 use Rattle.plan_tables.specs.declared.names.NameSets.{NameSets}
 use Rattle.mpf_plan.specs.declared.draft.Draft.{Draft}
 use Rattle.plan_tables.specs.declared.table.Table.{Table}
@@ -14,12 +14,13 @@ use Rattle.mpf_plan.specs.declared.fault.PlanFault.{PlanFault}
 use Rattle.mpf_plan.specs.declared.fault.PlanFault.TheVariants as faults
 use Rattle.plan_tables.specs.PlanView.{PlanView}
 use Rattle.plan_tables.specs.Valid.{IsBindingWithin, IsValid}
-use Rattle.mpf_plan.specs.Contributions.{Contribution, rows_of, given_by, contributions_of}
+use Rattle.plan_contributions.specs.Contributions.{Contribution, rows_of, given_by, contributions_of}
 use Rattle.mpf_plan.specs.Uses.{lacks_name}
 use Rattle.plan_tables.specs.Limits.{entry_count, limit_of, first_above}
 use Rattle.mpf_plan.specs.PlanOf.{drafted, plan_from, plan_of, plan_at, GivesPlan, IsExceeded}
 use Rattle.plan_tables.specs.Inside.{name_sets_view}
-use Rattle.mpf_plan.specs.Inside.{row_list_view, draft_view}
+use Rattle.plan_contributions.specs.View.{row_list_view}
+use Rattle.mpf_plan.specs.Inside.{draft_view}
 use Rattle.mpf_plan.specs.Numbering.{mode_count, Numbered}
 use Rattle.mpf_plan.proofs.Judged.{all_within, is_first, plan_at-lacking, plan_at-within, plan_at-exceeded, plan_at-Err}
 use Rattle.mpf_plan.proofs.ValidPlan.{IsValid-plan_of}

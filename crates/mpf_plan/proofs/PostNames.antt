@@ -1,19 +1,11 @@
 -- What holds of the name of each event that the rows post holds of the name of each that their plan posts.
-use Rattle.std.proofs.Common.{◌≡◌, ◌<◌, ℕ, Bool, true, false, if◌then◌else◌, List, [], ◌∷◌, ◌++◌, length, map, get_or, slice_index_or, zero, suc, Ok, arith, sym, subst, codes}
-use Rattle.std.specs.Prelude.{Option, None, Some}
-use Rattle.std.specs.Str.{bytes_eq}
-use Rattle.std.specs.List.{All, flat_map}
-use Rattle.std.proofs.lemmas.List.Elements.{All-nil, All-cons, All-append, All-map, All-weaker, All-head, All-tail}
-use Rattle.mpf_sections.specs.Rows.{Entry, Player, Switch, EventPlayer, ModeSettings, Content, entries, players, SectionRows}
-use Rattle.mpf_config.specs.Rows.{ModeRows, Rows}
-use Rattle.mpf_sections.specs.Rows as sections
-use Rattle.mpf_sections.specs.Typed.{switches_name, event_player_name, switch_of, event_player_of, mode_settings, entries_in, switches_in, event_players_in}
-use Rattle.mpf_plan.specs.declared.contribution.Place.{Place}
-use Rattle.mpf_plan.specs.declared.contribution.Place.TheVariants.{Machine, Mode}
+use Rattle.std.proofs.Common.{◌≡◌, ◌<◌, ℕ, List, [], length, get_or, slice_index_or, Ok, sym, subst}
+use Rattle.std.specs.List.{All}
+use Rattle.mpf_config.specs.Rows.{Rows}
 use Rattle.plan_tables.specs.declared.entries.EventId.{EventId}
 use Rattle.plan_tables.specs.declared.table.Table.TheVariants.{Events}
 use Rattle.plan_tables.specs.PlanView.{PlanView, name_of_event}
-use Rattle.mpf_plan.specs.Contributions.{Contribution, reads, active, inactive, mode, post, device, post_in, mentions, texts, active_posts, inactive_posts, switch_contributions, player_contributions, starter, stopper, stopper_where, later_events, controls, mode_contributions, Device, act_binding, posts_from, device_contributions, device_of, where_device, Row, entry, player, of_mode, rows_from, rows_in, mode_rows, rows_of, entry_contributions, player_entry_contributions, row_contributions, contributions_of}
+use Rattle.plan_contributions.specs.Contributions.{Contribution, active, inactive, post, post_in, contributions_of}
 use Rattle.mpf_plan.specs.Uses.{names_from, number_among}
 use Rattle.mpf_plan.specs.PlanOf.{event_of, plan_from, plan_of, plan_at}
 use Rattle.mpf_plan.proofs.Among.{IsKnown, all_known}
@@ -21,141 +13,10 @@ use Rattle.mpf_plan.proofs.Drafted.{names-from}
 use Rattle.mpf_plan.proofs.Judged.{plan_at-Ok}
 use Rattle.mpf_plan.proofs.ModeWorks.{at_number}
 use Rattle.mpf_plan.proofs.Posted.{PostMeets, PostsMeet, meet_drafted}
-use Rattle.mpf_plan.proofs.RowFacts.{All-flat_map, All-lists, sections_each}
-
--- what holds of each item as it is seen
-from_map : {X Y : Type 0} (R : Y → Type 0) (f : X → Y) (xs : List X) → All R (map f xs) → All (λ x. R (f x)) xs
-from_map R f [] h = All-nil (λ x. R (f x))
-from_map R f (x ∷ xs) h = All-cons (λ x. R (f x)) x xs (All-head R (f x) (map f xs) h) (from_map R f xs (All-tail R (f x) (map f xs) h))
+use Rattle.plan_contributions.specs.Posting.{ArePosting, Posts}
+use Rattle.plan_contributions.proofs.RowPosts.{all_post}
 
 module _ (P : List ℕ → Type 0) where
-  -- ---- what the rows post
-
-  -- P holds of the name of each event that a switch posts, and of each that an entry of `event_player` does
-  abbrev pub IsSwitchPosting : Switch → Type 0
-  IsSwitchPosting s = All P (active_posts s) × All P (inactive_posts s)
-
-  abbrev pub IsPlayerPosting : EventPlayer → Type 0
-  IsPlayerPosting p = All P (texts p.posts)
-
-  -- of each that the effect lists of a device do, where an entry is one
-  abbrev pub IsDevicePosting : Option Device → Type 0
-  IsDevicePosting None = Unit {0}
-  IsDevicePosting (Some d) = All (All P) d.lists
-
-  -- and of each event that a section posts
-  pub record IsPosting (s : SectionRows) : Type 0 where
-    pub switches : All IsSwitchPosting (switches_in s)
-    pub players : All IsPlayerPosting (event_players_in s)
-    pub devices : All (λ e. IsDevicePosting (device_of s.name e)) (entries_in s.content)
-
-  -- each section of the machine and of the modes
-  pub record ArePosting (rows : Rows) : Type 0 where
-    pub machine : All IsPosting rows.machine
-    pub modes : All (λ (m : ModeRows). All IsPosting m.sections) rows.modes
-
-  -- ---- what contributions post
-
-  abbrev Posts : Contribution → Type 0
-  Posts (active n) = P n
-  Posts (inactive n) = P n
-  Posts (post n) = P n
-  Posts (post_in k n) = P n
-  Posts _ = Unit {0}
-
-  -- where they post nothing
-  all_silent : {X : Type 0} (make : X → Contribution) → ((x : X) → Posts (make x)) → (xs : List X) → All Posts (map make xs)
-  all_silent make silent [] = All-nil Posts
-  all_silent make silent (n ∷ ns) = All-cons Posts (make n) (map make ns) (silent n) (all_silent make silent ns)
-
-  in_switch : (s : Switch) → IsSwitchPosting s → All Posts (switch_contributions s)
-  unfolding switch_contributions
-  in_switch s h =
-      let on = map active (active_posts s) in
-      let off = map inactive (inactive_posts s) in
-      All-cons Posts _ (reads _ ∷ on ++ off) tt (All-cons Posts _ (on ++ off) tt
-      (All-append Posts on off (All-map Posts active (active_posts s) h.0) (All-map Posts inactive (inactive_posts s) h.1)))
-
-  in_player : (place : Place) (p : EventPlayer) → IsPlayerPosting p → All Posts (player_contributions place p)
-  unfolding player_contributions
-  in_player place p h = All-cons Posts _ (map post (texts p.posts)) tt (All-map Posts post (texts p.posts) h)
-
-  in_device : (place : Place) (d : Device) → All (All P) d.lists → All Posts (device_contributions place d)
-  unfolding device_contributions
-  in_device place d h =
-      let acting = map (act_binding place) d.handled in
-      let named = map mentions d.mentioned in
-      let posting = posts_from 0 d.lists in
-      All-cons Posts (device place d.settings) (acting ++ (named ++ posting)) tt
-      (All-append Posts acting (named ++ posting) (all_silent (act_binding place) (λ x. tt) d.handled)
-      (All-append Posts named posting (all_silent mentions (λ n. tt) d.mentioned) (All-lists Posts P (λ k e m. m) 0 d.lists h)))
-
-  in_where : (place : Place) (o : Option Device) → IsDevicePosting o → All Posts (where_device place o)
-  in_where place None h = All-nil Posts
-  in_where place (Some d) h = in_device place d h
-
-  in_stopper : (holds : Bool) (event : List ℕ) → All Posts (stopper_where holds event)
-  in_stopper true event = All-cons Posts (stopper event) [] tt (All-nil Posts)
-  in_stopper false event = All-nil Posts
-
-  in_mode : (name : List ℕ) (s : ModeSettings) → All Posts (mode_contributions name s)
-  unfolding mode_contributions
-  in_mode name s =
-      let starts = map starter (texts s.starts) in
-      let stops = map stopper (texts s.stops) in
-      let ball = stopper_where s.stops_with_ball (codes "ball_ending") in
-      let game = stopper_where s.game (codes "game_ending") in
-      All-append Posts (mode name s.priority s.game ∷ later_events name) (controls s) (first name s)
-      (All-append Posts (starts ++ stops ++ ball) game
-      (All-append Posts (starts ++ stops) ball (All-append Posts starts stops (all_silent starter (λ n. tt) (texts s.starts)) (all_silent stopper (λ n. tt) (texts s.stops))) (in_stopper s.stops_with_ball (codes "ball_ending")))
-      (in_stopper s.game (codes "game_ending")))
-    where
-      first : (name : List ℕ) (s : ModeSettings) → All Posts (mode name s.priority s.game ∷ later_events name)
-      first name s zero d within = tt
-      first name s (suc zero) d within = tt
-      first name s (suc (suc zero)) d within = tt
-      first name s (suc (suc (suc zero))) d within = tt
-      first name s (suc (suc (suc (suc zero)))) d within = tt
-      first name s (suc (suc (suc (suc (suc i))))) d within = absurd (omega (arith, within))
-
-  -- ---- rows
-
-  abbrev GivesPosts : Row → Type 0
-  GivesPosts r = All Posts (row_contributions r)
-
-  abbrev IsPostingContent : List ℕ → Content → Type 0
-  IsPostingContent name content =
-      All IsSwitchPosting (switches_in (record { name = name; content = content })) × All IsPlayerPosting (event_players_in (record { name = name; content = content })) × All (λ e. IsDevicePosting (device_of name e)) (entries_in content)
-
-  entry_where : (place : Place) (name : List ℕ) (b : Bool) (es : List Entry) → All IsSwitchPosting (map switch_of (if b then es else [])) → All (λ e. IsDevicePosting (device_of name e)) es
-      → All (λ e. All Posts (if b then switch_contributions (switch_of e) else where_device place (device_of name e))) es
-  entry_where place name true es h k i d within = in_switch (switch_of (get_or es i d)) (from_map IsSwitchPosting switch_of es h i d within)
-  entry_where place name false es h k i d within = in_where place (device_of name (get_or es i d)) (k i d within)
-
-  player_where : (place : Place) (b : Bool) (ps : List Player) → All IsPlayerPosting (map event_player_of (if b then ps else [])) → All (λ p. All Posts (if b then player_contributions place (event_player_of p) else [])) ps
-  player_where place true ps h i d within = in_player place (event_player_of (get_or ps i d)) (from_map IsPlayerPosting event_player_of ps h i d within)
-  player_where place false ps h i d within = All-nil Posts
-
-  in_content : (place : Place) (name : List ℕ) (content : Content) → IsPostingContent name content → All GivesPosts (rows_from place name content)
-  unfolding switches_in event_players_in entry_contributions player_entry_contributions
-  in_content place name (entries es) h = All-map GivesPosts (entry place name) es (entry_where place name (bytes_eq name switches_name) es h.0 h.2)
-  in_content place name (players ps) h = All-map GivesPosts (player place name) ps (player_where place (bytes_eq name event_player_name) ps h.1)
-  in_content place name (sections.entry e) h = All-nil GivesPosts
-  in_content place name (sections.listed ws) h = All-nil GivesPosts
-
-  in_section : (place : Place) (s : SectionRows) → IsPosting s → All GivesPosts (rows_from place s.name s.content)
-  in_section place s h = in_content place s.name s.content (h.switches, h.players, h.devices)
-
-  in_mode_rows : (m : ModeRows) → All IsPosting m.sections → All GivesPosts (mode_rows m)
-  in_mode_rows m h =
-      All-cons GivesPosts (of_mode m.name (mode_settings m.sections)) (rows_in Mode m.sections) (in_mode m.name (mode_settings m.sections)) (sections_each GivesPosts IsPosting Mode (in_section Mode) m.sections h)
-
-  all_post : (rows : Rows) → ArePosting rows → All Posts (contributions_of rows)
-  all_post rows h =
-      All-flat_map Posts row_contributions (rows_of rows)
-      (All-append GivesPosts (rows_in Machine rows.machine) (flat_map mode_rows rows.modes) (sections_each GivesPosts IsPosting Machine (in_section Machine) rows.machine h.machine)
-      (All-flat_map GivesPosts mode_rows rows.modes (All-weaker (λ m. All IsPosting m.sections) (λ m. All GivesPosts (mode_rows m)) in_mode_rows rows.modes h.modes)))
-
   -- ---- the plan
 
   abbrev pub IsNameOf : PlanView → EventId → Type 0
@@ -171,22 +32,22 @@ module _ (P : List ℕ → Type 0) where
     at_event : (n : List ℕ) → number_among names n < length names → P n → AtNumber (event_of names n)
     at_event n known h = subst P (sym (at_number names n known)) h
 
-    post_meets : (c : Contribution) → IsKnown (names_from cs) c → Posts c → PostMeets AtNumber (names_from cs) c
+    post_meets : (c : Contribution) → IsKnown (names_from cs) c → Posts P c → PostMeets AtNumber (names_from cs) c
     post_meets (active n) known h = at_event n known h
     post_meets (inactive n) known h = at_event n known h
     post_meets (post n) known h = at_event n known h
     post_meets (post_in k n) known h = at_event n known h
     post_meets _ known h = tt
 
-    posts_meet : All Posts cs → PostsMeet (IsNameOf (plan_from cs)) (plan_from cs)
+    posts_meet : All (Posts P) cs → PostsMeet (IsNameOf (plan_from cs)) (plan_from cs)
     posts_meet h =
         subst (λ es. PostsMeet (λ e. P (slice_index_or es e.0 [])) (plan_from cs)) (sym (names-from cs Events))
         (meet_drafted AtNumber (names_from cs) cs (λ i d within. post_meets (get_or cs i d) (all_known cs i d within) (h i d within)))
 
-  posts_of_plan : (rows : Rows) → ArePosting rows → PostsMeet (IsNameOf (plan_of rows)) (plan_of rows)
+  posts_of_plan : (rows : Rows) → ArePosting P rows → PostsMeet (IsNameOf (plan_of rows)) (plan_of rows)
   unfolding plan_of
-  posts_of_plan rows h = posts_meet (contributions_of rows) (all_post rows h)
+  posts_of_plan rows h = posts_meet (contributions_of rows) (all_post P rows h)
 
   -- P holds of the name of each event that the plan posts
-  pub posts-named : (rows : Rows) (plan : PlanView) → plan_at rows ≡ Ok plan → ArePosting rows → PostsMeet (IsNameOf plan) plan
+  pub posts-named : (rows : Rows) (plan : PlanView) → plan_at rows ≡ Ok plan → ArePosting P rows → PostsMeet (IsNameOf plan) plan
   posts-named rows plan is h = subst (λ p. PostsMeet (IsNameOf p) p) (sym (plan_at-Ok rows plan is).0) (posts_of_plan rows h)

@@ -4,15 +4,15 @@ use Rattle.std.specs.List.{All}
 use Rattle.std.proofs.lemmas.Bool.{ltb-true, ltb-false}
 use Rattle.std.proofs.lemmas.List.{set_past}
 use Rattle.std.proofs.lemmas.List.Elements.{All-nil, All-push, All-append, All-replicate, All-set, All-get_or, All-map, All-head, All-tail, All-from_get_or}
-use Rattle.mpf_plan.specs.declared.contribution.Aim.{Aim}
-use Rattle.mpf_plan.specs.declared.contribution.Aim.TheVariants.{Run}
+use Rattle.plan_contributions.specs.declared.contribution.Aim.{Aim}
+use Rattle.plan_contributions.specs.declared.contribution.Aim.TheVariants.{Run}
 use Rattle.plan_tables.specs.declared.entries.Action.{Action}
 use Rattle.plan_tables.specs.declared.entries.Action.TheVariants.{Post}
 use Rattle.plan_tables.specs.declared.entries.EventId.{EventId}
 use Rattle.plan_tables.specs.declared.table.Table.TheVariants.{Events, Switches}
 use Rattle.plan_tables.specs.Devices.{list_count}
 use Rattle.plan_tables.specs.PlanView.{PlanSwitch, no_switch, PlanView}
-use Rattle.mpf_plan.specs.Contributions.{Contribution, gives, reads, active, inactive, mode, mode_event, binds, post, device, post_in, mentions}
+use Rattle.plan_contributions.specs.Contributions.{Contribution, gives, reads, active, inactive, mode, mode_event, binds, post, device, post_in, mentions}
 use Rattle.mpf_plan.specs.Uses.{Names, number_among}
 use Rattle.mpf_plan.specs.PlanOf.{DraftView, event_of, last_switch, lists_for, with_one_more, first_of_last, with_contribution, named_switch, blank, drafted}
 use Rattle.mpf_plan.proofs.Drafted.{given_plan}

@@ -5,10 +5,10 @@ use Rattle.std.specs.List.{All}
 use Rattle.std.proofs.lemmas.Bool.{cases_lt, ltb-true, ltb-false}
 use Rattle.std.proofs.lemmas.List.{length_push, length-set, set_past, get_or_push, get_or_append_left}
 use Rattle.std.proofs.lemmas.List.Elements.{All-nil, All-push, All-set, All-weaker, All-get_or, All-head, All-tail}
-use Rattle.mpf_plan.specs.declared.contribution.Aim.{Aim}
-use Rattle.mpf_plan.specs.declared.contribution.Aim.TheVariants as aims
-use Rattle.mpf_plan.specs.declared.contribution.Place.{Place}
-use Rattle.mpf_plan.specs.declared.contribution.Place.TheVariants as places
+use Rattle.plan_contributions.specs.declared.contribution.Aim.{Aim}
+use Rattle.plan_contributions.specs.declared.contribution.Aim.TheVariants as aims
+use Rattle.plan_contributions.specs.declared.contribution.Place.{Place}
+use Rattle.plan_contributions.specs.declared.contribution.Place.TheVariants as places
 use Rattle.plan_tables.specs.declared.entries.Action.{Action}
 use Rattle.plan_tables.specs.declared.entries.Action.TheVariants.{Post}
 use Rattle.plan_tables.specs.declared.entries.EventId.{EventId}
@@ -27,15 +27,14 @@ use Rattle.plan_tables.specs.declared.devices.Settings.{Settings}
 use Rattle.plan_tables.specs.Devices.{list_count}
 use Rattle.plan_tables.specs.PlanView.{PlanSwitch, PlanMode, no_mode, no_row, row_at, list_of_row, PlanView}
 use Rattle.plan_tables.specs.Valid.{IsEventWithin, IsModeWithin, IsActionWithin, IsOwnerWithin, IsTargetWithin, IsBindingWithin, IsRowWithin, HasEntries}
-use Rattle.mpf_plan.specs.Contributions.{Contribution, gives, reads, active, inactive, mode, mode_event, mode_event_name, binds, post, device, post_in, mentions}
+use Rattle.plan_contributions.specs.Contributions.{Contribution, gives, reads, active, inactive, mode, mode_event, mode_event_name, binds, post, device, post_in, mentions}
 use Rattle.mpf_plan.specs.Uses.{Names, names_from, number_among}
 use Rattle.mpf_plan.specs.PlanOf.{DraftView, event_of, new_mode, with_event_in, with_mode, with_mode_event, last_mode, owner_at, target_at, next_binding, lists_for, with_list_for, with_binding, next_row, next_list, with_device, first_of_last, with_one_more, with_contribution, blank, drafted}
 use Rattle.mpf_plan.proofs.Among.{IsKnown, all_known}
 use Rattle.mpf_plan.proofs.Drafted.{given_plan, modes_one, lists_begun}
-use Rattle.mpf_plan.proofs.Placed.{row_after, IsPlacedAim, IsPlaced, ArePlaced}
+use Rattle.plan_contributions.specs.Facts.{row_after, IsPlacedAim, IsPlaced, ArePlaced, IsOpenPlace, IsOpenAim, IsOpen, modes_after, AreOpened}
 use Rattle.mpf_plan.proofs.Owned.{IsOwn, own_one, own_blank}
 use Rattle.mpf_plan.proofs.Posted.{IsPost, PostMeets, PostsMeet, meet_drafted}
-use Rattle.mpf_plan.proofs.RowFacts.{IsOpenPlace, IsOpenAim, IsOpen, modes_after, AreOpened}
 
 -- ---- a plan with more lists, modes and rows
 

@@ -4,10 +4,10 @@ use Rattle.std.specs.List.{sum_by}
 use Rattle.std.proofs.lemmas.Grind.{flat_map-append}
 use Rattle.std.proofs.lemmas.List.{take_more, map-append, append-nil}
 use Rattle.std.proofs.lemmas.List.Sums.{fold-append, sum_by-append}
-use Rattle.mpf_plan.specs.declared.collect.Row as rows
-use Rattle.mpf_plan.specs.declared.contribution.Contribution as contributions
-use Rattle.mpf_plan.specs.Contributions.{Contribution, row_contributions, given_by}
-use Rattle.mpf_plan.specs.Inside.{contribution_view, contributions_view, row_view, row_list_view}
+use Rattle.plan_contributions.specs.declared.collect.Row as rows
+use Rattle.plan_contributions.specs.declared.contribution.Contribution as contributions
+use Rattle.plan_contributions.specs.Contributions.{Contribution, row_contributions, given_by}
+use Rattle.plan_contributions.specs.View.{contribution_view, contributions_view, row_view, row_list_view}
 use Rattle.mpf_plan.specs.Numbering.{bindings_given, binding_count, rows_given, row_count, modes_given, mode_count}
 
 module _ (cs : List contributions.Contribution) (i : ℕ) (d : contributions.Contribution) (within : i < length cs) where

@@ -10,7 +10,7 @@ use Rattle.std.proofs.lemmas.Slice.Eq.{bytes_eq-Decides}
 use Rattle.mpf_config.specs.Rows.{Rows}
 use Rattle.mpf_config.specs.Short.{AreListsShort}
 use Rattle.mpf_config.specs.FewModes.{AreFewModes}
-use Rattle.mpf_plan.specs.declared.contribution.Aim.TheVariants.{Run, Start, Stop, Do}
+use Rattle.plan_contributions.specs.declared.contribution.Aim.TheVariants.{Run, Start, Stop, Do}
 use Rattle.plan_tables.specs.declared.entries.Action.{Action}
 use Rattle.plan_tables.specs.declared.entries.Action.TheVariants.{Post}
 use Rattle.plan_tables.specs.declared.entries.ListId.{ListId}
@@ -24,14 +24,16 @@ use Rattle.plan_tables.specs.declared.table.Table.TheVariants as tables
 use Rattle.plan_tables.specs.PlanView.{PlanView, row_at}
 use Rattle.plan_tables.specs.Devices.{IsWithinLimits, list_count}
 use Rattle.plan_tables.specs.Valid.{IsValid, HasEntries}
-use Rattle.mpf_plan.specs.Contributions.{Contribution, gives, reads, active, inactive, mode, mode_event, binds, post, device, post_in, mentions, contributions_of}
-use Rattle.mpf_plan.specs.Uses.{Names, names_from, number_among, uses, first_by}
+use Rattle.plan_contributions.specs.Contributions.{Contribution, gives, reads, active, inactive, mode, mode_event, binds, post, device, post_in, mentions, contributions_of}
+use Rattle.mpf_plan.specs.Uses.{Names, names_from, number_among, first_by}
+use Rattle.plan_contributions.specs.UsedNames.{uses}
 use Rattle.plan_tables.specs.Limits.{entry_count, limit_of}
 use Rattle.mpf_plan.specs.PlanOf.{DraftView, event_of, first_of_last, next_row, next_list, with_one_more, with_contribution, blank, plan_from, plan_of, plan_at}
 use Rattle.mpf_plan.proofs.Counts.{named_of}
 use Rattle.mpf_plan.proofs.Drafted.{given_plan, names-from, count-bindings, count-rows, count-row_lists, count-lists}
 use Rattle.mpf_plan.proofs.Judged.{plan_at-Ok}
-use Rattle.mpf_plan.proofs.RowFacts.{AreShort, IsRoomy, posts_after, posts_in_after, full, IsLimited, rows_are_short, rows_are_open, rows_are_limited, rows_are_placed}
+use Rattle.plan_contributions.specs.Facts.{AreShort, IsRoomy, posts_after, posts_in_after, full, IsLimited}
+use Rattle.plan_contributions.proofs.RowFacts.{rows_are_short, rows_are_open, rows_are_limited, rows_are_placed}
 use Rattle.mpf_plan.proofs.Owned.{IsOwnTarget, IsOwnBinding, own_fold, own_blank}
 use Rattle.mpf_plan.proofs.SoundDraft.{has_entries}
 use Rattle.mpf_plan.proofs.ModeWorks.{modes-count, works_are}

@@ -1,53 +1,20 @@
--- What contributions, rows and a plan that is being made hold.
-use Rattle.std.specs.Prelude.{ℕ, ◌++◌, List, map}
-use Rattle.mpf_sections.specs.View.{entry_view, player_view, mode_settings_view}
-use Rattle.plan_tables.specs.declared.table.Table.{Table}
+-- What a plan that is being made holds.
 use Rattle.plan_tables.specs.declared.names.NameSets.{NameSets}
 use Rattle.plan_tables.specs.Inside.{tables_view}
-use Rattle.mpf_plan.specs.declared.collect.Row as rows
-use Rattle.mpf_plan.specs.declared.collect.Row.TheVariants as row
-use Rattle.mpf_plan.specs.declared.contribution.Parts.{Parts}
-use Rattle.mpf_plan.specs.declared.contribution.Contribution as contributions
-use Rattle.mpf_plan.specs.declared.contribution.Contribution.TheVariants as contribution
 use Rattle.mpf_plan.specs.declared.draft.Draft.{Draft}
-use Rattle.mpf_plan.specs.Contributions.{Contribution, gives, reads, active, inactive, mode, mode_event, binds, post, device, post_in, mentions, Row, entry, player, of_mode}
 use Rattle.mpf_plan.specs.PlanOf.{DraftView}
-
--- the name that the parts make
-abbrev pub parts_text : Parts → List ℕ
-parts_text p = p.front.now ++ p.middle.now ++ p.end.now
-
-abbrev pub contribution_view : contributions.Contribution → Contribution
-contribution_view (contribution.Gives table n) = gives table n.now
-contribution_view (contribution.Reads kind) = reads kind
-contribution_view (contribution.Active n) = active (parts_text n)
-contribution_view (contribution.Inactive n) = inactive (parts_text n)
-contribution_view (contribution.Mode n priority game) = mode n.now priority game
-contribution_view (contribution.ModeEvent which n) = mode_event which n.now
-contribution_view (contribution.Binds n place aim) = binds n.now place aim
-contribution_view (contribution.Post n) = post (parts_text n)
-contribution_view (contribution.Device place settings) = device place settings
-contribution_view (contribution.PostIn k n) = post_in k (parts_text n)
-contribution_view (contribution.Mentions n) = mentions n.now
-
-abbrev pub contributions_view : List contributions.Contribution → List Contribution
-contributions_view cs = map contribution_view cs
-
-abbrev pub row_view : rows.Row → Row
-row_view (row.Entry place section e) = entry place section.now (entry_view e.now)
-row_view (row.Player place section p) = player place section.now (player_view p.now)
-row_view (row.Mode name s) = of_mode name.now (mode_settings_view s)
-
-abbrev pub row_list_view : List rows.Row → List Row
-row_list_view rs = map row_view rs
-
--- a name and its table
-abbrev pub named_view : Table × Parts → Table × List ℕ
-named_view p = (p.0, parts_text p.1)
 
 abbrev pub draft_view : NameSets → Draft → DraftView
 draft_view names d = record {
-  plan = tables_view (record { names = names; modes = d.modes; switches = d.switches; lists = d.lists; bindings = d.bindings; rows = d.rows; row_lists = d.row_lists });
+  plan = tables_view (record {
+    names = names;
+    modes = d.modes;
+    switches = d.switches;
+    lists = d.lists;
+    bindings = d.bindings;
+    rows = d.rows;
+    row_lists = d.row_lists;
+  });
   defined = d.defined.items;
   last = d.last;
 }

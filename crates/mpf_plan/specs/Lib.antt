@@ -1,5 +1,3 @@
-pub mod DeviceEntries
-pub mod Contributions
 pub mod Uses
 pub mod PlanOf
 -- scaffolding: what contracts of the functions inside this crate see

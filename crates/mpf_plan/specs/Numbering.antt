@@ -10,8 +10,9 @@ use Rattle.mpf_plan.specs.declared.fault.PlanFault.{PlanFault}
 use Rattle.mpf_plan.specs.declared.fault.PlanFault.TheVariants as faults
 use Rattle.plan_tables.specs.declared.table.Table.{Table}
 use Rattle.mpf_plan.specs.declared.first_uses.Found.{Found}
-use Rattle.mpf_plan.specs.Contributions.{Contribution, mode, binds, device}
-use Rattle.mpf_plan.specs.Uses.{given_names, names_from, lacks_name}
+use Rattle.plan_contributions.specs.Contributions.{Contribution, mode, binds, device}
+use Rattle.plan_contributions.specs.UsedNames.{given_names}
+use Rattle.mpf_plan.specs.Uses.{names_from, lacks_name}
 use Rattle.plan_tables.specs.Limits.{limit_of, order_of, tables_in_order, first_above}
 use Rattle.mpf_plan.specs.PlanOf.{plan_from}
 use Rattle.plan_tables.specs.NamesKept.{names_of}
@@ -23,7 +24,9 @@ with_name names name = if list_any (λ n. bytes_eq name n) names then names else
 
 -- a table has all names, and they are within its limit; or there are more than that
 abbrev pub IsNameTableOf : List (List ℕ) → NameTable → Type 0
-IsNameTableOf all t = ((t.above ≡ true) × (t.limit < length all)) ⊎ ((t.above ≡ false) × (names_of t.set.keys ≡ all) × (length all ≤ t.limit))
+IsNameTableOf all t =
+    ((t.above ≡ true) × (t.limit < length all))
+    ⊎ ((t.above ≡ false) × (names_of t.set.keys ≡ all) × (length all ≤ t.limit))
 
 -- how many bindings a contribution gives, and how many all do
 abbrev pub bindings_given : Contribution → ℕ
@@ -57,13 +60,15 @@ IsCount limit all count = ((limit < all) × (limit < count)) ⊎ ((count ≡ all
 pub record AreNameTablesOf (cs : List Contribution) (tables : List NameTable) : Type 0 where
   pub count : length tables ≡ length tables_in_order
   pub limits : (t : Table) (kept : NameTable) → slice_get tables (order_of t) ≡ Some kept → kept.limit ≡ limit_of t
-  pub names : (t : Table) (kept : NameTable) → slice_get tables (order_of t) ≡ Some kept → IsNameTableOf (names_from cs t) kept
+  pub names : (t : Table) (kept : NameTable) → slice_get tables (order_of t) ≡ Some kept
+      → IsNameTableOf (names_from cs t) kept
 
 -- the sets have the names under which contributions give something, each at its place
 module _ {S : Type 0} where
   pub record HoldGivenNames (cs : List Contribution) (sets : List (IndexSet (Vec ℕ Global) S)) : Type 0 where
     pub count : length sets ≡ length tables_in_order
-    pub names : (t : Table) (set : IndexSet (Vec ℕ Global) S) → slice_get sets (order_of t) ≡ Some set → names_of set.keys ≡ fold with_name [] (given_names t cs)
+    pub names : (t : Table) (set : IndexSet (Vec ℕ Global) S) → slice_get sets (order_of t) ≡ Some set
+        → names_of set.keys ≡ fold with_name [] (given_names t cs)
 
 -- what is found in contributions
 pub record HasFound (cs : List Contribution) (found : Found) : Type 0 where
@@ -74,7 +79,9 @@ pub record HasFound (cs : List Contribution) (found : Found) : Type 0 where
 -- the names of contributions whose plan is within all limits; or they use a name that nothing has; or the first table
 -- that is above its limit
 abbrev pub Numbered : List Contribution → Result NameSets PlanFault → Type 0
-Numbered cs (Ok n) = (lacks_name cs ≡ false) × (name_sets_view n ≡ names_from cs) × (first_above (plan_from cs) ≡ None) × (binding_count cs ≤ 16384) × (row_count cs ≤ 1024)
+Numbered cs (Ok n) =
+    (lacks_name cs ≡ false) × (name_sets_view n ≡ names_from cs) × (first_above (plan_from cs) ≡ None)
+    × (binding_count cs ≤ 16384) × (row_count cs ≤ 1024)
 Numbered cs (Err faults.NoMemory) = Unit {0}
 Numbered cs (Err faults.NoSuchName) = lacks_name cs ≡ true
 Numbered cs (Err (faults.Limit t)) = (lacks_name cs ≡ false) × (first_above (plan_from cs) ≡ Some t)

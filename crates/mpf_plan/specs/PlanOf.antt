@@ -19,16 +19,16 @@ use Rattle.plan_tables.specs.declared.devices.DeviceRow.{DeviceRow}
 use Rattle.plan_tables.specs.declared.devices.RowId.{RowId}
 use Rattle.plan_tables.specs.declared.devices.Settings.{Settings}
 use Rattle.plan_tables.specs.Devices.{list_count}
-use Rattle.mpf_plan.specs.declared.contribution.Place.{Place}
-use Rattle.mpf_plan.specs.declared.contribution.Place.TheVariants.{Machine, Control, Mode}
-use Rattle.mpf_plan.specs.declared.contribution.Aim.{Aim}
-use Rattle.mpf_plan.specs.declared.contribution.Aim.TheVariants.{Run, Start, Stop, Do}
+use Rattle.plan_contributions.specs.declared.contribution.Place.{Place}
+use Rattle.plan_contributions.specs.declared.contribution.Place.TheVariants.{Machine, Control, Mode}
+use Rattle.plan_contributions.specs.declared.contribution.Aim.{Aim}
+use Rattle.plan_contributions.specs.declared.contribution.Aim.TheVariants.{Run, Start, Stop, Do}
 use Rattle.plan_tables.specs.declared.table.Table.{Table}
 use Rattle.plan_tables.specs.declared.table.Table.TheVariants.{Events, Switches}
 use Rattle.mpf_plan.specs.declared.fault.PlanFault.{PlanFault}
 use Rattle.mpf_plan.specs.declared.fault.PlanFault.TheVariants as faults
 use Rattle.plan_tables.specs.PlanView.{PlanSwitch, no_switch, PlanMode, no_event, no_mode, PlanView}
-use Rattle.mpf_plan.specs.Contributions.{Contribution, gives, reads, active, inactive, mode, mode_event, mode_event_name, binds, post, device, post_in, mentions, contributions_of}
+use Rattle.plan_contributions.specs.Contributions.{Contribution, gives, reads, active, inactive, mode, mode_event, mode_event_name, binds, post, device, post_in, mentions, contributions_of}
 use Rattle.mpf_plan.specs.Uses.{Names, names_from, number_among, lacks_name}
 use Rattle.plan_tables.specs.Limits.{first_above, IsFirstAbove}
 
@@ -38,7 +38,8 @@ event_of names name = record { 0 = number_among names name }
 
 -- ---- a plan that is being made
 
--- the plan so far; which switches are defined; and the number of the last switch, or past the end where that came second by its name
+-- the plan so far; which switches are defined; and the number of the last switch, or past the end where that came second
+-- by its name
 pub record DraftView : Type 0 where
   pub plan : PlanView
   pub defined : List Bool
@@ -46,10 +47,14 @@ pub record DraftView : Type 0 where
 
 -- the last switch is changed so
 abbrev pub last_switch : (PlanSwitch → PlanSwitch) → DraftView → DraftView
-last_switch change d =
-    record d { plan = record d.plan { switches = slice_set d.plan.switches d.last (change (slice_index_or d.plan.switches d.last no_switch)) } }
+last_switch change d = record d {
+  plan = record d.plan {
+    switches = slice_set d.plan.switches d.last (change (slice_index_or d.plan.switches d.last no_switch));
+  };
+}
 
--- The switch of this number becomes the last one, unless an entry has defined it already: of two entries of one name the first counts.
+-- The switch of this number becomes the last one, unless an entry has defined it already: of two entries of one name
+-- the first counts.
 abbrev pub with_switch : ℕ → DraftView → DraftView
 with_switch n d =
     cond (slice_index_or d.defined n true)
@@ -73,10 +78,19 @@ with_inactive e d = last_switch (λ s. record s { inactive = s.inactive ++ e ∷
 
 -- the events of a mode, and a mode, of which the first event alone is known
 abbrev pub first_event : EventId → ModeEvents
-first_event e = record { will_start = e; starting = no_event; started = no_event; stopping = no_event; stopped = no_event }
+first_event e = record {
+  will_start = e;
+  starting = no_event;
+  started = no_event;
+  stopping = no_event;
+  stopped = no_event;
+}
 
 abbrev pub new_mode : List ℕ → ℕ → Bool → EventId → PlanMode
-new_mode name priority game e = record { name = name; mode = record { priority = priority; game = game; events = first_event e } }
+new_mode name priority game e = record {
+  name = name;
+  mode = record { priority = priority; game = game; events = first_event e };
+}
 
 abbrev pub with_mode : PlanMode → DraftView → DraftView
 with_mode m d = record d { plan = record d.plan { modes = d.plan.modes ++ m ∷ [] } }
@@ -94,7 +108,8 @@ with_event_in which e m = record m { mode = record m.mode { events = with_event 
 
 -- the last of the modes has this event
 abbrev pub last_with_event : ModeEvent → EventId → List PlanMode → List PlanMode
-last_with_event which e modes = slice_set modes (length modes - 1) (with_event_in which e (slice_index_or modes (length modes - 1) no_mode))
+last_with_event which e modes =
+    slice_set modes (length modes - 1) (with_event_in which e (slice_index_or modes (length modes - 1) no_mode))
 
 abbrev pub with_mode_event : ModeEvent → EventId → DraftView → DraftView
 with_mode_event which e d = record d { plan = record d.plan { modes = last_with_event which e d.plan.modes } }
@@ -121,8 +136,8 @@ priority_at of_last Mode = of_last
 abbrev pub last_row : PlanView → RowId
 last_row plan = record { 0 = length plan.rows - 1 }
 
--- what a binding does that is next: it runs the next effect list, starts or stops the mode that came last, or acts on the
--- row that came last
+-- what a binding does that is next: it runs the next effect list, starts or stops the mode that came last, or acts on
+-- the row that came last
 abbrev pub target_at : PlanView → Aim → Target
 target_at plan Run = targets.Run (record { 0 = length plan.lists })
 target_at plan Start = targets.Start (last_mode plan)
@@ -161,7 +176,11 @@ with_action a d = record d { plan = record d.plan { lists = last_with a d.plan.l
 
 -- the next row of a device
 abbrev pub next_row : PlanView → Place → Settings → DeviceRow
-next_row plan place settings = record { number = record { 0 = length plan.rows }; owner = owner_at (last_mode plan) place; settings = settings }
+next_row plan place settings = record {
+  number = record { 0 = length plan.rows };
+  owner = owner_at (last_mode plan) place;
+  settings = settings;
+}
 
 -- the number of the next effect list
 abbrev pub next_list : PlanView → ListId
@@ -183,7 +202,9 @@ first_of_last firsts = slice_index_or firsts (length firsts - 1) (record { 0 = 0
 
 -- a list of the row that came last has one action more, by its number in the row
 abbrev pub with_action_in : ℕ → Action → DraftView → DraftView
-with_action_in k a d = record d { plan = record d.plan { lists = with_one_more ((first_of_last d.plan.row_lists).0 + k) a d.plan.lists } }
+with_action_in k a d = record d {
+  plan = record d.plan { lists = with_one_more ((first_of_last d.plan.row_lists).0 + k) a d.plan.lists };
+}
 
 -- what one contribution adds, where names have these numbers
 abbrev pub with_contribution : Names → DraftView → Contribution → DraftView
@@ -191,9 +212,12 @@ with_contribution names d (gives table n) = with_given table (number_among (name
 with_contribution names d (reads kind) = with_kind kind d
 with_contribution names d (active n) = with_active (event_of (names Events) n) d
 with_contribution names d (inactive n) = with_inactive (event_of (names Events) n) d
-with_contribution names d (mode n priority game) = with_mode (new_mode n priority game (event_of (names Events) (mode_event_name WillStart n))) d
-with_contribution names d (mode_event which n) = with_mode_event which (event_of (names Events) (mode_event_name which n)) d
-with_contribution names d (binds n place aim) = with_list_for aim (with_binding (next_binding d.plan (event_of (names Events) n) place aim) d)
+with_contribution names d (mode n priority game) =
+    with_mode (new_mode n priority game (event_of (names Events) (mode_event_name WillStart n))) d
+with_contribution names d (mode_event which n) =
+    with_mode_event which (event_of (names Events) (mode_event_name which n)) d
+with_contribution names d (binds n place aim) =
+    with_list_for aim (with_binding (next_binding d.plan (event_of (names Events) n) place aim) d)
 with_contribution names d (post n) = with_action (Post (event_of (names Events) n)) d
 with_contribution names d (device place settings) = with_device place settings d
 with_contribution names d (post_in k n) = with_action_in k (Post (event_of (names Events) n)) d
@@ -206,7 +230,15 @@ named_switch n = record no_switch { name = n }
 -- before anything is added, names are there alone
 abbrev pub blank : Names → DraftView
 blank names = record {
-  plan = record { modes = []; events = names Events; switches = map named_switch (names Switches); lists = []; bindings = []; rows = []; row_lists = [] };
+  plan = record {
+    modes = [];
+    events = names Events;
+    switches = map named_switch (names Switches);
+    lists = [];
+    bindings = [];
+    rows = [];
+    row_lists = [];
+  };
   defined = map (λ n. false) (names Switches);
   last = length (names Switches);
 }
@@ -236,7 +268,8 @@ fitting plan (Some t) = Err (above_limit t)
 
 -- the plan of the rows; or that they use a name that nothing has; or the first of the tables that is above its limit
 unfoldable pub plan_at : Rows → Result PlanView PlanRefusal
-plan_at rows = cond (lacks_name (contributions_of rows)) (Err no_such_name) (fitting (plan_of rows) (first_above (plan_of rows)))
+plan_at rows =
+    cond (lacks_name (contributions_of rows)) (Err no_such_name) (fitting (plan_of rows) (first_above (plan_of rows)))
 
 -- the table is the first of the rows' plan that is above its limit
 abbrev pub IsExceeded : Rows → Table → Type 0

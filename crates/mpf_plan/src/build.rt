@@ -6,11 +6,11 @@ ghost use Rattle.plan_tables.specs.declared.table.Table.{Table as TableValue};
 ghost use Rattle.plan_tables.specs.Limits.{entry_count, limit_of};
 ghost use Rattle.mpf_plan.specs.PlanOf.{plan_at, plan_of, GivesPlan, IsExceeded};
 
-use crate::collect::rows_of;
 use crate::fault::PlanFault;
 use crate::fill::fill;
 use crate::numbering::number;
 use mpf_config::config::Config;
+use plan_contributions::rows_of;
 use plan_tables::tables::{Plan, Tables};
 use std::alloc::Global;
 

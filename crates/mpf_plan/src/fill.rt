@@ -3,23 +3,25 @@
 ghost use Rattle.std.specs.Prelude.{◌≡◌, ◌<◌, ◌≤◌, ◌+◌, ◌*◌, ◌++◌, List, [], ℕ, false, length, map, fold, replicate, IfOk, OnOk};
 ghost use Rattle.plan_tables.specs.declared.names.NameSets.{NameSets as NameSetsValue};
 ghost use Rattle.plan_tables.specs.declared.table.Table.TheVariants.{Events, Switches};
-ghost use Rattle.mpf_plan.specs.Contributions.{gives, active, inactive, mode, mode_event, binds, post, post_in, given_by};
+ghost use Rattle.plan_contributions.specs.Contributions.{gives, active, inactive, mode, mode_event, binds, post, post_in, given_by};
 ghost use Rattle.plan_tables.specs.Devices.{list_count};
-ghost use Rattle.plan_tables.specs.PlanView.{no_switch};
-ghost use Rattle.mpf_plan.specs.PlanOf.{event_of, with_switch, with_kind, with_active, with_inactive, first_event, with_event, last_with_event, last_mode, last_row, next_binding, last_priority, lists_for, with_one_more, last_with, next_row, next_list, with_device, first_of_last, with_action_in, with_contribution, named_switch, blank, drafted};
-ghost use Rattle.plan_tables.specs.NamesKept.{names_of};
+ghost use Rattle.mpf_plan.specs.PlanOf.{event_of, owner_at, priority_at, with_switch, with_kind, with_active, with_inactive, first_event, with_event, last_with_event, last_mode, last_row, next_binding, last_priority, lists_for, with_one_more, last_with, next_row, with_device, first_of_last, with_contribution, named_switch, blank, drafted, next_list, with_action_in};
 ghost use Rattle.plan_tables.specs.Inside.{name_sets_view, mode_entry_view, action_lists, switches_view};
-ghost use Rattle.mpf_plan.specs.Inside.{parts_text, contribution_view, contributions_view, row_list_view, draft_view};
+ghost use Rattle.plan_contributions.specs.View.{parts_text, contribution_view, contributions_view, row_list_view};
+ghost use Rattle.mpf_plan.specs.Inside.{draft_view};
 ghost use Rattle.mpf_plan.specs.Numbering.{binding_count, mode_count, row_count};
+ghost use Rattle.plan_tables.specs.PlanView.{no_switch};
+ghost use Rattle.plan_tables.specs.NamesKept.{names_of};
 
-use crate::collect::{Row, collect_row};
-use crate::contribution::{Aim, Contribution, Parts, Place, mode_event_name, whole};
 use crate::draft::Draft;
 use crate::numbering::number_among;
+use plan_contributions::{
+    Aim, Contribution, Parts, Place, Row, collect_row, mode_event_name, whole,
+};
 use plan_tables::devices::{DeviceRow, RowId, Settings};
 use plan_tables::entries::{
     Action, Binding, Contact, EventId, ListId, Mode, ModeEntry, ModeEvent, ModeEvents, ModeId,
-    SwitchEntry, SwitchKind, Target,
+    Owner, SwitchEntry, SwitchKind, Target,
 };
 use plan_tables::names::NameSets;
 use plan_tables::table::Table;
@@ -323,9 +325,31 @@ fn next_binding(draft: &Draft, event: EventId, place: Place, aim: Aim) -> Bindin
     };
     Binding {
         event,
-        owner: place.owner(last),
-        priority: place.priority(priority),
+        owner: owner_at(last, place),
+        priority: priority_at(priority, place),
         target,
+    }
+}
+
+/// The owner of a binding, where this mode came last.
+fn owner_at(last: ModeId, place: Place) -> Owner
+    ensures { result ≡ owner_at last place }
+{
+    match place {
+        Place::Machine => Owner::Machine,
+        Place::Control => Owner::Machine,
+        Place::Mode => Owner::Mode(last),
+    }
+}
+
+/// The priority of a binding, where the mode that came last has this one.
+fn priority_at(of_last: u32, place: Place) -> u32
+    ensures { result ≡ priority_at of_last place }
+{
+    match place {
+        Place::Machine => 0,
+        Place::Control => of_last,
+        Place::Mode => of_last,
     }
 }
 
@@ -420,7 +444,7 @@ fn next_row(draft: &Draft, place: Place, settings: Settings) -> DeviceRow
 {
     DeviceRow {
         number: RowId(draft.rows.len() as u16),
-        owner: place.owner(last_mode(draft)),
+        owner: owner_at(last_mode(draft), place),
         settings,
     }
 }

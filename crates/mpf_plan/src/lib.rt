@@ -2,9 +2,6 @@
 #![tactic(auto)]
 
 pub mod build;
-mod collect;
-mod collect_devices;
-mod contribution;
 mod draft;
 pub mod fault;
 mod fill;

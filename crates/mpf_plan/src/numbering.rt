@@ -2,19 +2,19 @@
 
 ghost use Rattle.std.specs.Prelude.{◌≡◌, ◌≤◌, ◌<◌, ◌+◌, ◌++◌, ℕ, List, [], ◌∷◌, Option, length, nat_lt, IfOk, OnOk};
 ghost use Rattle.std.specs.List.{list_any};
-ghost use Rattle.mpf_plan.specs.Contributions.{Contribution as ContributionValue, given_by};
+ghost use Rattle.plan_contributions.specs.Contributions.{Contribution as ContributionValue, given_by};
 ghost use Rattle.plan_tables.specs.Limits.{entry_count, limit_of, tables_in_order, first_above};
-ghost use Rattle.mpf_plan.specs.Uses.{used, given_names, number_among, is_to_be_given, is_lacking, lacks_name};
+ghost use Rattle.plan_contributions.specs.UsedNames.{used, given_names};
+ghost use Rattle.mpf_plan.specs.Uses.{number_among, is_to_be_given, is_lacking, lacks_name};
 ghost use Rattle.mpf_plan.specs.PlanOf.{plan_from};
 ghost use Rattle.plan_tables.specs.NamesKept.{names_of};
-ghost use Rattle.plan_tables.specs.Inside.{name_sets_view};
-ghost use Rattle.mpf_plan.specs.Inside.{parts_text, contribution_view, contributions_view, row_list_view};
+ghost use Rattle.plan_contributions.specs.View.{parts_text, contribution_view, contributions_view, row_list_view};
 ghost use Rattle.mpf_plan.specs.Numbering.{with_name, IsNameTableOf, AreNameTablesOf, bindings_given, rows_given, IsCount, HoldGivenNames, HasFound, Numbered};
+ghost use Rattle.plan_tables.specs.Inside.{name_sets_view};
 
-use crate::collect::{Row, collect_row};
-use crate::contribution::{Contribution, Parts, given, used, write_name};
 use crate::fault::PlanFault;
 use crate::first_uses::Found;
+use plan_contributions::{Contribution, Parts, Row, collect_row, given, used, write_name};
 use plan_tables::names::{NameHashing, NameSet, NameSets, NameTable};
 use plan_tables::table::{TABLES, Table};
 use std::alloc::{AllocError, Global};

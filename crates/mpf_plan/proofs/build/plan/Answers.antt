@@ -2,8 +2,8 @@ use Rattle.std.proofs.Common.{ap, sym, ◌∙◌}
 use Rattle.std.specs.Prelude.{Ok, Err}
 use Rattle.std.proofs.lemmas.Result.{err_from_is_err_and}
 use Rattle.mpf_config.specs.View.{rows_view}
-use Rattle.mpf_plan.specs.Contributions.{given_by}
-use Rattle.mpf_plan.specs.Inside.{row_list_view as found_view}
+use Rattle.plan_contributions.specs.Contributions.{given_by}
+use Rattle.plan_contributions.specs.View.{row_list_view as found_view}
 use Rattle.mpf_plan.proofs.Drafted.{entries_count}
 use Rattle.mpf_plan.proofs.Planned.{refused_exact, refused_limit, rows_within, is_plan, is_planned, is_valid, modes_few}
 use Rattle.mpf_plan.proofs.build.plan.Goals as goal

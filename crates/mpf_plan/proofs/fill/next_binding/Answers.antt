@@ -21,6 +21,6 @@ returns c names =
       | in-Stop w ↦ w.target-is ∙ ap targets.Stop last ∙ ap to (sym w.in-Stop.is)
       | in-Do w ↦ w.target-is ∙ ap (λ r. targets.Act r w.in-Do.act) (w.last_row.ensures names) ∙ ap to (sym w.in-Do.is)
     ] in
-    let owner = c.owner.ensures ∙ ap (λ m. owner_at m c.args.place) last in
-    let priority = c.priority.ensures ∙ ap (λ p. priority_at p c.args.place) (c.last_priority-priority.ensures ∙ ap (λ ms. last_priority (map mode_entry_view ms)) c.deref.ensures.value) in
+    let owner = c.owner_at.ensures ∙ ap (λ m. owner_at m c.args.place) last in
+    let priority = c.priority_at.ensures ∙ ap (λ p. priority_at p c.args.place) (c.last_priority-priority.ensures ∙ ap (λ ms. last_priority (map mode_entry_view ms)) c.deref.ensures.value) in
     λ i. record { event = c.args.event; owner = owner i; priority = priority i; target = target i }

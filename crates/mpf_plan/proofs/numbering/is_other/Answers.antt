@@ -1,7 +1,7 @@
 use Rattle.std.proofs.Common.{sym, ◌∙◌, ap}
 use Rattle.std.specs.Option.{option_map}
-use Rattle.mpf_plan.specs.Uses.{used}
-use Rattle.mpf_plan.specs.Inside.{parts_text, named_view, contribution_view}
+use Rattle.plan_contributions.specs.UsedNames.{used}
+use Rattle.plan_contributions.specs.View.{parts_text, named_view, contribution_view}
 use Rattle.mpf_plan.proofs.Lacking.{lacking_named}
 use Rattle.mpf_plan.proofs.numbering.is_other.Goals as goal
 

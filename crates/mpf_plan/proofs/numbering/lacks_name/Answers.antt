@@ -3,9 +3,10 @@ use Rattle.std.specs.List.{list_any}
 use Rattle.std.proofs.lemmas.Bool.{or_from}
 use Rattle.std.proofs.lemmas.List.{take_all}
 use Rattle.std.proofs.lemmas.List.Folds.{list_any-append}
-use Rattle.mpf_plan.specs.Contributions.{Contribution, given_by}
-use Rattle.mpf_plan.specs.Uses.{used, given_names, is_lacking}
-use Rattle.mpf_plan.specs.Inside.{contributions_view, row_list_view}
+use Rattle.plan_contributions.specs.Contributions.{Contribution, given_by}
+use Rattle.plan_contributions.specs.UsedNames.{used, given_names}
+use Rattle.mpf_plan.specs.Uses.{is_lacking}
+use Rattle.plan_contributions.specs.View.{contributions_view, row_list_view}
 use Rattle.mpf_plan.specs.Numbering.{HoldGivenNames}
 use Rattle.mpf_plan.proofs.Collected.{row_is, row_more}
 use Rattle.mpf_plan.proofs.Lacking.{any_row}

@@ -1,8 +1,9 @@
 use Rattle.std.proofs.Common.{◌≡◌, false, take}
 use Rattle.std.specs.List.{list_any}
-use Rattle.mpf_plan.specs.Contributions.{given_by}
-use Rattle.mpf_plan.specs.Uses.{used, given_names, is_lacking}
-use Rattle.mpf_plan.specs.Inside.{row_list_view}
+use Rattle.plan_contributions.specs.Contributions.{given_by}
+use Rattle.plan_contributions.specs.UsedNames.{used, given_names}
+use Rattle.mpf_plan.specs.Uses.{is_lacking}
+use Rattle.plan_contributions.specs.View.{row_list_view}
 use Rattle.mpf_plan.proofs.numbering.lacks_name.Given as goal
 
 abbrev pub invariant-loop-row : goal.invariant-loop-row

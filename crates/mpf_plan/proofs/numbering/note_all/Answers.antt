@@ -1,6 +1,6 @@
 use Rattle.std.proofs.Common.{◌++◌, sym, subst}
 use Rattle.std.proofs.lemmas.List.{append-nil, take_all}
-use Rattle.mpf_plan.specs.Inside.{contributions_view}
+use Rattle.plan_contributions.specs.View.{contributions_view}
 use Rattle.mpf_plan.specs.Numbering.{HasFound}
 use Rattle.mpf_plan.proofs.Collected.{one_more}
 use Rattle.mpf_plan.proofs.numbering.note_all.Goals as goal

@@ -1,6 +1,6 @@
 use Rattle.std.proofs.Common.{List, ◌++◌, take}
-use Rattle.mpf_plan.specs.Contributions.{Contribution}
-use Rattle.mpf_plan.specs.Inside.{contributions_view}
+use Rattle.plan_contributions.specs.Contributions.{Contribution}
+use Rattle.plan_contributions.specs.View.{contributions_view}
 use Rattle.mpf_plan.specs.Numbering.{HasFound}
 use Rattle.mpf_plan.proofs.numbering.note_all.Given as goal
 

@@ -1,7 +1,7 @@
 use Rattle.std.proofs.Common.{length, ◌++◌, sym, ◌∙◌, ap, subst, take}
 use Rattle.std.specs.Option.{option_map}
 use Rattle.std.proofs.lemmas.List.{append-nil, take_all, length-set}
-use Rattle.mpf_plan.specs.Inside.{parts_text, named_view, contributions_view}
+use Rattle.plan_contributions.specs.View.{parts_text, named_view, contributions_view}
 use Rattle.mpf_plan.specs.Numbering.{HoldGivenNames}
 use Rattle.mpf_plan.proofs.Collected.{one_more}
 use Rattle.mpf_plan.proofs.FirstNames.{use_inserted}

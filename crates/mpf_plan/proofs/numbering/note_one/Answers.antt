@@ -1,6 +1,6 @@
 use Rattle.std.proofs.Common.{refl, sym, ◌∙◌, ap, subst}
 use Rattle.std.specs.Option.{option_map}
-use Rattle.mpf_plan.specs.Inside.{parts_text, named_view, contribution_view}
+use Rattle.plan_contributions.specs.View.{parts_text, named_view, contribution_view}
 use Rattle.mpf_plan.specs.Numbering.{with_name, IsNameTableOf}
 use Rattle.mpf_plan.proofs.Collected.{on_ok_both}
 use Rattle.mpf_plan.proofs.Found.{found_nameless, found_named}

@@ -1,8 +1,7 @@
 use Rattle.std.proofs.Common.{sym, ◌∙◌}
-use Rattle.mpf_plan.specs.Contributions.{given_by}
-use Rattle.mpf_plan.specs.Inside.{row_list_view}
-use Rattle.mpf_plan.proofs.Found.{bindings_fit, device_rows_fit, names_are_kept, kept_fit}
-use Rattle.mpf_plan.proofs.Unnamed.{bindings_unnamed, rows_unnamed}
+use Rattle.plan_contributions.specs.Contributions.{given_by}
+use Rattle.plan_contributions.specs.View.{row_list_view}
+use Rattle.mpf_plan.proofs.Found.{nameless, bindings_fit, device_rows_fit, names_are_kept, kept_fit}
 use Rattle.mpf_plan.proofs.numbering.number.Goals as goal
 
 pub invariant_of-result : goal.invariant_of-result
@@ -10,7 +9,7 @@ invariant_of-result c =
     let rows = row_list_view c.args.rows.now in
     let cs = given_by rows in
     let has = c.in_ok-found.ensures in
-    record { count = c.in_ok-found.found.count; fit = kept_fit cs c.in_ok-found.found has (sym (c.first_above.ensures cs has) ∙ c.in_default.is) (bindings_unnamed rows, rows_unnamed rows) }
+    record { count = c.in_ok-found.found.count; fit = kept_fit cs c.in_ok-found.found has (sym (c.first_above.ensures cs has) ∙ c.in_default.is) (nameless rows) }
 
 pub returns : goal.returns
 returns c =
@@ -19,4 +18,4 @@ returns c =
     let found = c.in_ok-found.found in
     let has = c.in_ok-found.ensures in
     let none = sym (c.first_above.ensures cs has) ∙ c.in_default.is in
-    (sym c.in_ok-lacking.ensures ∙ c.if-lacking.false, (λ i t. names_are_kept cs found has none (bindings_unnamed rows, rows_unnamed rows) t i), none, bindings_fit cs found has none (bindings_unnamed rows, rows_unnamed rows), device_rows_fit cs found has none (bindings_unnamed rows, rows_unnamed rows))
+    (sym c.in_ok-lacking.ensures ∙ c.if-lacking.false, (λ i t. names_are_kept cs found has none (nameless rows) t i), none, bindings_fit cs found has none (nameless rows), device_rows_fit cs found has none (nameless rows))

@@ -1,8 +1,9 @@
 use Rattle.std.proofs.Common.{◌≡◌, false, refl, sym, ◌∙◌, subst}
 use Rattle.std.specs.List.{list_any}
 use Rattle.std.proofs.lemmas.List.{take_all}
-use Rattle.mpf_plan.specs.Uses.{used, given_names, is_lacking}
-use Rattle.mpf_plan.specs.Inside.{contributions_view}
+use Rattle.plan_contributions.specs.UsedNames.{used, given_names}
+use Rattle.mpf_plan.specs.Uses.{is_lacking}
+use Rattle.plan_contributions.specs.View.{contributions_view}
 use Rattle.mpf_plan.proofs.Collected.{none_more, any_here}
 use Rattle.mpf_plan.proofs.numbering.use_other.Goals as goal
 

@@ -1,8 +1,9 @@
 use Rattle.std.proofs.Common.{◌≡◌, List, false, take}
 use Rattle.std.specs.List.{list_any}
-use Rattle.mpf_plan.specs.Contributions.{Contribution}
-use Rattle.mpf_plan.specs.Uses.{used, given_names, is_lacking}
-use Rattle.mpf_plan.specs.Inside.{contributions_view}
+use Rattle.plan_contributions.specs.Contributions.{Contribution}
+use Rattle.plan_contributions.specs.UsedNames.{used, given_names}
+use Rattle.mpf_plan.specs.Uses.{is_lacking}
+use Rattle.plan_contributions.specs.View.{contributions_view}
 use Rattle.mpf_plan.specs.Numbering.{HoldGivenNames}
 use Rattle.mpf_plan.proofs.numbering.use_other.Given as goal
 

@@ -1,0 +1,69 @@
+-- What is collected of the entry of a device, part after part.
+use Rattle.std.proofs.Common.{◌≡◌, ℕ, suc, ◌+◌, ◌<◌, List, [], ◌∷◌, ◌++◌, length, map, drop, get_or, refl, sym, ◌∙◌, ap, arith}
+use Rattle.std.specs.Prelude.{Option, None, Some}
+use Rattle.std.proofs.lemmas.List.{append-nil, append_assoc, map-append, drop_more}
+use Rattle.mpf_sections.specs.Rows.{Written, Control}
+use Rattle.mpf_sections.specs.Typed.{with_control}
+use Rattle.plan_tables.specs.declared.devices.Act.{Act}
+use Rattle.plan_tables.specs.declared.devices.Act.TheVariants.{Step}
+use Rattle.plan_tables.specs.declared.devices.Settings.{Settings}
+use Rattle.plan_contributions.specs.declared.contribution.Contribution as contributions
+use Rattle.plan_contributions.specs.declared.contribution.Contribution.TheVariants as contribution
+use Rattle.plan_contributions.specs.declared.contribution.Parts.{Parts}
+use Rattle.plan_contributions.specs.declared.contribution.Place.{Place}
+use Rattle.plan_contributions.specs.DeviceEntries.{acts, step_acts, controlled}
+use Rattle.plan_contributions.specs.Contributions.{Contribution, device, post_in, mentions, Device, act_binding, posts_from, device_contributions}
+use Rattle.plan_contributions.specs.View.{parts_text, contribution_view, contributions_view}
+
+-- what is made of some things, and then of others
+pub mapped_after : {X : Type 0} (f : X → Contribution) (old : List Contribution) (xs ys : List X) → (old ++ map f xs) ++ map f ys ≡ old ++ map f (xs ++ ys)
+mapped_after f old xs ys = append_assoc old (map f xs) (map f ys) ∙ ap (λ l. old ++ l) (sym (map-append f xs ys))
+
+-- a row with these settings
+pub row_first : (old new : List contributions.Contribution) (place : Place) (s t : Settings) → new ≡ old ++ contribution.Device place s ∷ [] → s ≡ t → contributions_view new ≡ contributions_view old ++ device place t ∷ []
+row_first old new place s t pushed same =
+    ap contributions_view pushed ∙ map-append contribution_view old (contribution.Device place s ∷ []) ∙ ap (λ x. contributions_view old ++ device place x ∷ []) same
+
+-- a post of this event in a list of the row
+pub post_first : (old new : List contributions.Contribution) (k : ℕ) (p : Parts) (u : List ℕ) → new ≡ old ++ contribution.PostIn k p ∷ [] → parts_text p ≡ u → contributions_view new ≡ contributions_view old ++ post_in k u ∷ []
+post_first old new k p u pushed same =
+    ap contributions_view pushed ∙ map-append contribution_view old (contribution.PostIn k p ∷ []) ∙ ap (λ x. contributions_view old ++ post_in k x ∷ []) same
+
+-- the three lists of a block
+pub lists_collected : (old a b e : List Contribution) (u : List ℕ) (hit complete : List (List ℕ)) → a ≡ old ++ post_in 0 u ∷ [] → b ≡ a ++ map (post_in 1) hit → e ≡ b ++ map (post_in 2) complete
+    → e ≡ old ++ posts_from 0 ((u ∷ []) ∷ hit ∷ complete ∷ [])
+lists_collected old a b e u hit complete first then_ rest =
+    let hits = map (post_in 1) hit in
+    let completes = map (post_in 2) complete in
+    rest ∙ ap (λ l. l ++ completes) (then_ ∙ ap (λ l. l ++ hits) first)
+    ∙ append_assoc (old ++ post_in 0 u ∷ []) hits completes
+    ∙ append_assoc old (post_in 0 u ∷ []) (hits ++ completes)
+    ∙ ap (λ l. old ++ post_in 0 u ∷ (hits ++ l)) (sym (append-nil completes))
+
+-- then what acts on it, and the rest
+pub device_collected : (place : Place) (d : Device) (old a b e : List Contribution) → a ≡ old ++ device place d.settings ∷ [] → b ≡ a ++ map (act_binding place) d.handled
+    → e ≡ b ++ (map mentions d.mentioned ++ posts_from 0 d.lists) → e ≡ old ++ device_contributions place d
+unfolding device_contributions
+device_collected place d old a b e first then_ rest =
+    let row = device place d.settings in
+    let acting = map (act_binding place) d.handled in
+    let posting = map mentions d.mentioned ++ posts_from 0 d.lists in
+    rest ∙ ap (λ l. l ++ posting) (then_ ∙ ap (λ l. l ++ acting) first)
+    ∙ append_assoc (old ++ row ∷ []) acting posting
+    ∙ append_assoc old (row ∷ []) (acting ++ posting)
+
+-- one step, and then the others
+pub steps_next : {X : Type 0} (f : List ℕ × Act → Contribution) (view : X → List Written) (steps : List X) (i : ℕ) (d : X) → i < length steps
+    → map f (acts (Step i) (view (get_or steps i d))) ++ map f (step_acts (i + 1) (map view (drop (i + 1) steps))) ≡ map f (step_acts i (map view (drop i steps)))
+steps_next f view steps i d within =
+    let here = acts (Step i) (view (get_or steps i d)) in
+    let later = map view (drop (i + 1) steps) in
+    let next : i + 1 ≡ suc i = omega arith in
+    ap (λ k. map f here ++ map f (step_acts k later)) next
+    ∙ sym (map-append f here (step_acts (suc i) later))
+    ∙ ap (λ l. map f (step_acts i (map view l))) (sym (drop_more steps i d within))
+
+-- one control, and then the others
+pub control_next : (f : List ℕ × Act → Contribution) (o : Option Control) (cs : List Control) → map f (map controlled (with_control o [])) ++ map f (map controlled cs) ≡ map f (map controlled (with_control o cs))
+control_next f None cs = refl
+control_next f (Some c) cs = refl

@@ -1,0 +1,47 @@
+-- Acts are on rows of devices whose place is that of the binding, as contributions come.
+use Rattle.std.proofs.Common.{ℕ, suc, List, [], ◌∷◌, ◌++◌, map}
+use Rattle.std.specs.Prelude.{Option, None}
+use Rattle.std.proofs.lemmas.Option.{none-some}
+use Rattle.plan_contributions.specs.declared.contribution.Aim.{Aim}
+use Rattle.plan_contributions.specs.declared.contribution.Aim.TheVariants.{Run, Start, Stop, Do}
+use Rattle.plan_contributions.specs.declared.contribution.Place.{Place}
+use Rattle.plan_contributions.specs.Contributions.{Contribution, mode, binds, device, post_in, posts_from}
+use Rattle.plan_contributions.specs.Facts.{row_after, IsPlacedAim, IsPlaced, ArePlaced}
+
+-- whichever row came before, where none is needed
+pub ArePlaced-any : (o : Option Place) (cs : List Contribution) → ArePlaced None cs → ArePlaced o cs
+ArePlaced-any o [] h = tt
+ArePlaced-any o (c ∷ cs) h = (placed c h.0, after (ArePlaced-any o cs) c h.1)
+  where
+    aimed : (place : Place) (aim : Aim) → IsPlacedAim None place aim → IsPlacedAim o place aim
+    aimed place (Do act) is = absurd (none-some place is)
+    aimed place Run is = tt
+    aimed place Start is = tt
+    aimed place Stop is = tt
+
+    placed : (x : Contribution) → IsPlaced None x → IsPlaced o x
+    placed (binds e place aim) is = aimed place aim is
+    placed _ is = tt
+
+    after : (ArePlaced None cs → ArePlaced o cs) → (x : Contribution) → ArePlaced (row_after None x) cs → ArePlaced (row_after o x) cs
+    after rest (mode n priority game) is = is
+    after rest (device place settings) is = is
+    after rest _ is = rest is
+
+pub ArePlaced-append : (cs ds : List Contribution) (o : Option Place) → ArePlaced o cs → ArePlaced None ds → ArePlaced o (cs ++ ds)
+ArePlaced-append [] ds o first then_ = ArePlaced-any o ds then_
+ArePlaced-append (c ∷ cs) ds o first then_ = (first.0, ArePlaced-append cs ds (row_after o c) first.1 then_)
+
+-- what changes nothing, before others
+pub ArePlaced-before : {X : Type 0} (o : Option Place) (make : X → Contribution) → ((x : X) (cs : List Contribution) → ArePlaced o cs → ArePlaced o (make x ∷ cs)) → (xs : List X) (rest : List Contribution)
+    → ArePlaced o rest → ArePlaced o (map make xs ++ rest)
+ArePlaced-before o make more [] rest h = h
+ArePlaced-before o make more (x ∷ xs) rest h = more x (map make xs ++ rest) (ArePlaced-before o make more xs rest h)
+
+pub ArePlaced-each : {X : Type 0} (o : Option Place) (make : X → Contribution) → ((x : X) (cs : List Contribution) → ArePlaced o cs → ArePlaced o (make x ∷ cs)) → (xs : List X) → ArePlaced o (map make xs)
+ArePlaced-each o make more [] = tt
+ArePlaced-each o make more (x ∷ xs) = more x (map make xs) (ArePlaced-each o make more xs)
+
+pub ArePlaced-posts : (o : Option Place) (k : ℕ) (lists : List (List (List ℕ))) → ArePlaced o (posts_from k lists)
+ArePlaced-posts o k [] = tt
+ArePlaced-posts o k (es ∷ rest) = ArePlaced-before o (post_in k) (λ e cs h. (tt, h)) es (posts_from (suc k) rest) (ArePlaced-posts o (suc k) rest)

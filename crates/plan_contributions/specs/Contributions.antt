@@ -1,0 +1,197 @@
+-- What the rows give to a plan, by names and in plan order.
+use Rattle.std.specs.Prelude.{ℕ, suc, Bool, true, false, if◌then◌else◌, List, [], ◌∷◌, ◌++◌, map, Option, None, Some, codes}
+use Rattle.std.specs.List.{flat_map}
+use Rattle.std.specs.Str.{bytes_eq}
+use Rattle.mpf_sections.specs.declared.words.Contact.{Contact as WrittenContact}
+use Rattle.mpf_sections.specs.declared.words.Contact.TheVariants as written
+use Rattle.mpf_sections.specs.declared.words.Debounce.{Debounce}
+use Rattle.mpf_sections.specs.declared.words.Debounce.TheVariants.{Auto, Quick, Normal}
+use Rattle.mpf_sections.specs.Rows.{Written, Entry, Player, Switch, EventPlayer, ModeSettings, Content, entries, players, SectionRows}
+use Rattle.mpf_config.specs.Rows.{ModeRows, Rows}
+use Rattle.mpf_sections.specs.Typed.{switches_name, event_player_name, switch_of, event_player_of, mode_settings}
+use Rattle.plan_tables.specs.declared.entries.Contact.{Contact}
+use Rattle.plan_tables.specs.declared.entries.Contact.TheVariants.{NormallyOpen, NormallyClosed}
+use Rattle.plan_tables.specs.declared.entries.SwitchKind.{SwitchKind}
+use Rattle.plan_tables.specs.declared.entries.ModeEvent.{ModeEvent}
+use Rattle.plan_tables.specs.declared.entries.ModeEvent.TheVariants.{WillStart, Starting, Started, Stopping, Stopped}
+use Rattle.plan_contributions.specs.declared.contribution.Place.{Place}
+use Rattle.plan_contributions.specs.declared.contribution.Place.TheVariants.{Machine, Control, Mode}
+use Rattle.plan_contributions.specs.declared.contribution.Aim.{Aim}
+use Rattle.plan_contributions.specs.declared.contribution.Aim.TheVariants.{Run, Start, Stop, Do}
+use Rattle.plan_tables.specs.declared.devices.Settings.{Settings}
+use Rattle.plan_tables.specs.declared.devices.Act.{Act}
+use Rattle.plan_tables.specs.declared.table.Table.{Table}
+use Rattle.plan_tables.specs.declared.table.Table.TheVariants.{Switches}
+pub use Rattle.plan_contributions.specs.DeviceEntries.{texts, Device, device_of}
+
+-- One thing that a row gives: an entry of a table, by its name; how the last given switch is read; an event that this
+-- switch posts when it becomes active, or inactive; a mode by its name, with its priority, and whether it starts only
+-- in a game; an event of the mode that came last, which has this name; a binding of an event, with which an effect list
+-- begins where it is to run one; an event that the list posts that began last; a row of a device with its settings,
+-- with which its effect lists begin; an event that this list of the last row posts, by its number in the row; an event
+-- that a setting names, which gets its number here.
+pub data Contribution : Type 0 where
+  gives : Table → List ℕ → Contribution
+  reads : SwitchKind → Contribution
+  active : List ℕ → Contribution
+  inactive : List ℕ → Contribution
+  mode : List ℕ → ℕ → Bool → Contribution
+  mode_event : ModeEvent → List ℕ → Contribution
+  binds : List ℕ → Place → Aim → Contribution
+  post : List ℕ → Contribution
+  device : Place → Settings → Contribution
+  post_in : ℕ → List ℕ → Contribution
+  mentions : List ℕ → Contribution
+
+-- ---- switches
+
+-- whether a raw level is accepted at once, and not once it has stood for 5 ms
+abbrev pub is_quick : Debounce → Bool
+is_quick Auto = false
+is_quick Quick = true
+is_quick Normal = false
+
+-- the contact of a switch, in the plan
+abbrev pub contact_of : WrittenContact → Contact
+contact_of written.NormallyOpen = NormallyOpen
+contact_of written.NormallyClosed = NormallyClosed
+
+-- how a switch is read
+abbrev pub kind_of : Switch → SwitchKind
+kind_of s = record { contact = contact_of s.contact; quick = is_quick s.debounce }
+
+-- the event of a tag
+abbrev pub tag_event : Written → List ℕ
+tag_event t = codes "sw_" ++ t.text
+
+-- What a switch posts when it becomes active: the event of its own name, those of its tags, and those that its entry
+-- names, tags and names as they are written.
+abbrev pub active_posts : Switch → List (List ℕ)
+active_posts s = (s.name.text ++ codes "_active") ∷ map tag_event s.tags ++ texts s.activated
+
+-- what a switch posts when it becomes inactive; its tags have no event then
+abbrev pub inactive_posts : Switch → List (List ℕ)
+inactive_posts s = (s.name.text ++ codes "_inactive") ∷ texts s.deactivated
+
+-- a switch, with what it posts, whatever the order of its settings: first when it becomes active
+unfoldable pub switch_contributions : Switch → List Contribution
+switch_contributions s =
+    gives Switches s.name.text ∷ reads (kind_of s) ∷ map active (active_posts s) ++ map inactive (inactive_posts s)
+
+-- ---- event_player
+
+-- an entry binds an effect list to the event that it handles; the list posts the entry's events in order
+unfoldable pub player_contributions : Place → EventPlayer → List Contribution
+player_contributions place p = binds p.event.text place Run ∷ map post (texts p.posts)
+
+-- ---- modes
+
+-- how the name of an event of a mode ends
+abbrev pub event_ending : ModeEvent → List ℕ
+event_ending WillStart = codes "_will_start"
+event_ending Starting = codes "_starting"
+event_ending Started = codes "_started"
+event_ending Stopping = codes "_stopping"
+event_ending Stopped = codes "_stopped"
+
+-- the name of this event of the mode of this name
+abbrev pub mode_event_name : ModeEvent → List ℕ → List ℕ
+mode_event_name which name = codes "mode_" ++ name ++ event_ending which
+
+-- what starts and what stops the mode that came last
+abbrev pub starter : List ℕ → Contribution
+starter event = binds event Control Start
+
+abbrev pub stopper : List ℕ → Contribution
+stopper event = binds event Control Stop
+
+-- the event stops the mode, where this holds
+abbrev pub stopper_where : Bool → List ℕ → List Contribution
+stopper_where holds event = if holds then stopper event ∷ [] else []
+
+-- the other four events of a mode
+abbrev pub later_events : List ℕ → List Contribution
+later_events name =
+    mode_event Starting name ∷ mode_event Started name ∷ mode_event Stopping name ∷ mode_event Stopped name ∷ []
+
+-- what starts a mode and what stops it, as it is written; then the end of the ball, and of the game, where they stop it
+abbrev pub controls : ModeSettings → List Contribution
+controls s =
+    map starter (texts s.starts)
+    ++ map stopper (texts s.stops)
+    ++ stopper_where s.stops_with_ball (codes "ball_ending")
+    ++ stopper_where s.game (codes "game_ending")
+
+-- a mode with its events, and then what starts and stops it
+unfoldable pub mode_contributions : List ℕ → ModeSettings → List Contribution
+mode_contributions name s = mode name s.priority s.game ∷ later_events name ++ controls s
+
+-- ---- devices
+
+-- an event acts on the row that came last
+abbrev pub act_binding : Place → List ℕ × Act → Contribution
+act_binding place h = binds h.0 place (Do h.1)
+
+-- what the effect lists post, from this one on
+abbrev pub posts_from : ℕ → List (List (List ℕ)) → List Contribution
+posts_from k [] = []
+posts_from k (es ∷ rest) = map (post_in k) es ++ posts_from (suc k) rest
+
+-- a row, then what acts on it, the events that its settings name, and what its effect lists post
+unfoldable pub device_contributions : Place → Device → List Contribution
+device_contributions place d =
+    device place d.settings ∷ map (act_binding place) d.handled ++ (map mentions d.mentioned ++ posts_from 0 d.lists)
+
+-- what a device gives, where an entry is one
+abbrev pub where_device : Place → Option Device → List Contribution
+where_device place None = []
+where_device place (Some d) = device_contributions place d
+
+-- ---- rows
+
+-- An entry in the section of this name, or an entry of a player, whose bindings have this place; or a mode by its name,
+-- with what its text says of it.
+pub data Row : Type 0 where
+  entry : Place → List ℕ → Entry → Row
+  player : Place → List ℕ → Player → Row
+  of_mode : List ℕ → ModeSettings → Row
+
+abbrev pub rows_from : Place → List ℕ → Content → List Row
+rows_from place name (entries es) = map (entry place name) es
+rows_from place name (players ps) = map (player place name) ps
+rows_from place name _ = []
+
+-- the rows of sections, as written
+abbrev pub rows_in : Place → List SectionRows → List Row
+rows_in place sections = flat_map (λ s. rows_from place s.name s.content) sections
+
+-- a mode, and then the rows of its sections
+abbrev pub mode_rows : ModeRows → List Row
+mode_rows m = of_mode m.name (mode_settings m.sections) ∷ rows_in Mode m.sections
+
+-- the rows of the machine, and then those of one mode after the other
+abbrev pub rows_of : Rows → List Row
+rows_of rows = rows_in Machine rows.machine ++ flat_map mode_rows rows.modes
+
+-- what an entry gives, by the name of its section
+unfoldable pub entry_contributions : Place → List ℕ → Entry → List Contribution
+entry_contributions place section e =
+    if bytes_eq section switches_name then switch_contributions (switch_of e)
+    else where_device place (device_of section e)
+
+-- and an entry of a player
+unfoldable pub player_entry_contributions : Place → List ℕ → Player → List Contribution
+player_entry_contributions place section p =
+    if bytes_eq section event_player_name then player_contributions place (event_player_of p) else []
+
+abbrev pub row_contributions : Row → List Contribution
+row_contributions (entry place section e) = entry_contributions place section e
+row_contributions (player place section p) = player_entry_contributions place section p
+row_contributions (of_mode name s) = mode_contributions name s
+
+-- what rows give, in turn
+abbrev pub given_by : List Row → List Contribution
+given_by rows = flat_map row_contributions rows
+
+abbrev pub contributions_of : Rows → List Contribution
+contributions_of rows = given_by (rows_of rows)

@@ -1,0 +1,107 @@
+-- What holds of the contributions of rows.
+use Rattle.std.specs.Prelude.{◌≡◌, ℕ, suc, ◌<◌, ◌==◌, if◌then◌else◌, List, [], ◌∷◌, ◌++◌, Option, None, Some, codes}
+use Rattle.std.specs.List.{All}
+use Rattle.mpf_sections.specs.Named.{IsName}
+use Rattle.plan_contributions.specs.declared.contribution.Aim.{Aim}
+use Rattle.plan_contributions.specs.declared.contribution.Aim.TheVariants.{Run, Start, Stop, Do}
+use Rattle.plan_contributions.specs.declared.contribution.Place.{Place}
+use Rattle.plan_contributions.specs.declared.contribution.Place.TheVariants.{Machine, Control, Mode}
+use Rattle.plan_tables.specs.Devices.{IsWithinLimits}
+use Rattle.plan_tables.specs.declared.entries.ModeEvent.{ModeEvent}
+use Rattle.plan_contributions.specs.DeviceEntries.{block_event, block_endings, timer_event, timer_endings}
+use Rattle.plan_contributions.specs.Contributions.{Contribution, mode, mode_event_name, binds, post, device, post_in}
+
+-- ---- names
+
+-- what is made of names meets P
+pub record IsOfNames (P : List ℕ → Type 0) : Type 0 where
+  pub name : (n : List ℕ) → IsName n → P n
+  pub active : (n : List ℕ) → IsName n → P (n ++ codes "_active")
+  pub inactive : (n : List ℕ) → IsName n → P (n ++ codes "_inactive")
+  pub tag : (n : List ℕ) → IsName n → P (codes "sw_" ++ n)
+  pub mode : (which : ModeEvent) (n : List ℕ) → IsName n → P (mode_event_name which n)
+  pub ball : P (codes "ball_ending")
+  pub game : P (codes "game_ending")
+  pub block : (n : List ℕ) → IsName n → All (λ ending. P (block_event n ending)) block_endings
+  pub timer : (n : List ℕ) → IsName n → All (λ ending. P (timer_event n ending)) timer_endings
+
+-- ---- effect lists, settings, modes
+
+-- how many posts the effect list has at most that began last, of which so many were there
+abbrev pub posts_after : ℕ → Contribution → ℕ
+posts_after n (binds e place Run) = 0
+posts_after n (post e) = suc n
+posts_after n (device place settings) = 1024
+posts_after n (post_in k e) = 1024
+posts_after n _ = n
+
+-- how many posts each effect list of the row has at most that came last, by its number in the row
+abbrev pub posts_in_after : (ℕ → ℕ) → Contribution → ℕ → ℕ
+posts_in_after f (post e) = λ j. 1024
+posts_in_after f (device place settings) = λ j. 0
+posts_in_after f (post_in k e) = λ j. if j == k then suc (f j) else f j
+posts_in_after f _ = f
+
+-- no list has room
+abbrev pub full : ℕ → ℕ
+full k = 1024
+
+-- an effect list has room for a post
+abbrev pub IsRoomy : ℕ → (ℕ → ℕ) → Contribution → Type 0
+IsRoomy n f (post e) = n < 1024
+IsRoomy n f (post_in k e) = f k < 1024
+IsRoomy n f _ = Unit {0}
+
+abbrev pub AreShort : ℕ → (ℕ → ℕ) → List Contribution → Type 0
+AreShort n f [] = Unit {0}
+AreShort n f (c ∷ cs) = IsRoomy n f c × AreShort (posts_after n c) (posts_in_after f c) cs
+
+-- the settings of a row are within their limits
+abbrev pub IsLimited : Contribution → Type 0
+IsLimited (device place settings) = IsWithinLimits settings
+IsLimited _ = Unit {0}
+
+-- what is of a mode comes after one, where so many have come
+abbrev pub IsOpenPlace : ℕ → Place → Type 0
+IsOpenPlace n Machine = Unit {0}
+IsOpenPlace n Control = 0 < n
+IsOpenPlace n Mode = 0 < n
+
+abbrev pub IsOpenAim : ℕ → Aim → Type 0
+IsOpenAim n Run = Unit {0}
+IsOpenAim n Start = 0 < n
+IsOpenAim n Stop = 0 < n
+IsOpenAim n (Do act) = Unit {0}
+
+abbrev pub IsOpen : ℕ → Contribution → Type 0
+IsOpen n (binds e place aim) = IsOpenPlace n place × IsOpenAim n aim
+IsOpen n (device place settings) = IsOpenPlace n place
+IsOpen n _ = Unit {0}
+
+abbrev pub modes_after : ℕ → Contribution → ℕ
+modes_after n (mode name priority game) = suc n
+modes_after n _ = n
+
+abbrev pub AreOpened : ℕ → List Contribution → Type 0
+AreOpened n [] = Unit {0}
+AreOpened n (c ∷ cs) = IsOpen n c × AreOpened (modes_after n c) cs
+
+-- ---- rows of devices
+
+-- the place of the row that came last, where the mode that came last is that of its time
+abbrev pub row_after : Option Place → Contribution → Option Place
+row_after o (mode n priority game) = None
+row_after o (device place settings) = Some place
+row_after o _ = o
+
+abbrev pub IsPlacedAim : Option Place → Place → Aim → Type 0
+IsPlacedAim o place (Do act) = o ≡ Some place
+IsPlacedAim o place _ = Unit {0}
+
+abbrev pub IsPlaced : Option Place → Contribution → Type 0
+IsPlaced o (binds e place aim) = IsPlacedAim o place aim
+IsPlaced o _ = Unit {0}
+
+abbrev pub ArePlaced : Option Place → List Contribution → Type 0
+ArePlaced o [] = Unit {0}
+ArePlaced o (c ∷ cs) = IsPlaced o c × ArePlaced (row_after o c) cs

@@ -1,0 +1,7 @@
+pub mod DeviceEntries
+pub mod Contributions
+pub mod UsedNames
+pub mod View
+-- what lemmas say of the contributions of every configuration
+pub mod Facts
+pub mod Posting

@@ -1,0 +1,43 @@
+-- The names that contributions use, and those under which they give something.
+use Rattle.std.specs.Prelude.{ℕ, ◌==◌, if◌then◌else◌, List, [], ◌∷◌, Option, None, Some}
+use Rattle.std.specs.List.{flat_map}
+use Rattle.plan_tables.specs.declared.entries.ModeEvent.TheVariants.{WillStart}
+use Rattle.plan_tables.specs.declared.table.Table.{Table}
+use Rattle.plan_tables.specs.declared.table.Table.TheVariants.{Events}
+use Rattle.plan_tables.specs.Limits.{order_of}
+use Rattle.plan_contributions.specs.Contributions.{Contribution, gives, active, inactive, mode, mode_event, mode_event_name, binds, post, post_in, mentions}
+
+-- ---- one contribution
+
+-- the name that a contribution uses, and its table; giving something under a name is a use of it
+abbrev pub used : Contribution → Option (Table × List ℕ)
+used (gives table n) = Some (table, n)
+used (active n) = Some (Events, n)
+used (inactive n) = Some (Events, n)
+used (mode n priority game) = Some (Events, mode_event_name WillStart n)
+used (mode_event which n) = Some (Events, mode_event_name which n)
+used (binds n place aim) = Some (Events, n)
+used (post n) = Some (Events, n)
+used (post_in k n) = Some (Events, n)
+used (mentions n) = Some (Events, n)
+used _ = None
+
+-- the name under which a contribution gives something
+abbrev pub given : Contribution → Option (Table × List ℕ)
+given (gives table n) = Some (table, n)
+given _ = None
+
+-- ---- all of them
+
+-- the name, where it is one of this table
+abbrev pub name_in_table : Table → Option (Table × List ℕ) → List (List ℕ)
+name_in_table table None = []
+name_in_table table (Some (t, n)) = if order_of t == order_of table then n ∷ [] else []
+
+-- all names of a table that the contributions use, in turn
+abbrev pub uses : Table → List Contribution → List (List ℕ)
+uses table cs = flat_map (λ c. name_in_table table (used c)) cs
+
+-- all names of a table under which they give something
+abbrev pub given_names : Table → List Contribution → List (List ℕ)
+given_names table cs = flat_map (λ c. name_in_table table (given c)) cs

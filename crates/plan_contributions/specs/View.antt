@@ -1,0 +1,42 @@
+-- What rows and contributions hold.
+use Rattle.std.specs.Prelude.{ℕ, ◌++◌, List, map}
+use Rattle.mpf_sections.specs.View.{entry_view, player_view, mode_settings_view}
+use Rattle.plan_tables.specs.declared.table.Table.{Table}
+use Rattle.plan_contributions.specs.declared.collect.Row as rows
+use Rattle.plan_contributions.specs.declared.collect.Row.TheVariants as row
+use Rattle.plan_contributions.specs.declared.contribution.Parts.{Parts}
+use Rattle.plan_contributions.specs.declared.contribution.Contribution as contributions
+use Rattle.plan_contributions.specs.declared.contribution.Contribution.TheVariants as contribution
+use Rattle.plan_contributions.specs.Contributions.{Contribution, gives, reads, active, inactive, mode, mode_event, binds, post, device, post_in, mentions, Row, entry, player, of_mode}
+
+-- the name that the parts make
+abbrev pub parts_text : Parts → List ℕ
+parts_text p = p.front.now ++ p.middle.now ++ p.end.now
+
+abbrev pub contribution_view : contributions.Contribution → Contribution
+contribution_view (contribution.Gives table n) = gives table n.now
+contribution_view (contribution.Reads kind) = reads kind
+contribution_view (contribution.Active n) = active (parts_text n)
+contribution_view (contribution.Inactive n) = inactive (parts_text n)
+contribution_view (contribution.Mode n priority game) = mode n.now priority game
+contribution_view (contribution.ModeEvent which n) = mode_event which n.now
+contribution_view (contribution.Binds n place aim) = binds n.now place aim
+contribution_view (contribution.Post n) = post (parts_text n)
+contribution_view (contribution.Device place settings) = device place settings
+contribution_view (contribution.PostIn k n) = post_in k (parts_text n)
+contribution_view (contribution.Mentions n) = mentions n.now
+
+abbrev pub contributions_view : List contributions.Contribution → List Contribution
+contributions_view cs = map contribution_view cs
+
+abbrev pub row_view : rows.Row → Row
+row_view (row.Entry place section e) = entry place section.now (entry_view e.now)
+row_view (row.Player place section p) = player place section.now (player_view p.now)
+row_view (row.Mode name s) = of_mode name.now (mode_settings_view s)
+
+abbrev pub row_list_view : List rows.Row → List Row
+row_list_view rs = map row_view rs
+
+-- a name and its table
+abbrev pub named_view : Table × Parts → Table × List ℕ
+named_view p = (p.0, parts_text p.1)

@@ -1,0 +1,384 @@
+//! What the rows of a configuration give to a plan, by names and in plan order.
+
+ghost use Rattle.std.specs.Prelude.{◌≡◌, ◌++◌, map, IfOk, OnOk, codes};
+ghost use Rattle.mpf_sections.specs.View.{switch_view as switch_row_view, event_player_view, mode_settings_view, section_view, entry_view, player_view, name_view};
+ghost use Rattle.mpf_config.specs.View.{mode_view, rows_view};
+ghost use Rattle.plan_contributions.specs.Contributions.{active, inactive, post, texts, contact_of, is_quick, kind_of, tag_event, active_posts, inactive_posts, switch_contributions, player_contributions, starter, stopper, stopper_where, later_events, controls, mode_contributions, rows_in, rows_from, mode_rows, rows_of, entry, player, entry_contributions, player_entry_contributions, row_contributions};
+ghost use Rattle.plan_contributions.specs.View.{contributions_view, row_view, row_list_view};
+
+use crate::collect_devices::collect_device;
+use crate::contribution::{Aim, Contribution, Parts, Place, whole};
+use mpf_config::config::Contact as WrittenContact;
+use mpf_config::{
+    Config, Content, Debounce, EVENT_PLAYER_NAME, Entry, EventPlayer, ModeSettings, ModeText, Name,
+    Player, SWITCHES_NAME, Section, Switch, as_event_player, as_switch, mode_settings,
+};
+use plan_tables::entries::{Contact, ModeEvent, SwitchKind};
+use plan_tables::table::Table;
+use std::alloc::{AllocError, Global};
+
+/// A row of a text.
+#[derive(Clone, Copy)]
+pub enum Row<'a> {
+    /// An entry in the section of this name, whose bindings have this place.
+    Entry(Place, &'a [u8], &'a Entry),
+    /// An entry of a player in the section of this name, whose bindings have this place.
+    Player(Place, &'a [u8], &'a Player),
+    /// A mode by its name, with what its text says of it.
+    Mode(&'a [u8], ModeSettings<'a>),
+}
+
+// ---- rows
+
+/// The rows of the machine text, and then those of one mode after the other, in the order of the
+/// modes. The rows of a text come as its sections and entries are written; a mode itself comes
+/// before the rows of its text.
+///
+/// # Errors
+///
+/// Memory ran out.
+pub fn rows_of<'a>(alloc: Global, config: &'a Config) -> Result<Vec<Row<'a>>, AllocError>
+    ensures { IfOk result (λ rows. row_list_view rows.items ≡ rows_of (rows_view config.now)) }
+{
+    let mut rows: Vec<Row<'a>> = Vec::new(alloc);
+    let sections: &'a [Section] = config.machine.sections.as_slice();
+    let modes: &'a [ModeText] = config.modes.as_slice();
+    add_sections(&mut rows, Place::Machine, sections)?;
+    for mode in modes {
+        add_mode(&mut rows, mode)?;
+    }
+    Ok(rows)
+}
+
+/// A mode, and then the rows of its sections.
+fn add_mode<'a>(rows: &mut Vec<Row<'a>>, mode: &'a ModeText) -> Result<(), AllocError>
+    ensures { OnOk result (row_list_view rows.new.items ≡ row_list_view rows.old.items ++ mode_rows (mode_view mode.now)) }
+{
+    let sections = mode.sections.as_slice();
+    rows.push(Row::Mode(&mode.name, mode_settings(sections)))?;
+    add_sections(rows, Place::Mode, sections)
+}
+
+/// The rows of sections, as written.
+fn add_sections<'a>(
+    rows: &mut Vec<Row<'a>>,
+    place: Place,
+    sections: &'a [Section],
+) -> Result<(), AllocError>
+    ensures { OnOk result (row_list_view rows.new.items ≡ row_list_view rows.old.items ++ rows_in place (map section_view sections.now)) }
+{
+    for section in sections {
+        add_rows(rows, place, section)?;
+    }
+    Ok(())
+}
+
+fn add_rows<'a>(
+    rows: &mut Vec<Row<'a>>,
+    place: Place,
+    section: &'a Section,
+) -> Result<(), AllocError>
+    ensures { OnOk result (row_list_view rows.new.items ≡ row_list_view rows.old.items ++ rows_from place (section_view section.now).name (section_view section.now).content) }
+{
+    match &section.content {
+        Content::Entries(entries) => add_entries(rows, place, &section.name, entries),
+        Content::Players(players) => add_players(rows, place, &section.name, players),
+        _ => Ok(()),
+    }
+}
+
+fn add_entries<'a>(
+    rows: &mut Vec<Row<'a>>,
+    place: Place,
+    section: &'a [u8],
+    entries: &'a [Entry],
+) -> Result<(), AllocError>
+    ensures { OnOk result (row_list_view rows.new.items ≡ row_list_view rows.old.items ++ map (entry place section.now) (map entry_view entries.now)) }
+{
+    for entry in entries {
+        rows.push(Row::Entry(place, section, entry))?;
+    }
+    Ok(())
+}
+
+fn add_players<'a>(
+    rows: &mut Vec<Row<'a>>,
+    place: Place,
+    section: &'a [u8],
+    players: &'a [Player],
+) -> Result<(), AllocError>
+    ensures { OnOk result (row_list_view rows.new.items ≡ row_list_view rows.old.items ++ map (player place section.now) (map player_view players.now)) }
+{
+    for player in players {
+        rows.push(Row::Player(place, section, player))?;
+    }
+    Ok(())
+}
+
+// ---- contributions
+
+/// What a row gives, by names and in plan order, in place of what was there. Names lie where the
+/// configuration has them.
+///
+/// # Errors
+///
+/// Memory ran out.
+pub fn collect_row<'a>(
+    contributions: &mut Vec<Contribution<'a>>,
+    row: Row<'a>,
+) -> Result<(), AllocError>
+    ensures { OnOk result (contributions_view contributions.new.items ≡ row_contributions (row_view row.entry)) }
+{
+    contributions.clear();
+    match row {
+        Row::Entry(place, section, entry) => collect_entry(contributions, place, section, entry),
+        Row::Player(place, section, player) => {
+            collect_player(contributions, place, section, player)
+        }
+        Row::Mode(name, settings) => collect_mode(contributions, name, settings),
+    }
+}
+
+/// What an entry gives, after what is there.
+#[tactic(auto, unfolding(crate::specs::Contributions::entry_contributions))]
+fn collect_entry<'a>(
+    contributions: &mut Vec<Contribution<'a>>,
+    place: Place,
+    section: &[u8],
+    entry: &'a Entry,
+) -> Result<(), AllocError>
+    ensures { OnOk result (contributions_view contributions.new.items ≡ contributions_view contributions.old.items ++ entry_contributions place section.now (entry_view entry.now)) }
+{
+    if section == SWITCHES_NAME {
+        return collect_switch(contributions, as_switch(entry));
+    }
+    collect_device(contributions, place, section, entry)
+}
+
+/// What an entry of a player gives, after what is there.
+#[tactic(auto, unfolding(crate::specs::Contributions::player_entry_contributions))]
+fn collect_player<'a>(
+    contributions: &mut Vec<Contribution<'a>>,
+    place: Place,
+    section: &[u8],
+    player: &'a Player,
+) -> Result<(), AllocError>
+    ensures { OnOk result (contributions_view contributions.new.items ≡ contributions_view contributions.old.items ++ player_entry_contributions place section.now (player_view player.now)) }
+{
+    if section == EVENT_PLAYER_NAME {
+        return collect_event_player(contributions, place, as_event_player(player));
+    }
+    Ok(())
+}
+
+// ---- `switches`
+
+#[tactic(auto, unfolding(crate::specs::Contributions::switch_contributions))]
+fn collect_switch<'a>(
+    contributions: &mut Vec<Contribution<'a>>,
+    row: Switch<'a>,
+) -> Result<(), AllocError>
+    ensures { OnOk result (contributions_view contributions.new.items ≡ contributions_view contributions.old.items ++ switch_contributions (switch_row_view row.entry)) }
+{
+    contributions.push(Contribution::Gives(Table::Switches, &row.name.text))?;
+    contributions.push(Contribution::Reads(kind_of(row)))?;
+    collect_active(contributions, row)?;
+    collect_inactive(contributions, row)?;
+    Ok(())
+}
+
+/// How the switch of a row is read.
+fn kind_of(row: Switch<'_>) -> SwitchKind
+    ensures { result ≡ kind_of (switch_row_view row.entry) }
+{
+    SwitchKind {
+        contact: contact_of(row.contact),
+        quick: is_quick(row.debounce),
+    }
+}
+
+/// The contact of a switch, in the plan.
+fn contact_of(contact: WrittenContact) -> Contact
+    ensures { result ≡ contact_of contact }
+{
+    match contact {
+        WrittenContact::NormallyOpen => Contact::NormallyOpen,
+        WrittenContact::NormallyClosed => Contact::NormallyClosed,
+    }
+}
+
+/// Whether a raw level is accepted at once. So far no use of a switch asks for that.
+fn is_quick(debounce: Debounce) -> bool
+    ensures { result ≡ is_quick debounce }
+{
+    match debounce {
+        Debounce::Auto => false,
+        Debounce::Quick => true,
+        Debounce::Normal => false,
+    }
+}
+
+/// What the switch of a row posts when it becomes active.
+fn collect_active<'a>(
+    contributions: &mut Vec<Contribution<'a>>,
+    row: Switch<'a>,
+) -> Result<(), AllocError>
+    ensures { OnOk result (contributions_view contributions.new.items ≡ contributions_view contributions.old.items ++ map active (active_posts (switch_row_view row.entry))) }
+{
+    contributions.push(Contribution::Active(Parts {
+        front: &row.name.text,
+        middle: b"",
+        end: b"_active",
+    }))?;
+    collect_tags(contributions, row.tags)?;
+    for name in row.activated {
+        contributions.push(Contribution::Active(whole(&name.text)))?;
+    }
+    Ok(())
+}
+
+fn collect_tags<'a>(
+    contributions: &mut Vec<Contribution<'a>>,
+    tags: &'a [Name],
+) -> Result<(), AllocError>
+    ensures { OnOk result (contributions_view contributions.new.items ≡ contributions_view contributions.old.items ++ map active (map tag_event (map name_view tags.now))) }
+{
+    for tag in tags {
+        contributions.push(Contribution::Active(Parts {
+            front: b"sw_",
+            middle: b"",
+            end: &tag.text,
+        }))?;
+    }
+    Ok(())
+}
+
+/// What the switch of a row posts when it becomes inactive.
+fn collect_inactive<'a>(
+    contributions: &mut Vec<Contribution<'a>>,
+    row: Switch<'a>,
+) -> Result<(), AllocError>
+    ensures { OnOk result (contributions_view contributions.new.items ≡ contributions_view contributions.old.items ++ map inactive (inactive_posts (switch_row_view row.entry))) }
+{
+    contributions.push(Contribution::Inactive(Parts {
+        front: &row.name.text,
+        middle: b"",
+        end: b"_inactive",
+    }))?;
+    for name in row.deactivated {
+        contributions.push(Contribution::Inactive(whole(&name.text)))?;
+    }
+    Ok(())
+}
+
+// ---- `event_player`
+
+#[tactic(auto, unfolding(crate::specs::Contributions::player_contributions))]
+fn collect_event_player<'a>(
+    contributions: &mut Vec<Contribution<'a>>,
+    place: Place,
+    row: EventPlayer<'a>,
+) -> Result<(), AllocError>
+    ensures { OnOk result (contributions_view contributions.new.items ≡ contributions_view contributions.old.items ++ player_contributions place (event_player_view row.entry)) }
+{
+    contributions.push(Contribution::Binds(row.event.text, place, Aim::Run))?;
+    collect_posts(contributions, row.posts)
+}
+
+/// The effect list that began last posts the events.
+fn collect_posts<'a>(
+    contributions: &mut Vec<Contribution<'a>>,
+    names: &'a [Name],
+) -> Result<(), AllocError>
+    ensures { OnOk result (contributions_view contributions.new.items ≡ contributions_view contributions.old.items ++ map post (texts (map name_view names.now))) }
+{
+    for name in names {
+        contributions.push(Contribution::Post(whole(&name.text)))?;
+    }
+    Ok(())
+}
+
+// ---- modes
+
+/// A mode, and what starts and stops it, after what is there.
+#[tactic(auto, unfolding(crate::specs::Contributions::mode_contributions))]
+fn collect_mode<'a>(
+    contributions: &mut Vec<Contribution<'a>>,
+    name: &'a [u8],
+    settings: ModeSettings<'a>,
+) -> Result<(), AllocError>
+    ensures { OnOk result (contributions_view contributions.new.items ≡ contributions_view contributions.old.items ++ mode_contributions name.now (mode_settings_view settings.entry)) }
+{
+    contributions.push(Contribution::Mode(name, settings.priority, settings.game))?;
+    collect_later_events(contributions, name)?;
+    collect_controls(contributions, settings)?;
+    Ok(())
+}
+
+/// The other four events of a mode.
+fn collect_later_events<'a>(
+    contributions: &mut Vec<Contribution<'a>>,
+    name: &'a [u8],
+) -> Result<(), AllocError>
+    ensures { OnOk result (contributions_view contributions.new.items ≡ contributions_view contributions.old.items ++ later_events name.now) }
+{
+    contributions.push(Contribution::ModeEvent(ModeEvent::Starting, name))?;
+    contributions.push(Contribution::ModeEvent(ModeEvent::Started, name))?;
+    contributions.push(Contribution::ModeEvent(ModeEvent::Stopping, name))?;
+    contributions.push(Contribution::ModeEvent(ModeEvent::Stopped, name))?;
+    Ok(())
+}
+
+/// What starts a mode, and what stops it.
+fn collect_controls<'a>(
+    contributions: &mut Vec<Contribution<'a>>,
+    settings: ModeSettings<'a>,
+) -> Result<(), AllocError>
+    ensures { OnOk result (contributions_view contributions.new.items ≡ contributions_view contributions.old.items ++ controls (mode_settings_view settings.entry)) }
+{
+    collect_starts(contributions, settings.starts)?;
+    collect_stops(contributions, settings.stops)?;
+    collect_stop_where(contributions, settings.stops_with_ball, b"ball_ending")?;
+    collect_stop_where(contributions, settings.game, b"game_ending")?;
+    Ok(())
+}
+
+/// The events start the mode that came last.
+fn collect_starts<'a>(
+    contributions: &mut Vec<Contribution<'a>>,
+    names: &'a [Name],
+) -> Result<(), AllocError>
+    ensures { OnOk result (contributions_view contributions.new.items ≡ contributions_view contributions.old.items ++ map starter (texts (map name_view names.now))) }
+{
+    for name in names {
+        contributions.push(Contribution::Binds(&name.text, Place::Control, Aim::Start))?;
+    }
+    Ok(())
+}
+
+/// The events stop it.
+fn collect_stops<'a>(
+    contributions: &mut Vec<Contribution<'a>>,
+    names: &'a [Name],
+) -> Result<(), AllocError>
+    ensures { OnOk result (contributions_view contributions.new.items ≡ contributions_view contributions.old.items ++ map stopper (texts (map name_view names.now))) }
+{
+    for name in names {
+        contributions.push(Contribution::Binds(&name.text, Place::Control, Aim::Stop))?;
+    }
+    Ok(())
+}
+
+/// The event stops it, where this holds.
+fn collect_stop_where<'a>(
+    contributions: &mut Vec<Contribution<'a>>,
+    holds: bool,
+    event: &'a [u8],
+) -> Result<(), AllocError>
+    ensures { OnOk result (contributions_view contributions.new.items ≡ contributions_view contributions.old.items ++ stopper_where holds event.now) }
+{
+    if holds {
+        contributions.push(Contribution::Binds(event, Place::Control, Aim::Stop))?;
+    }
+    Ok(())
+}

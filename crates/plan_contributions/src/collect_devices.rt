@@ -1,0 +1,376 @@
+//! What the entries of devices give to a plan: counters, accruals, sequences and timers.
+
+ghost use Rattle.std.specs.Prelude.{◌≡◌, ◌++◌, [], map, OnOk};
+ghost use Rattle.mpf_sections.specs.Typed.{control_of, controls_of, with_control};
+ghost use Rattle.mpf_sections.specs.View.{name_view, names_view, fields_view, entry_view, block_view, counter_view, step_block_view, timer_view};
+ghost use Rattle.plan_contributions.specs.DeviceEntries.{acts, direction_in_plan, is_none, block_settings, block_acts, block_mentions, block_event, or_own, block_lists, counter_settings, counter_device, step_acts, step_settings, step_device, control_act, controlled, timer_event, timer_lists, timer_settings, timer_device, device_of};
+ghost use Rattle.plan_contributions.specs.Contributions.{mentions, post_in, posts_from, texts, act_binding, device_contributions, where_device};
+ghost use Rattle.plan_contributions.specs.View.{parts_text, contributions_view};
+
+use crate::contribution::{Aim, Contribution, Parts, Place, whole};
+use mpf_config::config::{ControlAction, Direction as WrittenDirection};
+use mpf_config::{
+    ACCRUALS_NAME, Block, COUNTERS_NAME, Counter, Entry, Fields, Name, SEQUENCES_NAME, StepBlock,
+    TIMERS_NAME, Timer, as_control, as_counter, as_step_block, as_timer,
+};
+use plan_tables::devices::{
+    Act, BlockSettings, CounterSettings, Direction, Settings, StepSettings, TimerSettings,
+};
+use std::alloc::AllocError;
+
+/// What an entry gives where it is a device, after what is there.
+#[tactic(auto, unfolding(crate::specs::DeviceEntries::device_of))]
+pub(crate) fn collect_device<'a>(
+    contributions: &mut Vec<Contribution<'a>>,
+    place: Place,
+    section: &[u8],
+    entry: &'a Entry,
+) -> Result<(), AllocError>
+    ensures { OnOk result (contributions_view contributions.new.items ≡ contributions_view contributions.old.items ++ where_device place (device_of section.now (entry_view entry.now))) }
+{
+    if section == COUNTERS_NAME {
+        return collect_counter(contributions, place, as_counter(entry));
+    }
+    if section == ACCRUALS_NAME {
+        let row = as_step_block(entry);
+        return collect_step_block(
+            contributions,
+            place,
+            Settings::Accrual(step_settings(row)),
+            row,
+        );
+    }
+    if section == SEQUENCES_NAME {
+        let row = as_step_block(entry);
+        return collect_step_block(
+            contributions,
+            place,
+            Settings::Sequence(step_settings(row)),
+            row,
+        );
+    }
+    if section == TIMERS_NAME {
+        return collect_timer(contributions, place, as_timer(entry));
+    }
+    Ok(())
+}
+
+/// Which way a value goes, in the plan.
+fn direction_in_plan(direction: WrittenDirection) -> Direction
+    ensures { result ≡ direction_in_plan direction }
+{
+    match direction {
+        WrittenDirection::Up => Direction::Up,
+        WrittenDirection::Down => Direction::Down,
+    }
+}
+
+/// Each of the events does this with the row that came last.
+fn collect_acts<'a>(
+    contributions: &mut Vec<Contribution<'a>>,
+    place: Place,
+    act: Act,
+    names: &'a [Name],
+) -> Result<(), AllocError>
+    ensures { OnOk result (contributions_view contributions.new.items ≡ contributions_view contributions.old.items ++ map (act_binding place) (acts act (map name_view names.now))) }
+{
+    for name in names {
+        contributions.push(Contribution::Binds(&name.text, place, Aim::Do(act)))?;
+    }
+    Ok(())
+}
+
+// ---- logic blocks
+
+fn is_none(names: &[Name]) -> bool
+    ensures { result ≡ is_none (map name_view names.now) }
+{
+    match names {
+        [] => true,
+        _ => false,
+    }
+}
+
+fn block_settings(block: Block<'_>) -> BlockSettings
+    ensures { result ≡ block_settings (block_view block.entry) }
+{
+    BlockSettings {
+        enabled: is_none(block.enables),
+        reset_on_complete: block.reset_on_complete,
+        disable_on_complete: block.disable_on_complete,
+        persist: block.persist,
+    }
+}
+
+/// What enables a block, disables, resets and restarts it.
+fn collect_block_acts<'a>(
+    contributions: &mut Vec<Contribution<'a>>,
+    place: Place,
+    block: Block<'a>,
+) -> Result<(), AllocError>
+    ensures { OnOk result (contributions_view contributions.new.items ≡ contributions_view contributions.old.items ++ map (act_binding place) (block_acts (block_view block.entry))) }
+{
+    collect_acts(contributions, place, Act::Enable, block.enables)?;
+    collect_acts(contributions, place, Act::Disable, block.disables)?;
+    collect_acts(contributions, place, Act::Reset, block.resets)?;
+    collect_acts(contributions, place, Act::Restart, block.restarts)?;
+    Ok(())
+}
+
+/// The events that its settings name, and what its effect lists post.
+fn collect_block_posts<'a>(
+    contributions: &mut Vec<Contribution<'a>>,
+    name: &'a [u8],
+    block: Block<'a>,
+) -> Result<(), AllocError>
+    ensures { OnOk result (contributions_view contributions.new.items ≡ contributions_view contributions.old.items ++ (map mentions (block_mentions (block_view block.entry)) ++ posts_from 0 (block_lists name.now (block_view block.entry)))) }
+{
+    collect_mentions(contributions, block.hit)?;
+    collect_mentions(contributions, block.complete)?;
+    collect_block_lists(contributions, name, block)?;
+    Ok(())
+}
+
+/// A setting names the events.
+fn collect_mentions<'a>(
+    contributions: &mut Vec<Contribution<'a>>,
+    names: &'a [Name],
+) -> Result<(), AllocError>
+    ensures { OnOk result (contributions_view contributions.new.items ≡ contributions_view contributions.old.items ++ map mentions (texts (map name_view names.now))) }
+{
+    for name in names {
+        contributions.push(Contribution::Mentions(&name.text))?;
+    }
+    Ok(())
+}
+
+/// An event of the block of this name.
+fn block_event<'a>(name: &'a [u8], end: &'static [u8]) -> Parts<'a>
+    ensures { parts_text result ≡ block_event name.now end.now }
+{
+    Parts {
+        front: b"logicblock_",
+        middle: name,
+        end,
+    }
+}
+
+/// What a block posts when its value changes, when it is hit, and when it completes.
+fn collect_block_lists<'a>(
+    contributions: &mut Vec<Contribution<'a>>,
+    name: &'a [u8],
+    block: Block<'a>,
+) -> Result<(), AllocError>
+    ensures { OnOk result (contributions_view contributions.new.items ≡ contributions_view contributions.old.items ++ posts_from 0 (block_lists name.now (block_view block.entry))) }
+{
+    contributions.push(Contribution::PostIn(0, block_event(name, b"_updated")))?;
+    collect_list(contributions, 1, block.hit, block_event(name, b"_hit"))?;
+    collect_list(
+        contributions,
+        2,
+        block.complete,
+        block_event(name, b"_complete"),
+    )?;
+    Ok(())
+}
+
+/// This effect list of the row posts the events that are written, or its own where none is.
+fn collect_list<'a>(
+    contributions: &mut Vec<Contribution<'a>>,
+    number: u8,
+    names: &'a [Name],
+    own: Parts<'a>,
+) -> Result<(), AllocError>
+    ensures { OnOk result (contributions_view contributions.new.items ≡ contributions_view contributions.old.items ++ map (post_in number) (or_own (map name_view names.now) (parts_text own.entry))) }
+{
+    if is_none(names) {
+        contributions.push(Contribution::PostIn(number, own))?;
+        return Ok(());
+    }
+    collect_written(contributions, number, names)
+}
+
+fn collect_written<'a>(
+    contributions: &mut Vec<Contribution<'a>>,
+    number: u8,
+    names: &'a [Name],
+) -> Result<(), AllocError>
+    ensures { OnOk result (contributions_view contributions.new.items ≡ contributions_view contributions.old.items ++ map (post_in number) (texts (map name_view names.now))) }
+{
+    for name in names {
+        contributions.push(Contribution::PostIn(number, whole(&name.text)))?;
+    }
+    Ok(())
+}
+
+// ---- `counters`
+
+fn counter_settings(row: Counter<'_>) -> Settings
+    ensures { result ≡ counter_settings (counter_view row.entry) }
+{
+    Settings::Counter(CounterSettings {
+        block: block_settings(row.block),
+        start: row.start,
+        interval: row.interval,
+        direction: direction_in_plan(row.direction),
+        complete: row.end,
+        window: row.window,
+    })
+}
+
+#[tactic(auto, unfolding(crate::specs::Contributions::device_contributions))]
+fn collect_counter<'a>(
+    contributions: &mut Vec<Contribution<'a>>,
+    place: Place,
+    row: Counter<'a>,
+) -> Result<(), AllocError>
+    ensures { OnOk result (contributions_view contributions.new.items ≡ contributions_view contributions.old.items ++ device_contributions place (counter_device (counter_view row.entry))) }
+{
+    contributions.push(Contribution::Device(place, counter_settings(row)))?;
+    collect_acts(contributions, place, Act::Count, row.counts)?;
+    collect_block_acts(contributions, place, row.block)?;
+    collect_block_posts(contributions, &row.name.text, row.block)?;
+    Ok(())
+}
+
+// ---- `accruals` and `sequences`
+
+fn step_settings(row: StepBlock<'_>) -> StepSettings
+    ensures { result ≡ step_settings (step_block_view row.entry) }
+{
+    StepSettings {
+        block: block_settings(row.block),
+        steps: row.steps.len(),
+    }
+}
+
+/// An accrual or a sequence, with these settings.
+#[tactic(auto, unfolding(crate::specs::Contributions::device_contributions))]
+fn collect_step_block<'a>(
+    contributions: &mut Vec<Contribution<'a>>,
+    place: Place,
+    settings: Settings,
+    row: StepBlock<'a>,
+) -> Result<(), AllocError>
+    ensures { OnOk result (contributions_view contributions.new.items ≡ contributions_view contributions.old.items ++ device_contributions place (step_device settings (step_block_view row.entry))) }
+{
+    contributions.push(Contribution::Device(place, settings))?;
+    collect_steps(contributions, place, row.steps)?;
+    collect_block_acts(contributions, place, row.block)?;
+    collect_block_posts(contributions, &row.name.text, row.block)?;
+    Ok(())
+}
+
+/// The events of each step do it.
+fn collect_steps<'a>(
+    contributions: &mut Vec<Contribution<'a>>,
+    place: Place,
+    steps: &'a [Vec<Name>],
+) -> Result<(), AllocError>
+    ensures { OnOk result (contributions_view contributions.new.items ≡ contributions_view contributions.old.items ++ map (act_binding place) (step_acts 0 (map names_view steps.now))) }
+{
+    for number in 0..steps.len() {
+        collect_acts(contributions, place, Act::Step(number), &steps[number])?;
+    }
+    Ok(())
+}
+
+// ---- `timers`
+
+fn timer_settings(row: Timer<'_>) -> Settings
+    ensures { result ≡ timer_settings (timer_view row.entry) }
+{
+    Settings::Timer(TimerSettings {
+        start: row.start,
+        end: row.end,
+        direction: direction_in_plan(row.direction),
+        interval: row.interval,
+        start_running: row.start_running,
+        restart: row.restart,
+    })
+}
+
+#[tactic(auto, unfolding(crate::specs::Contributions::device_contributions))]
+fn collect_timer<'a>(
+    contributions: &mut Vec<Contribution<'a>>,
+    place: Place,
+    row: Timer<'a>,
+) -> Result<(), AllocError>
+    ensures { OnOk result (contributions_view contributions.new.items ≡ contributions_view contributions.old.items ++ device_contributions place (timer_device (timer_view row.entry))) }
+{
+    contributions.push(Contribution::Device(place, timer_settings(row)))?;
+    collect_timer_acts(contributions, place, row.controls)?;
+    collect_timer_lists(contributions, &row.name.text)?;
+    Ok(())
+}
+
+/// What the events do that control a timer.
+fn collect_timer_acts<'a>(
+    contributions: &mut Vec<Contribution<'a>>,
+    place: Place,
+    maps: &'a [Fields],
+) -> Result<(), AllocError>
+    ensures { OnOk result (contributions_view contributions.new.items ≡ contributions_view contributions.old.items ++ map (act_binding place) (map controlled (controls_of (map fields_view maps.now)))) }
+{
+    for fields in maps {
+        collect_control(contributions, place, fields)?;
+    }
+    Ok(())
+}
+
+fn collect_control<'a>(
+    contributions: &mut Vec<Contribution<'a>>,
+    place: Place,
+    fields: &'a Fields,
+) -> Result<(), AllocError>
+    ensures { OnOk result (contributions_view contributions.new.items ≡ contributions_view contributions.old.items ++ map (act_binding place) (map controlled (with_control (control_of (fields_view fields.now)) []))) }
+{
+    let Some(control) = as_control(fields) else {
+        return Ok(());
+    };
+    let act = control_act(control.action, control.value);
+    contributions.push(Contribution::Binds(control.event.text, place, Aim::Do(act)))?;
+    Ok(())
+}
+
+/// What a control does, with its value.
+fn control_act(action: ControlAction, value: i64) -> Act
+    ensures { result ≡ control_act action value }
+{
+    match action {
+        ControlAction::Start => Act::Start,
+        ControlAction::Stop => Act::Stop,
+        ControlAction::Pause => Act::Pause,
+        ControlAction::Reset => Act::Reset,
+        ControlAction::Restart => Act::Restart,
+        ControlAction::Add => Act::Add(value),
+        ControlAction::Subtract => Act::Subtract(value),
+        ControlAction::Jump => Act::Jump(value),
+    }
+}
+
+/// An event of the timer of this name.
+fn timer_event<'a>(name: &'a [u8], end: &'static [u8]) -> Parts<'a>
+    ensures { parts_text result ≡ timer_event name.now end.now }
+{
+    Parts {
+        front: b"timer_",
+        middle: name,
+        end,
+    }
+}
+
+/// What a timer posts when it starts, stops, pauses, ticks and completes.
+fn collect_timer_lists<'a>(
+    contributions: &mut Vec<Contribution<'a>>,
+    name: &'a [u8],
+) -> Result<(), AllocError>
+    ensures { OnOk result (contributions_view contributions.new.items ≡ contributions_view contributions.old.items ++ posts_from 0 (timer_lists name.now)) }
+{
+    contributions.push(Contribution::PostIn(0, timer_event(name, b"_started")))?;
+    contributions.push(Contribution::PostIn(1, timer_event(name, b"_stopped")))?;
+    contributions.push(Contribution::PostIn(2, timer_event(name, b"_paused")))?;
+    contributions.push(Contribution::PostIn(3, timer_event(name, b"_tick")))?;
+    contributions.push(Contribution::PostIn(4, timer_event(name, b"_complete")))?;
+    Ok(())
+}

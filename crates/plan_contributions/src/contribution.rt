@@ -1,0 +1,149 @@
+//! What rows give to a plan, by names.
+
+ghost use Rattle.std.specs.Prelude.{◌≡◌, option_map, OnOk, ◌++◌};
+ghost use Rattle.plan_contributions.specs.UsedNames.{used, given};
+ghost use Rattle.plan_contributions.specs.Contributions.{event_ending, mode_event_name};
+ghost use Rattle.plan_contributions.specs.View.{parts_text, named_view, contribution_view};
+
+use plan_tables::devices::{Act, Settings};
+use plan_tables::entries::{ModeEvent, SwitchKind};
+use plan_tables::table::Table;
+use std::alloc::AllocError;
+
+/// A name in three parts, one after the other, which lie where they are written.
+#[derive(Clone, Copy)]
+pub struct Parts<'a> {
+    /// How the name begins.
+    pub front: &'a [u8],
+    /// What comes next; empty in a name of two parts.
+    pub middle: &'a [u8],
+    /// How the name ends; the whole of it where it is written as it is.
+    pub end: &'a [u8],
+}
+
+/// Whose a binding is.
+#[derive(Clone, Copy)]
+pub enum Place {
+    /// The machine's, at priority 0.
+    Machine,
+    /// The machine's, at the priority of the mode that came last: it starts or stops that mode.
+    Control,
+    /// That of the mode that came last.
+    Mode,
+}
+
+/// What a binding is to do.
+#[derive(Clone, Copy)]
+pub enum Aim {
+    /// Run the effect list that begins with it.
+    Run,
+    /// Start the mode that came last.
+    Start,
+    /// Stop the mode that came last.
+    Stop,
+    /// Act on the device whose row came last.
+    Do(Act),
+}
+
+/// One thing that a row gives to a plan. What comes last depends on the order: it is the last that
+/// the contributions before this one gave.
+#[derive(Clone, Copy)]
+pub enum Contribution<'a> {
+    /// What stands in the table under this name.
+    Gives(Table, &'a [u8]),
+    /// How the switch is read that came last.
+    Reads(SwitchKind),
+    /// The switch that came last posts the event when it becomes active.
+    Active(Parts<'a>),
+    /// It posts the event when it becomes inactive.
+    Inactive(Parts<'a>),
+    /// A mode: its name, its priority, and whether it starts only in a game.
+    Mode(&'a [u8], u32, bool),
+    /// An event of the mode that came last, which has this name.
+    ModeEvent(ModeEvent, &'a [u8]),
+    /// A binding of the event: whose it is, and what it is to do.
+    Binds(&'a [u8], Place, Aim),
+    /// The effect list that began last posts the event.
+    Post(Parts<'a>),
+    /// A row of a device, with which its effect lists begin.
+    Device(Place, Settings),
+    /// This effect list of the row that came last posts the event, by its number in the row.
+    PostIn(u8, Parts<'a>),
+    /// A setting names the event.
+    Mentions(&'a [u8]),
+}
+
+/// A name as it is written.
+pub fn whole(name: &[u8]) -> Parts<'_>
+    ensures { parts_text result ≡ name.now }
+{
+    Parts {
+        front: b"",
+        middle: b"",
+        end: name,
+    }
+}
+
+/// How the name of an event of a mode ends.
+fn event_ending(which: ModeEvent) -> &'static [u8]
+    ensures { result.now ≡ event_ending which }
+{
+    match which {
+        ModeEvent::WillStart => b"_will_start",
+        ModeEvent::Starting => b"_starting",
+        ModeEvent::Started => b"_started",
+        ModeEvent::Stopping => b"_stopping",
+        ModeEvent::Stopped => b"_stopped",
+    }
+}
+
+/// The name of this event of the mode of this name.
+pub fn mode_event_name(which: ModeEvent, name: &[u8]) -> Parts<'_>
+    ensures { parts_text result ≡ mode_event_name which name.now }
+{
+    Parts {
+        front: b"mode_",
+        middle: name,
+        end: event_ending(which),
+    }
+}
+
+/// Writes the name in place of what the text was.
+pub fn write_name(text: &mut Vec<u8>, name: Parts) -> Result<(), AllocError>
+    ensures { OnOk result (text.new.items ≡ parts_text name.entry) }
+{
+    text.clear();
+    text.extend_from_slice(name.front)?;
+    text.extend_from_slice(name.middle)?;
+    text.extend_from_slice(name.end)
+}
+
+/// The name that a contribution uses, and its table.
+pub fn used<'a>(contribution: &Contribution<'a>) -> Option<(Table, Parts<'a>)>
+    ensures { option_map named_view result ≡ used (contribution_view contribution.now) }
+{
+    match *contribution {
+        Contribution::Gives(table, name) => Some((table, whole(name))),
+        Contribution::Active(name) => Some((Table::Events, name)),
+        Contribution::Inactive(name) => Some((Table::Events, name)),
+        Contribution::Mode(name, _, _) => {
+            Some((Table::Events, mode_event_name(ModeEvent::WillStart, name)))
+        }
+        Contribution::ModeEvent(which, name) => Some((Table::Events, mode_event_name(which, name))),
+        Contribution::Binds(name, _, _) => Some((Table::Events, whole(name))),
+        Contribution::Post(name) => Some((Table::Events, name)),
+        Contribution::PostIn(_, name) => Some((Table::Events, name)),
+        Contribution::Mentions(name) => Some((Table::Events, whole(name))),
+        _ => None,
+    }
+}
+
+/// The name under which a contribution gives something, and its table.
+pub fn given<'a>(contribution: &Contribution<'a>) -> Option<(Table, Parts<'a>)>
+    ensures { option_map named_view result ≡ given (contribution_view contribution.now) }
+{
+    match *contribution {
+        Contribution::Gives(table, name) => Some((table, whole(name))),
+        _ => None,
+    }
+}

@@ -1,0 +1,16 @@
+//! What a configuration gives to a plan: its rows in plan order, and what each of them contributes,
+//! by names.
+//!
+//! This layer stands between the rows of texts and the tables of a plan. Each section says here what
+//! its entries give. Whoever makes a plan goes over contributions alone, whatever section they come
+//! from.
+#![tactic(auto)]
+
+pub mod collect;
+mod collect_devices;
+pub mod contribution;
+
+pub use collect::{Row, collect_row, rows_of};
+pub use contribution::{
+    Aim, Contribution, Parts, Place, given, mode_event_name, used, whole, write_name,
+};
