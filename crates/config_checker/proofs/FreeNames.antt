@@ -12,7 +12,7 @@ use Rattle.mpf_config.specs.BundleText.{machine_name, mode_text_name}
 use Rattle.plan_contributions.specs.DeviceEntries.{block_event, timer_event}
 use Rattle.config_checker.specs.FaultView.{FaultView}
 use Rattle.config_checker.specs.Reserved.{game_events, events_of_modes, mode_names, is_reserved_by, is_reserved, posts_in, posts_of, reserved_among}
-use Rattle.config_checker.specs.RowFaults.{put_by, ordered_by, reserved_fault, text_faults, mode_faults, faults_by, listed_once, row_faults, section_faults, fault_order}
+use Rattle.config_checker.specs.RowFaults.{put_by, ordered_by, reserved_fault, text_faults, mode_faults, faults_by, listed_once, row_faults, section_faults, fault_line, fault_number}
 use Rattle.config_checker.specs.Checking.{faults_of_rows}
 
 -- ---- lists without items
@@ -81,7 +81,7 @@ text-free : (modes : List (List ℕ)) (text : List ℕ) (sections : List Section
 text-free modes text sections e =
     All-each (λ w. is_reserved_by modes w.text ≡ false) posts_in sections
     (All-weaker (λ s. section_faults modes text s ≡ []) (λ s. All (λ w. is_reserved_by modes w.text ≡ false) (posts_in s)) (section-free modes text) sections
-    (flat_map-none (section_faults modes text) sections (ordered-none fault_order (flat_map (section_faults modes text) sections) e)))
+    (flat_map-none (section_faults modes text) sections (ordered-none fault_number (flat_map (section_faults modes text) sections) (ordered-none fault_line (ordered_by fault_number (flat_map (section_faults modes text) sections)) e))))
 
 -- what rows post as written, in the machine text and in the texts of modes, is not reserved
 pub record PostNothingReserved (rows : Rows) : Type 0 where

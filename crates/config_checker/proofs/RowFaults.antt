@@ -20,7 +20,7 @@ use Rattle.mpf_config.specs.Rows.{ModeRows, Rows}
 use Rattle.mpf_config.specs.BundleText.{machine_name, mode_text_name}
 use Rattle.mpf_sections.specs.Typed.{timers_in}
 use Rattle.config_checker.specs.Reserved.{game_events, mode_events, events_of_modes, posts_in}
-use Rattle.config_checker.specs.RowFaults.{fault_order, ordered_by, reserved_fault, starts_at_end, timer_fault, faults_by, listed_once}
+use Rattle.config_checker.specs.RowFaults.{fault_line, fault_number, ordered_by, reserved_fault, starts_at_end, timer_fault, faults_by, listed_once}
 use Rattle.config_checker.specs.View.{fault_view, faults_view}
 
 -- ---- sets
@@ -107,7 +107,7 @@ module _ (lines known : List (List ℕ)) (fault : Fault) (old new before : List 
 
 abbrev texts_by : (List ℕ → Bool) → List ℕ → List SectionRows → List FaultView
 texts_by test text sections =
-    ordered_by fault_order (flat_map (λ (s : SectionRows). map (reserved_fault text) (filter (λ w. is_among game_events w.text || test w.text) (posts_in s)) ++ map (timer_fault text) (filter starts_at_end (timers_in s))) sections)
+    ordered_by fault_line (ordered_by fault_number (flat_map (λ (s : SectionRows). map (reserved_fault text) (filter (λ w. is_among game_events w.text || test w.text) (posts_in s)) ++ map (timer_fault text) (filter starts_at_end (timers_in s))) sections))
 
 abbrev all_by : (List ℕ → Bool) → Rows → List FaultView
 all_by test rows = texts_by test machine_name rows.machine ++ flat_map (λ (m : ModeRows). texts_by test (mode_text_name m.name) m.sections) rows.modes

@@ -1,13 +1,13 @@
 -- The faults of rows, in the order in which a report lists them.
-use Rattle.std.specs.Prelude.{ℕ, ◌+◌, ◌*◌, nat_lt, ℤ, int_le, Bool, false, if◌then◌else◌, List, [], ◌∷◌, ◌++◌, Option, None, Some, map, filter}
+use Rattle.std.specs.Prelude.{ℕ, nat_lt, Bool, if◌then◌else◌, List, [], ◌∷◌, ◌++◌, map, filter}
 use Rattle.std.specs.List.{flat_map}
 use Rattle.yaml_subset.specs.Keys.{is_among}
-use Rattle.mpf_sections.specs.declared.words.Direction.{Direction}
-use Rattle.mpf_sections.specs.declared.words.Direction.TheVariants.{Up, Down}
 use Rattle.mpf_sections.specs.Rows.{Written, Timer, SectionRows}
 use Rattle.mpf_config.specs.Rows.{ModeRows, Rows}
 use Rattle.mpf_sections.specs.Typed.{timers_in}
 use Rattle.mpf_config.specs.BundleText.{machine_name, mode_text_name}
+use Rattle.device_objects.specs.Values.{is_at_end}
+use Rattle.plan_contributions.specs.DeviceEntries.{direction_in_plan}
 use Rattle.config_checker.specs.declared.report.RowFaultKind.TheVariants.{Name, TimerAtEnd}
 use Rattle.config_checker.specs.FaultView.{FaultView, row}
 use Rattle.config_checker.specs.ReportText.{row_fault_number, report_line}
@@ -19,15 +19,9 @@ use Rattle.config_checker.specs.Reserved.{events_of_modes, mode_names, posts_in,
 abbrev pub reserved_fault : List ℕ → Written → FaultView
 reserved_fault text w = row Name text w.line w.text
 
--- whether a value has reached or passed its end, if it has one
-abbrev pub is_at_end : Direction → Option ℤ → ℤ → Bool
-is_at_end direction None value = false
-is_at_end Up (Some end) value = int_le end value
-is_at_end Down (Some end) value = int_le value end
-
 -- whether a timer is at its end before it runs
 abbrev pub starts_at_end : Timer → Bool
-starts_at_end t = is_at_end t.direction t.end t.start
+starts_at_end t = is_at_end (direction_in_plan t.direction) t.end t.start
 
 abbrev pub timer_fault : List ℕ → Timer → FaultView
 timer_fault text t = row TimerAtEnd text t.name.line t.name.text
@@ -49,14 +43,18 @@ abbrev pub ordered_by : {X : Type 0} → (X → ℕ) → List X → List X
 ordered_by number [] = []
 ordered_by number (x ∷ xs) = put_by number x (ordered_by number xs)
 
--- by line, and on one line by the number of the fault, of which none is above 15
-abbrev pub fault_order : FaultView → ℕ
-fault_order (row kind text line name) = line * 16 + row_fault_number kind
-fault_order _ = 0
+-- the line of a fault of rows, and the number of its kind
+abbrev pub fault_line : FaultView → ℕ
+fault_line (row kind text line name) = line
+fault_line _ = 0
 
--- the faults of a text, by line and number; those of one line and number as written
+abbrev pub fault_number : FaultView → ℕ
+fault_number (row kind text line name) = row_fault_number kind
+fault_number _ = 0
+
+-- the faults of a text, by line, on one line by number, and those of one line and number as written
 abbrev pub text_faults : List (List ℕ) → List ℕ → List SectionRows → List FaultView
-text_faults modes text sections = ordered_by fault_order (flat_map (section_faults modes text) sections)
+text_faults modes text sections = ordered_by fault_line (ordered_by fault_number (flat_map (section_faults modes text) sections))
 
 abbrev pub mode_faults : List (List ℕ) → ModeRows → List FaultView
 mode_faults modes m = text_faults modes (mode_text_name m.name) m.sections

@@ -9,17 +9,18 @@ ghost use Rattle.mpf_sections.specs.View.{name_view, entry_view, section_view, t
 ghost use Rattle.mpf_config.specs.View.{mode_view, rows_view};
 ghost use Rattle.config_checker.specs.ReportText.{report_line};
 ghost use Rattle.config_checker.specs.FaultView.{row};
-ghost use Rattle.config_checker.specs.RowFaults.{reserved_fault, starts_at_end, timer_fault, section_faults, fault_order, text_faults, mode_faults, faults_by, listed_once};
+ghost use Rattle.config_checker.specs.RowFaults.{reserved_fault, starts_at_end, timer_fault, section_faults, ordered_by, fault_line, fault_number, text_faults, mode_faults, faults_by, listed_once};
 ghost use Rattle.config_checker.specs.Checking.{faults_of_rows};
 ghost use Rattle.config_checker.specs.View.{keys_view, written_view, fault_view, faults_view};
 
 use crate::report::{Fault, RowFault, RowFaultKind};
 use crate::report_text::write_fault;
 use crate::reserved::{ModeEvents, add_texts, events_of_modes, reserved_posts};
-use mpf_config::config::{Config, Direction};
+use device_objects::values::is_at_end;
 use mpf_config::{
-    Entry, MACHINE_NAME, ModeText, Name, Section, Timer, as_timer, listed_modes, mode_text_name,
+    Config, Entry, MACHINE_NAME, ModeText, Name, Section, Timer, as_timer, listed_modes, mode_text_name,
 };
+use plan_contributions::direction_in_plan;
 use std::alloc::{AllocError, Global};
 use std::collections::BTreeSet;
 
@@ -106,16 +107,43 @@ fn faults_of_text(
     for section in sections {
         add_section(alloc, &mut faults, modes, text, section)?;
     }
-    faults.sort_by_key(|fault| order_of(fault))?;
+    sort_by_number(&mut faults)?;
+    sort_by_line(&mut faults)?;
     Ok(faults)
 }
 
-/// The place of a fault in its text: by line, and on one line by number.
-fn order_of(fault: &Fault) -> u64
-    ensures { result ≡ fault_order (fault_view fault.now) }
+/// By number, those of one number as they are.
+fn sort_by_number(faults: &mut Vec<Fault>) -> Result<(), AllocError>
+    ensures { OnOk result (faults_view faults.new.items ≡ ordered_by fault_number (faults_view faults.old.items)) }
+{
+    faults.sort_by_key(|fault| number_of(fault))?;
+    Ok(())
+}
+
+/// By line, those of one line as they are.
+fn sort_by_line(faults: &mut Vec<Fault>) -> Result<(), AllocError>
+    ensures { OnOk result (faults_view faults.new.items ≡ ordered_by fault_line (faults_view faults.old.items)) }
+{
+    faults.sort_by_key(|fault| line_number_of(fault))?;
+    Ok(())
+}
+
+/// The number of a fault of rows.
+fn number_of(fault: &Fault) -> u32
+    ensures { result ≡ fault_number (fault_view fault.now) }
 {
     match fault {
-        Fault::Row(fault) => u64::from(fault.line) * 16 + u64::from(fault.kind.number()),
+        Fault::Row(fault) => fault.kind.number(),
+        _ => 0,
+    }
+}
+
+/// The line of a fault of rows.
+fn line_number_of(fault: &Fault) -> u32
+    ensures { result ≡ fault_line (fault_view fault.now) }
+{
+    match fault {
+        Fault::Row(fault) => fault.line,
         _ => 0,
     }
 }
@@ -174,11 +202,8 @@ fn add_timers(
 fn starts_at_end(timer: Timer<'_>) -> bool
     ensures { result ≡ starts_at_end (timer_view timer.entry) }
 {
-    match (timer.direction, timer.end) {
-        (_, None) => false,
-        (Direction::Up, Some(end)) => end <= timer.start,
-        (Direction::Down, Some(end)) => timer.start <= end,
-    }
+    let direction = direction_in_plan(timer.direction);
+    is_at_end(direction, timer.end, timer.start)
 }
 
 /// What is wrong with this name of the text.

@@ -56,7 +56,7 @@ pub(crate) fn collect_device<'a>(
 }
 
 /// Which way a value goes, in the plan.
-fn direction_in_plan(direction: WrittenDirection) -> Direction
+pub fn direction_in_plan(direction: WrittenDirection) -> Direction
     ensures { result ≡ direction_in_plan direction }
 {
     match direction {

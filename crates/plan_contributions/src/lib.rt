@@ -11,6 +11,7 @@ mod collect_devices;
 pub mod contribution;
 
 pub use collect::{Row, collect_row, rows_of};
+pub use collect_devices::direction_in_plan;
 pub use contribution::{
     Aim, Contribution, Parts, Place, given, mode_event_name, used, whole, write_name,
 };

@@ -1,23 +1,16 @@
-use Rattle.std.proofs.Common.{◌≡◌, List, map, append-nil, ◌++◌, rules, sym, ap, ◌∙◌}
+use Rattle.std.proofs.Common.{◌≡◌, List, map, append-nil, ◌++◌, sym, ap, ◌∙◌}
 use Rattle.std.specs.List.{flat_map}
-use Rattle.std.proofs.lemmas.Fn.{always_returns_same}
 use Rattle.std.proofs.lemmas.List.{drop_all}
 use Rattle.mpf_sections.specs.declared.section.Section.{Section}
 use Rattle.mpf_sections.specs.View.{section_view}
-use Rattle.config_checker.specs.RowFaults.{fault_order, ordered_by, section_faults}
-use Rattle.config_checker.specs.View.{keys_view, fault_view, faults_view}
-use Rattle.config_checker.proofs.ByLine.{sorted-is, ordered-seen}
+use Rattle.config_checker.specs.RowFaults.{fault_line, fault_number, ordered_by, section_faults}
+use Rattle.config_checker.specs.View.{keys_view, faults_view}
 use Rattle.config_checker.proofs.row_faults.faults_of_text.Goals as goal
 
 pub returns : goal.returns
 returns c =
-    let sort = c.in_ok-sort_by_key.ensures in
-    let items = c.sort_by_key.new.self.items in
     let given = c.loop-section.faults.items in
     let each = section_faults (keys_view c.args.modes.now) c.args.text.now in
     let none = ap (λ (rest : List Section). faults_view given ++ flat_map each (map section_view rest)) (drop_all c.loop-section.section-index c.args.sections.now c.loop-section-test.false) in
     let all : faults_view given ≡ flat_map each (map section_view c.args.sections.now) = sym (append-nil (faults_view given)) ∙ sym none ∙ c.loop-section.invariant in
-    ap faults_view
-    (sorted-is (λ f. fault_order (fault_view f)) given items (sort.sorted (λ f. fault_order (fault_view f)) (always_returns_same _ _ _ (λ a r q k. search rules)))
-    (sort.stable (λ f. fault_order (fault_view f)) (always_returns_same _ _ _ (λ a r q k. search rules))))
-    ∙ ordered-seen fault_view fault_order given ∙ ap (ordered_by fault_order) all
+    c.in_ok-sort_by_line.ensures ∙ ap (ordered_by fault_line) (c.in_ok-sort_by_number.ensures ∙ ap (ordered_by fault_number) all)
