@@ -4,7 +4,8 @@ use Rattle.std.specs.List.{list_any, position_or_len}
 use Rattle.std.specs.Str.{bytes_eq}
 use Rattle.plan_tables.specs.declared.table.Table.{Table}
 use Rattle.plan_tables.specs.declared.table.Table.TheVariants.{Events}
-use Rattle.plan_contributions.specs.Contributions.{Contribution, gives}
+use Rattle.plan_contributions.specs.Contributions.{Contribution}
+use Rattle.plan_contributions.specs.UsedNames.{used, uses, given_names}
 
 -- ---- numbers
 
