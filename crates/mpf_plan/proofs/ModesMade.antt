@@ -8,7 +8,7 @@ use Rattle.std.proofs.lemmas.List.{append-nil, append_assoc, set_at, get_or_push
 use Rattle.std.proofs.lemmas.List.Sums.{fold-append}
 use Rattle.mpf_sections.specs.Rows.{Entry, Player, Switch, EventPlayer, ModeSettings, Content, entries, players, SectionRows}
 use Rattle.mpf_config.specs.Rows.{ModeRows, Rows}
-use Rattle.mpf_config.specs.Rows as sections
+use Rattle.mpf_sections.specs.Rows as sections
 use Rattle.mpf_sections.specs.Typed.{switches_name, event_player_name, switch_of, event_player_of, mode_settings}
 use Rattle.plan_contributions.specs.declared.contribution.Place.{Place}
 use Rattle.plan_contributions.specs.declared.contribution.Place.TheVariants.{Machine, Mode}

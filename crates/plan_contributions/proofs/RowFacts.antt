@@ -9,7 +9,7 @@ use Rattle.std.proofs.lemmas.List.{length-map}
 use Rattle.std.proofs.lemmas.List.Elements.{All-nil, All-cons, All-head, All-tail, All-append, All-map, All-weaker}
 use Rattle.mpf_sections.specs.Rows.{Written, Entry, Player, Switch, EventPlayer, Block, Counter, StepBlock, Control as TimerControl, Timer, ModeSettings, Content, entries, players, SectionRows}
 use Rattle.mpf_config.specs.Rows.{ModeRows, Rows}
-use Rattle.mpf_config.specs.Rows as sections
+use Rattle.mpf_sections.specs.Rows as sections
 use Rattle.mpf_sections.specs.Named.{IsName, AllNames, IsNamedEntry, IsNamedPlayer, IsNamedSwitch, IsNamedEventPlayer, IsNamedBlock, IsNamedCounter, IsNamedStepBlock, IsNamedTimer, AreNamedSettings, IsNamedContent, IsNamed}
 use Rattle.mpf_config.specs.Named.{IsNamedMode}
 use Rattle.mpf_sections.specs.Typed.{switches_name, event_player_name, counters_name, accruals_name, sequences_name, timers_name, switch_of, event_player_of, counter_of, step_block_of, timer_of, mode_settings}
