@@ -23,6 +23,10 @@ pub use config::{
 };
 pub use escape::{escaped_makes_no_line, write_escaped};
 pub use fault::{ConfigFault, Fault, FaultKind, write_fault};
+pub use mpf_sections::tables::{
+    ACCRUALS_NAME, COUNTERS_NAME, EVENT_PLAYER_NAME, MODE_NAME, MODES_NAME, SEQUENCES_NAME,
+    SWITCHES_NAME, TIMERS_NAME,
+};
 pub use mpf_sections::{
     Block, Control, Counter, EventPlayer, ModeSettings, NameAt, StepBlock, Switch, Timer,
     as_control, as_counter, as_event_player, as_step_block, as_switch, as_timer, blocks,
@@ -30,8 +34,4 @@ pub use mpf_sections::{
 };
 pub use notes::write_note;
 pub use section_tables::rows::{Entry, Fields, Guard, Handler, Keyed, Name, Plain, Player, Value};
-pub use mpf_sections::tables::{
-    ACCRUALS_NAME, COUNTERS_NAME, EVENT_PLAYER_NAME, MODE_NAME, MODES_NAME, SEQUENCES_NAME,
-    SWITCHES_NAME, TIMERS_NAME,
-};
 pub use texts::{MACHINE_NAME, mode_text_name};
