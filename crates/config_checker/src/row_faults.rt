@@ -18,7 +18,8 @@ use crate::report_text::write_fault;
 use crate::reserved::{ModeEvents, add_texts, events_of_modes, reserved_posts};
 use device_objects::values::is_at_end;
 use mpf_config::{
-    Config, Entry, MACHINE_NAME, ModeText, Name, Section, Timer, as_timer, listed_modes, mode_text_name,
+    Config, Entry, MACHINE_NAME, ModeText, Name, Section, Timer, as_timer, listed_modes,
+    mode_text_name,
 };
 use plan_contributions::direction_in_plan;
 use std::alloc::{AllocError, Global};
