@@ -7,7 +7,7 @@ use logic_blocks::{Counter, Timer};
 use mpf_config::Config;
 use pin_rig::Rig;
 use plan_tables::{Act, DeviceRow};
-use std::alloc::{AllocError, Global};
+use std::alloc::Global;
 use std::cell::Cell;
 use std::rc::Rc;
 use std::test::Fail;
@@ -62,49 +62,27 @@ impl<D: Device> Device for Counted<D> {
     }
 }
 
-/// Adds the box of a row, in the state after its mode has started where the word says so.
-fn add_box(
-    alloc: Global,
-    boxes: &mut Vec<Box<dyn Device>>,
-    row: &DeviceRow,
-    started: bool,
-    drops: &Drops,
-) -> Result<(), AllocError> {
-    let drops = drops.clone()?;
-    let world = World {
-        games: 0,
-        player: 0,
-    };
-    if let Some(device) = Counter::new(row) {
-        boxes.push(Box::new(alloc, Counted { device, drops })?)?;
-    } else if let Some(mut device) = Timer::new(row) {
-        if started {
-            device.start(0, world);
-        }
-        boxes.push(Box::new(alloc, Counted { device, drops })?)?;
-    }
-    Ok(())
+/// The row that a word names: its number, after `+` where the row's mode is to have started.
+fn row_of<'a>(checked: &'a Checked, word: &str) -> Result<&'a DeviceRow, Fail> {
+    let number = word.trim_start_matches('+').parse::<usize>()?;
+    Ok(checked.plan().rows().get(number).ok_or("a row")?)
 }
 
-/// Adds the boxes that the words name: each is the number of a row, after `+` where its mode has
-/// started.
-fn add_boxes(
-    alloc: Global,
-    boxes: &mut Vec<Box<dyn Device>>,
-    checked: &Checked,
-    words: &str,
-    drops: &Drops,
-) -> Result<(), Fail> {
-    for word in words.split_whitespace() {
-        let number = word.trim_start_matches('+').parse::<usize>()?;
-        let row = checked.plan().rows().get(number).ok_or("a row")?;
-        add_box(alloc, boxes, row, word.starts_with('+'), drops)?;
+/// The timer of a row, if it is one, after the start of its mode where that is to be.
+fn timer_of(row: &DeviceRow, started: bool) -> Option<Timer> {
+    let mut timer = Timer::new(row)?;
+    if started {
+        let world = World {
+            games: 0,
+            player: 0,
+        };
+        timer.start(0, world);
     }
-    Ok(())
+    Some(timer)
 }
 
-/// Adds whether the boxes of these words make a rig, how many of them are dropped then, and how many
-/// after that.
+/// Adds whether the boxes of the rows that the words name make a rig, how many boxes are dropped
+/// then, and how many after that.
 pub(crate) fn boxed(
     alloc: Global,
     out: &mut String,
@@ -112,14 +90,22 @@ pub(crate) fn boxed(
     words: &str,
 ) -> Result<(), Fail> {
     let checked = check(alloc, config)?;
-    let drops = Rc::new(alloc, Cell::new(0))?;
+    let dropped: Drops = Rc::new(alloc, Cell::new(0))?;
     let mut boxes: Vec<Box<dyn Device>> = Vec::new(alloc);
-    add_boxes(alloc, &mut boxes, &checked, words, &drops)?;
-    match Rig::new(alloc, &checked, boxes) {
-        Ok(_rig) => write!(out, "a rig, {} dropped, ", drops.get())?,
-        Err(fault) => write!(out, "{fault:?}, {} dropped, ", drops.get())?,
+    for word in words.split_whitespace() {
+        let row = row_of(&checked, word)?;
+        let drops = dropped.clone()?;
+        if let Some(device) = Counter::new(row) {
+            boxes.push(Box::new(alloc, Counted { device, drops })?)?;
+        } else if let Some(device) = timer_of(row, word.starts_with('+')) {
+            boxes.push(Box::new(alloc, Counted { device, drops })?)?;
+        }
     }
-    Ok(write!(out, "{} in all", drops.get())?)
+    match Rig::new(alloc, &checked, boxes) {
+        Ok(_rig) => write!(out, "a rig, {} dropped, ", dropped.get())?,
+        Err(fault) => write!(out, "{fault:?}, {} dropped, ", dropped.get())?,
+    }
+    Ok(write!(out, "{} in all", dropped.get())?)
 }
 
 // Row 0 is a counter, 1 a timer that its mode starts, and 2 another one.
