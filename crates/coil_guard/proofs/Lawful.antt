@@ -5,7 +5,7 @@ use Rattle.coil_guard.specs.declared.state.CoilState.{CoilState}
 use Rattle.coil_guard.specs.Coils.{all_off}
 use Rattle.coil_guard.specs.SentCommands.{Sending}
 use Rattle.coil_guard.specs.Calls.{CoilCall, moment_of, after_call, sent_by, after_calls, sent_by_calls, last_moment, AreInOrder}
-use Rattle.coil_guard.specs.Laws.{sent_from_new, state_from_new, CommandsAreWithinLimits, StretchesAreWithinLimits, AnswersAreByCommands, StatesAreByCommands, LowestIsOn, LowestIsReleased}
+use Rattle.coil_guard.specs.Laws.{sent_from_new, state_from_new, CommandsAreWithinLimits, StretchesAreWithinLimits, AnswersAreByCommands, StatesSayWhatIsOn, StatesSayWhoHolds, LowestIsOn, LowestIsReleased}
 use Rattle.coil_guard.specs.Follows.{Follows}
 use Rattle.coil_guard.proofs.Following.{new_follows, calls_follow, followers_send_what_is_due, next_on-lowest, next_held-lowest}
 
@@ -30,10 +30,11 @@ pub answers_are_by_commands : AnswersAreByCommands
 answers_are_by_commands limits calls call order forward =
     followers_send_what_is_due limits (sent_from_new limits calls) (state_from_new limits calls) (last_moment 0 calls) call forward (follows-new limits calls order)
 
-pub states_are_by_commands : StatesAreByCommands
-states_are_by_commands limits calls order coil =
-    let f = (follows-new limits calls order).each coil in
-    ((λ moment last. sym (f.on moment last)), (λ owner. sym (f.held_for owner)))
+pub states_say_what_is_on : StatesSayWhatIsOn
+states_say_what_is_on limits calls order coil moment last = sym (((follows-new limits calls order).each coil).on moment last)
+
+pub states_say_who_holds : StatesSayWhoHolds
+states_say_who_holds limits calls order coil owner = sym (((follows-new limits calls order).each coil).held_for owner)
 
 pub lowest_is_on : LowestIsOn
 lowest_is_on limits calls order now last = next_on-lowest limits (sent_from_new limits calls) (state_from_new limits calls) (last_moment 0 calls) (follows-new limits calls order) now last

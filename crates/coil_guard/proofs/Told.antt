@@ -5,7 +5,8 @@ use Rattle.std.proofs.Math.Nat.{min-eq_left, min-eq_right}
 use Rattle.std.proofs.lemmas.List.{length-append}
 use Rattle.circular_buffer.specs.Buffer.{keep_last}
 use Rattle.coil_guard.specs.declared.command.Command.{Command}
-use Rattle.coil_guard.specs.Boards.{IsToldAfter, MemoryView, IsMemory, told_by_memory, after_taking}
+use Rattle.coil_guard.specs.Boards.{IsToldAfter, MemoryView, told_by_memory, after_taking}
+use Rattle.coil_guard.specs.Inside.{IsMemory}
 
 by-tests : (command : Command) (kept new : List Command) (b d : Bool) → (b ≡ false → d ≡ false) → (d ≡ true → new ≡ kept ++ command ∷ [])
     → IsToldAfter command (Ok tt) (if b then Some kept else None) (if d then Some new else None)

@@ -1,5 +1,5 @@
 -- What a board says of itself, and what the boards of this crate do.
-use Rattle.std.specs.Prelude.{◌≡◌, ◌⊎◌, ◌<◌, ◌≤◌, ℕ, ◌+◌, ◌-◌, ◌^◌, ◌==◌, Bool, false, ◌&&◌, ◌||◌, if◌then◌else◌, Option, None, Some, Result, Ok, Err, List, [], ◌∷◌, ◌++◌, length, nat_le, min}
+use Rattle.std.specs.Prelude.{◌≡◌, ◌⊎◌, ◌<◌, ℕ, zero, suc, ◌+◌, ◌-◌, ◌^◌, ◌==◌, Bool, ◌&&◌, ◌||◌, if◌then◌else◌, Option, None, Some, Result, Ok, Err, List, [], ◌∷◌, ◌++◌, length, nat_le, min}
 use Rattle.circular_buffer.specs.Buffer.{keep_last}
 use Rattle.coil_guard.specs.declared.command.Command.{Command}
 use Rattle.coil_guard.specs.declared.board.BoardFault.{BoardFault}
@@ -36,12 +36,6 @@ after_taking command b = record { kept = keep_last 1024 (b.kept ++ command ∷ [
 abbrev pub told_by_memory : MemoryView → Option (List Command)
 told_by_memory b = if nat_le b.count 1024 then Some b.kept else None
 
--- There is room for 1,024 commands, and as many are kept as were taken, up to that.
-pub record IsMemory (kept : List Command) (room count : ℕ) : Type 0 where
-  pub room_is : room ≡ 1024
-  pub kept_is : length kept ≡ min count 1024
-  pub limit : count ≤ 1025
-
 -- ---- the board that faults
 
 -- how many commands come until the first fault, and with it; whether all later ones are faults; how many there were
@@ -64,7 +58,37 @@ after_sending b = record {
   faults = if is_fault_next b then min (b.faults + 1) (2 ^ 64 - 1) else b.faults;
 }
 
--- There was no fault before the first one; and no more than one, if only one is to be.
-pub record IsFuse (left : ℕ) (onwards : Bool) (faults : ℕ) : Type 0 where
-  pub none : 0 < left → faults ≡ 0
-  pub one : onwards ≡ false → faults ≤ 1
+-- ---- their laws, over every list of commands
+
+abbrev pub after_taking_all : List Command → MemoryView → MemoryView
+after_taking_all [] b = b
+after_taking_all (command ∷ later) b = after_taking_all later (after_taking command b)
+
+-- A board in memory keeps the latest 1,024 of the commands that it took, and has counted them.
+abbrev pub MemoryKeepsLatest : Type 0
+MemoryKeepsLatest =
+    (commands : List Command)
+    → after_taking_all commands empty_memory
+    ≡ record { kept = keep_last 1024 commands; count = min (length commands) 1025 }
+
+-- It tells all commands that it took while they are at most 1,024, and then none.
+abbrev pub MemoryTellsAll : Type 0
+MemoryTellsAll =
+    (commands : List Command)
+    → told_by_memory (after_taking_all commands empty_memory)
+    ≡ (if nat_le (length commands) 1024 then Some commands else None)
+
+-- a board after so many commands
+abbrev pub after_sending_many : ℕ → FuseView → FuseView
+after_sending_many zero b = b
+after_sending_many (suc n) b = after_sending_many n (after_sending b)
+
+-- whether the command with this number, from 1 on, is a fault: it is the k-th, or with `onwards` the k-th or a later one
+abbrev pub is_fault_at : ℕ → Bool → ℕ → Bool
+is_fault_at k onwards number = (number == k) || (onwards && nat_le k number)
+
+-- After any number of commands, the next one is a fault exactly where its number says so.
+abbrev pub FuseFaultsFromKth : Type 0
+FuseFaultsFromKth =
+    (k : ℕ) (onwards : Bool) (sent : ℕ)
+    → is_fault_next (after_sending_many sent (new_fuse k onwards)) ≡ is_fault_at k onwards (sent + 1)

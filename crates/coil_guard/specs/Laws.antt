@@ -39,23 +39,30 @@ AnswersAreByCommands =
     → last_moment 0 calls ≤ moment_of call
     → sent_by call (state_from_new limits calls) ≡ due_by limits (sent_from_new limits calls) call
 
--- From the last call on, the state says of each coil whether it is on and for whom it is held, as the commands do.
-abbrev pub StatesAreByCommands : Type 0
-StatesAreByCommands =
+-- From the last call on, the state says of each coil whether it is on, as the commands do.
+abbrev pub StatesSayWhatIsOn : Type 0
+StatesSayWhatIsOn =
     (limits : List CoilLimits) (calls : List CoilCall) → AreInOrder 0 calls → (coil : CoilId)
-    → ((moment : ℕ) → last_moment 0 calls ≤ moment
-    → is_on_at moment (coil_at (state_from_new limits calls) coil) ≡ is_on (sent_from_new limits calls) coil moment)
-    × ((owner : Owner)
-    → is_held_by owner (coil_at (state_from_new limits calls) coil) ≡ is_held_for (sent_from_new limits calls) owner coil)
+    → (moment : ℕ) → last_moment 0 calls ≤ moment
+    → is_on_at moment (coil_at (state_from_new limits calls) coil) ≡ is_on (sent_from_new limits calls) coil moment
+
+-- The state says of each coil for whom it is held, as the commands do.
+abbrev pub StatesSayWhoHolds : Type 0
+StatesSayWhoHolds =
+    (limits : List CoilLimits) (calls : List CoilCall) → AreInOrder 0 calls → (coil : CoilId) (owner : Owner)
+    → is_held_by owner (coil_at (state_from_new limits calls) coil)
+    ≡ is_held_for (sent_from_new limits calls) owner coil
 
 -- From the last call on, `next_on` gives the lowest coil that is on.
 abbrev pub LowestIsOn : Type 0
 LowestIsOn =
     (limits : List CoilLimits) (calls : List CoilCall) → AreInOrder 0 calls → (now : ℕ) → last_moment 0 calls ≤ now
-    → IsLowest (λ coil. is_on (sent_from_new limits calls) coil now) (length limits) (next_on now (state_from_new limits calls))
+    → IsLowest (λ coil. is_on (sent_from_new limits calls) coil now) (length limits)
+    (next_on now (state_from_new limits calls))
 
 -- `release` puts off the lowest coil that is held for the owner.
 abbrev pub LowestIsReleased : Type 0
 LowestIsReleased =
     (limits : List CoilLimits) (calls : List CoilCall) → AreInOrder 0 calls → (owner : Owner)
-    → IsLowest (λ coil. is_held_for (sent_from_new limits calls) owner coil) (length limits) (next_held owner (state_from_new limits calls))
+    → IsLowest (λ coil. is_held_for (sent_from_new limits calls) owner coil) (length limits)
+    (next_held owner (state_from_new limits calls))

@@ -8,3 +8,4 @@ pub mod Calls
 pub mod Laws
 pub mod Follows
 pub mod Boards
+pub mod Inside

@@ -22,7 +22,8 @@ pub struct FuseBoard {
 }
 
 impl Model for FuseBoard {
-    ghost use Rattle.coil_guard.specs.Boards.{FuseView, IsFuse};
+    ghost use Rattle.coil_guard.specs.Boards.{FuseView};
+    ghost use Rattle.coil_guard.specs.Inside.{IsFuse};
 
     ghost Value = { FuseView };
 

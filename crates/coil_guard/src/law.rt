@@ -1,7 +1,8 @@
-//! What holds after every list of calls.
+//! What holds after every list of calls, and of commands.
 
-ghost use Rattle.coil_guard.specs.Laws.{CommandsAreWithinLimits, StretchesAreWithinLimits, AnswersAreByCommands, StatesAreByCommands, LowestIsOn, LowestIsReleased};
+ghost use Rattle.coil_guard.specs.Laws.{CommandsAreWithinLimits, StretchesAreWithinLimits, AnswersAreByCommands, StatesSayWhatIsOn, StatesSayWhoHolds, LowestIsOn, LowestIsReleased};
 ghost use Rattle.coil_guard.specs.Follows.{NewFollows, CallsFollow, LaterFollows, FollowersSendWhatIsDue};
+ghost use Rattle.coil_guard.specs.Boards.{MemoryKeepsLatest, MemoryTellsAll, FuseFaultsFromKth};
 
 /// The law of what `Coils` sends. It is about every list of calls on a new guard whose moments do
 /// not go back.
@@ -26,7 +27,8 @@ pub fn commands_are_within_limits()
 /// It does nothing: its contract is the law, over the steps that the calls take.
 pub fn answers_are_by_commands()
     ensures answers { AnswersAreByCommands }
-    ensures states { StatesAreByCommands }
+    ensures on { StatesSayWhatIsOn }
+    ensures held { StatesSayWhoHolds }
     ensures next_on { LowestIsOn }
     ensures release { LowestIsReleased }
 {}
@@ -41,4 +43,21 @@ pub fn guard_follows_commands()
     ensures after_call { CallsFollow }
     ensures later { LaterFollows }
     ensures due { FollowersSendWhatIsDue }
+{}
+
+/// The law of `MemoryBoard`, for every list of commands that a new one takes: it keeps the latest
+/// 1,024 of them, counts them up to 1,025, and tells all while they are at most 1,024.
+///
+/// It does nothing: its contract is the law, over the steps that `send` takes.
+pub fn memory_board_keeps_latest()
+    ensures kept { MemoryKeepsLatest }
+    ensures told { MemoryTellsAll }
+{}
+
+/// The law of `FuseBoard`: after any number of commands, the next one is a fault exactly if it is
+/// the `k`-th, or, with `onwards`, if it is the `k`-th or a later one.
+///
+/// It does nothing: its contract is the law, over the steps that `send` takes.
+pub fn fuse_board_faults_from_kth()
+    ensures { FuseFaultsFromKth }
 {}

@@ -16,7 +16,10 @@ pub use board::{Board, BoardFault};
 pub use coils::Coils;
 pub use command::{Answer, Command};
 pub use fuse_board::{FuseBoard, Taken};
-pub use law::{answers_are_by_commands, commands_are_within_limits, guard_follows_commands};
+pub use law::{
+    answers_are_by_commands, commands_are_within_limits, fuse_board_faults_from_kth,
+    guard_follows_commands, memory_board_keeps_latest,
+};
 pub use limits::{CoilId, CoilLimits};
 pub use memory_board::MemoryBoard;
 pub use state::CoilState;

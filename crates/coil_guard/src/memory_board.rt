@@ -10,24 +10,25 @@ use std::marker::Model;
 const ROOM: usize = 1_024;
 
 /// How far the board counts: to one more than it keeps.
-const COUNTED: u32 = 1_025;
+const COUNTED: u16 = 1_025;
 
 /// A board that takes every command and keeps the latest 1,024 of them. It tells the list of its
 /// commands until it has taken more than it keeps.
 #[derive(Drop)]
 pub struct MemoryBoard {
     kept: HeapCircularBuffer<Command>,
-    count: u32,
+    counted: u16,
 }
 
 impl Model for MemoryBoard {
-    ghost use Rattle.coil_guard.specs.Boards.{MemoryView, IsMemory};
+    ghost use Rattle.coil_guard.specs.Boards.{MemoryView};
+    ghost use Rattle.coil_guard.specs.Inside.{IsMemory};
 
     ghost Value = { MemoryView };
 
-    ghost view = { λ b. record { kept = b.kept.items; count = b.count } };
+    ghost view = { λ b. record { kept = b.kept.items; count = b.counted } };
 
-    ghost invariant = { λ b. IsMemory b.kept.items b.kept.capacity b.count };
+    ghost invariant = { λ b. IsMemory b.kept.items b.kept.capacity b.counted };
 }
 
 impl MemoryBoard {
@@ -44,7 +45,7 @@ impl MemoryBoard {
     {
         Ok(MemoryBoard {
             kept: HeapCircularBuffer::with_capacity(alloc, ROOM)?,
-            count: 0,
+            counted: 0,
         })
     }
 
@@ -52,7 +53,7 @@ impl MemoryBoard {
     pub fn count(&self) -> u32
         ensures { result ≡ self.now.count }
     {
-        self.count
+        u32::from(self.counted)
     }
 
     /// The commands that are kept, first taken first, in two slices: the second goes on where the
@@ -78,7 +79,7 @@ impl Board for MemoryBoard {
         ensures taken { self.new ≡ after_taking command self.old }
     {
         let _oldest = self.kept.push_back(command);
-        self.count = (self.count + 1).min(COUNTED);
+        self.counted = (self.counted + 1).min(COUNTED);
         Ok(())
     }
 
