@@ -40,18 +40,27 @@ fn sent(alloc: Global, k: u64, onwards: bool) -> Result<String, Fail> {
     Ok(out)
 }
 
+/// The same for each place of the first fault, until there is none, and for 0.
+fn sent_to_all(alloc: Global, onwards: bool) -> Result<String, Fail> {
+    let mut out = String::new(alloc);
+    for k in 0..8u64 {
+        out.push_str(sent(alloc, k, onwards)?.as_str())?;
+        out.push_str("; ")?;
+    }
+    Ok(out)
+}
+
+const ALONE: &str =
+    "tttttt 0 123456; fttttt 1 23456; tftttt 1 13456; ttfttt 1 12456; tttftt 1 12356; \
+    ttttft 1 12346; tttttf 1 12345; tttttt 0 123456; ";
+
+const ONWARDS: &str = "ffffff 6 ; ffffff 6 ; tfffff 5 1; ttffff 4 12; tttfff 3 123; ttttff 2 1234; \
+    tttttf 1 12345; tttttt 0 123456; ";
+
 #[test]
 fn fuse_boards(rt: HostRuntime) -> Result<(), Fail> {
-    let alone = "tttttt 0 123456; fttttt 1 23456; tftttt 1 13456; ttttft 1 12346; tttttf 1 12345; tttttt 0 123456";
-    let onwards = "ffffff 6 ; ffffff 6 ; tfffff 5 1; ttttff 2 1234; tttttf 1 12345; tttttt 0 123456";
-    for (row, wanted) in alone.split("; ").enumerate() {
-        let k = [0, 1, 2, 5, 6, 7][row];
-        assert_eq!(rt; sent(rt.alloc(), k, false)?.as_str(), wanted, "{k} alone");
-    }
-    for (row, wanted) in onwards.split("; ").enumerate() {
-        let k = [0, 1, 2, 5, 6, 7][row];
-        assert_eq!(rt; sent(rt.alloc(), k, true)?.as_str(), wanted, "from {k} on");
-    }
+    assert_eq!(rt; sent_to_all(rt.alloc(), false)?.as_str(), ALONE);
+    assert_eq!(rt; sent_to_all(rt.alloc(), true)?.as_str(), ONWARDS);
     Ok(())
 }
 

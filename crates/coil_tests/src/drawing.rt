@@ -40,8 +40,8 @@ pub(crate) fn draw_call(state: &mut u64) -> Call {
         },
         _ => Call::Pulse {
             coil,
-            ms: draw(state, 10),
-            power: draw_short(state, 4),
+            ms: draw(state, 8),
+            power: draw_short(state, 3),
         },
     }
 }

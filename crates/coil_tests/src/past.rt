@@ -30,7 +30,8 @@ impl Past {
             Call::Enable { owner, .. } => owner,
             _ => 0,
         };
-        self.entries.push(Entry { at, command, owner })
+        self.entries.push(Entry { at, command, owner })?;
+        Ok(())
     }
 
     /// Whether the coil is on at the moment, by the commands that were sent at or before it.
@@ -41,7 +42,11 @@ impl Past {
                 continue;
             };
             match entry.command {
-                Command::Pulse { coil: other, ms, .. } if other == coil => on = on || age < ms,
+                Command::Pulse {
+                    coil: other,
+                    ms,
+                    ..
+                } if other == coil => on = on || age < ms,
                 Command::Enable { coil: other, .. } if other == coil => on = true,
                 Command::Disable { coil: other } if other == coil => on = false,
                 _ => {}
@@ -54,7 +59,12 @@ impl Past {
     fn is_resting(&self, coil: CoilId, moment: u32) -> bool {
         let mut rests = false;
         for entry in &self.entries {
-            if let Command::Pulse { coil: other, ms, .. } = entry.command {
+            if let Command::Pulse {
+                coil: other,
+                ms,
+                ..
+            } = entry.command
+            {
                 let ready = u64::from(entry.at) + 2 * u64::from(ms);
                 rests = rests || (other == coil && u64::from(moment) < ready);
             }

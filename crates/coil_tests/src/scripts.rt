@@ -59,8 +59,16 @@ fn answers(alloc: Global, script: &str) -> Result<String, AllocError> {
         let third = short(words.next());
         let power = u16::try_from(second).unwrap_or(9_999);
         let call = match name {
-            "pulse" => Call::Pulse { coil: first, ms: second, power: third },
-            "enable" => Call::Enable { coil: first, power, owner: third },
+            "pulse" => Call::Pulse {
+                coil: first,
+                ms: second,
+                power: third,
+            },
+            "enable" => Call::Enable {
+                coil: first,
+                power,
+                owner: third,
+            },
             "disable" => Call::Disable { coil: first },
             "release" => Call::Release { owner: first },
             _ => {
@@ -74,23 +82,33 @@ fn answers(alloc: Global, script: &str) -> Result<String, AllocError> {
 }
 
 /// A pulse before the coil is ready is skipped; it ends before the moment of its end.
-const PULSES: &str = "105 pulse 1 20 750; 120 pulse 1 20 750; 124 on; 125 on; 144 pulse 1 20 750; 145 pulse 1 20 750";
+const PULSES: &str =
+    "105 pulse 1 20 750; 120 pulse 1 20 750; 124 on; 125 on; 144 pulse 1 20 750; 145 pulse 1 20 750";
 
 /// Limits are tested one by one, and coil 1 is never held.
-const LIMITED: &str = "0 pulse 1 0 1; 0 pulse 1 21 1; 0 pulse 1 1 751; 0 enable 1 0 0; 0 enable 0 501 0; 0 on";
+const LIMITED: &str =
+    "0 pulse 1 0 1; 0 pulse 1 21 1; 0 pulse 1 1 751; 0 enable 1 0 0; 0 enable 0 501 0; 0 on";
 
 /// A disable at the moment of the pulse: the coil is on at no moment, and rests all the same.
-const AT_ONCE: &str = "0 pulse 1 20 750; 0 disable 1; 0 on; 0 disable 1; 39 pulse 1 1 1; 40 pulse 1 1 1";
+const AT_ONCE: &str =
+    "0 pulse 1 20 750; 0 disable 1; 0 on; 0 disable 1; 39 pulse 1 1 1; 40 pulse 1 1 1";
 
 /// Owner 4 holds coils 2 and 0, one of them while its pulse goes on, and owner 0 holds none.
-const RELEASED: &str = "0 pulse 2 10 9; 5 enable 2 500 4; 5 enable 0 1 4; 6 enable 0 1 0; 7 pulse 0 1 1; 8 release 0; 8 release 4; 8 on; 8 release 4; 8 release 4; 8 on; 20 pulse 2 10 9";
+const RELEASED: &str =
+    "0 pulse 2 10 9; 5 enable 2 500 4; 5 enable 0 1 4; 6 enable 0 1 0; 7 pulse 0 1 1; 8 release 0; 8 release 4; 8 on; 8 release 4; 8 release 4; 8 on; 20 pulse 2 10 9";
 
 #[test]
 fn scripts(rt: HostRuntime) -> Result<(), Fail> {
     let alloc = rt.alloc();
-    assert_eq!(rt; answers(alloc, PULSES)?.as_str(), "pulse_1_20_750 - on_1 none - pulse_1_20_750 ");
+    assert_eq!(rt;
+        answers(alloc, PULSES)?.as_str(),
+        "pulse_1_20_750 - on_1 none - pulse_1_20_750 "
+    );
     assert_eq!(rt; answers(alloc, LIMITED)?.as_str(), "- - - - - none ");
-    assert_eq!(rt; answers(alloc, AT_ONCE)?.as_str(), "pulse_1_20_750 disable_1 none - - pulse_1_1_1 ");
+    assert_eq!(rt;
+        answers(alloc, AT_ONCE)?.as_str(),
+        "pulse_1_20_750 disable_1 none - - pulse_1_1_1 "
+    );
     assert_eq!(rt;
         answers(alloc, RELEASED)?.as_str(),
         "pulse_2_10_9 enable_2_500 enable_0_1 - - - disable_0 on_2 disable_2 - none pulse_2_10_9 "
@@ -105,8 +123,16 @@ fn all_coils_on(rt: HostRuntime) -> Result<(), Fail> {
     let mut sent = 0u32;
     for coil in 0..256u16 {
         let call = match coil & 1 {
-            0 => Call::Pulse { coil, ms: 10, power: 1 },
-            _ => Call::Enable { coil, power: 1, owner: 1 },
+            0 => Call::Pulse {
+                coil,
+                ms: 10,
+                power: 1,
+            },
+            _ => Call::Enable {
+                coil,
+                power: 1,
+                owner: 1,
+            },
         };
         sent = sent.saturating_add(u32::from(guard.call(call, 3).is_some()));
     }
