@@ -83,7 +83,7 @@ abbrev pub after_sending_many : ℕ → FuseView → FuseView
 after_sending_many zero b = b
 after_sending_many (suc n) b = after_sending_many n (after_sending b)
 
--- whether the command with this number, from 1 on, is a fault: it is the k-th, or with `onwards` the k-th or a later one
+-- whether the command with this number, from 1 on, is a fault: it is the k-th, or with `onwards` a later one
 abbrev pub is_fault_at : ℕ → Bool → ℕ → Bool
 is_fault_at k onwards number = (number == k) || (onwards && nat_le k number)
 

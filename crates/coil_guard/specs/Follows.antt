@@ -19,9 +19,9 @@ pub record IsApart (coil : CoilId) (limits : CoilLimits) (sent : List Sending) (
   pub runs : (first count : ℕ) → IsOnThroughout sent coil first count → count ≤ limits.max_pulse_ms
 
 -- From a moment on, the state of a coil says what the sent commands say of it.
-pub record IsFollowed (coil : CoilId) (limits : CoilLimits) (sent : List Sending) (c : CoilState) (moment : ℕ) : Type 0 where
+pub record IsFollowed (coil : CoilId) (limits : CoilLimits) (sent : List Sending) (c : CoilState) (at : ℕ) : Type 0 where
   pub limits_are : c.limits ≡ limits
-  pub on : (later : ℕ) → moment ≤ later → is_on sent coil later ≡ is_on_at later c
+  pub on : (later : ℕ) → at ≤ later → is_on sent coil later ≡ is_on_at later c
   pub held : is_held sent coil ≡ is_some c.holder
   pub held_for : (owner : Owner) → is_held_for sent owner coil ≡ is_owner owner c.holder
   pub resting : (t : ℕ) → is_resting sent coil t ≡ nat_lt t c.ready

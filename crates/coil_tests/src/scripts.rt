@@ -95,7 +95,8 @@ const AT_ONCE: &str =
 
 /// Owner 4 holds coils 2 and 0, one of them while its pulse goes on, and owner 0 holds none.
 const RELEASED: &str =
-    "0 pulse 2 10 9; 5 enable 2 500 4; 5 enable 0 1 4; 6 enable 0 1 0; 7 pulse 0 1 1; 8 release 0; 8 release 4; 8 on; 8 release 4; 8 release 4; 8 on; 20 pulse 2 10 9";
+    "0 pulse 2 10 9; 5 enable 2 500 4; 5 enable 0 1 4; 6 enable 0 1 0; 7 pulse 0 1 1; \
+    8 release 0; 8 release 4; 8 on; 8 release 4; 8 release 4; 8 on; 20 pulse 2 10 9";
 
 #[test]
 fn scripts(rt: HostRuntime) -> Result<(), Fail> {
