@@ -1,0 +1,91 @@
+-- What the boards of this crate do over every list of commands.
+use Rattle.std.proofs.Common.{◌≡◌, ℕ, ◌+◌, ◌-◌, ◌≤◌, ◌==◌, zero, suc, Bool, ◌&&◌, ◌||◌, if◌then◌else◌, Some, None, List, [], ◌∷◌, ◌++◌, length, drop, min, nat_le, refl, ap, ap₂, sym, ◌∙◌, inl, inr, append-nil, append_assoc, arith}
+use Rattle.std.proofs.lemmas.Bool.{eq-eqb, ne_eqb, le-leb, lt-leb, cases_lt}
+use Rattle.std.proofs.lemmas.List.{length-append, length-drop, drop-drop, drop-append-le}
+use Rattle.circular_buffer.specs.Buffer.{keep_last}
+use Rattle.coil_guard.specs.declared.command.Command.{Command}
+use Rattle.coil_guard.specs.Boards.{MemoryView, empty_memory, after_taking, told_by_memory, after_taking_all, MemoryKeepsLatest, MemoryTellsAll, FuseView, new_fuse, after_sending, after_sending_many, is_fault_at, FuseFaultsFromKth}
+
+-- ---- the board in memory
+
+keeps-all : (xs : List Command) → length xs ≤ 1024 → keep_last 1024 xs ≡ xs
+keeps-all xs few = let none : length xs - 1024 ≡ 0 = omega arith in ap (λ n. drop n xs) none
+
+-- The latest of the latest and more are the latest of all.
+keeps-again : (xs ys : List Command) → keep_last 1024 (keep_last 1024 xs ++ ys) ≡ keep_last 1024 (xs ++ ys)
+keeps-again xs ys =
+    let cut : ℕ = length xs - 1024 in
+    let split : drop cut (xs ++ ys) ≡ drop cut xs ++ ys = drop-append-le cut xs ys (omega arith) in
+    let all = length-append xs ys in
+    let size = length-drop cut (xs ++ ys) in
+    let sum : cut + (length (drop cut (xs ++ ys)) - 1024) ≡ length (xs ++ ys) - 1024 = omega arith in
+    ap (λ (zs : List Command). keep_last 1024 zs) (sym split)
+    ∙ (drop-drop (length (drop cut (xs ++ ys)) - 1024) cut (xs ++ ys) ∙ ap (λ n. drop n (xs ++ ys)) sum)
+
+keeps-few : (xs : List Command) → length (keep_last 1024 xs) ≤ 1024
+keeps-few xs = let size = length-drop (length xs - 1024) xs in omega arith
+
+kept-all : (commands : List Command) (b : MemoryView) → length b.kept ≤ 1024 → (after_taking_all commands b).kept ≡ keep_last 1024 (b.kept ++ commands)
+kept-all [] b few = sym (ap (λ (xs : List Command). keep_last 1024 xs) (append-nil b.kept) ∙ keeps-all b.kept few)
+kept-all (command ∷ later) b few =
+    kept-all later (after_taking command b) (keeps-few (b.kept ++ command ∷ []))
+    ∙ (keeps-again (b.kept ++ command ∷ []) later ∙ ap (λ (xs : List Command). keep_last 1024 xs) (append_assoc b.kept (command ∷ []) later))
+
+counted-all : (commands : List Command) (b : MemoryView) → b.count ≤ 1025 → (after_taking_all commands b).count ≡ min (b.count + length commands) 1025
+counted-all [] b few = omega arith
+counted-all (command ∷ later) b few = let h = counted-all later (after_taking command b) (omega arith) in omega arith
+
+pub memory_keeps_latest : MemoryKeepsLatest
+memory_keeps_latest commands =
+    let counted : (after_taking_all commands empty_memory).count ≡ min (length commands) 1025 = let h = counted-all commands empty_memory (omega arith) in omega arith in
+    ap₂ (λ (xs : List Command) (n : ℕ). record { kept = xs; count = n }) (kept-all commands empty_memory (omega arith)) counted
+
+pub memory_tells_all : MemoryTellsAll
+memory_tells_all commands =
+    ap told_by_memory (memory_keeps_latest commands)
+    ∙ elim (cases_lt 1024 (length commands)) [
+      | inl more ↦
+          ap (λ (b : Bool). if b then Some (keep_last 1024 commands) else None) (lt-leb (min (length commands) 1025) 1024 (omega arith))
+          ∙ sym (ap (λ (b : Bool). if b then Some commands else None) (lt-leb (length commands) 1024 more))
+      | inr few ↦
+          ap (λ (b : Bool). if b then Some (keep_last 1024 commands) else None) (le-leb (min (length commands) 1025) 1024 (omega arith))
+          ∙ (ap (λ (xs : List Command). Some xs) (keeps-all commands few) ∙ sym (ap (λ (b : Bool). if b then Some commands else None) (le-leb (length commands) 1024 few)))
+    ]
+
+-- ---- the board that faults
+
+left-after : (n : ℕ) (b : FuseView) → (after_sending_many n b).left ≡ b.left - n
+left-after zero b = omega arith
+left-after (suc n) b = let h = left-after n (after_sending b) in omega arith
+
+onwards-after : (n : ℕ) (b : FuseView) → (after_sending_many n b).onwards ≡ b.onwards
+onwards-after zero b = refl
+onwards-after (suc n) b = onwards-after n (after_sending b)
+
+module _ (k n : ℕ) (onwards : Bool) where
+  fault-test : (a b c d : Bool) → a ≡ c → b ≡ d → (a || (onwards && b)) ≡ (c || (onwards && d))
+  fault-test a b c d first later = ap₂ (λ x y. x || (onwards && y)) first later
+
+  -- before the k-th command, after it, and at it
+  fault-is : (((k - n) == 1) || (onwards && ((k - n) == 0))) ≡ is_fault_at k onwards (n + 1)
+  fault-is =
+      elim (cases_lt k (n + 1)) [
+        | inl past ↦
+            fault-test ((k - n) == 1) ((k - n) == 0) ((n + 1) == k) (nat_le k (n + 1))
+            (ne_eqb (k - n) 1 (λ e. omega arith) ∙ sym (ne_eqb (n + 1) k (λ e. omega arith)))
+            (eq-eqb (k - n) 0 (omega arith) ∙ sym (le-leb k (n + 1) (omega arith)))
+        | inr due ↦
+            elim (cases_lt (n + 1) k) [
+              | inl coming ↦
+                  fault-test ((k - n) == 1) ((k - n) == 0) ((n + 1) == k) (nat_le k (n + 1))
+                  (ne_eqb (k - n) 1 (λ e. omega arith) ∙ sym (ne_eqb (n + 1) k (λ e. omega arith)))
+                  (ne_eqb (k - n) 0 (λ e. omega arith) ∙ sym (lt-leb k (n + 1) coming))
+              | inr now ↦
+                  ap (λ (a : Bool). a || (onwards && ((k - n) == 0))) (eq-eqb (k - n) 1 (omega arith))
+                  ∙ sym (ap (λ (a : Bool). a || (onwards && nat_le k (n + 1))) (eq-eqb (n + 1) k (omega arith)))
+            ]
+      ]
+
+pub fuse_faults_from_kth : FuseFaultsFromKth
+fuse_faults_from_kth k onwards n =
+    ap₂ (λ (left : ℕ) (on : Bool). (left == 1) || (on && (left == 0))) (left-after n (new_fuse k onwards)) (onwards-after n (new_fuse k onwards)) ∙ fault-is k n onwards

@@ -1,0 +1,7 @@
+mod Lasting
+mod OneCoil
+mod Lowest
+mod Told
+mod BoardLaws
+pub mod Following
+pub mod Lawful

@@ -1,0 +1,14 @@
+-- What the boards of this crate keep.
+use Rattle.std.specs.Prelude.{◌≡◌, ◌<◌, ◌≤◌, ℕ, Bool, false, List, length, min}
+use Rattle.coil_guard.specs.declared.command.Command.{Command}
+
+-- There is room for 1,024 commands, and as many are kept as were taken, up to that.
+pub record IsMemory (kept : List Command) (room count : ℕ) : Type 0 where
+  pub room_is : room ≡ 1024
+  pub kept_is : length kept ≡ min count 1024
+  pub limit : count ≤ 1025
+
+-- There was no fault before the first one; and no more than one, if only one is to be.
+pub record IsFuse (left : ℕ) (onwards : Bool) (faults : ℕ) : Type 0 where
+  pub none : 0 < left → faults ≡ 0
+  pub one : onwards ≡ false → faults ≤ 1

@@ -1,0 +1,11 @@
+pub mod Owners
+pub mod Limits
+pub mod CoilStep
+pub mod Lowest
+pub mod Coils
+pub mod SentCommands
+pub mod Calls
+pub mod Laws
+pub mod Follows
+pub mod Boards
+pub mod Inside

@@ -1,0 +1,155 @@
+//! The guard of all coils.
+
+use crate::command::{Answer, Command};
+use crate::limits::{CoilId, CoilLimits};
+use crate::state::CoilState;
+use plan_tables::Owner;
+use std::alloc::{AllocError, Global};
+use std::marker::Model;
+
+/// The guard of all coils: it says which commands are sent to them, and which are skipped. Moments
+/// are milliseconds. The moments of its calls do not go back.
+///
+/// A pulse of `ms` that is sent at the moment t is on from t up to but not at t + ms. The coil is
+/// ready for another pulse from t + 2 ms on. An enabled coil is held, by the owner that enabled it,
+/// until a disable is sent to it, whoever asked for that.
+#[derive(Drop)]
+pub struct Coils {
+    coils: Vec<CoilState>,
+}
+
+impl Model for Coils {
+    ghost use Rattle.std.specs.Prelude.{List, length, ◌≤◌};
+    ghost use Rattle.coil_guard.specs.declared.state.CoilState.{CoilState};
+
+    ghost Value = { List CoilState };
+
+    ghost view = { λ s. s.coils.items };
+
+    ghost invariant = { λ s. length s.coils.items ≤ 256 };
+}
+
+impl Coils {
+    ghost use Rattle.std.specs.Prelude.{◌≡◌, ◌<◌, ◌≤◌, ◌^◌, length, map, IfOk, IfSome};
+    ghost use Rattle.coil_guard.specs.CoilStep.{off};
+    ghost use Rattle.coil_guard.specs.Coils.{all_off, after_pulse, answer_pulse, after_enable, answer_enable, after_disable, answer_disable, next_held, after_release, answer_release, next_on};
+
+    /// All coils, with their limits by number: at most 256. They are off. Only this call takes
+    /// memory.
+    ///
+    /// # Errors
+    ///
+    /// `AllocError`: memory ran out.
+    pub fn new(alloc: Global, limits: &[CoilLimits]) -> Result<Coils, AllocError>
+        requires { length limits.now ≤ 256 }
+        ensures off { IfOk result (λ s. s ≡ all_off limits.now) }
+        ensures count { IfOk result (λ s. length s ≡ length limits.now) }
+    {
+        let mut coils = Vec::with_capacity(alloc, limits.len())?;
+        for number in 0..limits.len() {
+            coils.push_reserved(CoilState::off(limits[number]));
+        }
+        Ok(Coils { coils })
+    }
+
+    /// Pulses the coil for so many milliseconds with this power, at the moment `now`, below 2^40.
+    ///
+    /// It is skipped if the coil is held, if it is not ready yet, if `ms` is 0 or above the coil's
+    /// greatest pulse, or if the power is above its greatest pulse power.
+    pub fn pulse(&mut self, coil: CoilId, ms: u32, power: u16, now: u64) -> Answer
+        requires coil { coil.0 < length self.old }
+        requires now { now < 2 ^ 40 }
+        ensures state { self.new ≡ after_pulse coil ms power now self.old }
+        ensures answer { result ≡ answer_pulse coil ms power now self.old }
+        ensures count { length self.new ≡ length self.old }
+    {
+        let number = coil.0 as usize;
+        let old = self.coils[number];
+        if !old.takes_pulse(ms, power, now) {
+            return Answer::Skipped;
+        }
+        self.coils[number] = old.pulsed(ms, now);
+        Answer::Sent(Command::Pulse { coil, ms, power })
+    }
+
+    /// Holds the coil with this power for the owner, from the moment `now` on, also while a pulse
+    /// of it goes on.
+    ///
+    /// It is skipped if the coil is held already, if it may not be held, or if the power is above
+    /// its greatest hold power.
+    pub fn enable(&mut self, coil: CoilId, power: u16, owner: Owner, now: u64) -> Answer
+        requires { coil.0 < length self.old }
+        ensures state { self.new ≡ after_enable coil power owner now self.old }
+        ensures answer { result ≡ answer_enable coil power owner now self.old }
+        ensures count { length self.new ≡ length self.old }
+    {
+        let _now = now;
+        let number = coil.0 as usize;
+        let old = self.coils[number];
+        if !old.takes_enable(power) {
+            return Answer::Skipped;
+        }
+        self.coils[number] = old.enabled(owner);
+        Answer::Sent(Command::Enable { coil, power })
+    }
+
+    /// Puts the coil off at the moment `now`: it ends a pulse and a hold, whoever holds the coil.
+    /// The moment from which the coil is ready for another pulse stays.
+    ///
+    /// It is skipped if the coil is off.
+    pub fn disable(&mut self, coil: CoilId, now: u64) -> Answer
+        requires { coil.0 < length self.old }
+        ensures state { self.new ≡ after_disable coil now self.old }
+        ensures answer { result ≡ answer_disable coil now self.old }
+        ensures count { length self.new ≡ length self.old }
+    {
+        let number = coil.0 as usize;
+        let old = self.coils[number];
+        if !old.is_on_at(now) {
+            return Answer::Skipped;
+        }
+        self.coils[number] = old.disabled();
+        Answer::Sent(Command::Disable { coil })
+    }
+
+    /// Puts off the lowest coil that the owner holds, and answers the command that is sent; none if
+    /// the owner holds no coil, and then nothing has changed. Call it again until it answers none,
+    /// and all coils of the owner are put off in the order of their numbers.
+    pub fn release(&mut self, owner: Owner, now: u64) -> Option<Command>
+        ensures state { self.new ≡ after_release owner now self.old }
+        ensures answer { result ≡ answer_release owner now self.old }
+        ensures count { length self.new ≡ length self.old }
+    {
+        let _now = now;
+        let coil = self.next_held(owner)?;
+        let number = coil.0 as usize;
+        self.coils[number] = self.coils[number].disabled();
+        Some(Command::Disable { coil })
+    }
+
+    /// The lowest coil that is on at the moment `now`, if one is: by a pulse or since it is held.
+    pub fn next_on(&self, now: u64) -> Option<CoilId>
+        ensures next { result ≡ next_on now self.now }
+        ensures within { IfSome result (λ c. c.0 < length self.now) }
+    {
+        for (number, coil) in self.coils.iter().enumerate() {
+            if coil.is_on_at(now) {
+                return Some(CoilId(number as u16));
+            }
+        }
+        None
+    }
+
+    /// The lowest coil that the owner holds.
+    fn next_held(&self, owner: Owner) -> Option<CoilId>
+        ensures next { result ≡ next_held owner self.now }
+        ensures within { IfSome result (λ c. c.0 < length self.now) }
+    {
+        for (number, coil) in self.coils.iter().enumerate() {
+            if coil.is_held_by(owner) {
+                return Some(CoilId(number as u16));
+            }
+        }
+        None
+    }
+}

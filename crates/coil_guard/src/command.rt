@@ -1,0 +1,34 @@
+//! Commands to coils.
+
+use crate::limits::CoilId;
+
+/// What a board is told to do with a coil. Powers are in thousandths of full power.
+#[derive(Clone, Copy, Debug, PartialEq, Eq)]
+pub enum Command {
+    /// The coil is on for so many milliseconds, with this power.
+    Pulse { coil: CoilId, ms: u32, power: u16 },
+    /// The coil is on with this power, until it is disabled.
+    Enable { coil: CoilId, power: u16 },
+    /// The coil is off.
+    Disable { coil: CoilId },
+}
+
+/// What became of an action.
+#[derive(Clone, Copy, Debug, PartialEq, Eq)]
+pub enum Answer {
+    /// This command is sent.
+    Sent(Command),
+    /// Nothing is sent, and nothing has changed.
+    Skipped,
+}
+
+/// What fills unused places: coil 0 is off.
+impl Default for Command {
+    ghost use Rattle.std.specs.Prelude.{◌≡◌};
+
+    fn default() -> Self {
+        Command::Disable {
+            coil: CoilId::default(),
+        }
+    }
+}

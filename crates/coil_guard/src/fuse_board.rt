@@ -1,0 +1,93 @@
+//! A board that faults, for tests.
+
+use crate::board::{Board, BoardFault};
+use crate::command::Command;
+use arrayvec::ArrayVec;
+use std::cell::RefCell;
+use std::marker::Model;
+use std::rc::Rc;
+
+/// The commands that a `FuseBoard` took, which its test shares with it.
+pub type Taken = Rc<RefCell<ArrayVec<Command, 1024>>>;
+
+/// A board for tests that faults at one command, or from one command on. It tells no list, but adds
+/// the commands that it takes to one that a test shares.
+#[derive(Drop)]
+pub struct FuseBoard {
+    /// How many commands come until the first fault, and with it; 0 if it is past.
+    left: u64,
+    onwards: bool,
+    faults: u64,
+    taken: Taken,
+}
+
+impl Model for FuseBoard {
+    ghost use Rattle.coil_guard.specs.Boards.{FuseView};
+    ghost use Rattle.coil_guard.specs.Inside.{IsFuse};
+
+    ghost Value = { FuseView };
+
+    ghost view = { λ b. record { left = b.left; onwards = b.onwards; faults = b.faults } };
+
+    ghost invariant = { λ b. IsFuse b.left b.onwards b.faults };
+}
+
+impl FuseBoard {
+    ghost use Rattle.std.specs.Prelude.{◌≡◌};
+    ghost use Rattle.coil_guard.specs.Boards.{new_fuse, is_fault_next};
+
+    /// A board that faults at its `k`-th command alone, or with `onwards` from it on. The first
+    /// command is the one with `k` = 1. With `k` = 0 it faults at none, or with `onwards` at all.
+    ///
+    /// It adds each command that it takes to `taken`, as long as there is room and nobody borrows
+    /// it. It takes no memory.
+    pub fn new(k: u64, onwards: bool, taken: Taken) -> FuseBoard
+        ensures { result ≡ new_fuse k onwards }
+    {
+        FuseBoard {
+            left: k,
+            onwards,
+            faults: 0,
+            taken,
+        }
+    }
+
+    /// Whether the next command is a fault.
+    fn is_fault_next(&self) -> bool
+        ensures { result ≡ is_fault_next self.now }
+    {
+        self.left == 1 || (self.onwards && self.left == 0)
+    }
+}
+
+impl Board for FuseBoard {
+    ghost use Rattle.std.specs.Prelude.{◌≡◌, ◌↔◌, true, None, IsErr, OnOk};
+    ghost use Rattle.coil_guard.specs.Boards.{HasFaulted, IsToldAfter, is_fault_next, after_sending};
+
+    ghost fault_count = { λ b. b.faults };
+
+    ghost told = { λ _. None };
+
+    fn send(&mut self, command: Command) -> Result<(), BoardFault>
+        ensures fault { IsErr result ↔ HasFaulted self.old.faults self.new.faults }
+        ensures count { OnOk result (self.new.faults ≡ self.old.faults) }
+        ensures list { IsToldAfter command result None None }
+        ensures next { IsErr result ↔ (is_fault_next self.old ≡ true) }
+        ensures state { self.new ≡ after_sending self.old }
+    {
+        let faults = self.is_fault_next();
+        self.left = self.left.saturating_sub(1);
+        if faults {
+            self.faults = self.faults.saturating_add(1);
+            return Err(BoardFault);
+        }
+        if let Ok(mut taken) = self.taken.try_borrow_mut() {
+            let _ = taken.try_push(command);
+        }
+        Ok(())
+    }
+
+    fn faults(&self) -> u64 {
+        self.faults
+    }
+}

@@ -1,0 +1,25 @@
+//! Coils: which commands are sent to them, and the boards that take these commands.
+#![tactic(auto)]
+
+pub mod board;
+pub mod boxed;
+pub mod coils;
+pub mod command;
+pub mod fuse_board;
+pub mod law;
+pub mod limits;
+pub mod memory_board;
+mod owner;
+pub mod state;
+
+pub use board::{Board, BoardFault};
+pub use coils::Coils;
+pub use command::{Answer, Command};
+pub use fuse_board::{FuseBoard, Taken};
+pub use law::{
+    answers_are_by_commands, commands_are_within_limits, fuse_board_faults_from_kth,
+    guard_follows_commands, memory_board_keeps_latest,
+};
+pub use limits::{CoilId, CoilLimits};
+pub use memory_board::MemoryBoard;
+pub use state::CoilState;
