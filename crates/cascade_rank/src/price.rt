@@ -1,9 +1,8 @@
 //! What the parts of a plan cost at given weights.
 //!
-//! Nothing is cut off: a weight is below 2^32, and an effect list has at most 1,024 actions, so a
-//! device answers at most 2^44. A plan has too few bindings and devices for a sum of their prices to
-//! reach 2^59, and so many listeners and posts of a switch that the sum reaches 2^109 do not fit
-//! into memory.
+//! Nothing is cut off: a weight is below 2^32, and an effect list has at most 1,024 actions, so what a
+//! device answers costs at most 2^44. A plan has too few bindings and devices for a sum of their
+//! prices to reach 2^59. The listeners and posts of a switch for a sum of 2^109 do not fit into memory.
 
 ghost use Rattle.std.specs.Prelude.{◌≡◌, ◌+◌, ◌^◌, ◌<◌, ◌≤◌, length};
 ghost use Rattle.std.specs.List.{All};
