@@ -9,6 +9,7 @@ use Rattle.section_tables.specs.Named.{IsNamedKeyed, IsNamedValue, IsNamedEntry,
 use Rattle.mpf_sections.specs.Rows.{Written, CoilItem, SectionRows}
 use Rattle.mpf_sections.specs.Typed.{text_of, flag_of, listed_keyed, name_in, pulse_in, power_in, entries_of, players_of}
 use Rattle.mpf_sections.specs.TypedCoils.{coils_name, coil_player_name, flippers_name, autofire_coils_name, max_hold_power, coil_of, coil_item_of, coil_player_of, flipper_of, autofire_of, coils_in, coil_players_in, flippers_in, autofires_in}
+use Rattle.mpf_sections.specs.Inside.{needed_at}
 use Rattle.mpf_sections.specs.Named.{IsNamedCoil, IsNamedCoilPlayer, IsNamedFlipper, IsNamedAutofire, IsNamed}
 use Rattle.mpf_sections.specs.Short.{IsPulseInRange, IsPowerInRange, IsCoilInRange, IsItemInRange, IsCoilPlayerInRange, IsShortFlipper, IsShortAutofire, IsShortSection}
 use Rattle.mpf_sections.proofs.Each.{all_mapped}
@@ -65,7 +66,7 @@ either_named : (o : Option Written) (other : Written) → IsNamedWritten o → I
 either_named None other h is = is
 either_named (Some w) other h is = h
 
-needed_named : (e : Entry) (i : ℕ) → IsNamedEntry e → IsName (unwrap_or (name_in (text_of (slice_get e.values i))) e.name).text
+needed_named : (e : Entry) (i : ℕ) → IsNamedEntry e → IsName (needed_at i e).text
 needed_named e i h = either_named (name_in (text_of (slice_get e.values i))) e.name (written_named e i h) h.name
 
 -- Those in an entry of `flippers` are, too.

@@ -118,32 +118,8 @@ shape_named Mode section shape is = holds_at (λ name s. IsNamedShape s) section
     (mode_named, (player_named, (coil_player_named, (timers_named, (counters_named, (step_blocks_named, (step_blocks_named, tt)))))))
 
 pub shape_short : (longest : ℕ) → 1 ≤ longest → (text : TextKind) (section : List ℕ) (shape : Shape) → shape_of text section ≡ Some shape → IsShortShape longest shape
-shape_short longest one Machine section shape is =
-    holds_at (λ name s. IsShortShape longest s) section shape machine_shapes is (
-      tt,
-      (
-        switches_short longest,
-        (
-          coils_short longest,
-          (
-            flippers_short longest one,
-            (
-              autofire_coils_short longest one,
-              (
-                tt,
-                (
-                  tt,
-                  (
-                    counters_short longest,
-                    (step_blocks_short longest, (step_blocks_short longest, tt)),
-                  ),
-                ),
-              ),
-            ),
-          ),
-        ),
-      ),
-    )
+shape_short longest one Machine section shape is = holds_at (λ name s. IsShortShape longest s) section shape machine_shapes is
+    (tt, (switches_short longest, (coils_short longest, (flippers_short longest one, (autofire_coils_short longest one, (tt, (tt, (counters_short longest, (step_blocks_short longest, (step_blocks_short longest, tt))))))))))
 shape_short longest one Mode section shape is = holds_at (λ name s. IsShortShape longest s) section shape mode_shapes is
     (mode_short longest, (tt, (tt, (timers_short longest, (counters_short longest, (step_blocks_short longest, (step_blocks_short longest, tt)))))))
 

@@ -22,8 +22,8 @@ pub record EventPlayer : Type 0 where
   pub posts : List Written
 
 -- An entry of `coils`: the milliseconds and the power of a pulse of which nothing else is said, and the greatest ones;
--- whether the coil may be held, the power with which it is held where nothing else is said, and the greatest one. Powers are
--- in thousandths of full power.
+-- whether the coil may be held, the power with which it is held where nothing else is said, and the greatest one. Powers
+-- are in thousandths of full power.
 pub record Coil : Type 0 where
   pub name : Written
   pub pulse_ms : ℕ

@@ -85,10 +85,17 @@ naming_else key first = row key (name_list (at_least 0)) (default (names (writte
 
 -- the events that enable and disable a coil rule: by default when a ball starts, and when it ends
 abbrev pub rule_events : List Setting
-rule_events = naming_else (codes "enable_events") (codes "ball_started") ∷ naming_else (codes "disable_events") (codes "ball_will_end") ∷ []
+rule_events =
+    naming_else (codes "enable_events") (codes "ball_started")
+    ∷ naming_else (codes "disable_events") (codes "ball_will_end")
+    ∷ []
 
 abbrev pub flippers : List Setting
-flippers = needed_name (codes "main_coil") ∷ optional (codes "hold_coil") a_name ∷ needed_name (codes "activation_switch") ∷ rule_events
+flippers =
+    needed_name (codes "main_coil")
+    ∷ optional (codes "hold_coil") a_name
+    ∷ needed_name (codes "activation_switch")
+    ∷ rule_events
 
 abbrev pub autofire_coils : List Setting
 autofire_coils = needed_name (codes "coil") ∷ needed_name (codes "switch") ∷ rule_events

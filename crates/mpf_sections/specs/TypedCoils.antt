@@ -12,12 +12,12 @@ use Rattle.mpf_sections.specs.Rows.{Coil, CoilItem, CoilPlayer, Flipper, Autofir
 
 -- ---- `coils`
 
--- whether a coil may be held: where that is allowed, or the power is above 0 with which it is held where nothing else is said
+-- whether a coil may be held: where that is allowed, or where the power with which it is held by default is above 0
 abbrev pub may_hold : Bool → Option ℕ → Bool
 may_hold allowed power = allowed || nat_lt 0 (unwrap_or power 0)
 
--- The greatest power with which a coil may be held: the one that is written; or else full power where holding is allowed, and
--- where it is not, the power with which it is held where nothing else is said.
+-- The greatest power with which a coil may be held: the one that is written; or else full power where holding is
+-- allowed, and where it is not, the power with which it is held by default, if there is one.
 abbrev pub max_hold_power : Option ℕ → Bool → Option ℕ → ℕ
 max_hold_power (Some greatest) allowed power = greatest
 max_hold_power None true power = 1000
@@ -48,7 +48,9 @@ coil_of e =
 
 -- what a word says that a coil does
 abbrev pub coil_action_of : List ℕ → CoilAction
-coil_action_of w = if bytes_eq w (codes "enable") then Enable else (if bytes_eq w (codes "disable") then Disable else Pulse)
+coil_action_of w =
+    if bytes_eq w (codes "enable") then Enable
+    else (if bytes_eq w (codes "disable") then Disable else Pulse)
 
 unfoldable pub coil_item_of : Keyed → CoilItem
 coil_item_of k = record {

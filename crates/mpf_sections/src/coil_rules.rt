@@ -1,8 +1,7 @@
 //! The entries of `flippers` and `autofire_coils`, by the names of their settings.
 
-ghost use Rattle.std.specs.Prelude.{◌≡◌, map, slice_get, unwrap_or};
-ghost use Rattle.section_tables.specs.View.{name_view, values_view};
-ghost use Rattle.mpf_sections.specs.Typed.{text_of, name_in};
+ghost use Rattle.std.specs.Prelude.{◌≡◌, map};
+ghost use Rattle.mpf_sections.specs.Inside.{needed_at};
 ghost use Rattle.mpf_sections.specs.TypedCoils.{flipper_of, autofire_of, flippers_in, autofires_in};
 ghost use Rattle.mpf_sections.specs.View.{entry_view, section_view, name_at_view, flipper_view, autofire_view};
 
@@ -63,7 +62,7 @@ const AUTOFIRE_DISABLES: usize = 3;
 
 // A name that has to be written; the entry's own in a row that no table gives.
 fn needed_name(entry: &Entry, at: usize) -> NameAt<'_>
-    ensures { name_at_view result ≡ unwrap_or (name_in (text_of (slice_get (values_view entry.now.values.items) at))) (name_view entry.now.name) }
+    ensures { name_at_view result ≡ needed_at at (entry_view entry.now) }
 {
     let row = entry.values.as_slice();
     match name(text(row, at)) {
