@@ -1,9 +1,7 @@
 //! Tests of the machine's layers, each over its public calls: plans, levels of switches, queues,
-//! weights, checks with their certificates, and rigs: their boxes and their steps.
+//! weights, checks with their certificates, and the steps of a rig.
 #![tactic(auto)]
 
-#[cfg(test)]
-mod boxes;
 #[cfg(test)]
 mod cases;
 #[cfg(test)]
