@@ -3,11 +3,11 @@
 use crate::cases::{Subject, assert_cases};
 use config_checker::{Checked, check};
 use device_objects::{Device, DeviceState, Outcome, World};
-use logic_blocks::{Counter, Timer};
+use logic_blocks::Counter;
 use mpf_config::Config;
 use pin_rig::Rig;
 use plan_tables::{Act, DeviceRow};
-use std::alloc::{AllocError, Global};
+use std::alloc::Global;
 use std::cell::Cell;
 use std::rc::Rc;
 use std::test::Fail;
@@ -15,88 +15,70 @@ use std::test::Fail;
 /// How many of the devices that share it have been dropped.
 type Drops = Rc<Cell<u32>>;
 
-/// A device whose drop is counted.
+/// A counter whose drop is counted.
 struct Counted {
-    device: Box<dyn Device>,
+    counter: Counter,
     drops: Drops,
 }
 
 impl Drop for Counted {
     fn drop(self) {
-        let Counted { device: _, drops } = self;
+        let Counted { counter: _, drops } = self;
         drops.set(drops.get().wrapping_add(1));
     }
 }
 
 impl Device for Counted {
-    ghost row_of = { λ c. ⟦<Box<dyn Device> as Device>⟧.row_of c.device };
+    ghost row_of = { λ c. ⟦<Counter as Device>⟧.row_of c.counter };
 
-    ghost state_of = { λ c. ⟦<Box<dyn Device> as Device>⟧.state_of c.device };
+    ghost state_of = { λ c. ⟦<Counter as Device>⟧.state_of c.counter };
 
     fn row(&self) -> DeviceRow {
-        self.device.row()
+        self.counter.row()
     }
 
     fn state(&self) -> DeviceState {
-        self.device.state()
+        self.counter.state()
     }
 
     fn due(&self) -> Option<u64> {
-        self.device.due()
+        self.counter.due()
     }
 
     fn start(&mut self, now: u64, world: World) -> Outcome {
-        self.device.start(now, world)
+        self.counter.start(now, world)
     }
 
     fn stop(&mut self, now: u64, world: World) -> Outcome {
-        self.device.stop(now, world)
+        self.counter.stop(now, world)
     }
 
     fn fire(&mut self, now: u64, world: World) -> Outcome {
-        self.device.fire(now, world)
+        self.counter.fire(now, world)
     }
 
     fn act(&mut self, act: Act, now: u64, world: World) -> Outcome {
-        self.device.act(act, now, world)
+        self.counter.act(act, now, world)
     }
 }
 
-/// The row that a word names: its number, after `+` where the row's mode is to have started.
+/// The row that a word names: its number, after `+` where its counter is to be hit.
 fn row_of<'a>(checked: &'a Checked, word: &str) -> Result<&'a DeviceRow, Fail> {
     let number = word.trim_start_matches('+').parse::<usize>()?;
     Ok(checked.plan().rows().get(number).ok_or("a row")?)
 }
 
-/// The timer of a row, if it is one, after the start of its mode where that is to be.
-fn timer_of(row: &DeviceRow, started: bool) -> Option<Timer> {
-    let mut timer = Timer::new(row)?;
-    if started {
+/// The counter of a row, after a hit where that is to be.
+fn counter_of(row: &DeviceRow, hit: bool) -> Option<Counter> {
+    let mut counter = Counter::new(row)?;
+    if hit {
         let world = World {
             games: 0,
             player: 0,
         };
-        timer.start(0, world);
+        counter.act(Act::Count, 0, world);
     }
-    Some(timer)
-}
-
-/// The device of a row of a counter or a timer, in a box that counts its drop.
-fn add_counted(
-    alloc: Global,
-    boxes: &mut Vec<Box<dyn Device>>,
-    row: &DeviceRow,
-    started: bool,
-    drops: Drops,
-) -> Result<(), AllocError> {
-    if let Some(counter) = Counter::new(row) {
-        let device: Box<dyn Device> = Box::new(alloc, counter)?;
-        boxes.push(Box::new(alloc, Counted { device, drops })?)?;
-    } else if let Some(timer) = timer_of(row, started) {
-        let device: Box<dyn Device> = Box::new(alloc, timer)?;
-        boxes.push(Box::new(alloc, Counted { device, drops })?)?;
-    }
-    Ok(())
+    Some(counter)
 }
 
 /// Adds whether the boxes of the rows that the words name make a rig, how many boxes are dropped
@@ -112,8 +94,9 @@ pub(crate) fn boxed(
     let mut boxes: Vec<Box<dyn Device>> = Vec::new(alloc);
     for word in words.split_whitespace() {
         let row = row_of(&checked, word)?;
+        let counter = counter_of(row, word.starts_with('+')).ok_or("a counter")?;
         let drops = dropped.clone()?;
-        add_counted(alloc, &mut boxes, row, word.starts_with('+'), drops)?;
+        boxes.push(Box::new(alloc, Counted { counter, drops })?)?;
     }
     match Rig::new(alloc, &checked, boxes) {
         Ok(_rig) => write!(out, "a rig, {} dropped, ", dropped.get())?,
@@ -122,7 +105,7 @@ pub(crate) fn boxed(
     Ok(write!(out, "{} in all", dropped.get())?)
 }
 
-// Row 0 is a counter, 1 a timer that its mode starts, and 2 another one.
+// Row 0 is the machine's, 1 and 2 are of a mode.
 const BOXES: &str = "\
 modes: m
 counters:
@@ -130,11 +113,12 @@ counters:
     count_events: hit
 @ modes/m/config/m.yaml
 #config_version=6
-timers:
+counters:
   first:
-    start_running: yes
+    count_events: hit
   second:
-    start_value: 3
+    count_events: hit
+    starting_count: 3
 ?
 0 1 2 => a rig, 0 dropped, 3 in all
 1 2 => WrongDevice(RowId(0)), 2 dropped, 2 in all
