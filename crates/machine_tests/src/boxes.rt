@@ -7,7 +7,7 @@ use logic_blocks::Counter;
 use mpf_config::Config;
 use pin_rig::Rig;
 use plan_tables::{Act, DeviceRow};
-use std::alloc::Global;
+use std::alloc::{AllocError, Global};
 use std::cell::Cell;
 use std::rc::Rc;
 use std::test::Fail;
@@ -81,6 +81,20 @@ fn counter_of(row: &DeviceRow, hit: bool) -> Option<Counter> {
     Some(counter)
 }
 
+/// Adds whether these devices make a rig, and how many of them are dropped while it is there.
+fn add_rig<D: Device>(
+    alloc: Global,
+    out: &mut String,
+    checked: &Checked,
+    devices: Vec<D>,
+    dropped: &Drops,
+) -> Result<(), AllocError> {
+    match Rig::new(alloc, checked, devices) {
+        Ok(_rig) => write!(out, "a rig, {} dropped, ", dropped.get()),
+        Err(fault) => write!(out, "{fault:?}, {} dropped, ", dropped.get()),
+    }
+}
+
 /// Adds whether the boxes of the rows that the words name make a rig, how many boxes are dropped
 /// then, and how many after that.
 pub(crate) fn boxed(
@@ -98,10 +112,7 @@ pub(crate) fn boxed(
         let drops = dropped.clone()?;
         boxes.push(Box::new(alloc, Counted { counter, drops })?)?;
     }
-    match Rig::new(alloc, &checked, boxes) {
-        Ok(_rig) => write!(out, "a rig, {} dropped, ", dropped.get())?,
-        Err(fault) => write!(out, "{fault:?}, {} dropped, ", dropped.get())?,
-    }
+    add_rig(alloc, out, &checked, boxes, &dropped)?;
     Ok(write!(out, "{} in all", dropped.get())?)
 }
 
