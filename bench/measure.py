@@ -187,7 +187,7 @@ def plays_devices(bench: Bench, runs: int) -> None:
     bundle, log = bench.folder / "devices.bundle", bench.folder / "devices.log"
     bundle.write_bytes(devices.machine())
     log.write_text(devices.log())
-    plays_both(bench, f" with {devices.BLOCKS} logic blocks and {devices.TIMERS} timers", bundle, log, runs)
+    plays_both(bench, f", {devices.BLOCKS} blocks, {devices.TIMERS} timers", bundle, log, runs)
 
 
 def plays_waits(bench: Bench, runs: int) -> None:
