@@ -29,6 +29,8 @@ impl Drop for Counted {
 }
 
 impl Device for Counted {
+    ghost use Rattle.std.specs.Prelude.{◌≡◌, []};
+
     ghost row_of = { λ c. ⟦<Counter as Device>⟧.row_of c.counter };
 
     ghost state_of = { λ c. ⟦<Counter as Device>⟧.state_of c.counter };
@@ -53,7 +55,11 @@ impl Device for Counted {
         self.counter.stop(now, world)
     }
 
-    fn fire(&mut self, now: u64, world: World) -> Outcome {
+    /// Never comes: nothing of a counter is due.
+    fn fire(&mut self, now: u64, world: World) -> Outcome
+        ensures same { self.new ≡ self.old }
+        ensures outcome { result.items ≡ [] }
+    {
         self.counter.fire(now, world)
     }
 
