@@ -6,6 +6,9 @@ use Rattle.plan_tables.specs.declared.entries.Contact.TheVariants.{NormallyOpen}
 use Rattle.plan_tables.specs.declared.entries.EventId.{EventId}
 use Rattle.plan_tables.specs.declared.entries.SwitchId.{SwitchId}
 use Rattle.plan_tables.specs.declared.entries.SwitchKind.{SwitchKind}
+use Rattle.plan_tables.specs.declared.entries.Listener.{Listener}
+use Rattle.plan_tables.specs.declared.entries.CoilId.{CoilId}
+use Rattle.plan_tables.specs.declared.entries.CoilLimits.{CoilLimits}
 use Rattle.plan_tables.specs.declared.entries.Mode.{Mode}
 use Rattle.plan_tables.specs.declared.entries.ModeId.{ModeId}
 use Rattle.plan_tables.specs.declared.entries.ModeEvent.{ModeEvent}
@@ -22,13 +25,16 @@ use Rattle.plan_tables.specs.declared.entries.Action.{Action}
 use Rattle.plan_tables.specs.declared.entries.Target.TheVariants.{Run}
 use Rattle.plan_tables.specs.declared.entries.Binding.{Binding}
 use Rattle.plan_tables.specs.declared.devices.RowId.{RowId}
+use Rattle.plan_tables.specs.declared.devices.Act.{Act}
+use Rattle.plan_tables.specs.declared.devices.Act.TheVariants.{SwitchOn, SwitchOff}
 use Rattle.plan_tables.specs.declared.devices.DeviceRow.{DeviceRow}
 use Rattle.plan_tables.specs.declared.devices.Settings.TheVariants.{Accrual}
 
--- a switch: its name, how it is read, and what it posts when it becomes active and inactive
+-- a switch: its name, how it is read, which devices listen to it, and what it posts when it becomes active and inactive
 pub record PlanSwitch : Type 0 where
   pub name : List ℕ
   pub kind : SwitchKind
+  pub listeners : List Listener
   pub active : List EventId
   pub inactive : List EventId
 
@@ -38,7 +44,20 @@ switch_posts active s = if active then s.active else s.inactive
 
 -- in place of a switch where there is none
 abbrev pub no_switch : PlanSwitch
-no_switch = record { name = []; kind = record { contact = NormallyOpen; quick = false }; active = []; inactive = [] }
+no_switch = record { name = []; kind = record { contact = NormallyOpen; quick = false }; listeners = []; active = []; inactive = [] }
+
+-- what a device is told when the switch to which it listens becomes active, or inactive
+abbrev pub act_of_listener : Bool → Listener → Act
+act_of_listener active l = if active then SwitchOn l.switch else SwitchOff l.switch
+
+-- a coil: its name, and what it may be sent
+pub record PlanCoil : Type 0 where
+  pub name : List ℕ
+  pub limits : CoilLimits
+
+-- in place of a coil where there is none: no pulse and no hold is within its limits
+abbrev pub no_coil : PlanCoil
+no_coil = record { name = []; limits = record { max_pulse_ms = 0; max_pulse_power = 0; max_hold_power = 0; may_hold = false } }
 
 -- a mode, with its name
 pub record PlanMode : Type 0 where
@@ -66,6 +85,7 @@ pub record PlanView : Type 0 where
   pub modes : List PlanMode
   pub events : List (List ℕ)
   pub switches : List PlanSwitch
+  pub coils : List PlanCoil
   pub lists : List (List Action)
   pub bindings : List Binding
   pub rows : List DeviceRow
@@ -129,6 +149,18 @@ switch_named plan name = option_map (λ n. record { 0 = n }) (position (λ s. by
 -- what a switch of the plan posts
 abbrev pub posts_of : PlanView → SwitchId → Bool → List EventId
 posts_of plan s active = switch_posts active (switch_at plan s)
+
+-- the devices that listen to a switch of the plan, in row order
+abbrev pub listeners_of : PlanView → SwitchId → List Listener
+listeners_of plan s = (switch_at plan s).listeners
+
+-- a coil by its number
+abbrev pub coil_at : PlanView → CoilId → PlanCoil
+coil_at plan c = slice_index_or plan.coils c.0 no_coil
+
+-- the coil of a name, if there is one
+abbrev pub coil_named : PlanView → List ℕ → Option CoilId
+coil_named plan name = option_map (λ n. record { 0 = n }) (position (λ c. bytes_eq name c.name) plan.coils)
 
 -- the actions of an effect list
 abbrev pub actions_at : PlanView → ListId → List Action

@@ -72,6 +72,10 @@ pub enum Settings {
     Accrual(StepSettings),
     Sequence(StepSettings),
     Timer(TimerSettings),
+    /// A flipper. What one flipper does, and another does not, is in their effect lists.
+    Flipper,
+    /// An autofire coil. Which coil it is stands in its effect list.
+    Autofire,
 }
 
 /// A device of a plan.
