@@ -10,6 +10,8 @@ import time
 KIB = 1 << 10
 MIB = 1 << 20
 PEAK_RUNS = 3
+# A process of a millisecond or two may end before its memory is looked at. So many more times it is tried then.
+MORE_RUNS = 100
 # Has no match once the process has ended.
 PEAK = re.compile(r"VmHWM:\s*(?P<peak>\d+) kB")
 
@@ -73,6 +75,9 @@ def cost_of(command: list[str], path: pathlib.Path, results: list[tuple[float, i
     if len(statuses) > 1:
         sys.exit(f"{command[0]} ends in different ways: {sorted(statuses)}")
     memory = max(peak(command, path) for _ in range(PEAK_RUNS))
+    more = MORE_RUNS
+    while memory == 0 and more > 0:
+        memory, more = peak(command, path), more - 1
     if memory == 0:
         sys.exit(f"{command[0]} ended before its memory was looked at: the machine has other work")
     return Cost(statistics.median(seconds for seconds, _ in results), memory, statuses.pop())

@@ -12,8 +12,8 @@ use Rattle.mpf_config.specs.Reading.{rows_at}
 use Rattle.mpf_config.proofs.ShortRows.{rows_are_short, rows_are_few}
 use Rattle.plan_tables.specs.PlanView.{PlanView}
 use Rattle.cascade_rank.specs.Weights.{greatest}
-use Rattle.config_checker.specs.CheckedView.{CheckedView}
-use Rattle.config_checker.specs.Accepted.{IsAccepted}
+use Rattle.written_machine.specs.CheckedView.{CheckedView}
+use Rattle.written_machine.specs.Accepted.{IsAccepted}
 use Rattle.config_checker.specs.CertificateText.{event_line, event_lines, bound_line, certificate_text}
 use Rattle.config_checker.specs.Checking.{checked_at}
 use Rattle.config_checker.proofs.Names.{all_seen}

@@ -16,7 +16,7 @@ use Rattle.cascade_rank.specs.Found.{IsUnfound}
 use Rattle.cascade_rank.specs.Verified.{IsVerified, IsUnverified}
 use Rattle.config_checker.specs.declared.report.Report.{Report}
 use Rattle.config_checker.specs.declared.report.Report.TheVariants.{NoMemory, Faults}
-use Rattle.config_checker.specs.CheckedView.{CheckedView}
+use Rattle.written_machine.specs.CheckedView.{CheckedView}
 use Rattle.config_checker.specs.CertificateText.{Certificate, text_of, certificate_text}
 use Rattle.config_checker.specs.CertificateOf.{IsTextOf, certificate_at}
 use Rattle.config_checker.specs.Checking.{FaultView, row, limit, cycle, bound, certificate, bad_line, other_events, other_bound, named_fault, weighed, weighed_plan, same_names, certificate_names, certificate_weights, bounded, certified, certified_plan, reported_alone, faults_of_rows, faults_first, checked, checked_at, checked_with_at}

@@ -30,8 +30,8 @@ use Rattle.plan_contributions.specs.Posting.{IsSwitchPosting, IsPlayerPosting, I
 use Rattle.mpf_plan.proofs.PostNames.{IsNameOf, posts-named}
 use Rattle.mpf_plan.proofs.ModeEventNames.{free-by_name}
 use Rattle.mpf_plan.proofs.ValidPlan.{own-plan_at}
-use Rattle.config_checker.specs.Devices.{ActsAreOwn, IsOwnAct}
-use Rattle.config_checker.specs.FreePosts.{IsFree, IsFreeAction, IsFreeSwitch, PostsAreFree}
+use Rattle.written_machine.specs.Devices.{ActsAreOwn, IsOwnAct}
+use Rattle.written_machine.specs.FreePosts.{IsFree, IsFreeAction, IsFreeSwitch, PostsAreFree}
 use Rattle.config_checker.specs.Reserved.{mode_events, events_of_modes, mode_names, is_reserved, game_events, switch_posts, player_posts, block_posts, counter_posts, step_posts, posts_in, posts_of}
 use Rattle.config_checker.specs.Checking.{faults_of_rows}
 use Rattle.config_checker.proofs.FreeNames.{posts-free, active-free, inactive-free, tag-free, block-free, timer-free}

@@ -24,8 +24,8 @@ use Rattle.cascade_rank.specs.Verified.{IsVerified}
 use Rattle.cascade_rank.proofs.FirstEvent.{first_event-None}
 use Rattle.cascade_rank.proofs.Verifying.{IsWithinLimit-from_test, verified_at-bound}
 use Rattle.cascade_rank.proofs.Finds.{ranks_least}
-use Rattle.config_checker.specs.CheckedView.{CheckedView}
-use Rattle.config_checker.specs.Accepted.{IsAccepted}
+use Rattle.written_machine.specs.CheckedView.{CheckedView}
+use Rattle.written_machine.specs.Accepted.{IsAccepted}
 use Rattle.config_checker.proofs.PlanFree.{plan_free, plan_own}
 use Rattle.config_checker.specs.CertificateText.{Certificate, certificate_of, certificate_text}
 use Rattle.config_checker.specs.CertificateOf.{IsWord, IsWritable, certificate_at}

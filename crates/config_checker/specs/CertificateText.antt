@@ -2,7 +2,7 @@
 use Rattle.std.specs.Prelude.{ℕ, List, [], ◌∷◌, ◌++◌, codes}
 use Rattle.std.specs.List.{zip, flat_map}
 use Rattle.std.specs.Fmt.{decimal}
-use Rattle.config_checker.specs.CheckedView.{CheckedView}
+use Rattle.written_machine.specs.CheckedView.{CheckedView}
 
 -- a bound, and events by their names with their weights
 pub record Certificate : Type 0 where

@@ -8,7 +8,7 @@ use Rattle.cascade_rank.specs.Events.{weight_of}
 use Rattle.cascade_rank.specs.Weights.{bound_of}
 use Rattle.cascade_rank.specs.Finding.{RankView, found_at, verified_at}
 use Rattle.cascade_rank.specs.Finding as ranks
-use Rattle.config_checker.specs.CheckedView.{CheckedView}
+use Rattle.written_machine.specs.CheckedView.{CheckedView}
 pub use Rattle.config_checker.specs.FaultView.{CertificateFaultView, bad_line, other_events, short, other_bound, FaultView, row, limit, cycle, bound, certificate}
 use Rattle.config_checker.specs.RowFaults.{row_faults}
 use Rattle.config_checker.specs.CertificateText.{Certificate}

@@ -16,7 +16,7 @@ use Rattle.config_checker.specs.declared.report.Fault.{Fault}
 use Rattle.config_checker.specs.declared.report.Fault.TheVariants as faults
 use Rattle.config_checker.specs.declared.report.Report.{Report}
 use Rattle.config_checker.specs.declared.report.Report.TheVariants as reports
-use Rattle.config_checker.specs.CheckedView.{CheckedView}
+use Rattle.written_machine.specs.CheckedView.{CheckedView}
 use Rattle.config_checker.specs.Checking.{CertificateFaultView, bad_line, other_events, short, other_bound, FaultView, row, limit, cycle, bound, certificate}
 
 abbrev pub certificate_fault_view : CertificateFault → CertificateFaultView

@@ -13,11 +13,11 @@ pub struct Checked {
 }
 
 impl Model for Checked {
-    ghost use Rattle.config_checker.specs.CheckedView.{CheckedView};
+    ghost use Rattle.written_machine.specs.CheckedView.{CheckedView};
 
     ghost Value = { CheckedView };
 
-    ghost use Rattle.config_checker.specs.Accepted.{IsAccepted};
+    ghost use Rattle.written_machine.specs.Accepted.{IsAccepted};
 
     ghost view = { λ c. record { plan = c.plan; weights = c.weights; bound = c.bound } };
 
@@ -26,9 +26,9 @@ impl Model for Checked {
 
 impl Checked {
     ghost use Rattle.std.specs.Prelude.{◌≡◌};
-    ghost use Rattle.config_checker.specs.CheckedView.{CheckedView};
-    ghost use Rattle.config_checker.specs.Accepted.{IsAccepted};
-    ghost use Rattle.config_checker.specs.GoodRun.{IsGood};
+    ghost use Rattle.written_machine.specs.CheckedView.{CheckedView};
+    ghost use Rattle.written_machine.specs.Accepted.{IsAccepted};
+    ghost use Rattle.written_machine.specs.GoodRun.{IsGood};
 
     pub(crate) fn new(plan: Plan, weights: Weights, bound: u32) -> Checked
         requires { IsAccepted (record { plan = plan; weights = weights; bound = bound }) }

@@ -4,8 +4,8 @@ ghost use Rattle.std.specs.Prelude.{◌≡◌, ◌==◌, [], Ok, IfOk, OnOk, IfE
 ghost use Rattle.mpf_config.specs.View.{rows_view};
 ghost use Rattle.mpf_plan.specs.PlanOf.{plan_at};
 ghost use Rattle.cascade_rank.specs.Weights.{IsLeastFitting};
-ghost use Rattle.config_checker.specs.Accepted.{IsAccepted};
-ghost use Rattle.config_checker.specs.GoodRun.{IsGood};
+ghost use Rattle.written_machine.specs.Accepted.{IsAccepted};
+ghost use Rattle.written_machine.specs.GoodRun.{IsGood};
 ghost use Rattle.config_checker.specs.CertificateText.{certificate_text};
 ghost use Rattle.config_checker.specs.View.{GivesChecked};
 ghost use Rattle.config_checker.specs.Checking.{same_names, faults_of_rows, checked_at, checked_with_at};

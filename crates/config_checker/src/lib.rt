@@ -1,4 +1,4 @@
-//! The checker of a configuration, and the written machine that its promises speak of.
+//! The checker of a configuration.
 #![tactic(auto)]
 
 pub mod certificate;
@@ -6,7 +6,6 @@ mod certificate_reader;
 pub mod checked;
 pub mod checker;
 pub mod law;
-pub mod line;
 pub mod report;
 pub mod report_text;
 mod reporting;
@@ -16,7 +15,6 @@ mod row_faults;
 pub use certificate::write_certificate;
 pub use checked::Checked;
 pub use checker::{check, check_with};
-pub use law::{accepted_is_good, alarms_end, certificate_is_read_again};
-pub use line::{Happening, Line};
+pub use law::certificate_is_read_again;
 pub use report::{CertificateFault, Fault, Report, RowFault, RowFaultKind};
 pub use report_text::write_report;

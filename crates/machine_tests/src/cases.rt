@@ -2,6 +2,7 @@
 //! `QUESTION => ANSWER`. An empty line ends it. In the machine text `«N TEXT»` is the text N times,
 //! with `#` for the numbers from 1 to N.
 
+use crate::boxes::boxed;
 use crate::checks::checked;
 use crate::levels::changed;
 use crate::plans::{planned, sized};
@@ -24,6 +25,7 @@ pub(crate) enum Subject {
     Queue,
     Levels,
     Check,
+    Boxes,
     Steps,
     Moments,
 }
@@ -95,6 +97,7 @@ fn ask(
         Subject::Limits => Ok(sized(alloc, out, config)?),
         Subject::Queue => queued(alloc, out, question),
         Subject::Check => checked(alloc, out, config, question),
+        Subject::Boxes => boxed(alloc, out, config, question),
         Subject::Steps => stepped(alloc, out, config, question),
         Subject::Moments => Ok(admitted(out, question)?),
         _ => ask_plan(alloc, out, subject, config, question),

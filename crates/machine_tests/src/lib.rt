@@ -1,7 +1,9 @@
 //! Tests of the machine's layers, each over its public calls: plans, levels of switches, queues,
-//! weights, checks with their certificates, and the steps of a rig.
+//! weights, checks with their certificates, and rigs: their boxes and their steps.
 #![tactic(auto)]
 
+#[cfg(test)]
+mod boxes;
 #[cfg(test)]
 mod cases;
 #[cfg(test)]

@@ -3,16 +3,16 @@ use Rattle.std.proofs.Common.{◌≡◌, ℕ, ◌<◌, ◌^◌, Ok, ◌++◌, Li
 use Rattle.std.proofs.lemmas.List.{length-map}
 use Rattle.plan_tables.specs.PlanView.{PlanView}
 use Rattle.plan_tables.specs.declared.entries.SwitchKind.{SwitchKind}
-use Rattle.config_checker.specs.Machine.{Machine}
-use Rattle.config_checker.specs.EventStep.{EventSteps}
-use Rattle.config_checker.specs.PlanOrder.{plan_steps}
-use Rattle.config_checker.specs.Run.{Stimulus, Change, Alarm, Wait, moment_of, IsAllowed, begin, IsReached}
-use Rattle.config_checker.specs.CheckedView.{CheckedView}
-use Rattle.config_checker.specs.Accepted.{IsAccepted}
-use Rattle.config_checker.proofs.PlanSteps.{plan_steps-event_steps}
-use Rattle.config_checker.proofs.Reached.{reached-next, reached-within, reached-same, reached-has_states, reached-devices, reached-kinds, reached-complete, reached-modes}
-use Rattle.config_checker.proofs.Alarms.{has_states-begin, moment-begin}
-use Rattle.config_checker.proofs.Silence.{begin-still}
+use Rattle.written_machine.specs.Machine.{Machine}
+use Rattle.written_machine.specs.EventStep.{EventSteps}
+use Rattle.written_machine.specs.PlanOrder.{plan_steps}
+use Rattle.written_machine.specs.Run.{Stimulus, Change, Alarm, Wait, moment_of, IsAllowed, begin, IsReached}
+use Rattle.written_machine.specs.CheckedView.{CheckedView}
+use Rattle.written_machine.specs.Accepted.{IsAccepted}
+use Rattle.written_machine.proofs.PlanSteps.{plan_steps-event_steps}
+use Rattle.written_machine.proofs.Reached.{reached-next, reached-within, reached-same, reached-has_states, reached-devices, reached-kinds, reached-complete, reached-modes}
+use Rattle.written_machine.proofs.Alarms.{has_states-begin, moment-begin}
+use Rattle.written_machine.proofs.Silence.{begin-still}
 use Rattle.pin_rig.specs.declared.input.Input.{Input}
 use Rattle.pin_rig.specs.Core.{CoreView, CanCall, HandlesFor, IsPlayable, HasRoom, StaysWithin, HasSettled, after}
 use Rattle.pin_rig.proofs.Settling.{follows-handles}

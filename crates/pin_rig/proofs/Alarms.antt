@@ -12,12 +12,12 @@ use Rattle.switch_core.specs.declared.change.Change.{Change as Acceptance}
 use Rattle.switch_core.specs.Switches.{SwitchesView, next_due, IsNextDue, IsNothingDue, reported, after_fire, reported_by_fire}
 use Rattle.switch_core.proofs.NextDue.{next_due-is, next_due-is_due}
 use Rattle.switch_core.proofs.Lists.{due-within}
-use Rattle.config_checker.specs.Machine.{Machine, device_at}
-use Rattle.config_checker.specs.Devices.{HasDevices}
-use Rattle.config_checker.specs.Run.{Source, switch, device}
-use Rattle.config_checker.specs.NextAlarm.{next_alarm}
-use Rattle.config_checker.proofs.Does.{due-row}
-use Rattle.config_checker.proofs.NextAlarms.{found-is_next, next_alarm-due}
+use Rattle.written_machine.specs.Machine.{Machine, device_at}
+use Rattle.written_machine.specs.Devices.{HasDevices}
+use Rattle.written_machine.specs.Run.{Source, switch, device}
+use Rattle.written_machine.specs.NextAlarm.{next_alarm}
+use Rattle.written_machine.proofs.Does.{due-row}
+use Rattle.written_machine.proofs.NextAlarms.{found-is_next, next_alarm-due}
 use Rattle.pin_rig.specs.Core.{CoreView, IsCoreOf}
 
 same_Some : (a b : Acceptance) → Some a ≡ Some b → a ≡ b

@@ -8,7 +8,7 @@ use Rattle.plan_tables.specs.declared.devices.RowId.{RowId}
 use Rattle.device_objects.specs.declared.device.Call.{Call}
 use Rattle.device_objects.specs.declared.state.DeviceState.{DeviceState}
 use Rattle.device_objects.specs.DeviceStep.{device_step, first_state}
-use Rattle.config_checker.specs.Machine.{device_state}
+use Rattle.written_machine.specs.Machine.{device_state}
 use Rattle.pin_rig.specs.Core.{no_world}
 
 module _ {A : Type 0} (row : A → DeviceRow) (state : A → DeviceState) (plan : PlanView) (items : List A) (at : RowId) (old new : A)

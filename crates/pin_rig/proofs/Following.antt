@@ -15,11 +15,11 @@ use Rattle.mode_stack.proofs.WhoRuns.{starting_keeps_who_runs}
 use Rattle.event_queue.specs.Handlers.{none_running, set_running}
 use Rattle.device_objects.specs.declared.device.Call.{Call}
 use Rattle.device_objects.specs.declared.device.Call.TheVariants as calls
-use Rattle.config_checker.specs.Machine.{Machine, post, set_mode, stop_mode, call_devices}
-use Rattle.config_checker.specs.EventStep.{do_before, do_after}
-use Rattle.config_checker.proofs.Does.{stop-by}
-use Rattle.config_checker.proofs.Parts.{does-calls}
-use Rattle.config_checker.proofs.Silence.{still-does}
+use Rattle.written_machine.specs.Machine.{Machine, post, set_mode, stop_mode, call_devices}
+use Rattle.written_machine.specs.EventStep.{do_before, do_after}
+use Rattle.written_machine.proofs.Does.{stop-by}
+use Rattle.written_machine.proofs.Parts.{does-calls}
+use Rattle.written_machine.proofs.Silence.{still-does}
 use Rattle.pin_rig.specs.Core.{CoreView, after, follow}
 
 -- where the same modes run, the handlers are the same

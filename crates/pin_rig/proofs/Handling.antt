@@ -10,8 +10,8 @@ use Rattle.plan_tables.specs.declared.entries.EventId.{EventId}
 use Rattle.plan_tables.specs.declared.entries.Binding.{Binding}
 use Rattle.event_queue.specs.Handlers.{HandlersView}
 use Rattle.event_queue.specs.PlanOrder.{in_order, handlers_from, GoesOn}
-use Rattle.config_checker.specs.Machine.{all_do, do_binding, do_handler}
-use Rattle.config_checker.proofs.Growth.{handler-grows}
+use Rattle.written_machine.specs.Machine.{all_do, do_binding, do_handler}
+use Rattle.written_machine.proofs.Growth.{handler-grows}
 use Rattle.pin_rig.specs.Core.{CoreView, HasRoom, after}
 use Rattle.pin_rig.proofs.Room.{room-first, all_do-first}
 

@@ -4,11 +4,11 @@ use Rattle.std.specs.Result.{result_and}
 use Rattle.std.proofs.lemmas.Bool.{cond_both, cond-true, cond-false, ltb-true, ltb-false, lt-ltb, le-ltb, leb-false, lt-leb}
 use Rattle.plan_tables.specs.declared.entries.SwitchId.{SwitchId}
 use Rattle.plan_tables.specs.Valid.{IsValid}
-use Rattle.config_checker.specs.Machine.{Machine}
-use Rattle.config_checker.specs.Run.{Source, Stimulus, Change, Alarm, Wait, IsTimely, IsAllowed}
-use Rattle.config_checker.specs.NextAlarm.{next_alarm, is_due_by}
-use Rattle.config_checker.proofs.NextAlarms.{found-is_next, next-is_found, not_due-nothing, nothing-not_due}
-use Rattle.config_checker.proofs.Reached.{reached-not_late}
+use Rattle.written_machine.specs.Machine.{Machine}
+use Rattle.written_machine.specs.Run.{Source, Stimulus, Change, Alarm, Wait, IsTimely, IsAllowed}
+use Rattle.written_machine.specs.NextAlarm.{next_alarm, is_due_by}
+use Rattle.written_machine.proofs.NextAlarms.{found-is_next, next-is_found, not_due-nothing, nothing-not_due}
+use Rattle.written_machine.proofs.Reached.{reached-not_late}
 use Rattle.pin_rig.specs.declared.input.Input.{Input}
 use Rattle.pin_rig.specs.declared.input.Input.TheVariants as inputs
 use Rattle.pin_rig.specs.declared.input.StepFault.{StepFault}

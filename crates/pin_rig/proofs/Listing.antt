@@ -14,11 +14,11 @@ use Rattle.device_objects.specs.Outcomes.{outcomes}
 use Rattle.device_objects.proofs.Answered.{answers_are_outcomes}
 use Rattle.cascade_rank.proofs.Outcomes.{outcomes_of_row}
 use Rattle.cascade_rank.proofs.Rows.{length-rows, row_of}
-use Rattle.config_checker.specs.Devices.{HasDevices}
-use Rattle.config_checker.specs.Machine.{Machine, all_do, do_action, do_list, world_of, device_at, called, call_device}
-use Rattle.config_checker.proofs.Does.{grows-does, has_devices-does, moment-does}
-use Rattle.config_checker.proofs.Growth.{all_do-grows, action-grows}
-use Rattle.config_checker.proofs.Parts.{does-call}
+use Rattle.written_machine.specs.Devices.{HasDevices}
+use Rattle.written_machine.specs.Machine.{Machine, all_do, do_action, do_list, world_of, device_at, called, call_device}
+use Rattle.written_machine.proofs.Does.{grows-does, has_devices-does, moment-does}
+use Rattle.written_machine.proofs.Growth.{all_do-grows, action-grows}
+use Rattle.written_machine.proofs.Parts.{does-call}
 use Rattle.pin_rig.specs.Core.{CoreView, CanCall, after}
 use Rattle.pin_rig.proofs.Room.{Grows}
 

@@ -5,8 +5,8 @@ use Rattle.plan_tables.specs.declared.entries.EventId.{EventId}
 use Rattle.plan_tables.specs.declared.entries.Owner.{Owner}
 use Rattle.plan_tables.specs.PlanView.{PlanView}
 use Rattle.switch_core.specs.declared.change.Change.{Change as Acceptance}
-use Rattle.config_checker.specs.Machine.{Machine, post, all_do, do_accepted}
-use Rattle.config_checker.proofs.Growth.{all_do-grows, post-grows, accepted-grows}
+use Rattle.written_machine.specs.Machine.{Machine, post, all_do, do_accepted}
+use Rattle.written_machine.proofs.Growth.{all_do-grows, post-grows, accepted-grows}
 use Rattle.event_queue.specs.declared.queue.Posted.{Posted}
 use Rattle.event_queue.specs.Queue.{QueueView, IsTaken}
 use Rattle.pin_rig.specs.Core.{CoreView, TakesFirst, HasRoom, after}

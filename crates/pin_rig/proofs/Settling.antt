@@ -7,12 +7,12 @@ use Rattle.plan_tables.specs.declared.entries.Work.TheVariants.{Nothing, Mode}
 use Rattle.mode_stack.specs.Modes.{running_of}
 use Rattle.event_queue.specs.declared.queue.Posted.{Posted}
 use Rattle.event_queue.specs.PlanOrder.{by_priority}
-use Rattle.config_checker.specs.declared.line.Happening.TheVariants as happenings
-use Rattle.config_checker.specs.Machine.{Machine, write, all_do, do_handler}
-use Rattle.config_checker.specs.EventStep.{taken, is_kept, do_after, before_handlers, handlers_in}
-use Rattle.config_checker.specs.PlanOrder.{plan_step_from, plan_step, plan_steps}
-use Rattle.config_checker.proofs.Growth.{event-grows}
-use Rattle.config_checker.proofs.PlanSteps.{plan_steps-more}
+use Rattle.written_machine.specs.declared.line.Happening.TheVariants as happenings
+use Rattle.written_machine.specs.Machine.{Machine, write, all_do, do_handler}
+use Rattle.written_machine.specs.EventStep.{taken, is_kept, do_after, before_handlers, handlers_in}
+use Rattle.written_machine.specs.PlanOrder.{plan_step_from, plan_step, plan_steps}
+use Rattle.written_machine.proofs.Growth.{event-grows}
+use Rattle.written_machine.proofs.PlanSteps.{plan_steps-more}
 use Rattle.pin_rig.specs.Core.{CoreView, CanCall, HandlesFor, HasRoom, StaysWithin, after, follow, after_taken}
 
 -- whether a stop was kept is the same before and after the event is taken

@@ -6,12 +6,12 @@ use Rattle.plan_tables.specs.declared.entries.EventId.{EventId}
 use Rattle.plan_tables.specs.declared.entries.Work.{Work}
 use Rattle.mode_stack.specs.Modes.{running_of}
 use Rattle.event_queue.specs.PlanOrder.{in_order}
-use Rattle.config_checker.specs.Machine.{Machine, all_do, do_handler}
-use Rattle.config_checker.specs.EventStep.{is_kept, do_before, do_after}
-use Rattle.config_checker.proofs.Does.{Grows, grows-does, has_devices-does, moment-does}
-use Rattle.config_checker.proofs.Growth.{all_do-grows, handler-grows}
-use Rattle.config_checker.proofs.Parts.{does-handlers, does-before, does-after}
-use Rattle.config_checker.proofs.Silence.{handlers-still}
+use Rattle.written_machine.specs.Machine.{Machine, all_do, do_handler}
+use Rattle.written_machine.specs.EventStep.{is_kept, do_before, do_after}
+use Rattle.written_machine.proofs.Does.{Grows, grows-does, has_devices-does, moment-does}
+use Rattle.written_machine.proofs.Growth.{all_do-grows, handler-grows}
+use Rattle.written_machine.proofs.Parts.{does-handlers, does-before, does-after}
+use Rattle.written_machine.proofs.Silence.{handlers-still}
 use Rattle.pin_rig.specs.Core.{CoreView, CanCall, HandlesFor, HasRoom, after, follow, after_taken}
 use Rattle.pin_rig.proofs.Room.{room-before}
 

@@ -10,12 +10,12 @@ use Rattle.event_queue.specs.Handlers.{HandlersView}
 use Rattle.mode_stack.specs.Modes.{running_of}
 use Rattle.plan_tables.specs.declared.entries.EventId.{EventId}
 use Rattle.event_queue.specs.PlanOrder.{by_priority}
-use Rattle.config_checker.specs.Machine.{Machine, all_do, do_handler}
-use Rattle.config_checker.specs.Devices.{HasDevices}
-use Rattle.config_checker.specs.EventStep.{work_before, work_after, handlers_in}
-use Rattle.config_checker.specs.Run.{Stimulus, Change, Alarm, Wait}
-use Rattle.config_checker.specs.NextAlarm.{next_alarm}
-use Rattle.config_checker.specs.PlanOrder.{plan_steps}
+use Rattle.written_machine.specs.Machine.{Machine, all_do, do_handler}
+use Rattle.written_machine.specs.Devices.{HasDevices}
+use Rattle.written_machine.specs.EventStep.{work_before, work_after, handlers_in}
+use Rattle.written_machine.specs.Run.{Stimulus, Change, Alarm, Wait}
+use Rattle.written_machine.specs.NextAlarm.{next_alarm}
+use Rattle.written_machine.specs.PlanOrder.{plan_steps}
 
 pub record CoreView : Type 0 where
   -- what handles events

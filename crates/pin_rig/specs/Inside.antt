@@ -1,8 +1,8 @@
 -- What a rig holds, and what is seen of a stimulus, apart from where they lie in memory.
 use Rattle.std.specs.Prelude.{◌≡◌, ℕ, ◌≤◌, Result, Ok, Err}
-use Rattle.config_checker.specs.Accepted.{IsAccepted}
-use Rattle.config_checker.specs.CheckedView.{CheckedView}
-use Rattle.config_checker.specs.Run.{Source, switch, device, Stimulus, Change, Alarm, Wait}
+use Rattle.written_machine.specs.Accepted.{IsAccepted}
+use Rattle.written_machine.specs.CheckedView.{CheckedView}
+use Rattle.written_machine.specs.Run.{Source, switch, device, Stimulus, Change, Alarm, Wait}
 use Rattle.pin_rig.specs.declared.input.StepFault.{StepFault}
 use Rattle.pin_rig.specs.declared.stimulus.Source.{Source as HeldSource}
 use Rattle.pin_rig.specs.declared.stimulus.Source.TheVariants as held_source

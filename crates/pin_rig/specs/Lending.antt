@@ -1,7 +1,7 @@
 -- What holds once the lines that a step lends are given back.
 use Rattle.std.specs.Prelude.{◌≡◌, List, Result, MatchResult}
 use Rattle.std.specs.Borrow.{Bor}
-use Rattle.config_checker.specs.declared.line.Line.{Line}
+use Rattle.written_machine.specs.declared.line.Line.{Line}
 use Rattle.pin_rig.specs.declared.input.Input.{Input}
 use Rattle.pin_rig.specs.declared.input.StepFault.{StepFault}
 use Rattle.pin_rig.specs.Rig.{RigView, RigStep}

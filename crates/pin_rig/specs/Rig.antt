@@ -1,13 +1,13 @@
 -- A rig, and what a step of it does.
 use Rattle.std.specs.Prelude.{◌≡◌, ℕ, nat_lt, if◌then◌else◌, Option, Some, None, Result, Ok, Err, List, [], length}
 use Rattle.std.specs.Result.{result_and}
-use Rattle.config_checker.specs.declared.line.Line.{Line}
-use Rattle.config_checker.specs.CheckedView.{CheckedView}
-use Rattle.config_checker.specs.Machine.{Machine}
-use Rattle.config_checker.specs.EventStep.{EventSteps}
-use Rattle.config_checker.specs.Run.{Source, Stimulus, Change, Alarm, Wait, IsAllowed, begin, IsReached}
-use Rattle.config_checker.specs.NextAlarm.{next_alarm, is_due_by}
-use Rattle.config_checker.specs.PlanOrder.{settled}
+use Rattle.written_machine.specs.declared.line.Line.{Line}
+use Rattle.written_machine.specs.CheckedView.{CheckedView}
+use Rattle.written_machine.specs.Machine.{Machine}
+use Rattle.written_machine.specs.EventStep.{EventSteps}
+use Rattle.written_machine.specs.Run.{Source, Stimulus, Change, Alarm, Wait, IsAllowed, begin, IsReached}
+use Rattle.written_machine.specs.NextAlarm.{next_alarm, is_due_by}
+use Rattle.written_machine.specs.PlanOrder.{settled}
 use Rattle.pin_rig.specs.declared.input.Input.{Input}
 use Rattle.pin_rig.specs.declared.input.Input.TheVariants as inputs
 use Rattle.pin_rig.specs.declared.input.StepFault.{StepFault}

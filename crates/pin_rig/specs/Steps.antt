@@ -1,9 +1,9 @@
 -- Steps, one after another.
 use Rattle.std.specs.Prelude.{◌≡◌, ◌↔◌, ℕ, List, [], ◌∷◌, ◌++◌, Ok}
-use Rattle.config_checker.specs.declared.line.Line.{Line}
-use Rattle.config_checker.specs.CheckedView.{CheckedView}
-use Rattle.config_checker.specs.Machine.{initial}
-use Rattle.config_checker.specs.Run.{Source, Stimulus, Change, Alarm, Wait, IsAllowed, IsRun}
+use Rattle.written_machine.specs.declared.line.Line.{Line}
+use Rattle.written_machine.specs.CheckedView.{CheckedView}
+use Rattle.written_machine.specs.Machine.{initial}
+use Rattle.written_machine.specs.Run.{Source, Stimulus, Change, Alarm, Wait, IsAllowed, IsRun}
 use Rattle.pin_rig.specs.declared.input.Input.{Input}
 use Rattle.pin_rig.specs.declared.input.Input.TheVariants as inputs
 use Rattle.pin_rig.specs.Rig.{RigView, stimulus_at, RigStep}

@@ -7,19 +7,18 @@ ghost use Rattle.mode_stack.specs.ModeStep.{starts, started, stopped, stop_answe
 ghost use Rattle.mode_stack.specs.Modes.{needs_game, mode_state};
 ghost use Rattle.switch_core.specs.Switches.{after_change, reported_by_change, next_due, after_fire, reported_by_fire};
 ghost use Rattle.device_objects.specs.Laws.{MayCome};
-ghost use Rattle.config_checker.specs.Machine.{initial, write, post, set_switches, set_mode, set_device, device_at, called, is_post};
-ghost use Rattle.config_checker.specs.Run.{arrived};
+ghost use Rattle.written_machine.specs.Machine.{initial, write, post, set_switches, set_mode, set_device, device_at, called, is_post};
+ghost use Rattle.written_machine.specs.Run.{arrived};
 ghost use Rattle.device_objects.specs.DeviceStep.{device_step};
 ghost use Rattle.pin_rig.specs.Core.{no_world};
-ghost use Rattle.config_checker.specs.NextAlarm.{next_alarm, is_due_by, first_of};
-ghost use Rattle.config_checker.specs.Run.{switch as of_switch, device as of_device};
+ghost use Rattle.written_machine.specs.NextAlarm.{next_alarm, is_due_by, first_of};
+ghost use Rattle.written_machine.specs.Run.{switch as of_switch, device as of_device};
 ghost use Rattle.pin_rig.specs.Core.{IsCoreOf, TakesFirst, after};
 ghost use Rattle.pin_rig.specs.Inside.{alarm_view};
 
 use crate::fit::first_wrong;
 use crate::input::RigFault;
 use crate::stimulus::Source;
-use config_checker::{Happening, Line};
 use device_objects::{Call, Device, DeviceState, Outcome, World};
 use event_queue::{Alarms, Handlers, Posted, Queue};
 use mode_stack::{Modes, StopAnswer};
@@ -27,6 +26,7 @@ use plan_tables::{BindingId, EventId, ModeId, Owner, Plan, RowId, SwitchId};
 use std::alloc::Global;
 use std::marker::Model;
 use switch_core::{Change, Switches};
+use written_machine::{Happening, Line};
 
 /// The moment of the latest stimulus, the switches, the modes, the devices and their alarms, the
 /// events that wait and what handles them, and the lines of the latest stimulus. Only `new` takes

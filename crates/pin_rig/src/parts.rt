@@ -11,19 +11,19 @@ ghost use Rattle.std.specs.List.{All};
 ghost use Rattle.plan_tables.specs.Devices.{list_count};
 ghost use Rattle.device_objects.specs.declared.state.DeviceState.{DeviceState as DeviceStateValue};
 ghost use Rattle.device_objects.specs.Laws.{MayCome};
-ghost use Rattle.config_checker.specs.Machine.{all_do, post, post_if, start_mode, stop_mode, device_at, do_action, do_answer, call_device, call_devices, do_target, do_handler, do_accepted, change_switch};
-ghost use Rattle.config_checker.specs.EventStep.{is_kept, do_before, do_after};
-ghost use Rattle.config_checker.specs.Run.{begin as begun, fire as fired};
-ghost use Rattle.config_checker.specs.NextAlarm.{next_alarm};
+ghost use Rattle.written_machine.specs.Machine.{all_do, post, post_if, start_mode, stop_mode, device_at, do_action, do_answer, call_device, call_devices, do_target, do_handler, do_accepted, change_switch};
+ghost use Rattle.written_machine.specs.EventStep.{is_kept, do_before, do_after};
+ghost use Rattle.written_machine.specs.Run.{begin as begun, fire as fired};
+ghost use Rattle.written_machine.specs.NextAlarm.{next_alarm};
 ghost use Rattle.pin_rig.specs.Core.{IsCoreOf, CanCall, HandlesFor, IsWorkOf, IsPlayable, HasRoom, StaysWithin, HasSettled, after, follow, after_taken};
 ghost use Rattle.pin_rig.specs.Inside.{source_view, stimulus_view};
 
 use crate::core_state::Core;
 use crate::stimulus::{Source, Stimulus};
-use config_checker::Happening;
 use device_objects::{Call, Device};
 use plan_tables::{Action, EventId, ModeEvent, ModeId, Owner, Plan, RowId, SwitchId, Target, Work};
 use switch_core::Change;
+use written_machine::Happening;
 
 /// What a stimulus does before any event step.
 pub(crate) fn begin<D: Device>(plan: &Plan, core: &mut Core<'_, D>, stimulus: Stimulus)

@@ -6,11 +6,12 @@ use crate::core_state::Core;
 use crate::input::{Input, RigFault, StepFault, check_moment};
 use crate::parts::{begin, settle};
 use crate::stimulus::Stimulus;
-use config_checker::{Checked, Line};
+use config_checker::Checked;
 use device_objects::{Device, DeviceState};
 use plan_tables::RowId;
 use std::alloc::Global;
 use std::marker::Model;
+use written_machine::Line;
 
 /// The machine of an accepted configuration, between two stimuli: no event waits, and a run of the
 /// plan leads to its state. Moments are milliseconds, below 2^40.
@@ -34,9 +35,9 @@ impl<'c, D: Device> Model for Rig<'c, D> {
 impl<'c, D: Device> Rig<'c, D> {
     ghost use Rattle.std.specs.Prelude.{◌≡◌, ℕ, map, slice_get, Err, IfOk, IsOk, MatchResult, option_map, []};
     ghost use Rattle.std.specs.Borrow.{sem};
-    ghost use Rattle.config_checker.specs.Machine.{initial};
-    ghost use Rattle.config_checker.specs.Run.{IsReached};
-    ghost use Rattle.config_checker.specs.NextAlarm.{next_alarm};
+    ghost use Rattle.written_machine.specs.Machine.{initial};
+    ghost use Rattle.written_machine.specs.Run.{IsReached};
+    ghost use Rattle.written_machine.specs.NextAlarm.{next_alarm};
     ghost use Rattle.pin_rig.specs.Rig.{timely, alarm_at, stimulus_at, RigStep, IsOfRun};
     ghost use Rattle.pin_rig.specs.Inside.{stimulus_view, GivesStimulus};
     ghost use Rattle.std.specs.Io.BufRead.{Rests};

@@ -24,7 +24,7 @@ pub(crate) enum Stimulus {
 
 impl Stimulus {
     ghost use Rattle.std.specs.Prelude.{◌≡◌};
-    ghost use Rattle.config_checker.specs.Run.{moment_of};
+    ghost use Rattle.written_machine.specs.Run.{moment_of};
     ghost use Rattle.pin_rig.specs.Inside.{stimulus_view};
 
     /// Its moment.

@@ -5,18 +5,18 @@ use Rattle.std.specs.Str.{bytes_eq}
 use Rattle.std.specs.Str.Lines.{lines}
 use Rattle.plan_tables.specs.PlanView.{PlanView, switch_named}
 use Rattle.plan_tables.specs.declared.entries.SwitchId.{SwitchId}
-use Rattle.config_checker.specs.declared.line.Line.{Line}
-use Rattle.config_checker.specs.Machine.{Machine, initial}
-use Rattle.config_checker.specs.Run.{Source, Stimulus, Change, Alarm, Wait, moment_of, IsNoAlarmDueBy, IsAllowed, begin, IsReached}
-use Rattle.config_checker.specs.NextAlarm.{most_alarms}
-use Rattle.config_checker.specs.AlarmsBy.{alarms_by, state_after}
-use Rattle.config_checker.specs.CheckedView.{CheckedView}
-use Rattle.config_checker.specs.Accepted.{IsAccepted}
-use Rattle.config_checker.specs.PlanOrder.{plan_steps, settled}
-use Rattle.config_checker.proofs.Alarms.{settled-moment}
-use Rattle.config_checker.proofs.AlarmsEnd.{alarms_by-none, alarms_by-more, alarms_by-all}
-use Rattle.config_checker.proofs.Cascade.{verified-is_bounded}
-use Rattle.config_checker.proofs.PlanSteps.{settled-run, settled-idle, settled-steps}
+use Rattle.written_machine.specs.declared.line.Line.{Line}
+use Rattle.written_machine.specs.Machine.{Machine, initial}
+use Rattle.written_machine.specs.Run.{Source, Stimulus, Change, Alarm, Wait, moment_of, IsNoAlarmDueBy, IsAllowed, begin, IsReached}
+use Rattle.written_machine.specs.NextAlarm.{most_alarms}
+use Rattle.written_machine.specs.AlarmsBy.{alarms_by, state_after}
+use Rattle.written_machine.specs.CheckedView.{CheckedView}
+use Rattle.written_machine.specs.Accepted.{IsAccepted}
+use Rattle.written_machine.specs.PlanOrder.{plan_steps, settled}
+use Rattle.written_machine.proofs.Alarms.{settled-moment}
+use Rattle.written_machine.proofs.AlarmsEnd.{alarms_by-none, alarms_by-more, alarms_by-all}
+use Rattle.written_machine.proofs.Cascade.{verified-is_bounded}
+use Rattle.written_machine.proofs.PlanSteps.{settled-run, settled-idle, settled-steps}
 use Rattle.pin_rig.specs.declared.input.StepFault.{StepFault}
 use Rattle.pin_rig.specs.Refused.{admitted}
 use Rattle.pin_rig.proofs.Judging.{admitted-is}

@@ -3,13 +3,13 @@ use Rattle.std.proofs.Common.{◌≡◌, ◌≢◌, ℕ, ◌≤◌, List, [], �
 use Rattle.std.proofs.lemmas.Bool.{cases_lt}
 use Rattle.plan_tables.specs.PlanView.{PlanView}
 use Rattle.plan_tables.specs.Valid.{IsValid}
-use Rattle.config_checker.specs.declared.line.Line.{Line}
-use Rattle.config_checker.specs.Machine.{Machine, initial}
-use Rattle.config_checker.specs.PlanOrder.{plan_steps}
-use Rattle.config_checker.specs.Run.{Source, IsNoAlarmDueBy, IsNothingLate, IsNextAlarm, Stimulus, Change, Alarm, Wait, moment_of, IsAllowed, begin}
-use Rattle.config_checker.proofs.Alarms.{moment-after, not_late-after}
-use Rattle.config_checker.proofs.NextAlarms.{next-unique}
-use Rattle.config_checker.proofs.PlanSteps.{plan_steps-event_steps, plan_steps-enough}
+use Rattle.written_machine.specs.declared.line.Line.{Line}
+use Rattle.written_machine.specs.Machine.{Machine, initial}
+use Rattle.written_machine.specs.PlanOrder.{plan_steps}
+use Rattle.written_machine.specs.Run.{Source, IsNoAlarmDueBy, IsNothingLate, IsNextAlarm, Stimulus, Change, Alarm, Wait, moment_of, IsAllowed, begin}
+use Rattle.written_machine.proofs.Alarms.{moment-after, not_late-after}
+use Rattle.written_machine.proofs.NextAlarms.{next-unique}
+use Rattle.written_machine.proofs.PlanSteps.{plan_steps-event_steps, plan_steps-enough}
 use Rattle.pinball_shell.specs.RunGiven.{without_alarms, stimuli_of, IsRunOfLog, IsRunInOrder, IsPlayOfLog}
 
 -- no alarm is the last

@@ -7,14 +7,14 @@ use Rattle.std.proofs.lemmas.Grind.{flat_map-append}
 use Rattle.std.proofs.lemmas.List.Folds.{flat_map-map}
 use Rattle.plan_tables.specs.PlanView.{PlanView}
 use Rattle.plan_tables.specs.Valid.{IsValid}
-use Rattle.config_checker.specs.declared.line.Line.{Line}
-use Rattle.config_checker.specs.Machine.{Machine}
-use Rattle.config_checker.specs.Run.{IsNoAlarmDueBy, Stimulus, Alarm, moment_of, IsReached}
-use Rattle.config_checker.specs.NextAlarm.{most_alarms}
-use Rattle.config_checker.specs.AlarmsBy.{state_after}
-use Rattle.config_checker.specs.PlanOrder.{settled}
-use Rattle.config_checker.proofs.Alarms.{settled-moment}
-use Rattle.config_checker.proofs.AlarmsEnd.{alarms_by-none}
+use Rattle.written_machine.specs.declared.line.Line.{Line}
+use Rattle.written_machine.specs.Machine.{Machine}
+use Rattle.written_machine.specs.Run.{IsNoAlarmDueBy, Stimulus, Alarm, moment_of, IsReached}
+use Rattle.written_machine.specs.NextAlarm.{most_alarms}
+use Rattle.written_machine.specs.AlarmsBy.{state_after}
+use Rattle.written_machine.specs.PlanOrder.{settled}
+use Rattle.written_machine.proofs.Alarms.{settled-moment}
+use Rattle.written_machine.proofs.AlarmsEnd.{alarms_by-none}
 use Rattle.config_checker.proofs.Writing.{written-nil, written-then}
 use Rattle.pinball_shell.specs.declared.fault.Verdict.{Verdict}
 use Rattle.pinball_shell.specs.declared.fault.Verdict.TheVariants as verdicts

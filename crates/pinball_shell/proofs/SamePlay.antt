@@ -2,19 +2,19 @@
 use Rattle.std.proofs.Common.{◌≡◌, ℕ, zero, suc, ◌+◌, ◌<◌, ◌≤◌, ◌^◌, Option, Some, None, Result, Ok, Err, List, [], ◌∷◌, ◌++◌, map, inl, inr, refl, ap, sym, ◌∙◌, subst, arith}
 use Rattle.std.specs.Str.Lines.{lines}
 use Rattle.plan_tables.specs.PlanView.{PlanView}
-use Rattle.config_checker.specs.declared.line.Line.{Line}
-use Rattle.config_checker.specs.Machine.{Machine, initial}
-use Rattle.config_checker.specs.Run.{Stimulus, Alarm, moment_of, IsNoAlarmDueBy, IsAllowed, IsReached}
-use Rattle.config_checker.specs.NextAlarm.{most_alarms}
-use Rattle.config_checker.specs.AlarmsBy.{alarms_by, state_after}
-use Rattle.config_checker.specs.CheckedView.{CheckedView}
-use Rattle.config_checker.specs.Accepted.{IsAccepted}
-use Rattle.config_checker.specs.PlanOrder.{settled}
-use Rattle.config_checker.proofs.Alarms.{settled-moment}
-use Rattle.config_checker.proofs.AlarmsEnd.{alarms_by-none, alarms_by-more, alarms_by-all}
-use Rattle.config_checker.proofs.Cascade.{verified-is_bounded}
-use Rattle.config_checker.proofs.PlanSteps.{settled-idle, settled-same}
-use Rattle.config_checker.proofs.Reached.{reached-initial, reached-next}
+use Rattle.written_machine.specs.declared.line.Line.{Line}
+use Rattle.written_machine.specs.Machine.{Machine, initial}
+use Rattle.written_machine.specs.Run.{Stimulus, Alarm, moment_of, IsNoAlarmDueBy, IsAllowed, IsReached}
+use Rattle.written_machine.specs.NextAlarm.{most_alarms}
+use Rattle.written_machine.specs.AlarmsBy.{alarms_by, state_after}
+use Rattle.written_machine.specs.CheckedView.{CheckedView}
+use Rattle.written_machine.specs.Accepted.{IsAccepted}
+use Rattle.written_machine.specs.PlanOrder.{settled}
+use Rattle.written_machine.proofs.Alarms.{settled-moment}
+use Rattle.written_machine.proofs.AlarmsEnd.{alarms_by-none, alarms_by-more, alarms_by-all}
+use Rattle.written_machine.proofs.Cascade.{verified-is_bounded}
+use Rattle.written_machine.proofs.PlanSteps.{settled-idle, settled-same}
+use Rattle.written_machine.proofs.Reached.{reached-initial, reached-next}
 use Rattle.pinball_shell.specs.declared.refusal.Refusal.{Refusal}
 use Rattle.pinball_shell.specs.LogText.{said}
 use Rattle.pinball_shell.specs.RunOfLog.{given_by_line, trace_of, all_alarms_by, with_alarms, Printed, Traced, printed_for_line, after_line, printed_for_lines, printed_for_log}

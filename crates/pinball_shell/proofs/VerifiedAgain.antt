@@ -2,7 +2,7 @@
 use Rattle.std.proofs.Common.{◌≡◌, ℕ, ◌≤◌, ◌^◌, List, ◌++◌, length, None, Some, Result, Ok, Err, refl, ap, sym, ◌∙◌}
 use Rattle.mpf_config.specs.Rows.{Rows, RowsFault}
 use Rattle.mpf_config.specs.Reading.{rows_at}
-use Rattle.config_checker.specs.CheckedView.{CheckedView}
+use Rattle.written_machine.specs.CheckedView.{CheckedView}
 use Rattle.config_checker.specs.CertificateText.{certificate_text}
 use Rattle.config_checker.specs.Checking.{FaultView, checked_at}
 use Rattle.config_checker.proofs.ReadBack.{read-again}

@@ -4,7 +4,7 @@ use Rattle.std.specs.List.{flat_map}
 use Rattle.mpf_config.specs.Rows.{Note}
 use Rattle.mpf_config.specs.FaultLine.{fault_line}
 use Rattle.mpf_config.specs.NoteLine.{note_line}
-use Rattle.config_checker.specs.CheckedView.{CheckedView}
+use Rattle.written_machine.specs.CheckedView.{CheckedView}
 use Rattle.config_checker.specs.CertificateText.{bound_line, certificate_text}
 use Rattle.config_checker.specs.ReportText.{report_text}
 use Rattle.pinball_shell.specs.Reply.{RefusalView, unread, unfit, Answer, Reply, reply_to, reply_with}

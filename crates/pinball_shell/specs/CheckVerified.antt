@@ -1,6 +1,6 @@
 -- What `check` prints of a bundle is verified.
 use Rattle.std.specs.Prelude.{◌≡◌, ℕ, ◌≤◌, List, ◌++◌, length, Ok}
-use Rattle.config_checker.specs.CheckedView.{CheckedView}
+use Rattle.written_machine.specs.CheckedView.{CheckedView}
 use Rattle.config_checker.specs.CertificateText.{certificate_text}
 use Rattle.pinball_shell.specs.Reply.{reply_to, reply_with}
 use Rattle.pinball_shell.specs.CheckOutput.{notes_text, acceptance_text, verification_text, check_output, verify_output}

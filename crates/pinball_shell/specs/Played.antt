@@ -4,11 +4,11 @@ use Rattle.std.specs.List.{flat_map}
 use Rattle.std.specs.Io.KnownBytes.{Appends}
 use Rattle.std.specs.Str.Lines.{lines}
 use Rattle.plan_tables.specs.PlanView.{PlanView}
-use Rattle.config_checker.specs.Accepted.{IsAccepted}
-use Rattle.config_checker.specs.Machine.{Machine}
-use Rattle.config_checker.specs.Run.{Stimulus, Change, Alarm, Wait, moment_of}
-use Rattle.config_checker.specs.NextAlarm.{is_due_by}
-use Rattle.config_checker.specs.AlarmsBy.{state_after}
+use Rattle.written_machine.specs.Accepted.{IsAccepted}
+use Rattle.written_machine.specs.Machine.{Machine}
+use Rattle.written_machine.specs.Run.{Stimulus, Change, Alarm, Wait, moment_of}
+use Rattle.written_machine.specs.NextAlarm.{is_due_by}
+use Rattle.written_machine.specs.AlarmsBy.{state_after}
 use Rattle.pin_rig.specs.declared.input.Input.{Input}
 use Rattle.pin_rig.specs.declared.input.Input.TheVariants as inputs
 use Rattle.pin_rig.specs.Rig.{RigView, stimulus_at}

@@ -2,7 +2,7 @@
 use Rattle.std.specs.Prelude.{ℕ, List, [], Option, Some, None, Result, Ok, Err}
 use Rattle.mpf_config.specs.Rows.{Note, Rows, RowsFault}
 use Rattle.mpf_config.specs.Reading.{rows_at}
-use Rattle.config_checker.specs.CheckedView.{CheckedView}
+use Rattle.written_machine.specs.CheckedView.{CheckedView}
 use Rattle.config_checker.specs.Checking.{FaultView, checked_at, checked_with_at}
 use Rattle.pinball_shell.specs.declared.fault.Verdict.{Verdict}
 use Rattle.pinball_shell.specs.declared.fault.Verdict.TheVariants.{Yes, Refused}

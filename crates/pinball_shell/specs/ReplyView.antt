@@ -1,7 +1,7 @@
 -- What contracts see of a reply.
 use Rattle.std.specs.Prelude.{Result, Ok, Err, map}
 use Rattle.mpf_config.specs.View as rows_views
-use Rattle.config_checker.specs.CheckedView.{CheckedView}
+use Rattle.written_machine.specs.CheckedView.{CheckedView}
 use Rattle.config_checker.specs.View as checked_views
 use Rattle.pinball_shell.specs.declared.reply.BundleRefusal.{BundleRefusal}
 use Rattle.pinball_shell.specs.declared.reply.BundleRefusal.TheVariants as refusals

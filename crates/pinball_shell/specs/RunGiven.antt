@@ -4,10 +4,10 @@ use Rattle.std.specs.Option.{option_map_or}
 use Rattle.std.specs.Str.Lines.{lines}
 use Rattle.plan_tables.specs.PlanView.{PlanView}
 use Rattle.plan_tables.specs.Valid.{IsValid}
-use Rattle.config_checker.specs.declared.line.Line.{Line}
-use Rattle.config_checker.specs.Machine.{Machine, initial}
-use Rattle.config_checker.specs.PlanOrder.{plan_steps}
-use Rattle.config_checker.specs.Run.{Source, Stimulus, Change, Alarm, Wait, moment_of, IsAllowed, begin, IsReached}
+use Rattle.written_machine.specs.declared.line.Line.{Line}
+use Rattle.written_machine.specs.Machine.{Machine, initial}
+use Rattle.written_machine.specs.PlanOrder.{plan_steps}
+use Rattle.written_machine.specs.Run.{Source, Stimulus, Change, Alarm, Wait, moment_of, IsAllowed, begin, IsReached}
 use Rattle.pinball_shell.specs.declared.refusal.Refusal.{Refusal}
 use Rattle.pinball_shell.specs.LogText.{said}
 use Rattle.pinball_shell.specs.RunOfLog.{given_by_line}

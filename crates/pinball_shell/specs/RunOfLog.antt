@@ -3,12 +3,12 @@ use Rattle.std.specs.Prelude.{ℕ, ◌+◌, Bool, Option, Some, None, Result, Ok
 use Rattle.std.specs.Str.Lines.{lines}
 use Rattle.plan_tables.specs.PlanView.{PlanView, switch_named}
 use Rattle.plan_tables.specs.declared.entries.SwitchId.{SwitchId}
-use Rattle.config_checker.specs.declared.line.Line.{Line}
-use Rattle.config_checker.specs.Machine.{Machine, initial}
-use Rattle.config_checker.specs.Run.{Stimulus, Change, Wait, moment_of}
-use Rattle.config_checker.specs.NextAlarm.{most_alarms}
-use Rattle.config_checker.specs.AlarmsBy.{alarms_by, state_after}
-use Rattle.config_checker.specs.PlanOrder.{settled}
+use Rattle.written_machine.specs.declared.line.Line.{Line}
+use Rattle.written_machine.specs.Machine.{Machine, initial}
+use Rattle.written_machine.specs.Run.{Stimulus, Change, Wait, moment_of}
+use Rattle.written_machine.specs.NextAlarm.{most_alarms}
+use Rattle.written_machine.specs.AlarmsBy.{alarms_by, state_after}
+use Rattle.written_machine.specs.PlanOrder.{settled}
 use Rattle.pin_rig.specs.declared.input.StepFault.{StepFault}
 use Rattle.pin_rig.specs.declared.input.StepFault.TheVariants.{NoSuchSwitch}
 use Rattle.pin_rig.specs.Refused.{admitted}

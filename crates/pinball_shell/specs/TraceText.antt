@@ -5,9 +5,9 @@ use Rattle.std.specs.Fmt.{decimal}
 use Rattle.plan_tables.specs.PlanView.{PlanView, mode_at, name_of_event, switch_at}
 use Rattle.plan_tables.specs.declared.entries.Owner.{Owner}
 use Rattle.plan_tables.specs.declared.entries.Owner.TheVariants as owners
-use Rattle.config_checker.specs.declared.line.Line.{Line}
-use Rattle.config_checker.specs.declared.line.Happening.{Happening}
-use Rattle.config_checker.specs.declared.line.Happening.TheVariants as happenings
+use Rattle.written_machine.specs.declared.line.Line.{Line}
+use Rattle.written_machine.specs.declared.line.Happening.{Happening}
+use Rattle.written_machine.specs.declared.line.Happening.TheVariants as happenings
 use Rattle.pin_rig.specs.Refused.{step_fault_number, step_fault_name}
 use Rattle.pinball_shell.specs.declared.fault.Verdict.{Verdict}
 use Rattle.pinball_shell.specs.declared.fault.Verdict.TheVariants as verdicts

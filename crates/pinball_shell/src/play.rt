@@ -2,7 +2,7 @@
 
 ghost use Rattle.std.specs.Prelude.{◌≡◌, ◌≢◌, ◌^◌, ◌<◌, ◌≤◌, ◌⊎◌, IfOk, IfErr, IsOk, OnOk, IfSome, IsErrOf, length, map};
 ghost use Rattle.std.specs.Io.KnownBytes.{Appends, Keeps};
-ghost use Rattle.config_checker.specs.NextAlarm.{is_due_by};
+ghost use Rattle.written_machine.specs.NextAlarm.{is_due_by};
 ghost use Rattle.pin_rig.specs.Fit.{IsFit};
 ghost use Rattle.pin_rig.specs.Refused.{admitted};
 ghost use Rattle.pin_rig.specs.Rig.{stimulus_at, IsOfRun};

@@ -7,9 +7,9 @@ ghost use Rattle.plan_tables.specs.PlanView.{mode_at, name_of_event, switch_at};
 ghost use Rattle.pinball_shell.specs.TraceText.{owner_text, level_text, switch_text, event_text, line_text, refused_text};
 
 use crate::refusal::Refusal;
-use config_checker::{Happening, Line};
 use plan_tables::{EventId, ModeId, Owner, Plan, SwitchId};
 use std::io::{self, Write};
+use written_machine::{Happening, Line};
 
 /// Writes the lines of a stimulus.
 pub fn write_lines<W: Write>(plan: &Plan, lines: &[Line], writer: &mut W) -> io::Result<()>

@@ -4,12 +4,12 @@ use Rattle.mpf_config.specs.View.{rows_view}
 use Rattle.mpf_plan.proofs.ValidPlan.{IsValid-plan_at}
 use Rattle.cascade_rank.specs.View.{rank_view}
 use Rattle.config_checker.specs.declared.report.Report.{Report}
-use Rattle.config_checker.specs.CheckedView.{CheckedView}
-use Rattle.config_checker.specs.GoodRun.{IsGood}
+use Rattle.written_machine.specs.CheckedView.{CheckedView}
+use Rattle.written_machine.specs.GoodRun.{IsGood}
 use Rattle.config_checker.specs.View.{GivesChecked, fault_view}
 use Rattle.config_checker.specs.Checking.{checked_at}
 use Rattle.config_checker.specs.Refused.{IsLimitFault, IsFaultOf, Reports}
-use Rattle.config_checker.proofs.Good.{every_run_is_good}
+use Rattle.written_machine.proofs.Good.{every_run_is_good}
 use Rattle.config_checker.proofs.PlanFree.{plan_free, plan_own}
 use Rattle.config_checker.proofs.Judging.{own-found, own-reports, reports-one, one-gives, reports-gives, reports-there, limit-found, limit-fault, unfound-checked, unfound-fault, found-accepted}
 use Rattle.config_checker.proofs.checker.check.Goals as goal

@@ -6,13 +6,13 @@ use Rattle.mpf_config.specs.View.{rows_view}
 use Rattle.mpf_plan.proofs.ValidPlan.{IsValid-plan_at}
 use Rattle.cascade_rank.specs.View.{rank_view}
 use Rattle.config_checker.specs.declared.report.Report.{Report}
-use Rattle.config_checker.specs.CheckedView.{CheckedView}
-use Rattle.config_checker.specs.GoodRun.{IsGood}
+use Rattle.written_machine.specs.CheckedView.{CheckedView}
+use Rattle.written_machine.specs.GoodRun.{IsGood}
 use Rattle.config_checker.specs.CertificateText.{certificate_text}
 use Rattle.config_checker.specs.View.{GivesChecked, fault_view}
 use Rattle.config_checker.specs.Checking.{certificate, bad_line, other_events, other_bound, same_names, checked_with_at}
 use Rattle.config_checker.specs.Refused.{IsLimitFault, IsFaultWith, Reports}
-use Rattle.config_checker.proofs.Good.{every_run_is_good}
+use Rattle.written_machine.proofs.Good.{every_run_is_good}
 use Rattle.config_checker.proofs.PlanFree.{plan_free, plan_own}
 use Rattle.config_checker.proofs.Judging.{own-given, own-reports, reports-one, one-gives, reports-gives, reports-there, limit-given, limit-fault_with, misread-checked, misread-fault, read-as, other_events-checked, other_events-fault, unverified-checked, unverified-fault, verified-checked, verified-text, other_bound-checked, other_bound-fault}
 use Rattle.config_checker.proofs.checker.check_with.Goals as goal

@@ -2,7 +2,7 @@ use Rattle.std.proofs.Common.{◌<◌, sym, ◌∙◌, subst}
 use Rattle.std.specs.List.{All}
 use Rattle.plan_tables.specs.PlanView.{row_at}
 use Rattle.plan_tables.specs.Devices.{list_count}
-use Rattle.config_checker.specs.Machine.{called}
+use Rattle.written_machine.specs.Machine.{called}
 use Rattle.pin_rig.proofs.Listing.{answer-lists}
 use Rattle.pin_rig.proofs.parts.call_device.Goals as goal
 

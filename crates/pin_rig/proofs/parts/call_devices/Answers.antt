@@ -3,7 +3,7 @@ use Rattle.plan_tables.specs.PlanView.{is_owner, row_at, row_numbers}
 use Rattle.plan_tables.specs.declared.entries.Owner.TheVariants as owners
 use Rattle.plan_tables.specs.declared.devices.DeviceRow.{DeviceRow}
 use Rattle.plan_tables.specs.declared.devices.RowId.{RowId}
-use Rattle.config_checker.specs.Machine.{all_do, call_device, call_devices}
+use Rattle.written_machine.specs.Machine.{all_do, call_device, call_devices}
 use Rattle.pin_rig.specs.Core.{CoreView, CanCall, after}
 use Rattle.pin_rig.proofs.Room.{room-first, all_do-first}
 use Rattle.pin_rig.proofs.Listing.{call_rows, call-grows, call-calls, own-first, other-first, rows-end}

@@ -1,6 +1,6 @@
 use Rattle.std.proofs.Common.{◌≡◌, drop}
 use Rattle.plan_tables.specs.PlanView.{row_numbers}
-use Rattle.config_checker.specs.Machine.{call_devices}
+use Rattle.written_machine.specs.Machine.{call_devices}
 use Rattle.pin_rig.specs.Core.{CanCall, after}
 use Rattle.pin_rig.proofs.Listing.{call_rows}
 use Rattle.pin_rig.proofs.parts.call_devices.Given as goal

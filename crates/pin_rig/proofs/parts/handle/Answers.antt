@@ -5,7 +5,7 @@ use Rattle.plan_tables.specs.declared.entries.Binding.{Binding}
 use Rattle.plan_tables.specs.declared.entries.BindingId.{BindingId}
 use Rattle.mode_stack.specs.Modes.{running_of}
 use Rattle.event_queue.proofs.PlanOrder.{handlers_are_in_plan_order}
-use Rattle.config_checker.specs.Machine.{all_do, do_binding, do_handler}
+use Rattle.written_machine.specs.Machine.{all_do, do_binding, do_handler}
 use Rattle.pin_rig.specs.Core.{after}
 use Rattle.pin_rig.proofs.Handling.{handler-place, handler-room, handler-run, handlers-end, kept-now, target-within}
 use Rattle.pin_rig.proofs.Stepping.{handled-calls}

@@ -1,7 +1,7 @@
 use Rattle.std.proofs.Common.{◌≡◌, ◌-◌, length}
 use Rattle.mode_stack.specs.Modes.{running_of}
 use Rattle.event_queue.specs.PlanOrder.{in_order, bound_in_order, handlers_from}
-use Rattle.config_checker.specs.Machine.{all_do, do_handler}
+use Rattle.written_machine.specs.Machine.{all_do, do_handler}
 use Rattle.pin_rig.specs.Core.{CanCall, after}
 use Rattle.pin_rig.proofs.parts.handle.Given as goal
 

@@ -1,7 +1,7 @@
 use Rattle.std.proofs.Common.{◌+◌, drop, get_or}
 use Rattle.std.proofs.lemmas.List.{drop_more}
 use Rattle.plan_tables.specs.declared.entries.EventId.{EventId}
-use Rattle.config_checker.specs.Machine.{all_do, post}
+use Rattle.written_machine.specs.Machine.{all_do, post}
 use Rattle.pin_rig.specs.Core.{after}
 use Rattle.pin_rig.proofs.Room.{post-room}
 use Rattle.pin_rig.proofs.parts.post_each.Goals as goal

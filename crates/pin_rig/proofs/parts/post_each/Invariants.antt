@@ -1,5 +1,5 @@
 use Rattle.std.proofs.Common.{◌≡◌, drop}
-use Rattle.config_checker.specs.Machine.{all_do, post}
+use Rattle.written_machine.specs.Machine.{all_do, post}
 use Rattle.pin_rig.specs.Core.{after}
 use Rattle.pin_rig.proofs.parts.post_each.Given as goal
 

@@ -2,8 +2,8 @@ use Rattle.std.proofs.Common.{◌+◌, drop, get_or}
 use Rattle.std.proofs.lemmas.List.{drop_more}
 use Rattle.plan_tables.specs.declared.entries.Action.{Action}
 use Rattle.plan_tables.specs.declared.entries.Action.TheVariants.{Post}
-use Rattle.config_checker.specs.Machine.{all_do, do_action}
-use Rattle.config_checker.proofs.Growth.{action-grows}
+use Rattle.written_machine.specs.Machine.{all_do, do_action}
+use Rattle.written_machine.proofs.Growth.{action-grows}
 use Rattle.pin_rig.specs.Core.{after}
 use Rattle.pin_rig.proofs.Room.{room-first}
 use Rattle.pin_rig.proofs.parts.run_actions.Goals as goal

@@ -1,5 +1,5 @@
 use Rattle.std.proofs.Common.{◌≡◌, drop}
-use Rattle.config_checker.specs.Machine.{all_do, do_action}
+use Rattle.written_machine.specs.Machine.{all_do, do_action}
 use Rattle.pin_rig.specs.Core.{after}
 use Rattle.pin_rig.proofs.parts.run_actions.Given as goal
 

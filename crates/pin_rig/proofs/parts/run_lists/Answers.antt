@@ -4,7 +4,7 @@ use Rattle.plan_tables.specs.PlanView.{actions_at, list_of_row, row_at}
 use Rattle.plan_tables.specs.declared.entries.Action.{Action}
 use Rattle.plan_tables.specs.declared.entries.Owner.{Owner}
 use Rattle.plan_tables.specs.declared.devices.DeviceRow.{DeviceRow}
-use Rattle.config_checker.specs.Machine.{all_do, do_action, do_answer, do_list}
+use Rattle.written_machine.specs.Machine.{all_do, do_action, do_answer, do_list}
 use Rattle.pin_rig.specs.Core.{HasRoom, after}
 use Rattle.pin_rig.proofs.Room.{room-first}
 use Rattle.pin_rig.proofs.Listing.{list-grows}

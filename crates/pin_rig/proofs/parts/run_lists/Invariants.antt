@@ -1,5 +1,5 @@
 use Rattle.std.proofs.Common.{◌≡◌, drop}
-use Rattle.config_checker.specs.Machine.{do_answer}
+use Rattle.written_machine.specs.Machine.{do_answer}
 use Rattle.pin_rig.specs.Core.{after}
 use Rattle.pin_rig.proofs.parts.run_lists.Given as goal
 

@@ -1,5 +1,5 @@
 use Rattle.std.proofs.Common.{◌≡◌, ℕ, ◌-◌, length}
-use Rattle.config_checker.specs.PlanOrder.{plan_steps}
+use Rattle.written_machine.specs.PlanOrder.{plan_steps}
 use Rattle.pin_rig.specs.Core.{CanCall, follow}
 use Rattle.pin_rig.proofs.parts.settle.Given as goal
 

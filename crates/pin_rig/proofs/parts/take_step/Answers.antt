@@ -1,7 +1,7 @@
 use Rattle.std.proofs.Common.{refl}
 use Rattle.mode_stack.specs.Modes.{running_of}
 use Rattle.event_queue.specs.PlanOrder.{in_order}
-use Rattle.config_checker.specs.EventStep.{is_kept, do_before}
+use Rattle.written_machine.specs.EventStep.{is_kept, do_before}
 use Rattle.pin_rig.specs.Core.{follow}
 use Rattle.pin_rig.proofs.Stepping.{before-room, before-calls, handled-calls, ready-handles, ready-room, then-handles, then-room, last-is}
 use Rattle.pin_rig.proofs.parts.take_step.Goals as goal

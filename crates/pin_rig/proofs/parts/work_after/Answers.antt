@@ -4,8 +4,8 @@ use Rattle.plan_tables.specs.declared.entries.Mode.{Mode as ModeValue}
 use Rattle.plan_tables.specs.declared.entries.Owner.TheVariants.{Machine}
 use Rattle.plan_tables.specs.declared.entries.Work.{Work}
 use Rattle.plan_tables.specs.declared.entries.Work.TheVariants.{Mode}
-use Rattle.config_checker.specs.Machine.{post, stop_mode}
-use Rattle.config_checker.specs.EventStep.{do_after}
+use Rattle.written_machine.specs.Machine.{post, stop_mode}
+use Rattle.written_machine.specs.EventStep.{do_after}
 use Rattle.pin_rig.specs.Core.{after, follow}
 use Rattle.pin_rig.proofs.Following.{follow-still, stop-still, ended-follows}
 use Rattle.pin_rig.proofs.parts.work_after.Goals as goal

@@ -1,7 +1,7 @@
 use Rattle.std.proofs.Common.{◌∙◌, ap, sym}
 use Rattle.plan_tables.specs.declared.entries.Work.{Work}
 use Rattle.plan_tables.specs.declared.entries.Work.TheVariants.{Mode}
-use Rattle.config_checker.specs.EventStep.{do_before}
+use Rattle.written_machine.specs.EventStep.{do_before}
 use Rattle.pin_rig.specs.Core.{follow}
 use Rattle.pin_rig.proofs.Following.{entered-follows, started-follows}
 use Rattle.pin_rig.proofs.parts.work_before.Goals as goal

@@ -1,5 +1,5 @@
 use Rattle.std.proofs.Common.{arith}
-use Rattle.config_checker.proofs.Parts.{no_work-past}
+use Rattle.written_machine.proofs.Parts.{no_work-past}
 use Rattle.pin_rig.proofs.parts.work_of.Goals as goal
 
 pub returns-then-event-event_count-clause-work : goal.returns-then-event-event_count-clause-work

@@ -1,5 +1,5 @@
 use Rattle.std.proofs.Common.{refl, sym, ◌∙◌}
-use Rattle.config_checker.proofs.NextAlarms.{not_due-nothing}
+use Rattle.written_machine.proofs.NextAlarms.{not_due-nothing}
 use Rattle.pinball_shell.specs.RunOfLog.{all_alarms_by}
 use Rattle.pinball_shell.proofs.Alarms.{comes, alarm-taken}
 use Rattle.pinball_shell.proofs.Taking.{ok_where, alarm-played, reached-of, valid-of}

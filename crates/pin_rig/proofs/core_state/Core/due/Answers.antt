@@ -1,7 +1,7 @@
 use Rattle.std.proofs.Common.{option_map, ap, ◌∙◌}
 use Rattle.event_queue.specs.Alarms.{least_of}
-use Rattle.config_checker.specs.Run.{switch, device}
-use Rattle.config_checker.specs.NextAlarm.{first_of}
+use Rattle.written_machine.specs.Run.{switch, device}
+use Rattle.written_machine.specs.NextAlarm.{first_of}
 use Rattle.pin_rig.proofs.Alarms.{dues-are}
 use Rattle.pin_rig.proofs.core_state.Core.due.Goals as goal
 

@@ -1,6 +1,6 @@
 use Rattle.std.proofs.Common.{rules, None, List, map, replicate, length, ap, sym, subst, ◌∙◌}
-use Rattle.config_checker.specs.Devices.{HasDevices}
-use Rattle.config_checker.proofs.Alarms.{initial-devices}
+use Rattle.written_machine.specs.Devices.{HasDevices}
+use Rattle.written_machine.proofs.Alarms.{initial-devices}
 use Rattle.std.proofs.lemmas.List.{length-replicate}
 use Rattle.mode_stack.specs.declared.phase.Phase.TheVariants.{Idle}
 use Rattle.mode_stack.specs.ModeStep.{in_phase}

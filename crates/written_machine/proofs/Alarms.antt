@@ -1,0 +1,345 @@
+-- What is due: only a stimulus alters that, and no alarm comes late.
+use Rattle.std.proofs.Common.{◌≡◌, ℕ, ◌≤◌, ◌<◌, ◌⊎◌, None, Some, List, [], ◌∷◌, length, slice_set, refl, ap, sym, subst, ◌∙◌, inl, inr, arith}
+use Rattle.std.proofs.lemmas.Bool.{cases_eq, cases_lt}
+use Rattle.std.proofs.lemmas.Option.{none-some}
+use Rattle.std.proofs.lemmas.List.{get_or_past, get_or-map, get_or-set_same, get_or-set_other, length-map, length-replicate, length-set}
+use Rattle.std.proofs.lemmas.List.Elements.{All-get_or}
+use Rattle.mode_stack.specs.declared.phase.Phase.TheVariants.{Idle}
+use Rattle.mode_stack.specs.ModeStep.{in_phase}
+use Rattle.plan_tables.specs.PlanView.{PlanView, actions_at, list_of_row, no_row, row_at, work_of}
+use Rattle.plan_tables.specs.Valid.{IsValid}
+use Rattle.plan_tables.specs.Devices.{IsWithinLimits}
+use Rattle.plan_tables.specs.declared.entries.Action.{Action}
+use Rattle.plan_tables.specs.declared.entries.Action.TheVariants.{Post}
+use Rattle.plan_tables.specs.declared.entries.Owner.{Owner}
+use Rattle.plan_tables.specs.declared.entries.SwitchId.{SwitchId}
+use Rattle.plan_tables.specs.declared.devices.RowId.{RowId}
+use Rattle.plan_tables.specs.declared.devices.DeviceRow.{DeviceRow}
+use Rattle.device_objects.specs.declared.device.Call.{Call}
+use Rattle.device_objects.specs.declared.device.Call.TheVariants as calls
+use Rattle.device_objects.specs.declared.state.DeviceState.{DeviceState}
+use Rattle.device_objects.specs.DeviceStep as devices
+use Rattle.device_objects.specs.Laws.{HasShape}
+use Rattle.device_objects.proofs.Shapes.{states_keep_their_shape}
+use Rattle.device_objects.proofs.Moments.{arms-later, fired-later, first-quiet}
+use Rattle.switch_core.specs.SwitchStep.{idle}
+use Rattle.switch_core.specs.Switches.{SwitchesView, IsComplete, due_of, after_change, reported_by_change, accept, reported}
+use Rattle.switch_core.proofs.DueMoments.{changes_arm_later, accept-due, accept-done, idle-nothing_due}
+use Rattle.written_machine.specs.declared.line.Line.{Line}
+use Rattle.written_machine.specs.Machine.{Machine, set_switches, set_device, all_do, do_action, do_list, world_of, device_state, device_at, called, do_answer, initial}
+use Rattle.written_machine.specs.Devices.{HasDevices}
+use Rattle.written_machine.specs.EventStep.{taken, EventStep, EventSteps}
+use Rattle.written_machine.specs.PlanOrder.{settled}
+use Rattle.written_machine.specs.Run.{Source, switch, device, source_due, IsNothingLate, IsNextAlarm, Stimulus, Change, Alarm, Wait, moment_of, IsAllowed, arrived, begin, IsRun}
+use Rattle.cascade_rank.specs.Cost.{Cost}
+use Rattle.written_machine.proofs.Does.{Move, Wrote, Sent, Switched, Began, Ended, Marked, Turned, do_move, start-by, stop-by, Does, does-keeps, HasStates, moment-move, moment-does, has_states-does, switches-does}
+use Rattle.written_machine.proofs.Parts.{TakesPart, IsMachine, ordinary, working, MayWork, does-call, does-accepted, does-if_accepted, does-begin, does-before, does-after}
+use Rattle.written_machine.proofs.Keeps.{step-keeps, steps-keep, run-keeps}
+use Rattle.written_machine.proofs.PlanSteps.{plan_steps-event_steps}
+
+-- ---- what is due of devices
+
+-- a device that is due was due before, or is due later than this moment
+abbrev pub IsLater : Machine → Machine → Type 0
+IsLater s t = (r : RowId) (due : ℕ) → devices.due_of (device_at t r) ≡ Some due → (devices.due_of (device_at s r) ≡ Some due) ⊎ (s.moment < due)
+
+same-devices : {X : Type 0} (f : X → Machine → Machine) → ((x : X) (s : Machine) → (f x s).devices ≡ s.devices) → (xs : List X) (s : Machine) → (all_do f xs s).devices ≡ s.devices
+same-devices f each [] s = refl
+same-devices f each (x ∷ xs) s = same-devices f each xs (f x s) ∙ each x s
+
+module _ (plan : PlanView) where
+  action-devices : (owner : Owner) (a : Action) (s : Machine) → (do_action plan owner a s).devices ≡ s.devices
+  action-devices owner (Post e) s = refl
+
+  -- what a device answers changes no device
+  answer-devices : (r : RowId) (lists : List ℕ) (s : Machine) → (do_answer plan r lists s).devices ≡ s.devices
+  answer-devices r lists s =
+      same-devices (λ k. do_list plan (row_at plan r).owner (list_of_row plan r k))
+      (λ k t. same-devices (do_action plan (row_at plan r).owner) (action-devices (row_at plan r).owner) (actions_at plan (list_of_row plan r k)) t) lists s
+
+  -- of a device that is called the next state is kept, where there is such a device
+  turned-at : (call : Call) (r : RowId) (s : Machine) → (device_at (set_device r (called plan call r s).0 s) r ≡ (called plan call r s).0) ⊎ (devices.due_of (device_at (set_device r (called plan call r s).0 s) r) ≡ None)
+  turned-at call r s =
+      elim (cases_lt r.0 (length s.devices)) [
+        | inl there ↦ inl (get_or-set_same s.devices r.0 (called plan call r s).0 (devices.first_state no_row.settings) there)
+        | inr past ↦
+            let new = slice_set s.devices r.0 (called plan call r s).0 in
+            inr (ap devices.due_of (get_or_past new r.0 (devices.first_state no_row.settings) (omega (arith, past, length-set s.devices r.0 (called plan call r s).0))))
+      ]
+
+  module _ (valid : IsValid plan) where
+    limits : (r : RowId) → IsWithinLimits (row_at plan r).settings
+    limits r =
+        elim (cases_lt r.0 (length plan.rows)) [
+          | inl there ↦ All-get_or (λ row. IsWithinLimits row.settings) plan.rows r.0 no_row there valid.settings
+          | inr past ↦ subst (λ row. IsWithinLimits row.settings) (sym (get_or_past plan.rows r.0 no_row past)) (omega arith)
+        ]
+
+    later-turned : (call : Call) (r : RowId) (s : Machine) → IsLater s (set_device r (called plan call r s).0 s)
+    later-turned call r s q due is =
+        elim (cases_eq q.0 r.0) [
+          | inl same ↦
+              subst (λ (n : ℕ). (devices.due_of (device_state s.devices (record { 0 = n })) ≡ Some due) ⊎ (s.moment < due)) (sym same)
+              (at (subst (λ (n : ℕ). devices.due_of (device_state new (record { 0 = n })) ≡ Some due) same is))
+          | inr other ↦ inl (sym (ap devices.due_of (get_or-set_other s.devices r.0 q.0 (called plan call r s).0 (devices.first_state no_row.settings) other)) ∙ is)
+        ]
+      where
+        new : List DeviceState
+        new = slice_set s.devices r.0 (called plan call r s).0
+
+        at : devices.due_of (device_state new r) ≡ Some due → (devices.due_of (device_at s r) ≡ Some due) ⊎ (s.moment < due)
+        at here =
+            elim (turned-at call r s) [
+              | inl next ↦ arms-later (row_at plan r).settings call s.moment (world_of s) (device_at s r) (limits r) due (sym (ap devices.due_of next) ∙ here)
+              | inr none ↦ absurd (none-some due (sym none ∙ here))
+            ]
+
+    later-move : (x : Move) (s : Machine) → IsLater s (do_move plan x s)
+    later-move (Wrote owner what) s = λ r due is. inl is
+    later-move (Sent owner e) s = λ r due is. inl is
+    later-move (Switched n state) s = λ r due is. inl is
+    later-move (Began m) s = start-by plan m s (IsLater s) (λ r due is. inl is) (λ r due is. inl is)
+    later-move (Ended m) s = stop-by plan m s (IsLater s) (λ r due is. inl is) (λ r due is. inl is)
+    later-move (Marked m state) s = λ r due is. inl is
+    later-move (Turned call r) s = later-turned call r s
+
+    later-then : (s m t : Machine) → m.moment ≡ s.moment → IsLater s m → IsLater m t → IsLater s t
+    later-then s m t here one next r due is =
+        elim (next r due is) [
+          | inl old ↦ one r due old
+          | inr later ↦ inr (omega (arith, here, later))
+        ]
+
+    pub later-does : {may : Move → Type 0} {c : Cost} {s t : Machine} → Does plan may c s t → IsLater s t
+    later-does {may} {c} {s} {t} d =
+        (does-keeps plan may (λ u. (u.moment ≡ s.moment) × IsLater s u)
+        (λ x u allowed h. (moment-move plan x u ∙ h.0, later-then s u (do_move plan x u) h.0 h.1 (later-move x u))) d (refl, λ r due is. inl is)).1
+
+-- ---- event steps change neither a switch nor the moment
+
+abbrev pub IsStill : Machine → Machine → Type 0
+IsStill s t = (t.switches ≡ s.switches) × (t.moment ≡ s.moment)
+
+module _ (plan : PlanView) where
+  still-step : (s m t : Machine) → EventStep plan m t → IsStill s m → IsStill s t
+  still-step s =
+      step-keeps plan (λ before. IsStill s) (λ first before. IsStill s) (λ before first rest m is h. still-work (does-before plan (work_of plan first.event) (taken first rest m)) h)
+      (λ before first c m t d h. (switches-does plan (ordinary plan (TakesPart m) ⊥) (λ none. none) d ∙ h.0, moment-does plan d ∙ h.1))
+      (λ before first kept m h. still-work (does-after plan kept first.event m) h) []
+    where
+      still-work : {c : Cost} {m t : Machine} → Does plan (MayWork plan) c m t → IsStill s m → IsStill s t
+      still-work d h = (switches-does plan working (λ none. none) d ∙ h.0, moment-does plan d ∙ h.1)
+
+  still-steps : (n : ℕ) (s t : Machine) → EventSteps plan n s t → IsStill s t
+  still-steps n s t steps = steps-keep plan (λ before. IsStill s) (λ before. still-step s) [] n s t steps (refl, refl)
+
+  -- and arm no device for the moment, or an earlier one
+  module _ (valid : IsValid plan) where
+    later-step : (s m t : Machine) → EventStep plan m t → (m.moment ≡ s.moment) × IsLater s m → (t.moment ≡ s.moment) × IsLater s t
+    later-step s =
+        step-keeps plan (λ before m. (m.moment ≡ s.moment) × IsLater s m) (λ first before m. (m.moment ≡ s.moment) × IsLater s m)
+        (λ before first rest m is h. later-on (taken first rest m) _ (does-before plan (work_of plan first.event) (taken first rest m)) h)
+        (λ before first c m t d h. later-on m t d h)
+        (λ before first kept m h. later-on m _ (does-after plan kept first.event m) h) []
+      where
+        later-on : {may : Move → Type 0} {c : Cost} (m t : Machine) → Does plan may c m t → (m.moment ≡ s.moment) × IsLater s m → (t.moment ≡ s.moment) × IsLater s t
+        later-on m t d h = (moment-does plan d ∙ h.0, later-then plan valid s m t h.0 h.1 (later-does plan valid d))
+
+    pub later-steps : (n : ℕ) (s t : Machine) → EventSteps plan n s t → IsLater s t
+    later-steps n s t steps = (steps-keep plan (λ before m. (m.moment ≡ s.moment) × IsLater s m) (λ before. later-step s) [] n s t steps (refl, λ r due is. inl is)).1
+
+  pub switches-steps : (n : ℕ) (s t : Machine) → EventSteps plan n s t → t.switches ≡ s.switches
+  switches-steps n s t steps = (still-steps n s t steps).0
+
+  -- a stimulus comes at its moment
+  pub moment-begin : (stimulus : Stimulus) (s : Machine) → (begin plan stimulus s).moment ≡ moment_of stimulus
+  moment-begin stimulus s = moment-does plan (does-begin plan stimulus s)
+
+  -- and after any number of event steps it is still that moment
+  pub moment-after : (stimulus : Stimulus) (s : Machine) (n : ℕ) (t : Machine) → EventSteps plan n (begin plan stimulus s) t → t.moment ≡ moment_of stimulus
+  moment-after stimulus s n t steps = (still-steps n (begin plan stimulus s) t steps).1 ∙ moment-begin stimulus s
+
+  pub settled-moment : (bound : ℕ) (stimulus : Stimulus) (s : Machine) → (settled plan bound stimulus s).moment ≡ moment_of stimulus
+  settled-moment bound stimulus s =
+      let (count, steps) = plan_steps-event_steps plan bound (begin plan stimulus s) in
+      moment-after stimulus s count (settled plan bound stimulus s) steps
+
+  -- ---- what stimuli do with the switches
+
+  abbrev pub switched : Stimulus → SwitchesView → SwitchesView
+  switched (Change at n level) v = after_change n level at v
+  switched (Alarm at (switch n)) v = accept n v
+  switched (Alarm at (device r)) v = v
+  switched (Wait at) v = v
+
+  pub switches-begin : (stimulus : Stimulus) (s : Machine) → (begin plan stimulus s).switches ≡ switched stimulus s.switches
+  switches-begin (Change at n level) s =
+      switches-does plan (ordinary plan IsMachine ⊥) (λ none. none) (does-if_accepted plan IsMachine ⊥ refl (reported_by_change n level at s.switches) (set_switches (after_change n level at s.switches) (arrived at s)))
+  switches-begin (Alarm at (switch n)) s =
+      switches-does plan (ordinary plan IsMachine ⊥) (λ none. none) (does-accepted plan IsMachine ⊥ refl (reported (accept n s.switches) n) (set_switches (accept n s.switches) (arrived at s)))
+  switches-begin (Alarm at (device r)) s =
+      switches-does plan (ordinary plan (λ owner. Unit {0}) ⊥) (λ none. none) (does-call plan (λ owner. Unit {0}) ⊥ calls.Fire r (λ own. tt) (arrived at s))
+  switches-begin (Wait at) s = refl
+
+  -- so they do the same with the same switches
+  pub switches-same : (stimulus : Stimulus) (s t : Machine) → s.switches ≡ t.switches → (begin plan stimulus s).switches ≡ (begin plan stimulus t).switches
+  switches-same stimulus s t e = switches-begin stimulus s ∙ ap (switched stimulus) e ∙ sym (switches-begin stimulus t)
+
+-- ---- the devices at the beginning
+
+module _ (plan : PlanView) where
+  first_at : (r : RowId) → r.0 < length plan.rows → device_at (initial plan) r ≡ devices.first_state (row_at plan r).settings
+  first_at r there = get_or-map (λ (row : DeviceRow). devices.first_state row.settings) plan.rows r.0 no_row (devices.first_state no_row.settings) there
+
+  pub initial-devices : HasDevices plan (initial plan).devices
+  initial-devices = record {
+    count = length-map plan.rows (λ row. devices.first_state row.settings);
+    shapes = λ r there. subst (HasShape (row_at plan r).settings) (sym (first_at r there)) (states_keep_their_shape.first (row_at plan r).settings);
+  }
+
+  pub initial-quiet : (r : RowId) → devices.due_of (device_at (initial plan) r) ≡ None
+  initial-quiet r =
+      elim (cases_lt r.0 (length plan.rows)) [
+        | inl there ↦ ap devices.due_of (first_at r there) ∙ first-quiet (row_at plan r).settings
+        | inr past ↦ ap devices.due_of (get_or_past (initial plan).devices r.0 (devices.first_state no_row.settings) (omega (arith, past, length-map plan.rows (λ row. devices.first_state row.settings))))
+      ]
+
+-- ---- what stimuli leave due
+
+-- what is due of the switches is a matter of them alone
+pub switch_due-same : (s t : Machine) → s.switches ≡ t.switches → (n : SwitchId) → source_due s (switch n) ≡ source_due t (switch n)
+switch_due-same s t e n = ap (λ (v : SwitchesView). due_of v n) e
+
+module _ (plan : PlanView) (valid : IsValid plan) where
+  -- what is due after event steps was due before, or is due later
+  steps-arm_later : (n : ℕ) (s t : Machine) → EventSteps plan n s t → (source : Source) (due : ℕ) → source_due t source ≡ Some due → (source_due s source ≡ Some due) ⊎ (s.moment < due)
+  steps-arm_later n s t steps (switch m) due is = inl (sym (switch_due-same t s (switches-steps plan n s t steps) m) ∙ is)
+  steps-arm_later n s t steps (device r) due is = later-steps plan valid n s t steps r due is
+
+  -- what a stimulus leaves due was due before it, or is due after its moment
+  begin-arms_later : (stimulus : Stimulus) (s : Machine) (source : Source) (due : ℕ) → source_due (begin plan stimulus s) source ≡ Some due → (source_due s source ≡ Some due) ⊎ (moment_of stimulus < due)
+  begin-arms_later (Change at n level) s (switch m) due is =
+      changes_arm_later n level at s.switches m due (ap (λ (v : SwitchesView). due_of v m) (sym (switches-begin plan (Change at n level) s)) ∙ is)
+  begin-arms_later (Alarm at (switch n)) s (switch m) due is =
+      inl (accept-due n s.switches m due (ap (λ (v : SwitchesView). due_of v m) (sym (switches-begin plan (Alarm at (switch n)) s)) ∙ is))
+  begin-arms_later (Alarm at (device r)) s (switch m) due is =
+      inl (ap (λ (v : SwitchesView). due_of v m) (sym (switches-begin plan (Alarm at (device r)) s)) ∙ is)
+  begin-arms_later (Wait at) s (switch m) due is = inl is
+  begin-arms_later stimulus s (device r) due is = later-does plan valid (does-begin plan stimulus s) r due is
+
+  -- and so do its event steps
+  pub arms_later : (stimulus : Stimulus) (s : Machine) (n : ℕ) (t : Machine) → EventSteps plan n (begin plan stimulus s) t
+      → (source : Source) (due : ℕ) → source_due t source ≡ Some due → (source_due s source ≡ Some due) ⊎ (moment_of stimulus < due)
+  arms_later stimulus s n t steps source due is =
+      elim (steps-arm_later n (begin plan stimulus s) t steps source due is) [
+        | inl begun ↦ begin-arms_later stimulus s source due begun
+        | inr later ↦ inr (omega (arith, moment-begin plan stimulus s, later))
+      ]
+
+  begin-done : (at : ℕ) (source : Source) (s : Machine) → HasDevices plan s.devices → (due : ℕ) → source_due (begin plan (Alarm at source) s) source ≡ Some due → at < due
+  begin-done at (switch n) s has due is =
+      absurd (none-some due (sym (accept-done n s.switches) ∙ ap (λ (v : SwitchesView). due_of v n) (sym (switches-begin plan (Alarm at (switch n)) s)) ∙ is))
+  begin-done at (device r) s has due is =
+      let fires = called plan calls.Fire r (arrived at s) in
+      let fired = set_device r fires.0 (arrived at s) in
+      let here : devices.due_of (device_at fired r) ≡ Some due = ap (λ ds. devices.due_of (device_state ds r)) (sym (answer-devices plan r fires.1 fired)) ∙ is in
+      elim (cases_lt r.0 (length plan.rows)) [
+        | inl there ↦
+            elim (turned-at plan calls.Fire r (arrived at s)) [
+              | inl next ↦ fired-later (row_at plan r).settings at (world_of s) (device_at s r) (limits plan valid r) (has.shapes r there) due (sym (ap devices.due_of next) ∙ here)
+              | inr none ↦ absurd (none-some due (sym none ∙ here))
+            ]
+        | inr past ↦
+            let count = has.count in
+            let beyond : length (slice_set s.devices r.0 fires.0) ≤ r.0 = omega (arith, past, count, length-set s.devices r.0 fires.0) in
+            absurd (none-some due (sym (ap devices.due_of (get_or_past (slice_set s.devices r.0 fires.0) r.0 (devices.first_state no_row.settings) beyond)) ∙ here))
+      ]
+
+  -- an alarm that came is not due any more at its moment
+  pub alarm-done : (at : ℕ) (source : Source) (s : Machine) (n : ℕ) (t : Machine) → HasDevices plan s.devices → EventSteps plan n (begin plan (Alarm at source) s) t → (due : ℕ) → source_due t source ≡ Some due → at < due
+  alarm-done at source s n t has steps due is =
+      elim (steps-arm_later n (begin plan (Alarm at source) s) t steps source due is) [
+        | inl begun ↦ begin-done at source s has due begun
+        | inr later ↦ omega (arith, moment-begin plan (Alarm at source) s, later)
+      ]
+
+  -- ---- no alarm is late
+
+  not_late-steps : (n : ℕ) (s t : Machine) → EventSteps plan n s t → IsNothingLate s → IsNothingLate t
+  not_late-steps n s t steps h source due is =
+      let here = (still-steps plan n s t steps).1 in
+      elim (steps-arm_later n s t steps source due is) [
+        | inl old ↦ let on_time = h source due old in omega (arith, on_time, here)
+        | inr later ↦ omega (arith, later, here)
+      ]
+
+  -- no alarm is due before the next one
+  pub next-first : (s : Machine) (at : ℕ) (first : Source) → IsNextAlarm s at first → (source : Source) (due : ℕ) → source_due s source ≡ Some due → at ≤ due
+  next-first s at first next source due is =
+      elim (next.least source due is) [
+        | inl after ↦ omega (arith, after)
+        | inr same ↦ let e = same.0 in omega (arith, e)
+      ]
+
+  -- and none before a stimulus that is allowed
+  allowed-first : (stimulus : Stimulus) (s : Machine) → IsAllowed plan s stimulus → (source : Source) (due : ℕ) → source_due s source ≡ Some due → moment_of stimulus ≤ due
+  allowed-first (Change at n level) s allowed source due is = let after = allowed.0.quiet source due is in omega arith
+  allowed-first (Alarm at first) s allowed source due is = next-first s at first allowed.0 source due is
+  allowed-first (Wait at) s allowed source due is = let after = allowed.quiet source due is in omega arith
+
+  not_late-begin : (stimulus : Stimulus) (s : Machine) → ((source : Source) (due : ℕ) → source_due s source ≡ Some due → moment_of stimulus ≤ due) → IsNothingLate (begin plan stimulus s)
+  not_late-begin stimulus s first source due is =
+      elim (begin-arms_later stimulus s source due is) [
+        | inl old ↦ omega (arith, first source due old, moment-begin plan stimulus s)
+        | inr later ↦ omega (arith, moment-begin plan stimulus s)
+      ]
+
+  pub not_late-from : (stimulus : Stimulus) (s : Machine) (n : ℕ) (t : Machine) → ((source : Source) (due : ℕ) → source_due s source ≡ Some due → moment_of stimulus ≤ due) → EventSteps plan n (begin plan stimulus s) t → IsNothingLate t
+  not_late-from stimulus s n t first steps = not_late-steps n (begin plan stimulus s) t steps (not_late-begin stimulus s first)
+
+  -- after a stimulus that was allowed
+  pub not_late-after : (stimulus : Stimulus) (s : Machine) (n : ℕ) (t : Machine) → IsAllowed plan s stimulus → EventSteps plan n (begin plan stimulus s) t → IsNothingLate t
+  not_late-after stimulus s n t allowed steps = not_late-from stimulus s n t (allowed-first stimulus s allowed) steps
+
+  pub not_late-initial : IsNothingLate (initial plan)
+  not_late-initial (switch n) due is = absurd (none-some due (sym (idle-nothing_due plan n) ∙ is))
+  not_late-initial (device r) due is = absurd (none-some due (sym (initial-quiet plan r) ∙ is))
+
+  -- in every run
+  pub not_late-run : (stimuli : List (Stimulus × ℕ)) (s : Machine) (trace : List Line) (t : Machine) → IsRun plan stimuli s trace t → IsNothingLate s → IsNothingLate t
+  not_late-run stimuli s trace t run h =
+      (run-keeps plan (λ before. IsNothingLate) (λ before m u one k. not_late-steps 1 m u (u, one, refl) k)
+      (λ before stimulus m allowed empty k. not_late-begin stimulus m (allowed-first stimulus m allowed)) [] stimuli s trace t run h).1
+
+  -- so no stimulus goes backwards
+  pub forward : (stimulus : Stimulus) (s : Machine) → IsNothingLate s → IsAllowed plan s stimulus → s.moment ≤ moment_of stimulus
+  forward (Change at n level) s h allowed = allowed.0.forward
+  forward (Alarm at source) s h allowed = h source at allowed.0.due
+  forward (Wait at) s h allowed = allowed.forward
+  -- ---- every switch has a state
+
+module _ (plan : PlanView) where
+  pub has_states-step : (s t : Machine) → EventStep plan s t → HasStates plan s → HasStates plan t
+  has_states-step =
+      step-keeps plan (λ before. HasStates plan) (λ first before. HasStates plan) (λ before first rest s is h. has_states-does plan (does-before plan (work_of plan first.event) (taken first rest s)) (record { kinds = h.kinds; switches = h.switches; modes = h.modes; devices = h.devices }))
+      (λ before first c s t d h. has_states-does plan d h) (λ before first kept s h. has_states-does plan (does-after plan kept first.event s) h) []
+
+  pub has_states-begin : (stimulus : Stimulus) (s : Machine) → HasStates plan s → HasStates plan (begin plan stimulus s)
+  has_states-begin stimulus s h = has_states-does plan (does-begin plan stimulus s) (record { kinds = h.kinds; switches = h.switches; modes = h.modes; devices = h.devices })
+
+  pub has_states-after : (stimulus : Stimulus) (s : Machine) (n : ℕ) (t : Machine) → EventSteps plan n (begin plan stimulus s) t → HasStates plan s → HasStates plan t
+  has_states-after stimulus s n t steps h = steps-keep plan (λ before. HasStates plan) (λ before. has_states-step) [] n (begin plan stimulus s) t steps (has_states-begin stimulus s h)
+
+  pub has_states-run : (stimuli : List (Stimulus × ℕ)) (s : Machine) (trace : List Line) (t : Machine) → IsRun plan stimuli s trace t → HasStates plan s → HasStates plan t
+  has_states-run stimuli s trace t run h =
+      (run-keeps plan (λ before. HasStates plan) (λ before. has_states-step) (λ before stimulus m allowed empty k. has_states-begin stimulus m k) [] stimuli s trace t run h).1
+
+  pub has_states-initial : HasStates plan (initial plan)
+  has_states-initial = record { kinds = refl; switches = length-map plan.switches (λ s. idle s.kind); modes = length-replicate (length plan.modes) (in_phase Idle); devices = initial-devices plan }
+
+  pub complete : (s : Machine) → IsValid plan → HasStates plan s → IsComplete s.switches
+  complete s valid h =
+      let kinds = ap (λ (ks : List _). length ks) h.kinds in
+      let count = length-map plan.switches (λ s. s.kind) in
+      let few : length plan.switches ≤ 256 = valid.switch_limit in
+      record { states = omega (arith, kinds, count, h.switches); limit = omega (arith, kinds, count, few) }

@@ -1,0 +1,173 @@
+-- Where weights fit, no event step raises the potential. So every run of an accepted plan is good.
+use Rattle.std.proofs.Common.{◌≡◌, ℕ, zero, suc, ◌+◌, ◌≤◌, ◌<◌, Bool, true, false, if◌then◌else◌, Some, None, List, [], ◌∷◌, length, refl, ap, sym, subst, arith, length-append}
+use Rattle.plan_tables.specs.PlanView.{PlanView, work_of}
+use Rattle.plan_tables.specs.declared.entries.EventId.{EventId}
+use Rattle.plan_tables.specs.Valid.{HasEntries, IsValid}
+use Rattle.plan_tables.specs.declared.entries.SwitchId.{SwitchId}
+use Rattle.switch_core.specs.declared.change.Change.{Change as Acceptance}
+use Rattle.switch_core.specs.SwitchStep.{is_taken}
+use Rattle.switch_core.specs.Switches.{kind_at, state_at, after_change, accept, reported}
+use Rattle.switch_core.proofs.Lists.{due-within}
+use Rattle.written_machine.specs.declared.line.Line.{Line}
+use Rattle.written_machine.specs.declared.line.Happening.TheVariants as lines
+use Rattle.cascade_rank.specs.Cost.{price, cost_of_acceptance}
+use Rattle.cascade_rank.specs.Events.{weight_of}
+use Rattle.cascade_rank.specs.Weights.{IsFitting, bound_of}
+use Rattle.cascade_rank.proofs.Switches.{acceptance-within_bound}
+use Rattle.event_queue.specs.declared.queue.Posted.{Posted}
+use Rattle.event_queue.specs.PlanOrder.{by_priority}
+use Rattle.written_machine.specs.Machine.{Machine, initial, all_do, do_handler}
+use Rattle.written_machine.specs.EventStep.{taken, is_kept, before_handlers, handlers_in, EventStep, EventSteps, after_event}
+use Rattle.written_machine.specs.Run.{switch, device, Stimulus, Change, Alarm, Wait, IsAllowed, begin, InEveryRun}
+use Rattle.written_machine.specs.GoodRun.{cost_if_accepted, cost_of_stimulus, weigh, IsBounded}
+use Rattle.written_machine.specs.CheckedView.{CheckedView}
+use Rattle.cascade_rank.specs.Verified.{IsVerified}
+use Rattle.written_machine.proofs.Does.{potential, potential-does, AreOfPlan, WaitsInPlan, waits-does, HasStates, due-row, has_devices-does}
+use Rattle.written_machine.specs.Devices.{HasDevices}
+use Rattle.written_machine.proofs.Parts.{TakesPart, Begins, ordinary, working, does-order, does-begin, does-before, does-after}
+use Rattle.written_machine.proofs.Pricing.{handlers-priced, before-priced, after-priced, IsFired, stimulus-priced, fire-within_bound}
+use Rattle.written_machine.proofs.Growth.{event-grows}
+use Rattle.written_machine.proofs.Order.{order_cost, plan_order-step}
+use Rattle.written_machine.proofs.Alarms.{has_states-step, has_states-begin, has_states-initial}
+use Rattle.written_machine.proofs.Levels.{levels-run}
+use Rattle.written_machine.proofs.Keeps.{step-keeps, steps-keep, run-keeps}
+
+module _ (plan : PlanView) (valid : IsValid plan) where
+  waits-step : (s t : Machine) → EventStep plan s t → WaitsInPlan plan s → WaitsInPlan plan t
+  waits-step =
+      step-keeps plan (λ before. WaitsInPlan plan) (λ first before. WaitsInPlan plan)
+      (λ before first rest s is h.
+      let front : AreOfPlan plan (first ∷ rest) = subst (AreOfPlan plan) is h in
+      waits-does plan working valid.entries (does-before plan (work_of plan first.event) (taken first rest s)) front.1)
+      (λ before first c s t d h. waits-does plan (ordinary plan (TakesPart s) ⊥) valid.entries d h)
+      (λ before first kept s h. waits-does plan working valid.entries (does-after plan kept first.event s) h) []
+
+-- a stimulus that may come costs at most what the dearest does
+module _ (plan : PlanView) (w : EventId → ℕ) where
+  accepted_cost : (n : SwitchId) (taken : Bool) (a : Acceptance) → a.switch ≡ n → n.0 < length plan.switches → price w (cost_if_accepted plan (if taken then Some a else None)) ≤ bound_of plan w
+  accepted_cost n true a is l = subst (λ (m : SwitchId). price w (cost_of_acceptance plan m a.active) ≤ bound_of plan w) (sym is) (acceptance-within_bound plan w n a.active l)
+  accepted_cost n false a is l = omega arith
+
+  pub stimulus_cost : HasEntries plan → (s : Machine) (stimulus : Stimulus) → HasStates plan s → IsAllowed plan s stimulus → price w (cost_of_stimulus plan s stimulus) ≤ bound_of plan w
+  stimulus_cost entries s (Change at n level) h allowed =
+      accepted_cost n (is_taken (kind_at s.switches n) level (state_at s.switches n)) (reported (after_change n level at s.switches) n) refl allowed.1
+  stimulus_cost entries s (Alarm at (switch n)) h allowed =
+      let there = due-within s.switches n at allowed.0.due in
+      let count = h.switches in
+      acceptance-within_bound plan w n (reported (accept n s.switches) n).active (omega arith)
+  stimulus_cost entries s (Alarm at (device r)) h allowed = fire-within_bound plan entries w r (due-row plan s r at h.devices allowed.0.due)
+  stimulus_cost entries s (Wait at) h allowed = omega arith
+
+  -- a device that fires is one of the plan, and due
+  fired : (entries : HasEntries plan) → (s : Machine) (stimulus : Stimulus) → HasStates plan s → IsAllowed plan s stimulus → IsFired plan entries w s stimulus
+  fired entries s (Change at n level) h allowed = tt
+  fired entries s (Alarm at (switch n)) h allowed = tt
+  fired entries s (Alarm at (device r)) h allowed = (due-row plan s r at h.devices allowed.0.due, allowed.0.due)
+  fired entries s (Wait at) h allowed = tt
+
+module _ (plan : PlanView) where
+  -- each event step gives a line
+  pub step-line : (s t : Machine) → EventStep plan s t → length s.lines < length t.lines
+  step-line s t st =
+      let grown = event-grows plan st.first st.rest st.order s in
+      let is = ap (λ (m : Machine). length m.lines) st.new_is in
+      omega (arith, grown.0, is)
+
+  pub steps-lines : (n : ℕ) (s t : Machine) → EventSteps plan n s t → length s.lines + n ≤ length t.lines
+  steps-lines zero s t is = let same = ap (λ (m : Machine). length m.lines) is in omega (arith, same)
+  steps-lines (suc n) s t (mid, step, more) = omega (arith, step-line s mid step, steps-lines n mid t more)
+
+module _ (plan : PlanView) (valid : IsValid plan) (w : EventId → ℕ) (fits : IsFitting plan w) where
+  step-potential : (s t : Machine) → EventStep plan s t → WaitsInPlan plan s → HasDevices plan s.devices → potential w t ≤ potential w s
+  step-potential s t st h has =
+      let front : AreOfPlan plan (st.first ∷ st.rest) = subst (AreOfPlan plan) st.waiting h in
+      let fit = fits st.first.event front.0 in
+      let ready = before_handlers plan st.first st.rest s in
+      let work = work_of plan st.first.event in
+      let opens = does-before plan work (taken st.first st.rest s) in
+      let grown = potential-does plan w (does-order plan ready st.first.event st.order st.in_order) in
+      let handlers = handlers-priced plan valid.entries w st.order ready (has_devices-does plan opens has) in
+      let before = potential-does plan w opens in
+      let starts = before-priced plan valid.entries w work (taken st.first st.rest s) has in
+      let done = all_do (do_handler plan) st.order ready in
+      let after = potential-does plan w (does-after plan (is_kept work s) st.first.event done) in
+      let led = after-priced plan valid.entries w work done in
+      let paid = order_cost plan w ready st.first.event st.order st.in_order in
+      let line = length-append s.lines (record { moment = s.moment; owner = st.first.owner; happening = lines.Event st.first.event } ∷ []) in
+      let weighs = ap (weigh w) st.waiting in
+      let is = ap (potential w) st.new_is in
+      omega (arith, fit, grown, handlers, before, starts, after, led, paid, line, weighs, is)
+
+  -- the potential is within k, and each waiting event is one of the plan's
+  pub record IsWithin (k : ℕ) (s : Machine) : Type 0 where
+    pub most : potential w s ≤ k
+    pub waits : WaitsInPlan plan s
+    pub states : HasStates plan s
+
+  within-step : (k : ℕ) (s t : Machine) → EventStep plan s t → IsWithin k s → IsWithin k t
+  within-step k s t st h = record {
+    most = let most = h.most in omega (arith, step-potential s t st h.waits h.states.devices, most);
+    waits = waits-step plan valid s t st h.waits;
+    states = has_states-step plan s t st h.states;
+  }
+
+  -- a stimulus begins with no more than it costs
+  within-begin : (stimulus : Stimulus) (s : Machine) → s.waiting ≡ [] → HasStates plan s → IsAllowed plan s stimulus → IsWithin (price w (cost_of_stimulus plan s stimulus)) (begin plan stimulus s)
+  within-begin stimulus s empty has allowed = record {
+    most =
+        let none = ap (weigh w) empty in
+        omega (arith, potential-does plan w (does-begin plan stimulus s), stimulus-priced plan valid.entries w stimulus s (fired plan w valid.entries s stimulus has allowed) has.devices, none);
+    waits = waits-does plan (ordinary plan (Begins plan stimulus) (Unit {0})) valid.entries (does-begin plan stimulus s) (subst (AreOfPlan plan) (sym empty) tt);
+    states = has_states-begin plan stimulus s has;
+  }
+
+  -- what a stimulus leads to stays within what it costs
+  within-cascade : (stimulus : Stimulus) (s : Machine) → s.waiting ≡ [] → HasStates plan s → IsAllowed plan s stimulus → (n : ℕ) (t : Machine) → EventSteps plan n (begin plan stimulus s) t → IsWithin (price w (cost_of_stimulus plan s stimulus)) t
+  within-cascade stimulus s empty has allowed n t steps =
+      steps-keep plan (λ before. IsWithin (price w (cost_of_stimulus plan s stimulus))) (λ before. within-step (price w (cost_of_stimulus plan s stimulus))) [] n (begin plan stimulus s) t steps (within-begin stimulus s empty has allowed)
+
+  -- every run stays within the bound
+  pub within-run : InEveryRun plan (λ stimuli trace s. IsWithin (bound_of plan w) s)
+  within-run stimuli trace s run =
+      (run-keeps plan (λ before. IsWithin (bound_of plan w)) (λ before. within-step (bound_of plan w)) begins [] stimuli (initial plan) trace s run
+      (record { most = omega arith; waits = tt; states = has_states-initial plan })).1
+    where
+      begins : (before : List Line) (stimulus : Stimulus) (m : Machine) → IsAllowed plan m stimulus → m.waiting ≡ [] → IsWithin (bound_of plan w) m → IsWithin (bound_of plan w) (begin plan stimulus m)
+      begins before stimulus m allowed empty h =
+          let begun = within-begin stimulus m empty h.states allowed in
+          let most = begun.most in
+          record { most = omega (arith, most, stimulus_cost plan w valid.entries m stimulus h.states allowed); waits = begun.waits; states = begun.states }
+
+  -- each waiting event weighs at least 1
+  waiting-weigh : (ps : List Posted) → AreOfPlan plan ps → length ps ≤ weigh w ps
+  waiting-weigh [] h = omega arith
+  waiting-weigh (p ∷ ps) h =
+      let fit = fits p.event h.0 in
+      omega (arith, fit, waiting-weigh ps h.1)
+
+-- where the weights fit and the bound is theirs, every run is bounded
+pub fitting-is_bounded : (c : CheckedView) → IsValid c.plan → IsFitting c.plan (weight_of c.weights) → c.bound ≡ bound_of c.plan (weight_of c.weights) → IsBounded c
+fitting-is_bounded c valid fits bound =
+    let plan = c.plan in
+    let w = weight_of c.weights in
+    record {
+      cascade = λ stimuli trace s run empty stimulus allowed n t steps. (within-cascade plan valid w fits stimulus s empty (within-run plan valid w fits stimuli trace s run).states allowed n t steps).most;
+      within = λ stimuli trace s run.
+          let here = within-run plan valid w fits stimuli trace s run in
+          let most = here.most in
+          let heavy = waiting-weigh plan valid w fits s.waiting here.waits in
+          omega (arith, most, heavy, bound);
+      goes_on = λ stimuli trace s run first rest is.
+          (after_event plan first rest (by_priority plan (handlers_in plan (before_handlers plan first rest s) first.event)) s, plan_order-step plan s first rest is);
+      ends = λ stimuli trace s run empty stimulus allowed n t steps.
+          let has = (within-run plan valid w fits stimuli trace s run).states in
+          let most = (within-cascade plan valid w fits stimulus s empty has allowed n t steps).most in
+          let cost = stimulus_cost plan w valid.entries s stimulus has allowed in
+          let lines = steps-lines plan n (begin plan stimulus s) t steps in
+          omega (arith, most, cost, lines, bound);
+      levels = levels-run plan valid;
+    }
+
+-- So is every run of a plan whose weights were verified.
+pub verified-is_bounded : (c : CheckedView) → IsValid c.plan → IsVerified c.plan c.weights c.bound → IsBounded c
+verified-is_bounded c valid verified = fitting-is_bounded c valid verified.fits verified.bound_is

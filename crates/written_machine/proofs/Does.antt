@@ -1,0 +1,328 @@
+-- What one cost pays for: single changes of the machine, one after another, each by a licence.
+use Rattle.std.proofs.Common.{◌≡◌, ℕ, zero, suc, ◌+◌, ◌≤◌, ◌<◌, inl, inr, Some, Bool, true, false, List, [], ◌∷◌, ◌++◌, length, length-append, slice_index_or, slice_set, Contains, refl, ap, sym, subst, ◌∙◌, arith}
+use Rattle.std.proofs.lemmas.Bool.{cases_eq, cases_lt}
+use Rattle.std.proofs.lemmas.Option.{none-some}
+use Rattle.std.specs.List.{All, AllByRecursion}
+use Rattle.std.proofs.lemmas.List.{length-set, get_or_past, get_or-set_same, get_or-set_other}
+use Rattle.std.proofs.lemmas.List.Elements.{All-head, All-tail}
+use Rattle.plan_tables.specs.PlanView.{PlanView, mode_event, no_row, row_at}
+use Rattle.plan_tables.specs.Valid.{HasEntries}
+use Rattle.plan_tables.specs.declared.entries.EventId.{EventId}
+use Rattle.plan_tables.specs.declared.entries.Owner.{Owner}
+use Rattle.plan_tables.specs.declared.entries.SwitchId.{SwitchId}
+use Rattle.plan_tables.specs.declared.entries.ModeId.{ModeId}
+use Rattle.plan_tables.specs.declared.entries.ModeEvent.TheVariants.{WillStart, Stopping}
+use Rattle.plan_tables.specs.declared.entries.Owner.TheVariants as owners
+use Rattle.plan_tables.specs.declared.devices.RowId.{RowId}
+use Rattle.device_objects.specs.declared.device.Call.{Call}
+use Rattle.device_objects.specs.declared.state.DeviceState.{DeviceState}
+use Rattle.device_objects.specs.DeviceStep.{due_of, first_state}
+use Rattle.device_objects.specs.Laws.{HasShape}
+use Rattle.device_objects.proofs.Shapes.{states_keep_their_shape}
+use Rattle.mode_stack.specs.declared.phase.ModeState.{ModeState}
+use Rattle.mode_stack.specs.ModeStep.{starts, started, stopped, stop_answer}
+use Rattle.mode_stack.specs.Modes.{needs_game, mode_state}
+use Rattle.cascade_rank.proofs.Within.{mode_event-within}
+use Rattle.switch_core.specs.SwitchStep.{SwitchState}
+use Rattle.switch_core.specs.Switches.{all_idle, set_state}
+use Rattle.written_machine.specs.declared.line.Happening.{Happening}
+use Rattle.written_machine.specs.declared.line.Happening.TheVariants as lines
+use Rattle.cascade_rank.specs.Cost.{Cost, Lines, Both, price, each_of, dearest_of, cost_of_post}
+use Rattle.event_queue.specs.declared.queue.Posted.{Posted}
+use Rattle.written_machine.specs.Machine.{Machine, write, post, set_switches, set_mode, set_device, has_game, is_post, post_if, start_mode, stop_mode, all_do, world_of, device_state, device_at, called}
+use Rattle.written_machine.specs.Devices.{HasDevices, ActsAreOwn}
+use Rattle.written_machine.specs.FreePosts.{PostsAreFree, IsFree}
+use Rattle.written_machine.specs.GoodRun.{weigh}
+
+-- ---- single changes
+
+-- One change of the machine. A new kind of change is a new constructor here, with a line in each function by cases below.
+pub data Move : Type 0 where
+  Wrote : (owner : Owner) (what : Happening) → Move
+  Sent : (owner : Owner) (e : EventId) → Move
+  Switched : (n : SwitchId) (switch : SwitchState) → Move
+  -- a mode is told to start, or to stop
+  Began : (m : ModeId) → Move
+  Ended : (m : ModeId) → Move
+  -- a mode has this state from now on
+  Marked : (m : ModeId) (state : ModeState) → Move
+  -- a device is called, and goes on to its next state
+  Turned : (call : Call) (r : RowId) → Move
+
+abbrev pub do_move : PlanView → Move → Machine → Machine
+do_move plan (Wrote owner what) s = write owner what s
+do_move plan (Sent owner e) s = post owner e s
+do_move plan (Switched n switch) s = set_switches (set_state n switch s.switches) s
+do_move plan (Began m) s = start_mode plan m s
+do_move plan (Ended m) s = stop_mode plan m s
+do_move plan (Marked m state) s = set_mode m state s
+do_move plan (Turned call r) s = set_device r (called plan call r s).0 s
+
+abbrev pub cost_of_move : PlanView → Move → Cost
+cost_of_move plan (Wrote owner what) = Lines 1
+cost_of_move plan (Sent owner e) = cost_of_post e
+cost_of_move plan (Switched n switch) = Lines 0
+cost_of_move plan (Began m) = cost_of_post (mode_event plan m WillStart)
+cost_of_move plan (Ended m) = cost_of_post (mode_event plan m Stopping)
+cost_of_move plan (Marked m state) = Lines 0
+cost_of_move plan (Turned call r) = Lines 0
+
+-- the line is not that of an event: those come only as events are taken
+abbrev pub IsNoEvent : Happening → Type 0
+IsNoEvent (lines.Switch n active) = Unit {0}
+IsNoEvent (lines.Event e) = ⊥
+
+-- A licence: by which owners lines and events may come and devices be called, which events, and whether switches may
+-- change and modes be marked.
+pub record Licence : Type 1 where
+  pub by : Owner → Type 0
+  pub posts : EventId → Type 0
+  pub switches : Type 0
+  pub marks : Type 0
+
+-- What a licence allows. Where the plan's numbers are those of entries, only events and modes of the plan are touched.
+-- Owners are looked at where bindings act on devices of their own owner alone.
+abbrev pub MayDo : PlanView → Licence → Move → Type 0
+MayDo plan l (Wrote owner what) = l.by owner × IsNoEvent what
+MayDo plan l (Sent owner e) = (ActsAreOwn plan → l.by owner) × (HasEntries plan → e.0 < length plan.events) × l.posts e
+MayDo plan l (Switched n switch) = l.switches
+MayDo plan l (Began m) = HasEntries plan → m.0 < length plan.modes
+MayDo plan l (Ended m) = HasEntries plan → m.0 < length plan.modes
+MayDo plan l (Marked m state) = l.marks
+MayDo plan l (Turned call r) = ActsAreOwn plan → l.by (row_at plan r).owner
+
+-- where nothing in the plan posts an event at which the machine itself does something, the event is none
+abbrev pub IsFreeThere : PlanView → EventId → Type 0
+IsFreeThere plan e = PostsAreFree plan → IsFree plan e
+
+-- From one state to another by moves that are allowed, and that cost at most this.
+pub data Does (plan : PlanView) (may : Move → Type 0) : Cost → Machine → Machine → Type 0 where
+  quiet : {s : Machine} → Does plan may (Lines 0) s s
+  moved : (x : Move) (s : Machine) → may x → Does plan may (cost_of_move plan x) s (do_move plan x s)
+  both : {a b : Cost} {s m t : Machine} → Does plan may a s m → Does plan may b m t → Does plan may (Both a b) s t
+  less : {a b : Cost} {s t : Machine} → Does plan may a s t → ((w : EventId → ℕ) → price w a ≤ price w b) → Does plan may b s t
+
+-- what these cost one after another, where each finds the state that the one before it leaves
+abbrev pub each_now : {X : Type 0} → (X → Machine → Machine) → (X → Machine → Cost) → List X → Machine → Cost
+each_now f cost [] s = Lines 0
+each_now f cost (x ∷ xs) s = Both (cost x s) (each_now f cost xs (f x s))
+
+module _ (plan : PlanView) (may : Move → Type 0) where
+  -- what each allowed move keeps, they all keep
+  pub does-keeps : (Inv : Machine → Type 0) → ((x : Move) (s : Machine) → may x → Inv s → Inv (do_move plan x s)) → {c : Cost} {s t : Machine} → Does plan may c s t → Inv s → Inv t
+  does-keeps Inv moves quiet h = h
+  does-keeps Inv moves (moved x s allowed) h = moves x s allowed h
+  does-keeps Inv moves (both a b) h = does-keeps Inv moves b (does-keeps Inv moves a h)
+  does-keeps Inv moves (less a fewer) h = does-keeps Inv moves a h
+
+  -- what is allowed by one licence may be by another
+  pub does-weaker : (other : Move → Type 0) → ((x : Move) → may x → other x) → {c : Cost} {s t : Machine} → Does plan may c s t → Does plan other c s t
+  does-weaker other weaker quiet = quiet
+  does-weaker other weaker (moved x s allowed) = moved x s (weaker x allowed)
+  does-weaker other weaker (both a b) = both (does-weaker other weaker a) (does-weaker other weaker b)
+  does-weaker other weaker (less a fewer) = less (does-weaker other weaker a) fewer
+
+  -- where each does its own cost, all do the costs together
+  pub all_do-does : {X : Type 0} (f : X → Machine → Machine) (cost : X → Cost) (P : X → Type 0) → ((x : X) (s : Machine) → P x → Does plan may (cost x) s (f x s)) → (xs : List X) → All P xs → (s : Machine) → Does plan may (each_of cost xs) s (all_do f xs s)
+  all_do-does f cost P each [] h s = quiet
+  all_do-does f cost P each (x ∷ xs) h s = both (each x s (All-head P x xs h)) (all_do-does f cost P each xs (All-tail P x xs h) (f x s))
+
+  -- where what each costs depends on the state that it finds
+  pub all_do-does_now : {X : Type 0} (f : X → Machine → Machine) (cost : X → Machine → Cost) (P : X → Type 0) → ((x : X) (s : Machine) → P x → Does plan may (cost x s) s (f x s)) → (xs : List X) → All P xs → (s : Machine) → Does plan may (each_now f cost xs s) s (all_do f xs s)
+  all_do-does_now f cost P each [] h s = quiet
+  all_do-does_now f cost P each (x ∷ xs) h s = both (each x s (All-head P x xs h)) (all_do-does_now f cost P each xs (All-tail P x xs h) (f x s))
+
+  -- one of several costs at most the dearest
+  pub does-dearest : {X : Type 0} (f : X → Cost) (xs : List X) (x : X) (s t : Machine) → Contains xs x → Does plan may (f x) s t → Does plan may (dearest_of f xs) s t
+  does-dearest f [] x s t (k, l, is) d = absurd (omega arith)
+  does-dearest f (y ∷ ys) x s t (zero, l, is) d = less (subst (λ (z : _). Does plan may (f z) s t) (sym is) d) (λ w. omega arith)
+  does-dearest f (y ∷ ys) x s t (suc k, l, is) d = less (does-dearest f ys x s t (k, omega arith, is) d) (λ w. omega arith)
+
+-- lines and waiting events only grow
+abbrev pub Grows : Machine → Machine → Type 0
+Grows s t = (length s.lines ≤ length t.lines) × (length s.waiting ≤ length t.waiting)
+
+-- what holds whether an event is posted or not
+pub post_if-by : (P : Machine → Type 0) (e : EventId) (s : Machine) → P (post owners.Machine e s) → P s → (b : Bool) → P (post_if b e s)
+post_if-by P e s posted not true = posted
+post_if-by P e s posted not false = not
+
+module _ (plan : PlanView) (m : ModeId) (s : Machine) where
+  -- a mode that is told to start, and its event
+  abbrev pub begun_mode : Machine
+  begun_mode = set_mode m (started (needs_game plan m) (has_game s) (mode_state s.modes m)) s
+
+  pub start-by : (P : Machine → Type 0) → P (post owners.Machine (mode_event plan m WillStart) begun_mode) → P begun_mode → P (start_mode plan m s)
+  start-by P posted not = post_if-by P (mode_event plan m WillStart) begun_mode posted not (starts (needs_game plan m) (has_game s) (mode_state s.modes m).phase)
+
+  -- or to stop
+  abbrev pub ended_mode : Machine
+  ended_mode = set_mode m (stopped (mode_state s.modes m)) s
+
+  pub stop-by : (P : Machine → Type 0) → P (post owners.Machine (mode_event plan m Stopping) ended_mode) → P ended_mode → P (stop_mode plan m s)
+  stop-by P posted not = post_if-by P (mode_event plan m Stopping) ended_mode posted not (is_post (stop_answer (mode_state s.modes m).phase))
+
+-- ---- the potential grows by no more than the cost
+
+-- lines so far, and the weights of the waiting events
+abbrev pub potential : (EventId → ℕ) → Machine → ℕ
+potential w s = length s.lines + weigh w s.waiting
+
+pub weigh-append : (w : EventId → ℕ) (ps qs : List Posted) → weigh w (ps ++ qs) ≡ weigh w ps + weigh w qs
+weigh-append w [] qs = omega arith
+weigh-append w (p ∷ ps) qs = omega (arith, weigh-append w ps qs)
+
+potential-post : (w : EventId → ℕ) (owner : Owner) (e : EventId) (s : Machine) → potential w (post owner e s) ≤ potential w s + w e
+potential-post w owner e s = omega (arith, weigh-append w s.waiting (record { event = e; owner = owner } ∷ []))
+
+module _ (plan : PlanView) where
+  potential-move : (w : EventId → ℕ) (x : Move) (s : Machine) → potential w (do_move plan x s) ≤ potential w s + price w (cost_of_move plan x)
+  potential-move w (Wrote owner what) s = omega (arith, length-append s.lines (record { moment = s.moment; owner = owner; happening = what } ∷ []))
+  potential-move w (Sent owner e) s = potential-post w owner e s
+  potential-move w (Switched n switch) s = omega arith
+  potential-move w (Began m) s =
+      start-by plan m s (λ t. potential w t ≤ potential w s + w (mode_event plan m WillStart)) (potential-post w owners.Machine (mode_event plan m WillStart) (begun_mode plan m s)) (omega arith)
+  potential-move w (Ended m) s =
+      stop-by plan m s (λ t. potential w t ≤ potential w s + w (mode_event plan m Stopping)) (potential-post w owners.Machine (mode_event plan m Stopping) (ended_mode plan m s)) (omega arith)
+  potential-move w (Marked m state) s = omega arith
+  potential-move w (Turned call r) s = omega arith
+
+  pub potential-does : {may : Move → Type 0} (w : EventId → ℕ) {c : Cost} {s t : Machine} → Does plan may c s t → potential w t ≤ potential w s + price w c
+  potential-does w quiet = omega arith
+  potential-does w (moved x s allowed) = potential-move w x s
+  potential-does w (both a b) = omega (arith, potential-does w a, potential-does w b)
+  potential-does w (less a fewer) = omega (arith, potential-does w a, fewer w)
+
+  -- ---- what moves keep
+
+  -- each waiting event is one of the plan's
+  abbrev pub AreOfPlan : List Posted → Type 0
+  AreOfPlan ps = AllByRecursion (λ p. p.event.0 < length plan.events) ps
+
+  abbrev pub WaitsInPlan : Machine → Type 0
+  WaitsInPlan s = AreOfPlan s.waiting
+
+  of_plan-push : (ps : List Posted) (p : Posted) → AreOfPlan ps → p.event.0 < length plan.events → AreOfPlan (ps ++ p ∷ [])
+  of_plan-push [] p h k = (k, tt)
+  of_plan-push (q ∷ ps) p h k = (h.0, of_plan-push ps p h.1 k)
+
+  grows-move : (x : Move) (s : Machine) → Grows s (do_move plan x s)
+  grows-move (Wrote owner what) s = (omega (arith, length-append s.lines (record { moment = s.moment; owner = owner; happening = what } ∷ [])), omega arith)
+  grows-move (Sent owner e) s = (omega arith, omega (arith, length-append s.waiting (record { event = e; owner = owner } ∷ [])))
+  grows-move (Switched n switch) s = (omega arith, omega arith)
+  grows-move (Began m) s = start-by plan m s (Grows s) (omega arith, omega (arith, length-append s.waiting (record { event = mode_event plan m WillStart; owner = owners.Machine } ∷ []))) (omega arith, omega arith)
+  grows-move (Ended m) s = stop-by plan m s (Grows s) (omega arith, omega (arith, length-append s.waiting (record { event = mode_event plan m Stopping; owner = owners.Machine } ∷ []))) (omega arith, omega arith)
+  grows-move (Marked m state) s = (omega arith, omega arith)
+  grows-move (Turned call r) s = (omega arith, omega arith)
+
+  pub moment-move : (x : Move) (s : Machine) → (do_move plan x s).moment ≡ s.moment
+  moment-move (Wrote owner what) s = refl
+  moment-move (Sent owner e) s = refl
+  moment-move (Switched n switch) s = refl
+  moment-move (Began m) s = start-by plan m s (λ t. t.moment ≡ s.moment) refl refl
+  moment-move (Ended m) s = stop-by plan m s (λ t. t.moment ≡ s.moment) refl refl
+  moment-move (Marked m state) s = refl
+  moment-move (Turned call r) s = refl
+
+  -- the switches are read as the plan says, and each has a state, as each mode and each device has
+  pub record HasStates (s : Machine) : Type 0 where
+    pub kinds : s.switches.kinds ≡ (all_idle plan).kinds
+    pub switches : length s.switches.states ≡ length plan.switches
+    pub modes : length s.modes ≡ length plan.modes
+    pub devices : HasDevices plan s.devices
+
+  turned-has_devices : (call : Call) (r : RowId) (s : Machine) → HasDevices plan s.devices → HasDevices plan (slice_set s.devices r.0 (called plan call r s).0)
+  turned-has_devices call r s h = record { count = length-set s.devices r.0 new ∙ h.count; shapes = shapes }
+    where
+      new : DeviceState
+      new = (called plan call r s).0
+
+      shapes : (q : RowId) → q.0 < length plan.rows → HasShape (row_at plan q).settings (device_state (slice_set s.devices r.0 new) q)
+      shapes q there =
+          elim (cases_eq q.0 r.0) [
+            | inl same ↦
+                let within : r.0 < length plan.rows = omega (arith, there, same) in
+                let devices : r.0 < length s.devices = let count = h.count in omega (arith, within, count) in
+                subst (λ (n : ℕ). HasShape (slice_index_or plan.rows n no_row).settings (slice_index_or (slice_set s.devices r.0 new) n (first_state no_row.settings))) (sym same)
+                (subst (HasShape (row_at plan r).settings) (sym (get_or-set_same s.devices r.0 new (first_state no_row.settings) devices))
+                (states_keep_their_shape.step (row_at plan r).settings call s.moment (world_of s) (device_at s r) (h.shapes r within)))
+            | inr other ↦ subst (HasShape (row_at plan q).settings) (sym (get_or-set_other s.devices r.0 q.0 new (first_state no_row.settings) other)) (h.shapes q there)
+          ]
+
+  marked-has_states : (m : ModeId) (state : ModeState) (s : Machine) → HasStates s → HasStates (set_mode m state s)
+  marked-has_states m state s h = record { kinds = h.kinds; switches = h.switches; modes = length-set s.modes m.0 state ∙ h.modes; devices = h.devices }
+
+  posted-has_states : (owner : Owner) (e : EventId) (s : Machine) → HasStates s → HasStates (post owner e s)
+  posted-has_states owner e s h = record { kinds = h.kinds; switches = h.switches; modes = h.modes; devices = h.devices }
+
+  has_states-move : (x : Move) (s : Machine) → HasStates s → HasStates (do_move plan x s)
+  has_states-move (Wrote owner what) s h = record { kinds = h.kinds; switches = h.switches; modes = h.modes; devices = h.devices }
+  has_states-move (Sent owner e) s h = posted-has_states owner e s h
+  has_states-move (Switched n switch) s h = record { kinds = h.kinds; switches = length-set s.switches.states n.0 switch ∙ h.switches; modes = h.modes; devices = h.devices }
+  has_states-move (Began m) s h =
+      let told = marked-has_states m _ s h in
+      start-by plan m s HasStates (posted-has_states owners.Machine (mode_event plan m WillStart) (begun_mode plan m s) told) told
+  has_states-move (Ended m) s h =
+      let told = marked-has_states m _ s h in
+      stop-by plan m s HasStates (posted-has_states owners.Machine (mode_event plan m Stopping) (ended_mode plan m s) told) told
+  has_states-move (Marked m state) s h = marked-has_states m state s h
+  has_states-move (Turned call r) s h = record { kinds = h.kinds; switches = h.switches; modes = h.modes; devices = turned-has_devices call r s h.devices }
+
+  -- a device that is due is one of the plan
+  pub due-row : (s : Machine) (r : RowId) (due : ℕ) → HasDevices plan s.devices → due_of (device_at s r) ≡ Some due → r.0 < length plan.rows
+  due-row s r due has is =
+      elim (cases_lt r.0 (length s.devices)) [
+        | inl there ↦ let count = has.count in omega (arith, there, count)
+        | inr past ↦ absurd (none-some due (sym (ap due_of (get_or_past s.devices r.0 (first_state no_row.settings) past)) ∙ is))
+      ]
+
+  pub has_devices-move : (x : Move) (s : Machine) → HasDevices plan s.devices → HasDevices plan (do_move plan x s).devices
+  has_devices-move (Wrote owner what) s h = h
+  has_devices-move (Sent owner e) s h = h
+  has_devices-move (Switched n switch) s h = h
+  has_devices-move (Began m) s h = start-by plan m s (λ t. HasDevices plan t.devices) h h
+  has_devices-move (Ended m) s h = stop-by plan m s (λ t. HasDevices plan t.devices) h h
+  has_devices-move (Marked m state) s h = h
+  has_devices-move (Turned call r) s h = turned-has_devices call r s h
+
+  module _ {may : Move → Type 0} {c : Cost} {s t : Machine} where
+    pub has_devices-does : Does plan may c s t → HasDevices plan s.devices → HasDevices plan t.devices
+    has_devices-does d h = does-keeps plan may (λ u. HasDevices plan u.devices) (λ x u allowed k. has_devices-move x u k) d h
+
+    pub grows-does : Does plan may c s t → Grows s t
+    grows-does d =
+        does-keeps plan may (Grows s) (λ x u allowed h. let g = grows-move x u in (omega (arith, h.0, g.0), omega (arith, h.1, g.1))) d (omega arith, omega arith)
+
+    pub moment-does : Does plan may c s t → t.moment ≡ s.moment
+    moment-does d = does-keeps plan may (λ u. u.moment ≡ s.moment) (λ x u allowed h. moment-move x u ∙ h) d refl
+
+    pub has_states-does : Does plan may c s t → HasStates s → HasStates t
+    has_states-does d h = does-keeps plan may HasStates (λ x u allowed k. has_states-move x u k) d h
+
+  module _ (l : Licence) where
+    waits-move : HasEntries plan → (x : Move) (s : Machine) → MayDo plan l x → WaitsInPlan s → WaitsInPlan (do_move plan x s)
+    waits-move entries (Wrote owner what) s may h = h
+    waits-move entries (Sent owner e) s may h = of_plan-push s.waiting (record { event = e; owner = owner }) h (may.1 entries)
+    waits-move entries (Switched n switch) s may h = h
+    waits-move entries (Began m) s may h =
+        start-by plan m s WaitsInPlan (of_plan-push s.waiting (record { event = mode_event plan m WillStart; owner = owners.Machine }) h (mode_event-within plan entries m WillStart (may entries))) h
+    waits-move entries (Ended m) s may h =
+        stop-by plan m s WaitsInPlan (of_plan-push s.waiting (record { event = mode_event plan m Stopping; owner = owners.Machine }) h (mode_event-within plan entries m Stopping (may entries))) h
+    waits-move entries (Marked m state) s may h = h
+    waits-move entries (Turned call r) s may h = h
+
+    pub waits-does : HasEntries plan → {c : Cost} {s t : Machine} → Does plan (MayDo plan l) c s t → WaitsInPlan s → WaitsInPlan t
+    waits-does entries d h = does-keeps plan (MayDo plan l) WaitsInPlan (waits-move entries) d h
+
+    -- where no switch may change
+    switches-move : (l.switches → ⊥) → (x : Move) (s : Machine) → MayDo plan l x → (do_move plan x s).switches ≡ s.switches
+    switches-move none (Wrote owner what) s may = refl
+    switches-move none (Sent owner e) s may = refl
+    switches-move none (Switched n switch) s may = absurd (none may)
+    switches-move none (Began m) s may = start-by plan m s (λ t. t.switches ≡ s.switches) refl refl
+    switches-move none (Ended m) s may = stop-by plan m s (λ t. t.switches ≡ s.switches) refl refl
+    switches-move none (Marked m state) s may = refl
+    switches-move none (Turned call r) s may = refl
+
+    pub switches-does : (l.switches → ⊥) → {c : Cost} {s t : Machine} → Does plan (MayDo plan l) c s t → t.switches ≡ s.switches
+    switches-does none {c} {s} {t} d = does-keeps plan (MayDo plan l) (λ u. u.switches ≡ s.switches) (λ x u may h. switches-move none x u may ∙ h) d refl

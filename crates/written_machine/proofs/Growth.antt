@@ -1,0 +1,55 @@
+-- What the machine does only adds to its lines and waiting events.
+use Rattle.std.proofs.Common.{◌≤◌, ◌<◌, List, [], ◌∷◌, length, length-append, arith}
+use Rattle.plan_tables.specs.PlanView.{PlanView, posts_of, work_of}
+use Rattle.plan_tables.specs.declared.entries.EventId.{EventId}
+use Rattle.plan_tables.specs.declared.entries.BindingId.{BindingId}
+use Rattle.plan_tables.specs.declared.entries.Owner.{Owner}
+use Rattle.plan_tables.specs.declared.entries.Owner.TheVariants as owners
+use Rattle.plan_tables.specs.declared.entries.Action.{Action}
+use Rattle.plan_tables.specs.declared.entries.Action.TheVariants.{Post}
+use Rattle.switch_core.specs.declared.change.Change.{Change as Acceptance}
+use Rattle.written_machine.specs.declared.line.Line.{Line}
+use Rattle.written_machine.specs.declared.line.Happening.TheVariants as lines
+use Rattle.event_queue.specs.declared.queue.Posted.{Posted}
+use Rattle.written_machine.specs.Machine.{Machine, write, post, all_do, do_action, do_handler, do_accepted}
+use Rattle.written_machine.specs.EventStep.{taken, is_kept, before_handlers, after_event}
+use Rattle.written_machine.proofs.Does.{Grows, grows-does}
+use Rattle.written_machine.proofs.Parts.{does-handler, does-before, does-after}
+
+-- where each adds, all do
+pub all_do-grows : {X : Type 0} (f : X → Machine → Machine) → ((x : X) (s : Machine) → Grows s (f x s)) → (xs : List X) (s : Machine) → Grows s (all_do f xs s)
+all_do-grows f each [] s = (omega arith, omega arith)
+all_do-grows f each (x ∷ xs) s =
+    let one = each x s in
+    let rest = all_do-grows f each xs (f x s) in
+    (omega (arith, one.0, rest.0), omega (arith, one.1, rest.1))
+
+pub post-grows : (owner : Owner) (e : EventId) (s : Machine) → Grows s (post owner e s)
+post-grows owner e s = (omega arith, omega (arith, length-append s.waiting (record { event = e; owner = owner } ∷ [])))
+
+module _ (plan : PlanView) where
+  pub action-grows : (owner : Owner) (a : Action) (s : Machine) → Grows s (do_action plan owner a s)
+  action-grows owner (Post e) s = post-grows owner e s
+
+  -- whoever takes part
+  pub handler-grows : (place : BindingId) (s : Machine) → Grows s (do_handler plan place s)
+  handler-grows place s = grows-does plan (does-handler plan (λ o. Unit {0}) ⊥ place s tt)
+
+  -- an acceptance adds its line
+  pub accepted-grows : (a : Acceptance) (s : Machine) → (length s.lines < length (do_accepted plan a s).lines) × (length s.waiting ≤ length (do_accepted plan a s).waiting)
+  accepted-grows a s =
+      let written : Line = record { moment = s.moment; owner = owners.Machine; happening = lines.Switch a.switch a.active } in
+      let g = all_do-grows (post owners.Machine) (post-grows owners.Machine) (posts_of plan a.switch a.active) (write owners.Machine (lines.Switch a.switch a.active) s) in
+      (omega (arith, g.0, length-append s.lines (written ∷ [])), g.1)
+
+  -- an event step adds its line, and to what waits after its event
+  pub event-grows : (first : Posted) (rest : List Posted) (order : List BindingId) (s : Machine)
+      → (length s.lines < length (after_event plan first rest order s).lines) × (length rest ≤ length (after_event plan first rest order s).waiting)
+  event-grows first rest order s =
+      let written : Line = record { moment = s.moment; owner = first.owner; happening = lines.Event first.event } in
+      let opened = before_handlers plan first rest s in
+      let handled = all_do (do_handler plan) order opened in
+      let before = grows-does plan (does-before plan (work_of plan first.event) (taken first rest s)) in
+      let g = all_do-grows (do_handler plan) handler-grows order opened in
+      let after = grows-does plan (does-after plan (is_kept (work_of plan first.event) s) first.event handled) in
+      (omega (arith, before.0, g.0, after.0, length-append s.lines (written ∷ [])), omega (arith, before.1, g.1, after.1))

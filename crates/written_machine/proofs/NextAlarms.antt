@@ -1,0 +1,233 @@
+-- The next alarm that is computed is the next alarm, and nothing is due by a moment just where it is computed so.
+use Rattle.std.proofs.Common.{◌≡◌, ℕ, ◌<◌, ◌≤◌, ◌⊎◌, inl, inr, Bool, true, false, nat_le, cond, Option, Some, None, option_map, List, length, map, refl, ap, sym, subst, ◌∙◌, arith}
+use Rattle.std.specs.Option.{option_map_or}
+use Rattle.std.proofs.lemmas.Bool.{cases_lt, cond_both, cond-true, cond-false, leb-true, leb-false, le-leb, lt-leb}
+use Rattle.std.proofs.lemmas.List.{get_or_past, get_or-map, length-map}
+use Rattle.std.proofs.lemmas.Option.{none-some, same_Some}
+use Rattle.plan_tables.specs.PlanView.{no_row}
+use Rattle.plan_tables.specs.declared.entries.SwitchId.{SwitchId}
+use Rattle.plan_tables.specs.declared.devices.RowId.{RowId}
+use Rattle.switch_core.specs.Switches.{IsNextDue, next_due}
+use Rattle.switch_core.proofs.NextDue.{next_due-least, not_due-quiet}
+use Rattle.device_objects.specs.DeviceStep as devices
+use Rattle.event_queue.specs.Alarms.{due_of, least_of}
+use Rattle.event_queue.proofs.Least.{alarms_give_the_least}
+use Rattle.written_machine.specs.Machine.{Machine}
+use Rattle.written_machine.specs.Run.{Source, switch, device, source_due, IsNotAfter, IsNoAlarmDueBy, IsNextAlarm}
+use Rattle.written_machine.specs.NextAlarm.{first_of, next_alarm, is_due_by}
+use Rattle.written_machine.specs.AlarmsBy.{due_by}
+
+-- the next alarm of a switch is what is due next among the switches
+pub next_alarm-due : (s : Machine) (at : ℕ) (n : SwitchId) → IsNextAlarm s at (switch n) → IsNextDue s.switches at n
+next_alarm-due s at n h = record { due = h.due; least = least }
+  where
+    least : (m : SwitchId) (moment : ℕ) → source_due s (switch m) ≡ Some moment → (at < moment) ⊎ ((at ≡ moment) × (n.0 ≤ m.0))
+    least m moment is = h.least (switch m) moment is
+
+-- ---- there is one at most
+
+not_after-same : (a b : Source) → IsNotAfter a b → IsNotAfter b a → a ≡ b
+not_after-same (switch n) (switch m) h k = let same : n.0 ≡ m.0 = omega arith in ap (λ i. switch (record { 0 = i })) same
+not_after-same (switch n) (device r) h k = absurd k
+not_after-same (device r) (switch n) h k = absurd h
+not_after-same (device r) (device q) h k = let same : r.0 ≡ q.0 = omega arith in ap (λ i. device (record { 0 = i })) same
+
+pub next-unique : (s : Machine) (at other : ℕ) (source first : Source) → IsNextAlarm s at source → IsNextAlarm s other first → (at ≡ other) × (source ≡ first)
+next-unique s at other source first a b =
+    elim (a.least first other b.due) [
+      | inl early ↦
+          elim (b.least source at a.due) [
+            | inl late ↦ absurd (omega (arith, early, late))
+            | inr same ↦ let e = same.0 in absurd (omega (arith, early, e))
+          ]
+      | inr same ↦
+          elim (b.least source at a.due) [
+            | inl late ↦ let e = same.0 in absurd (omega (arith, late, e))
+            | inr again ↦ (same.0, not_after-same source first same.1 again.1)
+          ]
+    ]
+
+-- ---- what is due of the devices
+
+abbrev dues : Machine → List (Option ℕ)
+dues s = map devices.due_of s.devices
+
+dues-at : (s : Machine) (r : RowId) → due_of (dues s) r ≡ source_due s (device r)
+dues-at s r =
+    elim (cases_lt r.0 (length s.devices)) [
+      | inl there ↦ get_or-map devices.due_of s.devices r.0 (devices.first_state no_row.settings) None there
+      | inr past ↦
+          get_or_past (dues s) r.0 None (omega (arith, past, length-map s.devices devices.due_of))
+          ∙ sym (ap devices.due_of (get_or_past s.devices r.0 (devices.first_state no_row.settings) past))
+    ]
+
+-- ---- the next alarm
+
+abbrev of_switch : ℕ × SwitchId → ℕ × Source
+of_switch d = (d.0, switch d.1)
+
+abbrev of_device : ℕ × RowId → ℕ × Source
+of_device d = (d.0, device d.1)
+
+module _ (s : Machine) where
+  no_switch-due : next_due s.switches ≡ None → (n : SwitchId) (due : ℕ) → source_due s (switch n) ≡ Some due → ⊥
+  no_switch-due none n due is =
+      let later = not_due-quiet s.switches due (ap (λ (o : Option (ℕ × SwitchId)). option_map_or (λ d. nat_le d.0 due) o false) none) n due is in
+      omega (arith, later)
+
+  no_device-due : least_of (dues s) ≡ None → (r : RowId) (due : ℕ) → source_due s (device r) ≡ Some due → ⊥
+  no_device-due none r due is = none-some due (sym (alarms_give_the_least.none (dues s) none r) ∙ dues-at s r ∙ is)
+
+  -- the alarm of a switch, before which no device is due
+  switch-next : (c : ℕ × SwitchId) → next_due s.switches ≡ Some c → ((r : RowId) (due : ℕ) → source_due s (device r) ≡ Some due → c.0 ≤ due) → IsNextAlarm s c.0 (switch c.1)
+  switch-next c found later = record { due = next.due; least = least }
+    where
+      next : IsNextDue s.switches c.0 c.1
+      next = next_due-least s.switches c.0 c.1 found
+
+      least : (other : Source) (moment : ℕ) → source_due s other ≡ Some moment → (c.0 < moment) ⊎ ((c.0 ≡ moment) × IsNotAfter (switch c.1) other)
+      least (switch m) moment is = next.least m moment is
+      least (device r) moment is =
+          elim (cases_lt c.0 moment) [
+            | inl below ↦ inl below
+            | inr not ↦ let by = later r moment is in inr (omega (arith, not, by), tt)
+          ]
+
+  -- the alarm of a device, by which no switch is due
+  device-next : (d : ℕ × RowId) → least_of (dues s) ≡ Some d → ((n : SwitchId) (due : ℕ) → source_due s (switch n) ≡ Some due → d.0 < due) → IsNextAlarm s d.0 (device d.1)
+  device-next d found later = record { due = sym (dues-at s d.1) ∙ first.due; least = least }
+    where
+      first : Rattle.event_queue.specs.Alarms.IsLeast (dues s) d.0 d.1
+      first = alarms_give_the_least.least (dues s) d.0 d.1 found
+
+      least : (other : Source) (moment : ℕ) → source_due s other ≡ Some moment → (d.0 < moment) ⊎ ((d.0 ≡ moment) × IsNotAfter (device d.1) other)
+      least (switch n) moment is = inl (later n moment is)
+      least (device q) moment is =
+          let here : due_of (dues s) q ≡ Some moment = dues-at s q ∙ is in
+          elim (cases_lt d.0 moment) [
+            | inl below ↦ inl below
+            | inr not ↦
+                let early = first.earliest q moment here in
+                let same : d.0 ≡ moment = omega (arith, not, early) in
+                inr (same, first.lowest q (here ∙ ap Some (sym same)))
+          ]
+
+  abbrev next_from : Option (ℕ × SwitchId) → Option (ℕ × RowId) → Option (ℕ × Source)
+  next_from a b = first_of (option_map of_switch a) (option_map of_device b)
+
+  found-from : (a : Option (ℕ × SwitchId)) (b : Option (ℕ × RowId)) → next_due s.switches ≡ a → least_of (dues s) ≡ b → (x : ℕ × Source) → next_from a b ≡ Some x → IsNextAlarm s x.0 x.1
+  found-from None None p q x is = absurd (none-some x is)
+  found-from None (Some d) p q x is = subst (λ (y : ℕ × Source). IsNextAlarm s y.0 y.1) (same_Some (of_device d) x is) (device-next d q (λ n due h. absurd (no_switch-due p n due h)))
+  found-from (Some c) None p q x is = subst (λ (y : ℕ × Source). IsNextAlarm s y.0 y.1) (same_Some (of_switch c) x is) (switch-next c p (λ r due h. absurd (no_device-due q r due h)))
+  found-from (Some c) (Some d) p q x is =
+      cond_both (nat_le c.0 d.0) (Some (of_switch c)) (Some (of_device d)) (λ (v : Option (ℕ × Source)). v ≡ Some x → IsNextAlarm s x.0 x.1)
+      (λ t e. subst (λ (y : ℕ × Source). IsNextAlarm s y.0 y.1) (same_Some (of_switch c) x e) (switch-next c p (λ r due h. let early = device-early r due h in let by = leb-true c.0 d.0 t in omega (arith, early, by))))
+      (λ t e. subst (λ (y : ℕ × Source). IsNextAlarm s y.0 y.1) (same_Some (of_device d) x e) (device-next d q (λ n due h. let early = switch-early n due h in let by = leb-false c.0 d.0 t in omega (arith, early, by)))) is
+    where
+      device-early : (r : RowId) (due : ℕ) → source_due s (device r) ≡ Some due → d.0 ≤ due
+      device-early r due h = (alarms_give_the_least.least (dues s) d.0 d.1 q).earliest r due (dues-at s r ∙ h)
+
+      switch-early : (n : SwitchId) (due : ℕ) → source_due s (switch n) ≡ Some due → c.0 ≤ due
+      switch-early n due h =
+          elim ((next_due-least s.switches c.0 c.1 p).least n due h) [
+            | inl below ↦ omega (arith, below)
+            | inr same ↦ let e = same.0 in omega (arith, e)
+          ]
+
+  nothing-from : (a : Option (ℕ × SwitchId)) (b : Option (ℕ × RowId)) → next_due s.switches ≡ a → least_of (dues s) ≡ b → next_from a b ≡ None → (source : Source) (due : ℕ) → source_due s source ≡ Some due → ⊥
+  nothing-from None None p q none (switch n) due is = no_switch-due p n due is
+  nothing-from None None p q none (device r) due is = no_device-due q r due is
+  nothing-from None (Some d) p q none source due is = none-some (of_device d) (sym none)
+  nothing-from (Some c) None p q none source due is = none-some (of_switch c) (sym none)
+  nothing-from (Some c) (Some d) p q none source due is =
+      cond_both (nat_le c.0 d.0) (Some (of_switch c)) (Some (of_device d)) (λ (v : Option (ℕ × Source)). v ≡ None → ⊥)
+      (λ t e. none-some (of_switch c) (sym e)) (λ t e. none-some (of_device d) (sym e)) none
+
+  -- there is none just where nothing is due
+  pub none-nothing : next_alarm s ≡ None → (source : Source) (due : ℕ) → source_due s source ≡ Some due → ⊥
+  none-nothing none = nothing-from (next_due s.switches) (least_of (dues s)) refl refl none
+
+pub found-is_next : (s : Machine) (at : ℕ) (source : Source) → next_alarm s ≡ Some (at, source) → IsNextAlarm s at source
+found-is_next s at source is = found-from s (next_due s.switches) (least_of (dues s)) refl refl (at, source) is
+
+pub next-is_found : (s : Machine) (at : ℕ) (source : Source) → IsNextAlarm s at source → next_alarm s ≡ Some (at, source)
+next-is_found s at source h = by (next_alarm s) refl
+  where
+    by : (o : Option (ℕ × Source)) → next_alarm s ≡ o → next_alarm s ≡ Some (at, source)
+    by None is = absurd (none-nothing s is source at h.due)
+    by (Some x) is =
+        let same = next-unique s x.0 at x.1 source (found-is_next s x.0 x.1 is) h in
+        is ∙ (λ i. Some (same.0 i, same.1 i))
+
+-- ---- whether one is due by a moment
+
+-- nothing is due before the next alarm
+next-early : (s : Machine) (at : ℕ) (first : Source) → IsNextAlarm s at first → (source : Source) (due : ℕ) → source_due s source ≡ Some due → at ≤ due
+next-early s at first next source due is =
+    elim (next.least source due is) [
+      | inl after ↦ omega (arith, after)
+      | inr same ↦ let e = same.0 in omega (arith, e)
+    ]
+
+pub not_due-nothing : (s : Machine) (at : ℕ) → is_due_by at s ≡ false → IsNoAlarmDueBy s at
+not_due-nothing s at h source due is = by (next_alarm s) refl h
+  where
+    by : (o : Option (ℕ × Source)) → next_alarm s ≡ o → option_map_or (λ (a : ℕ × Source). nat_le a.0 at) o false ≡ false → at < due
+    by None none e = absurd (none-nothing s none source due is)
+    by (Some x) found e =
+        let early = next-early s x.0 x.1 (found-is_next s x.0 x.1 found) source due is in
+        let above = leb-false x.0 at e in
+        omega (arith, early, above)
+
+pub nothing-not_due : (s : Machine) (at : ℕ) → IsNoAlarmDueBy s at → is_due_by at s ≡ false
+nothing-not_due s at h = by (next_alarm s) refl
+  where
+    by : (o : Option (ℕ × Source)) → next_alarm s ≡ o → option_map_or (λ (a : ℕ × Source). nat_le a.0 at) o false ≡ false
+    by None none = refl
+    by (Some x) found = lt-leb x.0 at (h x.1 x.0 (found-is_next s x.0 x.1 found).due)
+
+-- ---- one that is due by a moment
+
+due_by-cases : (until : ℕ) (o : Option (ℕ × Source)) (a : ℕ × Source) → due_by until o ≡ Some a → (o ≡ Some a) × (a.0 ≤ until)
+due_by-cases until None a h = cc
+due_by-cases until (Some b) a h =
+    cond_both (nat_le b.0 until) (Some b) None (λ (v : Option (ℕ × Source)). v ≡ Some a → (Some b ≡ Some a) × (a.0 ≤ until))
+    (λ t is. let same : b.0 ≡ a.0 = ap (λ (o : Option (ℕ × Source)). option_map_or (λ x. x.0) o 0) is in let below = leb-true b.0 until t in (is, omega arith))
+    (λ t is. cc) h
+
+pub due_by-some : (s : Machine) (until at : ℕ) (source : Source) → due_by until (next_alarm s) ≡ Some (at, source) → IsNextAlarm s at source × (at ≤ until)
+due_by-some s until at source h =
+    let is = due_by-cases until (next_alarm s) (at, source) h in
+    (found-is_next s at source is.0, is.1)
+
+pub some-due_by : (s : Machine) (until at : ℕ) (source : Source) → IsNextAlarm s at source → at ≤ until → due_by until (next_alarm s) ≡ Some (at, source)
+some-due_by s until at source next by =
+    let found : Option (ℕ × Source) = Some (at, source) in
+    ap (due_by until) (next-is_found s at source next) ∙ cond-true (nat_le at until) found None (le-leb at until by)
+
+none-where : (until : ℕ) (o : Option (ℕ × Source)) → option_map_or (λ (a : ℕ × Source). nat_le a.0 until) o false ≡ false → due_by until o ≡ None
+none-where until None h = refl
+none-where until (Some a) h = cond-false (nat_le a.0 until) (Some a) None h
+
+not_due-where : (until : ℕ) (o : Option (ℕ × Source)) → due_by until o ≡ None → option_map_or (λ (a : ℕ × Source). nat_le a.0 until) o false ≡ false
+not_due-where until None h = refl
+not_due-where until (Some a) h = by (nat_le a.0 until) h
+  where
+    by : (b : Bool) → cond b (Some a) None ≡ None → b ≡ false
+    by true h = cc
+    by false h = refl
+
+-- there is none just where nothing is due by the moment
+pub due_by-none : (s : Machine) (until : ℕ) → due_by until (next_alarm s) ≡ None → IsNoAlarmDueBy s until
+due_by-none s until h = not_due-nothing s until (not_due-where until (next_alarm s) h)
+
+pub nothing-due_by : (s : Machine) (until : ℕ) → IsNoAlarmDueBy s until → due_by until (next_alarm s) ≡ None
+nothing-due_by s until h = none-where until (next_alarm s) (nothing-not_due s until h)
+
+-- one is due by the moment
+pub due-comes : (s : Machine) (until : ℕ) → is_due_by until s ≡ true → (at : ℕ) × (source : Source) × IsNextAlarm s at source × (at ≤ until)
+due-comes s until h = comes (next_alarm s) refl h
+  where
+    comes : (o : Option (ℕ × Source)) → next_alarm s ≡ o → option_map_or (λ (a : ℕ × Source). nat_le a.0 until) o false ≡ true → (at : ℕ) × (source : Source) × IsNextAlarm s at source × (at ≤ until)
+    comes None is h = cc
+    comes (Some a) is h = (a.0, a.1, found-is_next s a.0 a.1 is, leb-true a.0 until h)

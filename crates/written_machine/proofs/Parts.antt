@@ -1,0 +1,306 @@
+-- What each part of the machine does, and by which licence.
+use Rattle.std.proofs.Common.{◌≡◌, ◌<◌, ◌≤◌, Bool, true, false, Option, Some, None, List, [], length, refl, sym, ap, subst, inl, inr, arith}
+use Rattle.std.specs.List.{All}
+use Rattle.std.proofs.lemmas.Bool.{cases_lt}
+use Rattle.std.proofs.lemmas.List.{get_or_past}
+use Rattle.std.proofs.lemmas.List.Elements.{All-get_or, All-nil, filter_passes}
+use Rattle.std.proofs.lemmas.List.Sorted.{All-permutation}
+use Rattle.plan_tables.specs.PlanView.{PlanView, no_switch, no_binding, switch_at, posts_of, actions_at, binding_at, is_owner, list_of_row, places_of, mode_event, row_at, row_numbers, rows_of, work_of}
+use Rattle.plan_tables.specs.Valid.{HasEntries, IsEventWithin, IsActionWithin, IsBindingWithin, IsTargetWithin, IsWorkAt}
+use Rattle.plan_tables.specs.declared.entries.EventId.{EventId}
+use Rattle.plan_tables.specs.declared.entries.ListId.{ListId}
+use Rattle.plan_tables.specs.declared.entries.BindingId.{BindingId}
+use Rattle.plan_tables.specs.declared.entries.SwitchId.{SwitchId}
+use Rattle.plan_tables.specs.declared.entries.ModeEvent.TheVariants.{WillStart, Starting, Started, Stopping, Stopped}
+use Rattle.plan_tables.specs.declared.entries.ModeId.{ModeId}
+use Rattle.plan_tables.specs.declared.entries.Work.{Work}
+use Rattle.plan_tables.specs.declared.entries.Work.TheVariants.{Nothing, Mode}
+use Rattle.plan_tables.specs.declared.entries.Owner.{Owner}
+use Rattle.plan_tables.specs.declared.entries.Owner.TheVariants as owners
+use Rattle.plan_tables.specs.declared.entries.Action.{Action}
+use Rattle.plan_tables.specs.declared.entries.Action.TheVariants.{Post}
+use Rattle.plan_tables.specs.declared.entries.Target.{Target}
+use Rattle.plan_tables.specs.declared.entries.Target.TheVariants.{Run, Start, Stop, Act}
+use Rattle.plan_tables.specs.declared.devices.RowId.{RowId}
+use Rattle.device_objects.specs.declared.device.Call.{Call}
+use Rattle.device_objects.specs.declared.device.Call.TheVariants as calls
+use Rattle.plan_tables.proofs.Owners.{is_owner-same}
+use Rattle.plan_tables.proofs.Worked.{work_found}
+use Rattle.switch_core.specs.declared.change.Change.{Change as Acceptance}
+use Rattle.switch_core.specs.SwitchStep.{changed, fired}
+use Rattle.switch_core.specs.Switches.{kind_at, state_at, after_change, reported_by_change, accept, reported}
+use Rattle.mode_stack.specs.ModeStep.{entered, ended}
+use Rattle.mode_stack.specs.Modes.{mode_state, running_of}
+use Rattle.written_machine.specs.declared.line.Happening.TheVariants as lines
+use Rattle.cascade_rank.specs.Cost.{Cost, Lines, Both, each_of, cost_of_post, cost_of_action, cost_of_list, cost_of_answer, cost_of_target, cost_of_binding, led_by, cost_if_led, cost_of_acceptance}
+use Rattle.cascade_rank.proofs.Within.{posts-below, mode_event-within}
+use Rattle.event_queue.specs.Handlers.{takes_part, runs_at, handlers, IsHandlerOrder}
+use Rattle.written_machine.specs.Machine.{Machine, write, post, set_switches, set_mode, set_device, all_do, do_action, do_list, called, call_device, call_devices, do_target, do_handler, do_accepted, do_if_accepted}
+use Rattle.written_machine.specs.EventStep.{do_before, do_after, handlers_in}
+use Rattle.written_machine.specs.Run.{switch, device, Stimulus, Change, Alarm, Wait, moment_of, arrived, begin}
+use Rattle.written_machine.specs.GoodRun.{cost_if_accepted, cost_of_stimulus}
+use Rattle.written_machine.specs.Devices.{ActsAreOwn, IsOwnAct}
+use Rattle.written_machine.specs.FreePosts.{IsFree, IsFreeAction, IsFreeSwitch, PostsAreFree}
+use Rattle.written_machine.proofs.Does.{Move, Wrote, Sent, Switched, Began, Ended, Marked, Turned, Licence, MayDo, IsFreeThere, Does, quiet, moved, both, less, each_now, all_do-does, all_do-does_now, does-weaker}
+
+-- ---- licences
+
+-- the owner takes part in a state
+abbrev pub TakesPart : Machine → Owner → Type 0
+TakesPart s owner = takes_part (running_of s.modes) owner ≡ true
+
+abbrev pub IsMachine : Owner → Type 0
+IsMachine owner = owner ≡ owners.Machine
+
+-- lines and events of these owners; where it does not matter who posts what, no event at which the machine itself does
+-- something
+abbrev pub ordinary : PlanView → (Owner → Type 0) → Type 0 → Licence
+ordinary plan by switches = record { by = by; posts = IsFreeThere plan; switches = switches; marks = ⊥ }
+
+-- what the handlers of an event may do, which run from this state on: no switch changes
+abbrev pub MayHandle : PlanView → Machine → Move → Type 0
+MayHandle plan s = MayDo plan (ordinary plan (TakesPart s) ⊥)
+
+-- who speaks at the beginning of a stimulus: at the alarm of a device the device's owner, else the machine
+abbrev pub Begins : PlanView → Stimulus → Owner → Type 0
+Begins plan (Change at n level) owner = IsMachine owner
+Begins plan (Alarm at (switch n)) owner = IsMachine owner
+Begins plan (Alarm at (device r)) owner = owner ≡ (row_at plan r).owner
+Begins plan (Wait at) owner = IsMachine owner
+
+-- what a stimulus may do
+abbrev pub MayBegin : PlanView → Stimulus → Move → Type 0
+MayBegin plan stimulus = MayDo plan (ordinary plan (Begins plan stimulus) (Unit {0}))
+
+-- what the machine itself may do at an event
+abbrev pub working : Licence
+working = record { by = λ owner. Unit {0}; posts = λ e. Unit {0}; switches = ⊥; marks = Unit {0} }
+
+abbrev pub MayWork : PlanView → Move → Type 0
+MayWork plan = MayDo plan working
+
+-- ---- what is in a plan
+
+module _ (plan : PlanView) where
+  -- what holds of every list holds of that of a number, as it holds of none
+  of_list : (P : Action → Type 0) → All (All P) plan.lists → (l : ListId) → All P (actions_at plan l)
+  of_list P all l =
+      elim (cases_lt l.0 (length plan.lists)) [
+        | inl there ↦ All-get_or (All P) plan.lists l.0 [] there all
+        | inr past ↦ subst (All P) (sym (get_or_past plan.lists l.0 [] past)) (All-nil P)
+      ]
+
+  -- a switch posts events at which the machine itself does nothing
+  posts-free : PostsAreFree plan → (n : SwitchId) (active : Bool) → All (IsFree plan) (posts_of plan n active)
+  posts-free free n active = by active (elim (cases_lt n.0 (length plan.switches)) [
+    | inl there ↦ All-get_or (IsFreeSwitch plan) plan.switches n.0 no_switch there free.switches
+    | inr past ↦ subst (IsFreeSwitch plan) (sym (get_or_past plan.switches n.0 no_switch past)) (All-nil (IsFree plan), All-nil (IsFree plan))
+  ])
+    where
+      by : (a : Bool) → IsFreeSwitch plan (switch_at plan n) → All (IsFree plan) (posts_of plan n a)
+      by true h = h.0
+      by false h = h.1
+
+  -- where a binding starts or stops a mode or acts on a device, it is one of the plan
+  abbrev pub IsThere : Target → Type 0
+  IsThere (Run l) = Unit {0}
+  IsThere (Start m) = m.0 < length plan.modes
+  IsThere (Stop m) = m.0 < length plan.modes
+  IsThere (Act r act) = r.0 < length plan.rows
+
+  is_there : (t : Target) → IsTargetWithin plan t → IsThere t
+  is_there (Run l) h = tt
+  is_there (Start m) h = h
+  is_there (Stop m) h = h
+  is_there (Act r act) h = h
+
+  pub target-there : HasEntries plan → (place : BindingId) → IsThere (binding_at plan place).target
+  target-there entries place =
+      elim (cases_lt place.0 (length plan.bindings)) [
+        | inl there ↦ is_there (binding_at plan place).target (All-get_or (IsBindingWithin plan) plan.bindings place.0 no_binding there entries.bindings).2
+        | inr past ↦ subst (λ b. IsThere b.target) (sym (get_or_past plan.bindings place.0 no_binding past)) tt
+      ]
+
+  -- and the device is of the binding's owner
+  target-own : ActsAreOwn plan → (place : BindingId) → IsOwnAct plan (binding_at plan place).owner (binding_at plan place).target
+  target-own own place =
+      elim (cases_lt place.0 (length plan.bindings)) [
+        | inl there ↦ All-get_or (λ b. IsOwnAct plan b.owner b.target) plan.bindings place.0 no_binding there own
+        | inr past ↦ subst (λ b. IsOwnAct plan b.owner b.target) (sym (get_or_past plan.bindings place.0 no_binding past)) tt
+      ]
+
+  abbrev pub cost_of_handler : BindingId → Cost
+  cost_of_handler place = cost_of_binding plan (binding_at plan place)
+
+  -- ---- what things cost in a state
+
+  -- a device that is called costs what it answers
+  abbrev pub call_now : Call → RowId → Machine → Cost
+  call_now call r s = Both (Lines 0) (cost_of_answer plan r (called plan call r s).1)
+
+  abbrev pub target_now : Target → Machine → Cost
+  target_now (Run l) s = cost_of_target plan (Run l)
+  target_now (Start m) s = cost_of_target plan (Start m)
+  target_now (Stop m) s = cost_of_target plan (Stop m)
+  target_now (Act r act) s = call_now (calls.Act act) r s
+
+  abbrev pub handler_now : BindingId → Machine → Cost
+  handler_now place s = target_now (binding_at plan place).target s
+
+  -- all devices of a mode
+  abbrev pub calls_now : Call → ModeId → Machine → Cost
+  calls_now call m s = each_now (call_device plan call) (call_now call) (rows_of plan (owners.Mode m)) s
+
+  -- what the beginning of a stimulus costs
+  abbrev pub stimulus_now : Stimulus → Machine → Cost
+  stimulus_now (Change at n level) s = cost_of_stimulus plan s (Change at n level)
+  stimulus_now (Alarm at (switch n)) s = cost_of_stimulus plan s (Alarm at (switch n))
+  stimulus_now (Alarm at (device r)) s = call_now calls.Fire r (arrived at s)
+  stimulus_now (Wait at) s = cost_of_stimulus plan s (Wait at)
+
+  -- and the machine's work before the handlers of an event, and after them
+  abbrev pub before_now : Work → Machine → Cost
+  before_now Nothing s = Lines 0
+  before_now (Mode m WillStart) s = Lines 0
+  before_now (Mode m Starting) s = Lines 0
+  before_now (Mode m Started) s = Both (Lines 0) (calls_now calls.ModeStart m (set_mode m (entered (mode_state s.modes m)) s))
+  before_now (Mode m Stopping) s = Lines 0
+  before_now (Mode m Stopped) s = Lines 0
+
+  abbrev pub after_now : Work → Machine → Cost
+  after_now Nothing s = cost_if_led (led_by plan Nothing)
+  after_now (Mode m WillStart) s = cost_if_led (led_by plan (Mode m WillStart))
+  after_now (Mode m Starting) s = cost_if_led (led_by plan (Mode m Starting))
+  after_now (Mode m Started) s = cost_if_led (led_by plan (Mode m Started))
+  after_now (Mode m Stopping) s = Both (calls_now calls.ModeStop m s) (Both (Lines 0) (cost_if_led (led_by plan (Mode m Stopping))))
+  after_now (Mode m Stopped) s = cost_if_led (led_by plan (Mode m Stopped))
+
+  module _ (by : Owner → Type 0) (switches : Type 0) where
+    abbrev May : Move → Type 0
+    May = MayDo plan (ordinary plan by switches)
+
+    -- ---- handlers
+
+    abbrev IsFit : Action → Type 0
+    IsFit a = (HasEntries plan → IsActionWithin plan a) × (PostsAreFree plan → IsFreeAction plan a)
+
+    does-action : (owner : Owner) → (ActsAreOwn plan → by owner) → (a : Action) (s : Machine) → IsFit a → Does plan May (cost_of_action plan a) s (do_action plan owner a s)
+    does-action owner may (Post e) s h = moved (Sent owner e) s (may, h.0, h.1)
+
+    does-list : (owner : Owner) → (ActsAreOwn plan → by owner) → (l : ListId) (s : Machine) → Does plan May (cost_of_list plan l) s (do_list plan owner l s)
+    does-list owner may l s =
+        all_do-does plan May (do_action plan owner) (cost_of_action plan) IsFit (does-action owner may) (actions_at plan l)
+        (λ k d there. (λ entries. of_list (IsActionWithin plan) entries.lists l k d there, λ free. of_list (IsFreeAction plan) free.lists l k d there)) s
+
+    -- a device of an owner by whom it may be
+    pub does-call : (call : Call) (r : RowId) → (ActsAreOwn plan → by (row_at plan r).owner) → (s : Machine) → Does plan May (call_now call r s) s (call_device plan call r s)
+    does-call call r may s =
+        both (moved (Turned call r) s may)
+        (all_do-does plan May (λ k. do_list plan (row_at plan r).owner (list_of_row plan r k)) (λ k. cost_of_list plan (list_of_row plan r k)) (λ k. Unit {0})
+        (λ k t h. does-list (row_at plan r).owner may (list_of_row plan r k) t) (called plan call r s).1 (λ k d there. tt) (set_device r (called plan call r s).0 s))
+
+    does-target : (owner : Owner) → (ActsAreOwn plan → by owner) → (t : Target) → (HasEntries plan → IsThere t) → (ActsAreOwn plan → IsOwnAct plan owner t) → (s : Machine)
+        → Does plan May (target_now t s) s (do_target plan owner t s)
+    does-target owner may (Run l) there own s = does-list owner may l s
+    does-target owner may (Start m) there own s = moved (Began m) s there
+    does-target owner may (Stop m) there own s = moved (Ended m) s there
+    does-target owner may (Act r act) there own s = does-call (calls.Act act) r (λ acts. subst by (sym (own acts)) (may acts)) s
+
+    pub does-handler : (place : BindingId) (s : Machine) → by (binding_at plan place).owner → Does plan May (handler_now place s) s (do_handler plan place s)
+    does-handler place s may = does-target (binding_at plan place).owner (λ own. may) (binding_at plan place).target (λ entries. target-there entries place) (λ own. target-own own place) s
+
+    pub does-handlers : (order : List BindingId) → All (λ p. by (binding_at plan p).owner) order → (s : Machine) → Does plan May (each_now (do_handler plan) handler_now order s) s (all_do (do_handler plan) order s)
+    does-handlers order may s = all_do-does_now plan May (do_handler plan) handler_now (λ p. by (binding_at plan p).owner) does-handler order may s
+
+    -- ---- switches
+
+    does-posts : (owner : Owner) → (ActsAreOwn plan → by owner) → (es : List EventId) → (HasEntries plan → All (IsEventWithin (length plan.events)) es) → (PostsAreFree plan → All (IsFree plan) es)
+        → (s : Machine) → Does plan May (each_of cost_of_post es) s (all_do (post owner) es s)
+    does-posts owner may es within free s =
+        all_do-does plan May (post owner) cost_of_post (λ e. (HasEntries plan → IsEventWithin (length plan.events) e) × IsFreeThere plan e) (λ e t h. moved (Sent owner e) t (may, h.0, h.1)) es
+        (λ k d there. (λ entries. within entries k d there, λ none. free none k d there)) s
+
+    -- an acceptance
+    pub does-accepted : by owners.Machine → (a : Acceptance) (s : Machine) → Does plan May (cost_of_acceptance plan a.switch a.active) s (do_accepted plan a s)
+    does-accepted may a s =
+        both (moved (Wrote owners.Machine (lines.Switch a.switch a.active)) s (may, tt))
+        (does-posts owners.Machine (λ own. may) (posts_of plan a.switch a.active) (λ entries. posts-below plan entries a.switch a.active) (λ free. posts-free free a.switch a.active)
+        (write owners.Machine (lines.Switch a.switch a.active) s))
+
+    pub does-if_accepted : by owners.Machine → (o : Option Acceptance) (s : Machine) → Does plan May (cost_if_accepted plan o) s (do_if_accepted plan o s)
+    does-if_accepted may None s = quiet
+    does-if_accepted may (Some a) s = does-accepted may a s
+
+  -- the handlers of an event, from the state before them on
+  pub does-order : (s : Machine) (e : EventId) (order : List BindingId) → IsHandlerOrder plan (handlers_in plan s e) order → Does plan (MayHandle plan s) (each_now (do_handler plan) handler_now order s) s (all_do (do_handler plan) order s)
+  does-order s e order h =
+      let running = running_of s.modes in
+      does-handlers (TakesPart s) ⊥ order
+      (All-permutation (λ p. TakesPart s (binding_at plan p).owner) (handlers plan running e) order h.permutation (filter_passes (runs_at plan running) (places_of plan e))) s
+
+  -- what a stimulus does once it has arrived
+  pub does-begin : (stimulus : Stimulus) (s : Machine) → Does plan (MayBegin plan stimulus) (stimulus_now stimulus s) (arrived (moment_of stimulus) s) (begin plan stimulus s)
+  does-begin (Change at n level) s =
+      less (both (moved (Switched n (changed (kind_at s.switches n) at level (state_at s.switches n))) (arrived at s) tt)
+      (does-if_accepted IsMachine (Unit {0}) refl (reported_by_change n level at s.switches) (set_switches (after_change n level at s.switches) (arrived at s)))) (λ w. omega arith)
+  does-begin (Alarm at (switch n)) s =
+      less (both (moved (Switched n (fired (kind_at s.switches n) (state_at s.switches n))) (arrived at s) tt)
+      (does-accepted IsMachine (Unit {0}) refl (reported (accept n s.switches) n) (set_switches (accept n s.switches) (arrived at s)))) (λ w. omega arith)
+  does-begin (Alarm at (device r)) s = does-call (Begins plan (Alarm at (device r))) (Unit {0}) calls.Fire r (λ own. refl) (arrived at s)
+  does-begin (Wait at) s = quiet
+
+  -- ---- the machine's work
+
+  -- the devices of a mode, of events at which the machine does nothing
+  pub does-calls : (by : Owner → Type 0) (call : Call) (m : ModeId) → by (owners.Mode m) → (s : Machine) → Does plan (MayDo plan (ordinary plan by ⊥)) (calls_now call m s) s (call_devices plan call m s)
+  does-calls by call m may s =
+      all_do-does_now plan (MayDo plan (ordinary plan by ⊥)) (call_device plan call) (call_now call) (λ r. is_owner (owners.Mode m) (row_at plan r).owner ≡ true)
+      (λ r t h. does-call by ⊥ call r (λ own. subst by (is_owner-same (owners.Mode m) (row_at plan r).owner h) may) t)
+      (rows_of plan (owners.Mode m)) (filter_passes (λ r. is_owner (owners.Mode m) (row_at plan r).owner) (row_numbers plan)) s
+
+  works-calls : (call : Call) (m : ModeId) (s : Machine) → Does plan (MayWork plan) (calls_now call m s) s (call_devices plan call m s)
+  works-calls call m s = does-weaker plan (MayDo plan (ordinary plan (λ owner. Unit {0}) ⊥)) (MayWork plan) works (does-calls (λ owner. Unit {0}) call m tt s)
+    where
+      works : (x : Move) → MayDo plan (ordinary plan (λ owner. Unit {0}) ⊥) x → MayWork plan x
+      works (Wrote owner what) may = may
+      works (Sent owner e) may = (may.0, may.1, tt)
+      works (Switched n state) may = may
+      works (Began k) may = may
+      works (Ended k) may = may
+      works (Marked k state) may = absurd may
+      works (Turned turn r) may = may
+
+  pub does-before : (w : Work) (s : Machine) → Does plan (MayWork plan) (before_now w s) s (do_before plan w s)
+  does-before Nothing s = quiet
+  does-before (Mode m WillStart) s = quiet
+  does-before (Mode m Starting) s = quiet
+  does-before (Mode m Started) s = both (moved (Marked m (entered (mode_state s.modes m))) s tt) (works-calls calls.ModeStart m (set_mode m (entered (mode_state s.modes m)) s))
+  does-before (Mode m Stopping) s = quiet
+  does-before (Mode m Stopped) s = quiet
+
+  does-after_work : (kept : Bool) (w : Work) (e : EventId) → IsWorkAt plan e w → (s : Machine) → Does plan (MayWork plan) (after_now w s) s (do_after plan kept w s)
+  does-after_work kept Nothing e at s = quiet
+  does-after_work kept (Mode m WillStart) e at s = moved (Sent owners.Machine (mode_event plan m Starting)) s (λ own. tt, λ entries. mode_event-within plan entries m Starting at.0, tt)
+  does-after_work kept (Mode m Starting) e at s = moved (Sent owners.Machine (mode_event plan m Started)) s (λ own. tt, λ entries. mode_event-within plan entries m Started at.0, tt)
+  does-after_work true (Mode m Started) e at s = moved (Ended m) s (λ entries. at.0)
+  does-after_work false (Mode m Started) e at s = less quiet (λ w. omega arith)
+  does-after_work kept (Mode m Stopping) e at s =
+      let stopped = call_devices plan calls.ModeStop m s in
+      both (works-calls calls.ModeStop m s) (both (moved (Marked m (ended (mode_state s.modes m))) stopped tt)
+      (moved (Sent owners.Machine (mode_event plan m Stopped)) (set_mode m (ended (mode_state s.modes m)) stopped) (λ own. tt, λ entries. mode_event-within plan entries m Stopped at.0, tt)))
+  does-after_work kept (Mode m Stopped) e at s = quiet
+
+  -- whether a stop was kept or not
+  pub does-after : (kept : Bool) (e : EventId) (s : Machine) → Does plan (MayWork plan) (after_now (work_of plan e) s) s (do_after plan kept (work_of plan e) s)
+  does-after kept e s = does-after_work kept (work_of plan e) e (work_found plan e) s
+
+  -- there is no work beyond the events of the plan
+  pub no_work-past : HasEntries plan → (e : EventId) → length plan.events ≤ e.0 → Nothing ≡ work_of plan e
+  no_work-past entries e past = by (work_of plan e) (work_found plan e)
+    where
+      by : (w : Work) → IsWorkAt plan e w → Nothing ≡ w
+      by Nothing h = refl
+      by (Mode m which) h =
+          let within = mode_event-within plan entries m which h.0 in
+          let same = ap (λ (x : EventId). x.0) h.1 in
+          absurd (omega (arith, within, same, past))

@@ -1,0 +1,129 @@
+-- What things cost in a state is within what they cost in any, where each device has a state of its shape.
+use Rattle.std.proofs.Common.{◌≡◌, ℕ, ◌<◌, ◌≤◌, Some, List, [], ◌∷◌, length, refl, ap, sym, subst, arith}
+use Rattle.std.specs.Prelude.{IsSome, Contains}
+use Rattle.std.specs.List.{All}
+use Rattle.std.proofs.lemmas.List.Elements.{All-head, All-tail}
+use Rattle.plan_tables.specs.PlanView.{PlanView, binding_at, row_at, row_numbers, rows_of}
+use Rattle.plan_tables.specs.Valid.{HasEntries}
+use Rattle.plan_tables.specs.declared.entries.EventId.{EventId}
+use Rattle.plan_tables.specs.declared.entries.BindingId.{BindingId}
+use Rattle.plan_tables.specs.declared.entries.ModeEvent.TheVariants.{WillStart, Starting, Started, Stopping, Stopped}
+use Rattle.plan_tables.specs.declared.entries.Owner.TheVariants as owners
+use Rattle.plan_tables.specs.declared.entries.Target.{Target}
+use Rattle.plan_tables.specs.declared.entries.Target.TheVariants.{Run, Start, Stop, Act}
+use Rattle.plan_tables.specs.declared.entries.Work.{Work}
+use Rattle.plan_tables.specs.declared.entries.Work.TheVariants.{Nothing, Mode}
+use Rattle.plan_tables.specs.declared.devices.RowId.{RowId}
+use Rattle.plan_tables.proofs.Owners.{rows_of-within}
+use Rattle.device_objects.specs.declared.device.Call.{Call}
+use Rattle.device_objects.specs.declared.device.Call.TheVariants as calls
+use Rattle.device_objects.specs.Outcomes.{outcomes}
+use Rattle.device_objects.specs.Laws.{MayCome}
+use Rattle.device_objects.proofs.Answered.{answers_are_outcomes}
+use Rattle.device_objects.proofs.Moments.{stopped-silent}
+use Rattle.mode_stack.specs.ModeStep.{entered}
+use Rattle.mode_stack.specs.Modes.{mode_state}
+use Rattle.cascade_rank.specs.Cost.{Cost, price, each_of, dearest_of, cost_of_answer, cost_of_call, cost_of_target, cost_of_starts, led_by, cost_if_led}
+use Rattle.cascade_rank.specs.Weights.{bound_of}
+use Rattle.cascade_rank.proofs.Prices.{price-dearest}
+use Rattle.cascade_rank.proofs.Rows.{length-rows, row_of}
+use Rattle.written_machine.specs.Machine.{Machine, set_mode, world_of, device_at, called, call_device, do_handler}
+use Rattle.written_machine.specs.Devices.{HasDevices}
+use Rattle.written_machine.specs.Run.{switch, device, source_due, Stimulus, Change, Alarm, Wait, arrived}
+use Rattle.written_machine.specs.GoodRun.{cost_of_stimulus}
+use Rattle.written_machine.proofs.Does.{each_now, has_devices-does}
+use Rattle.written_machine.proofs.Parts.{IsThere, target-there, cost_of_handler, call_now, target_now, handler_now, stimulus_now, before_now, after_now, does-call, does-handler}
+
+module _ (plan : PlanView) (entries : HasEntries plan) (w : EventId → ℕ) where
+  dearest-of : {X : Type 0} (f : X → Cost) (xs : List X) (x : X) → Contains xs x → price w (f x) ≤ price w (dearest_of f xs)
+  dearest-of f xs x (i, within, is) = subst (λ y. price w (f y) ≤ price w (dearest_of f xs)) is (price-dearest w f xs i x within)
+
+  -- one after another
+  each-priced : {X : Type 0} (f : X → Machine → Machine) (now : X → Machine → Cost) (cost : X → Cost) (P : X → Type 0)
+      → ((x : X) (s : Machine) → P x → HasDevices plan s.devices → (price w (now x s) ≤ price w (cost x)) × HasDevices plan (f x s).devices)
+      → (xs : List X) → All P xs → (s : Machine) → HasDevices plan s.devices → price w (each_now f now xs s) ≤ price w (each_of cost xs)
+  each-priced f now cost P one [] all s has = omega arith
+  each-priced f now cost P one (x ∷ xs) all s has =
+      let here = one x s (All-head P x xs all) has in
+      omega (arith, here.0, each-priced f now cost P one xs (All-tail P x xs all) (f x s) here.1)
+
+  -- ---- devices
+
+  call-priced : (call : Call) (r : RowId) (s : Machine) → r.0 < length plan.rows → HasDevices plan s.devices → MayCome call (device_at s r) → price w (call_now plan call r s) ≤ price w (cost_of_call plan r call)
+  call-priced call r s there has may =
+      let settings = (row_at plan r).settings in
+      omega (
+        arith,
+        dearest-of (cost_of_answer plan r) (outcomes settings call) (called plan call r s).1
+            (answers_are_outcomes settings call s.moment (world_of s) (device_at s r) (has.shapes r there) may),
+      )
+
+  call-devices : (call : Call) (r : RowId) (s : Machine) → HasDevices plan s.devices → HasDevices plan (call_device plan call r s).devices
+  call-devices call r s has = has_devices-does plan (does-call plan (λ owner. Unit {0}) ⊥ call r (λ own. tt) s) has
+
+  -- a device whose mode stops costs nothing
+  stop-free : (r : RowId) (s : Machine) → price w (call_now plan calls.ModeStop r s) ≡ 0
+  stop-free r s =
+      let silent = ap (λ lists. price w (cost_of_answer plan r lists)) (stopped-silent (row_at plan r).settings s.moment (world_of s) (device_at s r)) in
+      omega (arith, silent)
+
+  stops-free : (rs : List RowId) (s : Machine) → price w (each_now (call_device plan calls.ModeStop) (call_now plan calls.ModeStop) rs s) ≡ 0
+  stops-free [] s = refl
+  stops-free (r ∷ rs) s = omega (arith, stop-free r s, stops-free rs (call_device plan calls.ModeStop r s))
+
+  -- ---- handlers
+
+  target-priced : (t : Target) (s : Machine) → IsThere plan t → HasDevices plan s.devices → price w (target_now plan t s) ≤ price w (cost_of_target plan t)
+  target-priced (Run l) s there has = omega arith
+  target-priced (Start m) s there has = omega arith
+  target-priced (Stop m) s there has = omega arith
+  target-priced (Act r act) s there has = call-priced (calls.Act act) r s there has tt
+
+  pub handlers-priced : (order : List BindingId) (s : Machine) → HasDevices plan s.devices → price w (each_now (do_handler plan) (handler_now plan) order s) ≤ price w (each_of (cost_of_handler plan) order)
+  handlers-priced order s has =
+      each-priced (do_handler plan) (handler_now plan) (cost_of_handler plan) (λ p. Unit {0})
+      (λ p t h k. (target-priced (binding_at plan p).target t (target-there plan entries p) k, has_devices-does plan (does-handler plan (λ owner. Unit {0}) ⊥ p t tt) k)) order (λ i d there. tt) s has
+
+  -- ---- the machine's work
+
+  pub before-priced : (work : Work) (s : Machine) → HasDevices plan s.devices → price w (before_now plan work s) ≤ price w (cost_of_starts plan work)
+  before-priced Nothing s has = omega arith
+  before-priced (Mode m WillStart) s has = omega arith
+  before-priced (Mode m Starting) s has = omega arith
+  before-priced (Mode m Started) s has =
+      let active = set_mode m (entered (mode_state s.modes m)) s in
+      let starts = each-priced (call_device plan calls.ModeStart) (call_now plan calls.ModeStart) (λ r. cost_of_call plan r calls.ModeStart) (λ r. r.0 < length plan.rows)
+      (λ r t there k. (call-priced calls.ModeStart r t there k tt, call-devices calls.ModeStart r t k)) (rows_of plan (owners.Mode m)) (rows_of-within plan (owners.Mode m)) active has in
+      omega (arith, starts)
+  before-priced (Mode m Stopping) s has = omega arith
+  before-priced (Mode m Stopped) s has = omega arith
+
+  pub after-priced : (work : Work) (s : Machine) → price w (after_now plan work s) ≤ price w (cost_if_led (led_by plan work))
+  after-priced Nothing s = omega arith
+  after-priced (Mode m WillStart) s = omega arith
+  after-priced (Mode m Starting) s = omega arith
+  after-priced (Mode m Started) s = omega arith
+  after-priced (Mode m Stopping) s = omega (arith, stops-free (rows_of plan (owners.Mode m)) s)
+  after-priced (Mode m Stopped) s = omega arith
+
+  -- ---- stimuli
+
+  -- where a device fires it is one of the plan, and due
+  abbrev pub IsFired : Machine → Stimulus → Type 0
+  IsFired s (Change at n level) = Unit {0}
+  IsFired s (Alarm at (switch n)) = Unit {0}
+  IsFired s (Alarm at (device r)) = (r.0 < length plan.rows) × (source_due s (device r) ≡ Some at)
+  IsFired s (Wait at) = Unit {0}
+
+  pub stimulus-priced : (stimulus : Stimulus) (s : Machine) → IsFired s stimulus → HasDevices plan s.devices → price w (stimulus_now plan stimulus s) ≤ price w (cost_of_stimulus plan s stimulus)
+  stimulus-priced (Change at n level) s fired has = omega arith
+  stimulus-priced (Alarm at (switch n)) s fired has = omega arith
+  stimulus-priced (Alarm at (device r)) s fired has = call-priced calls.Fire r (arrived at s) fired.0 has (subst IsSome (sym fired.1) refl)
+  stimulus-priced (Wait at) s fired has = omega arith
+
+  -- the alarm of a device of the plan is no dearer than the dearest stimulus
+  pub fire-within_bound : (r : RowId) → r.0 < length plan.rows → price w (cost_of_call plan r calls.Fire) ≤ bound_of plan w
+  fire-within_bound r there =
+      let listed : r.0 < length (row_numbers plan) = omega (arith, there, length-rows plan) in
+      let here = ap (λ (q : RowId). price w (cost_of_call plan q calls.Fire)) (row_of plan r.0 r there) in
+      omega (arith, price-dearest w (λ q. cost_of_call plan q calls.Fire) (row_numbers plan) r.0 r listed, here)

@@ -1,0 +1,138 @@
+-- No device of a mode is due unless the mode runs: what moves of handlers, the machine's works and stimuli keep.
+use Rattle.std.proofs.Common.{◌≡◌, ℕ, zero, suc, ◌<◌, ◌⊎◌, inl, inr, Bool, true, None, Some, List, [], ◌∷◌, length, slice_set, refl, ap, sym, subst, ◌∙◌, arith}
+use Rattle.std.specs.Prelude.{Contains}
+use Rattle.std.proofs.lemmas.Bool.{cases_eq}
+use Rattle.std.proofs.lemmas.Option.{none-some}
+use Rattle.std.proofs.lemmas.List.{get_or-set_same, get_or-set_other}
+use Rattle.plan_tables.specs.PlanView.{PlanView, no_row, row_at}
+use Rattle.plan_tables.specs.Valid.{IsValid}
+use Rattle.plan_tables.specs.declared.entries.ModeId.{ModeId}
+use Rattle.plan_tables.specs.declared.entries.Owner.{Owner}
+use Rattle.plan_tables.specs.declared.entries.Owner.TheVariants as owners
+use Rattle.plan_tables.specs.declared.devices.RowId.{RowId}
+use Rattle.device_objects.specs.declared.device.Call.{Call}
+use Rattle.device_objects.specs.declared.device.Call.TheVariants as calls
+use Rattle.device_objects.specs.declared.state.DeviceState.{DeviceState}
+use Rattle.device_objects.specs.DeviceStep.{due_of, first_state}
+use Rattle.device_objects.proofs.Moments.{stopped-quiet, stopped-silent}
+use Rattle.mode_stack.specs.declared.phase.ModeState.{ModeState}
+use Rattle.mode_stack.specs.Modes.{needs_game, running_of}
+use Rattle.mode_stack.proofs.WhoRuns.{starting_keeps_who_runs}
+use Rattle.event_queue.specs.Handlers.{takes_part}
+use Rattle.written_machine.specs.Devices.{HasDevices, ActsAreOwn}
+use Rattle.written_machine.specs.Machine.{Machine, set_device, has_game, all_do, world_of, device_state, device_at, called, do_answer, call_device}
+use Rattle.written_machine.proofs.Does.{Move, Wrote, Sent, Switched, Began, Ended, Marked, Turned, do_move, start-by, stop-by, MayDo, due-row, has_devices-move}
+use Rattle.written_machine.proofs.Parts.{ordinary}
+
+-- ---- devices whose mode stops
+
+module _ (plan : PlanView) where
+  -- the device goes on to its next state, and answers nothing
+  stop-turns : (r : RowId) (s : Machine) → call_device plan calls.ModeStop r s ≡ set_device r (called plan calls.ModeStop r s).0 s
+  stop-turns r s =
+      ap (λ (lists : List ℕ). do_answer plan r lists (set_device r (called plan calls.ModeStop r s).0 s))
+      (stopped-silent (row_at plan r).settings s.moment (world_of s) (device_at s r))
+
+  -- so nothing but devices changes
+  pub stops-turn : (rs : List RowId) (s : Machine) → (new : List DeviceState) × (all_do (call_device plan calls.ModeStop) rs s ≡ record s { devices = new })
+  stops-turn [] s = (s.devices, refl)
+  stops-turn (r ∷ rs) s =
+      let turned = set_device r (called plan calls.ModeStop r s).0 s in
+      let rest = stops-turn rs turned in
+      (rest.0, ap (all_do (call_device plan calls.ModeStop) rs) (stop-turns r s) ∙ rest.1)
+
+  abbrev IsQuiet : Machine → RowId → Type 0
+  IsQuiet s r = due_of (device_at s r) ≡ None
+
+  -- a device that stops is not due, and stays so while others stop
+  turned-quiet : (r q : RowId) (s : Machine) → q.0 < length plan.rows → HasDevices plan s.devices → (q.0 ≡ r.0) ⊎ IsQuiet s q → IsQuiet (set_device r (called plan calls.ModeStop r s).0 s) q
+  turned-quiet r q s there has quiet =
+      elim (cases_eq q.0 r.0) [
+        | inl same ↦
+            let within : r.0 < length plan.rows = omega (arith, there, same) in
+            let count : r.0 < length s.devices = let is = has.count in omega (arith, within, is) in
+            subst (λ (n : ℕ). due_of (device_state (slice_set s.devices r.0 (called plan calls.ModeStop r s).0) (record { 0 = n })) ≡ None) (sym same)
+            (ap due_of (get_or-set_same s.devices r.0 (called plan calls.ModeStop r s).0 (first_state no_row.settings) count)
+            ∙ stopped-quiet (row_at plan r).settings s.moment (world_of s) (device_at s r) (has.shapes r within))
+        | inr other ↦
+            elim quiet [
+              | inl same ↦ absurd (other same)
+              | inr before ↦ ap due_of (get_or-set_other s.devices r.0 q.0 (called plan calls.ModeStop r s).0 (first_state no_row.settings) other) ∙ before
+            ]
+      ]
+
+  pub stops-quiet : (rs : List RowId) (q : RowId) (s : Machine) → q.0 < length plan.rows → HasDevices plan s.devices → Contains rs q ⊎ IsQuiet s q → IsQuiet (all_do (call_device plan calls.ModeStop) rs s) q
+  stops-quiet [] q s there has (inl (i, within, is)) = absurd (omega arith)
+  stops-quiet [] q s there has (inr quiet) = quiet
+  stops-quiet (r ∷ rs) q s there has listed =
+      let turned = set_device r (called plan calls.ModeStop r s).0 s in
+      subst (λ (t : Machine). IsQuiet (all_do (call_device plan calls.ModeStop) rs t) q) (sym (stop-turns r s))
+      (stops-quiet rs q turned there (has_devices-move plan (Turned calls.ModeStop r) s has) (by listed))
+    where
+      by : Contains (r ∷ rs) q ⊎ IsQuiet s q → Contains rs q ⊎ IsQuiet (set_device r (called plan calls.ModeStop r s).0 s) q
+      by (inl (zero, within, is)) = inr (turned-quiet r q s there has (inl (sym (ap (λ (x : RowId). x.0) is))))
+      by (inl (suc i, within, is)) = inl (i, omega arith, is)
+      by (inr quiet) = inr (turned-quiet r q s there has (inr quiet))
+
+-- ---- what rests
+
+-- The devices have states, and one of the mode that is due is of a mode that runs.
+pub record Rests (plan : PlanView) (m : ModeId) (s : Machine) : Type 0 where
+  pub devices : HasDevices plan s.devices
+  pub rests : (r : RowId) (due : ℕ) → (row_at plan r).owner ≡ owners.Mode m → due_of (device_at s r) ≡ Some due → takes_part (running_of s.modes) (owners.Mode m) ≡ true
+
+module _ (plan : PlanView) (valid : IsValid plan) (own : ActsAreOwn plan) (m : ModeId) where
+  -- where modes and devices are the same
+  pub same-rests : (s t : Machine) → t.modes ≡ s.modes → t.devices ≡ s.devices → Rests plan m s → Rests plan m t
+  same-rests s t modes devices h = record {
+    devices = subst (HasDevices plan) (sym devices) h.devices;
+    rests = λ r due is armed.
+        subst (λ (ms : List ModeState). takes_part (running_of ms) (owners.Mode m) ≡ true) (sym modes)
+        (h.rests r due is (subst (λ (ds : List DeviceState). due_of (device_state ds r) ≡ Some due) devices armed));
+  }
+
+  -- where the same modes run
+  pub running-rests : (s t : Machine) → running_of t.modes ≡ running_of s.modes → t.devices ≡ s.devices → Rests plan m s → Rests plan m t
+  running-rests s t running devices h = record {
+    devices = subst (HasDevices plan) (sym devices) h.devices;
+    rests = λ r due is armed.
+        subst (λ (bs : List Bool). takes_part bs (owners.Mode m) ≡ true) (sym running)
+        (h.rests r due is (subst (λ (ds : List DeviceState). due_of (device_state ds r) ≡ Some due) devices armed));
+  }
+
+  -- where the mode runs
+  pub runs-rests : (s : Machine) → HasDevices plan s.devices → takes_part (running_of s.modes) (owners.Mode m) ≡ true → Rests plan m s
+  runs-rests s has runs = record { devices = has; rests = λ r due is armed. runs }
+
+  -- where no device of the mode is due
+  pub quiet-rests : (s : Machine) → HasDevices plan s.devices → ((r : RowId) → r.0 < length plan.rows → (row_at plan r).owner ≡ owners.Mode m → due_of (device_at s r) ≡ None) → Rests plan m s
+  quiet-rests s has quiet = record {
+    devices = has;
+    rests = λ r due is armed. absurd (none-some due (sym (quiet r (due-row plan s r due has armed) is) ∙ armed));
+  }
+
+  -- ---- moves
+
+  module _ (by : Owner → Type 0) (switches : Type 0) where
+    turned-rests : (call : Call) (r : RowId) (s : Machine) → (by (owners.Mode m) → takes_part (running_of s.modes) (owners.Mode m) ≡ true) → by (row_at plan r).owner → Rests plan m s → Rests plan m (set_device r (called plan call r s).0 s)
+    turned-rests call r s runs may h = record { devices = has_devices-move plan (Turned call r) s h.devices; rests = rests }
+      where
+        rests : (q : RowId) (due : ℕ) → (row_at plan q).owner ≡ owners.Mode m → due_of (device_at (set_device r (called plan call r s).0 s) q) ≡ Some due → takes_part (running_of s.modes) (owners.Mode m) ≡ true
+        rests q due is armed =
+            elim (cases_eq q.0 r.0) [
+              | inl same ↦ runs (subst by (ap (λ (n : ℕ). (row_at plan (record { 0 = n })).owner) (sym same) ∙ is) may)
+              | inr other ↦ h.rests q due is (sym (ap due_of (get_or-set_other s.devices r.0 q.0 (called plan call r s).0 (first_state no_row.settings) other)) ∙ armed)
+            ]
+
+    pub move-rests : (x : Move) (s : Machine) → MayDo plan (ordinary plan by switches) x → (by (owners.Mode m) → takes_part (running_of s.modes) (owners.Mode m) ≡ true) → Rests plan m s → Rests plan m (do_move plan x s)
+    move-rests (Wrote owner what) s may runs h = same-rests s (do_move plan (Wrote owner what) s) refl refl h
+    move-rests (Sent owner e) s may runs h = same-rests s (do_move plan (Sent owner e) s) refl refl h
+    move-rests (Switched n state) s may runs h = same-rests s (do_move plan (Switched n state) s) refl refl h
+    move-rests (Began k) s may runs h =
+        let same = starting_keeps_who_runs.start s.modes k (needs_game plan k) (has_game s) in
+        start-by plan k s (Rests plan m) (running-rests s _ same refl h) (running-rests s _ same refl h)
+    move-rests (Ended k) s may runs h =
+        let same = starting_keeps_who_runs.stop s.modes k in
+        stop-by plan k s (Rests plan m) (running-rests s _ same refl h) (running-rests s _ same refl h)
+    move-rests (Marked k state) s may runs h = absurd may
+    move-rests (Turned call r) s may runs h = turned-rests call r s runs (may own) h

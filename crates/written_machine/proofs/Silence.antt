@@ -1,0 +1,377 @@
+-- A mode that is stopped is silent, in every run: what the moves of handlers, the machine's works and the beginning of a
+-- stimulus keep.
+use Rattle.std.proofs.Common.{◌≡◌, ℕ, ◌<◌, inl, inr, Some, Bool, true, false, ◌==◌, cond, List, [], ◌∷◌, ◌++◌, length, refl, ap, sym, subst, ◌∙◌, rules}
+use Rattle.std.proofs.lemmas.Bool.{cases_eq, eq-eqb, ne_eqb}
+use Rattle.std.proofs.lemmas.List.{append-nil, get_or-replicate, length-replicate, length-set}
+use Rattle.plan_tables.specs.PlanView.{PlanView, is_owner, mode_event, row_at, rows_of, work_of}
+use Rattle.plan_tables.specs.Valid.{IsOwnerWithin, IsValid, IsWorkAt}
+use Rattle.plan_tables.specs.declared.entries.EventId.{EventId}
+use Rattle.plan_tables.specs.declared.entries.ModeId.{ModeId}
+use Rattle.plan_tables.specs.declared.entries.ModeEvent.{ModeEvent}
+use Rattle.plan_tables.specs.declared.entries.ModeEvent.TheVariants.{WillStart, Starting, Started, Stopping, Stopped}
+use Rattle.plan_tables.specs.declared.entries.Owner.{Owner}
+use Rattle.plan_tables.specs.declared.entries.Owner.TheVariants as owners
+use Rattle.plan_tables.specs.declared.entries.Work.{Work}
+use Rattle.plan_tables.specs.declared.entries.Work.TheVariants.{Nothing, Mode}
+use Rattle.plan_tables.specs.declared.devices.RowId.{RowId}
+use Rattle.plan_tables.proofs.Owners.{rows_of-there}
+use Rattle.plan_tables.proofs.Worked.{work_found}
+use Rattle.device_objects.specs.declared.device.Call.{Call}
+use Rattle.device_objects.specs.declared.device.Call.TheVariants as calls
+use Rattle.device_objects.specs.declared.state.DeviceState.{DeviceState}
+use Rattle.mode_stack.specs.declared.phase.Phase.{Phase}
+use Rattle.mode_stack.specs.declared.phase.Phase.TheVariants as phases
+use Rattle.mode_stack.specs.declared.phase.ModeState.{ModeState}
+use Rattle.mode_stack.specs.ModeStep.{in_phase, is_running, entered, ended}
+use Rattle.mode_stack.specs.Modes.{needs_game, mode_state, running_of}
+use Rattle.mode_stack.proofs.WhoRuns.{starting_keeps_who_runs}
+use Rattle.cascade_rank.specs.Cost.{Cost}
+use Rattle.event_queue.specs.declared.queue.Posted.{Posted}
+use Rattle.event_queue.specs.Handlers.{takes_part}
+use Rattle.event_queue.specs.PlanOrder.{by_priority}
+use Rattle.event_queue.proofs.Sort.{by_priority-is_order}
+use Rattle.written_machine.specs.declared.line.Line.{Line}
+use Rattle.written_machine.specs.declared.line.Happening.TheVariants as lines
+use Rattle.written_machine.specs.Devices.{ActsAreOwn}
+use Rattle.written_machine.specs.FreePosts.{PostsAreFree}
+use Rattle.written_machine.specs.Machine.{Machine, initial, post, set_mode, has_game, stop_mode, all_do, call_devices, do_handler}
+use Rattle.written_machine.specs.EventStep.{taken, before_handlers, handlers_in, do_before, do_after}
+use Rattle.written_machine.specs.Run.{switch, device, source_due, Stimulus, Change, Alarm, Wait, moment_of, IsAllowed, arrived, begin, IsRun}
+use Rattle.written_machine.specs.Silent.{HasStarted, IsSilent}
+use Rattle.written_machine.proofs.Does.{Move, Wrote, Sent, Switched, Began, Ended, Marked, Turned, do_move, start-by, stop-by, MayDo, Does, does-keeps, has_devices-does}
+use Rattle.written_machine.proofs.Parts.{TakesPart, Begins, ordinary, MayHandle, does-calls, does-order, does-begin}
+use Rattle.written_machine.proofs.Keeps.{step-keeps, run-keeps}
+use Rattle.written_machine.proofs.Cycles.{mine, waiting_of, IsTurn, idle, turn-will_start, turn-starting, turn-started, turn-stopping, turn-stopped, stopped-quiet}
+use Rattle.written_machine.proofs.Hearing.{Said, written, all_written, awaited, all_awaited, heard_at, heard_after, heard, IsFine, heard-push, fine-push, heard-started, fine-silent}
+use Rattle.written_machine.proofs.Speaking.{Holds, HoldsIn, heard_in, phase_in, IsRunning, takes-runs, runs-takes, own_state, other_state, wrote-holds, posted-holds, own_post, own_set, own_change, other_post, other_set, start-holds, stop-holds, lines-push}
+use Rattle.written_machine.proofs.Alarms.{initial-devices, initial-quiet}
+use Rattle.written_machine.proofs.Resting.{stops-turn, stops-quiet, Rests, running-rests, runs-rests, quiet-rests, move-rests}
+
+-- ---- who runs does not change while handlers run
+
+module _ (plan : PlanView) (by : Owner → Type 0) (switches : Type 0) where
+  still-move : (x : Move) (s : Machine) → MayDo plan (ordinary plan by switches) x → running_of (do_move plan x s).modes ≡ running_of s.modes
+  still-move (Wrote owner what) s may = refl
+  still-move (Sent owner e) s may = refl
+  still-move (Switched n state) s may = refl
+  still-move (Began k) s may =
+      let same = starting_keeps_who_runs.start s.modes k (needs_game plan k) (has_game s) in
+      start-by plan k s (λ t. running_of t.modes ≡ running_of s.modes) same same
+  still-move (Ended k) s may =
+      let same = starting_keeps_who_runs.stop s.modes k in
+      stop-by plan k s (λ t. running_of t.modes ≡ running_of s.modes) same same
+  still-move (Marked k state) s may = absurd may
+  still-move (Turned call r) s may = refl
+
+  pub still-does : {c : Cost} {s t : Machine} → Does plan (MayDo plan (ordinary plan by switches)) c s t → running_of t.modes ≡ running_of s.modes
+  still-does {c} {s} {t} d =
+      does-keeps plan (MayDo plan (ordinary plan by switches)) (λ u. running_of u.modes ≡ running_of s.modes) (λ x u may h. still-move x u may ∙ h) d refl
+
+module _ (plan : PlanView) where
+  -- nor does it while they run in plan order, nor at the beginning of a stimulus
+  pub handlers-still : (s : Machine) (e : EventId) → running_of (all_do (do_handler plan) (by_priority plan (handlers_in plan s e)) s).modes ≡ running_of s.modes
+  handlers-still s e = still-does plan (TakesPart s) ⊥ (does-order plan s e (by_priority plan (handlers_in plan s e)) (by_priority-is_order plan (handlers_in plan s e)))
+
+  pub begin-still : (stimulus : Stimulus) (s : Machine) → running_of (begin plan stimulus s).modes ≡ running_of s.modes
+  begin-still stimulus s = still-does plan (Begins plan stimulus) (Unit {0}) (does-begin plan stimulus s)
+
+-- an event of the mode is being handled until its work is done
+abbrev pub still_due : ModeEvent → List ModeEvent
+still_due WillStart = WillStart ∷ []
+still_due Starting = Starting ∷ []
+still_due Started = []
+still_due Stopping = Stopping ∷ []
+still_due Stopped = Stopped ∷ []
+
+abbrev pub handled : ModeId → Work → List ModeEvent
+handled m Nothing = []
+handled m (Mode k which) = cond (k.0 == m.0) (still_due which) []
+
+module _ (plan : PlanView) (valid : IsValid plan) (free : PostsAreFree plan) (own : ActsAreOwn plan) (m : ModeId) (within : m.0 < length plan.modes) where
+  -- the mode is heard only where it may be, and no device of it is due unless it runs
+  abbrev Stays : List Line → List ModeEvent → Machine → Type 0
+  Stays before front s = HoldsIn plan m before front s × Rests plan m s
+
+  abbrev IsTaking : Machine → Type 0
+  IsTaking s = takes_part (running_of s.modes) (owners.Mode m) ≡ true
+
+  -- ---- moves
+
+  module _ (before : List Line) (by : Owner → Type 0) (switches : Type 0) (running : List Bool) (runs : by (owners.Mode m) → takes_part running (owners.Mode m) ≡ true) where
+    record IsKept (front : List ModeEvent) (s : Machine) : Type 0 where
+      kept : HoldsIn plan m before front s
+      rests : Rests plan m s
+      still : running_of s.modes ≡ running
+
+    takes : (front : List ModeEvent) (s : Machine) → IsKept front s → by (owners.Mode m) → IsTaking s
+    takes front s h may = subst (λ (bs : List Bool). takes_part bs (owners.Mode m) ≡ true) (sym h.still) (runs may)
+
+    own_runs : (front : List ModeEvent) (s : Machine) → IsKept front s → by (owners.Mode m) → IsRunning m s
+    own_runs front s h may = takes-runs m s (length plan.modes) h.kept.count within (takes front s h may)
+
+    move-holds : (front : List ModeEvent) (x : Move) (s : Machine) → MayDo plan (ordinary plan by switches) x → IsKept front s → HoldsIn plan m before front (do_move plan x s)
+    move-holds front (Wrote owner what) s may h = wrote-holds plan valid m within before front owner what s may.1 (λ is. own_runs front s h (subst by is may.0)) h.kept
+    move-holds front (Sent owner e) s may h = posted-holds plan valid m within before front owner e s (ap (λ (w : Work). mine m w []) (may.2 free)) (λ is. own_runs front s h (subst by is (may.0 own))) h.kept
+    move-holds front (Switched n state) s may h = record { count = h.kept.count; fine = h.kept.fine; holds = h.kept.holds }
+    move-holds front (Began k) s may h = start-holds plan valid m within before front k s (may valid.entries) h.kept
+    move-holds front (Ended k) s may h = stop-holds plan valid m within before front k s (may valid.entries) h.kept
+    move-holds front (Marked k state) s may h = absurd may
+    move-holds front (Turned call r) s may h = record { count = h.kept.count; fine = h.kept.fine; holds = h.kept.holds }
+
+    moves-hold : (front : List ModeEvent) (c : Cost) (s t : Machine) → Does plan (MayDo plan (ordinary plan by switches)) c s t → running_of s.modes ≡ running → Stays before front s → Stays before front t
+    moves-hold front c s t d now h =
+        let kept = does-keeps plan (MayDo plan (ordinary plan by switches)) (IsKept front)
+        (λ x u may k. record {
+          kept = move-holds front x u may k;
+          rests = move-rests plan valid own m by switches x u may (takes front u k) k.rests;
+          still = still-move plan by switches x u may ∙ k.still;
+        }) d (record { kept = h.0; rests = h.1; still = now }) in
+        (kept.kept, kept.rests)
+
+  -- ---- single changes
+
+  -- another mode has another state
+  other_set-rests : (k : ModeId) (x : ModeState) (s : Machine) → length s.modes ≡ length plan.modes → (k.0 ≡ m.0 → ⊥) → Rests plan m s → Rests plan m (set_mode k x s)
+  other_set-rests k x s count other h = record {
+    devices = h.devices;
+    rests = λ r due is armed.
+        runs-takes m (set_mode k x s) (length plan.modes) (length-set s.modes k.0 x ∙ count) within
+        (subst (λ (y : ModeState). is_running y.phase ≡ true) (sym (other_state plan valid m within [] k x s other)) (takes-runs m s (length plan.modes) count within (h.rests r due is armed)));
+  }
+
+  stop-rests : (k : ModeId) (s : Machine) → Rests plan m s → Rests plan m (stop_mode plan k s)
+  stop-rests k s h =
+      let same = starting_keeps_who_runs.stop s.modes k in
+      stop-by plan k s (Rests plan m) (running-rests plan valid own m s _ same refl h) (running-rests plan valid own m s _ same refl h)
+
+  post-rests : (e : EventId) (s : Machine) → Rests plan m s → Rests plan m (post owners.Machine e s)
+  post-rests e s h = running-rests plan valid own m s (post owners.Machine e s) refl refl h
+
+  with_devices : (before : List Line) (front : List ModeEvent) (s : Machine) (new : List DeviceState) → HoldsIn plan m before front s → HoldsIn plan m before front (record s { devices = new })
+  with_devices before front s new h = record { count = h.count; fine = h.fine; holds = h.holds }
+
+  -- the devices of a mode are called, of which the lines are not those of this one or may be heard
+  calls-hold : (before : List Line) (front : List ModeEvent) (call : Call) (k : ModeId) (s : Machine) → (k.0 ≡ m.0 → IsTaking s) → Stays before front s → Stays before front (call_devices plan call k s)
+  calls-hold before front call k s runs h =
+      moves-hold before (λ owner. owner ≡ owners.Mode k) ⊥ (running_of s.modes) (λ is. runs (sym (mode_number is))) front _ s (call_devices plan call k s)
+      (does-calls plan (λ owner. owner ≡ owners.Mode k) call k refl s) refl h
+    where
+      number_of : Owner → ℕ
+      number_of owners.Machine = 0
+      number_of (owners.Mode i) = i.0
+
+      mode_number : owners.Mode m ≡ owners.Mode k → m.0 ≡ k.0
+      mode_number is = ap number_of is
+
+  -- ---- the work after the handlers
+
+  -- the devices of a mode stop, and then the mode has ended
+  ended-holds : (before : List Line) (front : List ModeEvent) (k : ModeId) (s : Machine)
+      → ((new : List DeviceState) → HoldsIn plan m before [] (post owners.Machine (mode_event plan k Stopped) (set_mode k (ended (mode_state s.modes k)) (record s { devices = new }))))
+      → HoldsIn plan m before [] (do_after plan true (Mode k Stopping) s)
+  ended-holds before front k s each =
+      let turned = stops-turn plan (rows_of plan (owners.Mode k)) s in
+      subst (λ (t : Machine). HoldsIn plan m before [] (post owners.Machine (mode_event plan k Stopped) (set_mode k (ended (mode_state s.modes k)) t))) (sym turned.1) (each turned.0)
+
+  own_ended : (before : List Line) (s : Machine) → Stays before (Stopping ∷ []) s → Stays before [] (do_after plan true (Mode m Stopping) s)
+  own_ended before s h = (
+    ended-holds before (Stopping ∷ []) m s (λ new.
+        own_change plan valid m within before (Stopping ∷ []) [] Stopped (in_phase phases.Idle) (record s { devices = new }) (with_devices before (Stopping ∷ []) s new h.0)
+        (turn-stopping (phase_in m s) (waiting_of plan m s.waiting) h.0.holds.turns) (λ r. absurd (search rules))),
+    quiet-rests plan valid own m (do_after plan true (Mode m Stopping) s) (has_devices-does plan (does-calls plan (λ owner. Unit {0}) calls.ModeStop m tt s) h.1.devices)
+        (λ r there is. stops-quiet plan (rows_of plan (owners.Mode m)) r s there h.1.devices
+        (inl (rows_of-there plan (owners.Mode m) r there (subst (λ (o : Owner). is_owner (owners.Mode m) o ≡ true) (sym is) (eq-eqb m.0 m.0 refl))))),
+  )
+
+  other_ended : (before : List Line) (k : ModeId) (s : Machine) → k.0 < length plan.modes → (k.0 ≡ m.0 → ⊥) → Stays before [] s → Stays before [] (do_after plan true (Mode k Stopping) s)
+  other_ended before k s there other h =
+      let stopped = call_devices plan calls.ModeStop k s in
+      let called = calls-hold before [] calls.ModeStop k s (λ same. absurd (other same)) h in (
+        ended-holds before [] k s (λ new.
+            other_post plan valid m within before [] k Stopped (set_mode k (ended (mode_state s.modes k)) (record s { devices = new })) there other
+            (other_set plan valid m within before [] k (ended (mode_state s.modes k)) (record s { devices = new }) other (with_devices before [] s new h.0))),
+        post-rests (mode_event plan k Stopped) (set_mode k (ended (mode_state s.modes k)) stopped) (other_set-rests k (ended (mode_state s.modes k)) stopped called.0.count other called.1),
+      )
+
+  own_after : (before : List Line) (kept : Bool) (which : ModeEvent) (s : Machine) → Stays before (still_due which) s → Stays before [] (do_after plan kept (Mode m which) s)
+  own_after before kept WillStart s h = (own_post plan valid m within before (WillStart ∷ []) [] Starting s h.0 (turn-will_start (phase_in m s) (waiting_of plan m s.waiting) h.0.holds.turns), post-rests (mode_event plan m Starting) s h.1)
+  own_after before kept Starting s h = (own_post plan valid m within before (Starting ∷ []) [] Started s h.0 (turn-starting (phase_in m s) (waiting_of plan m s.waiting) h.0.holds.turns), post-rests (mode_event plan m Started) s h.1)
+  own_after before true Started s h = (stop-holds plan valid m within before [] m s within h.0, stop-rests m s h.1)
+  own_after before false Started s h = h
+  own_after before kept Stopping s h = own_ended before s h
+  own_after before kept Stopped s h = (
+    record {
+      count = h.0.count;
+      fine = h.0.fine;
+      holds = record { waits = h.0.holds.waits; turns = turn-stopped (phase_in m s) (waiting_of plan m s.waiting) h.0.holds.turns; speaks = h.0.holds.speaks };
+    },
+    h.1,
+  )
+
+  other_after : (before : List Line) (kept : Bool) (k : ModeId) (which : ModeEvent) (s : Machine) → k.0 < length plan.modes → (k.0 ≡ m.0 → ⊥) → Stays before [] s → Stays before [] (do_after plan kept (Mode k which) s)
+  other_after before kept k WillStart s there other h = (other_post plan valid m within before [] k Starting s there other h.0, post-rests (mode_event plan k Starting) s h.1)
+  other_after before kept k Starting s there other h = (other_post plan valid m within before [] k Started s there other h.0, post-rests (mode_event plan k Started) s h.1)
+  other_after before true k Started s there other h = (stop-holds plan valid m within before [] k s there h.0, stop-rests k s h.1)
+  other_after before false k Started s there other h = h
+  other_after before kept k Stopping s there other h = other_ended before k s there other h
+  other_after before kept k Stopped s there other h = h
+
+  abbrev numbered : ℕ → ModeId
+  numbered n = record { 0 = n }
+
+  after_work : (before : List Line) (kept : Bool) (e : EventId) (w : Work) (s : Machine) → IsWorkAt plan e w → Stays before (handled m w) s → Stays before [] (do_after plan kept w s)
+  after_work before kept e Nothing s at h = h
+  after_work before kept e (Mode k which) s at h =
+      elim (cases_eq k.0 m.0) [
+        | inl same ↦
+            subst (λ (n : ℕ). Stays before [] (do_after plan kept (Mode (numbered n) which) s)) (sym same)
+            (own_after before kept which s (subst (λ (b : Bool). Stays before (cond b (still_due which) []) s) (eq-eqb k.0 m.0 same) h))
+        | inr other ↦
+            other_after before kept k which s at.0 other (subst (λ (b : Bool). Stays before (cond b (still_due which) []) s) (ne_eqb k.0 m.0 other) h)
+      ]
+
+  closes : (before : List Line) (first : Posted) (kept : Bool) (s : Machine) → Stays before (handled m (work_of plan first.event)) s → Stays before [] (do_after plan kept (work_of plan first.event) s)
+  closes before first kept s h = after_work before kept first.event (work_of plan first.event) s (work_found plan first.event) h
+
+  -- ---- the taking of an event, and the work before its handlers
+
+  speaks_after : (which : ModeEvent) (p : Phase) (q : List ModeEvent) (on : Bool) → IsTurn p (which ∷ q) → (is_running p ≡ true → on ≡ true) → is_running p ≡ true → heard_at which on ≡ true
+  speaks_after WillStart p q on c h r = h r
+  speaks_after Starting p q on c h r = h r
+  speaks_after Started p q on c h r = refl
+  speaks_after Stopping p q on c h r = h r
+  speaks_after Stopped p q on c h r = absurd (search (rules, stopped-quiet p q c, r))
+
+  own_before : (before : List Line) (which : ModeEvent) (s : Machine) (on : Bool) → heard_in plan m before s ≡ heard_at which on → Stays before (which ∷ []) s → Stays before (still_due which) (do_before plan (Mode m which) s)
+  own_before before WillStart s on is h = h
+  own_before before Starting s on is h = h
+  own_before before Started s on is h =
+      let active = set_mode m (in_phase phases.Active) s in
+      let holds = own_set plan valid m within before (Started ∷ []) [] (in_phase phases.Active) s h.0 (turn-started (phase_in m s) (waiting_of plan m s.waiting) h.0.holds.turns) (λ r. is) in
+      let runs : IsTaking active = runs-takes m active (length plan.modes) holds.count within (ap (λ (x : ModeState). is_running x.phase) (own_state plan valid m within before (in_phase phases.Active) s h.0.count)) in
+      calls-hold before [] calls.ModeStart m active (λ same. runs) (holds, runs-rests plan valid own m active h.1.devices runs)
+  own_before before Stopping s on is h = h
+  own_before before Stopped s on is h = h
+
+  other_before : (before : List Line) (k : ModeId) (which : ModeEvent) (s : Machine) → (k.0 ≡ m.0 → ⊥) → Stays before [] s → Stays before [] (do_before plan (Mode k which) s)
+  other_before before k WillStart s other h = h
+  other_before before k Starting s other h = h
+  other_before before k Started s other h =
+      let active = set_mode k (entered (mode_state s.modes k)) s in
+      calls-hold before [] calls.ModeStart k active (λ same. absurd (other same))
+      (other_set plan valid m within before [] k (entered (mode_state s.modes k)) s other h.0, other_set-rests k (entered (mode_state s.modes k)) s h.0.count other h.1)
+  other_before before k Stopping s other h = h
+  other_before before k Stopped s other h = h
+
+  before_work : (before : List Line) (w : Work) (s : Machine) (on : Bool) → length s.modes ≡ length plan.modes → Rests plan m s → IsFine m false (all_written plan (before ++ s.lines)) → heard_in plan m before s ≡ heard_after m on w
+      → IsFine m (heard_after m on w) (all_awaited plan s.waiting) → IsTurn (phase_in m s) (mine m w (waiting_of plan m s.waiting)) → (IsRunning m s → on ≡ true) → Stays before (handled m w) (do_before plan w s)
+  before_work before Nothing s on count rests fine is waits turns speaks =
+      (record { count = count; fine = fine; holds = subst (λ (b : Bool). Holds plan m b [] s.waiting (phase_in m s)) (sym is) (record { waits = waits; turns = turns; speaks = speaks }) }, rests)
+  before_work before (Mode k which) s on count rests fine is waits turns speaks =
+      elim (cases_eq k.0 m.0) [
+        | inl same ↦
+            let now : heard_in plan m before s ≡ heard_at which on = is ∙ ap (λ (b : Bool). cond b (heard_at which on) on) (eq-eqb k.0 m.0 same) in
+            let own_turn : IsTurn (phase_in m s) (which ∷ waiting_of plan m s.waiting) =
+            subst (λ (b : Bool). IsTurn (phase_in m s) (cond b (which ∷ waiting_of plan m s.waiting) (waiting_of plan m s.waiting))) (eq-eqb k.0 m.0 same) turns in
+            let here : HoldsIn plan m before (which ∷ []) s = record {
+              count = count;
+              fine = fine;
+              holds = record {
+                waits = subst (λ (b : Bool). IsFine m b (all_awaited plan s.waiting)) (sym is) waits;
+                turns = own_turn;
+                speaks = λ r. now ∙ speaks_after which (phase_in m s) (waiting_of plan m s.waiting) on own_turn speaks r;
+              };
+            } in
+            subst (λ (b : Bool). Stays before (cond b (still_due which) []) (do_before plan (Mode k which) s)) (sym (eq-eqb k.0 m.0 same))
+            (subst (λ (n : ℕ). Stays before (still_due which) (do_before plan (Mode (numbered n) which) s)) (sym same) (own_before before which s on now (here, rests)))
+        | inr other ↦
+            let now : heard_in plan m before s ≡ on = is ∙ ap (λ (b : Bool). cond b (heard_at which on) on) (ne_eqb k.0 m.0 other) in
+            let here : HoldsIn plan m before [] s = record {
+              count = count;
+              fine = fine;
+              holds = record {
+                waits = subst (λ (b : Bool). IsFine m b (all_awaited plan s.waiting)) (sym is) waits;
+                turns = subst (λ (b : Bool). IsTurn (phase_in m s) (cond b (which ∷ waiting_of plan m s.waiting) (waiting_of plan m s.waiting))) (ne_eqb k.0 m.0 other) turns;
+                speaks = λ r. now ∙ speaks r;
+              };
+            } in
+            subst (λ (b : Bool). Stays before (cond b (still_due which) []) (do_before plan (Mode k which) s)) (sym (ne_eqb k.0 m.0 other)) (other_before before k which s other (here, rests))
+      ]
+
+  opens : (before : List Line) (first : Posted) (rest : List Posted) (s : Machine) → s.waiting ≡ first ∷ rest → Stays before [] s → Stays before (handled m (work_of plan first.event)) (before_handlers plan first rest s)
+  opens before first rest s is h =
+      let l : Line = record { moment = s.moment; owner = first.owner; happening = lines.Event first.event } in
+      let on = heard_in plan m before s in
+      let pushed = lines-push plan valid m within before s.lines l in
+      let waits : IsFine m on (awaited plan first ∷ all_awaited plan rest) = subst (λ (q : List Posted). IsFine m on (all_awaited plan q)) is h.0.holds.waits in
+      let turns : IsTurn (phase_in m s) (mine m (work_of plan first.event) (waiting_of plan m rest)) = subst (λ (q : List Posted). IsTurn (phase_in m s) (waiting_of plan m q)) is h.0.holds.turns in
+      before_work before (work_of plan first.event) (taken first rest s) on h.0.count (running-rests plan valid own m s (taken first rest s) refl refl h.1)
+      (subst (λ (xs : List Said). IsFine m false xs) (sym pushed) (fine-push m false (all_written plan (before ++ s.lines)) (written plan l) h.0.fine waits.0))
+      (ap (heard m false) pushed ∙ heard-push m false (all_written plan (before ++ s.lines)) (written plan l)) waits.1 turns h.0.holds.speaks
+
+  handlers-hold : (before : List Line) (first : Posted) (c : Cost) (s t : Machine) → Does plan (MayHandle plan s) c s t → Stays before (handled m (work_of plan first.event)) s → Stays before (handled m (work_of plan first.event)) t
+  handlers-hold before first c s t d h = moves-hold before (TakesPart s) ⊥ (running_of s.modes) (λ may. may) (handled m (work_of plan first.event)) c s t d refl h
+
+  -- ---- stimuli, and runs
+
+  arrived-holds : (before : List Line) (at : ℕ) (s : Machine) → HoldsIn plan m before [] s → HoldsIn plan m (before ++ s.lines) [] (arrived at s)
+  arrived-holds before at s h =
+      let same : (before ++ s.lines) ++ [] ≡ before ++ s.lines = append-nil (before ++ s.lines) in
+      record {
+        count = h.count;
+        fine = subst (λ (ls : List Line). IsFine m false (all_written plan ls)) (sym same) h.fine;
+        holds = subst (λ (ls : List Line). Holds plan m (heard m false (all_written plan ls)) [] s.waiting (phase_in m s)) (sym same) h.holds;
+      }
+
+  -- where the mode speaks at the beginning of a stimulus, it runs: a device of it is due
+  begins-runs : (stimulus : Stimulus) (s : Machine) → IsAllowed plan s stimulus → Rests plan m s → Begins plan stimulus (owners.Mode m) → IsTaking s
+  begins-runs (Change at n level) s allowed h is = absurd (search (rules, is))
+  begins-runs (Alarm at (switch n)) s allowed h is = absurd (search (rules, is))
+  begins-runs (Alarm at (device r)) s allowed h is = h.rests r at (sym is) allowed.0.due
+  begins-runs (Wait at) s allowed h is = absurd (search (rules, is))
+
+  begins : (before : List Line) (stimulus : Stimulus) (s : Machine) → IsAllowed plan s stimulus → s.waiting ≡ [] → Stays before [] s → Stays (before ++ s.lines) [] (begin plan stimulus s)
+  begins before stimulus s allowed empty h =
+      moves-hold (before ++ s.lines) (Begins plan stimulus) (Unit {0}) (running_of s.modes) (begins-runs stimulus s allowed h.1) [] _ (arrived (moment_of stimulus) s) (begin plan stimulus s) (does-begin plan stimulus s) refl
+      (arrived-holds before (moment_of stimulus) s h.0, running-rests plan valid own m s (arrived (moment_of stimulus) s) refl refl h.1)
+
+  stays-initial : Stays [] [] (initial plan)
+  stays-initial = (
+    record {
+      count = length-replicate (length plan.modes) (in_phase phases.Idle);
+      fine = tt;
+      holds = subst (λ (x : ModeState). Holds plan m false [] [] x.phase) (sym (get_or-replicate (length plan.modes) m.0 (in_phase phases.Idle) (in_phase phases.Idle) within))
+          (record { waits = tt; turns = idle; speaks = λ r. absurd (search rules) });
+    },
+    quiet-rests plan valid own m (initial plan) (initial-devices plan) (λ r there is. initial-quiet plan r),
+  )
+
+  -- at the end of every run
+  stays-run : (stimuli : List (Stimulus × ℕ)) (trace : List Line) (s : Machine) → IsRun plan stimuli (initial plan) trace s → (earlier : List Line) × Stays earlier [] s × (earlier ++ s.lines ≡ trace)
+  stays-run stimuli trace s run =
+      run-keeps plan (λ before. Stays before [])
+      (λ before. step-keeps plan (λ earlier. Stays earlier []) (λ first earlier. Stays earlier (handled m (work_of plan first.event))) opens handlers-hold closes before)
+      begins [] stimuli (initial plan) trace s run stays-initial
+
+  silent-run : (stimuli : List (Stimulus × ℕ)) (trace : List Line) (s : Machine) → IsRun plan stimuli (initial plan) trace s
+      → (before : List Line) (line : Line) (after : List Line) → trace ≡ before ++ line ∷ after → line.owner ≡ owners.Mode m → HasStarted plan m before
+  silent-run stimuli trace s run =
+      let end = stays-run stimuli trace s run in
+      fine-silent plan valid m within trace (subst (λ (ls : List Line). IsFine m false (all_written plan ls)) end.2 end.1.0.fine)
+
+  resting-run : (stimuli : List (Stimulus × ℕ)) (trace : List Line) (s : Machine) → IsRun plan stimuli (initial plan) trace s
+      → (r : RowId) (due : ℕ) → (row_at plan r).owner ≡ owners.Mode m → source_due s (device r) ≡ Some due → HasStarted plan m trace
+  resting-run stimuli trace s run r due is armed =
+      let end = stays-run stimuli trace s run in
+      let runs = takes-runs m s (length plan.modes) end.1.0.count within (end.1.1.rests r due is armed) in
+      heard-started plan valid m within trace (subst (λ (ls : List Line). heard m false (all_written plan ls) ≡ true) end.2 (end.1.0.holds.speaks runs))
+
+-- in every run of a valid plan that posts no event with work, a stopped mode is silent
+pub stopped_is_silent : (plan : PlanView) → IsValid plan → PostsAreFree plan → ActsAreOwn plan → (stimuli : List (Stimulus × ℕ)) (trace : List Line) (s : Machine) → IsRun plan stimuli (initial plan) trace s → IsSilent plan trace
+stopped_is_silent plan valid free own stimuli trace s run m within = silent-run plan valid free own m within stimuli trace s run
+
+-- and no device of it is due
+pub stopped_is_resting : (plan : PlanView) → IsValid plan → PostsAreFree plan → ActsAreOwn plan → (stimuli : List (Stimulus × ℕ)) (trace : List Line) (s : Machine) → IsRun plan stimuli (initial plan) trace s
+    → (m : ModeId) (r : RowId) (due : ℕ) → r.0 < length plan.rows → (row_at plan r).owner ≡ owners.Mode m → source_due s (device r) ≡ Some due → HasStarted plan m trace
+stopped_is_resting plan valid free own stimuli trace s run m r due there is armed =
+    resting-run plan valid free own m (subst (IsOwnerWithin plan) is (valid.entries.rows r there).owner) stimuli trace s run r due is armed

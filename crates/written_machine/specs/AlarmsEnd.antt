@@ -1,0 +1,29 @@
+-- Alarms come to an end, since a stimulus arms nothing for its own moment.
+use Rattle.std.specs.Prelude.{◌≡◌, ℕ, ◌<◌, ◌⊎◌, Some, List}
+use Rattle.plan_tables.specs.PlanView.{PlanView}
+use Rattle.plan_tables.specs.Valid.{IsValid}
+use Rattle.written_machine.specs.Devices.{HasDevices}
+use Rattle.written_machine.specs.declared.line.Line.{Line}
+use Rattle.written_machine.specs.Machine.{Machine}
+use Rattle.written_machine.specs.EventStep.{EventSteps}
+use Rattle.written_machine.specs.Run.{Source, source_due, IsNoAlarmDueBy, Stimulus, Alarm, moment_of, begin, IsReached}
+use Rattle.written_machine.specs.NextAlarm.{most_alarms}
+use Rattle.written_machine.specs.AlarmsBy.{alarms_by, state_after}
+
+-- What is due after a stimulus and event steps was due before it, or is due later than it came.
+abbrev pub StimuliArmLater : Type 0
+StimuliArmLater =
+    (plan : PlanView) (stimulus : Stimulus) (s : Machine) (n : ℕ) (t : Machine) → IsValid plan → EventSteps plan n (begin plan stimulus s) t
+    → (source : Source) (due : ℕ) → source_due t source ≡ Some due → (source_due s source ≡ Some due) ⊎ (moment_of stimulus < due)
+
+-- The source of an alarm, if it is due after that, is due later than the alarm came.
+abbrev pub AlarmsAreDone : Type 0
+AlarmsAreDone =
+    (plan : PlanView) (at : ℕ) (source : Source) (s : Machine) (n : ℕ) (t : Machine) → IsValid plan → HasDevices plan s.devices → EventSteps plan n (begin plan (Alarm at source) s) t
+    → (due : ℕ) → source_due t source ≡ Some due → at < due
+
+-- So after the alarms that come by a moment, of which there are no more than `most_alarms`, nothing is due by it.
+abbrev pub AlarmsEnd : Type 0
+AlarmsEnd =
+    (plan : PlanView) (bound : ℕ) (trace : List Line) (s : Machine) → IsValid plan → IsReached plan trace s
+    → (until : ℕ) → IsNoAlarmDueBy (state_after plan bound (alarms_by plan bound until (most_alarms plan until s) s) s) until

@@ -1,0 +1,32 @@
+-- What holds of the devices in every run, and of what acts on them in an accepted plan.
+use Rattle.std.specs.Prelude.{◌≡◌, ◌<◌, List, length}
+use Rattle.std.specs.List.{All}
+use Rattle.plan_tables.specs.PlanView.{PlanView, row_at}
+use Rattle.plan_tables.specs.declared.entries.Owner.{Owner}
+use Rattle.plan_tables.specs.declared.entries.Target.{Target}
+use Rattle.plan_tables.specs.declared.entries.Target.TheVariants.{Run, Start, Stop, Act}
+use Rattle.plan_tables.specs.declared.devices.RowId.{RowId}
+use Rattle.device_objects.specs.Laws.{HasShape}
+use Rattle.device_objects.specs.declared.state.DeviceState.{DeviceState}
+use Rattle.written_machine.specs.Machine.{device_state}
+use Rattle.written_machine.specs.Run.{InEveryRun}
+
+-- The state of each device has the shape of its row.
+pub record HasDevices (plan : PlanView) (devices : List DeviceState) : Type 0 where
+  pub count : length devices ≡ length plan.rows
+  pub shapes : (r : RowId) → r.0 < length plan.rows → HasShape (row_at plan r).settings (device_state devices r)
+
+-- So it is in every run.
+abbrev pub DevicesKeepTheirShape : Type 0
+DevicesKeepTheirShape = (plan : PlanView) → InEveryRun plan (λ stimuli trace s. HasDevices plan s.devices)
+
+-- an act is on a device of this owner
+abbrev pub IsOwnAct : PlanView → Owner → Target → Type 0
+IsOwnAct plan owner (Run l) = Unit {0}
+IsOwnAct plan owner (Start m) = Unit {0}
+IsOwnAct plan owner (Stop m) = Unit {0}
+IsOwnAct plan owner (Act r act) = (row_at plan r).owner ≡ owner
+
+-- Bindings act on devices of their own owner alone.
+abbrev pub ActsAreOwn : PlanView → Type 0
+ActsAreOwn plan = All (λ b. IsOwnAct plan b.owner b.target) plan.bindings

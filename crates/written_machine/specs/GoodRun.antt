@@ -1,0 +1,72 @@
+-- What is promised of every run.
+use Rattle.std.specs.Prelude.{◌≡◌, ℕ, ◌+◌, ◌<◌, ◌≤◌, Option, Some, None, List, [], ◌∷◌, length}
+use Rattle.plan_tables.specs.PlanView.{PlanView, row_at, switch_at}
+use Rattle.plan_tables.specs.declared.entries.EventId.{EventId}
+use Rattle.plan_tables.specs.declared.entries.SwitchId.{SwitchId}
+use Rattle.plan_tables.specs.declared.entries.ModeId.{ModeId}
+use Rattle.plan_tables.specs.declared.entries.Owner.TheVariants as owners
+use Rattle.plan_tables.specs.declared.devices.RowId.{RowId}
+use Rattle.device_objects.specs.declared.device.Call.TheVariants as calls
+use Rattle.switch_core.specs.declared.change.Change.{Change as Acceptance}
+use Rattle.switch_core.specs.SwitchStep.{raw_at_rest}
+use Rattle.switch_core.specs.Switches.{active_at, accept, reported, reported_by_change}
+use Rattle.switch_core.specs.AcceptedLevel.{accepted_level}
+use Rattle.switch_core.specs.Calls.{raw_changes}
+use Rattle.cascade_rank.specs.Cost.{Cost, Lines, price, cost_of_acceptance, cost_of_call}
+use Rattle.cascade_rank.specs.Events.{weight_of}
+use Rattle.event_queue.specs.declared.queue.Posted.{Posted}
+use Rattle.written_machine.specs.Machine.{Machine}
+use Rattle.written_machine.specs.EventStep.{EventStep}
+use Rattle.written_machine.specs.Run.{Source, switch, device, source_due, Stimulus, Change, Alarm, Wait, IsNoAlarmDueBy, InEveryRun, InEveryCascade}
+use Rattle.written_machine.specs.SwitchCalls.{switch_calls}
+use Rattle.written_machine.specs.Silent.{HasStarted, IsSilent}
+use Rattle.written_machine.specs.CheckedView.{CheckedView}
+
+-- what the acceptance of a switch costs, if there is one
+abbrev pub cost_if_accepted : PlanView → Option Acceptance → Cost
+cost_if_accepted plan None = Lines 0
+cost_if_accepted plan (Some a) = cost_of_acceptance plan a.switch a.active
+
+-- what an alarm costs: that of a switch its acceptance, that of a device its dearest answer
+abbrev pub cost_of_alarm : PlanView → Machine → Source → Cost
+cost_of_alarm plan s (switch n) = cost_of_acceptance plan n (reported (accept n s.switches) n).active
+cost_of_alarm plan s (device r) = cost_of_call plan r calls.Fire
+
+-- What a stimulus costs: a change costs the acceptance of the switch where it is accepted at once, else nothing.
+-- A wait costs nothing.
+abbrev pub cost_of_stimulus : PlanView → Machine → Stimulus → Cost
+cost_of_stimulus plan s (Change at n level) = cost_if_accepted plan (reported_by_change n level at s.switches)
+cost_of_stimulus plan s (Alarm at source) = cost_of_alarm plan s source
+cost_of_stimulus plan s (Wait at) = Lines 0
+
+-- the weights of the events that wait
+abbrev pub weigh : (EventId → ℕ) → List Posted → ℕ
+weigh w [] = 0
+weigh w (p ∷ ps) = w p.event + weigh w ps
+
+-- Every run of the plan is within bounds, and each switch is read rightly.
+pub record IsBounded (c : CheckedView) : Type 0 where
+  -- After each event step the lines since the stimulus and the weights of the waiting events are at most its cost.
+  pub cascade : InEveryCascade c.plan (λ s stimulus n t.
+      length t.lines + weigh (weight_of c.weights) t.waiting ≤ price (weight_of c.weights) (cost_of_stimulus c.plan s stimulus))
+  -- Counted together, lines since the latest stimulus and events that wait are never more than the bound.
+  pub within : InEveryRun c.plan (λ stimuli trace s. length s.lines + length s.waiting ≤ c.bound)
+  -- As long as an event waits, some event step can come.
+  pub goes_on : InEveryRun c.plan (λ stimuli trace s.
+      (first : Posted) (rest : List Posted) → s.waiting ≡ first ∷ rest → (t : Machine) × EventStep c.plan s t)
+  -- No more event steps follow a stimulus than the bound.
+  pub ends : InEveryCascade c.plan (λ s stimulus n t. n ≤ c.bound)
+  -- When nothing is due at or before a moment, each switch is active by the accepted level of its raw changes.
+  pub levels : InEveryRun c.plan (λ stimuli trace s.
+      (at : ℕ) → s.moment ≤ at → IsNoAlarmDueBy s at → (n : SwitchId) → n.0 < length c.plan.switches →
+      active_at s.switches n ≡ accepted_level (switch_at c.plan n).kind at (raw_changes n (raw_at_rest (switch_at c.plan n).kind.contact) (switch_calls stimuli)))
+
+-- Every run of the plan is good.
+pub record IsGood (c : CheckedView) : Type 0 where
+  pub bounded : IsBounded c
+  -- Nothing comes from a stopped mode.
+  pub silent : InEveryRun c.plan (λ stimuli trace s. IsSilent c.plan trace)
+  -- No device of a stopped mode is due: where one is due, its mode has started, and has not stopped since.
+  pub resting : InEveryRun c.plan (λ stimuli trace s.
+      (m : ModeId) (r : RowId) (due : ℕ) → r.0 < length c.plan.rows → (row_at c.plan r).owner ≡ owners.Mode m →
+      source_due s (device r) ≡ Some due → HasStarted c.plan m trace)

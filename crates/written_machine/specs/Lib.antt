@@ -1,0 +1,15 @@
+pub mod Machine
+pub mod EventStep
+pub mod Run
+pub mod Devices
+pub mod SwitchCalls
+pub mod NextAlarm
+pub mod PlanOrder
+pub mod AlarmsBy
+pub mod AlarmsEnd
+pub mod CheckedView
+pub mod Silent
+pub mod GoodRun
+pub mod FreePosts
+pub mod Accepted
+pub mod AcceptedRuns

@@ -1,0 +1,175 @@
+-- The machine's state, and what each thing does to it.
+use Rattle.std.specs.Prelude.{ℕ, Bool, true, false, Option, Some, None, List, [], ◌∷◌, ◌++◌, length, map, slice_index_or, slice_set}
+use Rattle.plan_tables.specs.PlanView.{PlanView, posts_of, actions_at, binding_at, list_of_row, mode_event, no_row, row_at, rows_of}
+use Rattle.plan_tables.specs.declared.entries.EventId.{EventId}
+use Rattle.plan_tables.specs.declared.entries.SwitchId.{SwitchId}
+use Rattle.plan_tables.specs.declared.entries.ListId.{ListId}
+use Rattle.plan_tables.specs.declared.entries.BindingId.{BindingId}
+use Rattle.plan_tables.specs.declared.entries.Owner.{Owner}
+use Rattle.plan_tables.specs.declared.entries.Owner.TheVariants as owners
+use Rattle.plan_tables.specs.declared.entries.Action.{Action}
+use Rattle.plan_tables.specs.declared.entries.Action.TheVariants.{Post}
+use Rattle.plan_tables.specs.declared.entries.Target.{Target}
+use Rattle.plan_tables.specs.declared.entries.Target.TheVariants.{Run, Start, Stop, Act}
+use Rattle.plan_tables.specs.declared.entries.ModeId.{ModeId}
+use Rattle.plan_tables.specs.declared.entries.ModeEvent.TheVariants.{WillStart, Stopping}
+use Rattle.plan_tables.specs.declared.entries.Binding.{Binding}
+use Rattle.plan_tables.specs.declared.devices.RowId.{RowId}
+use Rattle.device_objects.specs.declared.device.Call.{Call}
+use Rattle.device_objects.specs.declared.device.Call.TheVariants as calls
+use Rattle.device_objects.specs.declared.state.DeviceState.{DeviceState}
+use Rattle.device_objects.specs.declared.state.World.{World}
+use Rattle.device_objects.specs.DeviceStep.{device_step, first_state}
+use Rattle.switch_core.specs.declared.change.Change.{Change as Acceptance}
+use Rattle.switch_core.specs.Switches.{SwitchesView, all_idle, after_change, reported_by_change, accept, reported}
+use Rattle.mode_stack.specs.declared.phase.ModeState.{ModeState}
+use Rattle.mode_stack.specs.declared.phase.StopAnswer.{StopAnswer}
+use Rattle.mode_stack.specs.declared.phase.StopAnswer.TheVariants as answers
+use Rattle.mode_stack.specs.ModeStep.{starts, started, stopped, stop_answer}
+use Rattle.mode_stack.specs.Modes.{needs_game, mode_state}
+use Rattle.mode_stack.specs.Modes as modes
+use Rattle.written_machine.specs.declared.line.Line.{Line}
+use Rattle.written_machine.specs.declared.line.Happening.{Happening}
+use Rattle.written_machine.specs.declared.line.Happening.TheVariants as lines
+use Rattle.event_queue.specs.declared.queue.Posted.{Posted}
+
+pub record Machine : Type 0 where
+  -- the moment of the latest stimulus, in milliseconds
+  pub moment : ℕ
+  -- how each switch is read, and its state
+  pub switches : SwitchesView
+  -- the state of each mode, by number
+  pub modes : List ModeState
+  -- the state of each device, by the number of its row
+  pub devices : List DeviceState
+  -- the events that wait, first posted first
+  pub waiting : List Posted
+  -- the lines since the latest stimulus began
+  pub lines : List Line
+
+-- At the beginning it is moment 0, all switches are inactive, all modes idle, all devices in their first states, and
+-- nothing waits.
+abbrev pub initial : PlanView → Machine
+initial plan = record { moment = 0; switches = all_idle plan; modes = modes.all_idle (length plan.modes); devices = map (λ row. first_state row.settings) plan.rows; waiting = []; lines = [] }
+
+-- ---- one change each
+
+abbrev pub write : Owner → Happening → Machine → Machine
+write owner what s = record s { lines = s.lines ++ record { moment = s.moment; owner = owner; happening = what } ∷ [] }
+
+abbrev pub post : Owner → EventId → Machine → Machine
+post owner e s = record s { waiting = s.waiting ++ record { event = e; owner = owner } ∷ [] }
+
+abbrev pub set_switches : SwitchesView → Machine → Machine
+set_switches switches s = record s { switches = switches }
+
+abbrev pub set_mode : ModeId → ModeState → Machine → Machine
+set_mode m state s = record s { modes = slice_set s.modes m.0 state }
+
+abbrev pub set_device : RowId → DeviceState → Machine → Machine
+set_device r state s = record s { devices = slice_set s.devices r.0 state }
+
+-- one after another
+abbrev pub all_do : {X : Type 0} → (X → Machine → Machine) → List X → Machine → Machine
+all_do does [] s = s
+all_do does (x ∷ xs) s = all_do does xs (does x s)
+
+-- ---- modes
+
+-- whether a game goes on: there is none yet
+abbrev pub has_game : Machine → Bool
+has_game s = false
+
+-- the machine posts the event where this holds
+abbrev pub post_if : Bool → EventId → Machine → Machine
+post_if true e s = post owners.Machine e s
+post_if false e s = s
+
+-- A mode is told to start. Where it starts, the event that says so is posted.
+abbrev pub start_mode : PlanView → ModeId → Machine → Machine
+start_mode plan m s =
+    let old = mode_state s.modes m in
+    let needs = needs_game plan m in
+    post_if (starts needs (has_game s) old.phase) (mode_event plan m WillStart) (set_mode m (started needs (has_game s) old) s)
+
+-- whether a stop posts an event: where it is neither kept nor ignored
+abbrev pub is_post : StopAnswer → Bool
+is_post answers.Post = true
+is_post answers.Kept = false
+is_post answers.Ignored = false
+
+-- A mode is told to stop. Where it is active, the event that says so is posted.
+abbrev pub stop_mode : PlanView → ModeId → Machine → Machine
+stop_mode plan m s =
+    let old = mode_state s.modes m in
+    post_if (is_post (stop_answer old.phase)) (mode_event plan m Stopping) (set_mode m (stopped old) s)
+
+-- ---- effect lists
+
+abbrev pub do_action : PlanView → Owner → Action → Machine → Machine
+do_action plan owner (Post e) s = post owner e s
+
+abbrev pub do_list : PlanView → Owner → ListId → Machine → Machine
+do_list plan owner l s = all_do (do_action plan owner) (actions_at plan l) s
+
+-- ---- devices
+
+-- what devices know of the game: there is none yet
+abbrev pub world_of : Machine → World
+world_of s = record { games = 0; player = 0 }
+
+-- the state of a device by the number of its row
+abbrev pub device_state : List DeviceState → RowId → DeviceState
+device_state devices r = slice_index_or devices r.0 (first_state no_row.settings)
+
+abbrev pub device_at : Machine → RowId → DeviceState
+device_at s r = device_state s.devices r
+
+-- what the call of a device leads to: its next state, and the effect lists that it answers
+abbrev pub called : PlanView → Call → RowId → Machine → DeviceState × List ℕ
+called plan call r s = device_step (row_at plan r).settings call s.moment (world_of s) (device_at s r)
+
+-- effect lists of a row run, one after another, for the row's owner
+abbrev pub do_answer : PlanView → RowId → List ℕ → Machine → Machine
+do_answer plan r lists s = all_do (λ k. do_list plan (row_at plan r).owner (list_of_row plan r k)) lists s
+
+-- A device is called: it goes on to its next state, and what it answers is done.
+abbrev pub call_device : PlanView → Call → RowId → Machine → Machine
+call_device plan call r s = do_answer plan r (called plan call r s).1 (set_device r (called plan call r s).0 s)
+
+-- all devices of a mode are called, in the order of their rows
+abbrev pub call_devices : PlanView → Call → ModeId → Machine → Machine
+call_devices plan call m s = all_do (call_device plan call) (rows_of plan (owners.Mode m)) s
+
+-- ---- targets
+
+abbrev pub do_target : PlanView → Owner → Target → Machine → Machine
+do_target plan owner (Run l) s = do_list plan owner l s
+do_target plan owner (Start m) s = start_mode plan m s
+do_target plan owner (Stop m) s = stop_mode plan m s
+do_target plan owner (Act r act) s = call_device plan (calls.Act act) r s
+
+abbrev pub do_binding : PlanView → Binding → Machine → Machine
+do_binding plan b s = do_target plan b.owner b.target s
+
+-- the handler at a place runs
+abbrev pub do_handler : PlanView → BindingId → Machine → Machine
+do_handler plan place s = do_binding plan (binding_at plan place) s
+
+-- ---- switches
+
+-- A switch was accepted as active or inactive: its line is written, and then its events are posted.
+abbrev pub do_accepted : PlanView → Acceptance → Machine → Machine
+do_accepted plan a s = all_do (post owners.Machine) (posts_of plan a.switch a.active) (write owners.Machine (lines.Switch a.switch a.active) s)
+
+abbrev pub do_if_accepted : PlanView → Option Acceptance → Machine → Machine
+do_if_accepted plan None s = s
+do_if_accepted plan (Some a) s = do_accepted plan a s
+
+-- The raw level of a switch changes, which a quick switch accepts at once.
+abbrev pub change_switch : PlanView → ℕ → SwitchId → Bool → Machine → Machine
+change_switch plan at switch raw s = do_if_accepted plan (reported_by_change switch raw at s.switches) (set_switches (after_change switch raw at s.switches) s)
+
+-- The raw level of a switch, which was due, is accepted.
+abbrev pub fire_switch : PlanView → SwitchId → Machine → Machine
+fire_switch plan switch s = do_accepted plan (reported (accept switch s.switches) switch) (set_switches (accept switch s.switches) s)

@@ -1,0 +1,34 @@
+//! What holds of every run of what is accepted, and of alarms.
+
+ghost use Rattle.written_machine.specs.AcceptedRuns.{AcceptedIsGood};
+ghost use Rattle.written_machine.specs.Devices.{DevicesKeepTheirShape};
+ghost use Rattle.written_machine.specs.AlarmsEnd.{StimuliArmLater, AlarmsAreDone, AlarmsEnd};
+
+/// The law of what is accepted, for every valid plan, weights and bound. If each event has a
+/// weight, the weights fit, the bound is theirs, and neither a weight nor the bound is above
+/// 10,000, then every run of the plan is good, as `check` promises it.
+///
+/// It does not matter who found the weights. Any weights that `cascade_rank::verify` takes for a
+/// plan bound every run of it. After each event step, the lines since the stimulus and the weights
+/// of the waiting events add up to no more than what the stimulus costs by these weights. No
+/// stimulus causes more lines or event steps than the bound that `verify` gives.
+///
+/// It does nothing: its contract is the law, over all runs of the written machine.
+pub fn accepted_is_good()
+    ensures { AcceptedIsGood }
+{}
+
+/// The law of alarms, for every valid plan. A stimulus and its event steps arm nothing for its own
+/// moment or an earlier one: what is due after them was due before, or is due later (`arms_later`).
+/// The source of an alarm, if it is due again, is due later than the alarm came, where each device
+/// has a state of its kind (`done`), as it has in every run (`shapes`). So each source comes at most
+/// once at each moment, and alarms come to an end: in a run of the plan, after at most as many
+/// alarms as `most_alarms` says, none is due by the moment (`end`).
+///
+/// It does nothing: its contract is the law, over the written machine.
+pub fn alarms_end()
+    ensures arms_later { StimuliArmLater }
+    ensures done { AlarmsAreDone }
+    ensures shapes { DevicesKeepTheirShape }
+    ensures end { AlarmsEnd }
+{}

@@ -1,0 +1,13 @@
+//! The written machine: what a run of a plan is, and what is promised of every run of an accepted one.
+//!
+//! The machine is defined in `specs/`: its state and each change of it (`Machine`), the event step
+//! (`EventStep`), stimuli and runs (`Run`), and the promises (`GoodRun`). No code computes it here. The
+//! checker accepts plans by it, and the rig runs it. This crate has the lines of a trace, and the
+//! promises as laws.
+#![tactic(auto)]
+
+pub mod law;
+pub mod line;
+
+pub use law::{accepted_is_good, alarms_end};
+pub use line::{Happening, Line};
