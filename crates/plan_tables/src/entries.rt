@@ -111,6 +111,22 @@ pub enum Owner {
     Mode(ModeId),
 }
 
+impl Owner {
+    ghost use Rattle.std.specs.Prelude.{◌≡◌};
+    ghost use Rattle.plan_tables.specs.PlanView.{is_owner};
+
+    /// Whether the two are the same.
+    pub fn is(self, other: Owner) -> bool
+        ensures { result ≡ is_owner self other }
+    {
+        match (self, other) {
+            (Owner::Machine, Owner::Machine) => true,
+            (Owner::Mode(mode), Owner::Mode(another)) => mode.0 == another.0,
+            _ => false,
+        }
+    }
+}
+
 /// One thing that an effect list does.
 #[derive(Clone, Copy, Debug)]
 pub enum Action {
