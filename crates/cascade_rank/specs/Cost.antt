@@ -1,7 +1,7 @@
 -- What a thing costs: the lines that it prints and the weights of the events that it posts, added up or compared.
 use Rattle.std.specs.Prelude.{ℕ, ◌+◌, max, Bool, true, false, ◌&&◌, ◌||◌, ◌==◌, Option, None, Some, List, [], ◌∷◌, length, map}
 use Rattle.std.specs.List.{range_with_len}
-use Rattle.plan_tables.specs.PlanView.{PlanView, act_of_listener, listeners_of, posts_of, actions_at, bound_to, list_of_row, mode_event, row_at, row_numbers, rows_of, work_of}
+use Rattle.plan_tables.specs.PlanView.{PlanView, coils_enabled, act_of_listener, listeners_of, posts_of, actions_at, bound_to, list_of_row, mode_event, row_at, row_numbers, rows_of, work_of}
 use Rattle.plan_tables.specs.declared.entries.EventId.{EventId}
 use Rattle.plan_tables.specs.declared.entries.SwitchId.{SwitchId}
 use Rattle.plan_tables.specs.declared.entries.ListId.{ListId}
@@ -113,9 +113,19 @@ cost_of_starts plan (Mode m Started) = each_of (λ r. cost_of_call plan r calls.
 cost_of_starts plan (Mode m Stopping) = Lines 0
 cost_of_starts plan (Mode m Stopped) = Lines 0
 
+-- a line for each coil that the mode may hold, at its event `stopping`
+abbrev pub cost_of_releases : PlanView → Work → Cost
+cost_of_releases plan Nothing = Lines 0
+cost_of_releases plan (Mode m WillStart) = Lines 0
+cost_of_releases plan (Mode m Starting) = Lines 0
+cost_of_releases plan (Mode m Started) = Lines 0
+cost_of_releases plan (Mode m Stopping) = Lines (length (coils_enabled plan (owners.Mode m)))
+cost_of_releases plan (Mode m Stopped) = Lines 0
+
 -- what the machine itself does at an event, before and after its handlers
 abbrev pub cost_of_work : PlanView → EventId → Cost
-cost_of_work plan e = Both (cost_of_starts plan (work_of plan e)) (cost_if_led (led_by plan (work_of plan e)))
+cost_of_work plan e =
+    Both (cost_of_starts plan (work_of plan e)) (Both (cost_of_releases plan (work_of plan e)) (cost_if_led (led_by plan (work_of plan e))))
 
 -- an event costs its line, all that is bound to it, and the machine's work
 abbrev pub cost_of_event : PlanView → EventId → Cost

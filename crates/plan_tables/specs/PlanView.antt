@@ -1,6 +1,6 @@
 -- A plan, apart from where it lies in memory.
-use Rattle.std.specs.Prelude.{ℕ, suc, ◌+◌, ◌==◌, List, [], ◌∷◌, Bool, true, false, Option, Some, None, if◌then◌else◌, length, map, filter, slice_index_or, position, option_map}
-use Rattle.std.specs.List.{range_with_len}
+use Rattle.std.specs.Prelude.{ℕ, suc, ◌+◌, ◌==◌, List, [], ◌∷◌, ◌++◌, Bool, true, false, Option, Some, None, if◌then◌else◌, length, map, filter, slice_index_or, position, option_map}
+use Rattle.std.specs.List.{range_with_len, flat_map, list_any}
 use Rattle.std.specs.Str.{bytes_eq}
 use Rattle.plan_tables.specs.declared.entries.Contact.TheVariants.{NormallyOpen}
 use Rattle.plan_tables.specs.declared.entries.EventId.{EventId}
@@ -22,7 +22,10 @@ use Rattle.plan_tables.specs.declared.entries.Owner.{Owner}
 use Rattle.plan_tables.specs.declared.entries.Owner.TheVariants.{Machine}
 use Rattle.plan_tables.specs.declared.entries.Owner.TheVariants as owners
 use Rattle.plan_tables.specs.declared.entries.Action.{Action}
+use Rattle.plan_tables.specs.declared.entries.Action.TheVariants.{Enable}
+use Rattle.plan_tables.specs.declared.entries.Target.{Target}
 use Rattle.plan_tables.specs.declared.entries.Target.TheVariants.{Run}
+use Rattle.plan_tables.specs.Devices.{list_count}
 use Rattle.plan_tables.specs.declared.entries.Binding.{Binding}
 use Rattle.plan_tables.specs.declared.devices.RowId.{RowId}
 use Rattle.plan_tables.specs.declared.devices.Act.{Act}
@@ -204,6 +207,38 @@ rows_of plan owner = filter (λ r. is_owner owner (row_at plan r).owner) (row_nu
 -- an effect list of a row, by its number in the row
 abbrev pub list_of_row : PlanView → RowId → ℕ → ListId
 list_of_row plan r k = record { 0 = (slice_index_or plan.row_lists r.0 (record { 0 = 0 })).0 + k }
+
+-- the numbers of all coils
+abbrev pub coil_numbers : PlanView → List CoilId
+coil_numbers plan = map (λ n. record { 0 = n }) (range_with_len 0 (length plan.coils))
+
+-- the effect list that a binding runs, if it runs one
+abbrev pub list_of_target : Target → List ListId
+list_of_target (Run l) = l ∷ []
+list_of_target _ = []
+
+abbrev pub list_of_binding : Owner → Binding → List ListId
+list_of_binding owner b = if is_owner owner b.owner then list_of_target b.target else []
+
+-- all effect lists of a row
+abbrev pub lists_of_row : PlanView → RowId → List ListId
+lists_of_row plan r = map (list_of_row plan r) (range_with_len 0 (list_count (row_at plan r).settings))
+
+-- the effect lists of an owner: those that its bindings run, and those of its rows
+abbrev pub lists_of : PlanView → Owner → List ListId
+lists_of plan owner = flat_map (list_of_binding owner) plan.bindings ++ flat_map (lists_of_row plan) (rows_of plan owner)
+
+-- whether an action enables the coil
+abbrev pub is_enable_of : CoilId → Action → Bool
+is_enable_of coil (Enable other power) = coil.0 == other.0
+is_enable_of coil _ = false
+
+-- the coils that effect lists of an owner enable, by number
+abbrev pub is_enabled_by : PlanView → Owner → CoilId → Bool
+is_enabled_by plan owner coil = list_any (λ l. list_any (is_enable_of coil) (actions_at plan l)) (lists_of plan owner)
+
+abbrev pub coils_enabled : PlanView → Owner → List CoilId
+coils_enabled plan owner = filter (is_enabled_by plan owner) (coil_numbers plan)
 
 -- what is bound to the event, in plan order
 abbrev pub bound_to : PlanView → EventId → List Binding
