@@ -27,7 +27,7 @@ use Rattle.device_objects.specs.declared.device.Call.{Call}
 use Rattle.device_objects.specs.declared.device.Call.TheVariants as calls
 use Rattle.device_objects.specs.Outcomes.{outcomes}
 use Rattle.plan_tables.specs.declared.entries.Binding.{Binding}
-use Rattle.cascade_rank.specs.Cost.{Cost, Lines, Weight, Both, Greater, mentions, each_of, dearest_of, cost_of_post, cost_of_action, cost_of_list, cost_of_answer, cost_of_call, cost_of_target, cost_of_binding, led_by, cost_if_led, cost_of_starts, cost_of_work, cost_of_event, cost_of_listener, cost_of_acceptance, cost_of_switch, switches_of, cost_of_stimuli}
+use Rattle.cascade_rank.specs.Cost.{Cost, Lines, Weight, Both, Greater, mentions, each_of, dearest_of, cost_of_post, cost_of_action, cost_of_list, cost_of_answer, cost_of_call, cost_of_target, cost_of_binding, led_by, cost_if_led, cost_of_starts, cost_of_releases, cost_of_work, cost_of_event, cost_of_listener, cost_of_acceptance, cost_of_switch, switches_of, cost_of_stimuli}
 use Rattle.cascade_rank.specs.Below.{IsBelow}
 use Rattle.cascade_rank.specs.Mentions.{weights_in}
 use Rattle.cascade_rank.proofs.Outcomes.{outcomes_of_row}
@@ -132,8 +132,17 @@ module _ (plan : PlanView) (valid : HasEntries plan) where
   IsBelow-starts (works.Mode m Stopping) = tt
   IsBelow-starts (works.Mode m Stopped) = tt
 
+  -- the lines of releases mention none
+  IsBelow-releases : (w : Work) → IsBelow (length plan.events) (cost_of_releases plan w)
+  IsBelow-releases works.Nothing = tt
+  IsBelow-releases (works.Mode m WillStart) = tt
+  IsBelow-releases (works.Mode m Starting) = tt
+  IsBelow-releases (works.Mode m Started) = tt
+  IsBelow-releases (works.Mode m Stopping) = tt
+  IsBelow-releases (works.Mode m Stopped) = tt
+
   pub IsBelow-work : (e : EventId) → IsBelow (length plan.events) (cost_of_work plan e)
-  IsBelow-work e = (IsBelow-starts (work_of plan e), IsBelow-led (work_of plan e) e (work_found plan e))
+  IsBelow-work e = (IsBelow-starts (work_of plan e), (IsBelow-releases (work_of plan e), IsBelow-led (work_of plan e) e (work_found plan e)))
 
   pub IsBelow-target : (t : Target) → IsTargetWithin plan t → IsBelow (length plan.events) (cost_of_target plan t)
   IsBelow-target (Run l) h = IsBelow-list l h

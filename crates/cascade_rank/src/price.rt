@@ -4,7 +4,8 @@
 //! device answers costs at most 2^44. A plan has too few bindings and devices for a sum of their
 //! prices to reach 2^59. The listeners and posts of a switch for a sum of 2^109 do not fit into memory.
 
-ghost use Rattle.std.specs.Prelude.{◌≡◌, ◌+◌, ◌^◌, ◌<◌, ◌≤◌, length};
+ghost use Rattle.plan_tables.specs.declared.entries.EventId.{EventId as EventIdValue};
+ghost use Rattle.std.specs.Prelude.{ℕ, ◌≡◌, ◌+◌, ◌^◌, ◌<◌, ◌≤◌, length};
 ghost use Rattle.std.specs.List.{All};
 ghost use Rattle.plan_tables.specs.Valid.{IsActionWithin, IsTargetWithin, IsBindingWithin, IsEventWithin, IsListenerWithin};
 ghost use Rattle.plan_tables.specs.declared.entries.Owner.TheVariants as owners;
@@ -13,13 +14,14 @@ ghost use Rattle.plan_tables.specs.PlanView.{bound_to, row_at, row_numbers, rows
 ghost use Rattle.device_objects.specs.declared.device.Call.TheVariants as calls;
 ghost use Rattle.cascade_rank.specs.Events.{weight_of};
 ghost use Rattle.cascade_rank.specs.Mentions.{cost_of_start};
-ghost use Rattle.cascade_rank.specs.Cost.{price, each_of, dearest_of, cost_of_post, cost_of_action, cost_of_list, cost_of_answer, cost_of_call, cost_of_target, cost_of_binding, cost_of_starts, cost_of_work, cost_of_event, cost_of_listener, cost_of_acceptance, cost_of_switch, switches_of, cost_of_stimuli};
+ghost use Rattle.cascade_rank.specs.Cost.{price, each_of, dearest_of, cost_of_post, cost_of_action, cost_of_list, cost_of_answer, cost_of_call, cost_of_target, cost_of_binding, cost_of_starts, cost_of_releases, cost_of_work, cost_of_event, cost_of_listener, cost_of_acceptance, cost_of_switch, switches_of, cost_of_stimuli};
 
+use crate::releases::count_enabled;
 use crate::work::{is_of, led_by};
 use device_objects::{Call, outcomes};
 use plan_tables::{
-    Action, Binding, EventId, ListId, Listener, ModeEvent, ModeId, Plan, RowId, SwitchId, Target,
-    Work,
+    Action, Binding, EventId, ListId, Listener, ModeEvent, ModeId, Owner, Plan, RowId, SwitchId,
+    Target, Work,
 };
 
 /// What an event costs: its line, all that is bound to it, and the machine's work.
@@ -42,9 +44,10 @@ fn price_of_work(plan: &Plan, weights: &[u32], event: EventId) -> u128
     ensures small { result < 2 ^ 55 }
 {
     let starts = price_of_starts(plan, weights, plan.work(event));
+    let releases = price_of_releases(plan, plan.work(event));
     match led_by(plan, event) {
-        Some(led) => starts + price_of_post(weights, led),
-        None => starts,
+        Some(led) => starts + (releases + price_of_post(weights, led)),
+        None => starts + releases,
     }
 }
 
@@ -56,6 +59,17 @@ fn price_of_starts(plan: &Plan, weights: &[u32], work: Work) -> u128
 {
     match work {
         Work::Mode(mode, ModeEvent::Started) => price_of_devices(plan, weights, mode),
+        _ => 0,
+    }
+}
+
+/// The coils that a mode may hold, if the work is that of the mode's event `stopping`.
+fn price_of_releases(plan: &Plan, work: Work) -> u128
+    ensures price { (w : EventIdValue → ℕ) → result ≡ price w (cost_of_releases plan.now work) }
+    ensures small { result ≤ 256 }
+{
+    match work {
+        Work::Mode(mode, ModeEvent::Stopping) => count_enabled(plan, Owner::Mode(mode)) as u128,
         _ => 0,
     }
 }

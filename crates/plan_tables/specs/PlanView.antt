@@ -212,33 +212,34 @@ list_of_row plan r k = record { 0 = (slice_index_or plan.row_lists r.0 (record {
 abbrev pub coil_numbers : PlanView → List CoilId
 coil_numbers plan = map (λ n. record { 0 = n }) (range_with_len 0 (length plan.coils))
 
--- the effect list that a binding runs, if it runs one
-abbrev pub list_of_target : Target → List ListId
-list_of_target (Run l) = l ∷ []
-list_of_target _ = []
+-- the actions of the effect list that a binding runs, if it runs one
+abbrev pub actions_of_target : PlanView → Target → List Action
+actions_of_target plan (Run l) = actions_at plan l
+actions_of_target plan _ = []
 
-abbrev pub list_of_binding : Owner → Binding → List ListId
-list_of_binding owner b = if is_owner owner b.owner then list_of_target b.target else []
+-- those of a binding, where it is this owner's
+abbrev pub actions_of_binding : PlanView → Owner → Binding → List Action
+actions_of_binding plan owner b = if is_owner owner b.owner then actions_of_target plan b.target else []
 
--- all effect lists of a row
-abbrev pub lists_of_row : PlanView → RowId → List ListId
-lists_of_row plan r = map (list_of_row plan r) (range_with_len 0 (list_count (row_at plan r).settings))
+-- those of all effect lists of a row, where it is this owner's
+abbrev pub actions_of_row : PlanView → Owner → RowId → List Action
+actions_of_row plan owner r =
+    if is_owner owner (row_at plan r).owner
+    then flat_map (λ k. actions_at plan (list_of_row plan r k)) (range_with_len 0 (list_count (row_at plan r).settings))
+    else []
 
--- the effect lists of an owner: those that its bindings run, and those of its rows
-abbrev pub lists_of : PlanView → Owner → List ListId
-lists_of plan owner = flat_map (list_of_binding owner) plan.bindings ++ flat_map (lists_of_row plan) (rows_of plan owner)
+-- all actions of an owner
+abbrev pub actions_of : PlanView → Owner → List Action
+actions_of plan owner = flat_map (actions_of_binding plan owner) plan.bindings ++ flat_map (actions_of_row plan owner) (row_numbers plan)
 
 -- whether an action enables the coil
 abbrev pub is_enable_of : CoilId → Action → Bool
 is_enable_of coil (Enable other power) = coil.0 == other.0
 is_enable_of coil _ = false
 
--- the coils that effect lists of an owner enable, by number
-abbrev pub is_enabled_by : PlanView → Owner → CoilId → Bool
-is_enabled_by plan owner coil = list_any (λ l. list_any (is_enable_of coil) (actions_at plan l)) (lists_of plan owner)
-
+-- the coils that the owner's actions enable, by number
 abbrev pub coils_enabled : PlanView → Owner → List CoilId
-coils_enabled plan owner = filter (is_enabled_by plan owner) (coil_numbers plan)
+coils_enabled plan owner = filter (λ coil. list_any (is_enable_of coil) (actions_of plan owner)) (coil_numbers plan)
 
 -- what is bound to the event, in plan order
 abbrev pub bound_to : PlanView → EventId → List Binding
