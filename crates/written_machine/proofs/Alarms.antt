@@ -10,7 +10,7 @@ use Rattle.plan_tables.specs.PlanView.{PlanView, actions_at, list_of_row, no_row
 use Rattle.plan_tables.specs.Valid.{IsValid}
 use Rattle.plan_tables.specs.Devices.{IsWithinLimits}
 use Rattle.plan_tables.specs.declared.entries.Action.{Action}
-use Rattle.plan_tables.specs.declared.entries.Action.TheVariants.{Post}
+use Rattle.plan_tables.specs.declared.entries.Action.TheVariants.{Post, Pulse, Enable, Disable}
 use Rattle.plan_tables.specs.declared.entries.Owner.{Owner}
 use Rattle.plan_tables.specs.declared.entries.SwitchId.{SwitchId}
 use Rattle.plan_tables.specs.declared.devices.RowId.{RowId}
@@ -32,7 +32,7 @@ use Rattle.written_machine.specs.EventStep.{taken, EventStep, EventSteps}
 use Rattle.written_machine.specs.PlanOrder.{settled}
 use Rattle.written_machine.specs.Run.{Source, switch, device, source_due, IsNothingLate, IsNextAlarm, Stimulus, Change, Alarm, Wait, moment_of, IsAllowed, arrived, begin, IsRun}
 use Rattle.cascade_rank.specs.Cost.{Cost}
-use Rattle.written_machine.proofs.Does.{Move, Wrote, Sent, Switched, Began, Ended, Marked, Turned, do_move, start-by, stop-by, Does, does-keeps, HasStates, moment-move, moment-does, has_states-does, switches-does}
+use Rattle.written_machine.proofs.Does.{Move, Wrote, Sent, Switched, Began, Ended, Marked, Turned, Asked, do_move, start-by, stop-by, Does, does-keeps, HasStates, moment-move, moment-does, has_states-does, switches-does}
 use Rattle.written_machine.proofs.Parts.{TakesPart, IsMachine, ordinary, working, MayWork, does-call, does-accepted, does-if_accepted, does-begin, does-before, does-after}
 use Rattle.written_machine.proofs.Keeps.{step-keeps, steps-keep, run-keeps}
 use Rattle.written_machine.proofs.PlanSteps.{plan_steps-event_steps}
@@ -50,6 +50,9 @@ same-devices f each (x ∷ xs) s = same-devices f each xs (f x s) ∙ each x s
 module _ (plan : PlanView) where
   action-devices : (owner : Owner) (a : Action) (s : Machine) → (do_action plan owner a s).devices ≡ s.devices
   action-devices owner (Post e) s = refl
+  action-devices owner (Pulse coil ms power) s = refl
+  action-devices owner (Enable coil power) s = refl
+  action-devices owner (Disable coil) s = refl
 
   -- what a device answers changes no device
   answer-devices : (r : RowId) (lists : List ℕ) (s : Machine) → (do_answer plan r lists s).devices ≡ s.devices
@@ -102,6 +105,7 @@ module _ (plan : PlanView) where
     later-move (Ended m) s = stop-by plan m s (IsLater s) (λ r due is. inl is) (λ r due is. inl is)
     later-move (Marked m state) s = λ r due is. inl is
     later-move (Turned call r) s = later-turned call r s
+    later-move (Asked owner command) s = λ r due is. inl is
 
     later-then : (s m t : Machine) → m.moment ≡ s.moment → IsLater s m → IsLater m t → IsLater s t
     later-then s m t here one next r due is =

@@ -29,6 +29,8 @@ pub record Said : Type 0 where
 abbrev pub work_written : PlanView → Happening → Work
 work_written plan (lines.Event e) = work_of plan e
 work_written plan (lines.Switch n active) = Nothing
+work_written plan (lines.Coil command) = Nothing
+work_written plan (lines.Skip command) = Nothing
 
 abbrev pub written : PlanView → Line → Said
 written plan l = record { owner = l.owner; work = work_written plan l.happening }

@@ -38,7 +38,7 @@ use Rattle.written_machine.specs.Machine.{Machine, initial, post, set_mode, has_
 use Rattle.written_machine.specs.EventStep.{taken, before_handlers, handlers_in, do_before, do_after}
 use Rattle.written_machine.specs.Run.{switch, device, source_due, Stimulus, Change, Alarm, Wait, moment_of, IsAllowed, arrived, begin, IsRun}
 use Rattle.written_machine.specs.Silent.{HasStarted, IsSilent}
-use Rattle.written_machine.proofs.Does.{Move, Wrote, Sent, Switched, Began, Ended, Marked, Turned, do_move, start-by, stop-by, MayDo, Does, does-keeps, has_devices-does}
+use Rattle.written_machine.proofs.Does.{Move, Wrote, Sent, Switched, Began, Ended, Marked, Turned, Asked, do_move, start-by, stop-by, MayDo, Does, does-keeps, has_devices-does}
 use Rattle.written_machine.proofs.Parts.{TakesPart, Begins, ordinary, MayHandle, does-calls, does-order, does-begin}
 use Rattle.written_machine.proofs.Keeps.{step-keeps, run-keeps}
 use Rattle.written_machine.proofs.Cycles.{mine, waiting_of, IsTurn, idle, turn-will_start, turn-starting, turn-started, turn-stopping, turn-stopped, stopped-quiet}
@@ -62,6 +62,7 @@ module _ (plan : PlanView) (by : Owner → Type 0) (switches : Type 0) where
       stop-by plan k s (λ t. running_of t.modes ≡ running_of s.modes) same same
   still-move (Marked k state) s may = absurd may
   still-move (Turned call r) s may = refl
+  still-move (Asked owner command) s may = refl
 
   pub still-does : {c : Cost} {s t : Machine} → Does plan (MayDo plan (ordinary plan by switches)) c s t → running_of t.modes ≡ running_of s.modes
   still-does {c} {s} {t} d =
