@@ -9,6 +9,7 @@ use Rattle.plan_tables.specs.PlanView.{PlanView, actions_of, is_enable_of, mode_
 use Rattle.plan_tables.specs.Valid.{HasEntries}
 use Rattle.plan_tables.specs.declared.entries.EventId.{EventId}
 use Rattle.plan_tables.specs.declared.entries.Owner.{Owner}
+use Rattle.plan_tables.specs.declared.entries.CoilId.{CoilId}
 use Rattle.plan_tables.specs.declared.entries.SwitchId.{SwitchId}
 use Rattle.plan_tables.specs.declared.entries.ModeId.{ModeId}
 use Rattle.plan_tables.specs.declared.entries.ModeEvent.TheVariants.{WillStart, Stopping}
@@ -90,10 +91,16 @@ IsNoCommand (lines.Event e) = Unit {0}
 IsNoCommand (lines.Coil command) = ⊥
 IsNoCommand (lines.Skip command) = ⊥
 
--- where a mode asks for a coil to be held, an action of it does so
+-- where it is a mode, an action of it enables the coil
+abbrev pub MayHold : PlanView → CoilId → Owner → Type 0
+MayHold plan coil owners.Machine = Unit {0}
+MayHold plan coil (owners.Mode m) = list_any (is_enable_of coil) (actions_of plan (owners.Mode m)) ≡ true
+
+-- what an owner asks for is held only by one that may
 abbrev pub IsListed : PlanView → Owner → Command → Type 0
-IsListed plan (owners.Mode m) (commands.Enable coil power) = list_any (is_enable_of coil) (actions_of plan (owners.Mode m)) ≡ true
-IsListed plan _ _ = Unit {0}
+IsListed plan owner (commands.Pulse coil ms power) = Unit {0}
+IsListed plan owner (commands.Enable coil power) = MayHold plan coil owner
+IsListed plan owner (commands.Disable coil) = Unit {0}
 
 -- A licence: by which owners lines and events may come and devices be called, which events, and whether switches may
 -- change and modes be marked.

@@ -17,3 +17,4 @@ pub mod Speaking
 pub mod Resting
 pub mod Silence
 pub mod Good
+pub mod Listed
