@@ -32,8 +32,8 @@ use Rattle.written_machine.specs.EventStep.{taken, EventStep, EventSteps}
 use Rattle.written_machine.specs.PlanOrder.{settled}
 use Rattle.written_machine.specs.Run.{Source, switch, device, source_due, IsNothingLate, IsNextAlarm, Stimulus, Change, Alarm, Wait, moment_of, IsAllowed, arrived, begin, IsRun}
 use Rattle.cascade_rank.specs.Cost.{Cost}
-use Rattle.written_machine.proofs.Does.{Move, Wrote, Sent, Switched, Began, Ended, Marked, Turned, Asked, do_move, start-by, stop-by, Does, does-keeps, HasStates, moment-move, moment-does, has_states-does, switches-does}
-use Rattle.written_machine.proofs.Parts.{TakesPart, IsMachine, ordinary, working, MayWork, does-call, does-accepted, does-if_accepted, does-begin, does-before, does-after}
+use Rattle.written_machine.proofs.Does.{Move, Wrote, Sent, Switched, Began, Ended, Marked, Turned, Asked, do_move, start-by, stop-by, Does, does-keeps, off-has_coils, HasStates, moment-move, moment-does, has_states-does, switches-does}
+use Rattle.written_machine.proofs.Parts.{TakesPart, Begins, IsMachine, ordinary, working, MayWork, does-call, does-accepted, does-if_accepted, does-begin, does-before, does-after}
 use Rattle.written_machine.proofs.Keeps.{step-keeps, steps-keep, run-keeps}
 use Rattle.written_machine.proofs.PlanSteps.{plan_steps-event_steps}
 
@@ -325,11 +325,11 @@ module _ (plan : PlanView) (valid : IsValid plan) where
 module _ (plan : PlanView) where
   pub has_states-step : (s t : Machine) → EventStep plan s t → HasStates plan s → HasStates plan t
   has_states-step =
-      step-keeps plan (λ before. HasStates plan) (λ first before. HasStates plan) (λ before first rest s is h. has_states-does plan (does-before plan (work_of plan first.event) (taken first rest s)) (record { kinds = h.kinds; switches = h.switches; modes = h.modes; devices = h.devices }))
-      (λ before first c s t d h. has_states-does plan d h) (λ before first kept s h. has_states-does plan (does-after plan kept first.event s) h) []
+      step-keeps plan (λ before. HasStates plan) (λ first before. HasStates plan) (λ before first rest s is h. has_states-does plan working (does-before plan (work_of plan first.event) (taken first rest s)) (record { kinds = h.kinds; switches = h.switches; modes = h.modes; devices = h.devices; coils = h.coils }))
+      (λ before first c s t d h. has_states-does plan (ordinary plan (TakesPart s) ⊥) d h) (λ before first kept s h. has_states-does plan working (does-after plan kept first.event s) h) []
 
   pub has_states-begin : (stimulus : Stimulus) (s : Machine) → HasStates plan s → HasStates plan (begin plan stimulus s)
-  has_states-begin stimulus s h = has_states-does plan (does-begin plan stimulus s) (record { kinds = h.kinds; switches = h.switches; modes = h.modes; devices = h.devices })
+  has_states-begin stimulus s h = has_states-does plan (ordinary plan (Begins plan stimulus) (Unit {0})) (does-begin plan stimulus s) (record { kinds = h.kinds; switches = h.switches; modes = h.modes; devices = h.devices; coils = h.coils })
 
   pub has_states-after : (stimulus : Stimulus) (s : Machine) (n : ℕ) (t : Machine) → EventSteps plan n (begin plan stimulus s) t → HasStates plan s → HasStates plan t
   has_states-after stimulus s n t steps h = steps-keep plan (λ before. HasStates plan) (λ before. has_states-step) [] n (begin plan stimulus s) t steps (has_states-begin stimulus s h)
@@ -339,7 +339,7 @@ module _ (plan : PlanView) where
       (run-keeps plan (λ before. HasStates plan) (λ before. has_states-step) (λ before stimulus m allowed empty k. has_states-begin stimulus m k) [] stimuli s trace t run h).1
 
   pub has_states-initial : HasStates plan (initial plan)
-  has_states-initial = record { kinds = refl; switches = length-map plan.switches (λ s. idle s.kind); modes = length-replicate (length plan.modes) (in_phase Idle); devices = initial-devices plan }
+  has_states-initial = record { kinds = refl; switches = length-map plan.switches (λ s. idle s.kind); modes = length-replicate (length plan.modes) (in_phase Idle); devices = initial-devices plan; coils = off-has_coils plan }
 
   pub complete : (s : Machine) → IsValid plan → HasStates plan s → IsComplete s.switches
   complete s valid h =
