@@ -18,3 +18,4 @@ pub mod Resting
 pub mod Silence
 pub mod Good
 pub mod Listed
+pub mod Held
