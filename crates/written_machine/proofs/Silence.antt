@@ -43,13 +43,14 @@ use Rattle.written_machine.specs.Machine.{Machine, initial, post, set_mode, has_
 use Rattle.written_machine.specs.EventStep.{taken, before_handlers, handlers_in, do_before, do_after}
 use Rattle.written_machine.specs.Run.{switch, device, source_due, Stimulus, Change, Alarm, Wait, moment_of, IsAllowed, arrived, begin, IsRun}
 use Rattle.written_machine.specs.Silent.{HasStarted, IsSilent}
-use Rattle.written_machine.proofs.Does.{Move, Wrote, Sent, Switched, Began, Ended, Marked, Turned, Asked, do_move, start-by, stop-by, MayDo, Does, does-keeps, has_devices-does}
+use Rattle.written_machine.proofs.Does.{Move, Wrote, Sent, Switched, Began, Ended, Marked, Turned, Asked, do_move, start-by, stop-by, MayDo, Does, does-keeps, has_devices-does, off-has_coils}
 use Rattle.written_machine.proofs.Parts.{TakesPart, Begins, ordinary, MayHandle, does-calls, does-releases, does-order, does-begin}
 use Rattle.written_machine.proofs.Keeps.{step-keeps, run-keeps}
 use Rattle.written_machine.proofs.Cycles.{mine, waiting_of, IsTurn, idle, turn-will_start, turn-starting, turn-started, turn-stopping, turn-stopped, stopping-runs, stopped-quiet}
 use Rattle.written_machine.proofs.Hearing.{Said, written, all_written, awaited, all_awaited, heard_at, heard_after, heard, IsFine, heard-push, fine-push, heard-started, fine-silent}
 use Rattle.written_machine.proofs.Speaking.{Holds, HoldsIn, heard_in, phase_in, IsRunning, takes-runs, runs-takes, own_state, other_state, wrote-holds, asked-holds, posted-holds, own_post, own_set, own_change, other_post, other_set, start-holds, stop-holds, lines-push}
 use Rattle.written_machine.proofs.Alarms.{initial-devices, initial-quiet}
+use Rattle.written_machine.proofs.Held.{IsHolding, off-not, released-none}
 use Rattle.written_machine.proofs.Resting.{stops-turn, stops-quiet, Rests, running-rests, runs-rests, quiet-rests, move-rests}
 
 -- ---- who runs does not change while handlers run
@@ -158,18 +159,23 @@ module _ (plan : PlanView) (valid : IsValid plan) (free : PostsAreFree plan) (ow
   other_set-rests : (k : ModeId) (x : ModeState) (s : Machine) → length s.modes ≡ length plan.modes → (k.0 ≡ m.0 → ⊥) → Rests plan m s → Rests plan m (set_mode k x s)
   other_set-rests k x s count other h = record {
     devices = h.devices;
-    rests = λ r due is armed.
-        runs-takes m (set_mode k x s) (length plan.modes) (length-set s.modes k.0 x ∙ count) within
-        (subst (λ (y : ModeState). is_running y.phase ≡ true) (sym (other_state plan valid m within [] k x s other)) (takes-runs m s (length plan.modes) count within (h.rests r due is armed)));
+    rests = λ r due is armed. still (h.rests r due is armed);
+    count = h.count;
+    holds = λ coil is. still (h.holds coil is);
   }
+    where
+      still : IsTaking s → IsTaking (set_mode k x s)
+      still runs =
+          runs-takes m (set_mode k x s) (length plan.modes) (length-set s.modes k.0 x ∙ count) within
+          (subst (λ (y : ModeState). is_running y.phase ≡ true) (sym (other_state plan valid m within [] k x s other)) (takes-runs m s (length plan.modes) count within runs))
 
   stop-rests : (k : ModeId) (s : Machine) → Rests plan m s → Rests plan m (stop_mode plan k s)
   stop-rests k s h =
       let same = starting_keeps_who_runs.stop s.modes k in
-      stop-by plan k s (Rests plan m) (running-rests plan valid own m s _ same refl h) (running-rests plan valid own m s _ same refl h)
+      stop-by plan k s (Rests plan m) (running-rests plan valid own m s _ same refl refl h) (running-rests plan valid own m s _ same refl refl h)
 
   post-rests : (e : EventId) (s : Machine) → Rests plan m s → Rests plan m (post owners.Machine e s)
-  post-rests e s h = running-rests plan valid own m s (post owners.Machine e s) refl refl h
+  post-rests e s h = running-rests plan valid own m s (post owners.Machine e s) refl refl refl h
 
   with_devices : (before : List Line) (front : List ModeEvent) (s : Machine) (new : List DeviceState) → HoldsIn plan m before front s → HoldsIn plan m before front (record s { devices = new })
   with_devices before front s new h = record { count = h.count; fine = h.fine; holds = h.holds }
@@ -228,7 +234,8 @@ module _ (plan : PlanView) (valid : IsValid plan) (free : PostsAreFree plan) (ow
             (λ r there is.
             ap (λ (ds : List DeviceState). due_of (device_state ds r)) devices
             ∙ stops-quiet plan (rows_of plan (owners.Mode m)) r s there h.1.devices
-            (inl (rows_of-there plan (owners.Mode m) r there (subst (λ (o : Owner). is_owner (owners.Mode m) o ≡ true) (sym is) (eq-eqb m.0 m.0 refl))))),
+            (inl (rows_of-there plan (owners.Mode m) r there (subst (λ (o : Owner). is_owner (owners.Mode m) o ≡ true) (sym is) (eq-eqb m.0 m.0 refl)))))
+            kept.1.count (λ coil. released-none (owners.Mode m) plan (call_devices plan calls.ModeStop m s) (ap (λ (t : Machine). length t.coils) (stops-turn plan (rows_of plan (owners.Mode m)) s).1 ∙ h.1.count) coil),
       )
 
   other_ended : (before : List Line) (k : ModeId) (s : Machine) → k.0 < length plan.modes → (k.0 ≡ m.0 → ⊥) → Stays before [] s → Stays before [] (do_after plan true (Mode k Stopping) s)
@@ -296,7 +303,7 @@ module _ (plan : PlanView) (valid : IsValid plan) (free : PostsAreFree plan) (ow
       let active = set_mode m (in_phase phases.Active) s in
       let holds = own_set plan valid m within before (Started ∷ []) [] (in_phase phases.Active) s h.0 (turn-started (phase_in m s) (waiting_of plan m s.waiting) h.0.holds.turns) (λ r. is) in
       let runs : IsTaking active = runs-takes m active (length plan.modes) holds.count within (ap (λ (x : ModeState). is_running x.phase) (own_state plan valid m within before (in_phase phases.Active) s h.0.count)) in
-      calls-hold before [] calls.ModeStart m active (λ same. runs) (holds, runs-rests plan valid own m active h.1.devices runs)
+      calls-hold before [] calls.ModeStart m active (λ same. runs) (holds, runs-rests plan valid own m active h.1.devices h.1.count runs)
   own_before before Stopping s on is h = h
   own_before before Stopped s on is h = h
 
@@ -352,7 +359,7 @@ module _ (plan : PlanView) (valid : IsValid plan) (free : PostsAreFree plan) (ow
       let pushed = lines-push plan valid m within before s.lines l in
       let waits : IsFine m on (awaited plan first ∷ all_awaited plan rest) = subst (λ (q : List Posted). IsFine m on (all_awaited plan q)) is h.0.holds.waits in
       let turns : IsTurn (phase_in m s) (mine m (work_of plan first.event) (waiting_of plan m rest)) = subst (λ (q : List Posted). IsTurn (phase_in m s) (waiting_of plan m q)) is h.0.holds.turns in
-      before_work before (work_of plan first.event) (taken first rest s) on h.0.count (running-rests plan valid own m s (taken first rest s) refl refl h.1)
+      before_work before (work_of plan first.event) (taken first rest s) on h.0.count (running-rests plan valid own m s (taken first rest s) refl refl refl h.1)
       (subst (λ (xs : List Said). IsFine m false xs) (sym pushed) (fine-push m false (all_written plan (before ++ s.lines)) (written plan l) h.0.fine waits.0))
       (ap (heard m false) pushed ∙ heard-push m false (all_written plan (before ++ s.lines)) (written plan l)) waits.1 turns h.0.holds.speaks
 
@@ -380,7 +387,7 @@ module _ (plan : PlanView) (valid : IsValid plan) (free : PostsAreFree plan) (ow
   begins : (before : List Line) (stimulus : Stimulus) (s : Machine) → IsAllowed plan s stimulus → s.waiting ≡ [] → Stays before [] s → Stays (before ++ s.lines) [] (begin plan stimulus s)
   begins before stimulus s allowed empty h =
       moves-hold (before ++ s.lines) (Begins plan stimulus) (Unit {0}) (running_of s.modes) (begins-runs stimulus s allowed h.1) [] _ (arrived (moment_of stimulus) s) (begin plan stimulus s) (does-begin plan stimulus s) refl
-      (arrived-holds before (moment_of stimulus) s h.0, running-rests plan valid own m s (arrived (moment_of stimulus) s) refl refl h.1)
+      (arrived-holds before (moment_of stimulus) s h.0, running-rests plan valid own m s (arrived (moment_of stimulus) s) refl refl refl h.1)
 
   stays-initial : Stays [] [] (initial plan)
   stays-initial = (
@@ -390,7 +397,7 @@ module _ (plan : PlanView) (valid : IsValid plan) (free : PostsAreFree plan) (ow
       holds = subst (λ (x : ModeState). Holds plan m false [] [] x.phase) (sym (get_or-replicate (length plan.modes) m.0 (in_phase phases.Idle) (in_phase phases.Idle) within))
           (record { waits = tt; turns = idle; speaks = λ r. absurd (search rules) });
     },
-    quiet-rests plan valid own m (initial plan) (initial-devices plan) (λ r there is. initial-quiet plan r),
+    quiet-rests plan valid own m (initial plan) (initial-devices plan) (λ r there is. initial-quiet plan r) (off-has_coils plan).count (λ coil. off-not plan (owners.Mode m) coil),
   )
 
   -- at the end of every run
@@ -413,6 +420,13 @@ module _ (plan : PlanView) (valid : IsValid plan) (free : PostsAreFree plan) (ow
       let runs = takes-runs m s (length plan.modes) end.1.0.count within (end.1.1.rests r due is armed) in
       heard-started plan valid m within trace (subst (λ (ls : List Line). heard m false (all_written plan ls) ≡ true) end.2 (end.1.0.holds.speaks runs))
 
+  holding-run : (stimuli : List (Stimulus × ℕ)) (trace : List Line) (s : Machine) → IsRun plan stimuli (initial plan) trace s
+      → (coil : CoilId) → IsHolding (owners.Mode m) s.coils coil → HasStarted plan m trace
+  holding-run stimuli trace s run coil is =
+      let end = stays-run stimuli trace s run in
+      let runs = takes-runs m s (length plan.modes) end.1.0.count within (end.1.1.holds coil is) in
+      heard-started plan valid m within trace (subst (λ (ls : List Line). heard m false (all_written plan ls) ≡ true) end.2 (end.1.0.holds.speaks runs))
+
 -- in every run of a valid plan that posts no event with work, a stopped mode is silent
 pub stopped_is_silent : (plan : PlanView) → IsValid plan → PostsAreFree plan → ActsAreOwn plan → (stimuli : List (Stimulus × ℕ)) (trace : List Line) (s : Machine) → IsRun plan stimuli (initial plan) trace s → IsSilent plan trace
 stopped_is_silent plan valid free own stimuli trace s run m within = silent-run plan valid free own m within stimuli trace s run
@@ -422,3 +436,8 @@ pub stopped_is_resting : (plan : PlanView) → IsValid plan → PostsAreFree pla
     → (m : ModeId) (r : RowId) (due : ℕ) → r.0 < length plan.rows → (row_at plan r).owner ≡ owners.Mode m → source_due s (device r) ≡ Some due → HasStarted plan m trace
 stopped_is_resting plan valid free own stimuli trace s run m r due there is armed =
     resting-run plan valid free own m (subst (IsOwnerWithin plan) is (valid.entries.rows r there).owner) stimuli trace s run r due is armed
+
+-- nor does it hold a coil
+pub stopped_holds_nothing : (plan : PlanView) → IsValid plan → PostsAreFree plan → ActsAreOwn plan → (stimuli : List (Stimulus × ℕ)) (trace : List Line) (s : Machine) → IsRun plan stimuli (initial plan) trace s
+    → (m : ModeId) (coil : CoilId) → m.0 < length plan.modes → IsHolding (owners.Mode m) s.coils coil → HasStarted plan m trace
+stopped_holds_nothing plan valid free own stimuli trace s run m coil within is = holding-run plan valid free own m within stimuli trace s run coil is
