@@ -269,7 +269,7 @@ module _ (plan : PlanView) (valid : IsValid plan) where
 
   -- ---- no alarm is late
 
-  not_late-steps : (n : ℕ) (s t : Machine) → EventSteps plan n s t → IsNothingLate s → IsNothingLate t
+  pub not_late-steps : (n : ℕ) (s t : Machine) → EventSteps plan n s t → IsNothingLate s → IsNothingLate t
   not_late-steps n s t steps h source due is =
       let here = (still-steps plan n s t steps).1 in
       elim (steps-arm_later n s t steps source due is) [
@@ -286,12 +286,12 @@ module _ (plan : PlanView) (valid : IsValid plan) where
       ]
 
   -- and none before a stimulus that is allowed
-  allowed-first : (stimulus : Stimulus) (s : Machine) → IsAllowed plan s stimulus → (source : Source) (due : ℕ) → source_due s source ≡ Some due → moment_of stimulus ≤ due
+  pub allowed-first : (stimulus : Stimulus) (s : Machine) → IsAllowed plan s stimulus → (source : Source) (due : ℕ) → source_due s source ≡ Some due → moment_of stimulus ≤ due
   allowed-first (Change at n level) s allowed source due is = let after = allowed.0.quiet source due is in omega arith
   allowed-first (Alarm at first) s allowed source due is = next-first s at first allowed.0 source due is
   allowed-first (Wait at) s allowed source due is = let after = allowed.quiet source due is in omega arith
 
-  not_late-begin : (stimulus : Stimulus) (s : Machine) → ((source : Source) (due : ℕ) → source_due s source ≡ Some due → moment_of stimulus ≤ due) → IsNothingLate (begin plan stimulus s)
+  pub not_late-begin : (stimulus : Stimulus) (s : Machine) → ((source : Source) (due : ℕ) → source_due s source ≡ Some due → moment_of stimulus ≤ due) → IsNothingLate (begin plan stimulus s)
   not_late-begin stimulus s first source due is =
       elim (begin-arms_later stimulus s source due is) [
         | inl old ↦ omega (arith, first source due old, moment-begin plan stimulus s)

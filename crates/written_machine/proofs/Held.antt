@@ -170,10 +170,10 @@ module _ (owner : Owner) where
   released-none plan s count coil =
       elim (cases_lt coil.0 (length plan.coils)) [
         | inl there ↦ released-all (coil_numbers plan) s coil (inl (
-            coil.0,
-            omega (arith, there, length-map-range_with_len {X = CoilId} (λ n. record { 0 = n }) 0 (length plan.coils)),
-            get_or-map-range_with_len (λ n. record { 0 = n }) 0 (length plan.coils) coil.0 coil.0 coil there (omega arith),
-          ))
+          coil.0,
+          omega (arith, there, length-map-range_with_len {X = CoilId} (λ n. record { 0 = n }) 0 (length plan.coils)),
+          get_or-map-range_with_len (λ n. record { 0 = n }) 0 (length plan.coils) coil.0 coil.0 coil there (omega arith),
+        ))
         | inr past ↦ past-not owner (release_coils plan owner s).coils coil (omega (arith, past, count, released-count (coil_numbers plan) s))
       ]
 

@@ -19,3 +19,4 @@ pub mod Silence
 pub mod Good
 pub mod Listed
 pub mod Held
+pub mod Guarded
