@@ -1,4 +1,6 @@
+pub mod Definitions
 pub mod DeviceEntries
+pub mod CoilEntries
 pub mod Contributions
 pub mod UsedNames
 pub mod View
