@@ -290,10 +290,10 @@ fn collect_posts<'a>(
     contributions: &mut Vec<Contribution<'a>>,
     names: &'a [Name],
 ) -> Result<(), AllocError>
-    ensures { OnOk result (contributions_view contributions.new.items ≡ contributions_view contributions.old.items ++ map post (texts (map name_view names.now))) }
+    ensures { OnOk result (contributions_view contributions.new.items ≡ contributions_view contributions.old.items ++ map (λ e. does (posts e)) (texts (map name_view names.now))) }
 {
     for name in names {
-        contributions.push(Contribution::Post(whole(&name.text)))?;
+        contributions.push(Contribution::Does(Effect::Post(whole(&name.text))))?;
     }
     Ok(())
 }
