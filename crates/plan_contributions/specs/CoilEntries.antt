@@ -21,23 +21,36 @@ limits_of_coil c = record {
   may_hold = c.may_hold;
 }
 
+-- what of a coil is said by its entry where nothing else says it, and whether the coil may be held
+pub record Defaults : Type 0 where
+  pub pulse_ms : ℕ
+  pub pulse_power : ℕ
+  pub hold_power : ℕ
+  pub may_hold : Bool
+
+abbrev pub defaults_of_coil : Coil → Defaults
+defaults_of_coil c = record { pulse_ms = c.pulse_ms; pulse_power = c.pulse_power; hold_power = c.hold_power; may_hold = c.may_hold }
+
+abbrev pub defaults_called : List SectionRows → List ℕ → Defaults
+defaults_called machine name = defaults_of_coil (coil_of_name machine name)
+
 -- a pulse, and a hold, of which nothing else is said
-abbrev pub own_pulse : Coil → Deed
+abbrev pub own_pulse : Defaults → Deed
 own_pulse c = pulse c.pulse_ms c.pulse_power
 
-abbrev pub own_hold : Coil → Deed
+abbrev pub own_hold : Defaults → Deed
 own_hold c = enable c.hold_power
 
 -- ---- coil players
 
 -- what is done with a coil: what the item does not say is by the coil's entry
-abbrev pub deed_by : Coil → CoilItem → CoilAction → Deed
+abbrev pub deed_by : Defaults → CoilItem → CoilAction → Deed
 deed_by c item actions.Pulse = pulse (unwrap_or item.pulse_ms c.pulse_ms) (unwrap_or item.pulse_power c.pulse_power)
 deed_by c item actions.Enable = enable (unwrap_or item.hold_power c.hold_power)
 deed_by c item actions.Disable = disable
 
 abbrev pub item_effect : List SectionRows → CoilItem → Effect
-item_effect machine item = works item.coil.text (deed_by (coil_of_name machine item.coil.text) item item.action)
+item_effect machine item = works item.coil.text (deed_by (defaults_called machine item.coil.text) item item.action)
 
 -- ---- flippers and autofire coils
 
@@ -45,15 +58,15 @@ item_effect machine item = works item.coil.text (deed_by (coil_of_name machine i
 -- main coil is enabled if it may be held, and else pulsed
 abbrev pub flipper_on : List SectionRows → Written → Option Written → List Effect
 flipper_on machine main (Some hold) =
-    works main.text (own_pulse (coil_of_name machine main.text)) ∷ works hold.text (own_hold (coil_of_name machine hold.text)) ∷ []
+    works main.text (own_pulse (defaults_called machine main.text)) ∷ works hold.text (own_hold (defaults_called machine hold.text)) ∷ []
 flipper_on machine main None =
-    let c = coil_of_name machine main.text in
+    let c = defaults_called machine main.text in
     works main.text (if c.may_hold then own_hold c else own_pulse c) ∷ []
 
 -- what has been enabled is disabled
 abbrev pub flipper_off : List SectionRows → Written → Option Written → List Effect
 flipper_off machine main (Some hold) = works hold.text disable ∷ []
-flipper_off machine main None = if (coil_of_name machine main.text).may_hold then works main.text disable ∷ [] else []
+flipper_off machine main None = if (defaults_called machine main.text).may_hold then works main.text disable ∷ [] else []
 
 abbrev pub flipper_device : List SectionRows → Flipper → Device
 flipper_device machine f = record {
@@ -70,5 +83,5 @@ autofire_device machine a = record {
   listens = a.switch.text ∷ [];
   handled = acts Enable a.enables ++ acts Disable a.disables;
   mentioned = [];
-  lists = (works a.coil.text (own_pulse (coil_of_name machine a.coil.text)) ∷ []) ∷ [];
+  lists = (works a.coil.text (own_pulse (defaults_called machine a.coil.text)) ∷ []) ∷ [];
 }

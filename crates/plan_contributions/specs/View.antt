@@ -9,6 +9,8 @@ use Rattle.plan_contributions.specs.declared.contribution.Deed as deeds
 use Rattle.plan_contributions.specs.declared.contribution.Deed.TheVariants as deed
 use Rattle.plan_contributions.specs.declared.contribution.Effect as effects
 use Rattle.plan_contributions.specs.declared.contribution.Effect.TheVariants as effect
+use Rattle.plan_contributions.specs.declared.collect_coils.Defaults as defaults
+use Rattle.plan_contributions.specs.CoilEntries.{Defaults}
 use Rattle.plan_contributions.specs.DeviceEntries.{Deed, pulse, enable, disable, Effect, posts, works}
 use Rattle.plan_contributions.specs.declared.contribution.Contribution as contributions
 use Rattle.plan_contributions.specs.declared.contribution.Contribution.TheVariants as contribution
@@ -17,6 +19,9 @@ use Rattle.plan_contributions.specs.Contributions.{Contribution, gives, reads, a
 -- the name that the parts make
 abbrev pub parts_text : Parts → List ℕ
 parts_text p = p.front.now ++ p.middle.now ++ p.end.now
+
+abbrev pub defaults_view : defaults.Defaults → Defaults
+defaults_view d = record { pulse_ms = d.pulse_ms; pulse_power = d.pulse_power; hold_power = d.hold_power; may_hold = d.may_hold }
 
 abbrev pub deed_view : deeds.Deed → Deed
 deed_view (deed.Pulse ms power) = pulse ms power

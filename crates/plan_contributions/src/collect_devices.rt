@@ -4,10 +4,10 @@ ghost use Rattle.std.specs.Prelude.{◌≡◌, ◌++◌, [], map, OnOk};
 ghost use Rattle.mpf_sections.specs.Typed.{control_of, controls_of, with_control};
 ghost use Rattle.mpf_sections.specs.View.{name_view, names_view, fields_view, entry_view, block_view, counter_view, step_block_view, timer_view};
 ghost use Rattle.plan_contributions.specs.DeviceEntries.{acts, direction_in_plan, is_none, block_settings, block_acts, block_mentions, block_event, or_own, block_lists, counter_settings, counter_device, step_acts, step_settings, step_device, control_act, controlled, timer_event, timer_lists, timer_settings, timer_device, device_of};
-ghost use Rattle.plan_contributions.specs.Contributions.{mentions, post_in, posts_from, texts, act_binding, device_contributions, where_device};
+ghost use Rattle.plan_contributions.specs.Contributions.{mentions, does_in, effects_from, posts, texts, act_binding, device_contributions, where_device};
 ghost use Rattle.plan_contributions.specs.View.{parts_text, contributions_view};
 
-use crate::contribution::{Aim, Contribution, Parts, Place, whole};
+use crate::contribution::{Aim, Contribution, Effect, Parts, Place, whole};
 use mpf_config::config::{ControlAction, Direction as WrittenDirection};
 use mpf_config::{
     ACCRUALS_NAME, Block, COUNTERS_NAME, Counter, Entry, Fields, Name, SEQUENCES_NAME, StepBlock,
@@ -66,7 +66,7 @@ pub fn direction_in_plan(direction: WrittenDirection) -> Direction
 }
 
 /// Each of the events does this with the row that came last.
-fn collect_acts<'a>(
+pub(crate) fn collect_acts<'a>(
     contributions: &mut Vec<Contribution<'a>>,
     place: Place,
     act: Act,
