@@ -8,9 +8,11 @@ use Rattle.mpf_sections.specs.Typed.{switches_in}
 use Rattle.mpf_sections.specs.TypedCoils.{coils_in, flippers_in, autofires_in}
 
 -- the coil of this name, if there is one; of two the later
+abbrev pub latest_coil : List ℕ → Option Coil → Coil → Option Coil
+latest_coil name found c = if bytes_eq name c.name.text then Some c else found
+
 abbrev pub coil_called : List SectionRows → List ℕ → Option Coil
-coil_called machine name =
-    fold (λ found c. if bytes_eq name c.name.text then Some c else found) None (flat_map coils_in machine)
+coil_called machine name = fold (latest_coil name) None (flat_map coils_in machine)
 
 -- in place of a coil where there is none: then there is no plan
 abbrev pub no_coil : Coil

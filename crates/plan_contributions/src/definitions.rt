@@ -1,10 +1,15 @@
 //! What the entries of the machine text say of others, found by name.
 
-ghost use Rattle.std.specs.Prelude.{◌≡◌, map, option_map, IfOk, OnOk};
-ghost use Rattle.mpf_sections.specs.View.{section_view, coil_view};
-ghost use Rattle.plan_contributions.specs.Definitions.{coil_called, has_switch, makes_quick};
+ghost use Rattle.std.specs.Prelude.{◌≡◌, ◌||◌, ℕ, List, fold, map, option_map, IfOk, OnOk};
+ghost use Rattle.std.specs.List.{list_any};
+ghost use Rattle.std.specs.Str.{bytes_eq};
+ghost use Rattle.mpf_sections.specs.Typed.{switch_of};
+ghost use Rattle.mpf_sections.specs.TypedCoils.{coil_of, flipper_of, autofire_of};
+ghost use Rattle.mpf_sections.specs.View.{entry_view, section_view, coil_view};
+ghost use Rattle.plan_contributions.specs.Definitions.{coil_called, latest_coil, has_switch, makes_quick};
+ghost use Rattle.plan_contributions.specs.Found.{found_coil, is_found, HasCoils, HasSwitches, HasQuick};
 
-use mpf_config::{Coil, Entry, Section, as_autofire, as_coil, as_flipper};
+use mpf_config::{Coil, Entry, Section, as_autofire, as_coil, as_flipper, as_switch};
 use std::alloc::{AllocError, Global};
 use std::collections::{BTreeMap, BTreeSet};
 use std::marker::Model;
@@ -76,4 +81,96 @@ impl<'a> Definitions<'a> {
     {
         self.quick.contains(name)
     }
+}
+
+/// The coils of all sections, by their names.
+fn coils_of<'a>(
+    alloc: Global,
+    sections: &'a [Section],
+) -> Result<BTreeMap<&'a [u8], Coil<'a>>, AllocError>
+    ensures { IfOk result (λ coils. HasCoils (map section_view sections.now) coils) }
+{
+    let mut coils = BTreeMap::new(alloc);
+    for section in sections {
+        add_coils(&mut coils, section.coils())?;
+    }
+    Ok(coils)
+}
+
+fn add_coils<'a>(
+    coils: &mut BTreeMap<&'a [u8], Coil<'a>>,
+    entries: &'a [Entry],
+) -> Result<(), AllocError>
+    ensures { OnOk result ((name : List ℕ) → found_coil coils.new name ≡ fold (latest_coil name) (found_coil coils.old name) (map coil_of (map entry_view entries.now))) }
+{
+    for entry in entries {
+        let coil = as_coil(entry);
+        coils.insert(&coil.name.text, coil)?;
+    }
+    Ok(())
+}
+
+/// The names of the switches of all sections.
+fn switches_of<'a>(
+    alloc: Global,
+    sections: &'a [Section],
+) -> Result<BTreeSet<&'a [u8]>, AllocError>
+    ensures { IfOk result (λ names. HasSwitches (map section_view sections.now) names) }
+{
+    let mut names = BTreeSet::new(alloc);
+    for section in sections {
+        add_switches(&mut names, section.switches())?;
+    }
+    Ok(names)
+}
+
+fn add_switches<'a>(
+    names: &mut BTreeSet<&'a [u8]>,
+    entries: &'a [Entry],
+) -> Result<(), AllocError>
+    ensures { OnOk result ((name : List ℕ) → is_found names.new name ≡ (is_found names.old name || list_any (λ s. bytes_eq name s.name.text) (map switch_of (map entry_view entries.now)))) }
+{
+    for entry in entries {
+        names.insert(&as_switch(entry).name.text)?;
+    }
+    Ok(())
+}
+
+/// The names of the switches of all flippers and autofire coils.
+fn quick_of<'a>(
+    alloc: Global,
+    sections: &'a [Section],
+) -> Result<BTreeSet<&'a [u8]>, AllocError>
+    ensures { IfOk result (λ names. HasQuick (map section_view sections.now) names) }
+{
+    let mut names = BTreeSet::new(alloc);
+    for section in sections {
+        add_flippers(&mut names, section.flippers())?;
+        add_autofires(&mut names, section.autofires())?;
+    }
+    Ok(names)
+}
+
+fn add_flippers<'a>(
+    names: &mut BTreeSet<&'a [u8]>,
+    entries: &'a [Entry],
+) -> Result<(), AllocError>
+    ensures { OnOk result ((name : List ℕ) → is_found names.new name ≡ (is_found names.old name || list_any (bytes_eq name) (map (λ f. f.switch.text) (map flipper_of (map entry_view entries.now))))) }
+{
+    for entry in entries {
+        names.insert(as_flipper(entry).switch.text)?;
+    }
+    Ok(())
+}
+
+fn add_autofires<'a>(
+    names: &mut BTreeSet<&'a [u8]>,
+    entries: &'a [Entry],
+) -> Result<(), AllocError>
+    ensures { OnOk result ((name : List ℕ) → is_found names.new name ≡ (is_found names.old name || list_any (bytes_eq name) (map (λ a. a.switch.text) (map autofire_of (map entry_view entries.now))))) }
+{
+    for entry in entries {
+        names.insert(as_autofire(entry).switch.text)?;
+    }
+    Ok(())
 }
