@@ -6,9 +6,7 @@ ghost use Rattle.mpf_config.specs.View.{mode_view, rows_view};
 ghost use Rattle.plan_contributions.specs.Contributions.{active, inactive, does, posts, texts, contact_of, is_quick, kind_of, tag_event, active_posts, inactive_posts, switch_contributions, player_contributions, starter, stopper, stopper_where, later_events, controls, mode_contributions, rows_in, rows_from, mode_rows, rows_of, entry, player, entry_contributions, player_entry_contributions, row_contributions};
 ghost use Rattle.plan_contributions.specs.View.{contributions_view, row_view, row_list_view};
 
-use crate::collect_coils::{
-    collect_autofire, collect_coil, collect_coil_player, collect_flipper,
-};
+use crate::collect_coils::{collect_autofire, collect_coil, collect_coil_player, collect_flipper};
 use crate::collect_devices::collect_device;
 use crate::contribution::{Aim, Contribution, Effect, Parts, Place, whole};
 use crate::definitions::Definitions;

@@ -111,10 +111,7 @@ fn add_coils<'a>(
 }
 
 /// The names of the switches of all sections.
-fn switches_of<'a>(
-    alloc: Global,
-    sections: &'a [Section],
-) -> Result<BTreeSet<&'a [u8]>, AllocError>
+fn switches_of<'a>(alloc: Global, sections: &'a [Section]) -> Result<BTreeSet<&'a [u8]>, AllocError>
     ensures { IfOk result (λ names. HasSwitches (map section_view sections.now) names) }
 {
     let mut names = BTreeSet::new(alloc);
@@ -124,10 +121,7 @@ fn switches_of<'a>(
     Ok(names)
 }
 
-fn add_switches<'a>(
-    names: &mut BTreeSet<&'a [u8]>,
-    entries: &'a [Entry],
-) -> Result<(), AllocError>
+fn add_switches<'a>(names: &mut BTreeSet<&'a [u8]>, entries: &'a [Entry]) -> Result<(), AllocError>
     ensures { OnOk result ((name : List ℕ) → is_found names.new name ≡ (is_found names.old name || list_any (λ s. bytes_eq name s.name.text) (map switch_of (map entry_view entries.now)))) }
 {
     for entry in entries {
@@ -137,10 +131,7 @@ fn add_switches<'a>(
 }
 
 /// The names of the switches of all flippers and autofire coils.
-fn quick_of<'a>(
-    alloc: Global,
-    sections: &'a [Section],
-) -> Result<BTreeSet<&'a [u8]>, AllocError>
+fn quick_of<'a>(alloc: Global, sections: &'a [Section]) -> Result<BTreeSet<&'a [u8]>, AllocError>
     ensures { IfOk result (λ names. HasQuick (map section_view sections.now) names) }
 {
     let mut names = BTreeSet::new(alloc);
@@ -151,10 +142,7 @@ fn quick_of<'a>(
     Ok(names)
 }
 
-fn add_flippers<'a>(
-    names: &mut BTreeSet<&'a [u8]>,
-    entries: &'a [Entry],
-) -> Result<(), AllocError>
+fn add_flippers<'a>(names: &mut BTreeSet<&'a [u8]>, entries: &'a [Entry]) -> Result<(), AllocError>
     ensures { OnOk result ((name : List ℕ) → is_found names.new name ≡ (is_found names.old name || list_any (bytes_eq name) (map (λ f. f.switch.text) (map flipper_of (map entry_view entries.now))))) }
 {
     for entry in entries {
@@ -163,10 +151,7 @@ fn add_flippers<'a>(
     Ok(())
 }
 
-fn add_autofires<'a>(
-    names: &mut BTreeSet<&'a [u8]>,
-    entries: &'a [Entry],
-) -> Result<(), AllocError>
+fn add_autofires<'a>(names: &mut BTreeSet<&'a [u8]>, entries: &'a [Entry]) -> Result<(), AllocError>
     ensures { OnOk result ((name : List ℕ) → is_found names.new name ≡ (is_found names.old name || list_any (bytes_eq name) (map (λ a. a.switch.text) (map autofire_of (map entry_view entries.now))))) }
 {
     for entry in entries {
