@@ -66,10 +66,10 @@ no
 #config_version=6
 switches:
   s_left:
-coils:
+coil:
   c_up:
 => Refused
-error 4 UnknownSection config/config.yaml 4 coils
+error 4 UnknownSection config/config.yaml 4 coil
 no
 
 === open quote

@@ -19,3 +19,4 @@ pub mod Leading
 pub mod Firsts
 pub mod Walking
 pub mod Finds
+pub mod Marked

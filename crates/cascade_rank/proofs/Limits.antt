@@ -1,6 +1,9 @@
--- How many events, bindings and rows a valid plan has at most.
-use Rattle.std.proofs.Common.{◌≤◌, length}
-use Rattle.plan_tables.specs.PlanView.{PlanView}
+-- How many events, bindings, rows and actions of a list a valid plan has at most.
+use Rattle.std.proofs.Common.{◌≡◌, ◌<◌, ◌≤◌, List, [], length, sym, subst}
+use Rattle.std.proofs.lemmas.List.Elements.{All-get_or}
+use Rattle.plan_tables.specs.PlanView.{PlanView, actions_at}
+use Rattle.plan_tables.specs.declared.entries.ListId.{ListId}
+use Rattle.plan_tables.specs.declared.entries.Action.{Action}
 use Rattle.plan_tables.specs.Valid.{IsValid}
 
 pub events-few : (plan : PlanView) → IsValid plan → length plan.events ≤ 4096
@@ -11,3 +14,7 @@ bindings-few plan valid = valid.binding_limit
 
 pub rows-few : (plan : PlanView) → IsValid plan → length plan.rows ≤ 1024
 rows-few plan valid = valid.row_limit
+
+pub actions-few : (plan : PlanView) → IsValid plan → (l : ListId) (actions : List Action) → l.0 < length plan.lists → actions ≡ actions_at plan l → length actions ≤ 1024
+actions-few plan valid l actions within is =
+    subst (λ (listed : List Action). length listed ≤ 1024) (sym is) (All-get_or (λ (listed : List Action). length listed ≤ 1024) plan.lists l.0 [] within valid.action_limit)

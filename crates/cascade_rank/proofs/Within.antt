@@ -4,7 +4,7 @@ use Rattle.std.specs.List.{All, AllByRecursion}
 use Rattle.std.proofs.lemmas.Bool.{cases_lt, or_cases, eqb-true, false≢true}
 use Rattle.std.proofs.lemmas.List.Elements.{recursion_from_All, All-get_or, All-weaker, All-nil, All-cons, All-append, All-filter}
 use Rattle.std.proofs.lemmas.List.{get_or_past}
-use Rattle.plan_tables.specs.PlanView.{PlanView, no_mode, mode_at, mode_event, work_of, no_switch, switch_at, actions_at, posts_of, bound_to, is_owner, list_of_row, row_at, row_numbers, rows_of}
+use Rattle.plan_tables.specs.PlanView.{PlanSwitch, PlanView, no_mode, mode_at, mode_event, work_of, no_switch, switch_at, act_of_listener, listeners_of, actions_at, posts_of, bound_to, is_owner, list_of_row, row_at, row_numbers, rows_of}
 use Rattle.plan_tables.specs.Devices.{list_count}
 use Rattle.plan_tables.specs.declared.entries.ModeId.{ModeId}
 use Rattle.plan_tables.specs.declared.entries.ModeEvent.{ModeEvent}
@@ -12,12 +12,13 @@ use Rattle.plan_tables.specs.declared.entries.ModeEvent.TheVariants.{WillStart, 
 use Rattle.plan_tables.specs.declared.entries.Work.{Work}
 use Rattle.plan_tables.specs.declared.entries.Work.TheVariants as works
 use Rattle.plan_tables.proofs.Worked.{work_found}
-use Rattle.plan_tables.specs.Valid.{IsEventWithin, IsModeWithin, IsWorkAt, IsActionWithin, IsTargetWithin, IsBindingWithin, IsSwitchWithin, HasEntries}
+use Rattle.plan_tables.specs.Valid.{IsEventWithin, IsModeWithin, IsWorkAt, IsActionWithin, IsTargetWithin, IsBindingWithin, IsSwitchWithin, IsListenerWithin, HasEntries}
 use Rattle.plan_tables.specs.declared.entries.EventId.{EventId}
 use Rattle.plan_tables.specs.declared.entries.SwitchId.{SwitchId}
+use Rattle.plan_tables.specs.declared.entries.Listener.{Listener}
 use Rattle.plan_tables.specs.declared.entries.ListId.{ListId}
 use Rattle.plan_tables.specs.declared.entries.Action.{Action}
-use Rattle.plan_tables.specs.declared.entries.Action.TheVariants.{Post}
+use Rattle.plan_tables.specs.declared.entries.Action.TheVariants.{Post, Pulse, Enable, Disable}
 use Rattle.plan_tables.specs.declared.entries.Target.{Target}
 use Rattle.plan_tables.specs.declared.entries.Target.TheVariants.{Run, Start, Stop, Act}
 use Rattle.plan_tables.specs.declared.entries.Owner.TheVariants as owners
@@ -26,7 +27,7 @@ use Rattle.device_objects.specs.declared.device.Call.{Call}
 use Rattle.device_objects.specs.declared.device.Call.TheVariants as calls
 use Rattle.device_objects.specs.Outcomes.{outcomes}
 use Rattle.plan_tables.specs.declared.entries.Binding.{Binding}
-use Rattle.cascade_rank.specs.Cost.{Cost, Lines, Weight, Both, Greater, mentions, each_of, dearest_of, cost_of_post, cost_of_action, cost_of_list, cost_of_answer, cost_of_call, cost_of_target, cost_of_binding, led_by, cost_if_led, cost_of_starts, cost_of_work, cost_of_event, cost_of_acceptance, cost_of_switch, switches_of, cost_of_stimuli}
+use Rattle.cascade_rank.specs.Cost.{Cost, Lines, Weight, Both, Greater, mentions, each_of, dearest_of, cost_of_post, cost_of_action, cost_of_list, cost_of_answer, cost_of_call, cost_of_target, cost_of_binding, led_by, cost_if_led, cost_of_starts, cost_of_releases, cost_of_work, cost_of_event, cost_of_listener, cost_of_acceptance, cost_of_switch, switches_of, cost_of_stimuli}
 use Rattle.cascade_rank.specs.Below.{IsBelow}
 use Rattle.cascade_rank.specs.Mentions.{weights_in}
 use Rattle.cascade_rank.proofs.Outcomes.{outcomes_of_row}
@@ -76,6 +77,9 @@ weights-below n (Greater a b) h = All-append (IsEventWithin n) (weights_in a) (w
 
 pub IsBelow-action : (plan : PlanView) (a : Action) → IsActionWithin plan a → IsBelow (length plan.events) (cost_of_action plan a)
 IsBelow-action plan (Post e) h = h
+IsBelow-action plan (Pulse coil ms power) h = tt
+IsBelow-action plan (Enable coil power) h = tt
+IsBelow-action plan (Disable coil) h = tt
 
 module _ (plan : PlanView) (valid : HasEntries plan) where
   pub IsBelow-list : (l : ListId) → l.0 < length plan.lists → IsBelow (length plan.events) (cost_of_list plan l)
@@ -128,8 +132,17 @@ module _ (plan : PlanView) (valid : HasEntries plan) where
   IsBelow-starts (works.Mode m Stopping) = tt
   IsBelow-starts (works.Mode m Stopped) = tt
 
+  -- the lines of releases mention none
+  IsBelow-releases : (w : Work) → IsBelow (length plan.events) (cost_of_releases plan w)
+  IsBelow-releases works.Nothing = tt
+  IsBelow-releases (works.Mode m WillStart) = tt
+  IsBelow-releases (works.Mode m Starting) = tt
+  IsBelow-releases (works.Mode m Started) = tt
+  IsBelow-releases (works.Mode m Stopping) = tt
+  IsBelow-releases (works.Mode m Stopped) = tt
+
   pub IsBelow-work : (e : EventId) → IsBelow (length plan.events) (cost_of_work plan e)
-  IsBelow-work e = (IsBelow-starts (work_of plan e), IsBelow-led (work_of plan e) e (work_found plan e))
+  IsBelow-work e = (IsBelow-starts (work_of plan e), (IsBelow-releases (work_of plan e), IsBelow-led (work_of plan e) e (work_found plan e)))
 
   pub IsBelow-target : (t : Target) → IsTargetWithin plan t → IsBelow (length plan.events) (cost_of_target plan t)
   IsBelow-target (Run l) h = IsBelow-list l h
@@ -161,8 +174,24 @@ module _ (plan : PlanView) (valid : HasEntries plan) where
       by true h = h.0
       by false h = h.1
 
+  -- only devices of the plan listen to it; where there is none of its number, nothing does
+  pub listeners-below : (s : SwitchId) → All (IsListenerWithin (length plan.rows)) (listeners_of plan s)
+  listeners-below s = elim (cases_lt s.0 (length plan.switches)) [
+    | inl within ↦ All-get_or (λ (x : PlanSwitch). All (IsListenerWithin (length plan.rows)) x.listeners) plan.switches s.0 no_switch within valid.listeners
+    | inr past ↦ subst (λ (x : PlanSwitch). All (IsListenerWithin (length plan.rows)) x.listeners) (sym (get_or_past plan.switches s.0 no_switch past)) (All-nil (IsListenerWithin (length plan.rows)))
+  ]
+
+  IsBelow-listener : (active : Bool) (l : Listener) → IsListenerWithin (length plan.rows) l → IsBelow (length plan.events) (cost_of_listener plan active l)
+  IsBelow-listener active l h = IsBelow-call l.row (calls.Act (act_of_listener active l)) h
+
   pub IsBelow-acceptance : (s : SwitchId) (active : Bool) → IsBelow (length plan.events) (cost_of_acceptance plan s active)
-  IsBelow-acceptance s active = (tt, each_below (length plan.events) cost_of_post (IsEventWithin (length plan.events)) (λ e k. k) (posts_of plan s active) (posts-below s active))
+  IsBelow-acceptance s active = (
+    tt,
+    (
+      each_below (length plan.events) (cost_of_listener plan active) (IsListenerWithin (length plan.rows)) (IsBelow-listener active) (listeners_of plan s) (listeners-below s),
+      each_below (length plan.events) cost_of_post (IsEventWithin (length plan.events)) (λ e k. k) (posts_of plan s active) (posts-below s active),
+    ),
+  )
 
   pub IsBelow-switch : (s : SwitchId) → IsBelow (length plan.events) (cost_of_switch plan s)
   IsBelow-switch s = (IsBelow-acceptance s true, IsBelow-acceptance s false)
@@ -182,3 +211,7 @@ posts-within plan valid s active n es count is =
 pub posts_of_event-within : (plan : PlanView) → HasEntries plan → (e : EventId) (n : ℕ) (es : List EventId) → n ≡ length plan.events → es ≡ weights_in (cost_of_event plan e) → All (IsEventWithin n) es
 posts_of_event-within plan valid e n es count is =
     subst (λ (m : ℕ). All (IsEventWithin m) es) (sym count) (subst (All (IsEventWithin (length plan.events))) (sym is) (weights-below (length plan.events) (cost_of_event plan e) (IsBelow-event plan valid e)))
+
+-- devices of the plan listen to a switch
+pub listeners-within : (plan : PlanView) → HasEntries plan → (s : SwitchId) (ls : List Listener) → ls ≡ listeners_of plan s → All (IsListenerWithin (length plan.rows)) ls
+listeners-within plan valid s ls is = subst (All (IsListenerWithin (length plan.rows))) (sym is) (listeners-below plan valid s)

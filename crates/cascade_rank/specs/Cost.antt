@@ -1,12 +1,13 @@
 -- What a thing costs: the lines that it prints and the weights of the events that it posts, added up or compared.
 use Rattle.std.specs.Prelude.{ℕ, ◌+◌, max, Bool, true, false, ◌&&◌, ◌||◌, ◌==◌, Option, None, Some, List, [], ◌∷◌, length, map}
 use Rattle.std.specs.List.{range_with_len}
-use Rattle.plan_tables.specs.PlanView.{PlanView, posts_of, actions_at, bound_to, list_of_row, mode_event, row_at, row_numbers, rows_of, work_of}
+use Rattle.plan_tables.specs.PlanView.{PlanView, coils_enabled, act_of_listener, listeners_of, posts_of, actions_at, bound_to, list_of_row, mode_event, row_at, row_numbers, rows_of, work_of}
 use Rattle.plan_tables.specs.declared.entries.EventId.{EventId}
 use Rattle.plan_tables.specs.declared.entries.SwitchId.{SwitchId}
 use Rattle.plan_tables.specs.declared.entries.ListId.{ListId}
+use Rattle.plan_tables.specs.declared.entries.Listener.{Listener}
 use Rattle.plan_tables.specs.declared.entries.Action.{Action}
-use Rattle.plan_tables.specs.declared.entries.Action.TheVariants.{Post}
+use Rattle.plan_tables.specs.declared.entries.Action.TheVariants.{Post, Pulse, Enable, Disable}
 use Rattle.plan_tables.specs.declared.entries.Target.{Target}
 use Rattle.plan_tables.specs.declared.entries.Target.TheVariants.{Run, Start, Stop, Act}
 use Rattle.plan_tables.specs.declared.entries.ModeEvent.TheVariants.{WillStart, Starting, Started, Stopping, Stopped}
@@ -60,8 +61,12 @@ dearest_of cost (x ∷ xs) = Greater (cost x) (dearest_of cost xs)
 abbrev pub cost_of_post : EventId → Cost
 cost_of_post e = Weight e
 
+-- an action of a coil costs its line, whether its command is sent or skipped
 abbrev pub cost_of_action : PlanView → Action → Cost
 cost_of_action plan (Post e) = cost_of_post e
+cost_of_action plan (Pulse coil ms power) = Lines 1
+cost_of_action plan (Enable coil power) = Lines 1
+cost_of_action plan (Disable coil) = Lines 1
 
 -- the actions of an effect list
 abbrev pub cost_of_list : PlanView → ListId → Cost
@@ -108,17 +113,32 @@ cost_of_starts plan (Mode m Started) = each_of (λ r. cost_of_call plan r calls.
 cost_of_starts plan (Mode m Stopping) = Lines 0
 cost_of_starts plan (Mode m Stopped) = Lines 0
 
+-- a line for each coil that the mode may hold, at its event `stopping`
+abbrev pub cost_of_releases : PlanView → Work → Cost
+cost_of_releases plan Nothing = Lines 0
+cost_of_releases plan (Mode m WillStart) = Lines 0
+cost_of_releases plan (Mode m Starting) = Lines 0
+cost_of_releases plan (Mode m Started) = Lines 0
+cost_of_releases plan (Mode m Stopping) = Lines (length (coils_enabled plan (owners.Mode m)))
+cost_of_releases plan (Mode m Stopped) = Lines 0
+
 -- what the machine itself does at an event, before and after its handlers
 abbrev pub cost_of_work : PlanView → EventId → Cost
-cost_of_work plan e = Both (cost_of_starts plan (work_of plan e)) (cost_if_led (led_by plan (work_of plan e)))
+cost_of_work plan e =
+    Both (cost_of_starts plan (work_of plan e)) (Both (cost_of_releases plan (work_of plan e)) (cost_if_led (led_by plan (work_of plan e))))
 
 -- an event costs its line, all that is bound to it, and the machine's work
 abbrev pub cost_of_event : PlanView → EventId → Cost
 cost_of_event plan e = Both (Lines 1) (Both (each_of (cost_of_binding plan) (bound_to plan e)) (cost_of_work plan e))
 
--- to accept a switch as active or inactive costs its line and its posts
+-- the act of a device that listens to a switch
+abbrev pub cost_of_listener : PlanView → Bool → Listener → Cost
+cost_of_listener plan active l = cost_of_call plan l.row (calls.Act (act_of_listener active l))
+
+-- to accept a switch as active or inactive costs its line, the acts of the devices that listen to it, and its posts
 abbrev pub cost_of_acceptance : PlanView → SwitchId → Bool → Cost
-cost_of_acceptance plan switch active = Both (Lines 1) (each_of cost_of_post (posts_of plan switch active))
+cost_of_acceptance plan switch active =
+    Both (Lines 1) (Both (each_of (cost_of_listener plan active) (listeners_of plan switch)) (each_of cost_of_post (posts_of plan switch active)))
 
 -- the dearer of the two
 abbrev pub cost_of_switch : PlanView → SwitchId → Cost

@@ -15,3 +15,4 @@ pub mod Mentions
 pub mod Order
 pub mod Lowest
 pub mod Leaders
+pub mod Marks

@@ -9,6 +9,7 @@ mod leaders;
 pub mod least;
 mod posts;
 mod price;
+mod releases;
 pub mod verdict;
 mod walk;
 pub mod weights;

@@ -71,6 +71,7 @@ fn push_action(posts: &mut Vec<EventId>, plan: &Plan, action: Action) -> Result<
 {
     match action {
         Action::Post(posted) => posts.push(posted)?,
+        Action::Pulse { .. } | Action::Enable { .. } | Action::Disable { .. } => {}
     }
     Ok(())
 }

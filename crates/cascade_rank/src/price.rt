@@ -1,23 +1,27 @@
 //! What the parts of a plan cost at given weights.
 //!
-//! Nothing is cut off: a weight is below 2^32, and a plan has too few bindings and devices for a
-//! sum of their prices to reach 2^113.
+//! Nothing is cut off: a weight is below 2^32, and an effect list has at most 1,024 actions, so what a
+//! device answers costs at most 2^44. A plan has too few bindings and devices for a sum of their
+//! prices to reach 2^59. The listeners and posts of a switch for a sum of 2^109 do not fit into memory.
 
-ghost use Rattle.std.specs.Prelude.{◌≡◌, ◌+◌, ◌^◌, ◌<◌, ◌≤◌, length};
+ghost use Rattle.plan_tables.specs.declared.entries.EventId.{EventId as EventIdValue};
+ghost use Rattle.std.specs.Prelude.{ℕ, ◌≡◌, ◌+◌, ◌^◌, ◌<◌, ◌≤◌, length};
 ghost use Rattle.std.specs.List.{All};
-ghost use Rattle.plan_tables.specs.Valid.{IsActionWithin, IsTargetWithin, IsBindingWithin, IsEventWithin};
+ghost use Rattle.plan_tables.specs.Valid.{IsActionWithin, IsTargetWithin, IsBindingWithin, IsEventWithin, IsListenerWithin};
 ghost use Rattle.plan_tables.specs.declared.entries.Owner.TheVariants as owners;
 ghost use Rattle.plan_tables.specs.Devices.{list_count};
 ghost use Rattle.plan_tables.specs.PlanView.{bound_to, row_at, row_numbers, rows_of};
 ghost use Rattle.device_objects.specs.declared.device.Call.TheVariants as calls;
 ghost use Rattle.cascade_rank.specs.Events.{weight_of};
 ghost use Rattle.cascade_rank.specs.Mentions.{cost_of_start};
-ghost use Rattle.cascade_rank.specs.Cost.{price, each_of, dearest_of, cost_of_post, cost_of_action, cost_of_list, cost_of_answer, cost_of_call, cost_of_target, cost_of_binding, cost_of_starts, cost_of_work, cost_of_event, cost_of_switch, switches_of, cost_of_stimuli};
+ghost use Rattle.cascade_rank.specs.Cost.{price, each_of, dearest_of, cost_of_post, cost_of_action, cost_of_list, cost_of_answer, cost_of_call, cost_of_target, cost_of_binding, cost_of_starts, cost_of_releases, cost_of_work, cost_of_event, cost_of_listener, cost_of_acceptance, cost_of_switch, switches_of, cost_of_stimuli};
 
+use crate::releases::count_enabled;
 use crate::work::{is_of, led_by};
 use device_objects::{Call, outcomes};
 use plan_tables::{
-    Action, Binding, EventId, ListId, ModeEvent, ModeId, Plan, RowId, SwitchId, Target, Work,
+    Action, Binding, EventId, ListId, Listener, ModeEvent, ModeId, Owner, Plan, RowId, SwitchId,
+    Target, Work,
 };
 
 /// What an event costs: its line, all that is bound to it, and the machine's work.
@@ -25,7 +29,7 @@ pub(crate) fn need(plan: &Plan, weights: &[u32], event: EventId) -> u128
     requires event { event.0 < length plan.now.events }
     requires weights { length weights.now ≡ length plan.now.events }
     ensures price { result ≡ price (weight_of weights.now) (cost_of_event plan.now event) }
-    ensures small { result < 2 ^ 113 }
+    ensures small { result < 2 ^ 59 }
 {
     let bound = price_of_bound(plan, weights, event);
     let work = price_of_work(plan, weights, event);
@@ -37,12 +41,13 @@ fn price_of_work(plan: &Plan, weights: &[u32], event: EventId) -> u128
     requires event { event.0 < length plan.now.events }
     requires weights { length weights.now ≡ length plan.now.events }
     ensures price { result ≡ price (weight_of weights.now) (cost_of_work plan.now event) }
-    ensures small { result < 2 ^ 109 }
+    ensures small { result < 2 ^ 55 }
 {
     let starts = price_of_starts(plan, weights, plan.work(event));
+    let releases = price_of_releases(plan, plan.work(event));
     match led_by(plan, event) {
-        Some(led) => starts + price_of_post(weights, led),
-        None => starts,
+        Some(led) => starts + (releases + price_of_post(weights, led)),
+        None => starts + releases,
     }
 }
 
@@ -50,10 +55,21 @@ fn price_of_work(plan: &Plan, weights: &[u32], event: EventId) -> u128
 fn price_of_starts(plan: &Plan, weights: &[u32], work: Work) -> u128
     requires { length weights.now ≡ length plan.now.events }
     ensures price { result ≡ price (weight_of weights.now) (cost_of_starts plan.now work) }
-    ensures small { result ≤ 2 ^ 108 }
+    ensures small { result ≤ 2 ^ 54 }
 {
     match work {
         Work::Mode(mode, ModeEvent::Started) => price_of_devices(plan, weights, mode),
+        _ => 0,
+    }
+}
+
+/// The coils that a mode may hold, if the work is that of the mode's event `stopping`.
+fn price_of_releases(plan: &Plan, work: Work) -> u128
+    ensures price { (w : EventIdValue → ℕ) → result ≡ price w (cost_of_releases plan.now work) }
+    ensures small { result ≤ 256 }
+{
+    match work {
+        Work::Mode(mode, ModeEvent::Stopping) => count_enabled(plan, Owner::Mode(mode)) as u128,
         _ => 0,
     }
 }
@@ -62,7 +78,7 @@ fn price_of_starts(plan: &Plan, weights: &[u32], work: Work) -> u128
 fn price_of_devices(plan: &Plan, weights: &[u32], mode: ModeId) -> u128
     requires { length weights.now ≡ length plan.now.events }
     ensures price { result ≡ price (weight_of weights.now) (each_of (λ r. cost_of_call plan.now r calls.ModeStart) (rows_of plan.now (owners.Mode mode))) }
-    ensures small { result ≤ 2 ^ 108 }
+    ensures small { result ≤ 2 ^ 54 }
 {
     let mut total = 0u128;
     for number in 0..plan.rows().len() {
@@ -76,7 +92,7 @@ fn price_of_start(plan: &Plan, weights: &[u32], mode: ModeId, row: RowId) -> u12
     requires row { row.0 < length plan.now.rows }
     requires weights { length weights.now ≡ length plan.now.events }
     ensures price { result ≡ price (weight_of weights.now) (cost_of_start plan.now mode row) }
-    ensures small { result ≤ 2 ^ 98 }
+    ensures small { result ≤ 2 ^ 44 }
 {
     if is_of(plan.row(row).owner, mode) {
         price_of_call(plan, weights, row, Call::ModeStart)
@@ -90,7 +106,7 @@ fn price_of_bound(plan: &Plan, weights: &[u32], event: EventId) -> u128
     requires event { event.0 < length plan.now.events }
     requires weights { length weights.now ≡ length plan.now.events }
     ensures price { result ≡ 1 + price (weight_of weights.now) (each_of (cost_of_binding plan.now) (bound_to plan.now event)) }
-    ensures small { result < 2 ^ 112 + 2 }
+    ensures small { result < 2 ^ 58 + 2 }
 {
     let mut total = 1u128;
     for place in plan.bindings_of(event) {
@@ -104,7 +120,7 @@ fn price_of_binding(plan: &Plan, weights: &[u32], binding: Binding) -> u128
     requires binding { IsBindingWithin plan.now binding }
     requires weights { length weights.now ≡ length plan.now.events }
     ensures price { result ≡ price (weight_of weights.now) (cost_of_binding plan.now binding) }
-    ensures small { result ≤ 2 ^ 98 }
+    ensures small { result ≤ 2 ^ 44 }
 {
     price_of_target(plan, weights, binding.target)
 }
@@ -113,7 +129,7 @@ fn price_of_target(plan: &Plan, weights: &[u32], target: Target) -> u128
     requires target { IsTargetWithin plan.now target }
     requires weights { length weights.now ≡ length plan.now.events }
     ensures price { result ≡ price (weight_of weights.now) (cost_of_target plan.now target) }
-    ensures small { result ≤ 2 ^ 98 }
+    ensures small { result ≤ 2 ^ 44 }
 {
     match target {
         Target::Run(list) => price_of_list(plan, weights, list),
@@ -128,7 +144,7 @@ fn price_of_call(plan: &Plan, weights: &[u32], row: RowId, call: Call) -> u128
     requires row { row.0 < length plan.now.rows }
     requires weights { length weights.now ≡ length plan.now.events }
     ensures price { result ≡ price (weight_of weights.now) (cost_of_call plan.now row call) }
-    ensures small { result ≤ 2 ^ 98 }
+    ensures small { result ≤ 2 ^ 44 }
 {
     let answers = outcomes(&plan.row(row).settings, call);
     let mut dearest = 0u128;
@@ -145,7 +161,7 @@ fn price_of_answer(plan: &Plan, weights: &[u32], row: RowId, lists: &[u16]) -> u
     requires few { length lists.now ≤ 4 }
     requires weights { length weights.now ≡ length plan.now.events }
     ensures price { result ≡ price (weight_of weights.now) (cost_of_answer plan.now row lists.now) }
-    ensures small { result ≤ 2 ^ 98 }
+    ensures small { result ≤ 2 ^ 44 }
 {
     let mut total = 0u128;
     for list in lists {
@@ -158,16 +174,17 @@ fn price_of_list(plan: &Plan, weights: &[u32], list: ListId) -> u128
     requires list { list.0 < length plan.now.lists }
     requires weights { length weights.now ≡ length plan.now.events }
     ensures price { result ≡ price (weight_of weights.now) (cost_of_list plan.now list) }
-    ensures small { result < 2 ^ 96 }
+    ensures small { result ≤ 2 ^ 42 }
 {
     price_of_actions(plan, weights, plan.list(list))
 }
 
 fn price_of_actions(plan: &Plan, weights: &[u32], actions: &[Action]) -> u128
     requires actions { All (IsActionWithin plan.now) actions.now }
+    requires few { length actions.now ≤ 1024 }
     requires weights { length weights.now ≡ length plan.now.events }
     ensures price { result ≡ price (weight_of weights.now) (each_of (cost_of_action plan.now) actions.now) }
-    ensures small { result < 2 ^ 96 }
+    ensures small { result ≤ 2 ^ 42 }
 {
     let mut total = 0u128;
     for action in actions {
@@ -184,6 +201,7 @@ fn price_of_action(plan: &Plan, weights: &[u32], action: Action) -> u128
 {
     match action {
         Action::Post(event) => price_of_post(weights, event),
+        Action::Pulse { .. } | Action::Enable { .. } | Action::Disable { .. } => 1,
     }
 }
 
@@ -228,15 +246,42 @@ fn dearest_alarm(plan: &Plan, weights: &[u32]) -> u128
     bound
 }
 
-/// What the dearer acceptance of a switch costs: its line and its posts.
+/// What the dearer acceptance of a switch costs.
 fn price_of_switch(plan: &Plan, weights: &[u32], switch: SwitchId) -> u128
     requires switch { switch.0 < length plan.now.switches }
     requires weights { length weights.now ≡ length plan.now.events }
     ensures { result ≡ price (weight_of weights.now) (cost_of_switch plan.now switch) }
 {
-    let active = price_of_posts(weights, plan.posts(switch, true));
-    let inactive = price_of_posts(weights, plan.posts(switch, false));
-    1 + active.max(inactive)
+    let active = price_of_acceptance(plan, weights, switch, true);
+    let inactive = price_of_acceptance(plan, weights, switch, false);
+    active.max(inactive)
+}
+
+/// What it costs to accept a switch as active or inactive: its line, the acts of the devices that
+/// listen to it, and its posts.
+fn price_of_acceptance(plan: &Plan, weights: &[u32], switch: SwitchId, active: bool) -> u128
+    requires switch { switch.0 < length plan.now.switches }
+    requires weights { length weights.now ≡ length plan.now.events }
+    ensures { result ≡ price (weight_of weights.now) (cost_of_acceptance plan.now switch active) }
+{
+    let acts = price_of_listeners(plan, weights, plan.listeners(switch), active);
+    let posts = price_of_posts(weights, plan.posts(switch, active));
+    1 + acts + posts
+}
+
+/// What the acts of devices cost that listen to a switch.
+fn price_of_listeners(plan: &Plan, weights: &[u32], listeners: &[Listener], active: bool) -> u128
+    requires listeners { All (IsListenerWithin (length plan.now.rows)) listeners.now }
+    requires weights { length weights.now ≡ length plan.now.events }
+    ensures price { result ≡ price (weight_of weights.now) (each_of (cost_of_listener plan.now active) listeners.now) }
+    ensures small { result < 2 ^ 108 }
+{
+    let mut total = 0u128;
+    for listener in listeners {
+        let act = listener.act(active);
+        total += price_of_call(plan, weights, listener.row, Call::Act(act));
+    }
+    total
 }
 
 fn price_of_posts(weights: &[u32], posts: &[EventId]) -> u128

@@ -43,8 +43,5 @@ fn next_event(plan: &Plan, mode: ModeId, which: ModeEvent) -> Option<EventId>
 pub(crate) fn is_of(owner: Owner, mode: ModeId) -> bool
     ensures { result ≡ is_owner (owners.Mode mode) owner }
 {
-    match owner {
-        Owner::Machine => false,
-        Owner::Mode(acting) => mode.0 == acting.0,
-    }
+    Owner::Mode(mode).is(owner)
 }

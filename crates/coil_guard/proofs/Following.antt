@@ -4,8 +4,8 @@ use Rattle.std.proofs.lemmas.Bool.{false≢true, leb-true, ltb-true, cases_lt, c
 use Rattle.std.proofs.lemmas.List.{length-set, length-map, get_or_past, get_or-map, get_or-set_same, get_or-set_other}
 use Rattle.std.proofs.lemmas.List.Elements.{All-nil, All-push}
 use Rattle.plan_tables.specs.declared.entries.Owner.{Owner}
-use Rattle.coil_guard.specs.declared.limits.CoilId.{CoilId}
-use Rattle.coil_guard.specs.declared.limits.CoilLimits.{CoilLimits}
+use Rattle.plan_tables.specs.declared.entries.CoilId.{CoilId}
+use Rattle.plan_tables.specs.declared.entries.CoilLimits.{CoilLimits}
 use Rattle.coil_guard.specs.declared.command.Command.{Command}
 use Rattle.coil_guard.specs.declared.command.Command.TheVariants as commands
 use Rattle.coil_guard.specs.declared.command.Answer.TheVariants.{Sent, Skipped}

@@ -1,6 +1,6 @@
 -- The laws over lists of calls, by what each call keeps.
 use Rattle.std.proofs.Common.{ℕ, List, [], ◌∷◌, ◌++◌, sym, subst, append-nil, append_assoc}
-use Rattle.coil_guard.specs.declared.limits.CoilLimits.{CoilLimits}
+use Rattle.plan_tables.specs.declared.entries.CoilLimits.{CoilLimits}
 use Rattle.coil_guard.specs.declared.state.CoilState.{CoilState}
 use Rattle.coil_guard.specs.Coils.{all_off}
 use Rattle.coil_guard.specs.SentCommands.{Sending}

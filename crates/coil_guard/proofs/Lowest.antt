@@ -2,7 +2,7 @@
 use Rattle.std.proofs.Common.{◌≡◌, ℕ, ◌<◌, zero, suc, Bool, true, false, if◌then◌else◌, Option, Some, None, IfSome, List, [], ◌∷◌, length, slice_index_or, refl, ap, ap₂, sym, subst, ◌∙◌, inl, inr, arith}
 use Rattle.std.proofs.lemmas.Bool.{cases_eq}
 use Rattle.std.proofs.lemmas.Option.{none-some, same_Some}
-use Rattle.coil_guard.specs.declared.limits.CoilId.{CoilId}
+use Rattle.plan_tables.specs.declared.entries.CoilId.{CoilId}
 use Rattle.coil_guard.specs.declared.state.CoilState.{CoilState}
 use Rattle.coil_guard.specs.Limits.{no_limits}
 use Rattle.coil_guard.specs.CoilStep.{off}

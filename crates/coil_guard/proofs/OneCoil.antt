@@ -2,10 +2,10 @@
 use Rattle.std.proofs.Common.{◌≡◌, ◌⊎◌, ℕ, ◌+◌, ◌*◌, ◌<◌, ◌≤◌, ◌==◌, zero, suc, true, false, not, ◌&&◌, ◌||◌, Option, Some, None, is_some, List, [], ◌∷◌, ◌++◌, nat_le, nat_lt, refl, ap, ap₂, sym, ◌∙◌, inl, inr, arith}
 use Rattle.std.proofs.lemmas.Bool.{false≢true, not-true, ltb-true, leb-true, le-ltb, le-leb, eq-eqb, cases_lt, and_parts, and_from, and_left, and_right, or_cases, or_from, or_right}
 use Rattle.plan_tables.specs.declared.entries.Owner.{Owner}
-use Rattle.coil_guard.specs.declared.limits.CoilId.{CoilId}
-use Rattle.coil_guard.specs.declared.limits.CoilLimits.{CoilLimits}
+use Rattle.plan_tables.specs.declared.entries.CoilId.{CoilId}
+use Rattle.plan_tables.specs.declared.entries.CoilLimits.{CoilLimits}
 use Rattle.coil_guard.specs.declared.state.CoilState.{CoilState}
-use Rattle.coil_guard.specs.Owners.{is_owner}
+use Rattle.coil_guard.specs.Owners.{is_holder}
 use Rattle.coil_guard.specs.Limits.{is_pulse_within, is_hold_within}
 use Rattle.coil_guard.specs.CoilStep.{off, is_on_at, takes_pulse, pulsed, takes_enable, enabled, disabled}
 use Rattle.coil_guard.specs.SentCommands.{Sending, is_to, makes_rest, begins_on, ends_on, begins_hold, begins_hold_for, ends_hold, is_on, is_held, is_resting, IsOnThroughout}
@@ -13,7 +13,7 @@ use Rattle.coil_guard.specs.Calls.{pulse_sent, enable_sent, disable_sent}
 use Rattle.coil_guard.specs.Follows.{IsApart, IsFollowed}
 use Rattle.coil_guard.proofs.Lasting.{or-false, lasts-push, lasts-begun, lasts-kept, lasts-ended, any-push, lt-either}
 
-not-owner : (owner : Owner) (o : Option Owner) → is_some o ≡ false → is_owner owner o ≡ false
+not-owner : (owner : Owner) (o : Option Owner) → is_some o ≡ false → is_holder owner o ≡ false
 not-owner owner None free = refl
 not-owner owner (Some holder) free = absurd (false≢true (sym free))
 
@@ -197,8 +197,8 @@ module _ (coil : CoilId) (limits : CoilLimits) (sent : List Sending) (c : CoilSt
           ∙ (or_right (is_on sent coil later) true refl ∙ sym (or_right (nat_lt later c.pulse_end) true refl));
       held = lasts-begun (begins_hold coil) (ends_hold coil) sent (enable_sent coil power owner now) true (and_from (coil.0 == coil.0) true own refl) (and_right (coil.0 == coil.0) false refl) ∙ or_right (is_held sent coil) true refl;
       held_for = λ other.
-          lasts-begun (begins_hold_for other coil) (ends_hold coil) sent (enable_sent coil power owner now) (is_owner other (Some owner)) (ap (λ b. b && is_owner other (Some owner)) own) (and_right (coil.0 == coil.0) false refl)
-          ∙ ap (λ b. b || is_owner other (Some owner)) (f.held_for other ∙ not-owner other c.holder free-to);
+          lasts-begun (begins_hold_for other coil) (ends_hold coil) sent (enable_sent coil power owner now) (is_holder other (Some owner)) (ap (λ b. b && is_holder other (Some owner)) own) (and_right (coil.0 == coil.0) false refl)
+          ∙ ap (λ b. b || is_holder other (Some owner)) (f.held_for other ∙ not-owner other c.holder free-to);
       resting = λ t. any-push (λ s. is_to coil s.command && makes_rest t s.at s.command) sent (enable_sent coil power owner now) false (and_right (coil.0 == coil.0) false refl) ∙ (or-false (is_resting sent coil t) ∙ f.resting t);
       ends = f.ends;
       apart = λ barred. absurd (false≢true (sym barred ∙ permitted));
@@ -220,7 +220,7 @@ module _ (coil : CoilId) (limits : CoilLimits) (sent : List Sending) (c : CoilSt
         lasts-ended (begins_on coil later) (ends_on coil later) sent (disable_sent coil now) (and_right (coil.0 == coil.0) false refl) (and_from (coil.0 == coil.0) (nat_le now later) own (le-leb now later h))
         ∙ sym (or_from (nat_lt later 0) false (le-ltb later 0 (omega arith)) refl);
     held = lasts-ended (begins_hold coil) (ends_hold coil) sent (disable_sent coil now) (and_right (coil.0 == coil.0) false refl) (and_from (coil.0 == coil.0) true own refl);
-    held_for = λ owner. lasts-ended (begins_hold_for owner coil) (ends_hold coil) sent (disable_sent coil now) (and_right (coil.0 == coil.0) (false && is_owner owner None) refl) (and_from (coil.0 == coil.0) true own refl);
+    held_for = λ owner. lasts-ended (begins_hold_for owner coil) (ends_hold coil) sent (disable_sent coil now) (and_right (coil.0 == coil.0) (false && is_holder owner None) refl) (and_from (coil.0 == coil.0) true own refl);
     resting = λ t. any-push (λ s. is_to coil s.command && makes_rest t s.at s.command) sent (disable_sent coil now) false (and_right (coil.0 == coil.0) false refl) ∙ (or-false (is_resting sent coil t) ∙ f.resting t);
     ends = omega arith;
     apart = λ barred. record {

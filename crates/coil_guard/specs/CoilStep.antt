@@ -1,9 +1,9 @@
 -- A coil, and what is done with it.
 use Rattle.std.specs.Prelude.{ℕ, ◌+◌, ◌*◌, Bool, not, ◌&&◌, ◌||◌, None, Some, is_some, nat_le, nat_lt}
 use Rattle.plan_tables.specs.declared.entries.Owner.{Owner}
-use Rattle.coil_guard.specs.declared.limits.CoilLimits.{CoilLimits}
+use Rattle.plan_tables.specs.declared.entries.CoilLimits.{CoilLimits}
 use Rattle.coil_guard.specs.declared.state.CoilState.{CoilState}
-use Rattle.coil_guard.specs.Owners.{is_owner}
+use Rattle.coil_guard.specs.Owners.{is_holder}
 use Rattle.coil_guard.specs.Limits.{is_pulse_within, is_hold_within}
 
 -- a coil to which nothing has been sent
@@ -16,7 +16,7 @@ is_on_at moment c = nat_lt moment c.pulse_end || is_some c.holder
 
 -- whether this owner holds the coil
 abbrev pub is_held_by : Owner → CoilState → Bool
-is_held_by owner c = is_owner owner c.holder
+is_held_by owner c = is_holder owner c.holder
 
 -- ---- pulse
 

@@ -2,10 +2,10 @@
 -- has the laws without a list of calls.
 use Rattle.std.specs.Prelude.{◌≡◌, ℕ, ◌+◌, ◌<◌, ◌≤◌, true, false, is_some, List, [], ◌++◌, length, nat_lt, All}
 use Rattle.plan_tables.specs.declared.entries.Owner.{Owner}
-use Rattle.coil_guard.specs.declared.limits.CoilId.{CoilId}
-use Rattle.coil_guard.specs.declared.limits.CoilLimits.{CoilLimits}
+use Rattle.plan_tables.specs.declared.entries.CoilId.{CoilId}
+use Rattle.plan_tables.specs.declared.entries.CoilLimits.{CoilLimits}
 use Rattle.coil_guard.specs.declared.state.CoilState.{CoilState}
-use Rattle.coil_guard.specs.Owners.{is_owner}
+use Rattle.coil_guard.specs.Owners.{is_holder}
 use Rattle.coil_guard.specs.Limits.{limits_at, IsWithin}
 use Rattle.coil_guard.specs.CoilStep.{is_on_at}
 use Rattle.coil_guard.specs.Coils.{coil_at, all_off}
@@ -23,7 +23,7 @@ pub record IsFollowed (coil : CoilId) (limits : CoilLimits) (sent : List Sending
   pub limits_are : c.limits ≡ limits
   pub on : (later : ℕ) → at ≤ later → is_on sent coil later ≡ is_on_at later c
   pub held : is_held sent coil ≡ is_some c.holder
-  pub held_for : (owner : Owner) → is_held_for sent owner coil ≡ is_owner owner c.holder
+  pub held_for : (owner : Owner) → is_held_for sent owner coil ≡ is_holder owner c.holder
   pub resting : (t : ℕ) → is_resting sent coil t ≡ nat_lt t c.ready
   pub ends : c.pulse_end ≤ c.ready
   pub apart : limits.may_hold ≡ false → IsApart coil limits sent c.ready

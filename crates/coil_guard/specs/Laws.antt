@@ -1,8 +1,8 @@
 -- What holds after every list of calls from `new` on whose moments do not go back.
 use Rattle.std.specs.Prelude.{◌≡◌, ℕ, ◌≤◌, false, List, length, All}
 use Rattle.plan_tables.specs.declared.entries.Owner.{Owner}
-use Rattle.coil_guard.specs.declared.limits.CoilId.{CoilId}
-use Rattle.coil_guard.specs.declared.limits.CoilLimits.{CoilLimits}
+use Rattle.plan_tables.specs.declared.entries.CoilId.{CoilId}
+use Rattle.plan_tables.specs.declared.entries.CoilLimits.{CoilLimits}
 use Rattle.coil_guard.specs.declared.state.CoilState.{CoilState}
 use Rattle.coil_guard.specs.Limits.{limits_at, IsWithin}
 use Rattle.coil_guard.specs.CoilStep.{is_on_at, is_held_by}

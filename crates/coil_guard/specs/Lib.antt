@@ -4,6 +4,7 @@ pub mod CoilStep
 pub mod Lowest
 pub mod Coils
 pub mod SentCommands
+pub mod Asked
 pub mod Calls
 pub mod Laws
 pub mod Follows

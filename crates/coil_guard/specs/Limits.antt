@@ -1,7 +1,7 @@
 -- What a coil may be sent.
 use Rattle.std.specs.Prelude.{◌≡◌, ◌≤◌, ℕ, Bool, true, false, ◌&&◌, List, nat_le, slice_index_or}
-use Rattle.coil_guard.specs.declared.limits.CoilId.{CoilId}
-use Rattle.coil_guard.specs.declared.limits.CoilLimits.{CoilLimits}
+use Rattle.plan_tables.specs.declared.entries.CoilId.{CoilId}
+use Rattle.plan_tables.specs.declared.entries.CoilLimits.{CoilLimits}
 use Rattle.coil_guard.specs.declared.command.Command.{Command}
 use Rattle.coil_guard.specs.declared.command.Command.TheVariants.{Pulse, Enable, Disable}
 

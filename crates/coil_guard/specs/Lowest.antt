@@ -1,6 +1,6 @@
 -- The lowest coil of which something is true.
 use Rattle.std.specs.Prelude.{◌≡◌, ◌<◌, ℕ, zero, suc, Bool, true, false, if◌then◌else◌, Option, None, Some}
-use Rattle.coil_guard.specs.declared.limits.CoilId.{CoilId}
+use Rattle.plan_tables.specs.declared.entries.CoilId.{CoilId}
 
 -- the first of two, if it is there
 abbrev pub first_of_two : Option CoilId → Option CoilId → Option CoilId

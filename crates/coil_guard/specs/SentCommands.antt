@@ -2,10 +2,10 @@
 use Rattle.std.specs.Prelude.{◌≡◌, ℕ, ◌+◌, ◌*◌, ◌<◌, ◌≤◌, ◌==◌, Bool, true, false, not, ◌&&◌, ◌||◌, Option, List, [], ◌∷◌, nat_le, nat_lt}
 use Rattle.std.specs.List.{list_all, list_any}
 use Rattle.plan_tables.specs.declared.entries.Owner.{Owner}
-use Rattle.coil_guard.specs.declared.limits.CoilId.{CoilId}
+use Rattle.plan_tables.specs.declared.entries.CoilId.{CoilId}
 use Rattle.coil_guard.specs.declared.command.Command.{Command}
 use Rattle.coil_guard.specs.declared.command.Command.TheVariants.{Pulse, Enable, Disable}
-use Rattle.coil_guard.specs.Owners.{is_owner}
+use Rattle.coil_guard.specs.Owners.{is_holder}
 
 -- a sent command, the moment at which it was sent, and for whom, if it is an enable
 pub record Sending : Type 0 where
@@ -63,7 +63,7 @@ abbrev pub begins_hold : CoilId → Sending → Bool
 begins_hold coil s = is_to coil s.command && is_enable s.command
 
 abbrev pub begins_hold_for : Owner → CoilId → Sending → Bool
-begins_hold_for owner coil s = is_to coil s.command && (is_enable s.command && is_owner owner s.owner)
+begins_hold_for owner coil s = is_to coil s.command && (is_enable s.command && is_holder owner s.owner)
 
 abbrev pub ends_hold : CoilId → Sending → Bool
 ends_hold coil s = is_to coil s.command && is_disable s.command

@@ -1,9 +1,8 @@
 //! The guard of all coils.
 
 use crate::command::{Answer, Command};
-use crate::limits::{CoilId, CoilLimits};
 use crate::state::CoilState;
-use plan_tables::Owner;
+use plan_tables::{CoilId, Owner, Plan};
 use std::alloc::{AllocError, Global};
 use std::marker::Model;
 
@@ -32,24 +31,41 @@ impl Model for Coils {
 impl Coils {
     ghost use Rattle.std.specs.Prelude.{◌≡◌, ◌<◌, ◌≤◌, ◌^◌, length, map, IfOk, IfSome};
     ghost use Rattle.coil_guard.specs.CoilStep.{off};
+    ghost use Rattle.coil_guard.specs.SentCommands.{coil_of};
+    ghost use Rattle.coil_guard.specs.Asked.{limits_of, after_asking, answer_asking};
     ghost use Rattle.coil_guard.specs.Coils.{all_off, after_pulse, answer_pulse, after_enable, answer_enable, after_disable, answer_disable, next_held, after_release, answer_release, next_on};
 
-    /// All coils, with their limits by number: at most 256. They are off. Only this call takes
-    /// memory.
+    /// The coils of a plan, with their limits. They are off. Only this call takes memory.
     ///
     /// # Errors
     ///
     /// `AllocError`: memory ran out.
-    pub fn new(alloc: Global, limits: &[CoilLimits]) -> Result<Coils, AllocError>
-        requires { length limits.now ≤ 256 }
-        ensures off { IfOk result (λ s. s ≡ all_off limits.now) }
-        ensures count { IfOk result (λ s. length s ≡ length limits.now) }
+    pub fn new(alloc: Global, plan: &Plan) -> Result<Coils, AllocError>
+        ensures off { IfOk result (λ s. s ≡ all_off (limits_of plan.now)) }
+        ensures count { IfOk result (λ s. length s ≡ length plan.now.coils) }
     {
-        let mut coils = Vec::with_capacity(alloc, limits.len())?;
-        for number in 0..limits.len() {
-            coils.push_reserved(CoilState::off(limits[number]));
+        let count = plan.coil_count();
+        let mut coils = Vec::with_capacity(alloc, count)?;
+        for number in 0..count {
+            coils.push_reserved(CoilState::off(plan.coil_limits(CoilId(number as u16))));
         }
         Ok(Coils { coils })
+    }
+
+    /// Does what `pulse`, `enable` or `disable` does, as the command says, which the owner asks for
+    /// at the moment `now`.
+    pub fn ask(&mut self, command: Command, owner: Owner, now: u64) -> Answer
+        requires coil { (coil_of command).0 < length self.old }
+        requires now { now < 2 ^ 40 }
+        ensures state { self.new ≡ after_asking command owner now self.old }
+        ensures answer { result ≡ answer_asking command owner now self.old }
+        ensures count { length self.new ≡ length self.old }
+    {
+        match command {
+            Command::Pulse { coil, ms, power } => self.pulse(coil, ms, power, now),
+            Command::Enable { coil, power } => self.enable(coil, power, owner, now),
+            Command::Disable { coil } => self.disable(coil, now),
+        }
     }
 
     /// Pulses the coil for so many milliseconds with this power, at the moment `now`, below 2^40.

@@ -1,6 +1,6 @@
 //! Commands to coils.
 
-use crate::limits::CoilId;
+use plan_tables::CoilId;
 
 /// What a board is told to do with a coil. Powers are in thousandths of full power.
 #[derive(Clone, Copy, Debug, PartialEq, Eq)]

@@ -7,9 +7,8 @@ pub mod coils;
 pub mod command;
 pub mod fuse_board;
 pub mod law;
-pub mod limits;
+mod limits;
 pub mod memory_board;
-mod owner;
 pub mod state;
 
 pub use board::{Board, BoardFault};
@@ -20,6 +19,5 @@ pub use law::{
     answers_are_by_commands, commands_are_within_limits, fuse_board_faults_from_kth,
     guard_follows_commands, memory_board_keeps_latest,
 };
-pub use limits::{CoilId, CoilLimits};
 pub use memory_board::MemoryBoard;
 pub use state::CoilState;

@@ -3,9 +3,8 @@
 ghost use Rattle.std.specs.Prelude.{◌≡◌, ◌<◌, ◌^◌};
 ghost use Rattle.coil_guard.specs.CoilStep.{off, is_on_at, is_held_by, takes_pulse, pulsed, takes_enable, enabled, disabled};
 
-use crate::limits::CoilLimits;
-use crate::owner::is_same_owner;
-use plan_tables::Owner;
+use crate::limits::{is_hold_within, is_pulse_within};
+use plan_tables::{CoilLimits, Owner};
 
 /// A coil with what its guard remembers of it. Moments are milliseconds.
 #[derive(Clone, Copy, Debug)]
@@ -46,7 +45,7 @@ impl CoilState {
     {
         match self.holder {
             None => false,
-            Some(holder) => is_same_owner(holder, owner),
+            Some(holder) => holder.is(owner),
         }
     }
 
@@ -54,7 +53,7 @@ impl CoilState {
     pub(crate) fn takes_pulse(self, ms: u32, power: u16, now: u64) -> bool
         ensures { result ≡ takes_pulse ms power now self }
     {
-        !self.holder.is_some() && self.ready <= now && self.limits.is_pulse_within(ms, power)
+        !self.holder.is_some() && self.ready <= now && is_pulse_within(self.limits, ms, power)
     }
 
     /// The coil after a pulse is sent. It rests for as long as it was on, so that it is on for half
@@ -75,7 +74,7 @@ impl CoilState {
     pub(crate) fn takes_enable(self, power: u16) -> bool
         ensures { result ≡ takes_enable power self }
     {
-        !self.holder.is_some() && self.limits.is_hold_within(power)
+        !self.holder.is_some() && is_hold_within(self.limits, power)
     }
 
     /// The coil after an enable is sent for the owner.

@@ -16,6 +16,8 @@ use Rattle.device_objects.specs.declared.state.CounterSlot.{CounterSlot}
 use Rattle.device_objects.specs.declared.state.AccrualSlot.{AccrualSlot}
 use Rattle.device_objects.specs.declared.state.SequenceSlot.{SequenceSlot}
 use Rattle.device_objects.specs.declared.state.TimerState.{TimerState}
+use Rattle.device_objects.specs.declared.state.FlipperState.{FlipperState}
+use Rattle.device_objects.specs.declared.state.AutofireState.{AutofireState}
 use Rattle.device_objects.specs.declared.state.DeviceState.TheVariants as states
 use Rattle.device_objects.specs.declared.state.World.{World}
 use Rattle.device_objects.specs.Values.{clamped, is_at_end, moved}
@@ -24,8 +26,10 @@ use Rattle.device_objects.specs.Counter as counter
 use Rattle.device_objects.specs.Accrual as accrual
 use Rattle.device_objects.specs.Sequence as sequence
 use Rattle.device_objects.specs.Timer as timer
+use Rattle.device_objects.specs.Flipper as flipper
+use Rattle.device_objects.specs.Autofire as autofire
 use Rattle.device_objects.specs.Laws.{MayCome, AnswersAreOutcomes}
-use Rattle.device_objects.specs.Outcomes.{silent, only_if, completing, going_on, resetting, of_counter, of_accrual, of_sequence, of_timer, of_timer_act, timer_completing, outcomes}
+use Rattle.device_objects.specs.Outcomes.{silent, only_if, completing, going_on, resetting, of_counter, of_accrual, of_sequence, of_timer, of_timer_act, of_switch, of_flipper, of_autofire, timer_completing, outcomes}
 use Rattle.device_objects.proofs.Slots.{in_use-answers}
 
 -- ---- lists of answers
@@ -221,7 +225,7 @@ starts-in : (running : Bool) (s run : TimerState) (list : ℕ) → In (if◌then
 starts-in true s run list = here
 starts-in false s run list = there here
 
-stops-in : (running : Bool) (s halt : TimerState) (list : ℕ) → In (if◌then◌else◌ {A = TimerState × List ℕ} running (halt, list ∷ []) (s, [])).1 ([] ∷ (list ∷ []) ∷ [])
+stops-in : {S : Type 0} (running : Bool) (s halt : S) (list : ℕ) → In (if◌then◌else◌ {A = S × List ℕ} running (halt, list ∷ []) (s, [])).1 ([] ∷ (list ∷ []) ∷ [])
 stops-in true s halt list = there here
 stops-in false s halt list = here
 
@@ -248,6 +252,33 @@ timer-in t calls.Fire now s =
     ticked-in t (is_at_end t.direction t.end next.value) (timer.completed t now next) (timer.run t now next, []) (at_end-some t.direction t.end next.value) (completed-is t now next) refl
 timer-in t (calls.Act act) now s = timer_act-in t act now s
 
+-- ---- flippers and autofire coils
+
+switch-in : {S : Type 0} (ready : Bool) (i list : ℕ) (new old : S) → In (if◌then◌else◌ {A = S × List ℕ} (ready && (i == 0)) (new, list ∷ []) (old, [])).1 (of_switch i list)
+switch-in ready i list new old = either (ready && (i == 0)) (new, list ∷ []) (old, []) (λ is. there (if_holds (i == 0) (and_parts ready (i == 0) is).1 here)) (λ not. here)
+
+flipper_act-in : (act : Act) (s : FlipperState) → In (flipper.act_step act s).1 (of_flipper act)
+flipper_act-in acts.Disable s = stops-in s.on (record s { enabled = false }) (record s { enabled = false; on = false }) flipper.off
+flipper_act-in (acts.SwitchOn i) s = switch-in s.enabled i flipper.on (record s { on = true }) s
+flipper_act-in (acts.SwitchOff i) s = switch-in s.on i flipper.off (record s { on = false }) s
+flipper_act-in _ s = here
+
+flipper-in : (call : Call) (s : FlipperState) → MayCome call (states.Flipper s) → In (flipper.flipper_step call s).1 (outcomes kinds.Flipper call)
+flipper-in calls.ModeStart s may = here
+flipper-in calls.ModeStop s may = here
+flipper-in calls.Fire s may = absurd (false≢true may)
+flipper-in (calls.Act act) s may = flipper_act-in act s
+
+autofire_act-in : (act : Act) (s : AutofireState) → In (autofire.act_step act s).1 (of_autofire act)
+autofire_act-in (acts.SwitchOn i) s = switch-in s.enabled i autofire.fires s s
+autofire_act-in _ s = here
+
+autofire-in : (call : Call) (s : AutofireState) → MayCome call (states.Autofire s) → In (autofire.autofire_step call s).1 (outcomes kinds.Autofire call)
+autofire-in calls.ModeStart s may = here
+autofire-in calls.ModeStop s may = here
+autofire-in calls.Fire s may = absurd (false≢true may)
+autofire-in (calls.Act act) s may = autofire_act-in act s
+
 -- ---- all kinds
 
 pub answers_are_outcomes : AnswersAreOutcomes
@@ -255,15 +286,6 @@ answers_are_outcomes (kinds.Counter c) call now world (states.Counter slots) sha
 answers_are_outcomes (kinds.Accrual a) call now world (states.Accrual slots) shape may = contains (accrual-in a call world slots shape.0 may)
 answers_are_outcomes (kinds.Sequence q) call now world (states.Sequence slots) shape may = contains (sequence-in q call world slots shape may)
 answers_are_outcomes (kinds.Timer t) call now world (states.Timer s) shape may = contains (timer-in t call now s)
-answers_are_outcomes (kinds.Counter c) call now world (states.Accrual slots) shape may = elim shape [ ]
-answers_are_outcomes (kinds.Counter c) call now world (states.Sequence slots) shape may = elim shape [ ]
-answers_are_outcomes (kinds.Counter c) call now world (states.Timer s) shape may = elim shape [ ]
-answers_are_outcomes (kinds.Accrual a) call now world (states.Counter slots) shape may = elim shape [ ]
-answers_are_outcomes (kinds.Accrual a) call now world (states.Sequence slots) shape may = elim shape [ ]
-answers_are_outcomes (kinds.Accrual a) call now world (states.Timer s) shape may = elim shape [ ]
-answers_are_outcomes (kinds.Sequence q) call now world (states.Counter slots) shape may = elim shape [ ]
-answers_are_outcomes (kinds.Sequence q) call now world (states.Accrual slots) shape may = elim shape [ ]
-answers_are_outcomes (kinds.Sequence q) call now world (states.Timer s) shape may = elim shape [ ]
-answers_are_outcomes (kinds.Timer t) call now world (states.Counter slots) shape may = elim shape [ ]
-answers_are_outcomes (kinds.Timer t) call now world (states.Accrual slots) shape may = elim shape [ ]
-answers_are_outcomes (kinds.Timer t) call now world (states.Sequence slots) shape may = elim shape [ ]
+answers_are_outcomes kinds.Flipper call now world (states.Flipper s) shape may = contains (flipper-in call s may)
+answers_are_outcomes kinds.Autofire call now world (states.Autofire s) shape may = contains (autofire-in call s may)
+answers_are_outcomes _ call now world _ shape may = elim shape [ ]

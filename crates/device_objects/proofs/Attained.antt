@@ -23,6 +23,7 @@ use Rattle.device_objects.specs.declared.state.CounterSlot.{CounterSlot}
 use Rattle.device_objects.specs.declared.state.AccrualSlot.{AccrualSlot}
 use Rattle.device_objects.specs.declared.state.SequenceSlot.{SequenceSlot}
 use Rattle.device_objects.specs.declared.state.TimerState.{TimerState}
+use Rattle.device_objects.specs.declared.state.FlipperState.{FlipperState}
 use Rattle.device_objects.specs.declared.state.DeviceState.TheVariants as states
 use Rattle.device_objects.specs.declared.state.World.{World}
 use Rattle.device_objects.specs.Values.{clamped, is_at_end, moved}
@@ -31,11 +32,13 @@ use Rattle.device_objects.specs.Counter as counter
 use Rattle.device_objects.specs.Accrual as accrual
 use Rattle.device_objects.specs.Sequence as sequence
 use Rattle.device_objects.specs.Timer as timer
+use Rattle.device_objects.specs.Flipper as flipper
+use Rattle.device_objects.specs.Autofire as autofire
 use Rattle.device_objects.specs.DeviceStep.{first_state, device_step}
 use Rattle.device_objects.proofs.Shapes.{first-shape}
 use Rattle.device_objects.proofs.Answered.{completed-is}
 use Rattle.device_objects.specs.Laws.{IsAnswer, MayCome, OutcomesComeAbout}
-use Rattle.device_objects.specs.Outcomes.{silent, only_if, completing, going_on, resetting, of_counter, of_accrual, of_sequence, of_timer, of_timer_act, of_change, timer_completing}
+use Rattle.device_objects.specs.Outcomes.{silent, only_if, completing, going_on, resetting, of_counter, of_accrual, of_sequence, of_timer, of_timer_act, of_change, of_switch, of_flipper, of_autofire, timer_completing}
 
 -- ---- values
 
@@ -374,6 +377,38 @@ timer_come_about t calls.ModeStop within = one (IsAnswer (kinds.Timer t) calls.M
 timer_come_about t calls.Fire within = timer_ticks t within
 timer_come_about t (calls.Act act) within = timer_acts t act within
 
+-- ---- flippers and autofire coils
+
+switch_comes : (settings : Settings) (act : Act) (i list : ℕ) → IsAnswer settings (calls.Act act) [] → ((i == 0) ≡ true → IsAnswer settings (calls.Act act) (list ∷ [])) → All (IsAnswer settings (calls.Act act)) (of_switch i list)
+switch_comes settings act i list quiet told =
+    let Answer : List ℕ → Type 0 = IsAnswer settings (calls.Act act) in
+    All-cons Answer [] (only_if (i == 0) ((list ∷ []) ∷ [])) quiet (all_if Answer (i == 0) ((list ∷ []) ∷ []) (λ is. one Answer (list ∷ []) (told is)))
+
+flipper_answer : (act : Act) (lists : List ℕ) (s : FlipperState) → (flipper.act_step act s).1 ≡ lists → IsAnswer kinds.Flipper (calls.Act act) lists
+flipper_answer act lists s answers = record { now = 0; world = alone; state = states.Flipper s; shape = tt; may_come = tt; answer = answers }
+
+-- a flipper that is enabled and on
+abbrev up : FlipperState
+up = record { enabled = true; on = true }
+
+flipper_acts : (act : Act) → All (IsAnswer kinds.Flipper (calls.Act act)) (of_flipper act)
+flipper_acts acts.Disable =
+    let Answer : List ℕ → Type 0 = IsAnswer kinds.Flipper (calls.Act acts.Disable) in
+    All-cons Answer [] ((flipper.off ∷ []) ∷ []) (flipper_answer acts.Disable [] flipper.first_state refl) (one Answer (flipper.off ∷ []) (flipper_answer acts.Disable (flipper.off ∷ []) up refl))
+flipper_acts (acts.SwitchOn i) = switch_comes kinds.Flipper (acts.SwitchOn i) i flipper.on (flipper_answer (acts.SwitchOn i) [] flipper.first_state refl)
+    (λ is. flipper_answer (acts.SwitchOn i) (flipper.on ∷ []) up (if_true (i == 0) (up, flipper.on ∷ []) (up, []) is))
+flipper_acts (acts.SwitchOff i) = switch_comes kinds.Flipper (acts.SwitchOff i) i flipper.off (flipper_answer (acts.SwitchOff i) [] flipper.first_state refl)
+    (λ is. flipper_answer (acts.SwitchOff i) (flipper.off ∷ []) up (if_true (i == 0) (record up { on = false }, flipper.off ∷ []) (up, []) is))
+flipper_acts act = one (IsAnswer kinds.Flipper (calls.Act act)) [] (flipper_answer act [] flipper.first_state refl)
+
+autofire_answer : (act : Act) (lists : List ℕ) (enabled : Bool) → (autofire.act_step act (record { enabled = enabled })).1 ≡ lists → IsAnswer kinds.Autofire (calls.Act act) lists
+autofire_answer act lists enabled answers = record { now = 0; world = alone; state = states.Autofire (record { enabled = enabled }); shape = tt; may_come = tt; answer = answers }
+
+autofire_acts : (act : Act) → All (IsAnswer kinds.Autofire (calls.Act act)) (of_autofire act)
+autofire_acts (acts.SwitchOn i) = switch_comes kinds.Autofire (acts.SwitchOn i) i autofire.fires (autofire_answer (acts.SwitchOn i) [] false refl)
+    (λ is. autofire_answer (acts.SwitchOn i) (autofire.fires ∷ []) true (if_true (i == 0) (record { enabled = true }, autofire.fires ∷ []) (record { enabled = true }, []) is))
+autofire_acts act = one (IsAnswer kinds.Autofire (calls.Act act)) [] (autofire_answer act [] false refl)
+
 pub outcomes_come_about : OutcomesComeAbout
 outcomes_come_about (kinds.Counter c) (calls.Act act) limits = counter_acts c act limits
 outcomes_come_about (kinds.Counter c) calls.ModeStart limits = one (IsAnswer (kinds.Counter c) calls.ModeStart) [] (first_answer (kinds.Counter c) calls.ModeStart [] tt refl)
@@ -388,3 +423,11 @@ outcomes_come_about (kinds.Sequence q) calls.ModeStart limits = one (IsAnswer (k
 outcomes_come_about (kinds.Sequence q) calls.ModeStop limits = one (IsAnswer (kinds.Sequence q) calls.ModeStop) [] (first_answer (kinds.Sequence q) calls.ModeStop [] tt refl)
 outcomes_come_about (kinds.Sequence q) calls.Fire limits = none (IsAnswer (kinds.Sequence q) calls.Fire)
 outcomes_come_about (kinds.Timer t) call limits = timer_come_about t call limits.1
+outcomes_come_about kinds.Flipper (calls.Act act) limits = flipper_acts act
+outcomes_come_about kinds.Flipper calls.ModeStart limits = one (IsAnswer kinds.Flipper calls.ModeStart) [] (first_answer kinds.Flipper calls.ModeStart [] tt refl)
+outcomes_come_about kinds.Flipper calls.ModeStop limits = one (IsAnswer kinds.Flipper calls.ModeStop) [] (first_answer kinds.Flipper calls.ModeStop [] tt refl)
+outcomes_come_about kinds.Flipper calls.Fire limits = none (IsAnswer kinds.Flipper calls.Fire)
+outcomes_come_about kinds.Autofire (calls.Act act) limits = autofire_acts act
+outcomes_come_about kinds.Autofire calls.ModeStart limits = one (IsAnswer kinds.Autofire calls.ModeStart) [] (first_answer kinds.Autofire calls.ModeStart [] tt refl)
+outcomes_come_about kinds.Autofire calls.ModeStop limits = one (IsAnswer kinds.Autofire calls.ModeStop) [] (first_answer kinds.Autofire calls.ModeStop [] tt refl)
+outcomes_come_about kinds.Autofire calls.Fire limits = none (IsAnswer kinds.Autofire calls.Fire)

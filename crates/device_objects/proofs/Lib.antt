@@ -4,3 +4,4 @@ pub mod Shapes
 pub mod Answered
 pub mod Attained
 pub mod Moments
+pub mod Lists

@@ -66,42 +66,24 @@ module _ (t : TimerSettings) (now : ℕ) (some : 1 ≤ t.interval) (Before : ℕ
 pub arms-later : (settings : Settings) (call : Call) (now : ℕ) (world : World) (state : DeviceState) → IsWithinLimits settings
     → (due : ℕ) → due_of (device_step settings call now world state).0 ≡ Some due → (due_of state ≡ Some due) ⊎ (now < due)
 arms-later (kinds.Timer t) call now world (states.Timer s) limits due is = timer-later t now limits.0 (λ d. s.due ≡ Some d) call s (λ d same. inl same) due is
-arms-later (kinds.Timer t) call now world (states.Counter slots) limits due is = inl is
-arms-later (kinds.Timer t) call now world (states.Accrual slots) limits due is = inl is
-arms-later (kinds.Timer t) call now world (states.Sequence slots) limits due is = inl is
 arms-later (kinds.Counter c) call now world (states.Counter slots) limits due is = absurd (none-some due is)
-arms-later (kinds.Counter c) call now world (states.Accrual slots) limits due is = inl is
-arms-later (kinds.Counter c) call now world (states.Sequence slots) limits due is = inl is
-arms-later (kinds.Counter c) call now world (states.Timer s) limits due is = inl is
 arms-later (kinds.Accrual a) call now world (states.Accrual slots) limits due is = absurd (none-some due is)
-arms-later (kinds.Accrual a) call now world (states.Counter slots) limits due is = inl is
-arms-later (kinds.Accrual a) call now world (states.Sequence slots) limits due is = inl is
-arms-later (kinds.Accrual a) call now world (states.Timer s) limits due is = inl is
 arms-later (kinds.Sequence q) call now world (states.Sequence slots) limits due is = absurd (none-some due is)
-arms-later (kinds.Sequence q) call now world (states.Counter slots) limits due is = inl is
-arms-later (kinds.Sequence q) call now world (states.Accrual slots) limits due is = inl is
-arms-later (kinds.Sequence q) call now world (states.Timer s) limits due is = inl is
+arms-later kinds.Flipper call now world (states.Flipper s) limits due is = absurd (none-some due is)
+arms-later kinds.Autofire call now world (states.Autofire s) limits due is = absurd (none-some due is)
+arms-later _ call now world _ limits due is = inl is
 
 -- and so is a device that has fired
 pub fired-later : (settings : Settings) (now : ℕ) (world : World) (state : DeviceState) → IsWithinLimits settings → HasShape settings state
     → (due : ℕ) → due_of (device_step settings calls.Fire now world state).0 ≡ Some due → now < due
 fired-later (kinds.Timer t) now world (states.Timer s) limits shape due is =
     elim (ticked-later t now limits.0 (λ d. ⊥) (record s { value = moved t.direction (pos 1) s.value }) due is) [ inl never ↦ absurd never | inr later ↦ later ]
-fired-later (kinds.Timer t) now world (states.Counter slots) limits shape due is = absurd (none-some due is)
-fired-later (kinds.Timer t) now world (states.Accrual slots) limits shape due is = absurd (none-some due is)
-fired-later (kinds.Timer t) now world (states.Sequence slots) limits shape due is = absurd (none-some due is)
-fired-later (kinds.Counter c) now world (states.Timer s) limits shape due is = elim shape [ ]
 fired-later (kinds.Counter c) now world (states.Counter slots) limits shape due is = absurd (none-some due is)
-fired-later (kinds.Counter c) now world (states.Accrual slots) limits shape due is = elim shape [ ]
-fired-later (kinds.Counter c) now world (states.Sequence slots) limits shape due is = elim shape [ ]
-fired-later (kinds.Accrual a) now world (states.Timer s) limits shape due is = elim shape [ ]
 fired-later (kinds.Accrual a) now world (states.Accrual slots) limits shape due is = absurd (none-some due is)
-fired-later (kinds.Accrual a) now world (states.Counter slots) limits shape due is = elim shape [ ]
-fired-later (kinds.Accrual a) now world (states.Sequence slots) limits shape due is = elim shape [ ]
-fired-later (kinds.Sequence q) now world (states.Timer s) limits shape due is = elim shape [ ]
 fired-later (kinds.Sequence q) now world (states.Sequence slots) limits shape due is = absurd (none-some due is)
-fired-later (kinds.Sequence q) now world (states.Counter slots) limits shape due is = elim shape [ ]
-fired-later (kinds.Sequence q) now world (states.Accrual slots) limits shape due is = elim shape [ ]
+fired-later kinds.Flipper now world (states.Flipper s) limits shape due is = absurd (none-some due is)
+fired-later kinds.Autofire now world (states.Autofire s) limits shape due is = absurd (none-some due is)
+fired-later _ now world _ limits shape due is = elim shape [ ]
 
 -- at first nothing is due
 pub first-quiet : (settings : Settings) → due_of (first_state settings) ≡ None
@@ -109,26 +91,24 @@ first-quiet (kinds.Counter c) = refl
 first-quiet (kinds.Accrual a) = refl
 first-quiet (kinds.Sequence q) = refl
 first-quiet (kinds.Timer t) = refl
+first-quiet kinds.Flipper = refl
+first-quiet kinds.Autofire = refl
 
 -- nor when the device's mode has stopped; and to that it answers nothing
 pub stopped-quiet : (settings : Settings) (now : ℕ) (world : World) (state : DeviceState) → HasShape settings state → due_of (device_step settings calls.ModeStop now world state).0 ≡ None
 stopped-quiet (kinds.Timer t) now world (states.Timer s) shape = refl
-stopped-quiet (kinds.Timer t) now world (states.Counter slots) shape = elim shape [ ]
-stopped-quiet (kinds.Timer t) now world (states.Accrual slots) shape = elim shape [ ]
-stopped-quiet (kinds.Timer t) now world (states.Sequence slots) shape = elim shape [ ]
-stopped-quiet (kinds.Counter c) now world (states.Timer s) shape = elim shape [ ]
-stopped-quiet (kinds.Counter c) now world _ shape = refl
-stopped-quiet (kinds.Accrual a) now world (states.Timer s) shape = elim shape [ ]
-stopped-quiet (kinds.Accrual a) now world _ shape = refl
-stopped-quiet (kinds.Sequence q) now world (states.Timer s) shape = elim shape [ ]
-stopped-quiet (kinds.Sequence q) now world _ shape = refl
+stopped-quiet (kinds.Counter c) now world (states.Counter slots) shape = refl
+stopped-quiet (kinds.Accrual a) now world (states.Accrual slots) shape = refl
+stopped-quiet (kinds.Sequence q) now world (states.Sequence slots) shape = refl
+stopped-quiet kinds.Flipper now world (states.Flipper s) shape = refl
+stopped-quiet kinds.Autofire now world (states.Autofire s) shape = refl
+stopped-quiet _ now world _ shape = elim shape [ ]
 
 pub stopped-silent : (settings : Settings) (now : ℕ) (world : World) (state : DeviceState) → (device_step settings calls.ModeStop now world state).1 ≡ []
 stopped-silent (kinds.Counter c) now world (states.Counter slots) = refl
-stopped-silent (kinds.Counter c) now world _ = refl
 stopped-silent (kinds.Accrual a) now world (states.Accrual slots) = refl
-stopped-silent (kinds.Accrual a) now world _ = refl
 stopped-silent (kinds.Sequence q) now world (states.Sequence slots) = refl
-stopped-silent (kinds.Sequence q) now world _ = refl
 stopped-silent (kinds.Timer t) now world (states.Timer s) = refl
-stopped-silent (kinds.Timer t) now world _ = refl
+stopped-silent kinds.Flipper now world (states.Flipper s) = refl
+stopped-silent kinds.Autofire now world (states.Autofire s) = refl
+stopped-silent _ now world _ = refl

@@ -96,24 +96,17 @@ first-shape (kinds.Counter c) = refl
 first-shape (kinds.Accrual a) = (refl, All-replicate HasMarks 4 (accrual.first_slot a 0) refl)
 first-shape (kinds.Sequence q) = refl
 first-shape (kinds.Timer t) = tt
+first-shape kinds.Flipper = tt
+first-shape kinds.Autofire = tt
 
 step-shape : (settings : Settings) (call : Call) (now : ℕ) (world : World) (state : DeviceState) → HasShape settings state → HasShape settings (device_step settings call now world state).0
 step-shape (kinds.Counter c) call now world (states.Counter slots) four = counter_step-length c call now world slots ∙ four
 step-shape (kinds.Accrual a) call now world (states.Accrual slots) shape = (accrual_step-length a call world slots ∙ shape.0, accrual_step-marks a call world slots shape.1)
 step-shape (kinds.Sequence q) call now world (states.Sequence slots) four = sequence_step-length q call world slots ∙ four
 step-shape (kinds.Timer t) call now world (states.Timer s) shape = tt
-step-shape (kinds.Counter c) call now world (states.Accrual slots) shape = elim shape [ ]
-step-shape (kinds.Counter c) call now world (states.Sequence slots) shape = elim shape [ ]
-step-shape (kinds.Counter c) call now world (states.Timer s) shape = elim shape [ ]
-step-shape (kinds.Accrual a) call now world (states.Counter slots) shape = elim shape [ ]
-step-shape (kinds.Accrual a) call now world (states.Sequence slots) shape = elim shape [ ]
-step-shape (kinds.Accrual a) call now world (states.Timer s) shape = elim shape [ ]
-step-shape (kinds.Sequence q) call now world (states.Counter slots) shape = elim shape [ ]
-step-shape (kinds.Sequence q) call now world (states.Accrual slots) shape = elim shape [ ]
-step-shape (kinds.Sequence q) call now world (states.Timer s) shape = elim shape [ ]
-step-shape (kinds.Timer t) call now world (states.Counter slots) shape = elim shape [ ]
-step-shape (kinds.Timer t) call now world (states.Accrual slots) shape = elim shape [ ]
-step-shape (kinds.Timer t) call now world (states.Sequence slots) shape = elim shape [ ]
+step-shape kinds.Flipper call now world (states.Flipper s) shape = tt
+step-shape kinds.Autofire call now world (states.Autofire s) shape = tt
+step-shape _ call now world _ shape = elim shape [ ]
 
 pub states_keep_their_shape : StatesKeepTheirShape
 states_keep_their_shape = record { first = first-shape; step = step-shape }

@@ -8,12 +8,16 @@ use Rattle.device_objects.specs.declared.state.TimerState.{TimerState}
 use Rattle.device_objects.specs.declared.state.CounterSlot.{CounterSlot}
 use Rattle.device_objects.specs.declared.state.AccrualSlot.{AccrualSlot}
 use Rattle.device_objects.specs.declared.state.SequenceSlot.{SequenceSlot}
+use Rattle.device_objects.specs.declared.state.FlipperState.{FlipperState}
+use Rattle.device_objects.specs.declared.state.AutofireState.{AutofireState}
 use Rattle.device_objects.specs.declared.state.DeviceState.{DeviceState}
 use Rattle.device_objects.specs.declared.state.DeviceState.TheVariants as states
 use Rattle.device_objects.specs.Counter as counter
 use Rattle.device_objects.specs.Accrual as accrual
 use Rattle.device_objects.specs.Sequence as sequence
 use Rattle.device_objects.specs.Timer as timer
+use Rattle.device_objects.specs.Flipper as flipper
+use Rattle.device_objects.specs.Autofire as autofire
 
 -- the state at first
 abbrev pub first_state : Settings → DeviceState
@@ -21,6 +25,8 @@ first_state (kinds.Counter c) = states.Counter (counter.first_slots c)
 first_state (kinds.Accrual a) = states.Accrual (accrual.first_slots a)
 first_state (kinds.Sequence q) = states.Sequence (sequence.first_slots q)
 first_state (kinds.Timer t) = states.Timer (timer.first_state t)
+first_state kinds.Flipper = states.Flipper flipper.first_state
+first_state kinds.Autofire = states.Autofire autofire.first_state
 
 -- the moment at which the device is due, if there is one
 abbrev pub due_of : DeviceState → Option ℕ
@@ -39,10 +45,18 @@ sequence_answer a = (states.Sequence a.0, a.1)
 abbrev pub timer_answer : TimerState × List ℕ → DeviceState × List ℕ
 timer_answer a = (states.Timer a.0, a.1)
 
+abbrev pub flipper_answer : FlipperState × List ℕ → DeviceState × List ℕ
+flipper_answer a = (states.Flipper a.0, a.1)
+
+abbrev pub autofire_answer : AutofireState × List ℕ → DeviceState × List ℕ
+autofire_answer a = (states.Autofire a.0, a.1)
+
 -- The next state, and the numbers of the effect lists that are to run, in order. A state of another kind stays.
 abbrev pub device_step : Settings → Call → ℕ → World → DeviceState → DeviceState × List ℕ
 device_step (kinds.Counter c) call now world (states.Counter slots) = counter_answer (counter.counter_step c call now world slots)
 device_step (kinds.Accrual a) call now world (states.Accrual slots) = accrual_answer (accrual.accrual_step a call world slots)
 device_step (kinds.Sequence q) call now world (states.Sequence slots) = sequence_answer (sequence.sequence_step q call world slots)
 device_step (kinds.Timer t) call now world (states.Timer s) = timer_answer (timer.timer_step t call now s)
+device_step kinds.Flipper call now world (states.Flipper s) = flipper_answer (flipper.flipper_step call s)
+device_step kinds.Autofire call now world (states.Autofire s) = autofire_answer (autofire.autofire_step call s)
 device_step _ call now world state = (state, [])

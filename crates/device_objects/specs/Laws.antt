@@ -18,6 +18,8 @@ HasShape (kinds.Counter c) (states.Counter slots) = length slots ≡ 4
 HasShape (kinds.Accrual a) (states.Accrual slots) = (length slots ≡ 4) × All (λ s. length s.done ≡ 16) slots
 HasShape (kinds.Sequence q) (states.Sequence slots) = length slots ≡ 4
 HasShape (kinds.Timer t) (states.Timer s) = Unit {0}
+HasShape kinds.Flipper (states.Flipper s) = Unit {0}
+HasShape kinds.Autofire (states.Autofire s) = Unit {0}
 HasShape _ _ = ⊥
 
 -- The first state has the shape of its settings, and each step leaves it so.

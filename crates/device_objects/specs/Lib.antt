@@ -4,6 +4,8 @@ pub mod Counter
 pub mod Accrual
 pub mod Sequence
 pub mod Timer
+pub mod Flipper
+pub mod Autofire
 pub mod DeviceStep
 pub mod Outcomes
 pub mod Laws

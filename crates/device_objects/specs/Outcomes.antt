@@ -15,6 +15,8 @@ use Rattle.device_objects.specs.Slots.{updated, hit}
 use Rattle.device_objects.specs.Slots as block
 use Rattle.device_objects.specs.Timer.{started, stopped, paused, tick}
 use Rattle.device_objects.specs.Timer as timer
+use Rattle.device_objects.specs.Flipper.{on, off}
+use Rattle.device_objects.specs.Autofire.{fires}
 
 -- no list at all
 abbrev pub silent : List (List ℕ)
@@ -79,7 +81,21 @@ of_timer t calls.ModeStop = silent
 of_timer t calls.Fire = (tick ∷ []) ∷ only_if (is_some t.end) ((tick ∷ timer_completing t) ∷ [])
 of_timer t (calls.Act act) = of_timer_act t act
 
--- what a block answers to its acts; it is silent when its mode starts and stops, and never fires
+-- the list of a device whose only switch, which is switch 0, changes
+abbrev pub of_switch : ℕ → ℕ → List (List ℕ)
+of_switch i list = [] ∷ only_if (i == 0) ((list ∷ []) ∷ [])
+
+abbrev pub of_flipper : Act → List (List ℕ)
+of_flipper acts.Disable = [] ∷ (off ∷ []) ∷ []
+of_flipper (acts.SwitchOn i) = of_switch i on
+of_flipper (acts.SwitchOff i) = of_switch i off
+of_flipper _ = silent
+
+abbrev pub of_autofire : Act → List (List ℕ)
+of_autofire (acts.SwitchOn i) = of_switch i fires
+of_autofire _ = silent
+
+-- what a device that is never due answers to its acts; it is silent when its mode starts and stops
 abbrev pub by_act : (Act → List (List ℕ)) → Call → List (List ℕ)
 by_act answers calls.ModeStart = silent
 by_act answers calls.ModeStop = silent
@@ -92,3 +108,5 @@ outcomes (kinds.Counter c) call = by_act (of_counter c) call
 outcomes (kinds.Accrual a) call = by_act (of_accrual a) call
 outcomes (kinds.Sequence q) call = by_act (of_sequence q) call
 outcomes (kinds.Timer t) call = of_timer t call
+outcomes kinds.Flipper call = by_act of_flipper call
+outcomes kinds.Autofire call = by_act of_autofire call

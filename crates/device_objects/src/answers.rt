@@ -3,7 +3,7 @@
 ghost use Rattle.std.specs.Prelude.{◌≡◌, ◌+◌, ◌<◌, ◌≤◌, [], ◌∷◌, ◌++◌, length, map, is_some};
 ghost use Rattle.arrayvec.specs.ArrayVec.{array_vec_len};
 ghost use Rattle.device_objects.specs.declared.device.Call.TheVariants as calls;
-ghost use Rattle.device_objects.specs.Outcomes.{of_accrual, of_block, of_change, of_counter, of_sequence, of_timer, of_timer_act, only_if, outcomes, resetting, silent, timer_completing};
+ghost use Rattle.device_objects.specs.Outcomes.{of_accrual, of_autofire, of_block, of_change, of_counter, of_flipper, of_sequence, of_switch, of_timer, of_timer_act, only_if, outcomes, resetting, silent, timer_completing};
 
 use crate::device::{Call, Outcome};
 use crate::values::{clamped, is_at_end};
@@ -22,6 +22,8 @@ pub fn outcomes(settings: &Settings, call: Call) -> Outcomes
         (Settings::Accrual(accrual), Call::Act(act)) => of_accrual(accrual, act),
         (Settings::Sequence(sequence), Call::Act(act)) => of_sequence(sequence, act),
         (Settings::Timer(timer), call) => of_timer(timer, call),
+        (Settings::Flipper, Call::Act(act)) => of_flipper(act),
+        (Settings::Autofire, Call::Act(act)) => of_autofire(act),
         (_, Call::Fire) => none(),
         _ => silent(),
     }
@@ -168,5 +170,32 @@ fn of_timer(timer: &TimerSettings, call: Call) -> Outcomes
         Call::ModeStart | Call::ModeStop => silent(),
         Call::Fire => of_tick(timer),
         Call::Act(act) => of_timer_act(timer, act),
+    }
+}
+
+/// The list of a device whose only switch, which is switch 0, changes.
+fn of_switch(switch: usize, list: u16) -> Outcomes
+    ensures { map (λ o. o.items) result.items ≡ of_switch switch list }
+{
+    with_if(silent(), switch == 0, &[list])
+}
+
+fn of_flipper(act: Act) -> Outcomes
+    ensures { map (λ o. o.items) result.items ≡ of_flipper act }
+{
+    match act {
+        Act::Disable => with(silent(), &[1]),
+        Act::SwitchOn(switch) => of_switch(switch, 0),
+        Act::SwitchOff(switch) => of_switch(switch, 1),
+        _ => silent(),
+    }
+}
+
+fn of_autofire(act: Act) -> Outcomes
+    ensures { map (λ o. o.items) result.items ≡ of_autofire act }
+{
+    match act {
+        Act::SwitchOn(switch) => of_switch(switch, 0),
+        _ => silent(),
     }
 }

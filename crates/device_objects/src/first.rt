@@ -3,7 +3,9 @@
 ghost use Rattle.std.specs.Prelude.{◌≡◌};
 ghost use Rattle.device_objects.specs.DeviceStep.{first_state};
 
-use crate::state::{AccrualSlot, CounterSlot, DeviceState, SequenceSlot, TimerState};
+use crate::state::{
+    AccrualSlot, AutofireState, CounterSlot, DeviceState, FlipperState, SequenceSlot, TimerState,
+};
 use plan_tables::Settings;
 
 /// The state that a device of these settings has at first.
@@ -31,5 +33,10 @@ pub fn first_state(settings: &Settings) -> DeviceState
             value: timer.start,
             due: None,
         }),
+        Settings::Flipper => DeviceState::Flipper(FlipperState {
+            enabled: false,
+            on: false,
+        }),
+        Settings::Autofire => DeviceState::Autofire(AutofireState { enabled: false }),
     }
 }

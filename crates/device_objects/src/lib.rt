@@ -14,4 +14,7 @@ pub use answers::{Outcomes, outcomes};
 pub use device::{Call, Device, Outcome};
 pub use first::first_state;
 pub use same::{is_same_row, is_same_state};
-pub use state::{AccrualSlot, CounterSlot, DeviceState, SequenceSlot, TimerState, World};
+pub use state::{
+    AccrualSlot, AutofireState, CounterSlot, DeviceState, FlipperState, SequenceSlot, TimerState,
+    World,
+};

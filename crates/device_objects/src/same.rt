@@ -2,7 +2,9 @@
 
 ghost use Rattle.std.specs.Prelude.{◌≡◌, ◌↔◌, IsTrue};
 
-use crate::state::{AccrualSlot, CounterSlot, DeviceState, SequenceSlot, TimerState};
+use crate::state::{
+    AccrualSlot, AutofireState, CounterSlot, DeviceState, FlipperState, SequenceSlot, TimerState,
+};
 use plan_tables::{
     BlockSettings, CounterSettings, DeviceRow, Direction, Owner, Settings, StepSettings,
     TimerSettings,
@@ -26,6 +28,8 @@ pub fn is_same_state(a: &DeviceState, b: &DeviceState) -> bool
         (DeviceState::Accrual(a), DeviceState::Accrual(b)) => are_same_accruals(a, b),
         (DeviceState::Sequence(a), DeviceState::Sequence(b)) => are_same_sequences(a, b),
         (DeviceState::Timer(a), DeviceState::Timer(b)) => is_same_timer(a, b),
+        (DeviceState::Flipper(a), DeviceState::Flipper(b)) => is_same_flipper(a, b),
+        (DeviceState::Autofire(a), DeviceState::Autofire(b)) => is_same_autofire(a, b),
         _ => false,
     }
 }
@@ -95,6 +99,8 @@ fn is_same_settings(a: &Settings, b: &Settings) -> bool
         (Settings::Accrual(a), Settings::Accrual(b)) => is_same_step_kind(a, b),
         (Settings::Sequence(a), Settings::Sequence(b)) => is_same_step_kind(a, b),
         (Settings::Timer(a), Settings::Timer(b)) => is_same_timer_kind(a, b),
+        (Settings::Flipper, Settings::Flipper) => true,
+        (Settings::Autofire, Settings::Autofire) => true,
         _ => false,
     }
 }
@@ -127,6 +133,18 @@ fn is_same_timer(a: &TimerState, b: &TimerState) -> bool
     ensures { IsTrue result ↔ (a.now ≡ b.now) }
 {
     a.value == b.value && a.due == b.due
+}
+
+fn is_same_flipper(a: &FlipperState, b: &FlipperState) -> bool
+    ensures { IsTrue result ↔ (a.now ≡ b.now) }
+{
+    a.enabled == b.enabled && a.on == b.on
+}
+
+fn is_same_autofire(a: &AutofireState, b: &AutofireState) -> bool
+    ensures { IsTrue result ↔ (a.now ≡ b.now) }
+{
+    a.enabled == b.enabled
 }
 
 fn are_same_counters(a: &[CounterSlot; 4], b: &[CounterSlot; 4]) -> bool

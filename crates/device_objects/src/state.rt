@@ -53,6 +53,22 @@ pub struct TimerState {
     pub due: Option<u64>,
 }
 
+/// What a flipper remembers.
+#[derive(Clone, Copy)]
+pub struct FlipperState {
+    /// Whether its button moves it.
+    pub enabled: bool,
+    /// Whether it is up.
+    pub on: bool,
+}
+
+/// What an autofire coil remembers.
+#[derive(Clone, Copy)]
+pub struct AutofireState {
+    /// Whether its switch fires it.
+    pub enabled: bool,
+}
+
 /// What a device remembers. A persistent block has a slot for each player; another block uses only
 /// the first.
 #[derive(Clone, Copy)]
@@ -61,4 +77,6 @@ pub enum DeviceState {
     Accrual([AccrualSlot; 4]),
     Sequence([SequenceSlot; 4]),
     Timer(TimerState),
+    Flipper(FlipperState),
+    Autofire(AutofireState),
 }

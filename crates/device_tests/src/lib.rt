@@ -1,9 +1,11 @@
-//! Tests of the devices over their public calls: counters, accruals, sequences and timers, against a
-//! plain model of their own and in short scripts.
+//! Tests of the devices over their public calls: counters, accruals, sequences, timers, flippers and
+//! autofire coils, against plain models of their own and in short scripts.
 #![tactic(auto)]
 
 #[cfg(test)]
 mod calls;
+#[cfg(test)]
+mod coils;
 #[cfg(test)]
 mod drawing;
 #[cfg(test)]

@@ -15,7 +15,7 @@ use Rattle.mpf_sections.specs.Rows.{Content, entries, players, entry, listed, Se
 use Rattle.mpf_sections.specs.Typed.{listed_modes}
 use Rattle.mpf_sections.specs.Short.{IsShortContent, IsShortSection}
 use Rattle.mpf_sections.proofs.TableNames.{shape_short}
-use Rattle.mpf_sections.proofs.ShortRows.{none_short}
+use Rattle.mpf_sections.proofs.ShortRows.{none_short, one_short}
 use Rattle.mpf_config.specs.Rows.{Written, Rows}
 use Rattle.mpf_config.specs.BundleText.{Text}
 use Rattle.mpf_config.specs.Unread.{read_of, is_present, present_of}
@@ -31,10 +31,10 @@ use Rattle.mpf_config.proofs.Each.{All-from_zip}
 
 content_short : (kind : TextKind) (p : Pair) (content : Content) → IsContent within_limits kind p content → IsShortContent content
 content_short kind p (entries es) h =
-    (entries_short 1024 h.0 h.1 p es (shape_short 1024 kind p.key (by_entries h.0 h.1) h.2) h.3, All-nil (IsShortPlayer 1024), All-nil (IsShortEntry 1024), none_short)
+    (entries_short 1024 h.0 h.1 p es (shape_short 1024 one_short kind p.key (by_entries h.0 h.1) h.2) h.3, All-nil (IsShortPlayer 1024), All-nil (IsShortEntry 1024), none_short)
 content_short kind p (players ps) h = (All-nil (IsShortEntry 1024), players_short 1024 h.0 p ps h.2, All-nil (IsShortEntry 1024), none_short)
 content_short kind p (entry e) h =
-    let short = entry_short 1024 h.0 p e (shape_short 1024 kind p.key (by_entry h.0) h.1) h.2 in
+    let short = entry_short 1024 h.0 p e (shape_short 1024 one_short kind p.key (by_entry h.0) h.1) h.2 in
     (All-nil (IsShortEntry 1024), All-nil (IsShortPlayer 1024), All-cons (IsShortEntry 1024) e [] short (All-nil (IsShortEntry 1024)), none_short)
 content_short kind p (listed ws) h =
     let few : length ws ≤ 64 = lists.names_short 64 p ws h.1.listed in

@@ -11,7 +11,7 @@ use Rattle.section_tables.specs.EntryOf.{within}
 use Rattle.mpf_sections.specs.declared.words.Direction.{Direction}
 use Rattle.mpf_sections.specs.declared.words.Direction.TheVariants.{Up, Down}
 use Rattle.mpf_sections.specs.Rows.{Written, Control, SectionRows}
-use Rattle.mpf_sections.specs.Typed.{counters_name, accruals_name, sequences_name, timers_name, direction_of, word_of, limit_of, time_of, listed_steps, listed_maps, event_in, control_from, control_of, with_control, controls_of, end_from, interval_from, counter_of, step_block_of, timer_of, counters_in, accruals_in, sequences_in, timers_in, entries_of}
+use Rattle.mpf_sections.specs.Typed.{counters_name, accruals_name, sequences_name, timers_name, direction_of, word_of, limit_of, time_of, listed_steps, listed_maps, name_in, control_from, control_of, with_control, controls_of, end_from, interval_from, counter_of, step_block_of, timer_of, counters_in, accruals_in, sequences_in, timers_in, entries_of}
 use Rattle.mpf_sections.specs.Inside.{block_at}
 use Rattle.mpf_sections.specs.Named.{AllNames, IsNamedBlock, IsNamedCounter, IsNamedStepBlock, IsNamedTimer, IsNamed}
 use Rattle.mpf_sections.specs.Short.{IsEndInRange, IsShortBlock, IsShortCounter, IsShortStepBlock, IsShortTimer, IsShortSection}
@@ -65,7 +65,7 @@ step_block_named e h = record {
 abbrev HasName : Control → Type 0
 HasName c = IsName c.event.text
 
-abbrev IsNamedText : Option Plain → Type 0
+abbrev pub IsNamedText : Option Plain → Type 0
 IsNamedText None = Unit {0}
 IsNamedText (Some x) = IsNamedPlain x
 
@@ -74,20 +74,20 @@ text_at_named [] i h = tt
 text_at_named (x ∷ xs) zero h = h.0
 text_at_named (x ∷ xs) (suc i) h = text_at_named xs i h.1
 
-abbrev IsNamedWritten : Option Written → Type 0
+abbrev pub IsNamedWritten : Option Written → Type 0
 IsNamedWritten None = Unit {0}
 IsNamedWritten (Some w) = IsName w.text
 
-event_in_named : (o : Option Plain) → IsNamedText o → IsNamedWritten (event_in o)
-event_in_named None h = tt
-event_in_named (Some nothing) h = tt
-event_in_named (Some (flag b)) h = tt
-event_in_named (Some (number n)) h = tt
-event_in_named (Some (time ms)) h = tt
-event_in_named (Some (power n)) h = tt
-event_in_named (Some (word w)) h = tt
-event_in_named (Some (name w)) h = h
-event_in_named (Some (event e)) h = tt
+pub name_in_named : (o : Option Plain) → IsNamedText o → IsNamedWritten (name_in o)
+name_in_named None h = tt
+name_in_named (Some nothing) h = tt
+name_in_named (Some (flag b)) h = tt
+name_in_named (Some (number n)) h = tt
+name_in_named (Some (time ms)) h = tt
+name_in_named (Some (power n)) h = tt
+name_in_named (Some (word w)) h = tt
+name_in_named (Some (name w)) h = h
+name_in_named (Some (event e)) h = tt
 
 one_control : (m : Fields) (o : Option Written) → IsNamedWritten o → (cs : List Control) → All HasName cs → All HasName (with_control (control_from m o) cs)
 one_control m None h cs rest = rest
@@ -97,7 +97,7 @@ controls_named : (ms : List Fields) → AllByRecursion (λ m. AreNamedPlains m.v
 unfolding control_of
 controls_named [] h = All-nil HasName
 controls_named (m ∷ ms) h =
-    one_control m (event_in (slice_get m.values 0)) (event_in_named (slice_get m.values 0) (text_at_named m.values 0 h.0)) (controls_of ms) (controls_named ms h.1)
+    one_control m (name_in (slice_get m.values 0)) (name_in_named (slice_get m.values 0) (text_at_named m.values 0 h.0)) (controls_of ms) (controls_named ms h.1)
 
 maps_named : (o : Option Value) → IsNamedOption o → All HasName (controls_of (listed_maps o))
 maps_named None h = All-nil HasName

@@ -1,9 +1,14 @@
 -- What holds of each element of a list.
-use Rattle.std.proofs.Common.{Bool, true, false, if◌then◌else◌, List, []}
+use Rattle.std.proofs.Common.{Bool, true, false, if◌then◌else◌, map, List, [], ◌∷◌}
 use Rattle.std.specs.List.{All}
-use Rattle.std.proofs.lemmas.List.Elements.{All-nil}
+use Rattle.std.proofs.lemmas.List.Elements.{All-nil, All-cons}
 
 -- it holds of all, or of none
 pub all_where : {A : Type 0} (P : A → Type 0) (b : Bool) (xs : List A) → All P xs → All P (if b then xs else [])
 all_where P true xs h = h
 all_where P false xs h = All-nil P
+
+-- it holds of all that a function gives
+pub all_mapped : {A B : Type 0} (P : B → Type 0) (f : A → B) → ((x : A) → P (f x)) → (xs : List A) → All P (map f xs)
+all_mapped P f each [] = All-nil P
+all_mapped P f each (x ∷ xs) = All-cons P (f x) (map f xs) (each x) (all_mapped P f each xs)

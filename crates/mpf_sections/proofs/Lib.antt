@@ -3,3 +3,4 @@ pub mod Each
 pub mod RowNames
 pub mod ShortRows
 pub mod DeviceRows
+pub mod CoilRows

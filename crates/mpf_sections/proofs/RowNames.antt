@@ -47,7 +47,7 @@ posts_named (Some (steps xs)) h = All-nil is_name
 posts_named (Some (maps xs)) h = All-nil is_name
 posts_named (Some (keyed xs)) h = All-nil is_name
 
-event_named : (x : Plain) → IsNamedEvent x → IsName (event_name x).text
+pub event_named : (x : Plain) → IsNamedEvent x → IsName (event_name x).text
 event_named nothing h = absurd h
 event_named (flag b) h = absurd h
 event_named (number n) h = absurd h
@@ -118,7 +118,7 @@ players_in_named (listed ws) h = All-nil IsNamedPlayer
 pub entries_of_named : (section : List ℕ) (s : SectionRows) → IsNamed s → All IsNamedEntry (entries_of section s)
 entries_of_named section s h = all_where IsNamedEntry (bytes_eq s.name section) (entries_in s.content) (entries_in_named s.content h)
 
-players_of_named : (section : List ℕ) (s : SectionRows) → IsNamed s → All IsNamedPlayer (players_of section s)
+pub players_of_named : (section : List ℕ) (s : SectionRows) → IsNamed s → All IsNamedPlayer (players_of section s)
 players_of_named section s h = all_where IsNamedPlayer (bytes_eq s.name section) (players_in s.content) (players_in_named s.content h)
 
 -- The names in the switches of a section are names.

@@ -14,6 +14,9 @@ use Rattle.mpf_sections.proofs.Each.{all_where}
 pub none_short : 0 ≤ 1024
 none_short = omega arith
 
+pub one_short : 1 ≤ 1024
+one_short = omega arith
+
 abbrev pub IsShortOption : Option Value → Type 0
 IsShortOption None = Unit {0}
 IsShortOption (Some v) = IsShortValue 1024 v
@@ -23,7 +26,7 @@ value_at_short [] i h = tt
 value_at_short (v ∷ vs) zero h = All-head (IsShortValue 1024) v vs h
 value_at_short (v ∷ vs) (suc i) h = value_at_short vs i (All-tail (IsShortValue 1024) v vs h)
 
-names_short : (o : Option Value) → IsShortOption o → length (listed_names o) ≤ 1024
+pub names_short : (o : Option Value) → IsShortOption o → length (listed_names o) ≤ 1024
 names_short None h = none_short
 names_short (Some (one x)) h = none_short
 names_short (Some (names xs)) h = h.0

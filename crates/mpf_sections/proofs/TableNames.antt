@@ -1,15 +1,16 @@
 -- What holds of the shape of each section: a term for each, in the order of `machine_shapes` and `mode_shapes`.
-use Rattle.std.proofs.Common.{◌≡◌, ℕ, Bool, true, false, cond, List, [], ◌∷◌, Option, Some, refl, sym, subst}
+use Rattle.std.proofs.Common.{◌≡◌, ℕ, ◌≤◌, Bool, true, false, cond, List, [], ◌∷◌, Option, Some, refl, sym, subst, codes}
 use Rattle.std.specs.List.{AllByRecursion}
 use Rattle.std.specs.Str.{bytes_eq}
 use Rattle.std.proofs.lemmas.Option.{same_Some, none-some}
 use Rattle.mpf_sections.specs.declared.tables.TextKind.{TextKind}
 use Rattle.mpf_sections.specs.declared.tables.TextKind.TheVariants.{Machine, Mode}
+use Rattle.mpf_values.proofs.NameTexts.{IsName-from_is_name}
 use Rattle.section_tables.specs.Kinds.{Shape}
 use Rattle.section_tables.specs.Named.{IsNamedKinds, IsNamedTable, IsNamedShape, IsShortTable, IsShortShape}
-use Rattle.mpf_sections.specs.SectionTables.{switches, block, counters, step_blocks, timers, mode, event_player, machine_shapes, mode_shapes, named_in, shape_of}
+use Rattle.mpf_sections.specs.SectionTables.{switches, coils, rule_events, flippers, autofire_coils, block, counters, step_blocks, timers, mode, event_player, coil_player, machine_shapes, mode_shapes, named_in, shape_of}
 use Rattle.mpf_sections.specs.TableRules.{IsRight}
-use Rattle.section_tables.proofs.RowNames.{no_items}
+use Rattle.section_tables.proofs.RowNames.{no_items, few_items}
 use Rattle.section_tables.proofs.Steps.{word_is}
 
 -- ---- what holds of all that have a name
@@ -30,6 +31,37 @@ switches_named = ((tt, tt), ((tt, tt), ((tt, tt), ((tt, tt), ((tt, tt), tt)))))
 
 switches_short : (longest : ℕ) → IsShortTable longest switches
 switches_short longest = let none = no_items longest in (none, (none, (none, (none, (none, tt)))))
+
+-- ---- `coils`
+
+coils_named : IsNamedTable coils
+coils_named = ((tt, tt), ((tt, tt), ((tt, tt), ((tt, tt), ((tt, tt), ((tt, tt), ((tt, tt), tt)))))))
+
+coils_short : (longest : ℕ) → IsShortTable longest coils
+coils_short longest = let none = no_items longest in (none, (none, (none, (none, (none, (none, (none, tt)))))))
+
+-- ---- `flippers` and `autofire_coils`
+
+rule_events_named : IsNamedTable rule_events
+rule_events_named =
+    let starts = IsName-from_is_name (codes "ball_started") refl in
+    let ends = IsName-from_is_name (codes "ball_will_end") refl in
+    (((starts, tt), tt), (((ends, tt), tt), tt))
+
+flippers_named : IsNamedTable flippers
+flippers_named = ((tt, tt), ((tt, tt), ((tt, tt), rule_events_named)))
+
+autofire_coils_named : IsNamedTable autofire_coils
+autofire_coils_named = ((tt, tt), ((tt, tt), rule_events_named))
+
+rule_events_short : (longest : ℕ) → 1 ≤ longest → IsShortTable longest rule_events
+rule_events_short longest one = let first = few_items longest one in (first, (first, tt))
+
+flippers_short : (longest : ℕ) → 1 ≤ longest → IsShortTable longest flippers
+flippers_short longest one = let none = no_items longest in (none, (none, (none, rule_events_short longest one)))
+
+autofire_coils_short : (longest : ℕ) → 1 ≤ longest → IsShortTable longest autofire_coils
+autofire_coils_short longest one = let none = no_items longest in (none, (none, rule_events_short longest one))
 
 -- ---- `counters`, `accruals` and `sequences`
 
@@ -72,20 +104,26 @@ mode_short longest = let none = no_items longest in (none, (none, (none, (none, 
 player_named : IsNamedKinds event_player
 player_named = record { key = tt; value = tt }
 
+-- ---- `coil_player`
+
+coil_player_named : IsNamedKinds coil_player
+coil_player_named = record { key = tt; value = (tt, (tt, (tt, (tt, tt)))) }
+
 -- ---- the shapes of sections
 
 pub shape_named : (text : TextKind) (section : List ℕ) (shape : Shape) → shape_of text section ≡ Some shape → IsNamedShape shape
 shape_named Machine section shape is = holds_at (λ name s. IsNamedShape s) section shape machine_shapes is
-    (tt, (switches_named, (player_named, (counters_named, (step_blocks_named, (step_blocks_named, tt))))))
+    (tt, (switches_named, (coils_named, (flippers_named, (autofire_coils_named, (player_named, (coil_player_named, (counters_named, (step_blocks_named, (step_blocks_named, tt))))))))))
 shape_named Mode section shape is = holds_at (λ name s. IsNamedShape s) section shape mode_shapes is
-    (mode_named, (player_named, (timers_named, (counters_named, (step_blocks_named, (step_blocks_named, tt))))))
+    (mode_named, (player_named, (coil_player_named, (timers_named, (counters_named, (step_blocks_named, (step_blocks_named, tt)))))))
 
-pub shape_short : (longest : ℕ) (text : TextKind) (section : List ℕ) (shape : Shape) → shape_of text section ≡ Some shape → IsShortShape longest shape
-shape_short longest Machine section shape is = holds_at (λ name s. IsShortShape longest s) section shape machine_shapes is
-    (tt, (switches_short longest, (tt, (counters_short longest, (step_blocks_short longest, (step_blocks_short longest, tt))))))
-shape_short longest Mode section shape is = holds_at (λ name s. IsShortShape longest s) section shape mode_shapes is
-    (mode_short longest, (tt, (timers_short longest, (counters_short longest, (step_blocks_short longest, (step_blocks_short longest, tt))))))
+pub shape_short : (longest : ℕ) → 1 ≤ longest → (text : TextKind) (section : List ℕ) (shape : Shape) → shape_of text section ≡ Some shape → IsShortShape longest shape
+shape_short longest one Machine section shape is = holds_at (λ name s. IsShortShape longest s) section shape machine_shapes is
+    (tt, (switches_short longest, (coils_short longest, (flippers_short longest one, (autofire_coils_short longest one, (tt, (tt, (counters_short longest, (step_blocks_short longest, (step_blocks_short longest, tt))))))))))
+shape_short longest one Mode section shape is = holds_at (λ name s. IsShortShape longest s) section shape mode_shapes is
+    (mode_short longest, (tt, (tt, (timers_short longest, (counters_short longest, (step_blocks_short longest, (step_blocks_short longest, tt)))))))
 
 pub shape_right : (text : TextKind) (section : List ℕ) (shape : Shape) → shape_of text section ≡ Some shape → IsRight shape
-shape_right Machine section shape is = holds_at (λ name s. IsRight s) section shape machine_shapes is (tt, (refl, (refl, (refl, (refl, (refl, tt))))))
-shape_right Mode section shape is = holds_at (λ name s. IsRight s) section shape mode_shapes is (refl, (refl, (refl, (refl, (refl, (refl, tt))))))
+shape_right Machine section shape is = holds_at (λ name s. IsRight s) section shape machine_shapes is
+    (tt, (refl, (refl, (refl, (refl, (refl, (refl, (refl, (refl, (refl, tt))))))))))
+shape_right Mode section shape is = holds_at (λ name s. IsRight s) section shape mode_shapes is (refl, (refl, (refl, (refl, (refl, (refl, (refl, tt)))))))

@@ -2,6 +2,7 @@ pub mod SectionTables
 pub mod TableRules
 pub mod Rows
 pub mod Typed
+pub mod TypedCoils
 pub mod Named
 pub mod Short
 pub mod SectionView

@@ -1,8 +1,8 @@
 -- What it means that every name in the rows of a section is one: 1 to 64 letters, digits, `_`, `-` and `.`.
-use Rattle.std.specs.Prelude.{List}
+use Rattle.std.specs.Prelude.{List, IfSome}
 use Rattle.std.specs.List.{All}
 pub use Rattle.section_tables.specs.Named.{IsNamedEntry, IsNamedPlayer}
-use Rattle.mpf_sections.specs.Rows.{Written, Switch, EventPlayer, Block, Counter, StepBlock, Timer, ModeSettings, Content, entries, players, entry, listed, SectionRows}
+use Rattle.mpf_sections.specs.Rows.{Written, Switch, EventPlayer, Coil, CoilPlayer, Flipper, Autofire, Block, Counter, StepBlock, Timer, ModeSettings, Content, entries, players, entry, listed, SectionRows}
 pub use Rattle.mpf_values.specs.Names.{IsName}
 
 -- each name in a list is one
@@ -20,6 +20,32 @@ pub record IsNamedSwitch (s : Switch) : Type 0 where
 pub record IsNamedEventPlayer (p : EventPlayer) : Type 0 where
   pub event : IsName p.event.text
   pub posts : AllNames p.posts
+
+-- the name of a coil is one
+pub record IsNamedCoil (c : Coil) : Type 0 where
+  pub name : IsName c.name.text
+
+-- the name of the event that an entry handles is one, and so are those of the coils of which it says what they do
+pub record IsNamedCoilPlayer (p : CoilPlayer) : Type 0 where
+  pub event : IsName p.event.text
+  pub items : All (λ i. IsName i.coil.text) p.items
+
+-- the name of a flipper is one, and so are those of its coils, its switch and its events
+pub record IsNamedFlipper (f : Flipper) : Type 0 where
+  pub name : IsName f.name.text
+  pub main_coil : IsName f.main_coil.text
+  pub hold_coil : IfSome f.hold_coil (λ w. IsName w.text)
+  pub switch : IsName f.switch.text
+  pub enables : AllNames f.enables
+  pub disables : AllNames f.disables
+
+-- those of an autofire coil, too
+pub record IsNamedAutofire (a : Autofire) : Type 0 where
+  pub name : IsName a.name.text
+  pub coil : IsName a.coil.text
+  pub switch : IsName a.switch.text
+  pub enables : AllNames a.enables
+  pub disables : AllNames a.disables
 
 -- the events of a logic block are names
 pub record IsNamedBlock (b : Block) : Type 0 where

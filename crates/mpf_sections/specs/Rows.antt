@@ -4,6 +4,7 @@ use Rattle.mpf_sections.specs.declared.words.Contact.{Contact}
 use Rattle.mpf_sections.specs.declared.words.Debounce.{Debounce}
 use Rattle.mpf_sections.specs.declared.words.Direction.{Direction}
 use Rattle.mpf_sections.specs.declared.words.ControlAction.{ControlAction}
+use Rattle.mpf_sections.specs.declared.words.CoilAction.{CoilAction}
 pub use Rattle.section_tables.specs.Rows.{Written, Entry, Player}
 
 -- an entry of `switches`
@@ -19,6 +20,50 @@ pub record Switch : Type 0 where
 pub record EventPlayer : Type 0 where
   pub event : Written
   pub posts : List Written
+
+-- An entry of `coils`: the milliseconds and the power of a pulse of which nothing else is said, and the greatest ones;
+-- whether the coil may be held, the power with which it is held where nothing else is said, and the greatest one. Powers
+-- are in thousandths of full power.
+pub record Coil : Type 0 where
+  pub name : Written
+  pub pulse_ms : ℕ
+  pub max_pulse_ms : ℕ
+  pub pulse_power : ℕ
+  pub max_pulse_power : ℕ
+  pub may_hold : Bool
+  pub hold_power : ℕ
+  pub max_hold_power : ℕ
+
+-- what a coil does where an event is handled, and what is said of its pulse and of the power with which it is held
+pub record CoilItem : Type 0 where
+  pub coil : Written
+  pub action : CoilAction
+  pub pulse_ms : Option ℕ
+  pub pulse_power : Option ℕ
+  pub hold_power : Option ℕ
+
+-- an entry of `coil_player`: what coils do, as it is written
+pub record CoilPlayer : Type 0 where
+  pub event : Written
+  pub items : List CoilItem
+
+-- an entry of `flippers`: its coil, the one that holds it if there is another for that, its switch, and the events that
+-- enable and disable it
+pub record Flipper : Type 0 where
+  pub name : Written
+  pub main_coil : Written
+  pub hold_coil : Option Written
+  pub switch : Written
+  pub enables : List Written
+  pub disables : List Written
+
+-- an entry of `autofire_coils`: its coil, its switch, and the events that enable and disable it
+pub record Autofire : Type 0 where
+  pub name : Written
+  pub coil : Written
+  pub switch : Written
+  pub enables : List Written
+  pub disables : List Written
 
 -- what `mode` says of a mode: the events that start and stop it, its priority, whether it runs only in a game, and
 -- whether it stops with the ball

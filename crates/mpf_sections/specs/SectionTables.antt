@@ -1,10 +1,11 @@
 -- The tables of the sections: what settings each has. The order decides which of several missing settings is reported.
 use Rattle.std.specs.Prelude.{ℕ, pos, negsuc, true, false, if◌then◌else◌, List, [], ◌∷◌, Option, Some, None, codes}
 use Rattle.std.specs.Str.{bytes_eq}
-use Rattle.section_tables.specs.Rows.{nothing, flag, number, time, word, one, names, posts, maps}
+use Rattle.section_tables.specs.Rows.{nothing, flag, number, time, power, word, one, names, posts, maps}
+use Rattle.section_tables.specs.Entries.{written_at}
 use Rattle.mpf_sections.specs.declared.tables.TextKind.{TextKind}
 use Rattle.mpf_sections.specs.declared.tables.TextKind.TheVariants.{Machine, Mode}
-use Rattle.section_tables.specs.Kinds.{Scalar, a_flag, number_within, time_within, one_of, a_name, at_least, between, Absent, required, default, KeyRule, Field, single, name_list, post_list, step_list, map_list, Setting, PlayerKinds, Shape, by_entries, by_players, by_entry, by_names}
+use Rattle.section_tables.specs.Kinds.{Scalar, a_flag, number_within, time_within, a_power, one_of, a_name, at_least, between, Absent, required, default, KeyRule, Field, single, name_list, post_list, step_list, map_list, keyed_maps, Setting, PlayerKinds, Shape, by_entries, by_players, by_entry, by_names}
 
 abbrev row : {K V : Type 0} → List ℕ → K → Absent V → KeyRule K V
 row key kind absent = record { key = key; kind = kind; absent = absent }
@@ -51,6 +52,54 @@ mode =
 abbrev no : List ℕ → Setting
 no key = row key (single a_flag) (default (one (flag false)))
 
+-- the length of a pulse
+abbrev a_pulse : Scalar
+a_pulse = time_within 1 5000
+
+-- full power by default
+abbrev full_power : List ℕ → Setting
+full_power key = row key (single a_power) (default (one (power 1000)))
+
+-- a text of this kind, which may be left out
+abbrev optional : List ℕ → Scalar → Setting
+optional key kind = row key (single kind) (default (one nothing))
+
+abbrev pub coils : List Setting
+coils =
+    row (codes "default_pulse_ms") (single a_pulse) (default (one (time 10)))
+    ∷ optional (codes "max_pulse_ms") a_pulse
+    ∷ full_power (codes "default_pulse_power")
+    ∷ full_power (codes "max_pulse_power")
+    ∷ no (codes "allow_enable")
+    ∷ optional (codes "default_hold_power") a_power
+    ∷ optional (codes "max_hold_power") a_power
+    ∷ []
+
+-- a name that has to be written
+abbrev needed_name : List ℕ → Setting
+needed_name key = row key (single a_name) required
+
+-- names, this one by default
+abbrev naming_else : List ℕ → List ℕ → Setting
+naming_else key first = row key (name_list (at_least 0)) (default (names (written_at 0 first ∷ [])))
+
+-- the events that enable and disable a coil rule: by default when a ball starts, and when it ends
+abbrev pub rule_events : List Setting
+rule_events =
+    naming_else (codes "enable_events") (codes "ball_started")
+    ∷ naming_else (codes "disable_events") (codes "ball_will_end")
+    ∷ []
+
+abbrev pub flippers : List Setting
+flippers =
+    needed_name (codes "main_coil")
+    ∷ optional (codes "hold_coil") a_name
+    ∷ needed_name (codes "activation_switch")
+    ∷ rule_events
+
+abbrev pub autofire_coils : List Setting
+autofire_coils = needed_name (codes "coil") ∷ needed_name (codes "switch") ∷ rule_events
+
 -- a number of a setting
 abbrev any_number : Scalar
 any_number = number_within (negsuc 999999999) (pos 1000000000)
@@ -82,7 +131,7 @@ counters =
     row (codes "count_events") (name_list (at_least 0)) required
     ∷ from_zero (codes "starting_count")
     ∷ row (codes "count_interval") (single (number_within (pos 1) (pos 1000000))) (default (one (number (pos 1))))
-    ∷ row (codes "count_complete_value") (single any_number) (default (one nothing))
+    ∷ optional (codes "count_complete_value") any_number
     ∷ direction
     ∷ row (codes "multiple_hit_window") (single (time_within 0 4294967295)) (default (one (time 0)))
     ∷ block
@@ -102,7 +151,7 @@ control_events =
 abbrev pub timers : List Setting
 timers =
     from_zero (codes "start_value")
-    ∷ row (codes "end_value") (single any_number) (default (one nothing))
+    ∷ optional (codes "end_value") any_number
     ∷ direction
     ∷ row (codes "tick_interval") (single (time_within 1 4294967295)) (default (one (time 1000)))
     ∷ no (codes "start_running")
@@ -114,6 +163,23 @@ timers =
 abbrev pub event_player : PlayerKinds
 event_player = record { key = a_name; value = post_list (at_least 0) }
 
+-- what a coil does
+abbrev coil_action : Scalar
+coil_action = one_of (codes "pulse" ∷ codes "enable" ∷ codes "disable" ∷ [])
+
+-- what belongs to a coil in an entry of `coil_player`
+abbrev pub coil_item : List Field
+coil_item =
+    row (codes "action") coil_action required
+    ∷ row (codes "pulse_ms") a_pulse (default nothing)
+    ∷ row (codes "pulse_power") a_power (default nothing)
+    ∷ row (codes "hold_power") a_power (default nothing)
+    ∷ []
+
+-- an event, and what coils do where it is handled; an action may stand alone
+abbrev pub coil_player : PlayerKinds
+coil_player = record { key = a_name; value = keyed_maps coil_item 0 coil_action }
+
 -- ---- by name
 
 abbrev pub switches_name : List ℕ
@@ -121,6 +187,18 @@ switches_name = codes "switches"
 
 abbrev pub event_player_name : List ℕ
 event_player_name = codes "event_player"
+
+abbrev pub coils_name : List ℕ
+coils_name = codes "coils"
+
+abbrev pub flippers_name : List ℕ
+flippers_name = codes "flippers"
+
+abbrev pub autofire_coils_name : List ℕ
+autofire_coils_name = codes "autofire_coils"
+
+abbrev pub coil_player_name : List ℕ
+coil_player_name = codes "coil_player"
 
 abbrev pub counters_name : List ℕ
 counters_name = codes "counters"
@@ -159,7 +237,11 @@ abbrev pub machine_shapes : List (List ℕ × Shape)
 machine_shapes =
     (modes_name, by_names)
     ∷ (switches_name, by_entries [] switches)
+    ∷ (coils_name, by_entries [] coils)
+    ∷ (flippers_name, by_entries not_a_device flippers)
+    ∷ (autofire_coils_name, by_entries not_a_device autofire_coils)
     ∷ (event_player_name, by_players event_player)
+    ∷ (coil_player_name, by_players coil_player)
     ∷ block_shapes
 
 -- those of the text of a mode
@@ -167,6 +249,7 @@ abbrev pub mode_shapes : List (List ℕ × Shape)
 mode_shapes =
     (mode_name, by_entry mode)
     ∷ (event_player_name, by_players event_player)
+    ∷ (coil_player_name, by_players coil_player)
     ∷ (timers_name, by_entries not_a_device timers)
     ∷ block_shapes
 

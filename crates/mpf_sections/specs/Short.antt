@@ -1,8 +1,8 @@
 -- What it means that no list in a section has more than 1,024 items, and that settings are in their ranges.
-use Rattle.std.specs.Prelude.{◌≤◌, ℤ, pos, neg_ℤ, ◌≤ℤ◌, Option, IfSome, length}
+use Rattle.std.specs.Prelude.{ℕ, ◌≤◌, ℤ, pos, neg_ℤ, ◌≤ℤ◌, Option, IfSome, length}
 use Rattle.std.specs.List.{All}
 pub use Rattle.section_tables.specs.Named.{IsShortEntry, IsShortPlayer}
-use Rattle.mpf_sections.specs.Rows.{Switch, EventPlayer, Block, Counter, StepBlock, Timer, Content, SectionRows}
+use Rattle.mpf_sections.specs.Rows.{Switch, EventPlayer, Coil, CoilItem, CoilPlayer, Flipper, Autofire, Block, Counter, StepBlock, Timer, Content, SectionRows}
 use Rattle.mpf_sections.specs.Typed.{entries_in, players_in, entry_in, names_in}
 
 -- No list in a section is longer, whatever its settings are.
@@ -22,6 +22,39 @@ pub record IsShortSwitch (s : Switch) : Type 0 where
 
 abbrev pub IsShortEventPlayer : EventPlayer → Type 0
 IsShortEventPlayer p = length p.posts ≤ 1024
+
+-- the milliseconds of a pulse
+abbrev pub IsPulseInRange : ℕ → Type 0
+IsPulseInRange ms = (1 ≤ ms) × (ms ≤ 5000)
+
+-- a power, in thousandths of full power
+abbrev pub IsPowerInRange : ℕ → Type 0
+IsPowerInRange power = power ≤ 1000
+
+pub record IsCoilInRange (c : Coil) : Type 0 where
+  pub pulse_ms : IsPulseInRange c.pulse_ms
+  pub max_pulse_ms : IsPulseInRange c.max_pulse_ms
+  pub pulse_power : IsPowerInRange c.pulse_power
+  pub max_pulse_power : IsPowerInRange c.max_pulse_power
+  pub hold_power : IsPowerInRange c.hold_power
+  pub max_hold_power : IsPowerInRange c.max_hold_power
+
+-- what is said of a coil where an event is handled
+pub record IsItemInRange (i : CoilItem) : Type 0 where
+  pub pulse_ms : IfSome i.pulse_ms IsPulseInRange
+  pub pulse_power : IfSome i.pulse_power IsPowerInRange
+  pub hold_power : IfSome i.hold_power IsPowerInRange
+
+abbrev pub IsCoilPlayerInRange : CoilPlayer → Type 0
+IsCoilPlayerInRange p = All IsItemInRange p.items
+
+pub record IsShortFlipper (f : Flipper) : Type 0 where
+  pub enables : length f.enables ≤ 1024
+  pub disables : length f.disables ≤ 1024
+
+pub record IsShortAutofire (a : Autofire) : Type 0 where
+  pub enables : length a.enables ≤ 1024
+  pub disables : length a.disables ≤ 1024
 
 -- the events that a logic block posts
 pub record IsShortBlock (b : Block) : Type 0 where

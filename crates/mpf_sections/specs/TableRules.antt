@@ -27,10 +27,11 @@ is_plain_of a_name (name w) = is_name w.text
 is_plain_of an_event (event h) = is_name h.event.name
 is_plain_of _ _ = false
 
--- a text, no items, or one event
+-- a text, no items, one name, or one event
 abbrev pub is_value_of : Kind → Value → Bool
 is_value_of (single kind) (one x) = is_plain_of kind x
 is_value_of (name_list bounds) (names []) = fits bounds 0
+is_value_of (name_list bounds) (names (w ∷ [])) = fits bounds 1 && is_name w.text
 is_value_of (post_list bounds) (posts []) = fits bounds 0
 is_value_of (event_list bounds) (events []) = fits bounds 0
 is_value_of (event_list bounds) (events (h ∷ [])) = fits bounds 1 && is_name h.event.name

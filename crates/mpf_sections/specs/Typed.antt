@@ -1,5 +1,5 @@
 -- The entries of sections, by the names of their settings.
-use Rattle.std.specs.Prelude.{ℕ, zero, suc, ℤ, pos, negsuc, ◌^◌, nat_lt, nat_le, Bool, false, if◌then◌else◌, List, [], ◌∷◌, length, map, Option, Some, None, slice_get, codes}
+use Rattle.std.specs.Prelude.{ℕ, zero, suc, ℤ, pos, negsuc, ◌^◌, nat_lt, nat_le, ◌&&◌, Bool, false, if◌then◌else◌, List, [], ◌∷◌, length, map, Option, Some, None, slice_get, codes}
 use Rattle.std.specs.Str.{bytes_eq}
 use Rattle.mpf_sections.specs.declared.words.Contact.{Contact}
 use Rattle.mpf_sections.specs.declared.words.Contact.TheVariants.{NormallyOpen, NormallyClosed}
@@ -9,8 +9,8 @@ use Rattle.mpf_sections.specs.declared.words.Direction.{Direction}
 use Rattle.mpf_sections.specs.declared.words.Direction.TheVariants.{Up, Down}
 use Rattle.mpf_sections.specs.declared.words.ControlAction.{ControlAction}
 use Rattle.mpf_sections.specs.declared.words.ControlAction.TheVariants.{Start, Stop, Pause, Reset, Restart, Add, Subtract, Jump}
-use Rattle.section_tables.specs.Rows.{Written, Plain, flag, number, time, word, name, event, Fields, Value, one, names, posts, steps, maps, Entry, Player}
-use Rattle.section_tables.specs.Kinds.{Setting}
+use Rattle.section_tables.specs.Rows.{Written, Plain, flag, number, time, power, word, name, event, Fields, Keyed, Value, one, names, posts, steps, maps, keyed, Entry, Player}
+use Rattle.section_tables.specs.Kinds.{Field, Setting}
 use Rattle.section_tables.specs.Tables.{found_in, field_key, setting_key, setting_default}
 use Rattle.mpf_sections.specs.SectionTables as tables
 pub use Rattle.mpf_sections.specs.SectionTables.{switches_name, event_player_name, counters_name, accruals_name, sequences_name, timers_name, modes_name, mode_name}
@@ -27,6 +27,10 @@ value_in (Some found) row = slice_get row found.0
 
 abbrev pub setting_of : List Setting → List ℕ → List Value → Option Value
 setting_of table key row = value_in (found_in setting_key key table) row
+
+-- the value of a field, by its key, in a map of this table
+abbrev pub field_of : List Field → List ℕ → List Plain → Option Plain
+field_of table key values = value_in (found_in field_key key table) values
 
 -- values of the kinds that their tables say; the last line of each is for rows that no table gives
 
@@ -74,6 +78,40 @@ listed_steps _ = []
 abbrev pub listed_maps : Option Value → List Fields
 listed_maps (Some (maps ms)) = ms
 listed_maps _ = []
+
+abbrev pub listed_keyed : Option Value → List Keyed
+listed_keyed (Some (keyed ks)) = ks
+listed_keyed _ = []
+
+-- the one text that a value is
+abbrev pub text_of : Option Value → Option Plain
+text_of (Some (one x)) = Some x
+text_of _ = None
+
+-- ---- texts
+
+-- the name, the word and the number that a text is
+abbrev pub name_in : Option Plain → Option Written
+name_in (Some (name w)) = Some w
+name_in _ = None
+
+abbrev pub word_in : Option Plain → List ℕ
+word_in (Some (word w)) = w
+word_in _ = []
+
+abbrev pub number_in : Option Plain → ℤ
+number_in (Some (number n)) = n
+number_in _ = pos 0
+
+-- the milliseconds of a pulse, where they are written: from 1 to 5,000
+abbrev pub pulse_in : Option Plain → Option ℕ
+pulse_in (Some (time ms)) = if nat_le 1 ms && nat_le ms 5000 then Some ms else None
+pulse_in _ = None
+
+-- a power in thousandths, where it is written: up to 1,000
+abbrev pub power_in : Option Plain → Option ℕ
+power_in (Some (power n)) = if nat_le n 1000 then Some n else None
+power_in _ = None
 
 -- the name of an event, with the line where it is written
 abbrev pub event_name : Plain → Written
@@ -143,23 +181,6 @@ step_block_of e = record {
 
 -- ---- `timers`
 
--- the value of a field, by its key, in a map of `control_events`
-abbrev pub field_of : List ℕ → Fields → Option Plain
-field_of key m = value_in (found_in field_key key tables.control_events) m.values
-
--- the name of an event, the word and the number of a field
-abbrev pub event_in : Option Plain → Option Written
-event_in (Some (name w)) = Some w
-event_in _ = None
-
-abbrev pub word_in : Option Plain → List ℕ
-word_in (Some (word w)) = w
-word_in _ = []
-
-abbrev pub number_in : Option Plain → ℤ
-number_in (Some (number n)) = n
-number_in _ = pos 0
-
 -- what a word does with a timer
 abbrev pub action_of : List ℕ → ControlAction
 action_of w =
@@ -173,11 +194,15 @@ action_of w =
 
 abbrev pub control_from : Fields → Option Written → Option Control
 control_from m None = None
-control_from m (Some w) = Some (record { event = w; action = action_of (word_in (field_of (codes "action") m)); value = number_in (field_of (codes "value") m) })
+control_from m (Some w) = Some (record {
+  event = w;
+  action = action_of (word_in (field_of tables.control_events (codes "action") m.values));
+  value = number_in (field_of tables.control_events (codes "value") m.values);
+})
 
 -- a control, or none if the map has no event
 unfoldable pub control_of : Fields → Option Control
-control_of m = control_from m (event_in (field_of (codes "event") m))
+control_of m = control_from m (name_in (field_of tables.control_events (codes "event") m.values))
 
 abbrev pub with_control : Option Control → List Control → List Control
 with_control None cs = cs

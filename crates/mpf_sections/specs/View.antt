@@ -1,5 +1,8 @@
 -- What contracts see of entries by the names of their settings.
-use Rattle.std.specs.Prelude.{map}
+use Rattle.std.specs.Prelude.{map, option_map, Option}
+use Rattle.std.specs.Borrow.{Bor}
+use Rattle.section_tables.specs.declared.rows.Plain as plains
+use Rattle.section_tables.specs.Rows.{Plain}
 use Rattle.mpf_sections.specs.declared.typed.NameAt.{NameAt}
 use Rattle.mpf_sections.specs.declared.typed.Switch as typed_switches
 use Rattle.mpf_sections.specs.declared.typed.EventPlayer as typed_players
@@ -9,13 +12,23 @@ use Rattle.mpf_sections.specs.declared.blocks.Counter as typed_counters
 use Rattle.mpf_sections.specs.declared.blocks.StepBlock as typed_steps
 use Rattle.mpf_sections.specs.declared.timers.Control as typed_controls
 use Rattle.mpf_sections.specs.declared.timers.Timer as typed_timers
-use Rattle.mpf_sections.specs.Rows.{Written, Switch, EventPlayer, Block, Counter, StepBlock, Control, Timer, ModeSettings}
+use Rattle.mpf_sections.specs.declared.coils.Coil as typed_coils
+use Rattle.mpf_sections.specs.declared.coils.CoilPlayer as typed_coil_players
+use Rattle.mpf_sections.specs.declared.coils.CoilItem as typed_coil_items
+use Rattle.mpf_sections.specs.declared.coil_rules.Flipper as typed_flippers
+use Rattle.mpf_sections.specs.declared.coil_rules.Autofire as typed_autofires
+use Rattle.mpf_sections.specs.Rows.{Written, Switch, EventPlayer, Coil, CoilItem, CoilPlayer, Flipper, Autofire, Block, Counter, StepBlock, Control, Timer, ModeSettings}
 use Rattle.mpf_sections.specs.Typed.{controls_of}
+use Rattle.mpf_sections.specs.TypedCoils.{coil_item_of}
 pub use Rattle.mpf_sections.specs.SectionView.{content_view, section_view}
-pub use Rattle.section_tables.specs.View.{name_view, names_view, fields_view, entry_view, player_view}
+pub use Rattle.section_tables.specs.View.{name_view, names_view, plain_view, fields_view, keyed_view, entry_view, player_view}
 
 abbrev pub name_at_view : NameAt → Written
 name_at_view n = record { line = n.line; text = n.text.now }
+
+-- a text, where there is one
+abbrev pub plain_option_view : Option (Bor plains.Plain) → Option Plain
+plain_option_view text = option_map (λ x. plain_view x.now) text
 
 abbrev pub switch_view : typed_switches.Switch → Switch
 switch_view s = record {
@@ -80,4 +93,47 @@ timer_view t = record {
   start_running = t.start_running;
   restart = t.restart;
   controls = controls_of (map fields_view t.controls.now);
+}
+
+abbrev pub coil_view : typed_coils.Coil → Coil
+coil_view c = record {
+  name = name_view c.name.now;
+  pulse_ms = c.pulse_ms;
+  max_pulse_ms = c.max_pulse_ms;
+  pulse_power = c.pulse_power;
+  max_pulse_power = c.max_pulse_power;
+  may_hold = c.may_hold;
+  hold_power = c.hold_power;
+  max_hold_power = c.max_hold_power;
+}
+
+abbrev pub coil_item_view : typed_coil_items.CoilItem → CoilItem
+coil_item_view i = record {
+  coil = name_view i.coil.now;
+  action = i.action;
+  pulse_ms = i.pulse_ms;
+  pulse_power = i.pulse_power;
+  hold_power = i.hold_power;
+}
+
+abbrev pub coil_player_view : typed_coil_players.CoilPlayer → CoilPlayer
+coil_player_view p = record { event = name_at_view p.event; items = map coil_item_of (map keyed_view p.items.now) }
+
+abbrev pub flipper_view : typed_flippers.Flipper → Flipper
+flipper_view f = record {
+  name = name_view f.name.now;
+  main_coil = name_at_view f.main_coil;
+  hold_coil = option_map name_at_view f.hold_coil;
+  switch = name_at_view f.switch;
+  enables = map name_view f.enables.now;
+  disables = map name_view f.disables.now;
+}
+
+abbrev pub autofire_view : typed_autofires.Autofire → Autofire
+autofire_view a = record {
+  name = name_view a.name.now;
+  coil = name_at_view a.coil;
+  switch = name_at_view a.switch;
+  enables = map name_view a.enables.now;
+  disables = map name_view a.disables.now;
 }

@@ -69,6 +69,15 @@ const NOTHING: Without = Without::One(Absent::Nothing);
 
 const REQUIRED: Without = Without::One(Absent::Required);
 
+const NAME: Kind = Kind::One(Scalar::Name);
+
+/// The length of a pulse.
+const PULSE: Scalar = Scalar::Time(1, 5_000);
+
+const POWER: Kind = Kind::One(Scalar::Power);
+
+const FULL_POWER: Without = Without::One(Absent::Power(1_000));
+
 const DIRECTION: Setting = setting!(
     b"direction",
     Kind::One(Scalar::Word(&[b"up", b"down"])),
@@ -94,6 +103,51 @@ pub const SWITCHES: &[Setting] = &[
         Kind::Posts(ANY),
         Without::NoPosts
     ),
+];
+
+/// `coils`.
+pub const COILS: &[Setting] = &[
+    setting!(
+        b"default_pulse_ms",
+        Kind::One(PULSE),
+        Without::One(Absent::Time(10))
+    ),
+    setting!(b"max_pulse_ms", Kind::One(PULSE), NOTHING),
+    setting!(b"default_pulse_power", POWER, FULL_POWER),
+    setting!(b"max_pulse_power", POWER, FULL_POWER),
+    setting!(b"allow_enable", FLAG, NO),
+    setting!(b"default_hold_power", POWER, NOTHING),
+    setting!(b"max_hold_power", POWER, NOTHING),
+];
+
+/// The events that enable and disable a coil rule: by default when a ball starts, and when it ends.
+const RULE_ENABLES: Setting = setting!(
+    b"enable_events",
+    Kind::Names(ANY),
+    Without::Name(b"ball_started")
+);
+
+const RULE_DISABLES: Setting = setting!(
+    b"disable_events",
+    Kind::Names(ANY),
+    Without::Name(b"ball_will_end")
+);
+
+/// `flippers`.
+pub const FLIPPERS: &[Setting] = &[
+    setting!(b"main_coil", NAME, REQUIRED),
+    setting!(b"hold_coil", NAME, NOTHING),
+    setting!(b"activation_switch", NAME, REQUIRED),
+    RULE_ENABLES,
+    RULE_DISABLES,
+];
+
+/// `autofire_coils`.
+pub const AUTOFIRE_COILS: &[Setting] = &[
+    setting!(b"coil", NAME, REQUIRED),
+    setting!(b"switch", NAME, REQUIRED),
+    RULE_ENABLES,
+    RULE_DISABLES,
 ];
 
 /// `counters`.
@@ -194,11 +248,39 @@ pub const EVENT_PLAYER: PlayerKinds = PlayerKinds {
     value: Kind::Posts(ANY),
 };
 
+const COIL_ACTION: Scalar = Scalar::Word(&[b"pulse", b"enable", b"disable"]);
+
+/// What belongs to a coil in an entry of `coil_player`.
+const COIL_ITEM: &[Field] = &[
+    field!(b"action", COIL_ACTION, Absent::Required),
+    field!(b"pulse_ms", PULSE, Absent::Nothing),
+    field!(b"pulse_power", Scalar::Power, Absent::Nothing),
+    field!(b"hold_power", Scalar::Power, Absent::Nothing),
+];
+
+/// `coil_player`: an event, and what coils do where it is handled. An action may stand alone.
+pub const COIL_PLAYER: PlayerKinds = PlayerKinds {
+    key: Scalar::Name,
+    value: Kind::Keyed(COIL_ITEM, 0, COIL_ACTION),
+};
+
 /// The name of the section [`SWITCHES`].
 pub const SWITCHES_NAME: &[u8] = b"switches";
 
 /// The name of the section [`EVENT_PLAYER`].
 pub const EVENT_PLAYER_NAME: &[u8] = b"event_player";
+
+/// The name of the section [`COILS`].
+pub const COILS_NAME: &[u8] = b"coils";
+
+/// The name of the section [`FLIPPERS`].
+pub const FLIPPERS_NAME: &[u8] = b"flippers";
+
+/// The name of the section [`AUTOFIRE_COILS`].
+pub const AUTOFIRE_COILS_NAME: &[u8] = b"autofire_coils";
+
+/// The name of the section [`COIL_PLAYER`].
+pub const COIL_PLAYER_NAME: &[u8] = b"coil_player";
 
 /// The name of the section [`COUNTERS`].
 pub const COUNTERS_NAME: &[u8] = b"counters";
@@ -260,8 +342,20 @@ fn machine_shape(section: &[u8]) -> Option<Shape>
     if section == SWITCHES_NAME {
         return Some(Shape::Entries(ANY_NAME, SWITCHES));
     }
+    if section == COILS_NAME {
+        return Some(Shape::Entries(ANY_NAME, COILS));
+    }
+    if section == FLIPPERS_NAME {
+        return Some(Shape::Entries(NOT_A_DEVICE, FLIPPERS));
+    }
+    if section == AUTOFIRE_COILS_NAME {
+        return Some(Shape::Entries(NOT_A_DEVICE, AUTOFIRE_COILS));
+    }
     if section == EVENT_PLAYER_NAME {
         return Some(Shape::Players(EVENT_PLAYER));
+    }
+    if section == COIL_PLAYER_NAME {
+        return Some(Shape::Players(COIL_PLAYER));
     }
     block_shape(section)
 }
@@ -275,6 +369,9 @@ fn mode_shape(section: &[u8]) -> Option<Shape>
     }
     if section == EVENT_PLAYER_NAME {
         return Some(Shape::Players(EVENT_PLAYER));
+    }
+    if section == COIL_PLAYER_NAME {
+        return Some(Shape::Players(COIL_PLAYER));
     }
     if section == TIMERS_NAME {
         return Some(Shape::Entries(NOT_A_DEVICE, TIMERS));

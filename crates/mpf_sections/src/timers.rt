@@ -8,7 +8,7 @@ use crate::section::Section;
 use crate::tables::TIMERS_NAME;
 use crate::typed::NameAt;
 use crate::values::{
-    direction, event_field, flag, limit, maps, milliseconds, number, number_field, word_field,
+    direction, field, flag, limit, maps, milliseconds, name, number, number_field, word_field,
 };
 use crate::words::{ControlAction, Direction};
 use section_tables::rows::{Entry, Fields, Name};
@@ -135,7 +135,7 @@ pub fn as_control(map: &Fields) -> Option<Control<'_>>
     ensures { option_map control_view result ≡ control_of (fields_view map.now) }
 {
     let values = map.values.as_slice();
-    let event = event_field(values, EVENT)?;
+    let event = name(field(values, EVENT))?;
     Some(Control {
         event,
         action: action_of(word_field(values, ACTION)),

@@ -1,14 +1,14 @@
 //! Values in a row, by their places.
 
-ghost use Rattle.std.specs.Prelude.{◌≡◌, map, option_map, slice_get, pos, negsuc};
+ghost use Rattle.std.specs.Prelude.{◌≡◌, ◌&&◌, nat_le, map, option_map, slice_get, pos, negsuc};
 ghost use Rattle.section_tables.specs.EntryOf.{within};
-ghost use Rattle.section_tables.specs.View.{name_view, names_view, fields_view, plain_view, plains_view, value_view, values_view};
-ghost use Rattle.mpf_sections.specs.Typed.{listed_names, listed_posts, listed_steps, listed_maps, word_of, flag_of, natural_of, number_of, direction_of, limit_of, time_of, event_name, event_in, word_in, number_in};
-ghost use Rattle.mpf_sections.specs.View.{name_at_view};
+ghost use Rattle.section_tables.specs.View.{name_view, names_view, fields_view, keyed_view, plain_view, plains_view, value_view, values_view};
+ghost use Rattle.mpf_sections.specs.Typed.{listed_names, listed_posts, listed_steps, listed_maps, listed_keyed, text_of, word_of, flag_of, natural_of, number_of, direction_of, limit_of, time_of, event_name, name_in, word_in, number_in, pulse_in, power_in};
+ghost use Rattle.mpf_sections.specs.View.{name_at_view, plain_option_view};
 
 use crate::typed::NameAt;
 use crate::words::Direction;
-use section_tables::rows::{Fields, Name, Plain, Value};
+use section_tables::rows::{Fields, Keyed, Name, Plain, Value};
 
 // ---- values of settings
 
@@ -141,6 +141,26 @@ pub fn maps(row: &[Value], at: usize) -> &[Fields]
     }
 }
 
+/// The names that a value has, with what belongs to each; none where it is no map of names.
+pub fn keyed(value: &Value) -> &[Keyed]
+    ensures { map keyed_view result.now ≡ listed_keyed (Some (value_view value.now)) }
+{
+    match value {
+        Value::Keyed(keyed) => keyed,
+        _ => &[],
+    }
+}
+
+/// The text at a place of a row; none where there is none.
+pub fn text(row: &[Value], at: usize) -> Option<&Plain>
+    ensures { plain_option_view result ≡ text_of (slice_get (values_view row.now) at) }
+{
+    match row.get(at) {
+        Some(Value::One(text)) => Some(text),
+        _ => None,
+    }
+}
+
 /// The name of an event, where it is written.
 pub fn event_name(event: &Plain) -> NameAt<'_>
     ensures { name_at_view result ≡ event_name (plain_view event.now) }
@@ -159,16 +179,52 @@ pub fn event_name(event: &Plain) -> NameAt<'_>
     }
 }
 
-// ---- values of fields
+// ---- texts
 
-/// The name of the event at a place of a map, where it is written; nothing where there is none.
-pub fn event_field(values: &[Plain], at: usize) -> Option<NameAt<'_>>
-    ensures { option_map name_at_view result ≡ event_in (slice_get (plains_view values.now) at) }
+/// The name that a text is, where it is written; none where it is no name.
+pub fn name(text: Option<&Plain>) -> Option<NameAt<'_>>
+    ensures { option_map name_at_view result ≡ name_in (plain_option_view text.entry) }
 {
-    match values.get(at) {
-        Some(event @ (Plain::Name(_) | Plain::DefaultName(_))) => Some(event_name(event)),
+    match text {
+        Some(name @ (Plain::Name(_) | Plain::DefaultName(_))) => Some(event_name(name)),
         _ => None,
     }
+}
+
+// Whether a pulse may last so many milliseconds.
+fn is_pulse(ms: u32) -> bool
+    ensures { result ≡ (nat_le 1 ms && nat_le ms 5000) }
+{
+    1 <= ms && ms <= 5_000
+}
+
+/// The milliseconds of a pulse, from 1 to 5,000; none where none are written.
+pub fn pulse(text: Option<&Plain>) -> Option<u32>
+    ensures { result ≡ pulse_in (plain_option_view text.entry) }
+{
+    match text {
+        Some(Plain::Time(ms)) if is_pulse(*ms) => Some(*ms),
+        _ => None,
+    }
+}
+
+/// A power in thousandths, up to 1,000; none where none is written.
+pub fn power(text: Option<&Plain>) -> Option<u16>
+    ensures { result ≡ power_in (plain_option_view text.entry) }
+{
+    match text {
+        Some(Plain::Power(power)) if *power <= 1_000 => Some(*power),
+        _ => None,
+    }
+}
+
+// ---- values of fields
+
+/// The text at a place of a map; none where there is none.
+pub fn field(values: &[Plain], at: usize) -> Option<&Plain>
+    ensures { plain_option_view result ≡ slice_get (plains_view values.now) at }
+{
+    values.get(at)
 }
 
 /// The word at a place of a map; the empty one where there is none.

@@ -47,3 +47,14 @@ pub enum ControlAction {
     /// Its value becomes the one of the control.
     Jump,
 }
+
+/// What a coil does.
+#[derive(Clone, Copy, Debug)]
+pub enum CoilAction {
+    /// It is on for the length of a pulse.
+    Pulse,
+    /// It is on until it is disabled.
+    Enable,
+    /// It is off.
+    Disable,
+}

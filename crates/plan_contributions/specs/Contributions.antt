@@ -22,7 +22,12 @@ use Rattle.plan_tables.specs.declared.devices.Settings.{Settings}
 use Rattle.plan_tables.specs.declared.devices.Act.{Act}
 use Rattle.plan_tables.specs.declared.table.Table.{Table}
 use Rattle.plan_tables.specs.declared.table.Table.TheVariants.{Switches}
-pub use Rattle.plan_contributions.specs.DeviceEntries.{texts, Device, device_of}
+pub use Rattle.plan_contributions.specs.DeviceEntries.{texts, Effect, posts, works, Device, device_of}
+use Rattle.plan_contributions.specs.Definitions.{makes_quick}
+use Rattle.plan_contributions.specs.CoilEntries.{limits_of_coil, item_effect, flipper_device, autofire_device}
+use Rattle.mpf_sections.specs.Rows.{Coil, CoilPlayer}
+use Rattle.mpf_sections.specs.TypedCoils.{coils_name, coil_player_name, flippers_name, autofire_coils_name, coil_of, coil_player_of, flipper_of, autofire_of}
+use Rattle.plan_tables.specs.declared.entries.CoilLimits.{CoilLimits}
 
 -- One thing that a row gives: an entry of a table, by its name; how the last given switch is read; an event that this
 -- switch posts when it becomes active, or inactive; a mode by its name, with its priority, and whether it starts only
@@ -38,18 +43,20 @@ pub data Contribution : Type 0 where
   mode : List ℕ → ℕ → Bool → Contribution
   mode_event : ModeEvent → List ℕ → Contribution
   binds : List ℕ → Place → Aim → Contribution
-  post : List ℕ → Contribution
+  does : Effect → Contribution
   device : Place → Settings → Contribution
-  post_in : ℕ → List ℕ → Contribution
+  does_in : ℕ → Effect → Contribution
+  listens : ℕ → List ℕ → Contribution
   mentions : List ℕ → Contribution
+  coil : List ℕ → CoilLimits → Contribution
 
 -- ---- switches
 
--- whether a raw level is accepted at once, and not once it has stood for 5 ms
-abbrev pub is_quick : Debounce → Bool
-is_quick Auto = false
-is_quick Quick = true
-is_quick Normal = false
+-- whether a raw level of the switch of this name is accepted at once, and not once it has stood for 5 ms
+abbrev pub is_quick : List SectionRows → List ℕ → Debounce → Bool
+is_quick machine name Auto = makes_quick machine name
+is_quick machine name Quick = true
+is_quick machine name Normal = false
 
 -- the contact of a switch, in the plan
 abbrev pub contact_of : WrittenContact → Contact
@@ -57,8 +64,8 @@ contact_of written.NormallyOpen = NormallyOpen
 contact_of written.NormallyClosed = NormallyClosed
 
 -- how a switch is read
-abbrev pub kind_of : Switch → SwitchKind
-kind_of s = record { contact = contact_of s.contact; quick = is_quick s.debounce }
+abbrev pub kind_of : List SectionRows → Switch → SwitchKind
+kind_of machine s = record { contact = contact_of s.contact; quick = is_quick machine s.name.text s.debounce }
 
 -- the event of a tag
 abbrev pub tag_event : Written → List ℕ
@@ -74,15 +81,26 @@ abbrev pub inactive_posts : Switch → List (List ℕ)
 inactive_posts s = (s.name.text ++ codes "_inactive") ∷ texts s.deactivated
 
 -- a switch, with what it posts, whatever the order of its settings: first when it becomes active
-unfoldable pub switch_contributions : Switch → List Contribution
-switch_contributions s =
-    gives Switches s.name.text ∷ reads (kind_of s) ∷ map active (active_posts s) ++ map inactive (inactive_posts s)
+unfoldable pub switch_contributions : List SectionRows → Switch → List Contribution
+switch_contributions machine s =
+    gives Switches s.name.text ∷ reads (kind_of machine s) ∷ map active (active_posts s) ++ map inactive (inactive_posts s)
 
 -- ---- event_player
 
 -- an entry binds an effect list to the event that it handles; the list posts the entry's events in order
 unfoldable pub player_contributions : Place → EventPlayer → List Contribution
-player_contributions place p = binds p.event.text place Run ∷ map post (texts p.posts)
+player_contributions place p = binds p.event.text place Run ∷ map (λ e. does (posts e)) (texts p.posts)
+
+-- ---- coils
+
+-- a coil, with its limits
+unfoldable pub coil_contributions : Coil → List Contribution
+coil_contributions c = coil c.name.text (limits_of_coil c) ∷ []
+
+-- an entry binds an effect list to the event that it handles; the list does what the items say, in order
+unfoldable pub coil_player_contributions : List SectionRows → Place → CoilPlayer → List Contribution
+coil_player_contributions machine place p =
+    binds p.event.text place Run ∷ map (λ item. does (item_effect machine item)) p.items
 
 -- ---- modes
 
@@ -132,15 +150,23 @@ mode_contributions name s = mode name s.priority s.game ∷ later_events name ++
 abbrev pub act_binding : Place → List ℕ × Act → Contribution
 act_binding place h = binds h.0 place (Do h.1)
 
--- what the effect lists post, from this one on
-abbrev pub posts_from : ℕ → List (List (List ℕ)) → List Contribution
-posts_from k [] = []
-posts_from k (es ∷ rest) = map (post_in k) es ++ posts_from (suc k) rest
+-- what the effect lists do, from this one on
+abbrev pub effects_from : ℕ → List (List Effect) → List Contribution
+effects_from k [] = []
+effects_from k (es ∷ rest) = map (does_in k) es ++ effects_from (suc k) rest
 
--- a row, then what acts on it, the events that its settings name, and what its effect lists post
+-- the switches to which the row listens, from this number on
+abbrev pub listens_from : ℕ → List (List ℕ) → List Contribution
+listens_from k [] = []
+listens_from k (n ∷ ns) = listens k n ∷ listens_from (suc k) ns
+
+-- a row, then the switches to which it listens, what acts on it, the events that its settings name, and what its effect
+-- lists do
 unfoldable pub device_contributions : Place → Device → List Contribution
 device_contributions place d =
-    device place d.settings ∷ map (act_binding place) d.handled ++ (map mentions d.mentioned ++ posts_from 0 d.lists)
+    device place d.settings
+    ∷ listens_from 0 d.listens
+    ++ (map (act_binding place) d.handled ++ (map mentions d.mentioned ++ effects_from 0 d.lists))
 
 -- what a device gives, where an entry is one
 abbrev pub where_device : Place → Option Device → List Contribution
@@ -173,25 +199,34 @@ mode_rows m = of_mode m.name (mode_settings m.sections) ∷ rows_in Mode m.secti
 abbrev pub rows_of : Rows → List Row
 rows_of rows = rows_in Machine rows.machine ++ flat_map mode_rows rows.modes
 
--- what an entry gives, by the name of its section
-unfoldable pub entry_contributions : Place → List ℕ → Entry → List Contribution
-entry_contributions place section e =
-    if bytes_eq section switches_name then switch_contributions (switch_of e)
-    else where_device place (device_of section e)
+-- the device of an entry, whatever its kind
+abbrev pub device_in : List SectionRows → List ℕ → Entry → Option Device
+device_in machine section e =
+    if bytes_eq section flippers_name then Some (flipper_device machine (flipper_of e))
+    else (if bytes_eq section autofire_coils_name then Some (autofire_device machine (autofire_of e))
+    else device_of section e)
+
+-- what an entry gives, by the name of its section; what it says of a coil is by the sections of the machine text
+unfoldable pub entry_contributions : List SectionRows → Place → List ℕ → Entry → List Contribution
+entry_contributions machine place section e =
+    if bytes_eq section switches_name then switch_contributions machine (switch_of e)
+    else (if bytes_eq section coils_name then coil_contributions (coil_of e)
+    else where_device place (device_in machine section e))
 
 -- and an entry of a player
-unfoldable pub player_entry_contributions : Place → List ℕ → Player → List Contribution
-player_entry_contributions place section p =
-    if bytes_eq section event_player_name then player_contributions place (event_player_of p) else []
+unfoldable pub player_entry_contributions : List SectionRows → Place → List ℕ → Player → List Contribution
+player_entry_contributions machine place section p =
+    if bytes_eq section event_player_name then player_contributions place (event_player_of p)
+    else (if bytes_eq section coil_player_name then coil_player_contributions machine place (coil_player_of p) else [])
 
-abbrev pub row_contributions : Row → List Contribution
-row_contributions (entry place section e) = entry_contributions place section e
-row_contributions (player place section p) = player_entry_contributions place section p
-row_contributions (of_mode name s) = mode_contributions name s
+abbrev pub row_contributions : List SectionRows → Row → List Contribution
+row_contributions machine (entry place section e) = entry_contributions machine place section e
+row_contributions machine (player place section p) = player_entry_contributions machine place section p
+row_contributions machine (of_mode name s) = mode_contributions name s
 
 -- what rows give, in turn
-abbrev pub given_by : List Row → List Contribution
-given_by rows = flat_map row_contributions rows
+abbrev pub given_by : List SectionRows → List Row → List Contribution
+given_by machine rows = flat_map (row_contributions machine) rows
 
 abbrev pub contributions_of : Rows → List Contribution
-contributions_of rows = given_by (rows_of rows)
+contributions_of rows = given_by rows.machine (rows_of rows)

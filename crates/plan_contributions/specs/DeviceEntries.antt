@@ -19,13 +19,26 @@ use Rattle.plan_tables.specs.declared.devices.Act.TheVariants.{Count, Step, Enab
 abbrev pub texts : List Written → List (List ℕ)
 texts ws = map (λ w. w.text) ws
 
--- What the entry of a device says: its settings; each event that it handles, and what the event does; other events that
--- its settings name; and for each of its effect lists the events that it posts.
+-- What is done with a coil: it is pulsed, for so many milliseconds and with this power in thousandths; or enabled with
+-- this power; or disabled.
+pub data Deed : Type 0 where
+  pulse : (ms : ℕ) (power : ℕ) → Deed
+  enable : (power : ℕ) → Deed
+  disable : Deed
+
+-- One thing that an effect list does: it posts the event of this name, or does this with the coil of this name.
+pub data Effect : Type 0 where
+  posts : (event : List ℕ) → Effect
+  works : (coil : List ℕ) → Deed → Effect
+
+-- What the entry of a device says: its settings; the switches to which it listens, by name; each event that it handles,
+-- and what the event does; other events that its settings name; and what each of its effect lists does.
 pub record Device : Type 0 where
   pub settings : Settings
+  pub listens : List (List ℕ)
   pub handled : List (List ℕ × Act)
   pub mentioned : List (List ℕ)
-  pub lists : List (List (List ℕ))
+  pub lists : List (List Effect)
 
 -- each of the events does this
 abbrev pub acts : Act → List Written → List (List ℕ × Act)
@@ -72,11 +85,11 @@ abbrev pub or_own : List Written → List ℕ → List (List ℕ)
 or_own ws own = if is_none ws then own ∷ [] else texts ws
 
 -- what a block posts when its value changes, when it is hit, and when it completes
-abbrev pub block_lists : List ℕ → Block → List (List (List ℕ))
+abbrev pub block_lists : List ℕ → Block → List (List Effect)
 block_lists name b =
-    (block_event name (codes "_updated") ∷ [])
-    ∷ or_own b.hit (block_event name (codes "_hit"))
-    ∷ or_own b.complete (block_event name (codes "_complete"))
+    (posts (block_event name (codes "_updated")) ∷ [])
+    ∷ map posts (or_own b.hit (block_event name (codes "_hit")))
+    ∷ map posts (or_own b.complete (block_event name (codes "_complete")))
     ∷ []
 
 abbrev pub counter_settings : Counter → Settings
@@ -92,6 +105,7 @@ counter_settings c = kinds.Counter (record {
 abbrev pub counter_device : Counter → Device
 counter_device c = record {
   settings = counter_settings c;
+  listens = [];
   handled = acts Count c.counts ++ block_acts c.block;
   mentioned = block_mentions c.block;
   lists = block_lists c.name.text c.block;
@@ -109,6 +123,7 @@ step_settings b = record { block = block_settings b.block; steps = length b.step
 abbrev pub step_device : Settings → StepBlock → Device
 step_device settings b = record {
   settings = settings;
+  listens = [];
   handled = step_acts 0 b.steps ++ block_acts b.block;
   mentioned = block_mentions b.block;
   lists = block_lists b.name.text b.block;
@@ -149,12 +164,13 @@ timer_settings t = kinds.Timer (record {
 })
 
 -- each of its effect lists posts one event of its own
-abbrev pub timer_lists : List ℕ → List (List (List ℕ))
-timer_lists name = map (λ ending. timer_event name ending ∷ []) timer_endings
+abbrev pub timer_lists : List ℕ → List (List Effect)
+timer_lists name = map (λ ending. posts (timer_event name ending) ∷ []) timer_endings
 
 abbrev pub timer_device : Timer → Device
 timer_device t = record {
   settings = timer_settings t;
+  listens = [];
   handled = map controlled t.controls;
   mentioned = [];
   lists = timer_lists t.name.text;

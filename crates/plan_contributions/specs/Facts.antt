@@ -1,5 +1,5 @@
 -- What holds of the contributions of rows.
-use Rattle.std.specs.Prelude.{◌≡◌, ℕ, suc, ◌<◌, ◌==◌, if◌then◌else◌, List, [], ◌∷◌, ◌++◌, Option, None, Some, codes}
+use Rattle.std.specs.Prelude.{◌≡◌, ℕ, suc, ◌<◌, ◌≤◌, ◌==◌, if◌then◌else◌, List, [], ◌∷◌, ◌++◌, Option, None, Some, codes}
 use Rattle.std.specs.List.{All}
 use Rattle.mpf_sections.specs.Named.{IsName}
 use Rattle.plan_contributions.specs.declared.contribution.Aim.{Aim}
@@ -7,9 +7,10 @@ use Rattle.plan_contributions.specs.declared.contribution.Aim.TheVariants.{Run, 
 use Rattle.plan_contributions.specs.declared.contribution.Place.{Place}
 use Rattle.plan_contributions.specs.declared.contribution.Place.TheVariants.{Machine, Control, Mode}
 use Rattle.plan_tables.specs.Devices.{IsWithinLimits}
+use Rattle.plan_tables.specs.declared.entries.CoilLimits.{CoilLimits}
 use Rattle.plan_tables.specs.declared.entries.ModeEvent.{ModeEvent}
 use Rattle.plan_contributions.specs.DeviceEntries.{block_event, block_endings, timer_event, timer_endings}
-use Rattle.plan_contributions.specs.Contributions.{Contribution, mode, mode_event_name, binds, post, device, post_in}
+use Rattle.plan_contributions.specs.Contributions.{Contribution, mode, mode_event_name, binds, does, device, does_in, coil}
 
 -- ---- names
 
@@ -30,16 +31,16 @@ pub record IsOfNames (P : List ℕ → Type 0) : Type 0 where
 -- how many posts the effect list has at most that began last, of which so many were there
 abbrev pub posts_after : ℕ → Contribution → ℕ
 posts_after n (binds e place Run) = 0
-posts_after n (post e) = suc n
+posts_after n (does e) = suc n
 posts_after n (device place settings) = 1024
-posts_after n (post_in k e) = 1024
+posts_after n (does_in k e) = 1024
 posts_after n _ = n
 
 -- how many posts each effect list of the row has at most that came last, by its number in the row
 abbrev pub posts_in_after : (ℕ → ℕ) → Contribution → ℕ → ℕ
-posts_in_after f (post e) = λ j. 1024
+posts_in_after f (does e) = λ j. 1024
 posts_in_after f (device place settings) = λ j. 0
-posts_in_after f (post_in k e) = λ j. if j == k then suc (f j) else f j
+posts_in_after f (does_in k e) = λ j. if j == k then suc (f j) else f j
 posts_in_after f _ = f
 
 -- no list has room
@@ -48,17 +49,25 @@ full k = 1024
 
 -- an effect list has room for a post
 abbrev pub IsRoomy : ℕ → (ℕ → ℕ) → Contribution → Type 0
-IsRoomy n f (post e) = n < 1024
-IsRoomy n f (post_in k e) = f k < 1024
+IsRoomy n f (does e) = n < 1024
+IsRoomy n f (does_in k e) = f k < 1024
 IsRoomy n f _ = Unit {0}
 
 abbrev pub AreShort : ℕ → (ℕ → ℕ) → List Contribution → Type 0
 AreShort n f [] = Unit {0}
 AreShort n f (c ∷ cs) = IsRoomy n f c × AreShort (posts_after n c) (posts_in_after f c) cs
 
--- the settings of a row are within their limits
+-- a pulse of 1 to 5,000 milliseconds, and powers of at most 1,000 thousandths
+pub record AreLimits (limits : CoilLimits) : Type 0 where
+  pub some_pulse : 1 ≤ limits.max_pulse_ms
+  pub pulse : limits.max_pulse_ms ≤ 5000
+  pub pulse_power : limits.max_pulse_power ≤ 1000
+  pub hold_power : limits.max_hold_power ≤ 1000
+
+-- the settings of a row, and of a coil, are within their limits
 abbrev pub IsLimited : Contribution → Type 0
 IsLimited (device place settings) = IsWithinLimits settings
+IsLimited (coil n limits) = AreLimits limits
 IsLimited _ = Unit {0}
 
 -- what is of a mode comes after one, where so many have come

@@ -3,11 +3,16 @@ use Rattle.std.specs.Prelude.{ℕ, ◌==◌, if◌then◌else◌, List, [], ◌�
 use Rattle.std.specs.List.{flat_map}
 use Rattle.plan_tables.specs.declared.entries.ModeEvent.TheVariants.{WillStart}
 use Rattle.plan_tables.specs.declared.table.Table.{Table}
-use Rattle.plan_tables.specs.declared.table.Table.TheVariants.{Events}
+use Rattle.plan_tables.specs.declared.table.Table.TheVariants.{Events, Switches, Coils}
 use Rattle.plan_tables.specs.Limits.{order_of}
-use Rattle.plan_contributions.specs.Contributions.{Contribution, gives, active, inactive, mode, mode_event, mode_event_name, binds, post, post_in, mentions}
+use Rattle.plan_contributions.specs.Contributions.{Contribution, gives, active, inactive, mode, mode_event, mode_event_name, binds, Effect, posts, works, does, does_in, listens, mentions, coil}
 
 -- ---- one contribution
+
+-- what an effect list does uses the name of an event, or of a coil
+abbrev pub used_by : Effect → Option (Table × List ℕ)
+used_by (posts n) = Some (Events, n)
+used_by (works n deed) = Some (Coils, n)
 
 -- the name that a contribution uses, and its table; giving something under a name is a use of it
 abbrev pub used : Contribution → Option (Table × List ℕ)
@@ -17,14 +22,17 @@ used (inactive n) = Some (Events, n)
 used (mode n priority game) = Some (Events, mode_event_name WillStart n)
 used (mode_event which n) = Some (Events, mode_event_name which n)
 used (binds n place aim) = Some (Events, n)
-used (post n) = Some (Events, n)
-used (post_in k n) = Some (Events, n)
+used (does e) = used_by e
+used (does_in k e) = used_by e
+used (listens k n) = Some (Switches, n)
+used (coil n limits) = Some (Coils, n)
 used (mentions n) = Some (Events, n)
 used _ = None
 
 -- the name under which a contribution gives something
 abbrev pub given : Contribution → Option (Table × List ℕ)
 given (gives table n) = Some (table, n)
+given (coil n limits) = Some (Coils, n)
 given _ = None
 
 -- ---- all of them

@@ -5,13 +5,32 @@ use Rattle.plan_tables.specs.declared.table.Table.{Table}
 use Rattle.plan_contributions.specs.declared.collect.Row as rows
 use Rattle.plan_contributions.specs.declared.collect.Row.TheVariants as row
 use Rattle.plan_contributions.specs.declared.contribution.Parts.{Parts}
+use Rattle.plan_contributions.specs.declared.contribution.Deed as deeds
+use Rattle.plan_contributions.specs.declared.contribution.Deed.TheVariants as deed
+use Rattle.plan_contributions.specs.declared.contribution.Effect as effects
+use Rattle.plan_contributions.specs.declared.contribution.Effect.TheVariants as effect
+use Rattle.plan_contributions.specs.declared.collect_coils.Defaults as defaults
+use Rattle.plan_contributions.specs.CoilEntries.{Defaults}
+use Rattle.plan_contributions.specs.DeviceEntries.{Deed, pulse, enable, disable, Effect, posts, works}
 use Rattle.plan_contributions.specs.declared.contribution.Contribution as contributions
 use Rattle.plan_contributions.specs.declared.contribution.Contribution.TheVariants as contribution
-use Rattle.plan_contributions.specs.Contributions.{Contribution, gives, reads, active, inactive, mode, mode_event, binds, post, device, post_in, mentions, Row, entry, player, of_mode}
+use Rattle.plan_contributions.specs.Contributions.{Contribution, gives, reads, active, inactive, mode, mode_event, binds, does, device, does_in, listens, mentions, coil, Row, entry, player, of_mode}
 
 -- the name that the parts make
 abbrev pub parts_text : Parts → List ℕ
 parts_text p = p.front.now ++ p.middle.now ++ p.end.now
+
+abbrev pub defaults_view : defaults.Defaults → Defaults
+defaults_view d = record { pulse_ms = d.pulse_ms; pulse_power = d.pulse_power; hold_power = d.hold_power; may_hold = d.may_hold }
+
+abbrev pub deed_view : deeds.Deed → Deed
+deed_view (deed.Pulse ms power) = pulse ms power
+deed_view (deed.Enable power) = enable power
+deed_view deed.Disable = disable
+
+abbrev pub effect_view : effects.Effect → Effect
+effect_view (effect.Post n) = posts (parts_text n)
+effect_view (effect.Coil n d) = works n.now (deed_view d)
 
 abbrev pub contribution_view : contributions.Contribution → Contribution
 contribution_view (contribution.Gives table n) = gives table n.now
@@ -21,9 +40,11 @@ contribution_view (contribution.Inactive n) = inactive (parts_text n)
 contribution_view (contribution.Mode n priority game) = mode n.now priority game
 contribution_view (contribution.ModeEvent which n) = mode_event which n.now
 contribution_view (contribution.Binds n place aim) = binds n.now place aim
-contribution_view (contribution.Post n) = post (parts_text n)
+contribution_view (contribution.Does e) = does (effect_view e)
 contribution_view (contribution.Device place settings) = device place settings
-contribution_view (contribution.PostIn k n) = post_in k (parts_text n)
+contribution_view (contribution.DoesIn k e) = does_in k (effect_view e)
+contribution_view (contribution.Listens k n) = listens k n.now
+contribution_view (contribution.Coil n limits) = coil n.now limits
 contribution_view (contribution.Mentions n) = mentions n.now
 
 abbrev pub contributions_view : List contributions.Contribution → List Contribution

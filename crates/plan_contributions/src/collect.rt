@@ -3,15 +3,19 @@
 ghost use Rattle.std.specs.Prelude.{◌≡◌, ◌++◌, map, IfOk, OnOk, codes};
 ghost use Rattle.mpf_sections.specs.View.{switch_view as switch_row_view, event_player_view, mode_settings_view, section_view, entry_view, player_view, name_view};
 ghost use Rattle.mpf_config.specs.View.{mode_view, rows_view};
-ghost use Rattle.plan_contributions.specs.Contributions.{active, inactive, post, texts, contact_of, is_quick, kind_of, tag_event, active_posts, inactive_posts, switch_contributions, player_contributions, starter, stopper, stopper_where, later_events, controls, mode_contributions, rows_in, rows_from, mode_rows, rows_of, entry, player, entry_contributions, player_entry_contributions, row_contributions};
+ghost use Rattle.plan_contributions.specs.Contributions.{active, inactive, does, posts, texts, contact_of, is_quick, kind_of, tag_event, active_posts, inactive_posts, switch_contributions, player_contributions, starter, stopper, stopper_where, later_events, controls, mode_contributions, rows_in, rows_from, mode_rows, rows_of, entry, player, entry_contributions, player_entry_contributions, row_contributions};
 ghost use Rattle.plan_contributions.specs.View.{contributions_view, row_view, row_list_view};
 
+use crate::collect_coils::{collect_autofire, collect_coil, collect_coil_player, collect_flipper};
 use crate::collect_devices::collect_device;
-use crate::contribution::{Aim, Contribution, Parts, Place, whole};
+use crate::contribution::{Aim, Contribution, Effect, Parts, Place, whole};
+use crate::definitions::Definitions;
 use mpf_config::config::Contact as WrittenContact;
 use mpf_config::{
-    Config, Content, Debounce, EVENT_PLAYER_NAME, Entry, EventPlayer, ModeSettings, ModeText, Name,
-    Player, SWITCHES_NAME, Section, Switch, as_event_player, as_switch, mode_settings,
+    AUTOFIRE_COILS_NAME, COIL_PLAYER_NAME, COILS_NAME, Config, Content, Debounce,
+    EVENT_PLAYER_NAME, Entry, EventPlayer, FLIPPERS_NAME, ModeSettings, ModeText, Name, Player,
+    SWITCHES_NAME, Section, Switch, as_autofire, as_coil, as_coil_player, as_event_player,
+    as_flipper, as_switch, mode_settings,
 };
 use plan_tables::entries::{Contact, ModeEvent, SwitchKind};
 use plan_tables::table::Table;
@@ -125,15 +129,18 @@ fn add_players<'a>(
 /// Memory ran out.
 pub fn collect_row<'a>(
     contributions: &mut Vec<Contribution<'a>>,
+    definitions: &Definitions<'_>,
     row: Row<'a>,
 ) -> Result<(), AllocError>
-    ensures { OnOk result (contributions_view contributions.new.items ≡ row_contributions (row_view row.entry)) }
+    ensures { OnOk result (contributions_view contributions.new.items ≡ row_contributions definitions.now (row_view row.entry)) }
 {
     contributions.clear();
     match row {
-        Row::Entry(place, section, entry) => collect_entry(contributions, place, section, entry),
+        Row::Entry(place, section, entry) => {
+            collect_entry(contributions, definitions, place, section, entry)
+        }
         Row::Player(place, section, player) => {
-            collect_player(contributions, place, section, player)
+            collect_player(contributions, definitions, place, section, player)
         }
         Row::Mode(name, settings) => collect_mode(contributions, name, settings),
     }
@@ -143,14 +150,24 @@ pub fn collect_row<'a>(
 #[tactic(auto, unfolding(crate::specs::Contributions::entry_contributions))]
 fn collect_entry<'a>(
     contributions: &mut Vec<Contribution<'a>>,
+    definitions: &Definitions<'_>,
     place: Place,
     section: &[u8],
     entry: &'a Entry,
 ) -> Result<(), AllocError>
-    ensures { OnOk result (contributions_view contributions.new.items ≡ contributions_view contributions.old.items ++ entry_contributions place section.now (entry_view entry.now)) }
+    ensures { OnOk result (contributions_view contributions.new.items ≡ contributions_view contributions.old.items ++ entry_contributions definitions.now place section.now (entry_view entry.now)) }
 {
     if section == SWITCHES_NAME {
-        return collect_switch(contributions, as_switch(entry));
+        return collect_switch(contributions, definitions, as_switch(entry));
+    }
+    if section == COILS_NAME {
+        return collect_coil(contributions, as_coil(entry));
+    }
+    if section == FLIPPERS_NAME {
+        return collect_flipper(contributions, definitions, place, as_flipper(entry));
+    }
+    if section == AUTOFIRE_COILS_NAME {
+        return collect_autofire(contributions, definitions, place, as_autofire(entry));
     }
     collect_device(contributions, place, section, entry)
 }
@@ -159,14 +176,18 @@ fn collect_entry<'a>(
 #[tactic(auto, unfolding(crate::specs::Contributions::player_entry_contributions))]
 fn collect_player<'a>(
     contributions: &mut Vec<Contribution<'a>>,
+    definitions: &Definitions<'_>,
     place: Place,
     section: &[u8],
     player: &'a Player,
 ) -> Result<(), AllocError>
-    ensures { OnOk result (contributions_view contributions.new.items ≡ contributions_view contributions.old.items ++ player_entry_contributions place section.now (player_view player.now)) }
+    ensures { OnOk result (contributions_view contributions.new.items ≡ contributions_view contributions.old.items ++ player_entry_contributions definitions.now place section.now (player_view player.now)) }
 {
     if section == EVENT_PLAYER_NAME {
         return collect_event_player(contributions, place, as_event_player(player));
+    }
+    if section == COIL_PLAYER_NAME {
+        return collect_coil_player(contributions, definitions, place, as_coil_player(player));
     }
     Ok(())
 }
@@ -176,24 +197,25 @@ fn collect_player<'a>(
 #[tactic(auto, unfolding(crate::specs::Contributions::switch_contributions))]
 fn collect_switch<'a>(
     contributions: &mut Vec<Contribution<'a>>,
+    definitions: &Definitions<'_>,
     row: Switch<'a>,
 ) -> Result<(), AllocError>
-    ensures { OnOk result (contributions_view contributions.new.items ≡ contributions_view contributions.old.items ++ switch_contributions (switch_row_view row.entry)) }
+    ensures { OnOk result (contributions_view contributions.new.items ≡ contributions_view contributions.old.items ++ switch_contributions definitions.now (switch_row_view row.entry)) }
 {
     contributions.push(Contribution::Gives(Table::Switches, &row.name.text))?;
-    contributions.push(Contribution::Reads(kind_of(row)))?;
+    contributions.push(Contribution::Reads(kind_of(definitions, row)))?;
     collect_active(contributions, row)?;
     collect_inactive(contributions, row)?;
     Ok(())
 }
 
 /// How the switch of a row is read.
-fn kind_of(row: Switch<'_>) -> SwitchKind
-    ensures { result ≡ kind_of (switch_row_view row.entry) }
+fn kind_of(definitions: &Definitions<'_>, row: Switch<'_>) -> SwitchKind
+    ensures { result ≡ kind_of definitions.now (switch_row_view row.entry) }
 {
     SwitchKind {
         contact: contact_of(row.contact),
-        quick: is_quick(row.debounce),
+        quick: is_quick(definitions, &row.name.text, row.debounce),
     }
 }
 
@@ -207,12 +229,12 @@ fn contact_of(contact: WrittenContact) -> Contact
     }
 }
 
-/// Whether a raw level is accepted at once. So far no use of a switch asks for that.
-fn is_quick(debounce: Debounce) -> bool
-    ensures { result ≡ is_quick debounce }
+/// Whether a raw level of the switch of this name is accepted at once.
+fn is_quick(definitions: &Definitions<'_>, name: &[u8], debounce: Debounce) -> bool
+    ensures { result ≡ is_quick definitions.now name.now debounce }
 {
     match debounce {
-        Debounce::Auto => false,
+        Debounce::Auto => definitions.makes_quick(name),
         Debounce::Quick => true,
         Debounce::Normal => false,
     }
@@ -290,10 +312,10 @@ fn collect_posts<'a>(
     contributions: &mut Vec<Contribution<'a>>,
     names: &'a [Name],
 ) -> Result<(), AllocError>
-    ensures { OnOk result (contributions_view contributions.new.items ≡ contributions_view contributions.old.items ++ map post (texts (map name_view names.now))) }
+    ensures { OnOk result (contributions_view contributions.new.items ≡ contributions_view contributions.old.items ++ map (λ e. does (posts e)) (texts (map name_view names.now))) }
 {
     for name in names {
-        contributions.push(Contribution::Post(whole(&name.text)))?;
+        contributions.push(Contribution::Does(Effect::Post(whole(&name.text))))?;
     }
     Ok(())
 }

@@ -4,10 +4,10 @@ ghost use Rattle.std.specs.Prelude.{◌≡◌, ◌++◌, [], map, OnOk};
 ghost use Rattle.mpf_sections.specs.Typed.{control_of, controls_of, with_control};
 ghost use Rattle.mpf_sections.specs.View.{name_view, names_view, fields_view, entry_view, block_view, counter_view, step_block_view, timer_view};
 ghost use Rattle.plan_contributions.specs.DeviceEntries.{acts, direction_in_plan, is_none, block_settings, block_acts, block_mentions, block_event, or_own, block_lists, counter_settings, counter_device, step_acts, step_settings, step_device, control_act, controlled, timer_event, timer_lists, timer_settings, timer_device, device_of};
-ghost use Rattle.plan_contributions.specs.Contributions.{mentions, post_in, posts_from, texts, act_binding, device_contributions, where_device};
+ghost use Rattle.plan_contributions.specs.Contributions.{mentions, does_in, effects_from, posts, texts, act_binding, device_contributions, where_device};
 ghost use Rattle.plan_contributions.specs.View.{parts_text, contributions_view};
 
-use crate::contribution::{Aim, Contribution, Parts, Place, whole};
+use crate::contribution::{Aim, Contribution, Effect, Parts, Place, whole};
 use mpf_config::config::{ControlAction, Direction as WrittenDirection};
 use mpf_config::{
     ACCRUALS_NAME, Block, COUNTERS_NAME, Counter, Entry, Fields, Name, SEQUENCES_NAME, StepBlock,
@@ -66,7 +66,7 @@ pub fn direction_in_plan(direction: WrittenDirection) -> Direction
 }
 
 /// Each of the events does this with the row that came last.
-fn collect_acts<'a>(
+pub(crate) fn collect_acts<'a>(
     contributions: &mut Vec<Contribution<'a>>,
     place: Place,
     act: Act,
@@ -123,7 +123,7 @@ fn collect_block_posts<'a>(
     name: &'a [u8],
     block: Block<'a>,
 ) -> Result<(), AllocError>
-    ensures { OnOk result (contributions_view contributions.new.items ≡ contributions_view contributions.old.items ++ (map mentions (block_mentions (block_view block.entry)) ++ posts_from 0 (block_lists name.now (block_view block.entry)))) }
+    ensures { OnOk result (contributions_view contributions.new.items ≡ contributions_view contributions.old.items ++ (map mentions (block_mentions (block_view block.entry)) ++ effects_from 0 (block_lists name.now (block_view block.entry)))) }
 {
     collect_mentions(contributions, block.hit)?;
     collect_mentions(contributions, block.complete)?;
@@ -161,9 +161,9 @@ fn collect_block_lists<'a>(
     name: &'a [u8],
     block: Block<'a>,
 ) -> Result<(), AllocError>
-    ensures { OnOk result (contributions_view contributions.new.items ≡ contributions_view contributions.old.items ++ posts_from 0 (block_lists name.now (block_view block.entry))) }
+    ensures { OnOk result (contributions_view contributions.new.items ≡ contributions_view contributions.old.items ++ effects_from 0 (block_lists name.now (block_view block.entry))) }
 {
-    contributions.push(Contribution::PostIn(0, block_event(name, b"_updated")))?;
+    contributions.push(Contribution::DoesIn(0, Effect::Post(block_event(name, b"_updated"))))?;
     collect_list(contributions, 1, block.hit, block_event(name, b"_hit"))?;
     collect_list(
         contributions,
@@ -181,10 +181,10 @@ fn collect_list<'a>(
     names: &'a [Name],
     own: Parts<'a>,
 ) -> Result<(), AllocError>
-    ensures { OnOk result (contributions_view contributions.new.items ≡ contributions_view contributions.old.items ++ map (post_in number) (or_own (map name_view names.now) (parts_text own.entry))) }
+    ensures { OnOk result (contributions_view contributions.new.items ≡ contributions_view contributions.old.items ++ map (does_in number) (map posts (or_own (map name_view names.now) (parts_text own.entry)))) }
 {
     if is_none(names) {
-        contributions.push(Contribution::PostIn(number, own))?;
+        contributions.push(Contribution::DoesIn(number, Effect::Post(own)))?;
         return Ok(());
     }
     collect_written(contributions, number, names)
@@ -195,10 +195,10 @@ fn collect_written<'a>(
     number: u8,
     names: &'a [Name],
 ) -> Result<(), AllocError>
-    ensures { OnOk result (contributions_view contributions.new.items ≡ contributions_view contributions.old.items ++ map (post_in number) (texts (map name_view names.now))) }
+    ensures { OnOk result (contributions_view contributions.new.items ≡ contributions_view contributions.old.items ++ map (does_in number) (map posts (texts (map name_view names.now)))) }
 {
     for name in names {
-        contributions.push(Contribution::PostIn(number, whole(&name.text)))?;
+        contributions.push(Contribution::DoesIn(number, Effect::Post(whole(&name.text))))?;
     }
     Ok(())
 }
@@ -365,12 +365,12 @@ fn collect_timer_lists<'a>(
     contributions: &mut Vec<Contribution<'a>>,
     name: &'a [u8],
 ) -> Result<(), AllocError>
-    ensures { OnOk result (contributions_view contributions.new.items ≡ contributions_view contributions.old.items ++ posts_from 0 (timer_lists name.now)) }
+    ensures { OnOk result (contributions_view contributions.new.items ≡ contributions_view contributions.old.items ++ effects_from 0 (timer_lists name.now)) }
 {
-    contributions.push(Contribution::PostIn(0, timer_event(name, b"_started")))?;
-    contributions.push(Contribution::PostIn(1, timer_event(name, b"_stopped")))?;
-    contributions.push(Contribution::PostIn(2, timer_event(name, b"_paused")))?;
-    contributions.push(Contribution::PostIn(3, timer_event(name, b"_tick")))?;
-    contributions.push(Contribution::PostIn(4, timer_event(name, b"_complete")))?;
+    contributions.push(Contribution::DoesIn(0, Effect::Post(timer_event(name, b"_started"))))?;
+    contributions.push(Contribution::DoesIn(1, Effect::Post(timer_event(name, b"_stopped"))))?;
+    contributions.push(Contribution::DoesIn(2, Effect::Post(timer_event(name, b"_paused"))))?;
+    contributions.push(Contribution::DoesIn(3, Effect::Post(timer_event(name, b"_tick"))))?;
+    contributions.push(Contribution::DoesIn(4, Effect::Post(timer_event(name, b"_complete"))))?;
     Ok(())
 }

@@ -1,12 +1,12 @@
 //! What rows give to a plan, by names.
 
-ghost use Rattle.std.specs.Prelude.{◌≡◌, option_map, OnOk, ◌++◌};
-ghost use Rattle.plan_contributions.specs.UsedNames.{used, given};
+ghost use Rattle.std.specs.Prelude.{◌≡◌, Some, option_map, OnOk, ◌++◌};
+ghost use Rattle.plan_contributions.specs.UsedNames.{used_by, used, given};
 ghost use Rattle.plan_contributions.specs.Contributions.{event_ending, mode_event_name};
-ghost use Rattle.plan_contributions.specs.View.{parts_text, named_view, contribution_view};
+ghost use Rattle.plan_contributions.specs.View.{parts_text, named_view, effect_view, contribution_view};
 
 use plan_tables::devices::{Act, Settings};
-use plan_tables::entries::{ModeEvent, SwitchKind};
+use plan_tables::entries::{CoilLimits, ModeEvent, SwitchKind};
 use plan_tables::table::Table;
 use std::alloc::AllocError;
 
@@ -45,6 +45,26 @@ pub enum Aim {
     Do(Act),
 }
 
+/// What is done with a coil. Powers are in thousandths of full power.
+#[derive(Clone, Copy)]
+pub enum Deed {
+    /// It is pulsed for so many milliseconds with this power.
+    Pulse { ms: u32, power: u16 },
+    /// It is enabled with this power.
+    Enable { power: u16 },
+    /// It is disabled.
+    Disable,
+}
+
+/// One thing that an effect list does.
+#[derive(Clone, Copy)]
+pub enum Effect<'a> {
+    /// It posts the event of this name.
+    Post(Parts<'a>),
+    /// It does this with the coil of this name.
+    Coil(&'a [u8], Deed),
+}
+
 /// One thing that a row gives to a plan. What comes last depends on the order: it is the last that
 /// the contributions before this one gave.
 #[derive(Clone, Copy)]
@@ -63,14 +83,18 @@ pub enum Contribution<'a> {
     ModeEvent(ModeEvent, &'a [u8]),
     /// A binding of the event: whose it is, and what it is to do.
     Binds(&'a [u8], Place, Aim),
-    /// The effect list that began last posts the event.
-    Post(Parts<'a>),
+    /// The effect list that began last does this.
+    Does(Effect<'a>),
     /// A row of a device, with which its effect lists begin.
     Device(Place, Settings),
-    /// This effect list of the row that came last posts the event, by its number in the row.
-    PostIn(u8, Parts<'a>),
+    /// This effect list of the row that came last does this, by its number in the row.
+    DoesIn(u8, Effect<'a>),
+    /// The row that came last listens to the switch of this name, as its switch of this number.
+    Listens(usize, &'a [u8]),
     /// A setting names the event.
     Mentions(&'a [u8]),
+    /// A coil: its name, and what it may be sent.
+    Coil(&'a [u8], CoilLimits),
 }
 
 /// A name as it is written.
@@ -118,6 +142,16 @@ pub fn write_name(text: &mut Vec<u8>, name: Parts) -> Result<(), AllocError>
     text.extend_from_slice(name.end)
 }
 
+/// The name that a part of an effect list uses, and its table.
+fn used_by(effect: Effect<'_>) -> (Table, Parts<'_>)
+    ensures { Some (named_view result) ≡ used_by (effect_view effect.entry) }
+{
+    match effect {
+        Effect::Post(name) => (Table::Events, name),
+        Effect::Coil(name, _) => (Table::Coils, whole(name)),
+    }
+}
+
 /// The name that a contribution uses, and its table.
 pub fn used<'a>(contribution: &Contribution<'a>) -> Option<(Table, Parts<'a>)>
     ensures { option_map named_view result ≡ used (contribution_view contribution.now) }
@@ -131,8 +165,10 @@ pub fn used<'a>(contribution: &Contribution<'a>) -> Option<(Table, Parts<'a>)>
         }
         Contribution::ModeEvent(which, name) => Some((Table::Events, mode_event_name(which, name))),
         Contribution::Binds(name, _, _) => Some((Table::Events, whole(name))),
-        Contribution::Post(name) => Some((Table::Events, name)),
-        Contribution::PostIn(_, name) => Some((Table::Events, name)),
+        Contribution::Does(effect) => Some(used_by(effect)),
+        Contribution::DoesIn(_, effect) => Some(used_by(effect)),
+        Contribution::Listens(_, name) => Some((Table::Switches, whole(name))),
+        Contribution::Coil(name, _) => Some((Table::Coils, whole(name))),
         Contribution::Mentions(name) => Some((Table::Events, whole(name))),
         _ => None,
     }
@@ -144,6 +180,7 @@ pub fn given<'a>(contribution: &Contribution<'a>) -> Option<(Table, Parts<'a>)>
 {
     match *contribution {
         Contribution::Gives(table, name) => Some((table, whole(name))),
+        Contribution::Coil(name, _) => Some((Table::Coils, whole(name))),
         _ => None,
     }
 }

@@ -1,4 +1,4 @@
--- What the events and switches of a name are.
+-- What the events, switches and coils of a name are.
 use Rattle.std.proofs.Common.{◌≡◌, ℕ, ◌<◌, ◌≢◌, List, [], length, slice_get, slice_index_or, Option, Some, None, Contains, refl, sym, ◌∙◌, ap}
 use Rattle.std.specs.Str.{bytes_eq}
 use Rattle.std.specs.List.{position}
@@ -6,7 +6,8 @@ use Rattle.std.specs.Option.{option_map}
 use Rattle.std.proofs.lemmas.Option.{none-some, same_Some, slice_get-get_or}
 use Rattle.plan_tables.specs.declared.entries.EventId.{EventId}
 use Rattle.plan_tables.specs.declared.entries.SwitchId.{SwitchId}
-use Rattle.plan_tables.specs.PlanView.{PlanView, PlanSwitch, event_named, no_switch, switch_at, switch_named}
+use Rattle.plan_tables.specs.declared.entries.CoilId.{CoilId}
+use Rattle.plan_tables.specs.PlanView.{PlanView, PlanSwitch, PlanCoil, event_named, no_switch, switch_at, switch_named, no_coil, coil_at, coil_named}
 use Rattle.plan_tables.proofs.Places.{found_at, found_within, absent}
 
 module _ {X : Type 0} (number : ℕ → X) (place : X → ℕ) (back : (n : ℕ) → place (number n) ≡ n) where
@@ -47,3 +48,13 @@ module _ (plan : PlanView) (name : List ℕ) where
   -- where a name has no switch, no switch has the name
   pub switch_absent : switch_named plan name ≡ None → (i : ℕ) (d : PlanSwitch) → i < length plan.switches → (slice_index_or plan.switches i d).name ≢ name
   switch_absent none = absent (λ (x : PlanSwitch). x.name) name plan.switches (unnumbered (λ n. record { 0 = n }) (λ (x : SwitchId). x.0) (λ n. refl) (position (λ s. bytes_eq name s.name) plan.switches) none)
+
+  coil_place : (c : CoilId) → coil_named plan name ≡ Some c → position (λ c. bytes_eq name c.name) plan.coils ≡ Some c.0
+  coil_place c = numbered (λ n. record { 0 = n }) (λ (x : CoilId). x.0) (λ n. refl) (position (λ c. bytes_eq name c.name) plan.coils) c
+
+  -- the coil of a name has it
+  pub coil_found : (c : CoilId) → coil_named plan name ≡ Some c → (coil_at plan c).name ≡ name
+  coil_found c named = found_at (λ (x : PlanCoil). x.name) name plan.coils c.0 no_coil (coil_place c named)
+
+  pub coil_within : (c : CoilId) → coil_named plan name ≡ Some c → c.0 < length plan.coils
+  coil_within c named = found_within (λ (x : PlanCoil). x.name) name plan.coils c.0 (coil_place c named)

@@ -1,39 +1,42 @@
--- The switches of a plan, each at the place of its name.
-use Rattle.std.proofs.Common.{◌≡◌, ℕ, zero, suc, ◌<◌, List, [], ◌∷◌, length, get_or, refl, sym, ◌∙◌, ap, arith}
+-- Entries of a plan, each at the place of its name.
+use Rattle.std.proofs.Common.{◌≡◌, ℕ, zero, suc, ◌<◌, List, [], ◌∷◌, length, map, get_or, refl, sym, ◌∙◌, ap, arith}
 use Rattle.std.specs.List.{zip, position}
 use Rattle.std.specs.Str.{bytes_eq}
 use Rattle.std.proofs.lemmas.Slice.Zip.{firsts-zip}
-use Rattle.plan_tables.specs.declared.entries.SwitchEntry.{SwitchEntry}
-use Rattle.plan_tables.specs.PlanView.{PlanSwitch, no_switch}
-use Rattle.plan_tables.specs.Inside.{switch_entry_view, switches_view}
 use Rattle.plan_tables.proofs.Places.{position-map}
 
--- there are as many as names
-pub length-switches : (names : List (List ℕ)) (entries : List SwitchEntry) → length entries ≡ length names → length (switches_view names entries) ≡ length names
-length-switches [] entries count = refl
-length-switches (n ∷ ns) [] count = absurd (omega (arith, count))
-length-switches (n ∷ ns) (e ∷ es) count = let rest = length-switches ns es (omega (arith, count)) in omega (arith, rest)
+-- entries E, of which the plan shows V
+module _ {E V : Type 0} (view : List ℕ × E → V) where
+  abbrev pub shown : List (List ℕ) → List E → List V
+  shown names entries = map view (zip names entries)
 
--- the switch at a place has the name there
-pub name_shown : (names : List (List ℕ)) (entries : List SwitchEntry) (i : ℕ) → length entries ≡ length names → i < length names
-    → (get_or (switches_view names entries) i no_switch).name ≡ get_or names i []
-name_shown [] entries i count within = absurd (omega arith)
-name_shown (m ∷ ms) [] i count within = absurd (omega (arith, count))
-name_shown (m ∷ ms) (e ∷ es) zero count within = refl
-name_shown (m ∷ ms) (e ∷ es) (suc i) count within = name_shown ms es i (omega (arith, count)) (omega arith)
+  -- there are as many as names
+  pub length-shown : (names : List (List ℕ)) (entries : List E) → length entries ≡ length names → length (shown names entries) ≡ length names
+  length-shown [] entries count = refl
+  length-shown (n ∷ ns) [] count = absurd (omega (arith, count))
+  length-shown (n ∷ ns) (e ∷ es) count = let rest = length-shown ns es (omega (arith, count)) in omega (arith, rest)
 
--- and what the entry there says
-pub entry_shown : {X : Type 0} (seen : PlanSwitch → X) (said : SwitchEntry → X) → ((n : List ℕ) (e : SwitchEntry) → seen (switch_entry_view (n, e)) ≡ said e)
-    → (names : List (List ℕ)) (entries : List SwitchEntry) (i : ℕ) (e : SwitchEntry) → length entries ≡ length names → i < length names → seen (get_or (switches_view names entries) i no_switch) ≡ said (get_or entries i e)
-entry_shown seen said same [] entries i e count within = absurd (omega arith)
-entry_shown seen said same (m ∷ ms) [] i e count within = absurd (omega (arith, count))
-entry_shown seen said same (m ∷ ms) (f ∷ fs) zero e count within = same m f
-entry_shown seen said same (m ∷ ms) (f ∷ fs) (suc i) e count within = entry_shown seen said same ms fs i e (omega (arith, count)) (omega arith)
+  -- what is at a place has the name there
+  pub name_shown : (key : V → List ℕ) → ((n : List ℕ) (e : E) → key (view (n, e)) ≡ n)
+      → (names : List (List ℕ)) (entries : List E) (i : ℕ) (none : V) → length entries ≡ length names → i < length names → key (get_or (shown names entries) i none) ≡ get_or names i []
+  name_shown key named [] entries i none count within = absurd (omega arith)
+  name_shown key named (m ∷ ms) [] i none count within = absurd (omega (arith, count))
+  name_shown key named (m ∷ ms) (e ∷ es) zero none count within = named m e
+  name_shown key named (m ∷ ms) (e ∷ es) (suc i) none count within = name_shown key named ms es i none (omega (arith, count)) (omega arith)
 
--- a switch has the place of its name
-pub switch_position : (name : List ℕ) (names : List (List ℕ)) (entries : List SwitchEntry) → length entries ≡ length names
-    → position (λ (s : PlanSwitch). bytes_eq name s.name) (switches_view names entries) ≡ position (bytes_eq name) names
-switch_position name names entries count =
-    position-map switch_entry_view (λ (s : PlanSwitch). bytes_eq name s.name) (zip names entries)
-    ∙ sym (position-map (λ e. e.0) (bytes_eq name) (zip names entries))
-    ∙ ap (position (bytes_eq name)) (firsts-zip names entries count)
+  -- and what the entry there says
+  pub entry_shown : {X : Type 0} (seen : V → X) (said : E → X) → ((n : List ℕ) (e : E) → seen (view (n, e)) ≡ said e)
+      → (names : List (List ℕ)) (entries : List E) (i : ℕ) (e : E) (none : V) → length entries ≡ length names → i < length names → seen (get_or (shown names entries) i none) ≡ said (get_or entries i e)
+  entry_shown seen said same [] entries i e none count within = absurd (omega arith)
+  entry_shown seen said same (m ∷ ms) [] i e none count within = absurd (omega (arith, count))
+  entry_shown seen said same (m ∷ ms) (f ∷ fs) zero e none count within = same m f
+  entry_shown seen said same (m ∷ ms) (f ∷ fs) (suc i) e none count within = entry_shown seen said same ms fs i e none (omega (arith, count)) (omega arith)
+
+  -- it has the place of its name
+  pub position-shown : (key : V → List ℕ) → ((n : List ℕ) (e : E) → key (view (n, e)) ≡ n)
+      → (name : List ℕ) (names : List (List ℕ)) (entries : List E) → length entries ≡ length names → position (λ v. bytes_eq name (key v)) (shown names entries) ≡ position (bytes_eq name) names
+  position-shown key named name names entries count =
+      position-map view (λ v. bytes_eq name (key v)) (zip names entries)
+      ∙ (λ i. position (λ (e : List ℕ × E). bytes_eq name (named e.0 e.1 i)) (zip names entries))
+      ∙ sym (position-map (λ e. e.0) (bytes_eq name) (zip names entries))
+      ∙ ap (position (bytes_eq name)) (firsts-zip names entries count)

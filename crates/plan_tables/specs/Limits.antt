@@ -1,13 +1,14 @@
 -- How many entries each table of a plan may have.
 use Rattle.std.specs.Prelude.{ℕ, ◌<◌, ◌≤◌, List, [], ◌∷◌, Option, length, map, nat_lt, find, codes}
 use Rattle.plan_tables.specs.declared.table.Table.{Table}
-use Rattle.plan_tables.specs.declared.table.Table.TheVariants.{Events, Bindings, Switches, Rows}
+use Rattle.plan_tables.specs.declared.table.Table.TheVariants.{Events, Bindings, Switches, Coils, Rows}
 use Rattle.plan_tables.specs.PlanView.{PlanView}
 
 abbrev pub entry_count : PlanView → Table → ℕ
 entry_count plan Events = length plan.events
 entry_count plan Bindings = length plan.bindings
 entry_count plan Switches = length plan.switches
+entry_count plan Coils = length plan.coils
 entry_count plan Rows = length plan.rows
 
 -- the names of a table, where its entries have names
@@ -15,12 +16,14 @@ abbrev pub entry_names : PlanView → Table → List (List ℕ)
 entry_names plan Events = plan.events
 entry_names plan Bindings = []
 entry_names plan Switches = map (λ s. s.name) plan.switches
+entry_names plan Coils = map (λ c. c.name) plan.coils
 entry_names plan Rows = []
 
 abbrev pub limit_of : Table → ℕ
 limit_of Events = 4096
 limit_of Bindings = 16384
 limit_of Switches = 256
+limit_of Coils = 256
 limit_of Rows = 1024
 
 -- the name by which a table is reported
@@ -28,18 +31,20 @@ abbrev pub table_name : Table → List ℕ
 table_name Events = codes "events"
 table_name Bindings = codes "bindings"
 table_name Switches = codes "switches"
+table_name Coils = codes "coils"
 table_name Rows = codes "rows"
 
 -- the tables in the order in which they are judged
 abbrev pub tables_in_order : List Table
-tables_in_order = Events ∷ Bindings ∷ Switches ∷ Rows ∷ []
+tables_in_order = Events ∷ Bindings ∷ Switches ∷ Coils ∷ Rows ∷ []
 
 -- a table's place in that order
 abbrev pub order_of : Table → ℕ
 order_of Events = 0
 order_of Bindings = 1
 order_of Switches = 2
-order_of Rows = 3
+order_of Coils = 3
+order_of Rows = 4
 
 -- the first table that is above its limit, if there is one
 abbrev pub first_above : PlanView → Option Table

@@ -1,11 +1,14 @@
 -- A plan, apart from where it lies in memory.
-use Rattle.std.specs.Prelude.{ℕ, suc, ◌+◌, ◌==◌, List, [], ◌∷◌, Bool, true, false, Option, Some, None, if◌then◌else◌, length, map, filter, slice_index_or, position, option_map}
-use Rattle.std.specs.List.{range_with_len}
+use Rattle.std.specs.Prelude.{ℕ, suc, ◌+◌, ◌==◌, List, [], ◌∷◌, ◌++◌, Bool, true, false, Option, Some, None, if◌then◌else◌, length, map, filter, slice_index_or, position, option_map}
+use Rattle.std.specs.List.{range_with_len, flat_map, list_any}
 use Rattle.std.specs.Str.{bytes_eq}
 use Rattle.plan_tables.specs.declared.entries.Contact.TheVariants.{NormallyOpen}
 use Rattle.plan_tables.specs.declared.entries.EventId.{EventId}
 use Rattle.plan_tables.specs.declared.entries.SwitchId.{SwitchId}
 use Rattle.plan_tables.specs.declared.entries.SwitchKind.{SwitchKind}
+use Rattle.plan_tables.specs.declared.entries.Listener.{Listener}
+use Rattle.plan_tables.specs.declared.entries.CoilId.{CoilId}
+use Rattle.plan_tables.specs.declared.entries.CoilLimits.{CoilLimits}
 use Rattle.plan_tables.specs.declared.entries.Mode.{Mode}
 use Rattle.plan_tables.specs.declared.entries.ModeId.{ModeId}
 use Rattle.plan_tables.specs.declared.entries.ModeEvent.{ModeEvent}
@@ -19,16 +22,22 @@ use Rattle.plan_tables.specs.declared.entries.Owner.{Owner}
 use Rattle.plan_tables.specs.declared.entries.Owner.TheVariants.{Machine}
 use Rattle.plan_tables.specs.declared.entries.Owner.TheVariants as owners
 use Rattle.plan_tables.specs.declared.entries.Action.{Action}
+use Rattle.plan_tables.specs.declared.entries.Action.TheVariants.{Enable}
+use Rattle.plan_tables.specs.declared.entries.Target.{Target}
 use Rattle.plan_tables.specs.declared.entries.Target.TheVariants.{Run}
+use Rattle.plan_tables.specs.Devices.{list_count}
 use Rattle.plan_tables.specs.declared.entries.Binding.{Binding}
 use Rattle.plan_tables.specs.declared.devices.RowId.{RowId}
+use Rattle.plan_tables.specs.declared.devices.Act.{Act}
+use Rattle.plan_tables.specs.declared.devices.Act.TheVariants.{SwitchOn, SwitchOff}
 use Rattle.plan_tables.specs.declared.devices.DeviceRow.{DeviceRow}
 use Rattle.plan_tables.specs.declared.devices.Settings.TheVariants.{Accrual}
 
--- a switch: its name, how it is read, and what it posts when it becomes active and inactive
+-- a switch: its name, how it is read, which devices listen to it, and what it posts when it becomes active and inactive
 pub record PlanSwitch : Type 0 where
   pub name : List ℕ
   pub kind : SwitchKind
+  pub listeners : List Listener
   pub active : List EventId
   pub inactive : List EventId
 
@@ -38,7 +47,20 @@ switch_posts active s = if active then s.active else s.inactive
 
 -- in place of a switch where there is none
 abbrev pub no_switch : PlanSwitch
-no_switch = record { name = []; kind = record { contact = NormallyOpen; quick = false }; active = []; inactive = [] }
+no_switch = record { name = []; kind = record { contact = NormallyOpen; quick = false }; listeners = []; active = []; inactive = [] }
+
+-- what a device is told when the switch to which it listens becomes active, or inactive
+abbrev pub act_of_listener : Bool → Listener → Act
+act_of_listener active l = if active then SwitchOn l.switch else SwitchOff l.switch
+
+-- a coil: its name, and what it may be sent
+pub record PlanCoil : Type 0 where
+  pub name : List ℕ
+  pub limits : CoilLimits
+
+-- in place of a coil where there is none: no pulse and no hold is within its limits
+abbrev pub no_coil : PlanCoil
+no_coil = record { name = []; limits = record { max_pulse_ms = 0; max_pulse_power = 0; max_hold_power = 0; may_hold = false } }
 
 -- a mode, with its name
 pub record PlanMode : Type 0 where
@@ -66,6 +88,7 @@ pub record PlanView : Type 0 where
   pub modes : List PlanMode
   pub events : List (List ℕ)
   pub switches : List PlanSwitch
+  pub coils : List PlanCoil
   pub lists : List (List Action)
   pub bindings : List Binding
   pub rows : List DeviceRow
@@ -130,6 +153,18 @@ switch_named plan name = option_map (λ n. record { 0 = n }) (position (λ s. by
 abbrev pub posts_of : PlanView → SwitchId → Bool → List EventId
 posts_of plan s active = switch_posts active (switch_at plan s)
 
+-- the devices that listen to a switch of the plan, in row order
+abbrev pub listeners_of : PlanView → SwitchId → List Listener
+listeners_of plan s = (switch_at plan s).listeners
+
+-- a coil by its number
+abbrev pub coil_at : PlanView → CoilId → PlanCoil
+coil_at plan c = slice_index_or plan.coils c.0 no_coil
+
+-- the coil of a name, if there is one
+abbrev pub coil_named : PlanView → List ℕ → Option CoilId
+coil_named plan name = option_map (λ n. record { 0 = n }) (position (λ c. bytes_eq name c.name) plan.coils)
+
 -- the actions of an effect list
 abbrev pub actions_at : PlanView → ListId → List Action
 actions_at plan l = slice_index_or plan.lists l.0 []
@@ -172,6 +207,39 @@ rows_of plan owner = filter (λ r. is_owner owner (row_at plan r).owner) (row_nu
 -- an effect list of a row, by its number in the row
 abbrev pub list_of_row : PlanView → RowId → ℕ → ListId
 list_of_row plan r k = record { 0 = (slice_index_or plan.row_lists r.0 (record { 0 = 0 })).0 + k }
+
+-- the numbers of all coils
+abbrev pub coil_numbers : PlanView → List CoilId
+coil_numbers plan = map (λ n. record { 0 = n }) (range_with_len 0 (length plan.coils))
+
+-- the actions of the effect list that a binding runs, if it runs one
+abbrev pub actions_of_target : PlanView → Target → List Action
+actions_of_target plan (Run l) = actions_at plan l
+actions_of_target plan _ = []
+
+-- those of a binding, where it is this owner's
+abbrev pub actions_of_binding : PlanView → Owner → Binding → List Action
+actions_of_binding plan owner b = if is_owner owner b.owner then actions_of_target plan b.target else []
+
+-- those of all effect lists of a row, where it is this owner's
+abbrev pub actions_of_row : PlanView → Owner → RowId → List Action
+actions_of_row plan owner r =
+    if is_owner owner (row_at plan r).owner
+    then flat_map (λ k. actions_at plan (list_of_row plan r k)) (range_with_len 0 (list_count (row_at plan r).settings))
+    else []
+
+-- all actions of an owner
+abbrev pub actions_of : PlanView → Owner → List Action
+actions_of plan owner = flat_map (actions_of_binding plan owner) plan.bindings ++ flat_map (actions_of_row plan owner) (row_numbers plan)
+
+-- whether an action enables the coil
+abbrev pub is_enable_of : CoilId → Action → Bool
+is_enable_of coil (Enable other power) = coil.0 == other.0
+is_enable_of coil _ = false
+
+-- the coils that the owner's actions enable, by number
+abbrev pub coils_enabled : PlanView → Owner → List CoilId
+coils_enabled plan owner = filter (λ coil. list_any (is_enable_of coil) (actions_of plan owner)) (coil_numbers plan)
 
 -- what is bound to the event, in plan order
 abbrev pub bound_to : PlanView → EventId → List Binding

@@ -5,7 +5,8 @@ use Rattle.plan_tables.specs.declared.entries.EventId.{EventId}
 use Rattle.plan_tables.specs.declared.entries.Owner.{Owner}
 use Rattle.plan_tables.specs.declared.entries.Owner.TheVariants.{Machine, Mode}
 use Rattle.plan_tables.specs.declared.entries.Action.{Action}
-use Rattle.plan_tables.specs.declared.entries.Action.TheVariants.{Post}
+use Rattle.plan_tables.specs.declared.entries.Action.TheVariants.{Post, Pulse, Enable, Disable}
+use Rattle.plan_tables.specs.declared.entries.Listener.{Listener}
 use Rattle.plan_tables.specs.declared.entries.Target.{Target}
 use Rattle.plan_tables.specs.declared.entries.Target.TheVariants.{Run, Start, Stop, Act}
 use Rattle.plan_tables.specs.declared.entries.ModeId.{ModeId}
@@ -17,7 +18,7 @@ use Rattle.plan_tables.specs.declared.devices.RowId.{RowId}
 use Rattle.plan_tables.specs.declared.table.Table.{Table}
 use Rattle.plan_tables.specs.Devices.{IsWithinLimits, list_count}
 use Rattle.plan_tables.specs.Limits.{entry_names}
-use Rattle.plan_tables.specs.PlanView.{PlanMode, PlanSwitch, PlanView, list_of_row, mode_event, row_at, work_of}
+use Rattle.plan_tables.specs.PlanView.{PlanMode, PlanSwitch, PlanCoil, PlanView, list_of_row, mode_event, row_at, work_of}
 
 abbrev pub IsEventWithin : ℕ → EventId → Type 0
 IsEventWithin events e = e.0 < events
@@ -32,6 +33,9 @@ pub record IsModeWithin (events : ℕ) (m : PlanMode) : Type 0 where
 
 abbrev pub IsActionWithin : PlanView → Action → Type 0
 IsActionWithin plan (Post e) = e.0 < length plan.events
+IsActionWithin plan (Pulse coil ms power) = coil.0 < length plan.coils
+IsActionWithin plan (Enable coil power) = coil.0 < length plan.coils
+IsActionWithin plan (Disable coil) = coil.0 < length plan.coils
 
 abbrev pub IsTargetWithin : PlanView → Target → Type 0
 IsTargetWithin plan (Run l) = l.0 < length plan.lists
@@ -49,6 +53,16 @@ IsBindingWithin plan b = (b.event.0 < length plan.events) × IsOwnerWithin plan 
 abbrev pub IsSwitchWithin : ℕ → PlanSwitch → Type 0
 IsSwitchWithin events s = All (IsEventWithin events) s.active × All (IsEventWithin events) s.inactive
 
+abbrev pub IsListenerWithin : ℕ → Listener → Type 0
+IsListenerWithin rows l = l.row.0 < rows
+
+-- pulses of 1 to 5,000 milliseconds, and powers of at most 1,000 thousandths
+pub record IsCoilWithin (c : PlanCoil) : Type 0 where
+  pub some_pulse : 1 ≤ c.limits.max_pulse_ms
+  pub pulse : c.limits.max_pulse_ms ≤ 5000
+  pub pulse_power : c.limits.max_pulse_power ≤ 1000
+  pub hold_power : c.limits.max_hold_power ≤ 1000
+
 -- a row is at its number, its owner is there, and it has its effect lists
 pub record IsRowWithin (plan : PlanView) (r : RowId) : Type 0 where
   pub number : (row_at plan r).number ≡ r
@@ -64,6 +78,8 @@ IsWorkAt plan e (works.Mode m which) = (m.0 < length plan.modes) × (e ≡ mode_
 pub record HasEntries (plan : PlanView) : Type 0 where
   pub modes : All (IsModeWithin (length plan.events)) plan.modes
   pub switches : All (IsSwitchWithin (length plan.events)) plan.switches
+  -- only devices of the plan listen to switches
+  pub listeners : All (λ s. All (IsListenerWithin (length plan.rows)) s.listeners) plan.switches
   pub lists : All (All (IsActionWithin plan)) plan.lists
   pub bindings : All (IsBindingWithin plan) plan.bindings
   pub rows : (r : RowId) → r.0 < length plan.rows → IsRowWithin plan r
@@ -73,10 +89,13 @@ pub record IsValid (plan : PlanView) : Type 0 where
   pub event_limit : length plan.events ≤ 4096
   pub binding_limit : length plan.bindings ≤ 16384
   pub switch_limit : length plan.switches ≤ 256
+  pub coil_limit : length plan.coils ≤ 256
   -- one of each binding, and at most five of each row
   pub list_limit : length plan.lists ≤ 21504
   pub row_limit : length plan.rows ≤ 1024
   pub row_lists : length plan.row_lists ≡ length plan.rows
+  -- the limits of each coil are within bounds of their own
+  pub coils : All IsCoilWithin plan.coils
   pub settings : All (λ row. IsWithinLimits row.settings) plan.rows
   -- no effect list has more than 1,024 actions
   pub action_limit : All (λ actions. length actions ≤ 1024) plan.lists

@@ -72,6 +72,30 @@ pub enum Settings {
     Accrual(StepSettings),
     Sequence(StepSettings),
     Timer(TimerSettings),
+    /// A flipper. What one flipper does, and another does not, is in their effect lists.
+    Flipper,
+    /// An autofire coil. Which coil it is stands in its effect list.
+    Autofire,
+}
+
+impl Settings {
+    ghost use Rattle.std.specs.Prelude.{◌≡◌, ◌≤◌};
+    ghost use Rattle.plan_tables.specs.Devices.{list_count};
+
+    /// How many effect lists a row with these settings has: at most 5.
+    pub fn list_count(self) -> u16
+        ensures count { result ≡ list_count self }
+        ensures few { result ≤ 5 }
+    {
+        match self {
+            Settings::Counter(_) => 3,
+            Settings::Accrual(_) => 3,
+            Settings::Sequence(_) => 3,
+            Settings::Timer(_) => 5,
+            Settings::Flipper => 2,
+            Settings::Autofire => 1,
+        }
+    }
 }
 
 /// A device of a plan.

@@ -28,6 +28,23 @@ pub struct SwitchKind {
     pub quick: bool,
 }
 
+/// A coil, by its number in order of first use: below 256.
+#[derive(Clone, Copy, Debug, Default, PartialEq, Eq)]
+pub struct CoilId(pub u16);
+
+/// What a coil may be sent. Powers are in thousandths of full power: at most 1,000.
+#[derive(Clone, Copy, Debug)]
+pub struct CoilLimits {
+    /// The greatest length of a pulse, in milliseconds: from 1 to 5,000.
+    pub max_pulse_ms: u32,
+    /// The greatest power of a pulse.
+    pub max_pulse_power: u16,
+    /// The greatest power with which the coil may be held.
+    pub max_hold_power: u16,
+    /// Whether the coil may be held at all: enabled until it is disabled.
+    pub may_hold: bool,
+}
+
 /// An effect list, by its number: below 21,504.
 #[derive(Clone, Copy, Debug)]
 pub struct ListId(pub u32);
@@ -94,11 +111,33 @@ pub enum Owner {
     Mode(ModeId),
 }
 
+impl Owner {
+    ghost use Rattle.std.specs.Prelude.{◌≡◌};
+    ghost use Rattle.plan_tables.specs.PlanView.{is_owner};
+
+    /// Whether the two are the same.
+    pub fn is(self, other: Owner) -> bool
+        ensures { result ≡ is_owner self other }
+    {
+        match (self, other) {
+            (Owner::Machine, Owner::Machine) => true,
+            (Owner::Mode(mode), Owner::Mode(another)) => mode.0 == another.0,
+            _ => false,
+        }
+    }
+}
+
 /// One thing that an effect list does.
 #[derive(Clone, Copy, Debug)]
 pub enum Action {
     /// The event goes to the end of the queue.
     Post(EventId),
+    /// The coil is pulsed, for so many milliseconds and with this power in thousandths.
+    Pulse { coil: CoilId, ms: u32, power: u16 },
+    /// The coil is enabled with this power in thousandths, until it is disabled.
+    Enable { coil: CoilId, power: u16 },
+    /// The coil is disabled.
+    Disable { coil: CoilId },
 }
 
 /// What a binding does when its turn comes.
@@ -127,11 +166,39 @@ pub struct Binding {
     pub target: Target,
 }
 
-/// How a switch is read, and what it posts when it becomes active, and when it becomes inactive.
+/// A device that listens to a switch.
+#[derive(Clone, Copy, Debug)]
+pub struct Listener {
+    /// The device.
+    pub row: RowId,
+    /// Which switch of the device it is, by its number from 0.
+    pub switch: usize,
+}
+
+impl Listener {
+    ghost use Rattle.std.specs.Prelude.{◌≡◌};
+    ghost use Rattle.plan_tables.specs.PlanView.{act_of_listener};
+
+    /// What the device is told when the switch becomes active, or inactive.
+    pub fn act(self, active: bool) -> Act
+        ensures { result ≡ act_of_listener active self }
+    {
+        if active {
+            Act::SwitchOn(self.switch)
+        } else {
+            Act::SwitchOff(self.switch)
+        }
+    }
+}
+
+/// How a switch is read, which devices listen to it, and what it posts when it becomes active, and
+/// when it becomes inactive.
 #[derive(Drop)]
 pub struct SwitchEntry {
     /// How it is read.
     pub kind: SwitchKind,
+    /// The devices that listen to it, in the order of their rows.
+    pub listeners: Vec<Listener>,
     /// What it posts, in order, when it becomes active.
     pub active: Vec<EventId>,
     /// What it posts, in order, when it becomes inactive.

@@ -14,8 +14,9 @@ pub use devices::{
     TimerSettings,
 };
 pub use entries::{
-    Action, Binding, BindingId, Contact, EventId, ListId, Mode, ModeEntry, ModeEvent, ModeEvents,
-    ModeId, Owner, SwitchEntry, SwitchId, SwitchKind, Target, Work,
+    Action, Binding, BindingId, CoilId, CoilLimits, Contact, EventId, ListId, Listener, Mode,
+    ModeEntry, ModeEvent, ModeEvents, ModeId, Owner, SwitchEntry, SwitchId, SwitchKind, Target,
+    Work,
 };
 pub use names::{NameHashing, NameSet, NameSets, NameTable};
 pub use table::{TABLES, Table};

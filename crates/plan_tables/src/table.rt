@@ -12,12 +12,20 @@ pub enum Table {
     Bindings,
     /// At most 256 switches.
     Switches,
+    /// At most 256 coils.
+    Coils,
     /// At most 1,024 rows of devices.
     Rows,
 }
 
 /// The tables, in the order in which they are judged.
-pub const TABLES: [Table; 4] = [Table::Events, Table::Bindings, Table::Switches, Table::Rows];
+pub const TABLES: [Table; 5] = [
+    Table::Events,
+    Table::Bindings,
+    Table::Switches,
+    Table::Coils,
+    Table::Rows,
+];
 
 impl Table {
     /// The name by which the table is reported.
@@ -28,6 +36,7 @@ impl Table {
             Table::Events => "events",
             Table::Bindings => "bindings",
             Table::Switches => "switches",
+            Table::Coils => "coils",
             Table::Rows => "rows",
         }
     }
@@ -40,6 +49,7 @@ impl Table {
             Table::Events => 4_096,
             Table::Bindings => 16_384,
             Table::Switches => 256,
+            Table::Coils => 256,
             Table::Rows => 1_024,
         }
     }

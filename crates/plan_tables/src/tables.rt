@@ -2,8 +2,8 @@
 
 use crate::devices::{DeviceRow, RowId};
 use crate::entries::{
-    Action, Binding, BindingId, EventId, ListId, Mode, ModeEntry, ModeId, SwitchEntry, SwitchId,
-    SwitchKind, Work,
+    Action, Binding, BindingId, CoilId, CoilLimits, EventId, ListId, Listener, Mode, ModeEntry,
+    ModeId, SwitchEntry, SwitchId, SwitchKind, Work,
 };
 use crate::names::NameSets;
 use crate::placing::places_by_event;
@@ -15,12 +15,14 @@ use std::marker::Model;
 /// What a plan is made of.
 #[derive(Drop)]
 pub struct Tables {
-    /// The names of the events, and of the switches.
+    /// The names of the events, of the switches and of the coils.
     pub names: NameSets,
     /// In the order of the machine's list.
     pub modes: Vec<ModeEntry>,
     /// At the places of their names.
     pub switches: Vec<SwitchEntry>,
+    /// At the places of their names.
+    pub coils: Vec<CoilLimits>,
     /// The effect lists.
     pub lists: Vec<Vec<Action>>,
     /// In plan order.
@@ -32,7 +34,7 @@ pub struct Tables {
 }
 
 /// The plan of a configuration. Each number in it is that of an entry of its table, no two
-/// events and no two switches have one name, and each table is within its limit.
+/// events, no two switches and no two coils have one name, and each table is within its limit.
 #[derive(Drop)]
 pub struct Plan {
     tables: Tables,
@@ -48,19 +50,19 @@ impl Model for Plan {
     ghost Value = { PlanView };
 
     ghost use Rattle.std.specs.Prelude.{◌≡◌, length};
-    ghost use Rattle.plan_tables.specs.declared.table.Table.TheVariants.{Switches};
+    ghost use Rattle.plan_tables.specs.declared.table.Table.TheVariants.{Switches, Coils};
     ghost use Rattle.plan_tables.specs.Inside.{name_sets_view, plan_view, HasPlaces, HasWorks};
     ghost use Rattle.plan_tables.specs.Valid.{IsValid};
 
     ghost view = { plan_view };
 
-    ghost invariant = { λ p. IsValid (plan_view p) × HasPlaces (plan_view p) p.places.items × HasWorks (plan_view p) p.works.items × (length p.tables.switches.items ≡ length (name_sets_view p.tables.names Switches)) };
+    ghost invariant = { λ p. IsValid (plan_view p) × HasPlaces (plan_view p) p.places.items × HasWorks (plan_view p) p.works.items × (length p.tables.switches.items ≡ length (name_sets_view p.tables.names Switches)) × (length p.tables.coils.items ≡ length (name_sets_view p.tables.names Coils)) };
 }
 
 impl Plan {
     ghost use Rattle.std.specs.Prelude.{◌≡◌, ◌<◌, length, slice_get, Contains, IfSome, IfNone, IfOk};
-    ghost use Rattle.plan_tables.specs.PlanView.{name_of_event, event_named, mode_at, switch_at, switch_named, posts_of, actions_at, places_of, row_at, list_of_row, work_of};
-    ghost use Rattle.plan_tables.specs.declared.table.Table.TheVariants.{Switches};
+    ghost use Rattle.plan_tables.specs.PlanView.{name_of_event, event_named, mode_at, switch_at, switch_named, listeners_of, posts_of, coil_at, coil_named, actions_at, places_of, row_at, list_of_row, work_of};
+    ghost use Rattle.plan_tables.specs.declared.table.Table.TheVariants.{Switches, Coils};
     ghost use Rattle.plan_tables.specs.Inside.{name_sets_view, tables_view};
     ghost use Rattle.plan_tables.specs.Valid.{IsRowWithin, IsValid, IsWorkAt};
     ghost use Rattle.plan_tables.specs.Devices.{list_count};
@@ -73,6 +75,7 @@ impl Plan {
     pub fn new(alloc: Global, tables: Tables) -> Result<Plan, AllocError>
         requires valid { IsValid (tables_view tables) }
         requires switches { length tables.switches.items ≡ length (name_sets_view tables.names Switches) }
+        requires coils { length tables.coils.items ≡ length (name_sets_view tables.names Coils) }
         ensures { IfOk result (λ p. p ≡ tables_view tables) }
     {
         let events = tables.names.of(Table::Events).len();
@@ -188,6 +191,15 @@ impl Plan {
         self.tables.switches[switch.0 as usize].kind
     }
 
+    /// The devices that listen to a switch of the plan, in the order of their rows.
+    pub fn listeners(&self, switch: SwitchId) -> &[Listener]
+        requires { switch.0 < length self.now.switches }
+        ensures listeners { result.now ≡ listeners_of self.now switch }
+        ensures valid { IsValid self.now }
+    {
+        self.tables.switches[switch.0 as usize].listeners.as_slice()
+    }
+
     /// What a switch of the plan posts, in order, when it becomes active, or inactive.
     pub fn posts(&self, switch: SwitchId, active: bool) -> &[EventId]
         requires { switch.0 < length self.now.switches }
@@ -200,6 +212,44 @@ impl Plan {
         } else {
             posts.inactive.as_slice()
         }
+    }
+
+    /// How many coils there are. They are numbered from 0.
+    pub fn coil_count(&self) -> usize
+        ensures count { result ≡ length self.now.coils }
+        ensures valid { IsValid self.now }
+    {
+        self.tables.coils.len()
+    }
+
+    /// The name of a coil of the plan.
+    pub fn coil_name(&self, coil: CoilId) -> &[u8]
+        requires { coil.0 < length self.now.coils }
+        ensures name { result.now ≡ (coil_at self.now coil).name }
+        ensures valid { IsValid self.now }
+    {
+        let names = self.tables.names.of(Table::Coils).as_slice();
+        names[coil.0 as usize].as_slice()
+    }
+
+    /// The coil of this name; none if no coil has it.
+    pub fn find_coil(&self, name: &[u8]) -> Option<CoilId>
+        ensures coil { result ≡ coil_named self.now name.now }
+        ensures found { IfSome result (λ c. (coil_at self.now c).name ≡ name.now) }
+        ensures within { IfSome result (λ c. c.0 < length self.now.coils) }
+        ensures valid { IsValid self.now }
+    {
+        let place = self.tables.names.of(Table::Coils).get_index_of(name)?;
+        Some(CoilId(place as u16))
+    }
+
+    /// What a coil of the plan may be sent.
+    pub fn coil_limits(&self, coil: CoilId) -> CoilLimits
+        requires { coil.0 < length self.now.coils }
+        ensures limits { result ≡ (coil_at self.now coil).limits }
+        ensures valid { IsValid self.now }
+    {
+        self.tables.coils[coil.0 as usize]
     }
 
     /// How many effect lists there are. They are numbered from 0.

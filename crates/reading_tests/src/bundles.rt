@@ -1,6 +1,7 @@
 //! Bundles and their rows, faults and notes.
 
 use crate::cases::{Subject, assert_rows, utf8};
+use crate::coils::show_coils;
 use crate::devices::show_devices;
 use crate::tables::show_names;
 use mpf_config::{
@@ -21,7 +22,7 @@ event_player:¶  a: b,, c\td ,¶ => event_player¶ a@3; b@3 c@3 d@3;¶
 switches:¶  a:¶  a:¶ => error 3 Yaml config/config.yaml 4 DuplicateKey¶
 \tswitches:¶ => error 3 Yaml config/config.yaml 2 Tab¶
 a¶ => error 6 BadValue config/config.yaml 2 -¶
-switches:¶coils:¶  a: b¶ => error 4 UnknownSection config/config.yaml 3 coils¶
+switches:¶coil:¶  a: b¶ => error 4 UnknownSection config/config.yaml 3 coil¶
 switches: a¶ => error 6 BadValue config/config.yaml 2 switches¶
 switches:¶  a b:¶ => error 6 BadValue config/config.yaml 3 a b¶
 switches:¶  a: b¶ => error 6 BadValue config/config.yaml 3 a¶
@@ -118,7 +119,7 @@ const MODES: &str = "\
 @¶mode:¶modes: a¶ => error 4 UnknownSection config/config.yaml 2 mode¶
 @¶modes: a, b¶@b¶coils:¶@a¶switches:¶ => error 4 UnknownSection modes/b/config/b.yaml 2 coils¶
 @¶modes: a, b¶@a¶switches:¶@b¶coils:¶ => error 4 UnknownSection modes/a/config/a.yaml 2 switches¶
-@a¶switches:¶@¶modes: a¶coils:¶ => error 4 UnknownSection config/config.yaml 3 coils¶
+@a¶switches:¶@¶modes: a¶coil:¶ => error 4 UnknownSection config/config.yaml 3 coil¶
 @b¶switches:¶@a¶coils:¶@¶modes: a¶ => error 4 UnknownSection modes/a/config/a.yaml 2 coils¶
 @a¶@b¶@a¶coils:¶@¶modes: a¶ => error 8 Duplicate modes/a/config/a.yaml 1 -¶
 @a¶coils:¶@a¶@¶modes: a¶ => error 4 UnknownSection modes/a/config/a.yaml 2 coils¶
@@ -189,6 +190,7 @@ fn show_section(out: &mut String, section: &Section) -> Result<(), AllocError> {
     for player in section.event_players() {
         show_player(out, as_event_player(player))?;
     }
+    show_coils(out, section)?;
     show_devices(out, section)
 }
 

@@ -39,7 +39,7 @@ const SAME_NAMES: &str = "\
 @¶modes: a¶@a¶timers:¶  t:¶@b¶timers:¶  t:¶ => modes¶ a@2¶a: 100 true true;;;¶timers¶ t@3; 0 None Up 1000 false false;¶note modes/b/config/b.yaml 0 unlisted modes/b/config/b.yaml¶
 ";
 
-fn show_name(out: &mut String, name: &Name) -> Result<(), AllocError> {
+pub(crate) fn show_name(out: &mut String, name: &Name) -> Result<(), AllocError> {
     write!(out, " {}@{};", utf8(&name.text), name.line)
 }
 

@@ -6,6 +6,8 @@ mod bundles;
 #[cfg(test)]
 mod cases;
 #[cfg(test)]
+mod coils;
+#[cfg(test)]
 mod devices;
 #[cfg(test)]
 mod tables;

@@ -266,8 +266,63 @@ accruals:¶  playfield:¶    events:¶ => BadValue 2 playfield
 sequences:¶  q:¶    persist_state: yes¶    events:¶      - a¶ => q@2: [ a@5] | true | true | true |  |  |  |  |  | ;
 sequences:¶  q:¶ => Missing 2 events
 sequences:¶  playfield:¶ => BadValue 2 playfield
+coils:¶  c:¶ => c@2: 10ms | - | 1000 | 1000 | false | - | -;
+coils:¶  c:¶    max_hold_power: 1¶    default_hold_power: 0%¶    allow_enable: yes¶    max_pulse_power: 0.125¶    default_pulse_power: 12.5%¶    max_pulse_ms: 1¶    default_pulse_ms: 5s¶ => c@2: 5000ms | 1ms | 125 | 125 | true | 0 | 1000;
+coils:¶  playfield:¶    number: 1¶    tags: a/¶  d:¶    default_pulse_ms: 20ms¶    max_pulse_ms: 5000¶ => playfield@2: 10ms | - | 1000 | 1000 | false | - | -; d@5: 20ms | 5000ms | 1000 | 1000 | false | - | -;
+coils:¶  c:¶    default_pulse_ms: 0¶ => BadValue 3 default_pulse_ms
+coils:¶  c:¶    default_pulse_ms: 5001¶ => BadValue 3 default_pulse_ms
+coils:¶  c:¶    max_pulse_ms: 0¶ => BadValue 3 max_pulse_ms
+coils:¶  c:¶    max_pulse_ms: 5001¶ => BadValue 3 max_pulse_ms
+coils:¶  c:¶    max_pulse_ms:¶ => BadValue 3 max_pulse_ms
+coils:¶  c:¶    default_pulse_power: 1.001¶ => BadValue 3 default_pulse_power
+coils:¶  c:¶    max_pulse_power: 101%¶ => BadValue 3 max_pulse_power
+coils:¶  c:¶    allow_enable: 1¶ => BadValue 3 allow_enable
+coils:¶  c:¶    default_hold_power:¶ => BadValue 3 default_hold_power
+coils:¶  c:¶    max_hold_power: -1¶ => BadValue 3 max_hold_power
+coils:¶  c:¶    pulse_events: a¶ => UnknownSetting 3 pulse_events
+coils:¶  c: 10¶ => BadValue 2 c
+flippers:¶  f:¶    activation_switch: s¶    main_coil: m¶ => f@2: m@4 | - | s@3 |  ball_started@0 |  ball_will_end@0;
+flippers:¶  f:¶    main_coil: m¶    hold_coil: h¶    activation_switch: s¶    enable_events:¶    disable_events: a, b¶    label: c¶ => f@2: m@3 | h@4 | s@5 |  |  a@7 b@7;
+flippers:¶  f:¶ => Missing 2 main_coil
+flippers:¶  f:¶    main_coil: m¶    hold_coil: h¶ => Missing 2 activation_switch
+flippers:¶  f:¶    activation_switch: s¶  g:¶    main_coil: m¶    activation_switch: s¶ => Missing 2 main_coil
+flippers:¶  f:¶    main_coil: [m]¶ => BadValue 3 main_coil
+flippers:¶  f:¶    hold_coil:¶ => BadValue 3 hold_coil
+flippers:¶  f:¶    activation_switch: s, t¶ => BadValue 3 activation_switch
+flippers:¶  f:¶    enable_events: a{current_player.x==1}¶ => BadValue 3 enable_events
+flippers:¶  f:¶    disable_events: [«1025 a, »]¶ => Limit 3 disable_events
+flippers:¶  f:¶    switch: s¶ => UnknownSetting 3 switch
+flippers:¶  playfield:¶    main_coil: m¶    activation_switch: s¶ => BadValue 2 playfield
+autofire_coils:¶  a:¶    coil: c¶    switch: s¶ => a@2: c@3 | s@4 |  ball_started@0 |  ball_will_end@0;
+autofire_coils:¶  a:¶    disable_events: []¶    enable_events: b c¶    switch: s¶    coil: c¶ => a@2: c@6 | s@5 |  b@4 c@4 | ;
+autofire_coils:¶  a:¶    switch: s¶ => Missing 2 coil
+autofire_coils:¶  a:¶    coil: c¶    debug: yes¶ => Missing 2 switch
+autofire_coils:¶  a:¶    coil: c/¶ => BadValue 3 coil
+autofire_coils:¶  a:¶    enable_events: {b: c}¶ => BadValue 3 enable_events
+autofire_coils:¶  a:¶    disable_events: b{current_player.x==1}¶ => BadValue 3 disable_events
+autofire_coils:¶  a:¶    enable_events: [«1025 b, »]¶ => Limit 3 enable_events
+autofire_coils:¶  a:¶    hold_coil: c¶ => UnknownSetting 3 hold_coil
+autofire_coils:¶  playfield:¶ => BadValue 2 playfield
+coil_player:¶  go:¶    c: pulse¶    d: enable¶    playfield: disable¶  halt:¶ => go@2: c@3{pulse, -, -, -}d@4{enable, -, -, -}playfield@5{disable, -, -, -}; halt@6: ;
+coil_player:¶  go:¶    c: {pulse_power: 0.5, pulse_ms: 1, action: pulse}¶    d:¶      action: enable¶      hold_power: 25%¶ => go@2: c@3{pulse, 1ms, 500, -}d@4{enable, -, -, 250};
+coil_player:¶  go: {number: {action: disable, pulse_ms: 5s, pulse_power: 1, hold_power: 0}}¶ => go@2: number@2{disable, 5000ms, 1000, 0};
+coil_player:¶  go: c¶ => BadValue 2 go
+coil_player:¶  go: [c]¶ => BadValue 2 go
+coil_player:¶  go{current_player.x==1}:¶    c: pulse¶ => BadValue 2 go{current_player.x==1}
+coil_player:¶  go:¶    c:¶ => BadValue 3 c
+coil_player:¶  go:¶    c: hold¶ => BadValue 3 c
+coil_player:¶  go:¶    number: 1¶ => BadValue 3 number
+coil_player:¶  go:¶    c/: pulse¶ => BadValue 3 c/
+coil_player:¶  go:¶    c:¶      pulse_ms: 5¶ => Missing 3 action
+coil_player:¶  go:¶    c:¶      action: hold¶ => BadValue 4 action
+coil_player:¶  go:¶    c: {pulse_ms: 0}¶ => BadValue 3 pulse_ms
+coil_player:¶  go:¶    c: {pulse_ms: 5001}¶ => BadValue 3 pulse_ms
+coil_player:¶  go:¶    c:¶      action: pulse¶      pulse_power: 1.5¶ => BadValue 5 pulse_power
+coil_player:¶  go:¶    c:¶      hold_power:¶ => BadValue 4 hold_power
+coil_player:¶  go:¶    c: {action: pulse, number: 1}¶ => UnknownSetting 3 number
+coil_player:¶  go:¶    c: [pulse]¶ => BadValue 3 c
 timers:¶ => no section
-coils:¶ => no section
+coil:¶ => no section
 mode:¶ => no section
 ";
 
@@ -311,9 +366,14 @@ timers:¶  t:¶    end_value:¶ => BadValue 3 end_value
 timers:¶  t:¶    start_value: 1.5¶ => BadValue 3 start_value
 timers:¶  t:¶    enable_events: a¶ => UnknownSetting 3 enable_events
 timers:¶  t:¶  playfield:¶ => BadValue 3 playfield
+coil_player:¶  go:¶    c: {action: enable, hold_power: 1}¶    d: pulse¶ => go@2: c@3{enable, -, -, 1000}d@4{pulse, -, -, -};
+coil_player:¶  go:¶    c: {hold_power: 1}¶ => Missing 3 action
+coil_player:¶  go: {c: on}¶ => BadValue 2 c
 modes: a¶ => no section
 switches:¶ => no section
 coils:¶ => no section
+flippers:¶ => no section
+autofire_coils:¶ => no section
 ";
 
 // ---- what is shown

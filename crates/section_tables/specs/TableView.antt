@@ -68,6 +68,7 @@ kind_view (kind.Keyed table place short) = keyed_maps (map field_view table.now)
 abbrev pub without_view : withouts.Without → Absent Value
 without_view (without.One a) = as_value (absent_view a)
 without_view without.NoNames = default (names [])
+without_view (without.Name n) = default (names (written_at 0 n.now ∷ []))
 without_view without.NoPosts = default (posts [])
 without_view without.NoEvents = default (events [])
 without_view (without.Event n) = default (events (handled_at 0 (record { name = n.now; condition = None }) ∷ []))

@@ -4,7 +4,7 @@ use mpf_values::Comparison;
 use std::mem::size_of;
 
 /// A name of 1 to 64 letters, digits, `_`, `-` and `.`, with the line where it is written,
-/// counted from 1.
+/// counted from 1; line 0 if it is not written and holds by default.
 #[derive(Drop)]
 pub struct Name {
     pub line: u32,

@@ -4,7 +4,7 @@ ghost use Rattle.std.specs.Prelude.{◌≡◌, ◌<◌, List, [], ◌∷◌, len
 ghost use Rattle.std.specs.List.{list_any};
 ghost use Rattle.std.specs.Str.{bytes_eq};
 ghost use Rattle.yaml_subset.specs.View.{node_view, option_slice};
-ghost use Rattle.section_tables.specs.Entries.{is_ignored, handled_at};
+ghost use Rattle.section_tables.specs.Entries.{is_ignored, written_at, handled_at};
 ghost use Rattle.section_tables.specs.Kinds.{at_least};
 ghost use Rattle.section_tables.specs.Tables.{found_in, value_default, setting_key, setting_default, value_lacks, setting_lacks};
 ghost use Rattle.section_tables.specs.Reading.{most_items, put_at, overwritten_at, lacking, written_in, listed_at, nodes_at, value_at, setting_at, values_at};
@@ -70,6 +70,16 @@ fn setting_of<'t>(table: &'t [Setting], key: &[u8]) -> Option<(usize, &'t Settin
 
 // ---- what holds where nothing is written
 
+// This name alone.
+fn default_name(alloc: Global, text: &[u8]) -> Result<Vec<Name>, AllocError>
+    ensures { IfOk result (λ xs. names_view xs ≡ written_at 0 text.now ∷ []) }
+{
+    let text = Vec::from_slice(alloc, text)?;
+    let mut names = Vec::with_capacity(alloc, 1)?;
+    names.push(Name { line: 0, text })?;
+    Ok(names)
+}
+
 // The event of this name, handled always.
 fn default_event(alloc: Global, name: &[u8]) -> Result<Vec<Handler>, AllocError>
     ensures { IfOk result (λ xs. handlers_view xs ≡ handled_at 0 (record { name = name.now; condition = None }) ∷ []) }
@@ -92,6 +102,10 @@ fn default_value(alloc: Global, without: Without) -> Result<Value, AllocError>
     match without {
         Without::One(absent) => Ok(Value::One(default_plain(absent))),
         Without::NoNames => Ok(Value::Names(Vec::new(alloc))),
+        Without::Name(text) => {
+            let names = default_name(alloc, text)?;
+            Ok(Value::Names(names))
+        }
         Without::NoPosts => Ok(Value::Posts(Vec::new(alloc))),
         Without::NoEvents => Ok(Value::Events(Vec::new(alloc))),
         Without::Event(name) => {

@@ -87,6 +87,8 @@ pub enum Without {
     One(Absent),
     /// An empty list of names.
     NoNames,
+    /// This name alone.
+    Name(&'static [u8]),
     /// An empty list of posted events.
     NoPosts,
     /// An empty list of handled events.

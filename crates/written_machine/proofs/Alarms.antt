@@ -10,7 +10,7 @@ use Rattle.plan_tables.specs.PlanView.{PlanView, actions_at, list_of_row, no_row
 use Rattle.plan_tables.specs.Valid.{IsValid}
 use Rattle.plan_tables.specs.Devices.{IsWithinLimits}
 use Rattle.plan_tables.specs.declared.entries.Action.{Action}
-use Rattle.plan_tables.specs.declared.entries.Action.TheVariants.{Post}
+use Rattle.plan_tables.specs.declared.entries.Action.TheVariants.{Post, Pulse, Enable, Disable}
 use Rattle.plan_tables.specs.declared.entries.Owner.{Owner}
 use Rattle.plan_tables.specs.declared.entries.SwitchId.{SwitchId}
 use Rattle.plan_tables.specs.declared.devices.RowId.{RowId}
@@ -32,8 +32,8 @@ use Rattle.written_machine.specs.EventStep.{taken, EventStep, EventSteps}
 use Rattle.written_machine.specs.PlanOrder.{settled}
 use Rattle.written_machine.specs.Run.{Source, switch, device, source_due, IsNothingLate, IsNextAlarm, Stimulus, Change, Alarm, Wait, moment_of, IsAllowed, arrived, begin, IsRun}
 use Rattle.cascade_rank.specs.Cost.{Cost}
-use Rattle.written_machine.proofs.Does.{Move, Wrote, Sent, Switched, Began, Ended, Marked, Turned, do_move, start-by, stop-by, Does, does-keeps, HasStates, moment-move, moment-does, has_states-does, switches-does}
-use Rattle.written_machine.proofs.Parts.{TakesPart, IsMachine, ordinary, working, MayWork, does-call, does-accepted, does-if_accepted, does-begin, does-before, does-after}
+use Rattle.written_machine.proofs.Does.{Move, Wrote, Sent, Switched, Began, Ended, Marked, Turned, Asked, do_move, start-by, stop-by, Does, does-keeps, off-has_coils, HasStates, moment-move, moment-does, has_states-does, switches-does}
+use Rattle.written_machine.proofs.Parts.{TakesPart, Begins, IsMachine, ordinary, working, MayWork, does-call, does-accepted, does-if_accepted, does-begin, does-before, does-after}
 use Rattle.written_machine.proofs.Keeps.{step-keeps, steps-keep, run-keeps}
 use Rattle.written_machine.proofs.PlanSteps.{plan_steps-event_steps}
 
@@ -50,6 +50,9 @@ same-devices f each (x ∷ xs) s = same-devices f each xs (f x s) ∙ each x s
 module _ (plan : PlanView) where
   action-devices : (owner : Owner) (a : Action) (s : Machine) → (do_action plan owner a s).devices ≡ s.devices
   action-devices owner (Post e) s = refl
+  action-devices owner (Pulse coil ms power) s = refl
+  action-devices owner (Enable coil power) s = refl
+  action-devices owner (Disable coil) s = refl
 
   -- what a device answers changes no device
   answer-devices : (r : RowId) (lists : List ℕ) (s : Machine) → (do_answer plan r lists s).devices ≡ s.devices
@@ -102,6 +105,7 @@ module _ (plan : PlanView) where
     later-move (Ended m) s = stop-by plan m s (IsLater s) (λ r due is. inl is) (λ r due is. inl is)
     later-move (Marked m state) s = λ r due is. inl is
     later-move (Turned call r) s = later-turned call r s
+    later-move (Asked owner command) s = λ r due is. inl is
 
     later-then : (s m t : Machine) → m.moment ≡ s.moment → IsLater s m → IsLater m t → IsLater s t
     later-then s m t here one next r due is =
@@ -265,7 +269,7 @@ module _ (plan : PlanView) (valid : IsValid plan) where
 
   -- ---- no alarm is late
 
-  not_late-steps : (n : ℕ) (s t : Machine) → EventSteps plan n s t → IsNothingLate s → IsNothingLate t
+  pub not_late-steps : (n : ℕ) (s t : Machine) → EventSteps plan n s t → IsNothingLate s → IsNothingLate t
   not_late-steps n s t steps h source due is =
       let here = (still-steps plan n s t steps).1 in
       elim (steps-arm_later n s t steps source due is) [
@@ -282,12 +286,12 @@ module _ (plan : PlanView) (valid : IsValid plan) where
       ]
 
   -- and none before a stimulus that is allowed
-  allowed-first : (stimulus : Stimulus) (s : Machine) → IsAllowed plan s stimulus → (source : Source) (due : ℕ) → source_due s source ≡ Some due → moment_of stimulus ≤ due
+  pub allowed-first : (stimulus : Stimulus) (s : Machine) → IsAllowed plan s stimulus → (source : Source) (due : ℕ) → source_due s source ≡ Some due → moment_of stimulus ≤ due
   allowed-first (Change at n level) s allowed source due is = let after = allowed.0.quiet source due is in omega arith
   allowed-first (Alarm at first) s allowed source due is = next-first s at first allowed.0 source due is
   allowed-first (Wait at) s allowed source due is = let after = allowed.quiet source due is in omega arith
 
-  not_late-begin : (stimulus : Stimulus) (s : Machine) → ((source : Source) (due : ℕ) → source_due s source ≡ Some due → moment_of stimulus ≤ due) → IsNothingLate (begin plan stimulus s)
+  pub not_late-begin : (stimulus : Stimulus) (s : Machine) → ((source : Source) (due : ℕ) → source_due s source ≡ Some due → moment_of stimulus ≤ due) → IsNothingLate (begin plan stimulus s)
   not_late-begin stimulus s first source due is =
       elim (begin-arms_later stimulus s source due is) [
         | inl old ↦ omega (arith, first source due old, moment-begin plan stimulus s)
@@ -321,11 +325,11 @@ module _ (plan : PlanView) (valid : IsValid plan) where
 module _ (plan : PlanView) where
   pub has_states-step : (s t : Machine) → EventStep plan s t → HasStates plan s → HasStates plan t
   has_states-step =
-      step-keeps plan (λ before. HasStates plan) (λ first before. HasStates plan) (λ before first rest s is h. has_states-does plan (does-before plan (work_of plan first.event) (taken first rest s)) (record { kinds = h.kinds; switches = h.switches; modes = h.modes; devices = h.devices }))
-      (λ before first c s t d h. has_states-does plan d h) (λ before first kept s h. has_states-does plan (does-after plan kept first.event s) h) []
+      step-keeps plan (λ before. HasStates plan) (λ first before. HasStates plan) (λ before first rest s is h. has_states-does plan working (does-before plan (work_of plan first.event) (taken first rest s)) (record { kinds = h.kinds; switches = h.switches; modes = h.modes; devices = h.devices; coils = h.coils }))
+      (λ before first c s t d h. has_states-does plan (ordinary plan (TakesPart s) ⊥) d h) (λ before first kept s h. has_states-does plan working (does-after plan kept first.event s) h) []
 
   pub has_states-begin : (stimulus : Stimulus) (s : Machine) → HasStates plan s → HasStates plan (begin plan stimulus s)
-  has_states-begin stimulus s h = has_states-does plan (does-begin plan stimulus s) (record { kinds = h.kinds; switches = h.switches; modes = h.modes; devices = h.devices })
+  has_states-begin stimulus s h = has_states-does plan (ordinary plan (Begins plan stimulus) (Unit {0})) (does-begin plan stimulus s) (record { kinds = h.kinds; switches = h.switches; modes = h.modes; devices = h.devices; coils = h.coils })
 
   pub has_states-after : (stimulus : Stimulus) (s : Machine) (n : ℕ) (t : Machine) → EventSteps plan n (begin plan stimulus s) t → HasStates plan s → HasStates plan t
   has_states-after stimulus s n t steps h = steps-keep plan (λ before. HasStates plan) (λ before. has_states-step) [] n (begin plan stimulus s) t steps (has_states-begin stimulus s h)
@@ -335,7 +339,7 @@ module _ (plan : PlanView) where
       (run-keeps plan (λ before. HasStates plan) (λ before. has_states-step) (λ before stimulus m allowed empty k. has_states-begin stimulus m k) [] stimuli s trace t run h).1
 
   pub has_states-initial : HasStates plan (initial plan)
-  has_states-initial = record { kinds = refl; switches = length-map plan.switches (λ s. idle s.kind); modes = length-replicate (length plan.modes) (in_phase Idle); devices = initial-devices plan }
+  has_states-initial = record { kinds = refl; switches = length-map plan.switches (λ s. idle s.kind); modes = length-replicate (length plan.modes) (in_phase Idle); devices = initial-devices plan; coils = off-has_coils plan }
 
   pub complete : (s : Machine) → IsValid plan → HasStates plan s → IsComplete s.switches
   complete s valid h =

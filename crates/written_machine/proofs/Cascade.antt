@@ -22,7 +22,7 @@ use Rattle.written_machine.specs.Run.{switch, device, Stimulus, Change, Alarm, W
 use Rattle.written_machine.specs.GoodRun.{cost_if_accepted, cost_of_stimulus, weigh, IsBounded}
 use Rattle.written_machine.specs.CheckedView.{CheckedView}
 use Rattle.cascade_rank.specs.Verified.{IsVerified}
-use Rattle.written_machine.proofs.Does.{potential, potential-does, AreOfPlan, WaitsInPlan, waits-does, HasStates, due-row, has_devices-does}
+use Rattle.written_machine.proofs.Does.{potential, potential-does, AreOfPlan, WaitsInPlan, waits-does, HasStates, has_states-does, due-row, has_devices-does}
 use Rattle.written_machine.specs.Devices.{HasDevices}
 use Rattle.written_machine.proofs.Parts.{TakesPart, Begins, ordinary, working, does-order, does-begin, does-before, does-after}
 use Rattle.written_machine.proofs.Pricing.{handlers-priced, before-priced, after-priced, IsFired, stimulus-priced, fire-within_bound}
@@ -78,8 +78,9 @@ module _ (plan : PlanView) where
   steps-lines (suc n) s t (mid, step, more) = omega (arith, step-line s mid step, steps-lines n mid t more)
 
 module _ (plan : PlanView) (valid : IsValid plan) (w : EventId → ℕ) (fits : IsFitting plan w) where
-  step-potential : (s t : Machine) → EventStep plan s t → WaitsInPlan plan s → HasDevices plan s.devices → potential w t ≤ potential w s
-  step-potential s t st h has =
+  step-potential : (s t : Machine) → EventStep plan s t → WaitsInPlan plan s → HasStates plan s → potential w t ≤ potential w s
+  step-potential s t st h states =
+      let has = states.devices in
       let front : AreOfPlan plan (st.first ∷ st.rest) = subst (AreOfPlan plan) st.waiting h in
       let fit = fits st.first.event front.0 in
       let ready = before_handlers plan st.first st.rest s in
@@ -91,7 +92,9 @@ module _ (plan : PlanView) (valid : IsValid plan) (w : EventId → ℕ) (fits : 
       let starts = before-priced plan valid.entries w work (taken st.first st.rest s) has in
       let done = all_do (do_handler plan) st.order ready in
       let after = potential-does plan w (does-after plan (is_kept work s) st.first.event done) in
-      let led = after-priced plan valid.entries w work done in
+      let begun : HasStates plan (taken st.first st.rest s) = record { kinds = states.kinds; switches = states.switches; modes = states.modes; devices = states.devices; coils = states.coils } in
+      let handled = has_states-does plan (ordinary plan (TakesPart ready) ⊥) (does-order plan ready st.first.event st.order st.in_order) (has_states-does plan working opens begun) in
+      let led = after-priced plan valid.entries w work done handled.coils in
       let paid = order_cost plan w ready st.first.event st.order st.in_order in
       let line = length-append s.lines (record { moment = s.moment; owner = st.first.owner; happening = lines.Event st.first.event } ∷ []) in
       let weighs = ap (weigh w) st.waiting in
@@ -106,7 +109,7 @@ module _ (plan : PlanView) (valid : IsValid plan) (w : EventId → ℕ) (fits : 
 
   within-step : (k : ℕ) (s t : Machine) → EventStep plan s t → IsWithin k s → IsWithin k t
   within-step k s t st h = record {
-    most = let most = h.most in omega (arith, step-potential s t st h.waits h.states.devices, most);
+    most = let most = h.most in omega (arith, step-potential s t st h.waits h.states, most);
     waits = waits-step plan valid s t st h.waits;
     states = has_states-step plan s t st h.states;
   }

@@ -71,6 +71,9 @@ pub turn-stopped : (p : Phase) (q : List ModeEvent) → IsTurn p (Stopped ∷ q)
 turn-stopped p q ends = idle
 turn-stopped p q again = first
 
+pub stopping-runs : (p : Phase) (q : List ModeEvent) → IsTurn p (Stopping ∷ q) → is_running p ≡ true
+stopping-runs p q stops = refl
+
 pub stopped-quiet : (p : Phase) (q : List ModeEvent) → IsTurn p (Stopped ∷ q) → is_running p ≡ false
 stopped-quiet p q ends = refl
 stopped-quiet p q again = refl

@@ -1,14 +1,15 @@
 -- What one cost pays for: single changes of the machine, one after another, each by a licence.
-use Rattle.std.proofs.Common.{◌≡◌, ℕ, zero, suc, ◌+◌, ◌≤◌, ◌<◌, inl, inr, Some, Bool, true, false, List, [], ◌∷◌, ◌++◌, length, length-append, slice_index_or, slice_set, Contains, refl, ap, sym, subst, ◌∙◌, arith}
-use Rattle.std.proofs.lemmas.Bool.{cases_eq, cases_lt}
+use Rattle.std.proofs.Common.{◌≡◌, ℕ, zero, suc, ◌+◌, ◌≤◌, ◌<◌, inl, inr, Some, Bool, true, false, List, [], ◌∷◌, ◌++◌, length, length-append, slice_index_or, slice_set, if◌then◌else◌, map, Contains, refl, ap, sym, subst, ◌∙◌, arith}
+use Rattle.std.proofs.lemmas.Bool.{cases_eq, cases_lt, false≢true}
 use Rattle.std.proofs.lemmas.Option.{none-some}
-use Rattle.std.specs.List.{All, AllByRecursion}
-use Rattle.std.proofs.lemmas.List.{length-set, get_or_past, get_or-set_same, get_or-set_other}
+use Rattle.std.specs.List.{All, AllByRecursion, list_any}
+use Rattle.std.proofs.lemmas.List.{length-map, length-set, get_or-map, get_or_past, get_or-set_same, get_or-set_other, set_past}
 use Rattle.std.proofs.lemmas.List.Elements.{All-head, All-tail}
-use Rattle.plan_tables.specs.PlanView.{PlanView, mode_event, no_row, row_at}
+use Rattle.plan_tables.specs.PlanView.{PlanView, actions_of, is_enable_of, mode_event, no_row, row_at}
 use Rattle.plan_tables.specs.Valid.{HasEntries}
 use Rattle.plan_tables.specs.declared.entries.EventId.{EventId}
 use Rattle.plan_tables.specs.declared.entries.Owner.{Owner}
+use Rattle.plan_tables.specs.declared.entries.CoilId.{CoilId}
 use Rattle.plan_tables.specs.declared.entries.SwitchId.{SwitchId}
 use Rattle.plan_tables.specs.declared.entries.ModeId.{ModeId}
 use Rattle.plan_tables.specs.declared.entries.ModeEvent.TheVariants.{WillStart, Stopping}
@@ -29,7 +30,16 @@ use Rattle.written_machine.specs.declared.line.Happening.{Happening}
 use Rattle.written_machine.specs.declared.line.Happening.TheVariants as lines
 use Rattle.cascade_rank.specs.Cost.{Cost, Lines, Both, price, each_of, dearest_of, cost_of_post}
 use Rattle.event_queue.specs.declared.queue.Posted.{Posted}
-use Rattle.written_machine.specs.Machine.{Machine, write, post, set_switches, set_mode, set_device, has_game, is_post, post_if, start_mode, stop_mode, all_do, world_of, device_state, device_at, called}
+use Rattle.coil_guard.specs.declared.command.Command.{Command}
+use Rattle.coil_guard.specs.declared.command.Command.TheVariants as commands
+use Rattle.coil_guard.specs.declared.state.CoilState.{CoilState}
+use Rattle.coil_guard.specs.CoilStep.{off, is_held_by, is_on_at, takes_pulse, pulsed, takes_enable, enabled, disabled}
+use Rattle.coil_guard.specs.Coils.{all_off, coil_at, set_coil}
+use Rattle.coil_guard.specs.Limits.{IsWithin, no_limits}
+use Rattle.plan_tables.proofs.Owners.{is_owner-same}
+use Rattle.coil_guard.specs.Asked.{limits_of, after_asking, answer_asking}
+use Rattle.written_machine.specs.Allowed.{ActionsAreAllowed}
+use Rattle.written_machine.specs.Machine.{ask_coil, told, Machine, write, post, set_switches, set_mode, set_device, has_game, is_post, post_if, start_mode, stop_mode, all_do, world_of, device_state, device_at, called}
 use Rattle.written_machine.specs.Devices.{HasDevices, ActsAreOwn}
 use Rattle.written_machine.specs.FreePosts.{PostsAreFree, IsFree}
 use Rattle.written_machine.specs.GoodRun.{weigh}
@@ -48,6 +58,8 @@ pub data Move : Type 0 where
   Marked : (m : ModeId) (state : ModeState) → Move
   -- a device is called, and goes on to its next state
   Turned : (call : Call) (r : RowId) → Move
+  -- an owner asks for a command to a coil
+  Asked : (owner : Owner) (command : Command) → Move
 
 abbrev pub do_move : PlanView → Move → Machine → Machine
 do_move plan (Wrote owner what) s = write owner what s
@@ -57,6 +69,7 @@ do_move plan (Began m) s = start_mode plan m s
 do_move plan (Ended m) s = stop_mode plan m s
 do_move plan (Marked m state) s = set_mode m state s
 do_move plan (Turned call r) s = set_device r (called plan call r s).0 s
+do_move plan (Asked owner command) s = ask_coil owner command s
 
 abbrev pub cost_of_move : PlanView → Move → Cost
 cost_of_move plan (Wrote owner what) = Lines 1
@@ -66,11 +79,32 @@ cost_of_move plan (Began m) = cost_of_post (mode_event plan m WillStart)
 cost_of_move plan (Ended m) = cost_of_post (mode_event plan m Stopping)
 cost_of_move plan (Marked m state) = Lines 0
 cost_of_move plan (Turned call r) = Lines 0
+cost_of_move plan (Asked owner command) = Lines 1
 
 -- the line is not that of an event: those come only as events are taken
 abbrev pub IsNoEvent : Happening → Type 0
 IsNoEvent (lines.Switch n active) = Unit {0}
 IsNoEvent (lines.Event e) = ⊥
+IsNoEvent (lines.Coil command) = Unit {0}
+IsNoEvent (lines.Skip command) = Unit {0}
+
+-- nor that of a command: those come only as coils are asked
+abbrev pub IsNoCommand : Happening → Type 0
+IsNoCommand (lines.Switch n active) = Unit {0}
+IsNoCommand (lines.Event e) = Unit {0}
+IsNoCommand (lines.Coil command) = ⊥
+IsNoCommand (lines.Skip command) = ⊥
+
+-- where it is a mode, an action of it enables the coil
+abbrev pub MayHold : PlanView → CoilId → Owner → Type 0
+MayHold plan coil owners.Machine = Unit {0}
+MayHold plan coil (owners.Mode m) = list_any (is_enable_of coil) (actions_of plan (owners.Mode m)) ≡ true
+
+-- what an owner asks for is held only by one that may
+abbrev pub IsListed : PlanView → Owner → Command → Type 0
+IsListed plan owner (commands.Pulse coil ms power) = Unit {0}
+IsListed plan owner (commands.Enable coil power) = MayHold plan coil owner
+IsListed plan owner (commands.Disable coil) = Unit {0}
 
 -- A licence: by which owners lines and events may come and devices be called, which events, and whether switches may
 -- change and modes be marked.
@@ -83,13 +117,14 @@ pub record Licence : Type 1 where
 -- What a licence allows. Where the plan's numbers are those of entries, only events and modes of the plan are touched.
 -- Owners are looked at where bindings act on devices of their own owner alone.
 abbrev pub MayDo : PlanView → Licence → Move → Type 0
-MayDo plan l (Wrote owner what) = l.by owner × IsNoEvent what
+MayDo plan l (Wrote owner what) = l.by owner × IsNoEvent what × IsNoCommand what
 MayDo plan l (Sent owner e) = (ActsAreOwn plan → l.by owner) × (HasEntries plan → e.0 < length plan.events) × l.posts e
 MayDo plan l (Switched n switch) = l.switches
 MayDo plan l (Began m) = HasEntries plan → m.0 < length plan.modes
 MayDo plan l (Ended m) = HasEntries plan → m.0 < length plan.modes
 MayDo plan l (Marked m state) = l.marks
 MayDo plan l (Turned call r) = ActsAreOwn plan → l.by (row_at plan r).owner
+MayDo plan l (Asked owner command) = (ActsAreOwn plan → l.by owner) × (ActionsAreAllowed plan → IsWithin (limits_of plan) command) × IsListed plan owner command
 
 -- where nothing in the plan posts an event at which the machine itself does something, the event is none
 abbrev pub IsFreeThere : PlanView → EventId → Type 0
@@ -186,6 +221,7 @@ module _ (plan : PlanView) where
       stop-by plan m s (λ t. potential w t ≤ potential w s + w (mode_event plan m Stopping)) (potential-post w owners.Machine (mode_event plan m Stopping) (ended_mode plan m s)) (omega arith)
   potential-move w (Marked m state) s = omega arith
   potential-move w (Turned call r) s = omega arith
+  potential-move w (Asked owner command) s = omega (arith, length-append s.lines (record { moment = s.moment; owner = owner; happening = told command (answer_asking command owner s.moment s.coils) } ∷ []))
 
   pub potential-does : {may : Move → Type 0} (w : EventId → ℕ) {c : Cost} {s t : Machine} → Does plan may c s t → potential w t ≤ potential w s + price w c
   potential-does w quiet = omega arith
@@ -214,6 +250,7 @@ module _ (plan : PlanView) where
   grows-move (Ended m) s = stop-by plan m s (Grows s) (omega arith, omega (arith, length-append s.waiting (record { event = mode_event plan m Stopping; owner = owners.Machine } ∷ []))) (omega arith, omega arith)
   grows-move (Marked m state) s = (omega arith, omega arith)
   grows-move (Turned call r) s = (omega arith, omega arith)
+  grows-move (Asked owner command) s = (omega (arith, length-append s.lines (record { moment = s.moment; owner = owner; happening = told command (answer_asking command owner s.moment s.coils) } ∷ [])), omega arith)
 
   pub moment-move : (x : Move) (s : Machine) → (do_move plan x s).moment ≡ s.moment
   moment-move (Wrote owner what) s = refl
@@ -223,13 +260,64 @@ module _ (plan : PlanView) where
   moment-move (Ended m) s = stop-by plan m s (λ t. t.moment ≡ s.moment) refl refl
   moment-move (Marked m state) s = refl
   moment-move (Turned call r) s = refl
+  moment-move (Asked owner command) s = refl
 
-  -- the switches are read as the plan says, and each has a state, as each mode and each device has
+  -- each coil of the plan has a state, and a mode holds only what its actions enable
+  pub record HasCoils (coils : List CoilState) : Type 0 where
+    pub count : length coils ≡ length plan.coils
+    pub held : (owner : Owner) (coil : CoilId) → is_held_by owner (coil_at coils coil) ≡ true → MayHold plan coil owner
+
+  set-has_coils : (coil : CoilId) (x : CoilState) (coils : List CoilState) → HasCoils coils → ((owner : Owner) → is_held_by owner x ≡ true → MayHold plan coil owner) → HasCoils (set_coil coil x coils)
+  set-has_coils coil x coils h own = record { count = length-set coils coil.0 x ∙ h.count; held = held }
+    where
+      held : (owner : Owner) (c : CoilId) → is_held_by owner (coil_at (set_coil coil x coils) c) ≡ true → MayHold plan c owner
+      held owner c is =
+          elim (cases_lt coil.0 (length coils)) [
+            | inl within ↦
+                elim (cases_eq c.0 coil.0) [
+                  | inl same ↦
+                      subst (λ (n : ℕ). MayHold plan (record { 0 = n }) owner) (sym same)
+                      (own owner (sym (ap (is_held_by owner) (ap (λ (n : ℕ). coil_at (set_coil coil x coils) (record { 0 = n })) same ∙ get_or-set_same coils coil.0 x (off no_limits) within)) ∙ is))
+                  | inr other ↦ h.held owner c (sym (ap (is_held_by owner) (get_or-set_other coils coil.0 c.0 x (off no_limits) other)) ∙ is)
+                ]
+            | inr past ↦ h.held owner c (sym (ap (λ (cs : List CoilState). is_held_by owner (coil_at cs c)) (set_past coils coil.0 x past)) ∙ is)
+          ]
+
+  either-has_coils : (b : Bool) (x y : List CoilState) → HasCoils x → HasCoils y → HasCoils (if b then x else y)
+  either-has_coils true x y one other = one
+  either-has_coils false x y one other = other
+
+  pub asked-has_coils : (owner : Owner) (command : Command) (now : ℕ) (coils : List CoilState) → IsListed plan owner command → HasCoils coils → HasCoils (after_asking command owner now coils)
+  asked-has_coils owner (commands.Pulse coil ms power) now coils may h =
+      let c = coil_at coils coil in
+      either-has_coils (takes_pulse ms power now c) (set_coil coil (pulsed ms now c) coils) coils (set-has_coils coil (pulsed ms now c) coils h (λ o is. h.held o coil is)) h
+  asked-has_coils owner (commands.Enable coil power) now coils may h =
+      let c = coil_at coils coil in
+      either-has_coils (takes_enable power c) (set_coil coil (enabled owner c) coils) coils
+      (set-has_coils coil (enabled owner c) coils h (λ o is. subst (MayHold plan coil) (is_owner-same owner o is) may)) h
+  asked-has_coils owner (commands.Disable coil) now coils may h =
+      let c = coil_at coils coil in
+      either-has_coils (is_on_at now c) (set_coil coil (disabled c) coils) coils (set-has_coils coil (disabled c) coils h (λ o is. absurd (false≢true is))) h
+
+  pub off-has_coils : HasCoils (all_off (limits_of plan))
+  off-has_coils = record {
+    count = length-map (limits_of plan) off ∙ length-map plan.coils (λ c. c.limits);
+    held = λ owner coil is.
+        elim (cases_lt coil.0 (length (limits_of plan))) [
+          | inl within ↦ absurd (false≢true (sym (ap (is_held_by owner) (get_or-map off (limits_of plan) coil.0 no_limits (off no_limits) within)) ∙ is))
+          | inr past ↦
+              let count = length-map (limits_of plan) off in
+              absurd (false≢true (sym (ap (is_held_by owner) (get_or_past (map off (limits_of plan)) coil.0 (off no_limits) (omega (arith, past, count)))) ∙ is))
+        ];
+  }
+
+  -- the switches are read as the plan says, and each has a state, as each mode, each device and each coil has
   pub record HasStates (s : Machine) : Type 0 where
     pub kinds : s.switches.kinds ≡ (all_idle plan).kinds
     pub switches : length s.switches.states ≡ length plan.switches
     pub modes : length s.modes ≡ length plan.modes
     pub devices : HasDevices plan s.devices
+    pub coils : HasCoils s.coils
 
   turned-has_devices : (call : Call) (r : RowId) (s : Machine) → HasDevices plan s.devices → HasDevices plan (slice_set s.devices r.0 (called plan call r s).0)
   turned-has_devices call r s h = record { count = length-set s.devices r.0 new ∙ h.count; shapes = shapes }
@@ -250,23 +338,24 @@ module _ (plan : PlanView) where
           ]
 
   marked-has_states : (m : ModeId) (state : ModeState) (s : Machine) → HasStates s → HasStates (set_mode m state s)
-  marked-has_states m state s h = record { kinds = h.kinds; switches = h.switches; modes = length-set s.modes m.0 state ∙ h.modes; devices = h.devices }
+  marked-has_states m state s h = record { kinds = h.kinds; switches = h.switches; modes = length-set s.modes m.0 state ∙ h.modes; devices = h.devices; coils = h.coils }
 
   posted-has_states : (owner : Owner) (e : EventId) (s : Machine) → HasStates s → HasStates (post owner e s)
-  posted-has_states owner e s h = record { kinds = h.kinds; switches = h.switches; modes = h.modes; devices = h.devices }
+  posted-has_states owner e s h = record { kinds = h.kinds; switches = h.switches; modes = h.modes; devices = h.devices; coils = h.coils }
 
-  has_states-move : (x : Move) (s : Machine) → HasStates s → HasStates (do_move plan x s)
-  has_states-move (Wrote owner what) s h = record { kinds = h.kinds; switches = h.switches; modes = h.modes; devices = h.devices }
-  has_states-move (Sent owner e) s h = posted-has_states owner e s h
-  has_states-move (Switched n switch) s h = record { kinds = h.kinds; switches = length-set s.switches.states n.0 switch ∙ h.switches; modes = h.modes; devices = h.devices }
-  has_states-move (Began m) s h =
-      let told = marked-has_states m _ s h in
-      start-by plan m s HasStates (posted-has_states owners.Machine (mode_event plan m WillStart) (begun_mode plan m s) told) told
-  has_states-move (Ended m) s h =
-      let told = marked-has_states m _ s h in
-      stop-by plan m s HasStates (posted-has_states owners.Machine (mode_event plan m Stopping) (ended_mode plan m s) told) told
-  has_states-move (Marked m state) s h = marked-has_states m state s h
-  has_states-move (Turned call r) s h = record { kinds = h.kinds; switches = h.switches; modes = h.modes; devices = turned-has_devices call r s h.devices }
+  has_states-move : (l : Licence) (x : Move) (s : Machine) → MayDo plan l x → HasStates s → HasStates (do_move plan x s)
+  has_states-move l (Wrote owner what) s may h = record { kinds = h.kinds; switches = h.switches; modes = h.modes; devices = h.devices; coils = h.coils }
+  has_states-move l (Sent owner e) s may h = posted-has_states owner e s h
+  has_states-move l (Switched n switch) s may h = record { kinds = h.kinds; switches = length-set s.switches.states n.0 switch ∙ h.switches; modes = h.modes; devices = h.devices; coils = h.coils }
+  has_states-move l (Began m) s may h =
+      let marked = marked-has_states m _ s h in
+      start-by plan m s HasStates (posted-has_states owners.Machine (mode_event plan m WillStart) (begun_mode plan m s) marked) marked
+  has_states-move l (Ended m) s may h =
+      let marked = marked-has_states m _ s h in
+      stop-by plan m s HasStates (posted-has_states owners.Machine (mode_event plan m Stopping) (ended_mode plan m s) marked) marked
+  has_states-move l (Marked m state) s may h = marked-has_states m state s h
+  has_states-move l (Turned call r) s may h = record { kinds = h.kinds; switches = h.switches; modes = h.modes; devices = turned-has_devices call r s h.devices; coils = h.coils }
+  has_states-move l (Asked owner command) s may h = record { kinds = h.kinds; switches = h.switches; modes = h.modes; devices = h.devices; coils = asked-has_coils owner command s.moment s.coils may.2 h.coils }
 
   -- a device that is due is one of the plan
   pub due-row : (s : Machine) (r : RowId) (due : ℕ) → HasDevices plan s.devices → due_of (device_at s r) ≡ Some due → r.0 < length plan.rows
@@ -284,6 +373,7 @@ module _ (plan : PlanView) where
   has_devices-move (Ended m) s h = stop-by plan m s (λ t. HasDevices plan t.devices) h h
   has_devices-move (Marked m state) s h = h
   has_devices-move (Turned call r) s h = turned-has_devices call r s h
+  has_devices-move (Asked owner command) s h = h
 
   module _ {may : Move → Type 0} {c : Cost} {s t : Machine} where
     pub has_devices-does : Does plan may c s t → HasDevices plan s.devices → HasDevices plan t.devices
@@ -296,10 +386,10 @@ module _ (plan : PlanView) where
     pub moment-does : Does plan may c s t → t.moment ≡ s.moment
     moment-does d = does-keeps plan may (λ u. u.moment ≡ s.moment) (λ x u allowed h. moment-move x u ∙ h) d refl
 
-    pub has_states-does : Does plan may c s t → HasStates s → HasStates t
-    has_states-does d h = does-keeps plan may HasStates (λ x u allowed k. has_states-move x u k) d h
-
   module _ (l : Licence) where
+    pub has_states-does : {c : Cost} {s t : Machine} → Does plan (MayDo plan l) c s t → HasStates s → HasStates t
+    has_states-does d h = does-keeps plan (MayDo plan l) HasStates (has_states-move l) d h
+
     waits-move : HasEntries plan → (x : Move) (s : Machine) → MayDo plan l x → WaitsInPlan s → WaitsInPlan (do_move plan x s)
     waits-move entries (Wrote owner what) s may h = h
     waits-move entries (Sent owner e) s may h = of_plan-push s.waiting (record { event = e; owner = owner }) h (may.1 entries)
@@ -310,6 +400,7 @@ module _ (plan : PlanView) where
         stop-by plan m s WaitsInPlan (of_plan-push s.waiting (record { event = mode_event plan m Stopping; owner = owners.Machine }) h (mode_event-within plan entries m Stopping (may entries))) h
     waits-move entries (Marked m state) s may h = h
     waits-move entries (Turned call r) s may h = h
+    waits-move entries (Asked owner command) s may h = h
 
     pub waits-does : HasEntries plan → {c : Cost} {s t : Machine} → Does plan (MayDo plan l) c s t → WaitsInPlan s → WaitsInPlan t
     waits-does entries d h = does-keeps plan (MayDo plan l) WaitsInPlan (waits-move entries) d h
@@ -323,6 +414,7 @@ module _ (plan : PlanView) where
     switches-move none (Ended m) s may = stop-by plan m s (λ t. t.switches ≡ s.switches) refl refl
     switches-move none (Marked m state) s may = refl
     switches-move none (Turned call r) s may = refl
+    switches-move none (Asked owner command) s may = refl
 
     pub switches-does : (l.switches → ⊥) → {c : Cost} {s t : Machine} → Does plan (MayDo plan l) c s t → t.switches ≡ s.switches
     switches-does none {c} {s} {t} d = does-keeps plan (MayDo plan l) (λ u. u.switches ≡ s.switches) (λ x u may h. switches-move none x u may ∙ h) d refl

@@ -2,8 +2,19 @@
 use Rattle.written_machine.specs.GoodRun.{IsGood}
 use Rattle.written_machine.specs.CheckedView.{CheckedView}
 use Rattle.written_machine.specs.Accepted.{IsAccepted}
+use Rattle.plan_tables.specs.declared.entries.Owner.TheVariants as owners
 use Rattle.written_machine.proofs.Cascade.{verified-is_bounded}
-use Rattle.written_machine.proofs.Silence.{stopped_is_silent, stopped_is_resting}
+use Rattle.written_machine.proofs.Guarded.{follows-run, skips-run, stretches-run, holder-run}
+use Rattle.written_machine.proofs.Silence.{stopped_is_silent, stopped_is_resting, stopped_holds_nothing}
 
 pub every_run_is_good : (c : CheckedView) → IsAccepted c → IsGood c
-every_run_is_good c accepted = record { bounded = verified-is_bounded c accepted.valid accepted.verified; silent = stopped_is_silent c.plan accepted.valid accepted.free accepted.own; resting = stopped_is_resting c.plan accepted.valid accepted.free accepted.own }
+every_run_is_good c accepted = record {
+  bounded = verified-is_bounded c accepted.valid accepted.verified;
+  silent = stopped_is_silent c.plan accepted.valid accepted.free accepted.own;
+  limits = λ stimuli trace s run. (follows-run c.plan accepted.allowed accepted.valid stimuli trace s run).within;
+  stretches = stretches-run c.plan accepted.allowed accepted.valid;
+  skipped = skips-run c.plan accepted.allowed accepted.valid;
+  released = λ stimuli trace s run m coil within is.
+      stopped_holds_nothing c.plan accepted.valid accepted.free accepted.own stimuli trace s run m coil within (holder-run c.plan accepted.allowed accepted.valid stimuli trace s run (owners.Mode m) coil is);
+  resting = stopped_is_resting c.plan accepted.valid accepted.free accepted.own;
+}

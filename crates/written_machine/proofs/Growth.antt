@@ -1,20 +1,26 @@
 -- What the machine does only adds to its lines and waiting events.
 use Rattle.std.proofs.Common.{◌≤◌, ◌<◌, List, [], ◌∷◌, length, length-append, arith}
-use Rattle.plan_tables.specs.PlanView.{PlanView, posts_of, work_of}
+use Rattle.plan_tables.specs.PlanView.{PlanView, act_of_listener, listeners_of, posts_of, work_of}
 use Rattle.plan_tables.specs.declared.entries.EventId.{EventId}
 use Rattle.plan_tables.specs.declared.entries.BindingId.{BindingId}
 use Rattle.plan_tables.specs.declared.entries.Owner.{Owner}
 use Rattle.plan_tables.specs.declared.entries.Owner.TheVariants as owners
 use Rattle.plan_tables.specs.declared.entries.Action.{Action}
-use Rattle.plan_tables.specs.declared.entries.Action.TheVariants.{Post}
+use Rattle.plan_tables.specs.declared.entries.Action.TheVariants.{Post, Pulse, Enable, Disable}
+use Rattle.plan_tables.specs.declared.devices.RowId.{RowId}
+use Rattle.device_objects.specs.declared.device.Call.{Call}
+use Rattle.device_objects.specs.declared.device.Call.TheVariants as calls
+use Rattle.coil_guard.specs.declared.command.Command.{Command}
+use Rattle.coil_guard.specs.declared.command.Command.TheVariants as commands
+use Rattle.coil_guard.specs.Asked.{answer_asking}
 use Rattle.switch_core.specs.declared.change.Change.{Change as Acceptance}
 use Rattle.written_machine.specs.declared.line.Line.{Line}
 use Rattle.written_machine.specs.declared.line.Happening.TheVariants as lines
 use Rattle.event_queue.specs.declared.queue.Posted.{Posted}
-use Rattle.written_machine.specs.Machine.{Machine, write, post, all_do, do_action, do_handler, do_accepted}
+use Rattle.written_machine.specs.Machine.{Machine, write, post, ask_coil, told, all_do, do_action, call_device, tell_listener, tell_listeners, do_handler, do_accepted}
 use Rattle.written_machine.specs.EventStep.{taken, is_kept, before_handlers, after_event}
 use Rattle.written_machine.proofs.Does.{Grows, grows-does}
-use Rattle.written_machine.proofs.Parts.{does-handler, does-before, does-after}
+use Rattle.written_machine.proofs.Parts.{does-call, does-handler, does-before, does-after}
 
 -- where each adds, all do
 pub all_do-grows : {X : Type 0} (f : X → Machine → Machine) → ((x : X) (s : Machine) → Grows s (f x s)) → (xs : List X) (s : Machine) → Grows s (all_do f xs s)
@@ -27,20 +33,32 @@ all_do-grows f each (x ∷ xs) s =
 pub post-grows : (owner : Owner) (e : EventId) (s : Machine) → Grows s (post owner e s)
 post-grows owner e s = (omega arith, omega (arith, length-append s.waiting (record { event = e; owner = owner } ∷ [])))
 
+pub asked-grows : (owner : Owner) (command : Command) (s : Machine) → Grows s (ask_coil owner command s)
+asked-grows owner command s =
+    (omega (arith, length-append s.lines (record { moment = s.moment; owner = owner; happening = told command (answer_asking command owner s.moment s.coils) } ∷ [])), omega arith)
+
 module _ (plan : PlanView) where
   pub action-grows : (owner : Owner) (a : Action) (s : Machine) → Grows s (do_action plan owner a s)
   action-grows owner (Post e) s = post-grows owner e s
+  action-grows owner (Pulse coil ms power) s = asked-grows owner (commands.Pulse coil ms power) s
+  action-grows owner (Enable coil power) s = asked-grows owner (commands.Enable coil power) s
+  action-grows owner (Disable coil) s = asked-grows owner (commands.Disable coil) s
 
   -- whoever takes part
   pub handler-grows : (place : BindingId) (s : Machine) → Grows s (do_handler plan place s)
   handler-grows place s = grows-does plan (does-handler plan (λ o. Unit {0}) ⊥ place s tt)
 
+  pub call-grows : (call : Call) (r : RowId) (s : Machine) → Grows s (call_device plan call r s)
+  call-grows call r s = grows-does plan (does-call plan (λ o. Unit {0}) ⊥ call r (λ own. tt) s)
+
   -- an acceptance adds its line
   pub accepted-grows : (a : Acceptance) (s : Machine) → (length s.lines < length (do_accepted plan a s).lines) × (length s.waiting ≤ length (do_accepted plan a s).waiting)
   accepted-grows a s =
       let written : Line = record { moment = s.moment; owner = owners.Machine; happening = lines.Switch a.switch a.active } in
-      let g = all_do-grows (post owners.Machine) (post-grows owners.Machine) (posts_of plan a.switch a.active) (write owners.Machine (lines.Switch a.switch a.active) s) in
-      (omega (arith, g.0, length-append s.lines (written ∷ [])), g.1)
+      let begun = write owners.Machine (lines.Switch a.switch a.active) s in
+      let heard = all_do-grows (tell_listener plan a.active) (λ l t. call-grows (calls.Act (act_of_listener a.active l)) l.row t) (listeners_of plan a.switch) begun in
+      let g = all_do-grows (post owners.Machine) (post-grows owners.Machine) (posts_of plan a.switch a.active) (tell_listeners plan a begun) in
+      (omega (arith, g.0, heard.0, length-append s.lines (written ∷ [])), omega (arith, g.1, heard.1))
 
   -- an event step adds its line, and to what waits after its event
   pub event-grows : (first : Posted) (rest : List Posted) (order : List BindingId) (s : Machine)

@@ -29,6 +29,8 @@ pub record Said : Type 0 where
 abbrev pub work_written : PlanView → Happening → Work
 work_written plan (lines.Event e) = work_of plan e
 work_written plan (lines.Switch n active) = Nothing
+work_written plan (lines.Coil command) = Nothing
+work_written plan (lines.Skip command) = Nothing
 
 abbrev pub written : PlanView → Line → Said
 written plan l = record { owner = l.owner; work = work_written plan l.happening }
@@ -123,6 +125,8 @@ module _ (plan : PlanView) (valid : IsValid plan) (m : ModeId) (within : m.0 < l
   started_line : (h : Happening) → work_written plan h ≡ Mode m Started → h ≡ lines.Event (mode_event plan m Started)
   started_line (lines.Event e) is = let at : IsWorkAt plan e (Mode m Started) = subst (IsWorkAt plan e) is (work_found plan e) in ap lines.Event at.1
   started_line (lines.Switch n active) is = absurd (search rules)
+  started_line (lines.Coil command) is = absurd (search rules)
+  started_line (lines.Skip command) is = absurd (search rules)
 
   stopped_work : (h : Happening) → h ≡ lines.Event (mode_event plan m Stopped) → work_written plan h ≡ Mode m Stopped
   stopped_work h is = subst (λ (g : Happening). work_written plan g ≡ Mode m Stopped) (sym is) (valid.works m Stopped within)

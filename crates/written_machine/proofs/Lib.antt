@@ -17,3 +17,6 @@ pub mod Speaking
 pub mod Resting
 pub mod Silence
 pub mod Good
+pub mod Listed
+pub mod Held
+pub mod Guarded

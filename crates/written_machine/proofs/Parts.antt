@@ -1,11 +1,12 @@
 -- What each part of the machine does, and by which licence.
-use Rattle.std.proofs.Common.{◌≡◌, ◌<◌, ◌≤◌, Bool, true, false, Option, Some, None, List, [], length, refl, sym, ap, subst, inl, inr, arith}
+use Rattle.std.proofs.Common.{◌≡◌, ℕ, ◌<◌, ◌≤◌, get_or, if◌then◌else◌, Bool, true, false, Option, Some, None, List, [], length, refl, sym, ap, subst, inl, inr, arith}
 use Rattle.std.specs.List.{All}
+use Rattle.std.specs.Prelude.{Contains}
 use Rattle.std.proofs.lemmas.Bool.{cases_lt}
 use Rattle.std.proofs.lemmas.List.{get_or_past}
 use Rattle.std.proofs.lemmas.List.Elements.{All-get_or, All-nil, filter_passes}
 use Rattle.std.proofs.lemmas.List.Sorted.{All-permutation}
-use Rattle.plan_tables.specs.PlanView.{PlanView, no_switch, no_binding, switch_at, posts_of, actions_at, binding_at, is_owner, list_of_row, places_of, mode_event, row_at, row_numbers, rows_of, work_of}
+use Rattle.plan_tables.specs.PlanView.{PlanView, act_of_listener, actions_of, coil_numbers, listeners_of, no_row, no_switch, no_binding, switch_at, posts_of, actions_at, binding_at, is_owner, list_of_row, places_of, mode_event, row_at, row_numbers, rows_of, work_of}
 use Rattle.plan_tables.specs.Valid.{HasEntries, IsEventWithin, IsActionWithin, IsBindingWithin, IsTargetWithin, IsWorkAt}
 use Rattle.plan_tables.specs.declared.entries.EventId.{EventId}
 use Rattle.plan_tables.specs.declared.entries.ListId.{ListId}
@@ -18,10 +19,17 @@ use Rattle.plan_tables.specs.declared.entries.Work.TheVariants.{Nothing, Mode}
 use Rattle.plan_tables.specs.declared.entries.Owner.{Owner}
 use Rattle.plan_tables.specs.declared.entries.Owner.TheVariants as owners
 use Rattle.plan_tables.specs.declared.entries.Action.{Action}
-use Rattle.plan_tables.specs.declared.entries.Action.TheVariants.{Post}
+use Rattle.plan_tables.specs.declared.entries.Action.TheVariants.{Post, Pulse, Enable, Disable}
 use Rattle.plan_tables.specs.declared.entries.Target.{Target}
 use Rattle.plan_tables.specs.declared.entries.Target.TheVariants.{Run, Start, Stop, Act}
+use Rattle.plan_tables.specs.Devices.{list_count}
 use Rattle.plan_tables.specs.declared.devices.RowId.{RowId}
+use Rattle.plan_tables.specs.declared.entries.CoilId.{CoilId}
+use Rattle.plan_tables.specs.declared.entries.Listener.{Listener}
+use Rattle.coil_guard.specs.declared.command.Command.TheVariants as commands
+use Rattle.coil_guard.specs.CoilStep.{is_held_by}
+use Rattle.coil_guard.specs.Coils.{coil_at}
+use Rattle.device_objects.proofs.Lists.{lists_are_of_the_row}
 use Rattle.device_objects.specs.declared.device.Call.{Call}
 use Rattle.device_objects.specs.declared.device.Call.TheVariants as calls
 use Rattle.plan_tables.proofs.Owners.{is_owner-same}
@@ -35,13 +43,15 @@ use Rattle.written_machine.specs.declared.line.Happening.TheVariants as lines
 use Rattle.cascade_rank.specs.Cost.{Cost, Lines, Both, each_of, cost_of_post, cost_of_action, cost_of_list, cost_of_answer, cost_of_target, cost_of_binding, led_by, cost_if_led, cost_of_acceptance}
 use Rattle.cascade_rank.proofs.Within.{posts-below, mode_event-within}
 use Rattle.event_queue.specs.Handlers.{takes_part, runs_at, handlers, IsHandlerOrder}
-use Rattle.written_machine.specs.Machine.{Machine, write, post, set_switches, set_mode, set_device, all_do, do_action, do_list, called, call_device, call_devices, do_target, do_handler, do_accepted, do_if_accepted}
+use Rattle.written_machine.specs.Machine.{Machine, write, post, ask_coil, release_coil, release_coils, set_switches, set_mode, set_device, all_do, do_action, do_list, world_of, device_at, called, call_device, call_devices, tell_listener, tell_listeners, do_target, do_handler, do_accepted, do_if_accepted}
 use Rattle.written_machine.specs.EventStep.{do_before, do_after, handlers_in}
 use Rattle.written_machine.specs.Run.{switch, device, Stimulus, Change, Alarm, Wait, moment_of, arrived, begin}
 use Rattle.written_machine.specs.GoodRun.{cost_if_accepted, cost_of_stimulus}
-use Rattle.written_machine.specs.Devices.{ActsAreOwn, IsOwnAct}
+use Rattle.written_machine.specs.Devices.{ActsAreOwn, IsOwnAct, IsOwnListener}
+use Rattle.written_machine.specs.Allowed.{IsAllowed, ActionsAreAllowed}
 use Rattle.written_machine.specs.FreePosts.{IsFree, IsFreeAction, IsFreeSwitch, PostsAreFree}
-use Rattle.written_machine.proofs.Does.{Move, Wrote, Sent, Switched, Began, Ended, Marked, Turned, Licence, MayDo, IsFreeThere, Does, quiet, moved, both, less, each_now, all_do-does, all_do-does_now, does-weaker}
+use Rattle.written_machine.proofs.Listed.{binding-among, row-among, contains-at, enable-listed}
+use Rattle.written_machine.proofs.Does.{Move, Wrote, Sent, Switched, Began, Ended, Marked, Turned, Asked, Licence, MayDo, MayHold, IsFreeThere, Does, quiet, moved, both, less, each_now, all_do-does, all_do-does_now, does-weaker}
 
 -- ---- licences
 
@@ -125,8 +135,47 @@ module _ (plan : PlanView) where
   target-own : ActsAreOwn plan → (place : BindingId) → IsOwnAct plan (binding_at plan place).owner (binding_at plan place).target
   target-own own place =
       elim (cases_lt place.0 (length plan.bindings)) [
-        | inl there ↦ All-get_or (λ b. IsOwnAct plan b.owner b.target) plan.bindings place.0 no_binding there own
+        | inl there ↦ All-get_or (λ b. IsOwnAct plan b.owner b.target) plan.bindings place.0 no_binding there own.bindings
         | inr past ↦ subst (λ b. IsOwnAct plan b.owner b.target) (sym (get_or_past plan.bindings place.0 no_binding past)) tt
+      ]
+
+  -- a device that listens to a switch is the machine's
+  listener-own : ActsAreOwn plan → (n : SwitchId) → All (IsOwnListener plan) (listeners_of plan n)
+  listener-own own n =
+      elim (cases_lt n.0 (length plan.switches)) [
+        | inl there ↦ All-get_or (λ s. All (IsOwnListener plan) s.listeners) plan.switches n.0 no_switch there own.listeners
+        | inr past ↦ subst (λ s. All (IsOwnListener plan) s.listeners) (sym (get_or_past plan.switches n.0 no_switch past)) (All-nil (IsOwnListener plan))
+      ]
+
+  -- ---- the actions of an owner
+
+  -- where it is a mode, the action is among its own
+  abbrev pub IsItsOwn : Owner → Action → Type 0
+  IsItsOwn owners.Machine a = Unit {0}
+  IsItsOwn (owners.Mode m) a = Contains (actions_of plan (owners.Mode m)) a
+
+  its-own : (owner : Owner) (a : Action) → Contains (actions_of plan owner) a → IsItsOwn owner a
+  its-own owners.Machine a there = tt
+  its-own (owners.Mode m) a there = there
+
+  -- of a binding, those of the list that it runs
+  binding-own : (place : BindingId) (l : ListId) → (binding_at plan place).target ≡ Run l → All (IsItsOwn (binding_at plan place).owner) (actions_at plan l)
+  binding-own place l is k d there =
+      elim (cases_lt place.0 (length plan.bindings)) [
+        | inl within ↦
+            its-own (binding_at plan place).owner (get_or (actions_at plan l) k d)
+            (binding-among plan (binding_at plan place) l (get_or (actions_at plan l) k d) (contains-at plan.bindings place.0 no_binding within) is (contains-at (actions_at plan l) k d there))
+        | inr past ↦ subst (λ b. IsItsOwn b.owner (get_or (actions_at plan l) k d)) (sym (get_or_past plan.bindings place.0 no_binding past)) tt
+      ]
+
+  -- of a row, those of its lists
+  row-own : (r : RowId) (n : ℕ) → n < list_count (row_at plan r).settings → All (IsItsOwn (row_at plan r).owner) (actions_at plan (list_of_row plan r n))
+  row-own r n below k d there =
+      elim (cases_lt r.0 (length plan.rows)) [
+        | inl within ↦
+            its-own (row_at plan r).owner (get_or (actions_at plan (list_of_row plan r n)) k d)
+            (row-among plan r n (get_or (actions_at plan (list_of_row plan r n)) k d) within below (contains-at (actions_at plan (list_of_row plan r n)) k d there))
+        | inr past ↦ subst (λ row. IsItsOwn row.owner (get_or (actions_at plan (list_of_row plan r n)) k d)) (sym (get_or_past plan.rows r.0 no_row past)) tt
       ]
 
   abbrev pub cost_of_handler : BindingId → Cost
@@ -151,12 +200,34 @@ module _ (plan : PlanView) where
   abbrev pub calls_now : Call → ModeId → Machine → Cost
   calls_now call m s = each_now (call_device plan call) (call_now call) (rows_of plan (owners.Mode m)) s
 
+  -- the devices that listen to a switch, and its acceptance
+  abbrev pub listener_now : Bool → Listener → Machine → Cost
+  listener_now active l s = call_now (calls.Act (act_of_listener active l)) l.row s
+
+  abbrev pub listeners_now : Acceptance → Machine → Cost
+  listeners_now a s = each_now (tell_listener plan a.active) (listener_now a.active) (listeners_of plan a.switch) s
+
+  abbrev pub accepted_now : Acceptance → Machine → Cost
+  accepted_now a s =
+      Both (Lines 1) (Both (listeners_now a (write owners.Machine (lines.Switch a.switch a.active) s)) (each_of cost_of_post (posts_of plan a.switch a.active)))
+
+  abbrev pub if_accepted_now : Option Acceptance → Machine → Cost
+  if_accepted_now None s = Lines 0
+  if_accepted_now (Some a) s = accepted_now a s
+
   -- what the beginning of a stimulus costs
   abbrev pub stimulus_now : Stimulus → Machine → Cost
-  stimulus_now (Change at n level) s = cost_of_stimulus plan s (Change at n level)
-  stimulus_now (Alarm at (switch n)) s = cost_of_stimulus plan s (Alarm at (switch n))
+  stimulus_now (Change at n level) s = if_accepted_now (reported_by_change n level at s.switches) (set_switches (after_change n level at s.switches) (arrived at s))
+  stimulus_now (Alarm at (switch n)) s = accepted_now (reported (accept n s.switches) n) (set_switches (accept n s.switches) (arrived at s))
   stimulus_now (Alarm at (device r)) s = call_now calls.Fire r (arrived at s)
   stimulus_now (Wait at) s = cost_of_stimulus plan s (Wait at)
+
+  -- the coils that a mode holds
+  abbrev pub release_now : ModeId → CoilId → Machine → Cost
+  release_now m coil s = if is_held_by (owners.Mode m) (coil_at s.coils coil) then Lines 1 else Lines 0
+
+  abbrev pub releases_now : ModeId → Machine → Cost
+  releases_now m s = each_now (release_coil (owners.Mode m)) (release_now m) (coil_numbers plan) s
 
   -- and the machine's work before the handlers of an event, and after them
   abbrev pub before_now : Work → Machine → Cost
@@ -172,7 +243,8 @@ module _ (plan : PlanView) where
   after_now (Mode m WillStart) s = cost_if_led (led_by plan (Mode m WillStart))
   after_now (Mode m Starting) s = cost_if_led (led_by plan (Mode m Starting))
   after_now (Mode m Started) s = cost_if_led (led_by plan (Mode m Started))
-  after_now (Mode m Stopping) s = Both (calls_now calls.ModeStop m s) (Both (Lines 0) (cost_if_led (led_by plan (Mode m Stopping))))
+  after_now (Mode m Stopping) s =
+      Both (calls_now calls.ModeStop m s) (Both (releases_now m (call_devices plan calls.ModeStop m s)) (Both (Lines 0) (cost_if_led (led_by plan (Mode m Stopping)))))
   after_now (Mode m Stopped) s = cost_if_led (led_by plan (Mode m Stopped))
 
   module _ (by : Owner → Type 0) (switches : Type 0) where
@@ -181,33 +253,49 @@ module _ (plan : PlanView) where
 
     -- ---- handlers
 
-    abbrev IsFit : Action → Type 0
-    IsFit a = (HasEntries plan → IsActionWithin plan a) × (PostsAreFree plan → IsFreeAction plan a)
+    record IsFit (owner : Owner) (a : Action) : Type 0 where
+      within : HasEntries plan → IsActionWithin plan a
+      free : PostsAreFree plan → IsFreeAction plan a
+      allowed : ActionsAreAllowed plan → IsAllowed plan a
+      own : IsItsOwn owner a
 
-    does-action : (owner : Owner) → (ActsAreOwn plan → by owner) → (a : Action) (s : Machine) → IsFit a → Does plan May (cost_of_action plan a) s (do_action plan owner a s)
-    does-action owner may (Post e) s h = moved (Sent owner e) s (may, h.0, h.1)
+    may-hold : (owner : Owner) (coil : CoilId) (power : ℕ) → IsItsOwn owner (Enable coil power) → MayHold plan coil owner
+    may-hold owners.Machine coil power is = tt
+    may-hold (owners.Mode m) coil power is = enable-listed plan (owners.Mode m) coil power is
 
-    does-list : (owner : Owner) → (ActsAreOwn plan → by owner) → (l : ListId) (s : Machine) → Does plan May (cost_of_list plan l) s (do_list plan owner l s)
-    does-list owner may l s =
-        all_do-does plan May (do_action plan owner) (cost_of_action plan) IsFit (does-action owner may) (actions_at plan l)
-        (λ k d there. (λ entries. of_list (IsActionWithin plan) entries.lists l k d there, λ free. of_list (IsFreeAction plan) free.lists l k d there)) s
+    does-action : (owner : Owner) → (ActsAreOwn plan → by owner) → (a : Action) (s : Machine) → IsFit owner a → Does plan May (cost_of_action plan a) s (do_action plan owner a s)
+    does-action owner may (Post e) s h = moved (Sent owner e) s (may, h.within, h.free)
+    does-action owner may (Pulse coil ms power) s h = moved (Asked owner (commands.Pulse coil ms power)) s (may, h.allowed, tt)
+    does-action owner may (Enable coil power) s h = moved (Asked owner (commands.Enable coil power)) s (may, h.allowed, may-hold owner coil power h.own)
+    does-action owner may (Disable coil) s h = moved (Asked owner (commands.Disable coil)) s (may, h.allowed, tt)
+
+    does-list : (owner : Owner) → (ActsAreOwn plan → by owner) → (l : ListId) → All (IsItsOwn owner) (actions_at plan l) → (s : Machine) → Does plan May (cost_of_list plan l) s (do_list plan owner l s)
+    does-list owner may l own s =
+        all_do-does plan May (do_action plan owner) (cost_of_action plan) (IsFit owner) (does-action owner may) (actions_at plan l)
+        (λ k d there. record {
+          within = λ entries. of_list (IsActionWithin plan) entries.lists l k d there;
+          free = λ free. of_list (IsFreeAction plan) free.lists l k d there;
+          allowed = λ allowed. of_list (IsAllowed plan) allowed l k d there;
+          own = own k d there;
+        }) s
 
     -- a device of an owner by whom it may be
     pub does-call : (call : Call) (r : RowId) → (ActsAreOwn plan → by (row_at plan r).owner) → (s : Machine) → Does plan May (call_now call r s) s (call_device plan call r s)
     does-call call r may s =
         both (moved (Turned call r) s may)
-        (all_do-does plan May (λ k. do_list plan (row_at plan r).owner (list_of_row plan r k)) (λ k. cost_of_list plan (list_of_row plan r k)) (λ k. Unit {0})
-        (λ k t h. does-list (row_at plan r).owner may (list_of_row plan r k) t) (called plan call r s).1 (λ k d there. tt) (set_device r (called plan call r s).0 s))
+        (all_do-does plan May (λ k. do_list plan (row_at plan r).owner (list_of_row plan r k)) (λ k. cost_of_list plan (list_of_row plan r k)) (λ k. k < list_count (row_at plan r).settings)
+        (λ k t below. does-list (row_at plan r).owner may (list_of_row plan r k) (row-own r k below) t) (called plan call r s).1
+        (lists_are_of_the_row (row_at plan r).settings call s.moment (world_of s) (device_at s r)) (set_device r (called plan call r s).0 s))
 
-    does-target : (owner : Owner) → (ActsAreOwn plan → by owner) → (t : Target) → (HasEntries plan → IsThere t) → (ActsAreOwn plan → IsOwnAct plan owner t) → (s : Machine)
-        → Does plan May (target_now t s) s (do_target plan owner t s)
-    does-target owner may (Run l) there own s = does-list owner may l s
-    does-target owner may (Start m) there own s = moved (Began m) s there
-    does-target owner may (Stop m) there own s = moved (Ended m) s there
-    does-target owner may (Act r act) there own s = does-call (calls.Act act) r (λ acts. subst by (sym (own acts)) (may acts)) s
+    does-target : (owner : Owner) → (ActsAreOwn plan → by owner) → (t : Target) → (HasEntries plan → IsThere t) → (ActsAreOwn plan → IsOwnAct plan owner t)
+        → ((l : ListId) → t ≡ Run l → All (IsItsOwn owner) (actions_at plan l)) → (s : Machine) → Does plan May (target_now t s) s (do_target plan owner t s)
+    does-target owner may (Run l) there own ran s = does-list owner may l (ran l refl) s
+    does-target owner may (Start m) there own ran s = moved (Began m) s there
+    does-target owner may (Stop m) there own ran s = moved (Ended m) s there
+    does-target owner may (Act r act) there own ran s = does-call (calls.Act act) r (λ acts. subst by (sym (own acts)) (may acts)) s
 
     pub does-handler : (place : BindingId) (s : Machine) → by (binding_at plan place).owner → Does plan May (handler_now place s) s (do_handler plan place s)
-    does-handler place s may = does-target (binding_at plan place).owner (λ own. may) (binding_at plan place).target (λ entries. target-there entries place) (λ own. target-own own place) s
+    does-handler place s may = does-target (binding_at plan place).owner (λ own. may) (binding_at plan place).target (λ entries. target-there entries place) (λ own. target-own own place) (binding-own place) s
 
     pub does-handlers : (order : List BindingId) → All (λ p. by (binding_at plan p).owner) order → (s : Machine) → Does plan May (each_now (do_handler plan) handler_now order s) s (all_do (do_handler plan) order s)
     does-handlers order may s = all_do-does_now plan May (do_handler plan) handler_now (λ p. by (binding_at plan p).owner) does-handler order may s
@@ -220,14 +308,23 @@ module _ (plan : PlanView) where
         all_do-does plan May (post owner) cost_of_post (λ e. (HasEntries plan → IsEventWithin (length plan.events) e) × IsFreeThere plan e) (λ e t h. moved (Sent owner e) t (may, h.0, h.1)) es
         (λ k d there. (λ entries. within entries k d there, λ none. free none k d there)) s
 
-    -- an acceptance
-    pub does-accepted : by owners.Machine → (a : Acceptance) (s : Machine) → Does plan May (cost_of_acceptance plan a.switch a.active) s (do_accepted plan a s)
-    does-accepted may a s =
-        both (moved (Wrote owners.Machine (lines.Switch a.switch a.active)) s (may, tt))
-        (does-posts owners.Machine (λ own. may) (posts_of plan a.switch a.active) (λ entries. posts-below plan entries a.switch a.active) (λ free. posts-free free a.switch a.active)
-        (write owners.Machine (lines.Switch a.switch a.active) s))
+    -- the devices that listen
+    does-listeners : by owners.Machine → (a : Acceptance) (s : Machine) → Does plan May (listeners_now a s) s (tell_listeners plan a s)
+    does-listeners may a s =
+        all_do-does_now plan May (tell_listener plan a.active) (listener_now a.active) (λ l. ActsAreOwn plan → IsOwnListener plan l)
+        (λ l t h. does-call (calls.Act (act_of_listener a.active l)) l.row (λ own. subst by (sym (h own)) may) t) (listeners_of plan a.switch)
+        (λ k d there own. listener-own own a.switch k d there) s
 
-    pub does-if_accepted : by owners.Machine → (o : Option Acceptance) (s : Machine) → Does plan May (cost_if_accepted plan o) s (do_if_accepted plan o s)
+    -- an acceptance
+    pub does-accepted : by owners.Machine → (a : Acceptance) (s : Machine) → Does plan May (accepted_now a s) s (do_accepted plan a s)
+    does-accepted may a s =
+        let begun = write owners.Machine (lines.Switch a.switch a.active) s in
+        both (moved (Wrote owners.Machine (lines.Switch a.switch a.active)) s (may, tt, tt))
+        (both (does-listeners may a begun)
+        (does-posts owners.Machine (λ own. may) (posts_of plan a.switch a.active) (λ entries. posts-below plan entries a.switch a.active) (λ free. posts-free free a.switch a.active)
+        (tell_listeners plan a begun)))
+
+    pub does-if_accepted : by owners.Machine → (o : Option Acceptance) (s : Machine) → Does plan May (if_accepted_now o s) s (do_if_accepted plan o s)
     does-if_accepted may None s = quiet
     does-if_accepted may (Some a) s = does-accepted may a s
 
@@ -251,6 +348,16 @@ module _ (plan : PlanView) where
 
   -- ---- the machine's work
 
+  -- the coils that a mode holds are released
+  pub does-releases : (l : Licence) (m : ModeId) → (ActsAreOwn plan → l.by (owners.Mode m)) → (s : Machine) → Does plan (MayDo plan l) (releases_now m s) s (release_coils plan (owners.Mode m) s)
+  does-releases l m may s =
+      all_do-does_now plan (MayDo plan l) (release_coil (owners.Mode m)) (release_now m) (λ coil. Unit {0})
+      (λ coil t h. one coil t (is_held_by (owners.Mode m) (coil_at t.coils coil))) (coil_numbers plan) (λ k d there. tt) s
+    where
+      one : (coil : CoilId) (t : Machine) (held : Bool) → Does plan (MayDo plan l) (if held then Lines 1 else Lines 0) t (if held then ask_coil (owners.Mode m) (commands.Disable coil) t else t)
+      one coil t true = moved (Asked (owners.Mode m) (commands.Disable coil)) t (may, (λ allowed. tt), tt)
+      one coil t false = quiet
+
   -- the devices of a mode, of events at which the machine does nothing
   pub does-calls : (by : Owner → Type 0) (call : Call) (m : ModeId) → by (owners.Mode m) → (s : Machine) → Does plan (MayDo plan (ordinary plan by ⊥)) (calls_now call m s) s (call_devices plan call m s)
   does-calls by call m may s =
@@ -269,6 +376,7 @@ module _ (plan : PlanView) where
       works (Ended k) may = may
       works (Marked k state) may = absurd may
       works (Turned turn r) may = may
+      works (Asked owner command) may = may
 
   pub does-before : (w : Work) (s : Machine) → Does plan (MayWork plan) (before_now w s) s (do_before plan w s)
   does-before Nothing s = quiet
@@ -286,8 +394,9 @@ module _ (plan : PlanView) where
   does-after_work false (Mode m Started) e at s = less quiet (λ w. omega arith)
   does-after_work kept (Mode m Stopping) e at s =
       let stopped = call_devices plan calls.ModeStop m s in
-      both (works-calls calls.ModeStop m s) (both (moved (Marked m (ended (mode_state s.modes m))) stopped tt)
-      (moved (Sent owners.Machine (mode_event plan m Stopped)) (set_mode m (ended (mode_state s.modes m)) stopped) (λ own. tt, λ entries. mode_event-within plan entries m Stopped at.0, tt)))
+      let released = release_coils plan (owners.Mode m) stopped in
+      both (works-calls calls.ModeStop m s) (both (does-releases working m (λ own. tt) stopped) (both (moved (Marked m (ended (mode_state s.modes m))) released tt)
+      (moved (Sent owners.Machine (mode_event plan m Stopped)) (set_mode m (ended (mode_state s.modes m)) released) (λ own. tt, λ entries. mode_event-within plan entries m Stopped at.0, tt))))
   does-after_work kept (Mode m Stopped) e at s = quiet
 
   -- whether a stop was kept or not

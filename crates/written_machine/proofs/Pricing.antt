@@ -1,10 +1,22 @@
 -- What things cost in a state is within what they cost in any, where each device has a state of its shape.
-use Rattle.std.proofs.Common.{◌≡◌, ℕ, ◌<◌, ◌≤◌, Some, List, [], ◌∷◌, length, refl, ap, sym, subst, arith}
+use Rattle.std.proofs.Common.{◌≡◌, ℕ, ◌+◌, ◌<◌, ◌≤◌, Bool, true, false, if◌then◌else◌, cond, filter, inl, inr, Option, None, Some, List, [], ◌∷◌, length, refl, ap, sym, subst, arith}
 use Rattle.std.specs.Prelude.{IsSome, Contains}
-use Rattle.std.specs.List.{All}
-use Rattle.std.proofs.lemmas.List.Elements.{All-head, All-tail}
-use Rattle.plan_tables.specs.PlanView.{PlanView, binding_at, row_at, row_numbers, rows_of}
-use Rattle.plan_tables.specs.Valid.{HasEntries}
+use Rattle.std.specs.List.{All, list_any}
+use Rattle.std.proofs.lemmas.Bool.{cases_lt}
+use Rattle.std.proofs.lemmas.List.{get_or_past}
+use Rattle.std.proofs.lemmas.List.Elements.{All-get_or, All-head, All-nil, All-tail}
+use Rattle.plan_tables.specs.PlanView.{PlanView, act_of_listener, actions_of, coil_numbers, is_enable_of, listeners_of, no_switch, binding_at, row_at, row_numbers, rows_of}
+use Rattle.plan_tables.specs.Valid.{HasEntries, IsListenerWithin}
+use Rattle.plan_tables.specs.declared.entries.CoilId.{CoilId}
+use Rattle.plan_tables.specs.declared.entries.ModeId.{ModeId}
+use Rattle.plan_tables.specs.declared.entries.SwitchId.{SwitchId}
+use Rattle.plan_tables.specs.declared.entries.Owner.{Owner}
+use Rattle.coil_guard.specs.declared.command.Command.TheVariants as commands
+use Rattle.coil_guard.specs.CoilStep.{is_held_by}
+use Rattle.coil_guard.specs.Coils.{coil_at}
+use Rattle.switch_core.specs.declared.change.Change.{Change as Acceptance}
+use Rattle.switch_core.specs.Switches.{after_change, reported_by_change, accept, reported}
+use Rattle.written_machine.specs.declared.line.Happening.TheVariants as lines
 use Rattle.plan_tables.specs.declared.entries.EventId.{EventId}
 use Rattle.plan_tables.specs.declared.entries.BindingId.{BindingId}
 use Rattle.plan_tables.specs.declared.entries.ModeEvent.TheVariants.{WillStart, Starting, Started, Stopping, Stopped}
@@ -23,16 +35,17 @@ use Rattle.device_objects.proofs.Answered.{answers_are_outcomes}
 use Rattle.device_objects.proofs.Moments.{stopped-silent}
 use Rattle.mode_stack.specs.ModeStep.{entered}
 use Rattle.mode_stack.specs.Modes.{mode_state}
-use Rattle.cascade_rank.specs.Cost.{Cost, price, each_of, dearest_of, cost_of_answer, cost_of_call, cost_of_target, cost_of_starts, led_by, cost_if_led}
+use Rattle.cascade_rank.specs.Cost.{Cost, Lines, price, each_of, dearest_of, cost_of_acceptance, cost_of_answer, cost_of_call, cost_of_listener, cost_of_releases, cost_of_target, cost_of_starts, led_by, cost_if_led}
 use Rattle.cascade_rank.specs.Weights.{bound_of}
 use Rattle.cascade_rank.proofs.Prices.{price-dearest}
 use Rattle.cascade_rank.proofs.Rows.{length-rows, row_of}
-use Rattle.written_machine.specs.Machine.{Machine, set_mode, world_of, device_at, called, call_device, do_handler}
+use Rattle.written_machine.specs.Machine.{Machine, write, set_switches, set_mode, ask_coil, release_coil, world_of, device_at, called, call_device, call_devices, tell_listener, do_handler}
 use Rattle.written_machine.specs.Devices.{HasDevices}
 use Rattle.written_machine.specs.Run.{switch, device, source_due, Stimulus, Change, Alarm, Wait, arrived}
-use Rattle.written_machine.specs.GoodRun.{cost_of_stimulus}
-use Rattle.written_machine.proofs.Does.{each_now, has_devices-does}
-use Rattle.written_machine.proofs.Parts.{IsThere, target-there, cost_of_handler, call_now, target_now, handler_now, stimulus_now, before_now, after_now, does-call, does-handler}
+use Rattle.written_machine.specs.GoodRun.{cost_if_accepted, cost_of_stimulus}
+use Rattle.written_machine.proofs.Does.{each_now, has_devices-does, HasCoils, asked-has_coils}
+use Rattle.written_machine.proofs.Resting.{stops-turn}
+use Rattle.written_machine.proofs.Parts.{IsThere, target-there, cost_of_handler, call_now, target_now, handler_now, listener_now, accepted_now, if_accepted_now, release_now, stimulus_now, before_now, after_now, does-call, does-handler}
 
 module _ (plan : PlanView) (entries : HasEntries plan) (w : EventId → ℕ) where
   dearest-of : {X : Type 0} (f : X → Cost) (xs : List X) (x : X) → Contains xs x → price w (f x) ≤ price w (dearest_of f xs)
@@ -98,13 +111,42 @@ module _ (plan : PlanView) (entries : HasEntries plan) (w : EventId → ℕ) whe
   before-priced (Mode m Stopping) s has = omega arith
   before-priced (Mode m Stopped) s has = omega arith
 
-  pub after-priced : (work : Work) (s : Machine) → price w (after_now plan work s) ≤ price w (cost_if_led (led_by plan work))
-  after-priced Nothing s = omega arith
-  after-priced (Mode m WillStart) s = omega arith
-  after-priced (Mode m Starting) s = omega arith
-  after-priced (Mode m Started) s = omega arith
-  after-priced (Mode m Stopping) s = omega (arith, stops-free (rows_of plan (owners.Mode m)) s)
-  after-priced (Mode m Stopped) s = omega arith
+  -- the coils that a mode holds are some of those that it may hold
+  releases-priced : (m : ModeId) (cs : List CoilId) (s : Machine) → HasCoils plan s.coils
+      → price w (each_now (release_coil (owners.Mode m)) (release_now plan m) cs s) ≤ length (filter (λ c. list_any (is_enable_of c) (actions_of plan (owners.Mode m))) cs)
+  releases-priced m [] s has = omega arith
+  releases-priced m (c ∷ cs) s has = by (λ t h. releases-priced m cs t h) (is_held_by (owners.Mode m) (coil_at s.coils c)) refl
+    where
+      owner : Owner
+      owner = owners.Mode m
+
+      enabled : CoilId → Bool
+      enabled x = list_any (is_enable_of x) (actions_of plan owner)
+
+      fewer : (b : Bool) → length (filter enabled cs) ≤ length (cond b (c ∷ filter enabled cs) (filter enabled cs))
+      fewer true = omega arith
+      fewer false = omega arith
+
+      by : ((t : Machine) → HasCoils plan t.coils → price w (each_now (release_coil owner) (release_now plan m) cs t) ≤ length (filter enabled cs))
+          → (held : Bool) → is_held_by owner (coil_at s.coils c) ≡ held → price w (if held then Lines 1 else Lines 0) + price w (each_now (release_coil owner) (release_now plan m) cs (if held then ask_coil owner (commands.Disable c) s else s))
+          ≤ length (cond (enabled c) (c ∷ filter enabled cs) (filter enabled cs))
+      by later true is =
+          let rest = later (ask_coil owner (commands.Disable c) s) (asked-has_coils plan owner (commands.Disable c) s.moment s.coils tt has) in
+          let found = ap (λ b. length (cond b (c ∷ filter enabled cs) (filter enabled cs))) (has.held owner c is) in
+          omega (arith, rest, found)
+      by later false is = omega (arith, later s has, fewer (enabled c))
+
+  pub after-priced : (work : Work) (s : Machine) → HasCoils plan s.coils → price w (after_now plan work s) ≤ price w (cost_of_releases plan work) + price w (cost_if_led (led_by plan work))
+  after-priced Nothing s has = omega arith
+  after-priced (Mode m WillStart) s has = omega arith
+  after-priced (Mode m Starting) s has = omega arith
+  after-priced (Mode m Started) s has = omega arith
+  after-priced (Mode m Stopping) s has =
+      let turned = stops-turn plan (rows_of plan (owners.Mode m)) s in
+      let same : (call_devices plan calls.ModeStop m s).coils ≡ s.coils = ap (λ (t : Machine). t.coils) turned.1 in
+      let released = releases-priced m (coil_numbers plan) (call_devices plan calls.ModeStop m s) (subst (HasCoils plan) (sym same) has) in
+      omega (arith, stops-free (rows_of plan (owners.Mode m)) s, released)
+  after-priced (Mode m Stopped) s has = omega arith
 
   -- ---- stimuli
 
@@ -115,9 +157,29 @@ module _ (plan : PlanView) (entries : HasEntries plan) (w : EventId → ℕ) whe
   IsFired s (Alarm at (device r)) = (r.0 < length plan.rows) × (source_due s (device r) ≡ Some at)
   IsFired s (Wait at) = Unit {0}
 
+  -- the devices that listen to a switch, and its acceptance
+  accepted-priced : (a : Acceptance) (s : Machine) → HasDevices plan s.devices → price w (accepted_now plan a s) ≤ price w (cost_of_acceptance plan a.switch a.active)
+  accepted-priced a s has =
+      let begun = write owners.Machine (lines.Switch a.switch a.active) s in
+      let listeners = each-priced (tell_listener plan a.active) (listener_now plan a.active) (cost_of_listener plan a.active) (λ l. l.row.0 < length plan.rows)
+      (λ l t there k. (call-priced (calls.Act (act_of_listener a.active l)) l.row t there k tt, call-devices (calls.Act (act_of_listener a.active l)) l.row t k)) (listeners_of plan a.switch) (listeners-within a.switch) begun has in
+      omega (arith, listeners)
+    where
+      listeners-within : (n : SwitchId) → All (λ l. l.row.0 < length plan.rows) (listeners_of plan n)
+      listeners-within n =
+          elim (cases_lt n.0 (length plan.switches)) [
+            | inl within ↦ All-get_or (λ sw. All (IsListenerWithin (length plan.rows)) sw.listeners) plan.switches n.0 no_switch within entries.listeners
+            | inr past ↦ subst (λ sw. All (IsListenerWithin (length plan.rows)) sw.listeners) (sym (get_or_past plan.switches n.0 no_switch past)) (All-nil (IsListenerWithin (length plan.rows)))
+          ]
+
+  if_accepted-priced : (o : Option Acceptance) (s : Machine) → HasDevices plan s.devices → price w (if_accepted_now plan o s) ≤ price w (cost_if_accepted plan o)
+  if_accepted-priced None s has = omega arith
+  if_accepted-priced (Some a) s has = accepted-priced a s has
+
   pub stimulus-priced : (stimulus : Stimulus) (s : Machine) → IsFired s stimulus → HasDevices plan s.devices → price w (stimulus_now plan stimulus s) ≤ price w (cost_of_stimulus plan s stimulus)
-  stimulus-priced (Change at n level) s fired has = omega arith
-  stimulus-priced (Alarm at (switch n)) s fired has = omega arith
+  stimulus-priced (Change at n level) s fired has =
+      if_accepted-priced (reported_by_change n level at s.switches) (set_switches (after_change n level at s.switches) (arrived at s)) has
+  stimulus-priced (Alarm at (switch n)) s fired has = accepted-priced (reported (accept n s.switches) n) (set_switches (accept n s.switches) (arrived at s)) has
   stimulus-priced (Alarm at (device r)) s fired has = call-priced calls.Fire r (arrived at s) fired.0 has (subst IsSome (sym fired.1) refl)
   stimulus-priced (Wait at) s fired has = omega arith
 

@@ -1,7 +1,7 @@
 -- No device of a mode is due unless the mode runs: what moves of handlers, the machine's works and stimuli keep.
 use Rattle.std.proofs.Common.{◌≡◌, ℕ, zero, suc, ◌<◌, ◌⊎◌, inl, inr, Bool, true, None, Some, List, [], ◌∷◌, length, slice_set, refl, ap, sym, subst, ◌∙◌, arith}
 use Rattle.std.specs.Prelude.{Contains}
-use Rattle.std.proofs.lemmas.Bool.{cases_eq}
+use Rattle.std.proofs.lemmas.Bool.{cases_eq, false≢true}
 use Rattle.std.proofs.lemmas.Option.{none-some}
 use Rattle.std.proofs.lemmas.List.{get_or-set_same, get_or-set_other}
 use Rattle.plan_tables.specs.PlanView.{PlanView, no_row, row_at}
@@ -10,6 +10,8 @@ use Rattle.plan_tables.specs.declared.entries.ModeId.{ModeId}
 use Rattle.plan_tables.specs.declared.entries.Owner.{Owner}
 use Rattle.plan_tables.specs.declared.entries.Owner.TheVariants as owners
 use Rattle.plan_tables.specs.declared.devices.RowId.{RowId}
+use Rattle.plan_tables.specs.declared.entries.CoilId.{CoilId}
+use Rattle.coil_guard.specs.declared.state.CoilState.{CoilState}
 use Rattle.device_objects.specs.declared.device.Call.{Call}
 use Rattle.device_objects.specs.declared.device.Call.TheVariants as calls
 use Rattle.device_objects.specs.declared.state.DeviceState.{DeviceState}
@@ -21,7 +23,8 @@ use Rattle.mode_stack.proofs.WhoRuns.{starting_keeps_who_runs}
 use Rattle.event_queue.specs.Handlers.{takes_part}
 use Rattle.written_machine.specs.Devices.{HasDevices, ActsAreOwn}
 use Rattle.written_machine.specs.Machine.{Machine, set_device, has_game, all_do, world_of, device_state, device_at, called, do_answer, call_device}
-use Rattle.written_machine.proofs.Does.{Move, Wrote, Sent, Switched, Began, Ended, Marked, Turned, do_move, start-by, stop-by, MayDo, due-row, has_devices-move}
+use Rattle.written_machine.proofs.Does.{Move, Wrote, Sent, Switched, Began, Ended, Marked, Turned, Asked, do_move, start-by, stop-by, MayDo, due-row, has_devices-move}
+use Rattle.written_machine.proofs.Held.{IsHolding, IsNotHolding, asked-count, asked-held}
 use Rattle.written_machine.proofs.Parts.{ordinary}
 
 -- ---- devices whose mode stops
@@ -76,15 +79,21 @@ module _ (plan : PlanView) where
 
 -- ---- what rests
 
--- The devices have states, and one of the mode that is due is of a mode that runs.
+-- The devices and coils have states, and one of the mode that is due, or that it holds, is of a mode that runs.
 pub record Rests (plan : PlanView) (m : ModeId) (s : Machine) : Type 0 where
   pub devices : HasDevices plan s.devices
   pub rests : (r : RowId) (due : ℕ) → (row_at plan r).owner ≡ owners.Mode m → due_of (device_at s r) ≡ Some due → takes_part (running_of s.modes) (owners.Mode m) ≡ true
+  pub count : length s.coils ≡ length plan.coils
+  pub holds : (coil : CoilId) → IsHolding (owners.Mode m) s.coils coil → takes_part (running_of s.modes) (owners.Mode m) ≡ true
 
 module _ (plan : PlanView) (valid : IsValid plan) (own : ActsAreOwn plan) (m : ModeId) where
-  -- where modes and devices are the same
-  pub same-rests : (s t : Machine) → t.modes ≡ s.modes → t.devices ≡ s.devices → Rests plan m s → Rests plan m t
-  same-rests s t modes devices h = record {
+  -- where modes, devices and coils are the same
+  pub same-rests : (s t : Machine) → t.modes ≡ s.modes → t.devices ≡ s.devices → t.coils ≡ s.coils → Rests plan m s → Rests plan m t
+  same-rests s t modes devices coils h = record {
+    count = ap length coils ∙ h.count;
+    holds = λ coil is.
+        subst (λ (ms : List ModeState). takes_part (running_of ms) (owners.Mode m) ≡ true) (sym modes)
+        (h.holds coil (subst (λ (cs : List CoilState). IsHolding (owners.Mode m) cs coil) coils is));
     devices = subst (HasDevices plan) (sym devices) h.devices;
     rests = λ r due is armed.
         subst (λ (ms : List ModeState). takes_part (running_of ms) (owners.Mode m) ≡ true) (sym modes)
@@ -92,8 +101,12 @@ module _ (plan : PlanView) (valid : IsValid plan) (own : ActsAreOwn plan) (m : M
   }
 
   -- where the same modes run
-  pub running-rests : (s t : Machine) → running_of t.modes ≡ running_of s.modes → t.devices ≡ s.devices → Rests plan m s → Rests plan m t
-  running-rests s t running devices h = record {
+  pub running-rests : (s t : Machine) → running_of t.modes ≡ running_of s.modes → t.devices ≡ s.devices → t.coils ≡ s.coils → Rests plan m s → Rests plan m t
+  running-rests s t running devices coils h = record {
+    count = ap length coils ∙ h.count;
+    holds = λ coil is.
+        subst (λ (bs : List Bool). takes_part bs (owners.Mode m) ≡ true) (sym running)
+        (h.holds coil (subst (λ (cs : List CoilState). IsHolding (owners.Mode m) cs coil) coils is));
     devices = subst (HasDevices plan) (sym devices) h.devices;
     rests = λ r due is armed.
         subst (λ (bs : List Bool). takes_part bs (owners.Mode m) ≡ true) (sym running)
@@ -101,12 +114,15 @@ module _ (plan : PlanView) (valid : IsValid plan) (own : ActsAreOwn plan) (m : M
   }
 
   -- where the mode runs
-  pub runs-rests : (s : Machine) → HasDevices plan s.devices → takes_part (running_of s.modes) (owners.Mode m) ≡ true → Rests plan m s
-  runs-rests s has runs = record { devices = has; rests = λ r due is armed. runs }
+  pub runs-rests : (s : Machine) → HasDevices plan s.devices → length s.coils ≡ length plan.coils → takes_part (running_of s.modes) (owners.Mode m) ≡ true → Rests plan m s
+  runs-rests s has count runs = record { devices = has; rests = λ r due is armed. runs; count = count; holds = λ coil is. runs }
 
-  -- where no device of the mode is due
-  pub quiet-rests : (s : Machine) → HasDevices plan s.devices → ((r : RowId) → r.0 < length plan.rows → (row_at plan r).owner ≡ owners.Mode m → due_of (device_at s r) ≡ None) → Rests plan m s
-  quiet-rests s has quiet = record {
+  -- where no device of the mode is due, and it holds no coil
+  pub quiet-rests : (s : Machine) → HasDevices plan s.devices → ((r : RowId) → r.0 < length plan.rows → (row_at plan r).owner ≡ owners.Mode m → due_of (device_at s r) ≡ None)
+      → length s.coils ≡ length plan.coils → ((coil : CoilId) → IsNotHolding (owners.Mode m) s.coils coil) → Rests plan m s
+  quiet-rests s has quiet count free = record {
+    count = count;
+    holds = λ coil is. absurd (false≢true (sym (free coil) ∙ is));
     devices = has;
     rests = λ r due is armed. absurd (none-some due (sym (quiet r (due-row plan s r due has armed) is) ∙ armed));
   }
@@ -115,7 +131,7 @@ module _ (plan : PlanView) (valid : IsValid plan) (own : ActsAreOwn plan) (m : M
 
   module _ (by : Owner → Type 0) (switches : Type 0) where
     turned-rests : (call : Call) (r : RowId) (s : Machine) → (by (owners.Mode m) → takes_part (running_of s.modes) (owners.Mode m) ≡ true) → by (row_at plan r).owner → Rests plan m s → Rests plan m (set_device r (called plan call r s).0 s)
-    turned-rests call r s runs may h = record { devices = has_devices-move plan (Turned call r) s h.devices; rests = rests }
+    turned-rests call r s runs may h = record { devices = has_devices-move plan (Turned call r) s h.devices; rests = rests; count = h.count; holds = h.holds }
       where
         rests : (q : RowId) (due : ℕ) → (row_at plan q).owner ≡ owners.Mode m → due_of (device_at (set_device r (called plan call r s).0 s) q) ≡ Some due → takes_part (running_of s.modes) (owners.Mode m) ≡ true
         rests q due is armed =
@@ -125,14 +141,24 @@ module _ (plan : PlanView) (valid : IsValid plan) (own : ActsAreOwn plan) (m : M
             ]
 
     pub move-rests : (x : Move) (s : Machine) → MayDo plan (ordinary plan by switches) x → (by (owners.Mode m) → takes_part (running_of s.modes) (owners.Mode m) ≡ true) → Rests plan m s → Rests plan m (do_move plan x s)
-    move-rests (Wrote owner what) s may runs h = same-rests s (do_move plan (Wrote owner what) s) refl refl h
-    move-rests (Sent owner e) s may runs h = same-rests s (do_move plan (Sent owner e) s) refl refl h
-    move-rests (Switched n state) s may runs h = same-rests s (do_move plan (Switched n state) s) refl refl h
+    move-rests (Wrote owner what) s may runs h = same-rests s (do_move plan (Wrote owner what) s) refl refl refl h
+    move-rests (Sent owner e) s may runs h = same-rests s (do_move plan (Sent owner e) s) refl refl refl h
+    move-rests (Switched n state) s may runs h = same-rests s (do_move plan (Switched n state) s) refl refl refl h
     move-rests (Began k) s may runs h =
         let same = starting_keeps_who_runs.start s.modes k (needs_game plan k) (has_game s) in
-        start-by plan k s (Rests plan m) (running-rests s _ same refl h) (running-rests s _ same refl h)
+        start-by plan k s (Rests plan m) (running-rests s _ same refl refl h) (running-rests s _ same refl refl h)
     move-rests (Ended k) s may runs h =
         let same = starting_keeps_who_runs.stop s.modes k in
-        stop-by plan k s (Rests plan m) (running-rests s _ same refl h) (running-rests s _ same refl h)
+        stop-by plan k s (Rests plan m) (running-rests s _ same refl refl h) (running-rests s _ same refl refl h)
     move-rests (Marked k state) s may runs h = absurd may
     move-rests (Turned call r) s may runs h = turned-rests call r s runs (may own) h
+    move-rests (Asked owner command) s may runs h = record {
+      devices = h.devices;
+      rests = h.rests;
+      count = asked-count owner command s.moment s.coils ∙ h.count;
+      holds = λ coil is.
+          elim (asked-held owner command s.moment s.coils (owners.Mode m) coil is) [
+            | inl own_asks ↦ runs (subst by own_asks (may.0 own))
+            | inr before ↦ h.holds coil before
+          ];
+    }

@@ -1,9 +1,9 @@
 -- A mode that is stopped is silent, in every run: what the moves of handlers, the machine's works and the beginning of a
 -- stimulus keep.
-use Rattle.std.proofs.Common.{◌≡◌, ℕ, ◌<◌, inl, inr, Some, Bool, true, false, ◌==◌, cond, List, [], ◌∷◌, ◌++◌, length, refl, ap, sym, subst, ◌∙◌, rules}
+use Rattle.std.proofs.Common.{◌≡◌, ℕ, ◌<◌, if◌then◌else◌, inl, inr, Some, Bool, true, false, ◌==◌, cond, List, [], ◌∷◌, ◌++◌, length, refl, ap, sym, subst, ◌∙◌, rules}
 use Rattle.std.proofs.lemmas.Bool.{cases_eq, eq-eqb, ne_eqb}
 use Rattle.std.proofs.lemmas.List.{append-nil, get_or-replicate, length-replicate, length-set}
-use Rattle.plan_tables.specs.PlanView.{PlanView, is_owner, mode_event, row_at, rows_of, work_of}
+use Rattle.plan_tables.specs.PlanView.{PlanView, coil_numbers, is_owner, mode_event, row_at, rows_of, work_of}
 use Rattle.plan_tables.specs.Valid.{IsOwnerWithin, IsValid, IsWorkAt}
 use Rattle.plan_tables.specs.declared.entries.EventId.{EventId}
 use Rattle.plan_tables.specs.declared.entries.ModeId.{ModeId}
@@ -25,6 +25,11 @@ use Rattle.mode_stack.specs.declared.phase.ModeState.{ModeState}
 use Rattle.mode_stack.specs.ModeStep.{in_phase, is_running, entered, ended}
 use Rattle.mode_stack.specs.Modes.{needs_game, mode_state, running_of}
 use Rattle.mode_stack.proofs.WhoRuns.{starting_keeps_who_runs}
+use Rattle.plan_tables.specs.declared.entries.CoilId.{CoilId}
+use Rattle.coil_guard.specs.declared.command.Command.TheVariants as commands
+use Rattle.coil_guard.specs.CoilStep.{is_held_by}
+use Rattle.coil_guard.specs.Coils.{coil_at}
+use Rattle.device_objects.specs.DeviceStep.{due_of}
 use Rattle.cascade_rank.specs.Cost.{Cost}
 use Rattle.event_queue.specs.declared.queue.Posted.{Posted}
 use Rattle.event_queue.specs.Handlers.{takes_part}
@@ -34,20 +39,38 @@ use Rattle.written_machine.specs.declared.line.Line.{Line}
 use Rattle.written_machine.specs.declared.line.Happening.TheVariants as lines
 use Rattle.written_machine.specs.Devices.{ActsAreOwn}
 use Rattle.written_machine.specs.FreePosts.{PostsAreFree}
-use Rattle.written_machine.specs.Machine.{Machine, initial, post, set_mode, has_game, stop_mode, all_do, call_devices, do_handler}
+use Rattle.written_machine.specs.Machine.{Machine, initial, post, set_mode, has_game, ask_coil, release_coil, release_coils, stop_mode, all_do, device_state, call_devices, do_handler}
 use Rattle.written_machine.specs.EventStep.{taken, before_handlers, handlers_in, do_before, do_after}
 use Rattle.written_machine.specs.Run.{switch, device, source_due, Stimulus, Change, Alarm, Wait, moment_of, IsAllowed, arrived, begin, IsRun}
 use Rattle.written_machine.specs.Silent.{HasStarted, IsSilent}
-use Rattle.written_machine.proofs.Does.{Move, Wrote, Sent, Switched, Began, Ended, Marked, Turned, do_move, start-by, stop-by, MayDo, Does, does-keeps, has_devices-does}
-use Rattle.written_machine.proofs.Parts.{TakesPart, Begins, ordinary, MayHandle, does-calls, does-order, does-begin}
+use Rattle.written_machine.proofs.Does.{Move, Wrote, Sent, Switched, Began, Ended, Marked, Turned, Asked, do_move, start-by, stop-by, MayDo, Does, does-keeps, has_devices-does, off-has_coils}
+use Rattle.written_machine.proofs.Parts.{TakesPart, Begins, ordinary, MayHandle, does-calls, does-releases, does-order, does-begin}
 use Rattle.written_machine.proofs.Keeps.{step-keeps, run-keeps}
-use Rattle.written_machine.proofs.Cycles.{mine, waiting_of, IsTurn, idle, turn-will_start, turn-starting, turn-started, turn-stopping, turn-stopped, stopped-quiet}
+use Rattle.written_machine.proofs.Cycles.{mine, waiting_of, IsTurn, idle, turn-will_start, turn-starting, turn-started, turn-stopping, turn-stopped, stopping-runs, stopped-quiet}
 use Rattle.written_machine.proofs.Hearing.{Said, written, all_written, awaited, all_awaited, heard_at, heard_after, heard, IsFine, heard-push, fine-push, heard-started, fine-silent}
-use Rattle.written_machine.proofs.Speaking.{Holds, HoldsIn, heard_in, phase_in, IsRunning, takes-runs, runs-takes, own_state, other_state, wrote-holds, posted-holds, own_post, own_set, own_change, other_post, other_set, start-holds, stop-holds, lines-push}
+use Rattle.written_machine.proofs.Speaking.{Holds, HoldsIn, heard_in, phase_in, IsRunning, takes-runs, runs-takes, own_state, other_state, wrote-holds, asked-holds, posted-holds, own_post, own_set, own_change, other_post, other_set, start-holds, stop-holds, lines-push}
 use Rattle.written_machine.proofs.Alarms.{initial-devices, initial-quiet}
+use Rattle.written_machine.proofs.Held.{IsHolding, off-not, released-none}
 use Rattle.written_machine.proofs.Resting.{stops-turn, stops-quiet, Rests, running-rests, runs-rests, quiet-rests, move-rests}
 
 -- ---- who runs does not change while handlers run
+
+-- where coils are released, nothing changes but coils and lines
+release-modes : (owner : Owner) (cs : List CoilId) (s : Machine) → (all_do (release_coil owner) cs s).modes ≡ s.modes
+release-modes owner [] s = refl
+release-modes owner (c ∷ cs) s = release-modes owner cs (release_coil owner c s) ∙ one (is_held_by owner (coil_at s.coils c))
+  where
+    one : (held : Bool) → (if held then ask_coil owner (commands.Disable c) s else s).modes ≡ s.modes
+    one true = refl
+    one false = refl
+
+release-devices : (owner : Owner) (cs : List CoilId) (s : Machine) → (all_do (release_coil owner) cs s).devices ≡ s.devices
+release-devices owner [] s = refl
+release-devices owner (c ∷ cs) s = release-devices owner cs (release_coil owner c s) ∙ one (is_held_by owner (coil_at s.coils c))
+  where
+    one : (held : Bool) → (if held then ask_coil owner (commands.Disable c) s else s).devices ≡ s.devices
+    one true = refl
+    one false = refl
 
 module _ (plan : PlanView) (by : Owner → Type 0) (switches : Type 0) where
   still-move : (x : Move) (s : Machine) → MayDo plan (ordinary plan by switches) x → running_of (do_move plan x s).modes ≡ running_of s.modes
@@ -62,6 +85,7 @@ module _ (plan : PlanView) (by : Owner → Type 0) (switches : Type 0) where
       stop-by plan k s (λ t. running_of t.modes ≡ running_of s.modes) same same
   still-move (Marked k state) s may = absurd may
   still-move (Turned call r) s may = refl
+  still-move (Asked owner command) s may = refl
 
   pub still-does : {c : Cost} {s t : Machine} → Does plan (MayDo plan (ordinary plan by switches)) c s t → running_of t.modes ≡ running_of s.modes
   still-does {c} {s} {t} d =
@@ -117,6 +141,7 @@ module _ (plan : PlanView) (valid : IsValid plan) (free : PostsAreFree plan) (ow
     move-holds front (Ended k) s may h = stop-holds plan valid m within before front k s (may valid.entries) h.kept
     move-holds front (Marked k state) s may h = absurd may
     move-holds front (Turned call r) s may h = record { count = h.kept.count; fine = h.kept.fine; holds = h.kept.holds }
+    move-holds front (Asked owner command) s may h = asked-holds plan valid m within before front owner command s (λ is. own_runs front s h (subst by is (may.0 own))) h.kept
 
     moves-hold : (front : List ModeEvent) (c : Cost) (s t : Machine) → Does plan (MayDo plan (ordinary plan by switches)) c s t → running_of s.modes ≡ running → Stays before front s → Stays before front t
     moves-hold front c s t d now h =
@@ -134,18 +159,23 @@ module _ (plan : PlanView) (valid : IsValid plan) (free : PostsAreFree plan) (ow
   other_set-rests : (k : ModeId) (x : ModeState) (s : Machine) → length s.modes ≡ length plan.modes → (k.0 ≡ m.0 → ⊥) → Rests plan m s → Rests plan m (set_mode k x s)
   other_set-rests k x s count other h = record {
     devices = h.devices;
-    rests = λ r due is armed.
-        runs-takes m (set_mode k x s) (length plan.modes) (length-set s.modes k.0 x ∙ count) within
-        (subst (λ (y : ModeState). is_running y.phase ≡ true) (sym (other_state plan valid m within [] k x s other)) (takes-runs m s (length plan.modes) count within (h.rests r due is armed)));
+    rests = λ r due is armed. still (h.rests r due is armed);
+    count = h.count;
+    holds = λ coil is. still (h.holds coil is);
   }
+    where
+      still : IsTaking s → IsTaking (set_mode k x s)
+      still runs =
+          runs-takes m (set_mode k x s) (length plan.modes) (length-set s.modes k.0 x ∙ count) within
+          (subst (λ (y : ModeState). is_running y.phase ≡ true) (sym (other_state plan valid m within [] k x s other)) (takes-runs m s (length plan.modes) count within runs))
 
   stop-rests : (k : ModeId) (s : Machine) → Rests plan m s → Rests plan m (stop_mode plan k s)
   stop-rests k s h =
       let same = starting_keeps_who_runs.stop s.modes k in
-      stop-by plan k s (Rests plan m) (running-rests plan valid own m s _ same refl h) (running-rests plan valid own m s _ same refl h)
+      stop-by plan k s (Rests plan m) (running-rests plan valid own m s _ same refl refl h) (running-rests plan valid own m s _ same refl refl h)
 
   post-rests : (e : EventId) (s : Machine) → Rests plan m s → Rests plan m (post owners.Machine e s)
-  post-rests e s h = running-rests plan valid own m s (post owners.Machine e s) refl refl h
+  post-rests e s h = running-rests plan valid own m s (post owners.Machine e s) refl refl refl h
 
   with_devices : (before : List Line) (front : List ModeEvent) (s : Machine) (new : List DeviceState) → HoldsIn plan m before front s → HoldsIn plan m before front (record s { devices = new })
   with_devices before front s new h = record { count = h.count; fine = h.fine; holds = h.holds }
@@ -165,32 +195,56 @@ module _ (plan : PlanView) (valid : IsValid plan) (free : PostsAreFree plan) (ow
 
   -- ---- the work after the handlers
 
-  -- the devices of a mode stop, and then the mode has ended
-  ended-holds : (before : List Line) (front : List ModeEvent) (k : ModeId) (s : Machine)
-      → ((new : List DeviceState) → HoldsIn plan m before [] (post owners.Machine (mode_event plan k Stopped) (set_mode k (ended (mode_state s.modes k)) (record s { devices = new }))))
-      → HoldsIn plan m before [] (do_after plan true (Mode k Stopping) s)
-  ended-holds before front k s each =
-      let turned = stops-turn plan (rows_of plan (owners.Mode k)) s in
-      subst (λ (t : Machine). HoldsIn plan m before [] (post owners.Machine (mode_event plan k Stopped) (set_mode k (ended (mode_state s.modes k)) t))) (sym turned.1) (each turned.0)
+  -- the devices of a mode stop, and the coils that it holds are released
+  abbrev let_go : ModeId → Machine → Machine
+  let_go k s = release_coils plan (owners.Mode k) (call_devices plan calls.ModeStop k s)
+
+  let_go-modes : (k : ModeId) (s : Machine) → (let_go k s).modes ≡ s.modes
+  let_go-modes k s =
+      release-modes (owners.Mode k) (coil_numbers plan) (call_devices plan calls.ModeStop k s) ∙ ap (λ (t : Machine). t.modes) (stops-turn plan (rows_of plan (owners.Mode k)) s).1
+
+  let_go-devices : (k : ModeId) (s : Machine) → (let_go k s).devices ≡ (call_devices plan calls.ModeStop k s).devices
+  let_go-devices k s = release-devices (owners.Mode k) (coil_numbers plan) (call_devices plan calls.ModeStop k s)
+
+  let_go-holds : (before : List Line) (front : List ModeEvent) (k : ModeId) (s : Machine) → (k.0 ≡ m.0 → IsTaking s) → Stays before front s → Stays before front (let_go k s)
+  let_go-holds before front k s runs h =
+      let stopped = call_devices plan calls.ModeStop k s in
+      let called = calls-hold before front calls.ModeStop k s runs h in
+      let modes : stopped.modes ≡ s.modes = ap (λ (t : Machine). t.modes) (stops-turn plan (rows_of plan (owners.Mode k)) s).1 in
+      moves-hold before (λ owner. owner ≡ owners.Mode k) ⊥ (running_of stopped.modes)
+      (λ is. subst (λ (ms : List ModeState). takes_part (running_of ms) (owners.Mode m) ≡ true) (sym modes) (runs (sym (owner_number is)))) front _ stopped (let_go k s)
+      (does-releases plan (ordinary plan (λ owner. owner ≡ owners.Mode k) ⊥) k (λ own. refl) stopped) refl called
+    where
+      number_of : Owner → ℕ
+      number_of owners.Machine = 0
+      number_of (owners.Mode i) = i.0
+
+      owner_number : owners.Mode m ≡ owners.Mode k → m.0 ≡ k.0
+      owner_number is = ap number_of is
 
   own_ended : (before : List Line) (s : Machine) → Stays before (Stopping ∷ []) s → Stays before [] (do_after plan true (Mode m Stopping) s)
-  own_ended before s h = (
-    ended-holds before (Stopping ∷ []) m s (λ new.
-        own_change plan valid m within before (Stopping ∷ []) [] Stopped (in_phase phases.Idle) (record s { devices = new }) (with_devices before (Stopping ∷ []) s new h.0)
-        (turn-stopping (phase_in m s) (waiting_of plan m s.waiting) h.0.holds.turns) (λ r. absurd (search rules))),
-    quiet-rests plan valid own m (do_after plan true (Mode m Stopping) s) (has_devices-does plan (does-calls plan (λ owner. Unit {0}) calls.ModeStop m tt s) h.1.devices)
-        (λ r there is. stops-quiet plan (rows_of plan (owners.Mode m)) r s there h.1.devices
-        (inl (rows_of-there plan (owners.Mode m) r there (subst (λ (o : Owner). is_owner (owners.Mode m) o ≡ true) (sym is) (eq-eqb m.0 m.0 refl))))),
-  )
+  own_ended before s h =
+      let runs = runs-takes m s (length plan.modes) h.0.count within (stopping-runs (phase_in m s) (waiting_of plan m s.waiting) h.0.holds.turns) in
+      let gone = let_go m s in
+      let kept = let_go-holds before (Stopping ∷ []) m s (λ same. runs) h in
+      let devices = let_go-devices m s in (
+        own_change plan valid m within before (Stopping ∷ []) [] Stopped (in_phase phases.Idle) gone kept.0
+            (turn-stopping (phase_in m gone) (waiting_of plan m gone.waiting) kept.0.holds.turns) (λ r. absurd (search rules)),
+        quiet-rests plan valid own m (do_after plan true (Mode m Stopping) s) kept.1.devices
+            (λ r there is.
+            ap (λ (ds : List DeviceState). due_of (device_state ds r)) devices
+            ∙ stops-quiet plan (rows_of plan (owners.Mode m)) r s there h.1.devices
+            (inl (rows_of-there plan (owners.Mode m) r there (subst (λ (o : Owner). is_owner (owners.Mode m) o ≡ true) (sym is) (eq-eqb m.0 m.0 refl)))))
+            kept.1.count (λ coil. released-none (owners.Mode m) plan (call_devices plan calls.ModeStop m s) (ap (λ (t : Machine). length t.coils) (stops-turn plan (rows_of plan (owners.Mode m)) s).1 ∙ h.1.count) coil),
+      )
 
   other_ended : (before : List Line) (k : ModeId) (s : Machine) → k.0 < length plan.modes → (k.0 ≡ m.0 → ⊥) → Stays before [] s → Stays before [] (do_after plan true (Mode k Stopping) s)
   other_ended before k s there other h =
-      let stopped = call_devices plan calls.ModeStop k s in
-      let called = calls-hold before [] calls.ModeStop k s (λ same. absurd (other same)) h in (
-        ended-holds before [] k s (λ new.
-            other_post plan valid m within before [] k Stopped (set_mode k (ended (mode_state s.modes k)) (record s { devices = new })) there other
-            (other_set plan valid m within before [] k (ended (mode_state s.modes k)) (record s { devices = new }) other (with_devices before [] s new h.0))),
-        post-rests (mode_event plan k Stopped) (set_mode k (ended (mode_state s.modes k)) stopped) (other_set-rests k (ended (mode_state s.modes k)) stopped called.0.count other called.1),
+      let gone = let_go k s in
+      let kept = let_go-holds before [] k s (λ same. absurd (other same)) h in (
+        other_post plan valid m within before [] k Stopped (set_mode k (ended (mode_state s.modes k)) gone) there other
+            (other_set plan valid m within before [] k (ended (mode_state s.modes k)) gone other kept.0),
+        post-rests (mode_event plan k Stopped) (set_mode k (ended (mode_state s.modes k)) gone) (other_set-rests k (ended (mode_state s.modes k)) gone kept.0.count other kept.1),
       )
 
   own_after : (before : List Line) (kept : Bool) (which : ModeEvent) (s : Machine) → Stays before (still_due which) s → Stays before [] (do_after plan kept (Mode m which) s)
@@ -249,7 +303,7 @@ module _ (plan : PlanView) (valid : IsValid plan) (free : PostsAreFree plan) (ow
       let active = set_mode m (in_phase phases.Active) s in
       let holds = own_set plan valid m within before (Started ∷ []) [] (in_phase phases.Active) s h.0 (turn-started (phase_in m s) (waiting_of plan m s.waiting) h.0.holds.turns) (λ r. is) in
       let runs : IsTaking active = runs-takes m active (length plan.modes) holds.count within (ap (λ (x : ModeState). is_running x.phase) (own_state plan valid m within before (in_phase phases.Active) s h.0.count)) in
-      calls-hold before [] calls.ModeStart m active (λ same. runs) (holds, runs-rests plan valid own m active h.1.devices runs)
+      calls-hold before [] calls.ModeStart m active (λ same. runs) (holds, runs-rests plan valid own m active h.1.devices h.1.count runs)
   own_before before Stopping s on is h = h
   own_before before Stopped s on is h = h
 
@@ -305,7 +359,7 @@ module _ (plan : PlanView) (valid : IsValid plan) (free : PostsAreFree plan) (ow
       let pushed = lines-push plan valid m within before s.lines l in
       let waits : IsFine m on (awaited plan first ∷ all_awaited plan rest) = subst (λ (q : List Posted). IsFine m on (all_awaited plan q)) is h.0.holds.waits in
       let turns : IsTurn (phase_in m s) (mine m (work_of plan first.event) (waiting_of plan m rest)) = subst (λ (q : List Posted). IsTurn (phase_in m s) (waiting_of plan m q)) is h.0.holds.turns in
-      before_work before (work_of plan first.event) (taken first rest s) on h.0.count (running-rests plan valid own m s (taken first rest s) refl refl h.1)
+      before_work before (work_of plan first.event) (taken first rest s) on h.0.count (running-rests plan valid own m s (taken first rest s) refl refl refl h.1)
       (subst (λ (xs : List Said). IsFine m false xs) (sym pushed) (fine-push m false (all_written plan (before ++ s.lines)) (written plan l) h.0.fine waits.0))
       (ap (heard m false) pushed ∙ heard-push m false (all_written plan (before ++ s.lines)) (written plan l)) waits.1 turns h.0.holds.speaks
 
@@ -333,7 +387,7 @@ module _ (plan : PlanView) (valid : IsValid plan) (free : PostsAreFree plan) (ow
   begins : (before : List Line) (stimulus : Stimulus) (s : Machine) → IsAllowed plan s stimulus → s.waiting ≡ [] → Stays before [] s → Stays (before ++ s.lines) [] (begin plan stimulus s)
   begins before stimulus s allowed empty h =
       moves-hold (before ++ s.lines) (Begins plan stimulus) (Unit {0}) (running_of s.modes) (begins-runs stimulus s allowed h.1) [] _ (arrived (moment_of stimulus) s) (begin plan stimulus s) (does-begin plan stimulus s) refl
-      (arrived-holds before (moment_of stimulus) s h.0, running-rests plan valid own m s (arrived (moment_of stimulus) s) refl refl h.1)
+      (arrived-holds before (moment_of stimulus) s h.0, running-rests plan valid own m s (arrived (moment_of stimulus) s) refl refl refl h.1)
 
   stays-initial : Stays [] [] (initial plan)
   stays-initial = (
@@ -343,7 +397,7 @@ module _ (plan : PlanView) (valid : IsValid plan) (free : PostsAreFree plan) (ow
       holds = subst (λ (x : ModeState). Holds plan m false [] [] x.phase) (sym (get_or-replicate (length plan.modes) m.0 (in_phase phases.Idle) (in_phase phases.Idle) within))
           (record { waits = tt; turns = idle; speaks = λ r. absurd (search rules) });
     },
-    quiet-rests plan valid own m (initial plan) (initial-devices plan) (λ r there is. initial-quiet plan r),
+    quiet-rests plan valid own m (initial plan) (initial-devices plan) (λ r there is. initial-quiet plan r) (off-has_coils plan).count (λ coil. off-not plan (owners.Mode m) coil),
   )
 
   -- at the end of every run
@@ -366,6 +420,13 @@ module _ (plan : PlanView) (valid : IsValid plan) (free : PostsAreFree plan) (ow
       let runs = takes-runs m s (length plan.modes) end.1.0.count within (end.1.1.rests r due is armed) in
       heard-started plan valid m within trace (subst (λ (ls : List Line). heard m false (all_written plan ls) ≡ true) end.2 (end.1.0.holds.speaks runs))
 
+  holding-run : (stimuli : List (Stimulus × ℕ)) (trace : List Line) (s : Machine) → IsRun plan stimuli (initial plan) trace s
+      → (coil : CoilId) → IsHolding (owners.Mode m) s.coils coil → HasStarted plan m trace
+  holding-run stimuli trace s run coil is =
+      let end = stays-run stimuli trace s run in
+      let runs = takes-runs m s (length plan.modes) end.1.0.count within (end.1.1.holds coil is) in
+      heard-started plan valid m within trace (subst (λ (ls : List Line). heard m false (all_written plan ls) ≡ true) end.2 (end.1.0.holds.speaks runs))
+
 -- in every run of a valid plan that posts no event with work, a stopped mode is silent
 pub stopped_is_silent : (plan : PlanView) → IsValid plan → PostsAreFree plan → ActsAreOwn plan → (stimuli : List (Stimulus × ℕ)) (trace : List Line) (s : Machine) → IsRun plan stimuli (initial plan) trace s → IsSilent plan trace
 stopped_is_silent plan valid free own stimuli trace s run m within = silent-run plan valid free own m within stimuli trace s run
@@ -375,3 +436,8 @@ pub stopped_is_resting : (plan : PlanView) → IsValid plan → PostsAreFree pla
     → (m : ModeId) (r : RowId) (due : ℕ) → r.0 < length plan.rows → (row_at plan r).owner ≡ owners.Mode m → source_due s (device r) ≡ Some due → HasStarted plan m trace
 stopped_is_resting plan valid free own stimuli trace s run m r due there is armed =
     resting-run plan valid free own m (subst (IsOwnerWithin plan) is (valid.entries.rows r there).owner) stimuli trace s run r due is armed
+
+-- nor does it hold a coil
+pub stopped_holds_nothing : (plan : PlanView) → IsValid plan → PostsAreFree plan → ActsAreOwn plan → (stimuli : List (Stimulus × ℕ)) (trace : List Line) (s : Machine) → IsRun plan stimuli (initial plan) trace s
+    → (m : ModeId) (coil : CoilId) → m.0 < length plan.modes → IsHolding (owners.Mode m) s.coils coil → HasStarted plan m trace
+stopped_holds_nothing plan valid free own stimuli trace s run m coil within is = holding-run plan valid free own m within stimuli trace s run coil is

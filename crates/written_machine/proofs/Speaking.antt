@@ -23,9 +23,13 @@ use Rattle.event_queue.specs.declared.queue.Posted.{Posted}
 use Rattle.written_machine.specs.declared.line.Line.{Line}
 use Rattle.written_machine.specs.declared.line.Happening.{Happening}
 use Rattle.written_machine.specs.declared.line.Happening.TheVariants as lines
-use Rattle.written_machine.specs.Machine.{Machine, write, post, set_mode, has_game, is_post, post_if, start_mode, stop_mode}
+use Rattle.coil_guard.specs.declared.command.Command.{Command}
+use Rattle.coil_guard.specs.declared.command.Answer.{Answer}
+use Rattle.coil_guard.specs.declared.command.Answer.TheVariants as answers
+use Rattle.coil_guard.specs.Asked.{after_asking, answer_asking}
+use Rattle.written_machine.specs.Machine.{Machine, write, post, set_coils, told, ask_coil, set_mode, has_game, is_post, post_if, start_mode, stop_mode}
 use Rattle.written_machine.proofs.Cycles.{mine, waiting_of, IsTurn, waiting_of-push, turn-start, turn-stop, IsNoEnd, running-no_end}
-use Rattle.written_machine.proofs.Hearing.{Said, written, all_written, awaited, all_awaited, heard_at, heard_after, heard, IsFine, written-push, awaited-push, heard-push, fine-push}
+use Rattle.written_machine.proofs.Hearing.{Said, work_written, written, all_written, awaited, all_awaited, heard_at, heard_after, heard, IsFine, written-push, awaited-push, heard-push, fine-push}
 use Rattle.written_machine.proofs.Does.{IsNoEvent}
 
 -- Of the mode's events: the one that is being handled, as long as its work is still to come, and those that wait. And
@@ -114,18 +118,37 @@ module _ (plan : PlanView) (valid : IsValid plan) (m : ModeId) (within : m.0 < l
   pub lines-push : (ls : List Line) (l : Line) → all_written plan (before ++ (ls ++ l ∷ [])) ≡ all_written plan (before ++ ls) ++ written plan l ∷ []
   lines-push ls l = ap (all_written plan) (sym (append_assoc before ls (l ∷ []))) ∙ written-push plan (before ++ ls) l
 
-  -- a line that is not that of an event
-  pub wrote-holds : (front : List ModeEvent) (owner : Owner) (what : Happening) (s : Machine) → IsNoEvent what → (owner ≡ owners.Mode m → IsRunning m s) → HoldsIn plan m before front s → HoldsIn plan m before front (write owner what s)
-  wrote-holds front owner (lines.Switch n active) s quiet runs h =
-      let l : Line = record { moment = s.moment; owner = owner; happening = lines.Switch n active } in
-      let is = lines-push s.lines l in
-      let same : heard_in plan m before (write owner (lines.Switch n active) s) ≡ heard_in plan m before s = ap (heard m false) is ∙ heard-push m false (all_written plan (before ++ s.lines)) (written plan l) in
+  -- a line of no work
+  quiet-holds : (front : List ModeEvent) (owner : Owner) (what : Happening) (s : Machine) → work_written plan what ≡ Nothing → (owner ≡ owners.Mode m → IsRunning m s) → HoldsIn plan m before front s → HoldsIn plan m before front (write owner what s)
+  quiet-holds front owner what s quiet runs h =
+      let l : Line = record { moment = s.moment; owner = owner; happening = what } in
+      let said : Said = record { owner = owner; work = Nothing } in
+      let is = lines-push s.lines l ∙ ap (λ (work : Work). all_written plan (before ++ s.lines) ++ record { owner = owner; work = work } ∷ []) quiet in
+      let same : heard_in plan m before (write owner what s) ≡ heard_in plan m before s = ap (heard m false) is ∙ heard-push m false (all_written plan (before ++ s.lines)) said in
       record {
         count = h.count;
-        fine = subst (λ (xs : List Said). IsFine m false xs) (sym is) (fine-push m false (all_written plan (before ++ s.lines)) (written plan l) h.fine (λ o. h.holds.speaks (runs o)));
+        fine = subst (λ (xs : List Said). IsFine m false xs) (sym is) (fine-push m false (all_written plan (before ++ s.lines)) said h.fine (λ o. h.holds.speaks (runs o)));
         holds = subst (λ (on : Bool). Holds plan m on front s.waiting (phase_in m s)) (sym same) h.holds;
       }
+
+  -- a line that is not that of an event
+  pub wrote-holds : (front : List ModeEvent) (owner : Owner) (what : Happening) (s : Machine) → IsNoEvent what → (owner ≡ owners.Mode m → IsRunning m s) → HoldsIn plan m before front s → HoldsIn plan m before front (write owner what s)
+  wrote-holds front owner (lines.Switch n active) s quiet runs h = quiet-holds front owner (lines.Switch n active) s refl runs h
+  wrote-holds front owner (lines.Coil command) s quiet runs h = quiet-holds front owner (lines.Coil command) s refl runs h
+  wrote-holds front owner (lines.Skip command) s quiet runs h = quiet-holds front owner (lines.Skip command) s refl runs h
   wrote-holds front owner (lines.Event e) s quiet runs h = absurd quiet
+
+  -- an owner asks for a command to a coil
+  pub asked-holds : (front : List ModeEvent) (owner : Owner) (command : Command) (s : Machine) → (owner ≡ owners.Mode m → IsRunning m s) → HoldsIn plan m before front s → HoldsIn plan m before front (ask_coil owner command s)
+  asked-holds front owner command s runs h =
+      quiet-holds front owner (told command answer) (set_coils (after_asking command owner s.moment s.coils) s) (told-quiet answer) runs (record { count = h.count; fine = h.fine; holds = h.holds })
+    where
+      answer : Answer
+      answer = answer_asking command owner s.moment s.coils
+
+      told-quiet : (a : Answer) → work_written plan (told command a) ≡ Nothing
+      told-quiet (answers.Sent sent) = refl
+      told-quiet answers.Skipped = refl
 
   -- an event that is none of the mode's is posted
   pub posted-holds : (front : List ModeEvent) (owner : Owner) (e : EventId) (s : Machine) → mine m (work_of plan e) [] ≡ [] → (owner ≡ owners.Mode m → IsRunning m s) → HoldsIn plan m before front s → HoldsIn plan m before front (post owner e s)

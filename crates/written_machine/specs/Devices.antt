@@ -3,6 +3,8 @@ use Rattle.std.specs.Prelude.{◌≡◌, ◌<◌, List, length}
 use Rattle.std.specs.List.{All}
 use Rattle.plan_tables.specs.PlanView.{PlanView, row_at}
 use Rattle.plan_tables.specs.declared.entries.Owner.{Owner}
+use Rattle.plan_tables.specs.declared.entries.Owner.TheVariants.{Machine}
+use Rattle.plan_tables.specs.declared.entries.Listener.{Listener}
 use Rattle.plan_tables.specs.declared.entries.Target.{Target}
 use Rattle.plan_tables.specs.declared.entries.Target.TheVariants.{Run, Start, Stop, Act}
 use Rattle.plan_tables.specs.declared.devices.RowId.{RowId}
@@ -27,6 +29,11 @@ IsOwnAct plan owner (Start m) = Unit {0}
 IsOwnAct plan owner (Stop m) = Unit {0}
 IsOwnAct plan owner (Act r act) = (row_at plan r).owner ≡ owner
 
--- Bindings act on devices of their own owner alone.
-abbrev pub ActsAreOwn : PlanView → Type 0
-ActsAreOwn plan = All (λ b. IsOwnAct plan b.owner b.target) plan.bindings
+-- a device that listens to a switch is the machine's
+abbrev pub IsOwnListener : PlanView → Listener → Type 0
+IsOwnListener plan l = (row_at plan l.row).owner ≡ Machine
+
+-- Bindings act on devices of their own owner alone, and what the machine tells of its switches it tells to its own.
+pub record ActsAreOwn (plan : PlanView) : Type 0 where
+  pub bindings : All (λ b. IsOwnAct plan b.owner b.target) plan.bindings
+  pub listeners : All (λ s. All (IsOwnListener plan) s.listeners) plan.switches

@@ -4,7 +4,7 @@ use Rattle.std.specs.List.{All}
 use Rattle.plan_tables.specs.PlanView.{PlanSwitch, PlanView, work_of}
 use Rattle.plan_tables.specs.declared.entries.EventId.{EventId}
 use Rattle.plan_tables.specs.declared.entries.Action.{Action}
-use Rattle.plan_tables.specs.declared.entries.Action.TheVariants.{Post}
+use Rattle.plan_tables.specs.declared.entries.Action.TheVariants.{Post, Pulse, Enable, Disable}
 use Rattle.plan_tables.specs.declared.entries.Work.TheVariants.{Nothing}
 
 -- the machine itself does nothing at the event
@@ -13,6 +13,9 @@ IsFree plan e = work_of plan e ≡ Nothing
 
 abbrev pub IsFreeAction : PlanView → Action → Type 0
 IsFreeAction plan (Post e) = IsFree plan e
+IsFreeAction plan (Pulse coil ms power) = Unit {0}
+IsFreeAction plan (Enable coil power) = Unit {0}
+IsFreeAction plan (Disable coil) = Unit {0}
 
 abbrev pub IsFreeSwitch : PlanView → PlanSwitch → Type 0
 IsFreeSwitch plan s = All (IsFree plan) s.active × All (IsFree plan) s.inactive

@@ -1,5 +1,5 @@
 -- What is promised of every run.
-use Rattle.std.specs.Prelude.{◌≡◌, ℕ, ◌+◌, ◌<◌, ◌≤◌, Option, Some, None, List, [], ◌∷◌, length}
+use Rattle.std.specs.Prelude.{◌≡◌, ℕ, ◌+◌, ◌<◌, ◌≤◌, false, true, Option, Some, None, List, [], ◌∷◌, length}
 use Rattle.plan_tables.specs.PlanView.{PlanView, row_at, switch_at}
 use Rattle.plan_tables.specs.declared.entries.EventId.{EventId}
 use Rattle.plan_tables.specs.declared.entries.SwitchId.{SwitchId}
@@ -20,6 +20,12 @@ use Rattle.written_machine.specs.EventStep.{EventStep}
 use Rattle.written_machine.specs.Run.{Source, switch, device, source_due, Stimulus, Change, Alarm, Wait, IsNoAlarmDueBy, InEveryRun, InEveryCascade}
 use Rattle.written_machine.specs.SwitchCalls.{switch_calls}
 use Rattle.written_machine.specs.Silent.{HasStarted, IsSilent}
+use Rattle.written_machine.specs.Sent.{sendings, AreSkippedIdle}
+use Rattle.coil_guard.specs.Limits.{limits_at, IsWithin}
+use Rattle.coil_guard.specs.SentCommands.{is_held_for, IsOnThroughout}
+use Rattle.coil_guard.specs.Asked.{limits_of}
+use Rattle.std.specs.List.{All}
+use Rattle.plan_tables.specs.declared.entries.CoilId.{CoilId}
 use Rattle.written_machine.specs.CheckedView.{CheckedView}
 
 -- what the acceptance of a switch costs, if there is one
@@ -66,6 +72,18 @@ pub record IsGood (c : CheckedView) : Type 0 where
   pub bounded : IsBounded c
   -- Nothing comes from a stopped mode.
   pub silent : InEveryRun c.plan (λ stimuli trace s. IsSilent c.plan trace)
+  -- Each command that was sent to a coil is within the coil's limits.
+  pub limits : InEveryRun c.plan (λ stimuli trace s. All (λ q. IsWithin (limits_of c.plan) q.command) (sendings trace))
+  -- A coil that may not be held is on at no more moments in a row than its greatest pulse has.
+  pub stretches : InEveryRun c.plan (λ stimuli trace s.
+      (coil : CoilId) → (limits_at (limits_of c.plan) coil).may_hold ≡ false →
+      (first count : ℕ) → IsOnThroughout (sendings trace) coil first count → count ≤ (limits_at (limits_of c.plan) coil).max_pulse_ms)
+  -- No command was skipped for a limit, or for want of permission.
+  pub skipped : InEveryRun c.plan (λ stimuli trace s. AreSkippedIdle trace)
+  -- A stopped mode holds no coil: where one holds a coil, it has started, and has not stopped since.
+  pub released : InEveryRun c.plan (λ stimuli trace s.
+      (m : ModeId) (coil : CoilId) → m.0 < length c.plan.modes →
+      is_held_for (sendings trace) (owners.Mode m) coil ≡ true → HasStarted c.plan m trace)
   -- No device of a stopped mode is due: where one is due, its mode has started, and has not stopped since.
   pub resting : InEveryRun c.plan (λ stimuli trace s.
       (m : ModeId) (r : RowId) (due : ℕ) → r.0 < length c.plan.rows → (row_at c.plan r).owner ≡ owners.Mode m →

@@ -9,6 +9,8 @@ pub mod AlarmsBy
 pub mod AlarmsEnd
 pub mod CheckedView
 pub mod Silent
+pub mod Sent
+pub mod Allowed
 pub mod GoodRun
 pub mod FreePosts
 pub mod Accepted

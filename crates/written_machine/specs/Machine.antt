@@ -1,6 +1,6 @@
 -- The machine's state, and what each thing does to it.
-use Rattle.std.specs.Prelude.{ℕ, Bool, true, false, Option, Some, None, List, [], ◌∷◌, ◌++◌, length, map, slice_index_or, slice_set}
-use Rattle.plan_tables.specs.PlanView.{PlanView, posts_of, actions_at, binding_at, list_of_row, mode_event, no_row, row_at, rows_of}
+use Rattle.std.specs.Prelude.{ℕ, Bool, true, false, if◌then◌else◌, Option, Some, None, List, [], ◌∷◌, ◌++◌, length, map, slice_index_or, slice_set}
+use Rattle.plan_tables.specs.PlanView.{PlanView, act_of_listener, actions_at, binding_at, coil_numbers, list_of_row, listeners_of, mode_event, no_row, posts_of, row_at, rows_of}
 use Rattle.plan_tables.specs.declared.entries.EventId.{EventId}
 use Rattle.plan_tables.specs.declared.entries.SwitchId.{SwitchId}
 use Rattle.plan_tables.specs.declared.entries.ListId.{ListId}
@@ -8,7 +8,9 @@ use Rattle.plan_tables.specs.declared.entries.BindingId.{BindingId}
 use Rattle.plan_tables.specs.declared.entries.Owner.{Owner}
 use Rattle.plan_tables.specs.declared.entries.Owner.TheVariants as owners
 use Rattle.plan_tables.specs.declared.entries.Action.{Action}
-use Rattle.plan_tables.specs.declared.entries.Action.TheVariants.{Post}
+use Rattle.plan_tables.specs.declared.entries.Action.TheVariants.{Post, Pulse, Enable, Disable}
+use Rattle.plan_tables.specs.declared.entries.CoilId.{CoilId}
+use Rattle.plan_tables.specs.declared.entries.Listener.{Listener}
 use Rattle.plan_tables.specs.declared.entries.Target.{Target}
 use Rattle.plan_tables.specs.declared.entries.Target.TheVariants.{Run, Start, Stop, Act}
 use Rattle.plan_tables.specs.declared.entries.ModeId.{ModeId}
@@ -32,6 +34,14 @@ use Rattle.written_machine.specs.declared.line.Line.{Line}
 use Rattle.written_machine.specs.declared.line.Happening.{Happening}
 use Rattle.written_machine.specs.declared.line.Happening.TheVariants as lines
 use Rattle.event_queue.specs.declared.queue.Posted.{Posted}
+use Rattle.coil_guard.specs.declared.command.Command.{Command}
+use Rattle.coil_guard.specs.declared.command.Command.TheVariants as commands
+use Rattle.coil_guard.specs.declared.command.Answer.{Answer}
+use Rattle.coil_guard.specs.declared.command.Answer.TheVariants.{Sent, Skipped}
+use Rattle.coil_guard.specs.declared.state.CoilState.{CoilState}
+use Rattle.coil_guard.specs.CoilStep.{is_held_by}
+use Rattle.coil_guard.specs.Coils.{all_off, coil_at}
+use Rattle.coil_guard.specs.Asked.{limits_of, after_asking, answer_asking}
 
 pub record Machine : Type 0 where
   -- the moment of the latest stimulus, in milliseconds
@@ -42,15 +52,25 @@ pub record Machine : Type 0 where
   pub modes : List ModeState
   -- the state of each device, by the number of its row
   pub devices : List DeviceState
+  -- what the guard of the coils remembers of each coil, by number
+  pub coils : List CoilState
   -- the events that wait, first posted first
   pub waiting : List Posted
   -- the lines since the latest stimulus began
   pub lines : List Line
 
--- At the beginning it is moment 0, all switches are inactive, all modes idle, all devices in their first states, and
--- nothing waits.
+-- At the beginning it is moment 0, all switches are inactive, all modes idle, all devices in their first states, all
+-- coils off, and nothing waits.
 abbrev pub initial : PlanView → Machine
-initial plan = record { moment = 0; switches = all_idle plan; modes = modes.all_idle (length plan.modes); devices = map (λ row. first_state row.settings) plan.rows; waiting = []; lines = [] }
+initial plan = record {
+  moment = 0;
+  switches = all_idle plan;
+  modes = modes.all_idle (length plan.modes);
+  devices = map (λ row. first_state row.settings) plan.rows;
+  coils = all_off (limits_of plan);
+  waiting = [];
+  lines = [];
+}
 
 -- ---- one change each
 
@@ -68,6 +88,9 @@ set_mode m state s = record s { modes = slice_set s.modes m.0 state }
 
 abbrev pub set_device : RowId → DeviceState → Machine → Machine
 set_device r state s = record s { devices = slice_set s.devices r.0 state }
+
+abbrev pub set_coils : List CoilState → Machine → Machine
+set_coils coils s = record s { coils = coils }
 
 -- one after another
 abbrev pub all_do : {X : Type 0} → (X → Machine → Machine) → List X → Machine → Machine
@@ -104,10 +127,34 @@ stop_mode plan m s =
     let old = mode_state s.modes m in
     post_if (is_post (stop_answer old.phase)) (mode_event plan m Stopping) (set_mode m (stopped old) s)
 
+-- ---- coils
+
+-- what the line says of a command that was asked for: that it was sent, or skipped
+abbrev pub told : Command → Answer → Happening
+told asked (Sent command) = lines.Coil command
+told asked Skipped = lines.Skip asked
+
+-- An owner asks for a command to a coil. It is sent or skipped, and either way there is a line.
+abbrev pub ask_coil : Owner → Command → Machine → Machine
+ask_coil owner command s =
+    write owner (told command (answer_asking command owner s.moment s.coils)) (set_coils (after_asking command owner s.moment s.coils) s)
+
+-- a coil that the owner holds is disabled
+abbrev pub release_coil : Owner → CoilId → Machine → Machine
+release_coil owner coil s =
+    if is_held_by owner (coil_at s.coils coil) then ask_coil owner (commands.Disable coil) s else s
+
+-- so is each that the owner holds, in the order of their numbers
+abbrev pub release_coils : PlanView → Owner → Machine → Machine
+release_coils plan owner s = all_do (release_coil owner) (coil_numbers plan) s
+
 -- ---- effect lists
 
 abbrev pub do_action : PlanView → Owner → Action → Machine → Machine
 do_action plan owner (Post e) s = post owner e s
+do_action plan owner (Pulse coil ms power) s = ask_coil owner (commands.Pulse coil ms power) s
+do_action plan owner (Enable coil power) s = ask_coil owner (commands.Enable coil power) s
+do_action plan owner (Disable coil) s = ask_coil owner (commands.Disable coil) s
 
 abbrev pub do_list : PlanView → Owner → ListId → Machine → Machine
 do_list plan owner l s = all_do (do_action plan owner) (actions_at plan l) s
@@ -158,9 +205,19 @@ do_handler plan place s = do_binding plan (binding_at plan place) s
 
 -- ---- switches
 
--- A switch was accepted as active or inactive: its line is written, and then its events are posted.
+-- a device that listens to a switch is told that it is active, or inactive
+abbrev pub tell_listener : PlanView → Bool → Listener → Machine → Machine
+tell_listener plan active l s = call_device plan (calls.Act (act_of_listener active l)) l.row s
+
+-- all that listen to a switch are told, in the order of their rows
+abbrev pub tell_listeners : PlanView → Acceptance → Machine → Machine
+tell_listeners plan a s = all_do (tell_listener plan a.active) (listeners_of plan a.switch) s
+
+-- A switch was accepted as active or inactive: its line is written, the devices that listen to it are told, and then its
+-- events are posted.
 abbrev pub do_accepted : PlanView → Acceptance → Machine → Machine
-do_accepted plan a s = all_do (post owners.Machine) (posts_of plan a.switch a.active) (write owners.Machine (lines.Switch a.switch a.active) s)
+do_accepted plan a s =
+    all_do (post owners.Machine) (posts_of plan a.switch a.active) (tell_listeners plan a (write owners.Machine (lines.Switch a.switch a.active) s))
 
 abbrev pub do_if_accepted : PlanView → Option Acceptance → Machine → Machine
 do_if_accepted plan None s = s

@@ -1,5 +1,6 @@
 //! The lines of a trace.
 
+use coil_guard::Command;
 use plan_tables::entries::{EventId, Owner, SwitchId};
 
 /// What a line says.
@@ -9,6 +10,10 @@ pub enum Happening {
     Switch(SwitchId, bool),
     /// The event was taken from the queue.
     Event(EventId),
+    /// The command was sent to its coil.
+    Coil(Command),
+    /// The command was asked for, and not sent.
+    Skip(Command),
 }
 
 /// A line of a trace: the moment in milliseconds, who acted, and what happened.

@@ -4,9 +4,9 @@ use Rattle.cascade_rank.specs.Events.{weight_of}
 use Rattle.cascade_rank.specs.Cost.{price, each_of, cost_of_list}
 use Rattle.cascade_rank.proofs.price.price_of_answer.Given as goal
 
--- the price of the lists so far, each of which is below 2^96
+-- the price of the lists so far, each of which is at most 2^42
 abbrev pub invariant-loop-list : goal.invariant-loop-list
 invariant-loop-list l = record {
   price : l.total ≡ price (weight_of l.weights) (each_of (λ k. cost_of_list l.plan (list_of_row l.plan l.row k)) (take l.list-index l.lists));
-  small : l.total ≤ l.list-index * 2 ^ 96;
+  small : l.total ≤ l.list-index * 2 ^ 42;
 }

@@ -8,5 +8,5 @@ use Rattle.cascade_rank.proofs.price.price_of_call.Given as goal
 abbrev pub invariant-loop-answer : goal.invariant-loop-answer
 invariant-loop-answer l = record {
   price : l.dearest ≡ price (weight_of l.weights) (dearest_of (λ (a : ArrayVec ℕ). cost_of_answer l.plan l.row a.items) (take l.answer-index l.answer-items));
-  small : l.dearest ≤ 2 ^ 98;
+  small : l.dearest ≤ 2 ^ 44;
 }

@@ -1,0 +1,101 @@
+-- Marks of coils, action by action.
+use Rattle.std.proofs.Common.{◌≡◌, ℕ, ◌+◌, ◌<◌, ◌≤◌, Bool, true, false, if◌then◌else◌, cond, replicate, length-append, List, [], ◌∷◌, ◌++◌, length, map, take, get_or, refl, sym, ap, ◌∙◌, subst, arith}
+use Rattle.std.specs.Prelude.{◌||◌}
+use Rattle.std.specs.List.{All, flat_map, list_any, range_with_len, filter}
+use Rattle.std.proofs.lemmas.Grind.{flat_map-append}
+use Rattle.std.proofs.lemmas.List.{append-nil, take_more, get_or-replicate, length-replicate}
+use Rattle.std.proofs.lemmas.List.FromFn.{length-map-range_with_len, get_or-map-range_with_len, filter_of_map_range_with_len_more}
+use Rattle.std.proofs.lemmas.List.Elements.{All-get_or, All-head, All-tail, All-weaker}
+use Rattle.std.proofs.lemmas.List.Folds.{list_any-append}
+use Rattle.plan_tables.specs.PlanView.{PlanView, actions_at, actions_of, coil_numbers, coils_enabled, is_enable_of}
+use Rattle.plan_tables.specs.Valid.{IsActionWithin, IsValid}
+use Rattle.plan_tables.specs.declared.entries.Action.{Action}
+use Rattle.plan_tables.specs.declared.entries.Action.TheVariants.{Post, Pulse, Enable, Disable}
+use Rattle.plan_tables.specs.declared.entries.ListId.{ListId}
+use Rattle.plan_tables.specs.declared.entries.CoilId.{CoilId}
+use Rattle.plan_tables.specs.declared.entries.Owner.{Owner}
+use Rattle.cascade_rank.specs.Marks.{mark_of, numbered, IsCoilMarked, AreMarked}
+
+or-nothing : (b : Bool) → b ≡ (b || false)
+or-nothing true = refl
+or-nothing false = refl
+
+or-regroup : (a b c : Bool) → ((a || b) || c) ≡ (a || (b || c))
+or-regroup true b c = refl
+or-regroup false b c = refl
+
+-- no action marks anything
+pub marked-none : (marks : List Bool) → AreMarked marks [] marks
+marked-none marks = record { count = refl; marks = λ coil l. or-nothing (mark_of marks coil) }
+
+-- some actions, and then others
+pub marked-then : (old mid new : List Bool) (first later : List Action) → AreMarked old first mid → AreMarked mid later new → AreMarked old (first ++ later) new
+marked-then old mid new first later h k = record {
+  count = k.count ∙ h.count;
+  marks = λ coil l.
+      k.marks coil (omega (arith, l, h.count))
+      ∙ ap (λ b. b || list_any (is_enable_of coil) later) (h.marks coil l)
+      ∙ or-regroup (mark_of old coil) (list_any (is_enable_of coil) first) (list_any (is_enable_of coil) later)
+      ∙ ap (λ b. mark_of old coil || b) (sym (list_any-append (is_enable_of coil) first later));
+}
+
+-- one more of the things that have actions
+pub marked-more : {X : Type 0} (f : X → List Action) (xs : List X) (n : ℕ) (d : X) (old mid new : List Bool) → n < length xs
+    → AreMarked old (flat_map f (take n xs)) mid → AreMarked mid (f (get_or xs n d)) new → AreMarked old (flat_map f (take (n + 1) xs)) new
+marked-more f xs n d old mid new within h k =
+    let more : flat_map f (take (n + 1) xs) ≡ flat_map f (take n xs) ++ f (get_or xs n d) =
+    ap (flat_map f) (take_more xs n d within) ∙ flat_map-append f (take n xs) (get_or xs n d ∷ []) ∙ ap (λ ys. flat_map f (take n xs) ++ ys) (append-nil (f (get_or xs n d))) in
+    subst (λ acts. AreMarked old acts new) (sym more) (marked-then old mid new (flat_map f (take n xs)) (f (get_or xs n d)) h k)
+
+-- one more action
+pub marked-action : (actions : List Action) (n : ℕ) (d : Action) (old mid new : List Bool) → n < length actions
+    → AreMarked old (take n actions) mid → AreMarked mid (get_or actions n d ∷ []) new → AreMarked old (take (n + 1) actions) new
+marked-action actions n d old mid new within h k =
+    subst (λ acts. AreMarked old acts new) (sym (take_more actions n d within)) (marked-then old mid new (take n actions) (get_or actions n d ∷ []) h k)
+
+-- there are marks for the coils of a plan's actions
+pub coils-marked : (plan : PlanView) → IsValid plan → (l : ListId) → l.0 < length plan.lists → All IsCoilMarked (actions_at plan l)
+coils-marked plan valid l within =
+    All-weaker (IsActionWithin plan) IsCoilMarked there (actions_at plan l) (All-get_or (All (IsActionWithin plan)) plan.lists l.0 [] within valid.entries.lists)
+  where
+    there : (a : Action) → IsActionWithin plan a → IsCoilMarked a
+    there (Post e) h = tt
+    there (Pulse coil ms power) h = tt
+    there (Enable coil power) h = omega (arith, h, valid.coil_limit)
+    there (Disable coil) h = tt
+
+-- ---- counting them
+
+-- tests that agree on each item keep the same
+pub filter-among : {X : Type 0} (p q : X → Bool) (xs : List X) → All (λ x. p x ≡ q x) xs → filter p xs ≡ filter q xs
+filter-among p q [] all = refl
+filter-among p q (x ∷ xs) all =
+    ap (λ b. cond b (x ∷ filter p xs) (filter p xs)) (All-head (λ y. p y ≡ q y) x xs all)
+    ∙ ap (λ (rest : List _). cond (q x) (x ∷ rest) rest) (filter-among p q xs (All-tail (λ y. p y ≡ q y) x xs all))
+
+pub numbered-within : (count : ℕ) → All (λ c. c.0 < count) (numbered count)
+numbered-within count k d there =
+    let inside : k < count = omega (arith, there, length-map-range_with_len {X = CoilId} (λ n. record { 0 = n }) 0 count) in
+    subst (λ (c : CoilId). c.0 < count) (sym (get_or-map-range_with_len {X = CoilId} (λ n. record { 0 = n }) 0 count k k d inside (omega arith))) inside
+
+-- one more number, which is marked or not
+pub count-more : (marks : List Bool) (n : ℕ) (b : Bool) → mark_of marks (record { 0 = n }) ≡ b
+    → length (filter (mark_of marks) (numbered (n + 1))) ≡ length (filter (mark_of marks) (numbered n)) + (if b then 1 else 0)
+count-more marks n b is =
+    ap length (filter_of_map_range_with_len_more (mark_of marks) (λ i. record { 0 = i }) 0 n n (omega arith))
+    ∙ length-append (filter (mark_of marks) (numbered n)) (cond (mark_of marks (record { 0 = n })) (record { 0 = n } ∷ []) [])
+    ∙ ap (λ t. length (filter (mark_of marks) (numbered n)) + length {A = CoilId} (cond t (record { 0 = n } ∷ []) [])) is
+    ∙ ap (λ k. length (filter (mark_of marks) (numbered n)) + k) (one b)
+  where
+    one : (t : Bool) → length {A = CoilId} (cond t (record { 0 = n } ∷ []) []) ≡ (if t then 1 else 0)
+    one true = refl
+    one false = refl
+
+-- what is marked from nothing on is what the actions enable
+pub marked-enabled : (plan : PlanView) (owner : Owner) (marks : List Bool) → length plan.coils ≤ 256 → AreMarked (replicate 256 false) (actions_of plan owner) marks
+    → length (filter (mark_of marks) (numbered (length plan.coils))) ≡ length (coils_enabled plan owner)
+marked-enabled plan owner marks few h =
+    ap length (filter-among (mark_of marks) (λ coil. list_any (is_enable_of coil) (actions_of plan owner)) (coil_numbers plan)
+    (All-weaker (λ c. c.0 < length plan.coils) (λ c. mark_of marks c ≡ list_any (is_enable_of c) (actions_of plan owner))
+    (λ c l. h.marks c (omega (arith, l, few, length-replicate 256 false)) ∙ ap (λ b. b || list_any (is_enable_of c) (actions_of plan owner)) (get_or-replicate 256 c.0 false false (omega (arith, l, few))))
+    (coil_numbers plan) (numbered-within (length plan.coils))))

@@ -1,0 +1,10 @@
+use Rattle.std.proofs.Common.{◌≡◌, ◌≤◌, length}
+use Rattle.std.specs.List.{filter}
+use Rattle.cascade_rank.specs.Marks.{mark_of, numbered}
+use Rattle.cascade_rank.proofs.releases.count_marked.Given as goal
+
+abbrev pub invariant-loop-number : goal.invariant-loop-number
+invariant-loop-number l = record {
+  total : l.total ≡ length (filter (mark_of l.marks) (numbered l.number));
+  few : l.total ≤ l.number;
+}

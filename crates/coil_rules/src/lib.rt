@@ -1,0 +1,9 @@
+//! Flippers and autofire coils as devices.
+#![tactic(auto)]
+
+pub mod autofire;
+pub mod flipper;
+mod lists;
+
+pub use autofire::Autofire;
+pub use flipper::Flipper;

@@ -1,0 +1,241 @@
+-- What holds of coils, coil players, flippers and autofire coils, by the names of their settings: their names are names, and their settings are in their ranges.
+use Rattle.std.proofs.Common.{◌≡◌, ℕ, ◌≤◌, nat_le, Bool, true, false, ◌&&◌, if◌then◌else◌, map, List, [], ◌∷◌, Option, Some, None, IfSome, unwrap_or, slice_get, refl, arith}
+use Rattle.std.specs.List.{All, AllByRecursion}
+use Rattle.std.proofs.lemmas.Bool.{leb-true}
+use Rattle.std.proofs.lemmas.List.Elements.{All-nil, All-cons, All-map, All-weaker}
+use Rattle.mpf_values.specs.Names.{IsName}
+use Rattle.section_tables.specs.Rows.{Plain, nothing, flag, number, time, power, word, name, event, Keyed, Value, one, names, posts, events, steps, maps, keyed, Entry, Player}
+use Rattle.section_tables.specs.Named.{IsNamedKeyed, IsNamedValue, IsNamedEntry, IsNamedPlayer, IsShortEntry}
+use Rattle.mpf_sections.specs.Rows.{Written, CoilItem, SectionRows}
+use Rattle.mpf_sections.specs.Typed.{text_of, flag_of, listed_keyed, name_in, pulse_in, power_in, entries_of, players_of}
+use Rattle.mpf_sections.specs.TypedCoils.{coils_name, coil_player_name, flippers_name, autofire_coils_name, max_hold_power, coil_of, coil_item_of, coil_player_of, flipper_of, autofire_of, coils_in, coil_players_in, flippers_in, autofires_in}
+use Rattle.mpf_sections.specs.Inside.{needed_at}
+use Rattle.mpf_sections.specs.Named.{IsNamedCoil, IsNamedCoilPlayer, IsNamedFlipper, IsNamedAutofire, IsNamed}
+use Rattle.mpf_sections.specs.Short.{IsPulseInRange, IsPowerInRange, IsCoilInRange, IsItemInRange, IsCoilPlayerInRange, IsShortFlipper, IsShortAutofire, IsShortSection}
+use Rattle.mpf_sections.proofs.Each.{all_mapped}
+use Rattle.mpf_sections.proofs.RowNames.{IsNamedOption, value_at_named, names_named, event_named, entries_of_named, players_of_named}
+use Rattle.mpf_sections.proofs.ShortRows.{value_at_short, names_short, entries_of_short}
+use Rattle.mpf_sections.proofs.DeviceRows.{IsNamedText, IsNamedWritten, name_in_named}
+
+-- ---- names
+
+pub coil_named : (e : Entry) → IsNamedEntry e → IsNamedCoil (coil_of e)
+unfolding coil_of
+coil_named e h = record { name = h.name }
+
+abbrev HasName : CoilItem → Type 0
+HasName i = IsName i.coil.text
+
+items_named : (ks : List Keyed) → AllByRecursion IsNamedKeyed ks → All HasName (map coil_item_of ks)
+unfolding coil_item_of
+items_named [] h = All-nil HasName
+items_named (k ∷ ks) h = All-cons HasName (coil_item_of k) (map coil_item_of ks) h.0.0 (items_named ks h.1)
+
+keyed_named : (v : Value) → IsNamedValue v → All HasName (map coil_item_of (listed_keyed (Some v)))
+keyed_named (one x) h = All-nil HasName
+keyed_named (names xs) h = All-nil HasName
+keyed_named (posts xs) h = All-nil HasName
+keyed_named (events xs) h = All-nil HasName
+keyed_named (steps ss) h = All-nil HasName
+keyed_named (maps ms) h = All-nil HasName
+keyed_named (keyed ks) h = items_named ks h
+
+-- The names in an entry of `coil_player` are names.
+pub coil_player_named : (p : Player) → IsNamedPlayer p → IsNamedCoilPlayer (coil_player_of p)
+unfolding coil_player_of
+coil_player_named p h = record { event = event_named p.event h.event; items = keyed_named p.value h.value }
+
+text_named : (o : Option Value) → IsNamedOption o → IsNamedText (text_of o)
+text_named None h = tt
+text_named (Some (one x)) h = h
+text_named (Some (names xs)) h = tt
+text_named (Some (posts xs)) h = tt
+text_named (Some (events xs)) h = tt
+text_named (Some (steps ss)) h = tt
+text_named (Some (maps ms)) h = tt
+text_named (Some (keyed ks)) h = tt
+
+written_named : (e : Entry) (i : ℕ) → IsNamedEntry e → IsNamedWritten (name_in (text_of (slice_get e.values i)))
+written_named e i h = name_in_named (text_of (slice_get e.values i)) (text_named (slice_get e.values i) (value_at_named e.values i h.values))
+
+some_named : (o : Option Written) → IsNamedWritten o → IfSome o (λ w. IsName w.text)
+some_named None h = tt
+some_named (Some w) h = h
+
+either_named : (o : Option Written) (other : Written) → IsNamedWritten o → IsName other.text → IsName (unwrap_or o other).text
+either_named None other h is = is
+either_named (Some w) other h is = h
+
+needed_named : (e : Entry) (i : ℕ) → IsNamedEntry e → IsName (needed_at i e).text
+needed_named e i h = either_named (name_in (text_of (slice_get e.values i))) e.name (written_named e i h) h.name
+
+-- Those in an entry of `flippers` are, too.
+pub flipper_named : (e : Entry) → IsNamedEntry e → IsNamedFlipper (flipper_of e)
+unfolding flipper_of
+flipper_named e h = record {
+  name = h.name;
+  main_coil = needed_named e 0 h;
+  hold_coil = some_named (name_in (text_of (slice_get e.values 1))) (written_named e 1 h);
+  switch = needed_named e 2 h;
+  enables = names_named (slice_get e.values 3) (value_at_named e.values 3 h.values);
+  disables = names_named (slice_get e.values 4) (value_at_named e.values 4 h.values);
+}
+
+-- And those in an entry of `autofire_coils`.
+pub autofire_named : (e : Entry) → IsNamedEntry e → IsNamedAutofire (autofire_of e)
+unfolding autofire_of
+autofire_named e h = record {
+  name = h.name;
+  coil = needed_named e 0 h;
+  switch = needed_named e 1 h;
+  enables = names_named (slice_get e.values 2) (value_at_named e.values 2 h.values);
+  disables = names_named (slice_get e.values 3) (value_at_named e.values 3 h.values);
+}
+
+-- so they are in a section
+pub coils_named : (s : SectionRows) → IsNamed s → All IsNamedCoil (coils_in s)
+unfolding coils_in
+coils_named s h =
+    let es = entries_of coils_name s in
+    All-map IsNamedCoil coil_of es (All-weaker IsNamedEntry (λ e. IsNamedCoil (coil_of e)) coil_named es (entries_of_named coils_name s h))
+
+pub coil_players_named : (s : SectionRows) → IsNamed s → All IsNamedCoilPlayer (coil_players_in s)
+unfolding coil_players_in
+coil_players_named s h =
+    let ps = players_of coil_player_name s in
+    All-map IsNamedCoilPlayer coil_player_of ps
+    (All-weaker IsNamedPlayer (λ p. IsNamedCoilPlayer (coil_player_of p)) coil_player_named ps (players_of_named coil_player_name s h))
+
+pub flippers_named : (s : SectionRows) → IsNamed s → All IsNamedFlipper (flippers_in s)
+unfolding flippers_in
+flippers_named s h =
+    let es = entries_of flippers_name s in
+    All-map IsNamedFlipper flipper_of es (All-weaker IsNamedEntry (λ e. IsNamedFlipper (flipper_of e)) flipper_named es (entries_of_named flippers_name s h))
+
+pub autofires_named : (s : SectionRows) → IsNamed s → All IsNamedAutofire (autofires_in s)
+unfolding autofires_in
+autofires_named s h =
+    let es = entries_of autofire_coils_name s in
+    All-map IsNamedAutofire autofire_of es
+    (All-weaker IsNamedEntry (λ e. IsNamedAutofire (autofire_of e)) autofire_named es (entries_of_named autofire_coils_name s h))
+
+-- ---- ranges
+
+pulse_by : (ms : ℕ) (low high : Bool) → nat_le 1 ms ≡ low → nat_le ms 5000 ≡ high → IfSome (if low && high then Some ms else None) IsPulseInRange
+pulse_by ms true true least greatest = (leb-true 1 ms least, leb-true ms 5000 greatest)
+pulse_by ms true false least greatest = tt
+pulse_by ms false high least greatest = tt
+
+pulse_in_range : (o : Option Plain) → IfSome (pulse_in o) IsPulseInRange
+pulse_in_range None = tt
+pulse_in_range (Some nothing) = tt
+pulse_in_range (Some (flag b)) = tt
+pulse_in_range (Some (number n)) = tt
+pulse_in_range (Some (time ms)) = pulse_by ms (nat_le 1 ms) (nat_le ms 5000) refl refl
+pulse_in_range (Some (power n)) = tt
+pulse_in_range (Some (word w)) = tt
+pulse_in_range (Some (name w)) = tt
+pulse_in_range (Some (event h)) = tt
+
+power_by : (n : ℕ) (b : Bool) → nat_le n 1000 ≡ b → IfSome (if b then Some n else None) IsPowerInRange
+power_by n true h = leb-true n 1000 h
+power_by n false h = tt
+
+power_in_range : (o : Option Plain) → IfSome (power_in o) IsPowerInRange
+power_in_range None = tt
+power_in_range (Some nothing) = tt
+power_in_range (Some (flag b)) = tt
+power_in_range (Some (number n)) = tt
+power_in_range (Some (time ms)) = tt
+power_in_range (Some (power n)) = power_by n (nat_le n 1000) refl
+power_in_range (Some (word w)) = tt
+power_in_range (Some (name w)) = tt
+power_in_range (Some (event h)) = tt
+
+-- where something holds of a number if it is written, and of another one, it holds of the one that is taken
+taken : (P : ℕ → Type 0) (o : Option ℕ) (other : ℕ) → IfSome o P → P other → P (unwrap_or o other)
+taken P None other h is = is
+taken P (Some n) other h is = h
+
+full : IsPowerInRange 1000
+full = omega arith
+
+none : IsPowerInRange 0
+none = omega arith
+
+ten : IsPulseInRange 10
+ten = (omega arith, omega arith)
+
+hold_in_range : (written : Option ℕ) (allowed : Bool) (hold : Option ℕ) → IfSome written IsPowerInRange → IfSome hold IsPowerInRange
+    → IsPowerInRange (max_hold_power written allowed hold)
+hold_in_range (Some n) allowed hold h k = h
+hold_in_range None true hold h k = full
+hold_in_range None false hold h k = taken IsPowerInRange hold 0 k none
+
+-- The numbers of a coil are in their ranges.
+pub coil_in_range : (e : Entry) → IsCoilInRange (coil_of e)
+unfolding coil_of
+coil_in_range e =
+    let text : ℕ → Option Plain = λ i. text_of (slice_get e.values i) in
+    let allowed : Bool = flag_of (slice_get e.values 4) in
+    let ms : ℕ = unwrap_or (pulse_in (text 0)) 10 in
+    let greatest : ℕ = max_hold_power (power_in (text 6)) allowed (power_in (text 5)) in
+    let pulse_is : IsPulseInRange ms = taken IsPulseInRange (pulse_in (text 0)) 10 (pulse_in_range (text 0)) ten in
+    let greatest_is : IsPowerInRange greatest = hold_in_range (power_in (text 6)) allowed (power_in (text 5)) (power_in_range (text 6)) (power_in_range (text 5)) in
+    record {
+      pulse_ms = pulse_is;
+      max_pulse_ms = taken IsPulseInRange (pulse_in (text 1)) ms (pulse_in_range (text 1)) pulse_is;
+      pulse_power = taken IsPowerInRange (power_in (text 2)) 1000 (power_in_range (text 2)) full;
+      max_pulse_power = taken IsPowerInRange (power_in (text 3)) 1000 (power_in_range (text 3)) full;
+      hold_power = taken IsPowerInRange (power_in (text 5)) greatest (power_in_range (text 5)) greatest_is;
+      max_hold_power = greatest_is;
+    }
+
+-- So are those that an entry of `coil_player` says.
+item_in_range : (k : Keyed) → IsItemInRange (coil_item_of k)
+unfolding coil_item_of
+item_in_range k = record {
+  pulse_ms = pulse_in_range (slice_get k.values 1);
+  pulse_power = power_in_range (slice_get k.values 2);
+  hold_power = power_in_range (slice_get k.values 3);
+}
+
+pub coil_player_in_range : (p : Player) → IsCoilPlayerInRange (coil_player_of p)
+unfolding coil_player_of
+coil_player_in_range p = all_mapped IsItemInRange coil_item_of item_in_range (listed_keyed (Some p.value))
+
+-- No list of a flipper or of an autofire coil has more than 1,024 items.
+pub flipper_short : (e : Entry) → IsShortEntry 1024 e → IsShortFlipper (flipper_of e)
+unfolding flipper_of
+flipper_short e h = record {
+  enables = names_short (slice_get e.values 3) (value_at_short e.values 3 h);
+  disables = names_short (slice_get e.values 4) (value_at_short e.values 4 h);
+}
+
+pub autofire_short : (e : Entry) → IsShortEntry 1024 e → IsShortAutofire (autofire_of e)
+unfolding autofire_of
+autofire_short e h = record {
+  enables = names_short (slice_get e.values 2) (value_at_short e.values 2 h);
+  disables = names_short (slice_get e.values 3) (value_at_short e.values 3 h);
+}
+
+-- so it is with those of a section
+pub coils_in_range : (s : SectionRows) → All IsCoilInRange (coils_in s)
+unfolding coils_in
+coils_in_range s = all_mapped IsCoilInRange coil_of coil_in_range (entries_of coils_name s)
+
+pub coil_players_in_range : (s : SectionRows) → All IsCoilPlayerInRange (coil_players_in s)
+unfolding coil_players_in
+coil_players_in_range s = all_mapped IsCoilPlayerInRange coil_player_of coil_player_in_range (players_of coil_player_name s)
+
+pub flippers_short : (s : SectionRows) → IsShortSection s → All IsShortFlipper (flippers_in s)
+unfolding flippers_in
+flippers_short s h =
+    let es = entries_of flippers_name s in
+    All-map IsShortFlipper flipper_of es (All-weaker (IsShortEntry 1024) (λ e. IsShortFlipper (flipper_of e)) flipper_short es (entries_of_short flippers_name s h))
+
+pub autofires_short : (s : SectionRows) → IsShortSection s → All IsShortAutofire (autofires_in s)
+unfolding autofires_in
+autofires_short s h =
+    let es = entries_of autofire_coils_name s in
+    All-map IsShortAutofire autofire_of es (All-weaker (IsShortEntry 1024) (λ e. IsShortAutofire (autofire_of e)) autofire_short es (entries_of_short autofire_coils_name s h))

@@ -1,0 +1,106 @@
+-- The entries of `coils`, `coil_player`, `flippers` and `autofire_coils`, by the names of their settings.
+use Rattle.std.specs.Prelude.{ℕ, nat_lt, Bool, true, false, ◌||◌, if◌then◌else◌, List, map, Option, Some, None, unwrap_or, codes}
+use Rattle.std.specs.Str.{bytes_eq}
+use Rattle.mpf_sections.specs.declared.words.CoilAction.{CoilAction}
+use Rattle.mpf_sections.specs.declared.words.CoilAction.TheVariants.{Pulse, Enable, Disable}
+use Rattle.section_tables.specs.Rows.{Written, Plain, Keyed, Entry, Player}
+use Rattle.section_tables.specs.Kinds.{Setting}
+use Rattle.mpf_sections.specs.SectionTables as tables
+pub use Rattle.mpf_sections.specs.SectionTables.{coils_name, coil_player_name, flippers_name, autofire_coils_name}
+use Rattle.mpf_sections.specs.Typed.{setting_of, field_of, text_of, flag_of, listed_names, listed_keyed, event_name, name_in, word_in, pulse_in, power_in, entries_of, players_of}
+use Rattle.mpf_sections.specs.Rows.{Coil, CoilItem, CoilPlayer, Flipper, Autofire, SectionRows}
+
+-- ---- `coils`
+
+-- whether a coil may be held: where that is allowed, or where the power with which it is held by default is above 0
+abbrev pub may_hold : Bool → Option ℕ → Bool
+may_hold allowed power = allowed || nat_lt 0 (unwrap_or power 0)
+
+-- The greatest power with which a coil may be held: the one that is written; or else full power where holding is
+-- allowed, and where it is not, the power with which it is held by default, if there is one.
+abbrev pub max_hold_power : Option ℕ → Bool → Option ℕ → ℕ
+max_hold_power (Some greatest) allowed power = greatest
+max_hold_power None true power = 1000
+max_hold_power None false power = unwrap_or power 0
+
+abbrev coil_text : List ℕ → Entry → Option Plain
+coil_text key e = text_of (setting_of tables.coils key e.values)
+
+-- where no longest pulse is written, it is the default one; where no power to hold the coil, it is the greatest
+unfoldable pub coil_of : Entry → Coil
+coil_of e =
+    let pulse_ms = unwrap_or (pulse_in (coil_text (codes "default_pulse_ms") e)) 10 in
+    let allowed = flag_of (setting_of tables.coils (codes "allow_enable") e.values) in
+    let hold_power = power_in (coil_text (codes "default_hold_power") e) in
+    let greatest = max_hold_power (power_in (coil_text (codes "max_hold_power") e)) allowed hold_power in
+    record {
+      name = e.name;
+      pulse_ms = pulse_ms;
+      max_pulse_ms = unwrap_or (pulse_in (coil_text (codes "max_pulse_ms") e)) pulse_ms;
+      pulse_power = unwrap_or (power_in (coil_text (codes "default_pulse_power") e)) 1000;
+      max_pulse_power = unwrap_or (power_in (coil_text (codes "max_pulse_power") e)) 1000;
+      may_hold = may_hold allowed hold_power;
+      hold_power = unwrap_or hold_power greatest;
+      max_hold_power = greatest;
+    }
+
+-- ---- `coil_player`
+
+-- what a word says that a coil does
+abbrev pub coil_action_of : List ℕ → CoilAction
+coil_action_of w =
+    if bytes_eq w (codes "enable") then Enable
+    else (if bytes_eq w (codes "disable") then Disable else Pulse)
+
+unfoldable pub coil_item_of : Keyed → CoilItem
+coil_item_of k = record {
+  coil = k.name;
+  action = coil_action_of (word_in (field_of tables.coil_item (codes "action") k.values));
+  pulse_ms = pulse_in (field_of tables.coil_item (codes "pulse_ms") k.values);
+  pulse_power = power_in (field_of tables.coil_item (codes "pulse_power") k.values);
+  hold_power = power_in (field_of tables.coil_item (codes "hold_power") k.values);
+}
+
+unfoldable pub coil_player_of : Player → CoilPlayer
+coil_player_of p = record { event = event_name p.event; items = map coil_item_of (listed_keyed (Some p.value)) }
+
+-- ---- `flippers` and `autofire_coils`
+
+-- a name that has to be written; the entry's own in a row that no table gives
+abbrev pub needed_name : List Setting → List ℕ → Entry → Written
+needed_name table key e = unwrap_or (name_in (text_of (setting_of table key e.values))) e.name
+
+unfoldable pub flipper_of : Entry → Flipper
+flipper_of e = record {
+  name = e.name;
+  main_coil = needed_name tables.flippers (codes "main_coil") e;
+  hold_coil = name_in (text_of (setting_of tables.flippers (codes "hold_coil") e.values));
+  switch = needed_name tables.flippers (codes "activation_switch") e;
+  enables = listed_names (setting_of tables.flippers (codes "enable_events") e.values);
+  disables = listed_names (setting_of tables.flippers (codes "disable_events") e.values);
+}
+
+unfoldable pub autofire_of : Entry → Autofire
+autofire_of e = record {
+  name = e.name;
+  coil = needed_name tables.autofire_coils (codes "coil") e;
+  switch = needed_name tables.autofire_coils (codes "switch") e;
+  enables = listed_names (setting_of tables.autofire_coils (codes "enable_events") e.values);
+  disables = listed_names (setting_of tables.autofire_coils (codes "disable_events") e.values);
+}
+
+-- ---- sections
+
+-- the coils of a section: of `coils` its entries, of any other none
+unfoldable pub coils_in : SectionRows → List Coil
+coils_in s = map coil_of (entries_of coils_name s)
+
+-- the same for `coil_player`, `flippers` and `autofire_coils`
+unfoldable pub coil_players_in : SectionRows → List CoilPlayer
+coil_players_in s = map coil_player_of (players_of coil_player_name s)
+
+unfoldable pub flippers_in : SectionRows → List Flipper
+flippers_in s = map flipper_of (entries_of flippers_name s)
+
+unfoldable pub autofires_in : SectionRows → List Autofire
+autofires_in s = map autofire_of (entries_of autofire_coils_name s)

@@ -1,0 +1,125 @@
+//! The entries of `flippers` and `autofire_coils`, by the names of their settings.
+
+ghost use Rattle.std.specs.Prelude.{◌≡◌, map};
+ghost use Rattle.mpf_sections.specs.Inside.{needed_at};
+ghost use Rattle.mpf_sections.specs.TypedCoils.{flipper_of, autofire_of, flippers_in, autofires_in};
+ghost use Rattle.mpf_sections.specs.View.{entry_view, section_view, name_at_view, flipper_view, autofire_view};
+
+use crate::section::Section;
+use crate::tables::{AUTOFIRE_COILS_NAME, FLIPPERS_NAME};
+use crate::typed::NameAt;
+use crate::values::{name, names, text};
+use section_tables::rows::{Entry, Name};
+
+/// An entry of `flippers`.
+#[derive(Clone, Copy)]
+pub struct Flipper<'a> {
+    pub name: &'a Name,
+    /// The coil that lifts the flipper.
+    pub main_coil: NameAt<'a>,
+    /// The coil that holds it up, if there is another for that: by default there is none.
+    pub hold_coil: Option<NameAt<'a>>,
+    /// The setting `activation_switch`: the switch of its button.
+    pub switch: NameAt<'a>,
+    /// The events that enable it: by default `ball_started`, at line 0.
+    pub enables: &'a [Name],
+    /// The events that disable it: by default `ball_will_end`, at line 0.
+    pub disables: &'a [Name],
+}
+
+/// An entry of `autofire_coils`.
+#[derive(Clone, Copy)]
+pub struct Autofire<'a> {
+    pub name: &'a Name,
+    pub coil: NameAt<'a>,
+    /// The switch that fires it.
+    pub switch: NameAt<'a>,
+    /// The events that enable it: by default `ball_started`, at line 0.
+    pub enables: &'a [Name],
+    /// The events that disable it: by default `ball_will_end`, at line 0.
+    pub disables: &'a [Name],
+}
+
+// The places of the settings in the table of `flippers`.
+const MAIN_COIL: usize = 0;
+
+const HOLD_COIL: usize = 1;
+
+const ACTIVATION_SWITCH: usize = 2;
+
+const FLIPPER_ENABLES: usize = 3;
+
+const FLIPPER_DISABLES: usize = 4;
+
+// Those in the table of `autofire_coils`.
+const COIL: usize = 0;
+
+const SWITCH: usize = 1;
+
+const AUTOFIRE_ENABLES: usize = 2;
+
+const AUTOFIRE_DISABLES: usize = 3;
+
+// A name that has to be written; the entry's own in a row that no table gives.
+fn needed_name(entry: &Entry, at: usize) -> NameAt<'_>
+    ensures { name_at_view result ≡ needed_at at (entry_view entry.now) }
+{
+    let row = entry.values.as_slice();
+    match name(text(row, at)) {
+        Some(name) => name,
+        None => NameAt {
+            line: entry.name.line,
+            text: &entry.name.text,
+        },
+    }
+}
+
+/// An entry of `flippers`, by the names of its settings.
+#[tactic(auto, unfolding(crate::specs::TypedCoils::flipper_of))]
+pub fn as_flipper(entry: &Entry) -> Flipper<'_>
+    ensures { flipper_view result ≡ flipper_of (entry_view entry.now) }
+{
+    let row = entry.values.as_slice();
+    Flipper {
+        name: &entry.name,
+        main_coil: needed_name(entry, MAIN_COIL),
+        hold_coil: name(text(row, HOLD_COIL)),
+        switch: needed_name(entry, ACTIVATION_SWITCH),
+        enables: names(row, FLIPPER_ENABLES),
+        disables: names(row, FLIPPER_DISABLES),
+    }
+}
+
+/// An entry of `autofire_coils`, by the names of its settings.
+#[tactic(auto, unfolding(crate::specs::TypedCoils::autofire_of))]
+pub fn as_autofire(entry: &Entry) -> Autofire<'_>
+    ensures { autofire_view result ≡ autofire_of (entry_view entry.now) }
+{
+    let row = entry.values.as_slice();
+    Autofire {
+        name: &entry.name,
+        coil: needed_name(entry, COIL),
+        switch: needed_name(entry, SWITCH),
+        enables: names(row, AUTOFIRE_ENABLES),
+        disables: names(row, AUTOFIRE_DISABLES),
+    }
+}
+
+impl Section {
+    /// The entries of `flippers`, each to be read with [`as_flipper`]; none of any other section.
+    #[tactic(auto, unfolding(crate::specs::TypedCoils::flippers_in))]
+    pub fn flippers(&self) -> &[Entry]
+        ensures { map flipper_of (map entry_view result.now) ≡ flippers_in (section_view self.now) }
+    {
+        self.entries_of(FLIPPERS_NAME)
+    }
+
+    /// The entries of `autofire_coils`, each to be read with [`as_autofire`]; none of any other
+    /// section.
+    #[tactic(auto, unfolding(crate::specs::TypedCoils::autofires_in))]
+    pub fn autofires(&self) -> &[Entry]
+        ensures { map autofire_of (map entry_view result.now) ≡ autofires_in (section_view self.now) }
+    {
+        self.entries_of(AUTOFIRE_COILS_NAME)
+    }
+}

@@ -1,0 +1,113 @@
+//! Coils, coil players, flippers and autofire coils of bundles, by the names of their settings.
+
+use crate::cases::{Subject, assert_rows, utf8};
+use crate::devices::show_name;
+use crate::tables::show_names;
+use mpf_config::{
+    Autofire, Coil, CoilItem, CoilPlayer, Flipper, NameAt, Section, as_autofire, as_coil,
+    as_coil_item, as_coil_player, as_flipper,
+};
+use std::alloc::AllocError;
+use std::test::Fail;
+
+// Texts, and what is read of them. A coil is shown by its name, the length of its pulse and the greatest
+// one, the power of its pulse and the greatest one, whether it may be held, the power with which it is held
+// and the greatest one. A coil player is shown by its event, and then what each coil does; a flipper and an
+// autofire coil by its name, its coils and its switch, and its events.
+const COILS: &str = "\
+@¶coils:¶  a:¶ => coils¶ a@3; 10 10 1000 1000 false 0 0;¶
+@¶coils:¶  b:¶    default_pulse_ms: 30¶    allow_enable: yes¶  c:¶    default_hold_power: 0.25¶  d: {default_hold_power: 0.25, allow_enable: yes, max_pulse_ms: 5}¶  e: {default_hold_power: 0, max_hold_power: 0.5}¶  f: {max_hold_power: 30%, allow_enable: on}¶ => coils¶ b@3; 30 30 1000 1000 true 1000 1000;¶ c@6; 10 10 1000 1000 true 250 250;¶ d@8; 10 5 1000 1000 true 250 1000;¶ e@9; 10 10 1000 1000 false 0 500;¶ f@10; 10 10 1000 1000 true 300 300;¶
+@¶coils:¶  g:¶    default_pulse_power: 0.5¶    max_pulse_power: 25%¶    max_pulse_ms: 1s¶    default_hold_power: 100%¶    max_hold_power: 0¶ => coils¶ g@3; 10 1000 500 250 true 1000 0;¶
+@¶modes: m¶coil_player:¶  go:¶    a: pulse¶    b: {action: enable, hold_power: 0.5}¶  halt: {b: {action: disable, pulse_ms: 7, pulse_power: 0}}¶@m¶coil_player:¶  go: {a: enable}¶ => modes¶ m@2¶coil_player¶ go@4; a@5 Pulse None None None; b@6 Enable None None Some(500);¶ halt@7; b@7 Disable Some(7) Some(0) None;¶m: 100 true true;;;¶coil_player¶ go@3; a@3 Enable None None None;¶
+@¶flippers:¶  f:¶    activation_switch: s¶    main_coil: m¶  g:¶    main_coil: m¶    hold_coil: h¶    activation_switch: t¶    enable_events: a b¶    disable_events:¶autofire_coils:¶  p:¶    coil: c¶    switch: s¶    disable_events: d¶ => flippers¶ f@3; m@5 - s@4; ball_started@0; ball_will_end@0;¶ g@6; m@7 h@8 t@9; a@10 b@10;;¶autofire_coils¶ p@13; c@14 s@15; ball_started@0; d@16;¶
+@¶flippers:¶  f:¶    main_coil: m¶ => error 7 Missing config/config.yaml 3 activation_switch¶
+@¶modes: m¶@m¶flippers:¶ => error 4 UnknownSection modes/m/config/m.yaml 2 flippers¶
+";
+
+fn show_coil(out: &mut String, coil: Coil<'_>) -> Result<(), AllocError> {
+    show_name(out, coil.name)?;
+    writeln!(
+        out,
+        " {} {} {} {} {} {} {};",
+        coil.pulse_ms,
+        coil.max_pulse_ms,
+        coil.pulse_power,
+        coil.max_pulse_power,
+        coil.may_hold,
+        coil.hold_power,
+        coil.max_hold_power
+    )
+}
+
+fn show_item(out: &mut String, item: CoilItem<'_>) -> Result<(), AllocError> {
+    write!(
+        out,
+        " {}@{} {:?} {:?} {:?} {:?};",
+        utf8(&item.coil.text),
+        item.coil.line,
+        item.action,
+        item.pulse_ms,
+        item.pulse_power,
+        item.hold_power
+    )
+}
+
+fn show_coil_player(out: &mut String, player: CoilPlayer<'_>) -> Result<(), AllocError> {
+    write!(out, " {}@{};", utf8(player.event.text), player.event.line)?;
+    for keyed in player.items {
+        show_item(out, as_coil_item(keyed))?;
+    }
+    out.push_str("\n")
+}
+
+fn show_at(out: &mut String, name: NameAt<'_>) -> Result<(), AllocError> {
+    write!(out, " {}@{}", utf8(name.text), name.line)
+}
+
+fn show_flipper(out: &mut String, flipper: Flipper<'_>) -> Result<(), AllocError> {
+    show_name(out, flipper.name)?;
+    show_at(out, flipper.main_coil)?;
+    match flipper.hold_coil {
+        Some(coil) => show_at(out, coil)?,
+        None => out.push_str(" -")?,
+    }
+    show_at(out, flipper.switch)?;
+    for names in [flipper.enables, flipper.disables] {
+        out.push_str(";")?;
+        show_names(out, names)?;
+    }
+    out.push_str(";\n")
+}
+
+fn show_autofire(out: &mut String, autofire: Autofire<'_>) -> Result<(), AllocError> {
+    show_name(out, autofire.name)?;
+    show_at(out, autofire.coil)?;
+    show_at(out, autofire.switch)?;
+    for names in [autofire.enables, autofire.disables] {
+        out.push_str(";")?;
+        show_names(out, names)?;
+    }
+    out.push_str(";\n")
+}
+
+/// Adds the coils, the coil players, the flippers and the autofire coils of a section.
+pub(crate) fn show_coils(out: &mut String, section: &Section) -> Result<(), AllocError> {
+    for entry in section.coils() {
+        show_coil(out, as_coil(entry))?;
+    }
+    for player in section.coil_players() {
+        show_coil_player(out, as_coil_player(player))?;
+    }
+    for entry in section.flippers() {
+        show_flipper(out, as_flipper(entry))?;
+    }
+    for entry in section.autofires() {
+        show_autofire(out, as_autofire(entry))?;
+    }
+    Ok(())
+}
+
+#[test]
+fn coils_and_their_rules(rt: HostRuntime) -> Result<(), Fail> {
+    assert_rows(&rt, Subject::Texts, COILS)
+}

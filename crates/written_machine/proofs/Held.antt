@@ -1,0 +1,181 @@
+-- Who holds coils, after they are asked and after they are released.
+use Rattle.std.proofs.Common.{◌≡◌, ℕ, zero, suc, ◌<◌, ◌≤◌, ◌⊎◌, inl, inr, Bool, true, false, if◌then◌else◌, Option, None, Some, is_some, List, [], ◌∷◌, length, map, refl, sym, ap, ◌∙◌, subst, arith}
+use Rattle.std.specs.Prelude.{Contains, ◌||◌, nat_lt}
+use Rattle.std.proofs.lemmas.Bool.{cases_eq, cases_lt, false≢true}
+use Rattle.std.proofs.lemmas.List.{length-map, length-set, get_or-map, get_or_past, get_or-set_same, get_or-set_other, set_past}
+use Rattle.std.proofs.lemmas.List.FromFn.{length-map-range_with_len, get_or-map-range_with_len}
+use Rattle.plan_tables.specs.PlanView.{PlanView, coil_numbers, is_owner}
+use Rattle.plan_tables.specs.declared.entries.CoilId.{CoilId}
+use Rattle.plan_tables.specs.declared.entries.Owner.{Owner}
+use Rattle.plan_tables.proofs.Owners.{is_owner-same}
+use Rattle.coil_guard.specs.declared.command.Command.{Command}
+use Rattle.coil_guard.specs.declared.command.Command.TheVariants as commands
+use Rattle.coil_guard.specs.declared.state.CoilState.{CoilState}
+use Rattle.coil_guard.specs.Limits.{no_limits}
+use Rattle.coil_guard.specs.Owners.{is_holder}
+use Rattle.coil_guard.specs.CoilStep.{off, is_held_by, is_on_at, takes_pulse, pulsed, takes_enable, enabled, disabled}
+use Rattle.coil_guard.specs.Coils.{all_off, coil_at, set_coil}
+use Rattle.coil_guard.specs.Asked.{limits_of, after_asking}
+use Rattle.written_machine.specs.Machine.{Machine, all_do, ask_coil, release_coil, release_coils}
+
+-- the owner holds the coil
+abbrev pub IsHolding : Owner → List CoilState → CoilId → Type 0
+IsHolding owner coils coil = is_held_by owner (coil_at coils coil) ≡ true
+
+abbrev pub IsNotHolding : Owner → List CoilState → CoilId → Type 0
+IsNotHolding owner coils coil = is_held_by owner (coil_at coils coil) ≡ false
+
+-- a coil that there is not is not held
+pub past-not : (owner : Owner) (coils : List CoilState) (coil : CoilId) → length coils ≤ coil.0 → IsNotHolding owner coils coil
+past-not owner coils coil past = ap (is_held_by owner) (get_or_past coils coil.0 (off no_limits) past)
+
+-- at first no coil is held
+pub off-not : (plan : PlanView) (owner : Owner) (coil : CoilId) → IsNotHolding owner (all_off (limits_of plan)) coil
+off-not plan owner coil =
+    elim (cases_lt coil.0 (length (limits_of plan))) [
+      | inl within ↦ ap (is_held_by owner) (get_or-map off (limits_of plan) coil.0 no_limits (off no_limits) within)
+      | inr past ↦ let count = length-map (limits_of plan) off in past-not owner (all_off (limits_of plan)) coil (omega (arith, past, count))
+    ]
+
+held-there : (owner : Owner) (coils : List CoilState) (coil : CoilId) → IsHolding owner coils coil → coil.0 < length coils
+held-there owner coils coil is =
+    elim (cases_lt coil.0 (length coils)) [
+      | inl there ↦ there
+      | inr past ↦ absurd (false≢true (sym (past-not owner coils coil past) ∙ is))
+    ]
+
+-- ---- a coil is set
+
+set-other : (owner : Owner) (coil : CoilId) (x : CoilState) (coils : List CoilState) (c : CoilId) → (c.0 ≡ coil.0 → ⊥) → is_held_by owner (coil_at (set_coil coil x coils) c) ≡ is_held_by owner (coil_at coils c)
+set-other owner coil x coils c other = ap (is_held_by owner) (get_or-set_other coils coil.0 c.0 x (off no_limits) other)
+
+set-same : (owner : Owner) (coil : CoilId) (x : CoilState) (coils : List CoilState) (c : CoilId) → c.0 ≡ coil.0 → coil.0 < length coils → is_held_by owner (coil_at (set_coil coil x coils) c) ≡ is_held_by owner x
+set-same owner coil x coils c same there =
+    ap (is_held_by owner) (ap (λ (n : ℕ). coil_at (set_coil coil x coils) (record { 0 = n })) same ∙ get_or-set_same coils coil.0 x (off no_limits) there)
+
+-- who holds a coil then held it before, or holds the coil that was set
+set-held : (owner : Owner) (coil : CoilId) (x : CoilState) (coils : List CoilState) (c : CoilId) → IsHolding owner (set_coil coil x coils) c → ((c.0 ≡ coil.0) × (is_held_by owner x ≡ true)) ⊎ IsHolding owner coils c
+set-held owner coil x coils c is =
+    elim (cases_lt coil.0 (length coils)) [
+      | inl there ↦
+          elim (cases_eq c.0 coil.0) [
+            | inl same ↦ inl (same, sym (set-same owner coil x coils c same there) ∙ is)
+            | inr other ↦ inr (sym (set-other owner coil x coils c other) ∙ is)
+          ]
+      | inr past ↦ inr (sym (ap (λ (cs : List CoilState). is_held_by owner (coil_at cs c)) (set_past coils coil.0 x past)) ∙ is)
+    ]
+
+-- ---- a coil is asked
+
+either-held : (P : List CoilState → Type 0) (b : Bool) (x y : List CoilState) → (P x) → (P y) → P (if b then x else y)
+either-held P true x y one other = one
+either-held P false x y one other = other
+
+pub asked-count : (owner : Owner) (command : Command) (now : ℕ) (coils : List CoilState) → length (after_asking command owner now coils) ≡ length coils
+asked-count owner (commands.Pulse coil ms power) now coils =
+    let c = coil_at coils coil in
+    either-held (λ cs. length cs ≡ length coils) (takes_pulse ms power now c) (set_coil coil (pulsed ms now c) coils) coils (length-set coils coil.0 (pulsed ms now c)) refl
+asked-count owner (commands.Enable coil power) now coils =
+    let c = coil_at coils coil in
+    either-held (λ cs. length cs ≡ length coils) (takes_enable power c) (set_coil coil (enabled owner c) coils) coils (length-set coils coil.0 (enabled owner c)) refl
+asked-count owner (commands.Disable coil) now coils =
+    let c = coil_at coils coil in
+    either-held (λ cs. length cs ≡ length coils) (is_on_at now c) (set_coil coil (disabled c) coils) coils (length-set coils coil.0 (disabled c)) refl
+
+-- who holds a coil then held it before, or has asked
+pub asked-held : (owner : Owner) (command : Command) (now : ℕ) (coils : List CoilState) (o : Owner) (c : CoilId) → IsHolding o (after_asking command owner now coils) c → (owner ≡ o) ⊎ IsHolding o coils c
+asked-held owner (commands.Pulse coil ms power) now coils o c =
+    let x = coil_at coils coil in
+    either-held (λ cs. IsHolding o cs c → (owner ≡ o) ⊎ IsHolding o coils c) (takes_pulse ms power now x) (set_coil coil (pulsed ms now x) coils) coils
+    (λ is. elim (set-held o coil (pulsed ms now x) coils c is) [
+      | inl own ↦ inr (subst (λ (n : ℕ). IsHolding o coils (record { 0 = n })) (sym own.0) own.1)
+      | inr before ↦ inr before
+    ]) (λ is. inr is)
+asked-held owner (commands.Enable coil power) now coils o c =
+    let x = coil_at coils coil in
+    either-held (λ cs. IsHolding o cs c → (owner ≡ o) ⊎ IsHolding o coils c) (takes_enable power x) (set_coil coil (enabled owner x) coils) coils
+    (λ is. elim (set-held o coil (enabled owner x) coils c is) [
+      | inl own ↦ inl (is_owner-same owner o own.1)
+      | inr before ↦ inr before
+    ]) (λ is. inr is)
+asked-held owner (commands.Disable coil) now coils o c =
+    let x = coil_at coils coil in
+    either-held (λ cs. IsHolding o cs c → (owner ≡ o) ⊎ IsHolding o coils c) (is_on_at now x) (set_coil coil (disabled x) coils) coils
+    (λ is. elim (set-held o coil (disabled x) coils c is) [
+      | inl own ↦ absurd (false≢true own.1)
+      | inr before ↦ inr before
+    ]) (λ is. inr is)
+
+-- ---- coils are released
+
+-- a coil that is held is on
+held-on : (owner : Owner) (now : ℕ) (x : CoilState) → is_held_by owner x ≡ true → is_on_at now x ≡ true
+held-on owner now x is = by (nat_lt now x.pulse_end) x.holder is
+  where
+    by : (b : Bool) (holder : Option Owner) → is_holder owner holder ≡ true → (b || is_some holder) ≡ true
+    by true holder h = refl
+    by false None h = absurd (false≢true h)
+    by false (Some o) h = refl
+
+module _ (owner : Owner) where
+  -- a coil that it holds is let go, and others stay
+  released-one : (c : CoilId) (s : Machine) (coil : CoilId) → (coil.0 ≡ c.0) ⊎ IsNotHolding owner s.coils coil → IsNotHolding owner (release_coil owner c s).coils coil
+  released-one c s coil free = by (is_held_by owner (coil_at s.coils c)) refl
+    where
+      x : CoilState
+      x = coil_at s.coils c
+
+      set-free : c.0 < length s.coils → (coil.0 ≡ c.0) ⊎ IsNotHolding owner s.coils coil → IsNotHolding owner (set_coil c (disabled x) s.coils) coil
+      set-free there given =
+          elim (cases_eq coil.0 c.0) [
+            | inl same ↦ set-same owner c (disabled x) s.coils coil same there
+            | inr other ↦
+                set-other owner c (disabled x) s.coils coil other
+                ∙ elim given [
+                  | inl same ↦ absurd (other same)
+                  | inr not ↦ not
+                ]
+          ]
+
+      by : (held : Bool) → is_held_by owner (coil_at s.coils c) ≡ held → IsNotHolding owner (if held then ask_coil owner (commands.Disable c) s else s).coils coil
+      by true is =
+          subst (λ (b : Bool). IsNotHolding owner (if b then set_coil c (disabled x) s.coils else s.coils) coil) (sym (held-on owner s.moment x is))
+          (set-free (held-there owner s.coils c is) free)
+      by false is =
+          elim free [
+            | inl same ↦ ap (λ (n : ℕ). is_held_by owner (coil_at s.coils (record { 0 = n }))) same ∙ is
+            | inr not ↦ not
+          ]
+
+  released-all : (cs : List CoilId) (s : Machine) (coil : CoilId) → Contains cs coil ⊎ IsNotHolding owner s.coils coil → IsNotHolding owner (all_do (release_coil owner) cs s).coils coil
+  released-all [] s coil (inl (i, within, is)) = absurd (omega arith)
+  released-all [] s coil (inr not) = not
+  released-all (c ∷ cs) s coil free = released-all cs (release_coil owner c s) coil (by free)
+    where
+      by : Contains (c ∷ cs) coil ⊎ IsNotHolding owner s.coils coil → Contains cs coil ⊎ IsNotHolding owner (release_coil owner c s).coils coil
+      by (inl (zero, within, is)) = inr (released-one c s coil (inl (sym (ap (λ (y : CoilId). y.0) is))))
+      by (inl (suc i, within, is)) = inl (i, omega arith, is)
+      by (inr not) = inr (released-one c s coil (inr not))
+
+  released-count : (cs : List CoilId) (s : Machine) → length (all_do (release_coil owner) cs s).coils ≡ length s.coils
+  released-count [] s = refl
+  released-count (c ∷ cs) s = released-count cs (release_coil owner c s) ∙ by (is_held_by owner (coil_at s.coils c))
+    where
+      by : (held : Bool) → length (if held then ask_coil owner (commands.Disable c) s else s).coils ≡ length s.coils
+      by true = asked-count owner (commands.Disable c) s.moment s.coils
+      by false = refl
+
+  -- then it holds none
+  pub released-none : (plan : PlanView) (s : Machine) → length s.coils ≡ length plan.coils → (coil : CoilId) → IsNotHolding owner (release_coils plan owner s).coils coil
+  released-none plan s count coil =
+      elim (cases_lt coil.0 (length plan.coils)) [
+        | inl there ↦ released-all (coil_numbers plan) s coil (inl (
+          coil.0,
+          omega (arith, there, length-map-range_with_len {X = CoilId} (λ n. record { 0 = n }) 0 (length plan.coils)),
+          get_or-map-range_with_len (λ n. record { 0 = n }) 0 (length plan.coils) coil.0 coil.0 coil there (omega arith),
+        ))
+        | inr past ↦ past-not owner (release_coils plan owner s).coils coil (omega (arith, past, count, released-count (coil_numbers plan) s))
+      ]
+
+  pub release-count : (plan : PlanView) (s : Machine) → length (release_coils plan owner s).coils ≡ length s.coils
+  release-count plan s = released-count (coil_numbers plan) s
