@@ -7,4 +7,4 @@ pub mod View
 pub mod Found
 -- what lemmas say of the contributions of every configuration
 pub mod Facts
-pub mod Posting
+pub mod Doing
