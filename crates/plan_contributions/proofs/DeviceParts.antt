@@ -1,9 +1,11 @@
 -- What is collected of the entry of a device, part after part.
-use Rattle.std.proofs.Common.{◌≡◌, ℕ, suc, ◌+◌, ◌<◌, List, [], ◌∷◌, ◌++◌, length, map, drop, get_or, refl, sym, ◌∙◌, ap, arith}
+use Rattle.std.proofs.Common.{◌≡◌, true, false, ℕ, suc, ◌+◌, ◌<◌, List, [], ◌∷◌, ◌++◌, length, map, drop, get_or, refl, sym, ◌∙◌, ap, arith}
 use Rattle.std.specs.Prelude.{Option, None, Some}
 use Rattle.std.proofs.lemmas.List.{append-nil, append_assoc, map-append, drop_more}
-use Rattle.mpf_sections.specs.Rows.{Written, Control}
-use Rattle.mpf_sections.specs.Typed.{with_control}
+use Rattle.std.specs.Str.{bytes_eq}
+use Rattle.mpf_sections.specs.Rows.{Written, Entry, Control}
+use Rattle.mpf_sections.specs.Typed.{counters_name, accruals_name, sequences_name, timers_name, with_control, step_block_of, timer_of}
+use Rattle.plan_tables.specs.declared.devices.Settings.TheVariants as kinds
 use Rattle.plan_tables.specs.declared.devices.Act.{Act}
 use Rattle.plan_tables.specs.declared.devices.Act.TheVariants.{Step}
 use Rattle.plan_tables.specs.declared.devices.Settings.{Settings}
@@ -11,7 +13,7 @@ use Rattle.plan_contributions.specs.declared.contribution.Contribution as contri
 use Rattle.plan_contributions.specs.declared.contribution.Contribution.TheVariants as contribution
 use Rattle.plan_contributions.specs.declared.contribution.Parts.{Parts}
 use Rattle.plan_contributions.specs.declared.contribution.Place.{Place}
-use Rattle.plan_contributions.specs.DeviceEntries.{acts, step_acts, controlled, Effect, posts}
+use Rattle.plan_contributions.specs.DeviceEntries.{device_of, step_settings, step_device, timer_device, acts, step_acts, controlled, Effect, posts}
 use Rattle.plan_contributions.specs.declared.contribution.Effect.TheVariants as effect
 use Rattle.plan_contributions.specs.Contributions.{Contribution, device, does_in, mentions, Device, act_binding, effects_from, listens_from, device_contributions}
 use Rattle.plan_contributions.specs.View.{parts_text, contribution_view, contributions_view}
@@ -69,3 +71,18 @@ steps_next f view steps i d within =
 pub control_next : (f : List ℕ × Act → Contribution) (o : Option Control) (cs : List Control) → map f (map controlled (with_control o [])) ++ map f (map controlled cs) ≡ map f (map controlled (with_control o cs))
 control_next f None cs = refl
 control_next f (Some c) cs = refl
+
+-- the device of an entry whose section has this name
+module _ (section : List ℕ) (e : Entry) (others : bytes_eq section counters_name ≡ false) where
+  pub accrual_there : bytes_eq section accruals_name ≡ true → Some (step_device (kinds.Accrual (step_settings (step_block_of e))) (step_block_of e)) ≡ device_of section e
+  unfolding device_of
+  accrual_there is = rw (others, is) refl
+
+  module _ (more : bytes_eq section accruals_name ≡ false) where
+    pub sequence_there : bytes_eq section sequences_name ≡ true → Some (step_device (kinds.Sequence (step_settings (step_block_of e))) (step_block_of e)) ≡ device_of section e
+    unfolding device_of
+    sequence_there is = rw (others, more, is) refl
+
+    pub timer_there : bytes_eq section sequences_name ≡ false → bytes_eq section timers_name ≡ true → Some (timer_device (timer_of e)) ≡ device_of section e
+    unfolding device_of
+    timer_there last is = rw (others, more, last, is) refl

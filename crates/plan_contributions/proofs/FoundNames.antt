@@ -1,5 +1,5 @@
 -- What maps and sets of names hold, by the bytes of their keys.
-use Rattle.std.proofs.Common.{is_eq, ◌≡◌, ℕ, Bool, true, false, cond, ◌||◌, List, [], ◌∷◌, ◌++◌, Option, None, Some, map, fold, refl, sym, ap, ◌∙◌, arith}
+use Rattle.std.proofs.Common.{is_eq, ◌≡◌, ℕ, Bool, true, false, cond, ◌||◌, List, [], ◌∷◌, ◌++◌, Option, None, Some, option_map, if◌then◌else◌, map, fold, refl, sym, ap, ◌∙◌, arith}
 use Rattle.std.specs.List.{list_any, flat_map}
 use Rattle.std.specs.Str.{bytes_eq}
 use Rattle.std.specs.Borrow.{Bor}
@@ -14,6 +14,10 @@ use Rattle.std.proofs.lemmas.Bool.{le-ltb, eq-eqb}
 use Rattle.std.proofs.lemmas.Bool.Decides.{same_from_decides}
 use Rattle.std.proofs.lemmas.Slice.Eq.{bytes_eq-Decides}
 use Rattle.std.proofs.lemmas.Map.Lookups.{exact_bytes}
+use Rattle.mpf_sections.specs.declared.coils.Coil as rows
+use Rattle.mpf_sections.specs.Rows.{Coil}
+use Rattle.mpf_sections.specs.View.{coil_view}
+use Rattle.plan_contributions.specs.Definitions.{latest_coil}
 use Rattle.plan_contributions.specs.Found.{has_bytes}
 
 nat_cmp-same : (x : ℕ) → nat_cmp x x ≡ Equal
@@ -65,9 +69,9 @@ cond_again true v w rest = refl
 cond_again false v w rest = refl
 
 cond_swap : {A : Type 0} (a b : Bool) (v w rest : A) → (a ≡ true → b ≡ true → ⊥) → cond b w (cond a v rest) ≡ cond a v (cond b w rest)
-cond_swap true true v w rest no = absurd (no refl refl)
-cond_swap true false v w rest no = refl
-cond_swap false b v w rest no = refl
+cond_swap true true v w rest never = absurd (never refl refl)
+cond_swap true false v w rest never = refl
+cond_swap false b v w rest never = refl
 
 module _ {X : Type 0} (name : List ℕ) (k : Key) (v : X) where
   inserted_step : (o : Ordering) (e : Key × X) (es : List (Key × X)) → by_bytes k e.0 ≡ o → lookup (has_bytes name) (insert_entry by_bytes es k v) ≡ cond (bytes_eq name k.now) (Some v) (lookup (has_bytes name) es)
@@ -107,17 +111,42 @@ module _ (name : List ℕ) (k : Key) where
   added [] = refl
   added (x ∷ xs) = added_step (by_bytes k x) x xs refl (added xs)
 
+-- ---- one name after the other
+
+or_reordered : (a b c : Bool) → ((a || b) || c) ≡ (b || (a || c))
+or_reordered true true c = refl
+or_reordered true false c = refl
+or_reordered false b c = refl
+
+pub or_assoc : (a b c : Bool) → ((a || b) || c) ≡ (a || (b || c))
+or_assoc true b c = refl
+or_assoc false b c = refl
+
+-- a name, and then the rest
+pub next_name : (name : List ℕ) (old new : List Key) (k : Key) (text : List ℕ) (rest : Bool) → new ≡ insert_key by_bytes old k → k.now ≡ text
+    → (list_any (has_bytes name) new || rest) ≡ (list_any (has_bytes name) old || (bytes_eq name text || rest))
+next_name name old new k text rest more same =
+    ap (λ ks. list_any (has_bytes name) ks || rest) more ∙ ap (λ b. b || rest) (added name k old)
+    ∙ ap (λ t. (bytes_eq name t || list_any (has_bytes name) old) || rest) same ∙ or_reordered (bytes_eq name text) (list_any (has_bytes name) old) rest
+
+-- a coil, and then the rest
+pub next_coil : (name : List ℕ) (old new : List (Key × rows.Coil)) (k : Key) (v : rows.Coil) (c : Coil) → new ≡ insert_entry by_bytes old k v → coil_view v ≡ c → k.now ≡ c.name.text
+    → option_map coil_view (lookup (has_bytes name) new) ≡ latest_coil name (option_map coil_view (lookup (has_bytes name) old)) c
+next_coil name old new k v c more seen same =
+    ap (λ es. option_map coil_view (lookup (has_bytes name) es)) more ∙ ap (λ o. option_map coil_view o) (inserted name k v old)
+    ∙ ap (λ t. option_map coil_view (cond (bytes_eq name t) (Some v) (lookup (has_bytes name) old))) same ∙ by (bytes_eq name c.name.text)
+  where
+    by : (b : Bool) → option_map coil_view (cond b (Some v) (lookup (has_bytes name) old)) ≡ (if b then Some c else option_map coil_view (lookup (has_bytes name) old))
+    by true = ap Some seen
+    by false = refl
+
 -- ---- lists of lists
 
--- what is taken in of all lists, one after the other
+-- what is taken in of two lists, one after the other
 pub fold_append : {A B : Type 0} (f : B → A → B) (start : B) (xs ys : List A) → fold f start (xs ++ ys) ≡ fold f (fold f start xs) ys
 fold_append f start [] ys = refl
 fold_append f start (x ∷ xs) ys = fold_append f (f start x) xs ys
 
 pub any_append : {A : Type 0} (test : A → Bool) (xs ys : List A) → list_any test (xs ++ ys) ≡ (list_any test xs || list_any test ys)
 any_append test [] ys = refl
-any_append test (x ∷ xs) ys = rw (any_append test xs ys) (or_assoc (test x) (list_any test xs) (list_any test ys))
-  where
-    or_assoc : (a b c : Bool) → (a || (b || c)) ≡ ((a || b) || c)
-    or_assoc true b c = refl
-    or_assoc false b c = refl
+any_append test (x ∷ xs) ys = rw (any_append test xs ys) (sym (or_assoc (test x) (list_any test xs) (list_any test ys)))

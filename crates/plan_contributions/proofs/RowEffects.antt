@@ -23,8 +23,13 @@ from_map : {X Y : Type 0} (R : Y → Type 0) (f : X → Y) (xs : List X) → All
 from_map R f [] h = All-nil (λ x. R (f x))
 from_map R f (x ∷ xs) h = All-cons (λ x. R (f x)) x xs (All-head R (f x) (map f xs) h) (from_map R f xs (All-tail R (f x) (map f xs) h))
 
--- where a section has this name, what holds of its items as they are seen there
-where_named : {X Y : Type 0} (R : Y → Type 0) (f : X → Y) (b : Bool) (xs : List X) → All R (map f (if b then xs else [])) → All (λ x. if b then R (f x) else Unit {0}) xs
+-- where this holds, that does
+abbrev Where : Bool → Type 0 → Type 0
+Where true A = A
+Where false A = Unit {0}
+
+-- where a section has a name, what holds of its items as they are seen there
+where_named : {X Y : Type 0} (R : Y → Type 0) (f : X → Y) (b : Bool) (xs : List X) → All R (map f (if b then xs else [])) → All (λ x. Where b (R (f x))) xs
 where_named R f true xs h = from_map R f xs h
 where_named R f false xs h = λ i d within. tt
 
@@ -101,36 +106,32 @@ module _ (P : Effect → Type 0) (S : List ℕ → Type 0) where
     abbrev GivesDoing : Row → Type 0
     GivesDoing r = All D (row_contributions machine r)
 
-    -- what holds of an entry where its section has a name
-    abbrev If : Bool → Type 0 → Type 0
-    If b A = if b then A else Unit {0}
-
-    in_machine_device : (section : List ℕ) (e : Entry) → If (bytes_eq section flippers_name) (AreListsDoing P S (flipper_device machine (flipper_of e))) → If (bytes_eq section autofire_coils_name) (AreListsDoing P S (autofire_device machine (autofire_of e)))
+    in_machine_device : (section : List ℕ) (e : Entry) → Where (bytes_eq section flippers_name) (AreListsDoing P S (flipper_device machine (flipper_of e))) → Where (bytes_eq section autofire_coils_name) (AreListsDoing P S (autofire_device machine (autofire_of e)))
         → IsDeviceDoing P S (device_of section e) → IsDeviceDoing P S (machine_device machine section e)
     in_machine_device section e = by (bytes_eq section flippers_name) (bytes_eq section autofire_coils_name)
       where
-        by : (f a : Bool) → If f (AreListsDoing P S (flipper_device machine (flipper_of e))) → If a (AreListsDoing P S (autofire_device machine (autofire_of e))) → IsDeviceDoing P S (device_of section e)
+        by : (f a : Bool) → Where f (AreListsDoing P S (flipper_device machine (flipper_of e))) → Where a (AreListsDoing P S (autofire_device machine (autofire_of e))) → IsDeviceDoing P S (device_of section e)
             → IsDeviceDoing P S (if f then Some (flipper_device machine (flipper_of e)) else (if a then Some (autofire_device machine (autofire_of e)) else device_of section e))
         by true a hf ha h = hf
         by false true hf ha h = ha
         by false false hf ha h = h
 
-    in_machine_entry : (section : List ℕ) (e : Entry) → If (bytes_eq section switches_name) (IsSwitchDoing P S (switch_of e)) → IsDeviceDoing P S (machine_device machine section e) → All D (machine_entry_contributions machine section e)
+    in_machine_entry : (section : List ℕ) (e : Entry) → Where (bytes_eq section switches_name) (IsSwitchDoing P S (switch_of e)) → IsDeviceDoing P S (machine_device machine section e) → All D (machine_entry_contributions machine section e)
     unfolding machine_entry_contributions
     in_machine_entry section e = by (bytes_eq section coils_name) (bytes_eq section switches_name)
       where
-        by : (c s : Bool) → If s (IsSwitchDoing P S (switch_of e)) → IsDeviceDoing P S (machine_device machine section e)
+        by : (c s : Bool) → Where s (IsSwitchDoing P S (switch_of e)) → IsDeviceDoing P S (machine_device machine section e)
             → All D (if c then coil_contributions (coil_of e) else (if s then switch_contributions machine (switch_of e) else where_device Machine (machine_device machine section e)))
         by true s hs h = in_coil (coil_of e)
         by false true hs h = in_switch machine (switch_of e) hs
         by false false hs h = in_where Machine (machine_device machine section e) h
 
-    in_player_entry : (place : Place) (section : List ℕ) (p : Player) → If (bytes_eq section event_player_name) (IsPlayerDoing P S (event_player_of p)) → If (bytes_eq section coil_player_name) (IsCoilPlayerDoing P S machine (coil_player_of p))
+    in_player_entry : (place : Place) (section : List ℕ) (p : Player) → Where (bytes_eq section event_player_name) (IsPlayerDoing P S (event_player_of p)) → Where (bytes_eq section coil_player_name) (IsCoilPlayerDoing P S machine (coil_player_of p))
         → All D (player_entry_contributions machine place section p)
     unfolding player_entry_contributions
     in_player_entry place section p = by (bytes_eq section event_player_name) (bytes_eq section coil_player_name)
       where
-        by : (e c : Bool) → If e (IsPlayerDoing P S (event_player_of p)) → If c (IsCoilPlayerDoing P S machine (coil_player_of p))
+        by : (e c : Bool) → Where e (IsPlayerDoing P S (event_player_of p)) → Where c (IsCoilPlayerDoing P S machine (coil_player_of p))
             → All D (if e then player_contributions place (event_player_of p) else (if c then coil_player_contributions machine place (coil_player_of p) else []))
         by true c he hc = in_player place (event_player_of p) he
         by false true he hc = in_coil_player machine place (coil_player_of p) hc

@@ -21,7 +21,7 @@ use Rattle.mpf_config.specs.Short.{IsShortMode, AreListsShort}
 use Rattle.mpf_sections.proofs.RowNames.{switch_named, event_player_named, mode_settings_named}
 use Rattle.mpf_sections.proofs.ShortRows.{event_player_short}
 use Rattle.mpf_sections.proofs.DeviceRows.{counter_named, step_block_named, timer_named, counter_short, step_block_short, timer_in_range}
-use Rattle.mpf_sections.proofs.CoilRows.{coil_named, coil_player_named, flipper_named, autofire_named, coil_in_range, coil_player_in_range, coils_in_range}
+use Rattle.mpf_sections.proofs.CoilRows.{coil_named, coil_player_named, flipper_named, autofire_named, coil_in_range, coil_player_short, coil_player_in_range, coils_in_range}
 use Rattle.plan_contributions.specs.declared.contribution.Aim.{Aim}
 use Rattle.plan_contributions.specs.declared.contribution.Aim.TheVariants.{Run, Start, Stop, Do}
 use Rattle.plan_contributions.specs.declared.contribution.Place.{Place}
@@ -451,10 +451,6 @@ short_autofire machine a =
       place_of = refl;
     }
 
--- no entry of `coil_player` has more items
-coil_items_few : (p : Player) → IsShortPlayer 1024 p → let row = coil_player_of p in length row.items ≤ 1024
-coil_items_few p h = ?
-
 module _ (machine : List SectionRows) (P : List ℕ → Type 0) (of : IsOfNames P) (n : ℕ) where
   all_names : (ws : List Written) → AllNames ws → All P (texts ws)
   all_names ws h = All-map P (λ (w : Written). w.text) ws (All-weaker (λ (w : Written). IsName w.text) (λ w. P w.text) (λ w. of.name w.text) ws h)
@@ -812,7 +808,7 @@ module _ (machine : List SectionRows) (P : List ℕ → Type 0) (of : IsOfNames 
   player_entry_facts place section p =
       let event = player_facts place (event_player_of p) in
       let item = coil_player_facts place (coil_player_of p) in
-      let short : IsShortPlayer 1024 p → IsShortItems (coil_player_of p) = λ h. (coil_items_few p h, coil_player_in_range p) in
+      let short : IsShortPlayer 1024 p → IsShortItems (coil_player_of p) = λ h. (coil_player_short p h, coil_player_in_range p) in
       either (bytes_eq section event_player_name) (player_contributions place (event_player_of p)) (if bytes_eq section coil_player_name then coil_player_contributions machine place (coil_player_of p) else [])
       (record { names = λ h. event.names (event_player_named p h); lists = λ h. event.lists (event_player_short p h); modes = event.modes; limits = λ h. event.limits (event_player_short p h); acts = event.acts })
       (either (bytes_eq section coil_player_name) (coil_player_contributions machine place (coil_player_of p)) []
@@ -931,7 +927,7 @@ pub rows_are_of_machine : (rows : Rows) → AreListsShort rows → All IsOfMachi
 rows_are_of_machine rows h = All-weaker IsRight IsOfMachine (λ c k. k.1) (contributions_of rows) (rows_are_right rows h)
 
 pub rows_are_placed : (rows : Rows) → ArePlaced None (contributions_of rows)
-rows_are_placed rows = all_placed machine (rows_of rows)
+rows_are_placed rows = all_placed rows.machine (rows_of rows)
 
 -- a mode, and what is of it
 mode_open : (machine : List SectionRows) (n : ℕ) (m : ModeRows) → AreOpened n (given_by machine (mode_rows m))
