@@ -210,8 +210,8 @@ machine_device machine section e =
 -- what an entry of the machine text gives, by the name of its section
 unfoldable pub machine_entry_contributions : List SectionRows → List ℕ → Entry → List Contribution
 machine_entry_contributions machine section e =
-    if bytes_eq section switches_name then switch_contributions machine (switch_of e)
-    else (if bytes_eq section coils_name then coil_contributions (coil_of e)
+    if bytes_eq section coils_name then coil_contributions (coil_of e)
+    else (if bytes_eq section switches_name then switch_contributions machine (switch_of e)
     else where_device Machine (machine_device machine section e))
 
 -- What an entry gives, by the name of its section; what it says of a coil is by the sections of the machine text. Switches,

@@ -2,7 +2,6 @@
 use Rattle.std.specs.Prelude.{ℕ, Bool, false, if◌then◌else◌, List, [], ◌++◌, Option, None, Some, fold, map, unwrap_or}
 use Rattle.std.specs.List.{flat_map, list_any}
 use Rattle.std.specs.Str.{bytes_eq}
-use Rattle.section_tables.specs.Entries.{written_at}
 use Rattle.mpf_sections.specs.Rows.{Coil, SectionRows}
 use Rattle.mpf_sections.specs.Typed.{switches_in}
 use Rattle.mpf_sections.specs.TypedCoils.{coils_in, flippers_in, autofires_in}
@@ -17,7 +16,7 @@ coil_called machine name = fold (latest_coil name) None (flat_map coils_in machi
 -- in place of a coil where there is none, with numbers in their ranges: then there is no plan
 abbrev pub no_coil : Coil
 no_coil = record {
-  name = written_at 0 [];
+  name = record { line = 0; text = [] };
   pulse_ms = 1;
   max_pulse_ms = 1;
   pulse_power = 0;

@@ -3,6 +3,7 @@ use Rattle.std.specs.Prelude.{◌≡◌, ℕ, suc, ◌<◌, ◌≤◌, ◌==◌,
 use Rattle.std.specs.List.{All, flat_map}
 use Rattle.mpf_sections.specs.Named.{IsName}
 use Rattle.mpf_sections.specs.Rows.{SectionRows}
+use Rattle.mpf_sections.specs.Short.{IsPulseInRange, IsPowerInRange}
 use Rattle.mpf_sections.specs.TypedCoils.{coils_in}
 use Rattle.plan_contributions.specs.declared.contribution.Aim.{Aim}
 use Rattle.plan_contributions.specs.declared.contribution.Aim.TheVariants.{Run, Start, Stop, Do}
@@ -71,8 +72,8 @@ pub record AreLimits (limits : CoilLimits) : Type 0 where
 
 -- the same of what is done with a coil
 abbrev pub IsDeedInRange : Deed → Type 0
-IsDeedInRange (pulse ms power) = (1 ≤ ms) × (ms ≤ 5000) × (power ≤ 1000)
-IsDeedInRange (enable power) = power ≤ 1000
+IsDeedInRange (pulse ms power) = IsPulseInRange ms × IsPowerInRange power
+IsDeedInRange (enable power) = IsPowerInRange power
 IsDeedInRange disable = Unit {0}
 
 abbrev pub IsEffectInRange : Effect → Type 0

@@ -174,11 +174,11 @@ fn collect_machine_entry<'a>(
 ) -> Result<(), AllocError>
     ensures { OnOk result (contributions_view contributions.new.items ≡ contributions_view contributions.old.items ++ machine_entry_contributions definitions.now section.now (entry_view entry.now)) }
 {
-    if section == SWITCHES_NAME {
-        return collect_switch(contributions, definitions, as_switch(entry));
-    }
     if section == COILS_NAME {
         return collect_coil(contributions, as_coil(entry));
+    }
+    if section == SWITCHES_NAME {
+        return collect_switch(contributions, definitions, as_switch(entry));
     }
     if section == FLIPPERS_NAME {
         return collect_flipper(contributions, definitions, as_flipper(entry));
