@@ -1,5 +1,4 @@
 pub mod DeviceParts
-pub mod FoundNames
 pub mod Placed
 pub mod RowFacts
 pub mod RowEffects

@@ -23,7 +23,7 @@ use Rattle.plan_tables.specs.declared.devices.Act.{Act}
 use Rattle.plan_tables.specs.declared.table.Table.{Table}
 use Rattle.plan_tables.specs.declared.table.Table.TheVariants.{Switches}
 pub use Rattle.plan_contributions.specs.DeviceEntries.{texts, Effect, posts, works, Device, device_of}
-use Rattle.plan_contributions.specs.Definitions.{makes_quick}
+use Rattle.machine_definitions.specs.Definitions.{makes_quick}
 use Rattle.plan_contributions.specs.CoilEntries.{limits_of_coil, item_effect, flipper_device, autofire_device}
 use Rattle.mpf_sections.specs.Rows.{Coil, CoilPlayer}
 use Rattle.mpf_sections.specs.TypedCoils.{coils_name, coil_player_name, flippers_name, autofire_coils_name, coil_of, coil_player_of, flipper_of, autofire_of}

@@ -9,7 +9,7 @@ ghost use Rattle.plan_contributions.specs.View.{contributions_view, row_view, ro
 use crate::collect_coils::{collect_autofire, collect_coil, collect_coil_player, collect_flipper};
 use crate::collect_devices::collect_device;
 use crate::contribution::{Aim, Contribution, Effect, Parts, Place, whole};
-use crate::definitions::Definitions;
+use machine_definitions::Definitions;
 use mpf_config::config::Contact as WrittenContact;
 use mpf_config::{
     AUTOFIRE_COILS_NAME, COIL_PLAYER_NAME, COILS_NAME, Config, Content, Debounce,

@@ -11,7 +11,7 @@ ghost use Rattle.plan_contributions.specs.View.{deed_view, defaults_view, contri
 
 use crate::collect_devices::collect_acts;
 use crate::contribution::{Aim, Contribution, Deed, Effect, Place};
-use crate::definitions::Definitions;
+use machine_definitions::Definitions;
 use mpf_config::{
     Autofire, Coil, CoilAction, CoilItem, CoilPlayer, Flipper, Keyed, NameAt, as_coil_item,
 };
