@@ -68,7 +68,8 @@ impl Coil {
     }
 
     fn max_hold_power(&self) -> u32 {
-        if self.allow_enable { FULL } else { self.hold_power.unwrap_or(0) }
+        let most = if self.allow_enable { FULL } else { 0 };
+        most.max(self.hold_power.unwrap_or(0))
     }
 
     fn default_pulse(&self) -> Command {
