@@ -5,5 +5,6 @@ pub mod RowEffects
 pub mod Silent
 pub mod Unnamed
 pub mod CoilsGiven
+pub mod SwitchesGiven
 pub mod ModeNames
 pub mod EventNames
