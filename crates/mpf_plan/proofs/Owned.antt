@@ -15,7 +15,7 @@ use Rattle.plan_tables.specs.declared.entries.Target.{Target}
 use Rattle.plan_tables.specs.declared.entries.Target.TheVariants.{Run, Start, Stop, Act}
 use Rattle.plan_tables.specs.declared.table.Table.TheVariants.{Events}
 use Rattle.plan_tables.specs.PlanView.{PlanView, no_mode, no_row}
-use Rattle.plan_contributions.specs.Contributions.{Contribution, gives, reads, active, inactive, mode, mode_event, mode_event_name, binds, post, device, post_in, mentions}
+use Rattle.plan_contributions.specs.Contributions.{Contribution, gives, reads, active, inactive, mode, mode_event, mode_event_name, binds, does, device, does_in, listens, mentions, coil}
 use Rattle.mpf_plan.specs.Uses.{Names, number_among}
 use Rattle.mpf_plan.specs.PlanOf.{DraftView, event_of, with_event_in, last_mode, last_row, owner_at, target_at, next_binding, next_row, with_contribution, blank}
 use Rattle.mpf_plan.proofs.Drafted.{given_plan}
@@ -82,15 +82,17 @@ module _ (names : Names) (d : DraftView) (o : Option Place) (own : IsOwn o d.pla
     bindings = All-push (IsOwnBinding d.plan.rows) d.plan.bindings (next_binding d.plan (event_of (names Events) n) place aim) own.bindings (own_aim place aim is);
     last = own.last;
   }
-  own_one (post n) is = record { bindings = own.bindings; last = own.last }
+  own_one (does e) is = record { bindings = own.bindings; last = own.last }
   own_one (device place settings) is =
       let row = next_row d.plan place settings in
       record {
         bindings = All-weaker (IsOwnBinding d.plan.rows) (IsOwnBinding (d.plan.rows ++ row ∷ [])) (λ b h. own_target d.plan.rows row b.owner b.target h) d.plan.bindings own.bindings;
         last = own_device place row refl;
       }
-  own_one (post_in k n) is = record { bindings = own.bindings; last = own.last }
+  own_one (does_in k e) is = record { bindings = own.bindings; last = own.last }
+  own_one (listens k n) is = record { bindings = own.bindings; last = own.last }
   own_one (mentions n) is = own
+  own_one (coil n limits) is = record { bindings = own.bindings; last = own.last }
 
 module _ (names : Names) where
   pub own_blank : IsOwn None (blank names).plan
