@@ -13,7 +13,7 @@ use Rattle.mpf_plan.specs.Uses.{Names, names_from, number_among}
 use Rattle.plan_contributions.specs.UsedNames.{used, uses, name_in_table}
 use Rattle.mpf_plan.proofs.Lacking.{any_first}
 
-place_within : {X : Type 0} (p : X → Bool) (xs : List X) → list_any p xs ≡ true → position_or_len p xs < length xs
+pub place_within : {X : Type 0} (p : X → Bool) (xs : List X) → list_any p xs ≡ true → position_or_len p xs < length xs
 place_within p [] e = absurd (true≢false (sym e))
 place_within p (x ∷ xs) e = by (p x) (place_within p xs) e
   where

@@ -4,6 +4,7 @@ use Rattle.std.specs.List.{sum_by}
 use Rattle.std.proofs.Math.Seq.{map-set_same}
 use Rattle.std.proofs.lemmas.List.{length_push, length-set, length-map, length-append, length-replicate}
 use Rattle.std.proofs.lemmas.List.Sums.{sum_by-cons}
+use Rattle.mpf_sections.specs.Rows.{SectionRows}
 use Rattle.plan_contributions.specs.declared.collect.Row as rows
 use Rattle.plan_contributions.specs.declared.contribution.Aim.{Aim}
 use Rattle.plan_contributions.specs.declared.contribution.Aim.TheVariants.{Run}
@@ -27,12 +28,13 @@ use Rattle.plan_tables.specs.PlanView.{PlanSwitch, no_switch, PlanCoil, no_coil,
 use Rattle.plan_tables.specs.Limits.{entry_count, entry_names}
 use Rattle.plan_contributions.specs.Contributions.{Contribution, gives, reads, active, inactive, mode, mode_event, mode_event_name, binds, does, device, does_in, listens, mentions, coil, row_contributions, given_by}
 use Rattle.mpf_plan.specs.Uses.{Names, names_from, number_among}
-use Rattle.mpf_plan.specs.PlanOf.{DraftView, event_of, last_switch, with_given, new_mode, with_event_in, next_binding, lists_for, with_binding, with_list_for, with_one_more, next_row, next_list, with_device, first_of_last, action_of, heard_by, next_listener, with_listener, limited_to, with_coil, with_contribution, named_switch, named_coil, blank, drafted, plan_from}
+use Rattle.mpf_plan.specs.PlanOf.{DraftView, event_of, action_of, last_switch, with_given, new_mode, with_event_in, next_binding, lists_for, with_binding, with_list_for, with_one_more, next_row, next_list, with_device, next_listener, heard_by, with_listener, first_of_last, limited_to, with_coil, with_contribution, named_switch, named_coil, blank, drafted, plan_from}
 use Rattle.plan_tables.specs.Inside.{name_sets_view, mode_entry_view}
-use Rattle.mpf_plan.specs.Inside.{draft_view}
+use Rattle.mpf_plan.specs.Inside.{limited_coils, draft_view}
 use Rattle.plan_contributions.specs.View.{contribution_view, contributions_view, row_view, row_list_view}
 use Rattle.mpf_plan.specs.Numbering.{bindings_given, binding_count, rows_given, row_count, modes_given, mode_count}
 use Rattle.mpf_plan.proofs.Counts.{named_of, count_of}
+use Rattle.mpf_plan.proofs.Steps.{length-limited}
 use Rattle.mpf_plan.proofs.Taken.{part_count, part_rows, part_modes}
 
 -- ---- what one contribution changes
@@ -92,7 +94,6 @@ switch_counts change same d = record {
   defined = refl;
 }
 
--- a listener more of a switch
 listener_counts : (n : ℕ) (l : Listener) (d : DraftView) → Counts 0 0 d (with_listener n l d)
 listener_counts n l d = record {
   bindings = omega arith;
@@ -109,7 +110,6 @@ coils_names : (plan : PlanView) (coils : List PlanCoil) → map (λ (c : PlanCoi
 coils_names plan coils same Coils = same
 coils_names plan coils same _ = refl
 
--- the limits of a coil
 coil_counts : (n : ℕ) (limits : CoilLimits) (d : DraftView) → Counts 0 0 d (with_coil n limits d)
 coil_counts n limits d = record {
   bindings = omega arith;
@@ -205,8 +205,8 @@ module _ (names : Names) where
   counts_one d (device place settings) = device_counts place settings d
   counts_one d (does_in k e) = action_counts ((first_of_last d.plan.row_lists).0 + k) (action_of names e) d
   counts_one d (listens k n) = listener_counts (number_among (names Switches) n) (next_listener d.plan k) d
-  counts_one d (mentions n) = modes_counts d.plan.modes d
   counts_one d (coil n limits) = coil_counts (number_among (names Coils) n) limits d
+  counts_one d (mentions n) = modes_counts d.plan.modes d
 
   counts_then : (n m r q : ℕ) (a b c : DraftView) → Counts n r a b → Counts m q b c → Counts (n + m) (r + q) a c
   counts_then n m r q a b c first then_ = record {
@@ -324,25 +324,35 @@ module _ (names : NameSets) (old new : Draft) (cs : List contributions.Contribut
       let count = modes_fold (name_sets_view names) (draft_view names old) (contributions_view (take i cs)) in
       omega (arith, room, ap (λ d. length d.plan.modes) is, count, taken_few modes_given cs i, length-map new.modes.items mode_entry_view, length-map old.modes.items mode_entry_view)
 
-module _ (names : NameSets) (d : Draft) (rs : List rows.Row) (i : ℕ) (r : rows.Row) (now : List contributions.Contribution) (within : i < length rs) (here : contributions_view now ≡ row_contributions (row_view (get_or rs i r)))
-    (is : draft_view names d ≡ drafted (name_sets_view names) (given_by (row_list_view (take i rs)))) where
+module _ (machine : List SectionRows) (names : NameSets) (d : Draft) (rs : List rows.Row) (i : ℕ) (r : rows.Row) (now : List contributions.Contribution) (within : i < length rs) (here : contributions_view now ≡ row_contributions machine (row_view (get_or rs i r)))
+    (is : draft_view names d ≡ drafted (name_sets_view names) (given_by machine (row_list_view (take i rs)))) where
   -- nor than the rows give
-  pub row_fits : binding_count (given_by (row_list_view rs)) ≤ 16384 → row_count (given_by (row_list_view rs)) ≤ 1024 → length d.lists.items + binding_count (contributions_view now) + 5 * row_count (contributions_view now) ≤ 21504
+  pub row_fits : binding_count (given_by machine (row_list_view rs)) ≤ 16384 → row_count (given_by machine (row_list_view rs)) ≤ 1024 → length d.lists.items + binding_count (contributions_view now) + 5 * row_count (contributions_view now) ≤ 21504
   row_fits room few =
-      let counts = counts_drafted (name_sets_view names) (given_by (row_list_view (take i rs))) in
-      omega (arith, room, few, part_count rs i r within, part_rows rs i r within, ap binding_count here, ap row_count here, ap (λ x. length x.plan.lists) is, counts.lists, length-map d.lists.items (λ v. v.items))
+      let counts = counts_drafted (name_sets_view names) (given_by machine (row_list_view (take i rs))) in
+      omega (arith, room, few, part_count machine rs i r within, part_rows machine rs i r within, ap binding_count here, ap row_count here, ap (λ x. length x.plan.lists) is, counts.lists, length-map d.lists.items (λ v. v.items))
 
-  pub row_rows_fit : row_count (given_by (row_list_view rs)) ≤ 1024 → length d.rows.items + row_count (contributions_view now) ≤ 1024
+  pub row_rows_fit : row_count (given_by machine (row_list_view rs)) ≤ 1024 → length d.rows.items + row_count (contributions_view now) ≤ 1024
   row_rows_fit few =
-      let counts = counts_drafted (name_sets_view names) (given_by (row_list_view (take i rs))) in
-      omega (arith, few, part_rows rs i r within, ap row_count here, ap (λ x. length x.plan.rows) is, counts.rows)
+      let counts = counts_drafted (name_sets_view names) (given_by machine (row_list_view (take i rs))) in
+      omega (arith, few, part_rows machine rs i r within, ap row_count here, ap (λ x. length x.plan.rows) is, counts.rows)
 
-  pub row_modes_fit : mode_count (given_by (row_list_view rs)) ≤ 64 → length d.modes.items + mode_count (contributions_view now) ≤ 64
+  pub row_modes_fit : mode_count (given_by machine (row_list_view rs)) ≤ 64 → length d.modes.items + mode_count (contributions_view now) ≤ 64
   row_modes_fit room =
-      let count = modes_fold (name_sets_view names) (blank (name_sets_view names)) (given_by (row_list_view (take i rs))) in
-      omega (arith, room, part_modes rs i r within, ap mode_count here, ap (λ x. length x.plan.modes) is, count, length-map d.modes.items mode_entry_view)
+      let count = modes_fold (name_sets_view names) (blank (name_sets_view names)) (given_by machine (row_list_view (take i rs))) in
+      omega (arith, room, part_modes machine rs i r within, ap mode_count here, ap (λ x. length x.plan.modes) is, count, length-map d.modes.items mode_entry_view)
 
 -- each name of a switch has an entry
 pub entries_count : (names : NameSets) (d : Draft) (cs : List Contribution) → draft_view names d ≡ drafted (name_sets_view names) cs → length d.switches.items ≡ length (name_sets_view names Switches)
 entries_count names d cs is =
     sym d.same_count ∙ ap (λ x. length x.defined) is ∙ (counts_drafted (name_sets_view names) cs).defined ∙ length-map (name_sets_view names Switches) (λ n. false)
+
+-- and each name of a coil
+pub coils_count : (names : NameSets) (d : Draft) (cs : List Contribution) → draft_view names d ≡ drafted (name_sets_view names) cs → length d.coils.items ≡ length (name_sets_view names Coils)
+coils_count names d cs is =
+    let ns = name_sets_view names Coils in
+    let named : List PlanCoil → List (List ℕ) = λ coils. map (λ (c : PlanCoil). c.name) coils in
+    sym (length-limited ns d.coils.items)
+    ∙ sym (length-map (limited_coils ns d.coils.items) (λ (c : PlanCoil). c.name))
+    ∙ ap (λ x. length (named x.plan.coils)) is
+    ∙ ap length ((counts_drafted (name_sets_view names) cs).names Coils ∙ blank_coils ns)

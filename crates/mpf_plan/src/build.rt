@@ -10,8 +10,7 @@ use crate::fault::PlanFault;
 use crate::fill::fill;
 use crate::numbering::number;
 use mpf_config::config::Config;
-use machine_definitions::Definitions;
-use plan_contributions::rows_of;
+use plan_contributions::{Definitions, rows_of};
 use plan_tables::tables::{Plan, Tables};
 use std::alloc::Global;
 

@@ -15,9 +15,8 @@ ghost use Rattle.plan_tables.specs.NamesKept.{names_of};
 
 use crate::draft::Draft;
 use crate::numbering::number_among;
-use machine_definitions::Definitions;
 use plan_contributions::{
-    Aim, Contribution, Deed, Effect, Parts, Place, Row, collect_row, mode_event_name,
+    Aim, Contribution, Deed, Definitions, Effect, Parts, Place, Row, collect_row, mode_event_name,
     whole,
 };
 use plan_tables::devices::{DeviceRow, RowId, Settings};
