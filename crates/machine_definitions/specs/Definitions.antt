@@ -1,0 +1,42 @@
+-- What the entries of the machine text say of others, by name. Here `machine` is the sections of that text.
+use Rattle.std.specs.Prelude.{ℕ, Bool, false, if◌then◌else◌, List, [], ◌++◌, Option, None, Some, fold, map, unwrap_or}
+use Rattle.std.specs.List.{flat_map, list_any}
+use Rattle.std.specs.Str.{bytes_eq}
+use Rattle.mpf_sections.specs.Rows.{Coil, SectionRows}
+use Rattle.mpf_sections.specs.Typed.{switches_in}
+use Rattle.mpf_sections.specs.TypedCoils.{coils_in, flippers_in, autofires_in}
+
+-- the coil of this name, if there is one; of two the later
+abbrev pub latest_coil : List ℕ → Option Coil → Coil → Option Coil
+latest_coil name found c = if bytes_eq name c.name.text then Some c else found
+
+abbrev pub coil_called : List SectionRows → List ℕ → Option Coil
+coil_called machine name = fold (latest_coil name) None (flat_map coils_in machine)
+
+-- in place of a coil where there is none: then there is no plan
+abbrev pub no_coil : Coil
+no_coil = record {
+  name = record { line = 0; text = [] };
+  pulse_ms = 0;
+  max_pulse_ms = 0;
+  pulse_power = 0;
+  max_pulse_power = 0;
+  may_hold = false;
+  hold_power = 0;
+  max_hold_power = 0;
+}
+
+abbrev pub coil_of_name : List SectionRows → List ℕ → Coil
+coil_of_name machine name = unwrap_or (coil_called machine name) no_coil
+
+-- whether an entry defines a switch of this name
+abbrev pub has_switch : List SectionRows → List ℕ → Bool
+has_switch machine name = list_any (λ s. bytes_eq name s.name.text) (flat_map switches_in machine)
+
+-- the switches of the flippers and the autofire coils of a section
+abbrev pub rule_switches : SectionRows → List (List ℕ)
+rule_switches s = map (λ f. f.switch.text) (flippers_in s) ++ map (λ a. a.switch.text) (autofires_in s)
+
+-- whether one of them has this name
+abbrev pub makes_quick : List SectionRows → List ℕ → Bool
+makes_quick machine name = list_any (bytes_eq name) (flat_map rule_switches machine)

@@ -1,0 +1,2 @@
+pub mod Definitions
+pub mod Found

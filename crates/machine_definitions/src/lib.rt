@@ -1,0 +1,8 @@
+//! What the entries of the machine text define, found by name.
+//!
+//! Other entries, of this text and of those of the modes, speak of coils and switches by their names.
+#![tactic(auto)]
+
+pub mod definitions;
+
+pub use definitions::Definitions;
