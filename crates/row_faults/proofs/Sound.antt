@@ -20,7 +20,7 @@ use Rattle.row_faults.specs.declared.fault.RowFaultKind.TheVariants.{Name, Pulse
 use Rattle.row_faults.specs.Reserved.{events_of_modes, mode_names, is_reserved_by, posts_in, posts_of, reserved_among}
 use Rattle.row_faults.specs.CoilFaults.{fault_at, fault_if, is_above, is_enable, coil_name_faults, switch_name_faults, coil_faults, item_faults_by, item_faults, coil_player_faults, hold_faults_by, hold_faults, flipper_faults, autofire_faults}
 use Rattle.row_faults.specs.RowFaults.{fault_line, fault_number, ordered_by, reserved_fault, starts_at_end, timer_fault, coil_faults_in, section_faults, text_faults, mode_faults, faults_by, row_faults}
-use Rattle.row_faults.specs.Sound.{IsPulseWithin, IsHoldWithin, IsCoilSound, IsCoilSuch, IsActionWithin, IsItemSound, IsCoilPlayerSound, IsFlipperSound, IsAutofireSound, IsSectionSound, IsSound}
+use Rattle.row_faults.specs.Sound.{IsHoldWithin, IsCoilSound, IsCoilSuch, IsActionWithin, IsItemSound, IsCoilPlayerSound, IsFlipperSound, IsAutofireSound, IsSectionSound, IsSound}
 use Rattle.row_faults.proofs.None.{filled, map-none, append-none, flat_map-none, filter-none, ordered-none, once-none, All-each}
 
 -- ---- tests that find nothing

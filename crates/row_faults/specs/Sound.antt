@@ -1,12 +1,12 @@
 -- What holds of rows without faults: nothing that they say of a coil goes past its limits, and the coils and switches of
 -- which they speak are defined. Here `machine` is the sections of the machine text.
-use Rattle.std.specs.Prelude.{◌≡◌, ℕ, ◌≤◌, Bool, true, false, Option, Some, IfSome, List, unwrap_or}
+use Rattle.std.specs.Prelude.{◌≡◌, ℕ, ◌≤◌, true, false, Some, IfSome, List, unwrap_or}
 use Rattle.std.specs.List.{All}
 use Rattle.mpf_sections.specs.declared.words.CoilAction.{CoilAction}
 use Rattle.mpf_sections.specs.declared.words.CoilAction.TheVariants.{Pulse, Enable, Disable}
-use Rattle.mpf_sections.specs.Rows.{Written, Coil, CoilItem, CoilPlayer, Flipper, Autofire, SectionRows}
+use Rattle.mpf_sections.specs.Rows.{Coil, CoilItem, CoilPlayer, Flipper, Autofire, SectionRows}
 use Rattle.mpf_sections.specs.TypedCoils.{coils_in, coil_players_in, flippers_in, autofires_in}
-use Rattle.mpf_config.specs.Rows.{ModeRows, Rows}
+use Rattle.mpf_config.specs.Rows.{Rows}
 use Rattle.machine_definitions.specs.Definitions.{coil_called, has_switch}
 use Rattle.row_faults.specs.Reserved.{is_reserved, posts_of}
 

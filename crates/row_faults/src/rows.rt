@@ -1,11 +1,12 @@
 //! The faults of all rows.
 
-ghost use Rattle.std.specs.Prelude.{◌≡◌, ◌++◌, map, IfOk, OnOk};
+ghost use Rattle.std.specs.Prelude.{◌≡◌, [], ◌++◌, map, IfOk, OnOk};
 ghost use Rattle.std.specs.List.{filter, flat_map};
 ghost use Rattle.mpf_sections.specs.Typed.{timer_of};
 ghost use Rattle.mpf_sections.specs.View.{entry_view, section_view, timer_view};
 ghost use Rattle.mpf_config.specs.View.{mode_view, rows_view};
 ghost use Rattle.row_faults.specs.RowFaults.{reserved_fault, has_reached, starts_at_end, timer_fault, section_faults, ordered_by, fault_line, fault_number, text_faults, mode_faults, faults_by, row_faults};
+ghost use Rattle.row_faults.specs.Sound.{IsSound};
 ghost use Rattle.row_faults.specs.View.{keys_view, written_view, row_fault_view, row_faults_view};
 
 use crate::adding::{at, fault_at};
@@ -21,14 +22,16 @@ use mpf_config::{
 use std::alloc::{AllocError, Global};
 
 /// The faults of the rows of a configuration, in the order in which a report lists them: by text,
-/// line and number. Those that print the same line are listed once.
+/// line and number. Those that print the same line are listed once. Rows without any are sound: no
+/// coil is sent what goes past its limits.
 ///
 /// # Errors
 ///
 /// Memory ran out.
 #[tactic(auto, unfolding(crate::specs::RowFaults::row_faults))]
 pub fn faults_of_rows(alloc: Global, config: &Config) -> Result<Vec<RowFault>, AllocError>
-    ensures { IfOk result (λ faults. row_faults_view faults.items ≡ row_faults (rows_view config.now)) }
+    ensures exact { IfOk result (λ faults. row_faults_view faults.items ≡ row_faults (rows_view config.now)) }
+    ensures sound { IfOk result (λ faults. faults.items ≡ [] → IsSound (rows_view config.now)) }
 {
     let mut modes = events_of_modes(alloc, listed_modes(&config.machine.sections))?;
     add_texts(alloc, &mut modes, &config.modes)?;
