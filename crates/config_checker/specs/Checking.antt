@@ -10,7 +10,7 @@ use Rattle.cascade_rank.specs.Finding.{RankView, found_at, verified_at}
 use Rattle.cascade_rank.specs.Finding as ranks
 use Rattle.written_machine.specs.CheckedView.{CheckedView}
 pub use Rattle.config_checker.specs.FaultView.{CertificateFaultView, bad_line, other_events, short, other_bound, FaultView, row, limit, cycle, bound, certificate}
-use Rattle.config_checker.specs.RowFaults.{row_faults}
+use Rattle.row_faults.specs.RowFaults.{row_faults}
 use Rattle.config_checker.specs.CertificateText.{Certificate}
 use Rattle.config_checker.specs.CertificateOf.{certificate_at}
 
@@ -58,9 +58,9 @@ certified_plan text plan = certified plan (certificate_at text)
 
 -- ---- rows
 
--- the faults of the rows themselves, in the order in which a report lists them: the reserved events that they post
+-- the faults of the rows themselves, in the order in which a report lists them
 abbrev pub faults_of_rows : Rows → List FaultView
-faults_of_rows rows = row_faults rows
+faults_of_rows rows = map row (row_faults rows)
 
 -- A report lists them all. Only where there are none, it says what is wrong with the plan.
 abbrev pub faults_first : {X : Type 0} → List FaultView → Result X (List FaultView) → Result X (List FaultView)
@@ -72,7 +72,7 @@ abbrev pub reported_alone : {X Y : Type 0} → Result X Y → Result X (List Y)
 reported_alone (Ok x) = Ok x
 reported_alone (Err y) = Err (y ∷ [])
 
--- A table above its limit is reported before a fault of the plan. No row lacks a name yet.
+-- A table above its limit is reported before a fault of the plan. Rows without faults lack no name.
 abbrev pub checked : (PlanView → Result CheckedView FaultView) → Result PlanView PlanRefusal → Result CheckedView (List FaultView)
 checked judge (Ok plan) = reported_alone (judge plan)
 checked judge (Err no_such_name) = Err []

@@ -1,7 +1,7 @@
 -- Faults, apart from where they lie in memory.
 use Rattle.std.specs.Prelude.{ℕ, List}
 use Rattle.plan_tables.specs.declared.table.Table.{Table}
-use Rattle.config_checker.specs.declared.report.RowFaultKind.{RowFaultKind}
+use Rattle.row_faults.specs.FaultView.{RowFaultView}
 
 -- what is wrong with a certificate
 pub data CertificateFaultView : Type 0 where
@@ -16,8 +16,8 @@ pub data CertificateFaultView : Type 0 where
 
 -- a fault
 pub data FaultView : Type 0 where
-  -- what is wrong with the rows of a text: of which kind it is, and the line and the name that are at fault
-  row : RowFaultKind → (text : List ℕ) (line : ℕ) (name : List ℕ) → FaultView
+  -- what is wrong with the rows of a text
+  row : RowFaultView → FaultView
   limit : Table → FaultView
   cycle : List (List ℕ) → FaultView
   bound : FaultView

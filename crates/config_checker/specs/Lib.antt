@@ -2,8 +2,6 @@ pub mod CertificateText
 pub mod CertificateOf
 pub mod CertificateRead
 pub mod FaultView
-pub mod Reserved
-pub mod RowFaults
 pub mod Checking
 pub mod View
 pub mod Refused

@@ -22,7 +22,7 @@ pub record IsCycleOf (plan : PlanView) (names : List (List ℕ)) : Type 0 where
 
 -- the table is the first that is above its limit
 abbrev pub IsLimitFault : Rows → FaultView → Type 0
-IsLimitFault rows (row kind text line name) = ⊥
+IsLimitFault rows (row f) = ⊥
 IsLimitFault rows (limit t) = IsExceeded rows t
 IsLimitFault rows (cycle names) = ⊥
 IsLimitFault rows bound = ⊥
@@ -33,7 +33,7 @@ IsLimitFault rows (certificate fault) = ⊥
 -- The fault says what is wrong where no row has a fault: a table of the plan is above its limit, its events lead to each other,
 -- or its least weights or their bound are above the limit.
 abbrev pub IsFaultOf : Rows → FaultView → Type 0
-IsFaultOf rows (row kind text line name) = ⊥
+IsFaultOf rows (row f) = ⊥
 IsFaultOf rows (limit t) = IsExceeded rows t
 IsFaultOf rows (cycle names) = IsCycleOf (plan_of rows) names
 IsFaultOf rows bound = IsUnfound (plan_of rows) ranks.bound_too_large
@@ -84,7 +84,7 @@ IsCertificateFault plan text (other_bound right) = HasOtherBound plan text right
 
 -- the fault says what is wrong with the rows or with the certificate
 abbrev pub IsFaultWith : Rows → List ℕ → FaultView → Type 0
-IsFaultWith rows text (row kind of line name) = ⊥
+IsFaultWith rows text (row f) = ⊥
 IsFaultWith rows text (limit t) = IsExceeded rows t
 IsFaultWith rows text (cycle names) = ⊥
 IsFaultWith rows text bound = HasTooMuch (plan_of rows) text

@@ -4,9 +4,7 @@ use Rattle.std.specs.List.{flat_map}
 use Rattle.std.specs.Fmt.{decimal}
 use Rattle.plan_tables.specs.Limits.{table_name}
 use Rattle.mpf_config.specs.FaultLine.{spaced}
-use Rattle.mpf_config.specs.Escaped.{escaped}
-use Rattle.config_checker.specs.declared.report.RowFaultKind.{RowFaultKind}
-use Rattle.config_checker.specs.declared.report.RowFaultKind.TheVariants.{Name, TimerAtEnd}
+use Rattle.row_faults.specs.FaultText.{row_fault_line}
 use Rattle.config_checker.specs.FaultView.{CertificateFaultView, bad_line, other_events, short, other_bound, FaultView, row, limit, cycle, bound, certificate}
 
 -- `Line N`, `Events`, `Short EVENT NEEDED` or `Bound N`
@@ -16,26 +14,9 @@ certificate_fault_text other_events = codes "Events"
 certificate_fault_text (short name needed) = codes "Short " ++ name ++ codes " " ++ decimal needed
 certificate_fault_text (other_bound right) = codes "Bound " ++ decimal right
 
--- the number and the name of a fault of a row
-abbrev pub row_fault_number : RowFaultKind → ℕ
-row_fault_number Name = 1
-row_fault_number TimerAtEnd = 5
-
-abbrev pub row_fault_name : RowFaultKind → List ℕ
-row_fault_name Name = codes "Name"
-row_fault_name TimerAtEnd = codes "TimerAtEnd"
-
--- `fault NUMBER NAME`
-abbrev pub row_title : RowFaultKind → List ℕ
-row_title kind = codes "fault " ++ decimal (row_fault_number kind) ++ spaced (row_fault_name kind)
-
--- ` TEXT LINE NAME`, and LF
-abbrev pub row_place : List ℕ → ℕ → List ℕ → List ℕ
-row_place text line name = spaced (escaped text) ++ spaced (decimal line) ++ spaced name ++ 10 ∷ []
-
 -- the line of a fault of a row, `fault 7 Limit TABLE`, `fault 8 Cycle E1 E2 ..`, `fault 9 Bound` or `fault 10 Certificate ..`, and LF
 abbrev pub report_line : FaultView → List ℕ
-report_line (row kind text line name) = row_title kind ++ row_place text line name
+report_line (row f) = row_fault_line f
 report_line (limit t) = codes "fault 7 Limit " ++ table_name t ++ 10 ∷ []
 report_line (cycle names) = codes "fault 8 Cycle" ++ flat_map spaced names ++ 10 ∷ []
 report_line bound = codes "fault 9 Bound" ++ 10 ∷ []

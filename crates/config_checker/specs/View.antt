@@ -1,12 +1,7 @@
 -- What contracts see of an answer.
 use Rattle.std.specs.Prelude.{◌≡◌, ◌<◌, ℕ, List, [], ◌∷◌, length, map, Result, Ok, Err}
 use Rattle.std.specs.List.{All}
-use Rattle.std.specs.BTreeSet.{BTreeSet}
-use Rattle.std.specs.Borrow.{Bor}
-use Rattle.std.specs.Global.{Vec}
-use Rattle.section_tables.specs.declared.rows.Name.{Name}
-use Rattle.mpf_config.specs.Rows.{Written}
-use Rattle.mpf_config.specs.View.{name_view}
+use Rattle.row_faults.specs.View.{row_fault_view}
 use Rattle.plan_tables.specs.PlanView.{PlanView}
 use Rattle.cascade_rank.specs.Finding.{RankView}
 use Rattle.cascade_rank.specs.Finding as ranks
@@ -26,7 +21,7 @@ certificate_fault_view (certificates.Short event needed) = short event.items nee
 certificate_fault_view (certificates.Bound stated) = other_bound stated
 
 abbrev pub fault_view : Fault → FaultView
-fault_view (faults.Row f) = row f.kind f.text.items f.line f.name.items
+fault_view (faults.Row f) = row (row_fault_view f)
 fault_view (faults.Limit t) = limit t
 fault_view (faults.Cycle names) = cycle (map (λ v. v.items) names.items)
 fault_view faults.Bound = bound
@@ -49,14 +44,6 @@ HasEvents plan (ranks.cycle events) = All (λ e. e.0 < length plan.events) event
 HasEvents plan ranks.bound_too_large = Unit {0}
 HasEvents plan (ranks.short event needed) = event.0 < length plan.events
 HasEvents plan ranks.wrong_events = Unit {0}
-
--- the keys of a set of names, or of lines
-abbrev pub keys_view : BTreeSet (Vec ℕ) → List (List ℕ)
-keys_view set = map (λ key. key.items) set.keys
-
--- the names that are met in a text
-abbrev pub written_view : List (Bor Name) → List Written
-written_view names = map (λ n. name_view n.now) names
 
 abbrev pub faults_view : List Fault → List FaultView
 faults_view faults = map fault_view faults

@@ -7,7 +7,9 @@ ghost use Rattle.cascade_rank.specs.Weights.{IsLeastFitting};
 ghost use Rattle.written_machine.specs.Accepted.{IsAccepted};
 ghost use Rattle.written_machine.specs.GoodRun.{IsGood};
 ghost use Rattle.config_checker.specs.CertificateText.{certificate_text};
-ghost use Rattle.config_checker.specs.View.{GivesChecked};
+ghost use Rattle.row_faults.specs.View.{row_faults_view};
+ghost use Rattle.config_checker.specs.FaultView.{row};
+ghost use Rattle.config_checker.specs.View.{GivesChecked, faults_view};
 ghost use Rattle.config_checker.specs.Checking.{same_names, faults_of_rows, checked_at, checked_with_at};
 ghost use Rattle.config_checker.specs.Refused.{IsLimitFault, IsFaultOf, IsFaultWith, Reports, ReportsOne, ReportsOwn};
 
@@ -15,23 +17,22 @@ use crate::certificate_reader::{CertificateLines, ReadFault, read_certificate};
 use crate::checked::Checked;
 use crate::report::{CertificateFault, Fault, Report};
 use crate::reporting::{named_fault, report_of};
-use crate::row_faults::faults_of_rows;
 use cascade_rank::{Bound, Weights, find, verify};
 use mpf_config::config::Config;
 use mpf_plan::PlanFault;
 use plan_tables::{EventId, Plan};
-use std::alloc::Global;
+use row_faults::{RowFault, faults_of_rows};
+use std::alloc::{AllocError, Global};
 
 /// Checks a configuration. What it accepts has a plan, the least weights that fit it, and their
 /// bound; and every run of the plan is good.
 ///
 /// # Errors
 ///
-/// Where rows have faults of their own, the report lists them all:
-///
-/// - `Reserved`: a reserved event is posted. They come by text, first the machine text and then the
-///   modes' as listed; in a text by line, and in a line as written. Those that print the same line
-///   are listed once.
+/// Where rows have faults of their own, the report lists them all, each as a `Row` (see
+/// [`RowFaultKind`](row_faults::RowFaultKind)). They come by text, first the machine text and then
+/// the modes' as listed; in a text by line, on a line by number, and then as written. Those that
+/// print the same line are listed once.
 ///
 /// Otherwise it lists one fault, the first of these:
 ///
@@ -65,11 +66,10 @@ pub fn check(alloc: Global, config: &Config) -> Result<Checked, Report>
 ///
 /// # Errors
 ///
-/// Where rows have faults of their own, the report lists them all:
-///
-/// - `Reserved`: a reserved event is posted. They come by text, first the machine text and then the
-///   modes' as listed; in a text by line, and in a line as written. Those that print the same line
-///   are listed once.
+/// Where rows have faults of their own, the report lists them all, each as a `Row` (see
+/// [`RowFaultKind`](row_faults::RowFaultKind)). They come by text, first the machine text and then
+/// the modes' as listed; in a text by line, on a line by number, and then as written. Those that
+/// print the same line are listed once.
 ///
 /// Otherwise it lists one fault, the first of these:
 ///
@@ -122,11 +122,25 @@ fn refuse_own(alloc: Global, config: &Config) -> Result<(), Report>
     if own.is_empty() {
         return Ok(());
     }
-    Err(Report::Faults(own))
+    let faults = faults_of(alloc, own)?;
+    Err(Report::Faults(faults))
 }
 
-/// The plan of a configuration, or the report of the table that is above its limit.
+/// Faults of rows as faults of a configuration.
+fn faults_of(alloc: Global, own: Vec<RowFault>) -> Result<Vec<Fault>, AllocError>
+    ensures { IfOk result (λ faults. faults_view faults.items ≡ map row (row_faults_view own.items)) }
+{
+    let mut faults = Vec::new(alloc);
+    for fault in own {
+        faults.push(Fault::Row(fault))?;
+    }
+    Ok(faults)
+}
+
+/// The plan of a configuration whose rows have no faults of their own, or the report of the table
+/// that is above its limit.
 fn plan_of(alloc: Global, config: &Config) -> Result<Plan, Report>
+    requires { faults_of_rows (rows_view config.now) ≡ [] }
     ensures plan { IfOk result (λ plan. plan_at (rows_view config.now) ≡ Ok plan) }
     ensures limit { IfErr result (λ report. ReportsOne (IsLimitFault (rows_view config.now)) report) }
 {

@@ -9,12 +9,10 @@ pub mod law;
 pub mod report;
 pub mod report_text;
 mod reporting;
-mod reserved;
-mod row_faults;
 
 pub use certificate::write_certificate;
 pub use checked::Checked;
 pub use checker::{check, check_with};
 pub use law::certificate_is_read_again;
-pub use report::{CertificateFault, Fault, Report, RowFault, RowFaultKind};
+pub use report::{CertificateFault, Fault, Report};
 pub use report_text::write_report;

@@ -1,10 +1,9 @@
 //! Why a configuration is refused.
 
-ghost use Rattle.std.specs.Prelude.{◌≡◌};
 ghost use Rattle.config_checker.specs.declared.report.Report.TheVariants.{NoMemory};
-ghost use Rattle.config_checker.specs.ReportText.{row_fault_number, row_fault_name};
 
 use plan_tables::table::Table;
+use row_faults::RowFault;
 use std::alloc::{AllocError, AllocFailed};
 use thiserror::Error;
 
@@ -23,49 +22,6 @@ pub enum CertificateFault {
     /// It states another bound than this one, which its weights have.
     #[error("Bound {0}")]
     Bound(u32),
-}
-
-/// What can be wrong with the rows of a text.
-#[derive(Clone, Copy, Debug, PartialEq, Eq)]
-pub enum RowFaultKind {
-    /// A reserved event is posted: one of a game, or of a mode that the machine text lists.
-    Name,
-    /// The value at which a timer starts has reached or passed its end.
-    TimerAtEnd,
-}
-
-impl RowFaultKind {
-    /// The number with which the fault is printed.
-    pub fn number(self) -> u32
-        ensures { result ≡ row_fault_number self }
-    {
-        match self {
-            RowFaultKind::Name => 1,
-            RowFaultKind::TimerAtEnd => 5,
-        }
-    }
-
-    /// The name with which it is printed.
-    pub fn name(self) -> &'static str
-        ensures { result.now ≡ row_fault_name self }
-    {
-        match self {
-            RowFaultKind::Name => "Name",
-            RowFaultKind::TimerAtEnd => "TimerAtEnd",
-        }
-    }
-}
-
-/// What is wrong with the rows of a text.
-#[derive(Debug, Drop)]
-pub struct RowFault {
-    pub kind: RowFaultKind,
-    /// The name of the text.
-    pub text: Vec<u8>,
-    /// The line of the name that is at fault, counted from 1.
-    pub line: u32,
-    /// The name: that of the event, or of the timer.
-    pub name: Vec<u8>,
 }
 
 /// A fault of a configuration.

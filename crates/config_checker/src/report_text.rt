@@ -3,11 +3,11 @@
 ghost use Rattle.std.specs.Prelude.{◌≡◌, OnOk, map};
 ghost use Rattle.std.specs.Io.KnownBytes.{Appends};
 ghost use Rattle.config_checker.specs.View.{certificate_fault_view, fault_view};
-ghost use Rattle.config_checker.specs.FaultView.{cycle, row};
-ghost use Rattle.config_checker.specs.ReportText.{certificate_fault_text, row_title, row_place, report_line, report_text};
+ghost use Rattle.config_checker.specs.FaultView.{cycle};
+ghost use Rattle.config_checker.specs.ReportText.{certificate_fault_text, report_line, report_text};
 
-use crate::report::{CertificateFault, Fault, RowFault, RowFaultKind};
-use mpf_config::write_escaped;
+use crate::report::{CertificateFault, Fault};
+use row_faults::write_row_fault;
 use std::io::{self, Write};
 
 /// Writes a line for each fault, in order.
@@ -43,31 +43,6 @@ pub(crate) fn write_fault<W: Write>(fault: &Fault, writer: &mut W) -> io::Result
             writer.write_all(b"\n")
         }
     }
-}
-
-fn write_row_fault<W: Write>(fault: &RowFault, writer: &mut W) -> io::Result<()>
-    ensures { OnOk result (Appends (W.contents writer.old) (W.contents writer.new) (report_line (row fault.now.kind fault.now.text.items fault.now.line fault.now.name.items))) }
-{
-    write_title(fault.kind, writer)?;
-    write_place(&fault.text, fault.line, &fault.name, writer)
-}
-
-/// Writes the number and the name of a fault of a row.
-fn write_title<W: Write>(kind: RowFaultKind, writer: &mut W) -> io::Result<()>
-    ensures { OnOk result (Appends (W.contents writer.old) (W.contents writer.new) (row_title kind)) }
-{
-    write!(writer, "fault {} {}", kind.number(), kind.name())
-}
-
-/// Writes where a fault of a row is, and what is at fault.
-fn write_place<W: Write>(text: &[u8], line: u32, name: &[u8], writer: &mut W) -> io::Result<()>
-    ensures { OnOk result (Appends (W.contents writer.old) (W.contents writer.new) (row_place text.now line name.now)) }
-{
-    writer.write_all(b" ")?;
-    write_escaped(text, writer)?;
-    write!(writer, " {line} ")?;
-    writer.write_all(name)?;
-    writer.write_all(b"\n")
 }
 
 fn write_cycle<W: Write>(events: &[Vec<u8>], writer: &mut W) -> io::Result<()>

@@ -1,20 +1,33 @@
 -- What a plan that is being made holds.
+use Rattle.std.specs.Prelude.{ℕ, List, [], ◌∷◌}
 use Rattle.plan_tables.specs.declared.names.NameSets.{NameSets}
-use Rattle.plan_tables.specs.Inside.{tables_view}
+use Rattle.plan_tables.specs.declared.entries.CoilLimits.{CoilLimits}
+use Rattle.plan_tables.specs.declared.table.Table.TheVariants.{Coils}
+use Rattle.plan_tables.specs.PlanView.{PlanCoil}
+use Rattle.plan_tables.specs.Inside.{name_sets_view, tables_view}
 use Rattle.mpf_plan.specs.declared.draft.Draft.{Draft}
 use Rattle.mpf_plan.specs.PlanOf.{DraftView}
 
+-- a coil for each limits, with the name of its place, if there is one
+abbrev pub limited_coils : List (List ℕ) → List CoilLimits → List PlanCoil
+limited_coils names [] = []
+limited_coils [] (l ∷ ls) = record { name = []; limits = l } ∷ limited_coils [] ls
+limited_coils (n ∷ ns) (l ∷ ls) = record { name = n; limits = l } ∷ limited_coils ns ls
+
 abbrev pub draft_view : NameSets → Draft → DraftView
 draft_view names d = record {
-  plan = tables_view (record {
+  plan = record (tables_view (record {
     names = names;
     modes = d.modes;
     switches = d.switches;
+    coils = d.coils;
     lists = d.lists;
     bindings = d.bindings;
     rows = d.rows;
     row_lists = d.row_lists;
-  });
+  })) {
+    coils = limited_coils (name_sets_view names Coils) d.coils.items;
+  };
   defined = d.defined.items;
   last = d.last;
 }

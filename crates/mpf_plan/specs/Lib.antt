@@ -1,5 +1,6 @@
 pub mod Uses
 pub mod PlanOf
+pub mod ByName
 -- scaffolding: what contracts of the functions inside this crate see
 pub mod Inside
 pub mod Numbering

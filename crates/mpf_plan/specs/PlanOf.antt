@@ -3,6 +3,9 @@ use Rattle.std.specs.Prelude.{◌≡◌, ℕ, ◌+◌, ◌-◌, Bool, true, fals
 use Rattle.mpf_config.specs.Rows.{Rows}
 use Rattle.plan_tables.specs.declared.entries.EventId.{EventId}
 use Rattle.plan_tables.specs.declared.entries.SwitchKind.{SwitchKind}
+use Rattle.plan_tables.specs.declared.entries.Listener.{Listener}
+use Rattle.plan_tables.specs.declared.entries.CoilId.{CoilId}
+use Rattle.plan_tables.specs.declared.entries.CoilLimits.{CoilLimits}
 use Rattle.plan_tables.specs.declared.entries.ModeId.{ModeId}
 use Rattle.plan_tables.specs.declared.entries.ModeEvent.{ModeEvent}
 use Rattle.plan_tables.specs.declared.entries.ModeEvent.TheVariants.{WillStart, Starting, Started, Stopping, Stopped}
@@ -10,7 +13,7 @@ use Rattle.plan_tables.specs.declared.entries.ModeEvents.{ModeEvents}
 use Rattle.plan_tables.specs.declared.entries.Owner.{Owner}
 use Rattle.plan_tables.specs.declared.entries.Owner.TheVariants as owners
 use Rattle.plan_tables.specs.declared.entries.Action.{Action}
-use Rattle.plan_tables.specs.declared.entries.Action.TheVariants.{Post}
+use Rattle.plan_tables.specs.declared.entries.Action.TheVariants.{Post, Pulse, Enable, Disable}
 use Rattle.plan_tables.specs.declared.entries.Target.{Target}
 use Rattle.plan_tables.specs.declared.entries.Target.TheVariants as targets
 use Rattle.plan_tables.specs.declared.entries.Binding.{Binding}
@@ -24,17 +27,33 @@ use Rattle.plan_contributions.specs.declared.contribution.Place.TheVariants.{Mac
 use Rattle.plan_contributions.specs.declared.contribution.Aim.{Aim}
 use Rattle.plan_contributions.specs.declared.contribution.Aim.TheVariants.{Run, Start, Stop, Do}
 use Rattle.plan_tables.specs.declared.table.Table.{Table}
-use Rattle.plan_tables.specs.declared.table.Table.TheVariants.{Events, Switches}
+use Rattle.plan_tables.specs.declared.table.Table.TheVariants.{Events, Switches, Coils}
 use Rattle.mpf_plan.specs.declared.fault.PlanFault.{PlanFault}
 use Rattle.mpf_plan.specs.declared.fault.PlanFault.TheVariants as faults
-use Rattle.plan_tables.specs.PlanView.{PlanSwitch, no_switch, PlanMode, no_event, no_mode, PlanView}
-use Rattle.plan_contributions.specs.Contributions.{Contribution, gives, reads, active, inactive, mode, mode_event, mode_event_name, binds, post, device, post_in, mentions, contributions_of}
+use Rattle.plan_tables.specs.PlanView.{PlanSwitch, no_switch, PlanCoil, no_coil, PlanMode, no_event, no_mode, PlanView}
+use Rattle.plan_contributions.specs.DeviceEntries.{Deed, pulse, enable, disable, Effect, posts, works}
+use Rattle.plan_contributions.specs.Contributions.{Contribution, gives, reads, active, inactive, mode, mode_event, mode_event_name, binds, does, device, does_in, listens, mentions, coil, contributions_of}
 use Rattle.mpf_plan.specs.Uses.{Names, names_from, number_among, lacks_name}
 use Rattle.plan_tables.specs.Limits.{first_above, IsFirstAbove}
 
 -- an event is its name's place among the names
 abbrev pub event_of : List (List ℕ) → List ℕ → EventId
 event_of names name = record { 0 = number_among names name }
+
+-- and so is a coil
+abbrev pub coil_of : List (List ℕ) → List ℕ → CoilId
+coil_of names name = record { 0 = number_among names name }
+
+-- what is done with this coil, by number
+abbrev pub action_with : CoilId → Deed → Action
+action_with c (pulse ms power) = Pulse c ms power
+action_with c (enable power) = Enable c power
+action_with c disable = Disable c
+
+-- what an effect list does, by number
+abbrev pub action_of : Names → Effect → Action
+action_of names (posts n) = Post (event_of (names Events) n)
+action_of names (works n deed) = action_with (coil_of (names Coils) n) deed
 
 -- ---- a plan that is being made
 
@@ -61,7 +80,8 @@ with_switch n d =
     (record d { last = length d.defined })
     (record d { defined = slice_set d.defined n true; last = n })
 
--- What is given under this number of a table. Only of switches does a plan hold more than their names.
+-- What is given under this number of a table. Only of switches does a plan hold more than their names here; what it holds
+-- of coils comes with their limits.
 abbrev pub with_given : Table → ℕ → DraftView → DraftView
 with_given Switches n d = with_switch n d
 with_given _ n d = d
@@ -196,6 +216,20 @@ with_device place settings d = record d {
   };
 }
 
+-- the row that came last listens to a switch, by the switch's number in the row
+abbrev pub next_listener : PlanView → ℕ → Listener
+next_listener plan k = record { row = last_row plan; switch = k }
+
+-- this one more listens
+abbrev pub heard_by : Listener → PlanSwitch → PlanSwitch
+heard_by l s = record s { listeners = s.listeners ++ l ∷ [] }
+
+-- to the switch of this number
+abbrev pub with_listener : ℕ → Listener → DraftView → DraftView
+with_listener n l d = record d {
+  plan = record d.plan { switches = slice_set d.plan.switches n (heard_by l (slice_index_or d.plan.switches n no_switch)) };
+}
+
 -- the first effect list of the row that came last
 abbrev pub first_of_last : List ListId → ListId
 first_of_last firsts = slice_index_or firsts (length firsts - 1) (record { 0 = 0 })
@@ -205,6 +239,20 @@ abbrev pub with_action_in : ℕ → Action → DraftView → DraftView
 with_action_in k a d = record d {
   plan = record d.plan { lists = with_one_more ((first_of_last d.plan.row_lists).0 + k) a d.plan.lists };
 }
+
+-- ---- coils
+
+-- the coil may be sent this
+abbrev pub limited_to : CoilLimits → PlanCoil → PlanCoil
+limited_to limits c = record c { limits = limits }
+
+-- so may the coil of this number
+abbrev pub with_coil : ℕ → CoilLimits → DraftView → DraftView
+with_coil n limits d = record d {
+  plan = record d.plan { coils = slice_set d.plan.coils n (limited_to limits (slice_index_or d.plan.coils n no_coil)) };
+}
+
+-- ---- contributions
 
 -- what one contribution adds, where names have these numbers
 abbrev pub with_contribution : Names → DraftView → Contribution → DraftView
@@ -218,14 +266,20 @@ with_contribution names d (mode_event which n) =
     with_mode_event which (event_of (names Events) (mode_event_name which n)) d
 with_contribution names d (binds n place aim) =
     with_list_for aim (with_binding (next_binding d.plan (event_of (names Events) n) place aim) d)
-with_contribution names d (post n) = with_action (Post (event_of (names Events) n)) d
+with_contribution names d (does e) = with_action (action_of names e) d
 with_contribution names d (device place settings) = with_device place settings d
-with_contribution names d (post_in k n) = with_action_in k (Post (event_of (names Events) n)) d
+with_contribution names d (does_in k e) = with_action_in k (action_of names e) d
+with_contribution names d (listens k n) = with_listener (number_among (names Switches) n) (next_listener d.plan k) d
 with_contribution names d (mentions n) = d
+with_contribution names d (coil n limits) = with_coil (number_among (names Coils) n) limits d
 
 -- a switch of which the name alone is known
 abbrev pub named_switch : List ℕ → PlanSwitch
 named_switch n = record no_switch { name = n }
+
+-- and such a coil
+abbrev pub named_coil : List ℕ → PlanCoil
+named_coil n = record no_coil { name = n }
 
 -- before anything is added, names are there alone
 abbrev pub blank : Names → DraftView
@@ -234,6 +288,7 @@ blank names = record {
     modes = [];
     events = names Events;
     switches = map named_switch (names Switches);
+    coils = map named_coil (names Coils);
     lists = [];
     bindings = [];
     rows = [];

@@ -10,7 +10,7 @@ use crate::fault::PlanFault;
 use crate::fill::fill;
 use crate::numbering::number;
 use mpf_config::config::Config;
-use plan_contributions::rows_of;
+use plan_contributions::{Definitions, rows_of};
 use plan_tables::tables::{Plan, Tables};
 use std::alloc::Global;
 
@@ -47,7 +47,7 @@ use std::alloc::Global;
 ///
 /// # Errors
 ///
-/// - `NoSuchName`: a name is used that nothing has. No row does that yet.
+/// - `NoSuchName`: a switch or a coil is named that no entry of the machine text has.
 /// - `Limit`: a table is above its limit; the first such table in the order of `Table` is reported.
 /// - `NoMemory`: memory ran out.
 pub fn plan(alloc: Global, config: &Config) -> Result<Plan, PlanFault>
@@ -57,14 +57,16 @@ pub fn plan(alloc: Global, config: &Config) -> Result<Plan, PlanFault>
     ensures limit { (t : TableValue) → result ≡ Err (PlanFault.Limit t) → IsExceeded (rows_view config.now) t }
 {
     let rows = rows_of(alloc, config)?;
-    let names = number(alloc, &rows)?;
-    let draft = fill(alloc, &names, &rows)?;
+    let definitions = Definitions::new(alloc, &config.machine.sections)?;
+    let names = number(alloc, &definitions, &rows)?;
+    let draft = fill(alloc, &names, &definitions, &rows)?;
     let plan = Plan::new(
         alloc,
         Tables {
             names,
             modes: draft.modes,
             switches: draft.switches,
+            coils: draft.coils,
             lists: draft.lists,
             bindings: draft.bindings,
             rows: draft.rows,

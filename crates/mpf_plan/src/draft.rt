@@ -3,13 +3,14 @@
 ghost use Rattle.std.specs.Prelude.{◌≡◌, length};
 
 use plan_tables::devices::DeviceRow;
-use plan_tables::entries::{Action, Binding, ListId, ModeEntry, SwitchEntry};
+use plan_tables::entries::{Action, Binding, CoilLimits, ListId, ModeEntry, SwitchEntry};
 
 /// The tables of a plan, as far as they are made.
 #[derive(Drop)]
 pub(crate) struct Draft {
     pub(crate) modes: Vec<ModeEntry>,
     pub(crate) switches: Vec<SwitchEntry>,
+    pub(crate) coils: Vec<CoilLimits>,
     pub(crate) lists: Vec<Vec<Action>>,
     pub(crate) bindings: Vec<Binding>,
     pub(crate) rows: Vec<DeviceRow>,

@@ -1,44 +1,50 @@
 //! The plan of contributions: each adds its own to what is there.
 
-ghost use Rattle.std.specs.Prelude.{◌≡◌, ◌<◌, ◌≤◌, ◌+◌, ◌*◌, ◌++◌, List, [], ℕ, false, length, map, fold, replicate, IfOk, OnOk};
+ghost use Rattle.std.specs.Prelude.{◌≡◌, ◌<◌, ◌≤◌, ◌+◌, ◌*◌, ◌++◌, List, [], ℕ, false, length, map, fold, replicate, slice_index_or, slice_set, IfOk, OnOk};
 ghost use Rattle.plan_tables.specs.declared.names.NameSets.{NameSets as NameSetsValue};
-ghost use Rattle.plan_tables.specs.declared.table.Table.TheVariants.{Events, Switches};
-ghost use Rattle.plan_contributions.specs.Contributions.{gives, active, inactive, mode, mode_event, binds, post, post_in, given_by};
+ghost use Rattle.plan_tables.specs.declared.table.Table.TheVariants.{Events, Switches, Coils};
+ghost use Rattle.plan_contributions.specs.Contributions.{gives, active, inactive, mode, mode_event, binds, does, does_in, listens, coil, given_by};
 ghost use Rattle.plan_tables.specs.Devices.{list_count};
-ghost use Rattle.mpf_plan.specs.PlanOf.{event_of, owner_at, priority_at, with_switch, with_kind, with_active, with_inactive, first_event, with_event, last_with_event, last_mode, last_row, next_binding, last_priority, lists_for, with_one_more, last_with, next_row, with_device, first_of_last, with_contribution, named_switch, blank, drafted, next_list, with_action_in};
+ghost use Rattle.mpf_plan.specs.PlanOf.{event_of, coil_of, action_with, action_of, owner_at, priority_at, with_switch, with_kind, with_active, with_inactive, first_event, with_event, last_with_event, last_mode, last_row, next_binding, last_priority, lists_for, with_one_more, last_with, next_row, with_device, first_of_last, with_contribution, next_listener, with_listener, limited_to, named_switch, named_coil, blank, drafted, next_list, with_action_in};
 ghost use Rattle.plan_tables.specs.Inside.{name_sets_view, mode_entry_view, action_lists, switches_view};
-ghost use Rattle.plan_contributions.specs.View.{parts_text, contribution_view, contributions_view, row_list_view};
-ghost use Rattle.mpf_plan.specs.Inside.{draft_view};
+ghost use Rattle.plan_contributions.specs.View.{parts_text, deed_view, effect_view, contribution_view, contributions_view, row_list_view};
+ghost use Rattle.mpf_plan.specs.Inside.{limited_coils, draft_view};
 ghost use Rattle.mpf_plan.specs.Numbering.{binding_count, mode_count, row_count};
-ghost use Rattle.plan_tables.specs.PlanView.{no_switch};
+ghost use Rattle.plan_tables.specs.PlanView.{no_switch, no_coil};
 ghost use Rattle.plan_tables.specs.NamesKept.{names_of};
 
 use crate::draft::Draft;
 use crate::numbering::number_among;
 use plan_contributions::{
-    Aim, Contribution, Parts, Place, Row, collect_row, mode_event_name, whole,
+    Aim, Contribution, Deed, Definitions, Effect, Parts, Place, Row, collect_row, mode_event_name,
+    whole,
 };
 use plan_tables::devices::{DeviceRow, RowId, Settings};
 use plan_tables::entries::{
-    Action, Binding, Contact, EventId, ListId, Mode, ModeEntry, ModeEvent, ModeEvents, ModeId,
-    Owner, SwitchEntry, SwitchKind, Target,
+    Action, Binding, CoilId, CoilLimits, Contact, EventId, ListId, Listener, Mode, ModeEntry,
+    ModeEvent, ModeEvents, ModeId, Owner, SwitchEntry, SwitchKind, Target,
 };
 use plan_tables::names::NameSets;
 use plan_tables::table::Table;
 use std::alloc::{AllocError, Global};
 
 /// What the rows make, where names have these numbers.
-pub(crate) fn fill(alloc: Global, names: &NameSets, rows: &[Row]) -> Result<Draft, AllocError>
-    requires bindings { binding_count (given_by (row_list_view rows.now)) ≤ 16384 }
-    requires rows { row_count (given_by (row_list_view rows.now)) ≤ 1024 }
-    requires modes { mode_count (given_by (row_list_view rows.now)) ≤ 64 }
-    ensures { IfOk result (λ d. draft_view names.now d ≡ drafted (name_sets_view names.now) (given_by (row_list_view rows.now))) }
+pub(crate) fn fill(
+    alloc: Global,
+    names: &NameSets,
+    definitions: &Definitions,
+    rows: &[Row],
+) -> Result<Draft, AllocError>
+    requires bindings { binding_count (given_by definitions.now (row_list_view rows.now)) ≤ 16384 }
+    requires rows { row_count (given_by definitions.now (row_list_view rows.now)) ≤ 1024 }
+    requires modes { mode_count (given_by definitions.now (row_list_view rows.now)) ≤ 64 }
+    ensures { IfOk result (λ d. draft_view names.now d ≡ drafted (name_sets_view names.now) (given_by definitions.now (row_list_view rows.now))) }
 {
     let mut draft = blank(alloc, names)?;
     let mut text = Vec::new(alloc);
     let mut contributions = Vec::new(alloc);
     for row in rows {
-        collect_row(&mut contributions, *row)?;
+        collect_row(&mut contributions, definitions, *row)?;
         add_all(alloc, names, &mut text, &mut draft, &contributions)?;
     }
     Ok(draft)
@@ -89,9 +95,11 @@ fn add(
         Contribution::Binds(name, place, aim) => {
             add_binding(alloc, names, text, draft, name, place, aim)
         }
-        Contribution::Post(name) => add_post(names, text, draft, name),
+        Contribution::Does(effect) => add_effect(names, text, draft, effect),
         Contribution::Device(place, settings) => add_device(alloc, draft, place, settings),
-        Contribution::PostIn(number, name) => add_post_in(names, text, draft, number, name),
+        Contribution::DoesIn(number, effect) => add_effect_in(names, text, draft, number, effect),
+        Contribution::Listens(number, name) => add_listener(names, text, draft, number, name),
+        Contribution::Coil(name, limits) => add_coil(names, text, draft, name, limits),
         Contribution::Mentions(_) => Ok(()),
     }
 }
@@ -390,17 +398,56 @@ fn begin_list(alloc: Global, lists: &mut Vec<Vec<Action>>, aim: Aim) -> Result<(
     Ok(())
 }
 
-fn add_post(
+/// The effect list that began last does this.
+fn add_effect(
     names: &NameSets,
     text: &mut Vec<u8>,
     draft: &mut Draft,
-    name: Parts,
+    effect: Effect,
 ) -> Result<(), AllocError>
-    ensures { OnOk result (draft_view names.now draft.new ≡ with_contribution (name_sets_view names.now) (draft_view names.now draft.old) (post (parts_text name.entry))) }
+    ensures { OnOk result (draft_view names.now draft.new ≡ with_contribution (name_sets_view names.now) (draft_view names.now draft.old) (does (effect_view effect.entry))) }
 {
-    let event = event_of(names, text, name)?;
-    push_action(&mut draft.lists, Action::Post(event))?;
+    let action = action_of(names, text, effect)?;
+    push_action(&mut draft.lists, action)?;
     Ok(())
+}
+
+/// What an effect list does, by number.
+fn action_of(
+    names: &NameSets,
+    text: &mut Vec<u8>,
+    effect: Effect,
+) -> Result<Action, AllocError>
+    ensures { IfOk result (λ a. a ≡ action_of (name_sets_view names.now) (effect_view effect.entry)) }
+{
+    match effect {
+        Effect::Post(name) => {
+            let event = event_of(names, text, name)?;
+            Ok(Action::Post(event))
+        }
+        Effect::Coil(name, deed) => {
+            let coil = coil_of(names, text, name)?;
+            Ok(action_with(coil, deed))
+        }
+    }
+}
+
+fn coil_of(names: &NameSets, text: &mut Vec<u8>, name: &[u8]) -> Result<CoilId, AllocError>
+    ensures { IfOk result (λ c. c ≡ coil_of (name_sets_view names.now Coils) name.now) }
+{
+    let number = number_among(names.of(Table::Coils), text, whole(name))?;
+    Ok(CoilId(number as u16))
+}
+
+/// What is done with this coil.
+fn action_with(coil: CoilId, deed: Deed) -> Action
+    ensures { result ≡ action_with coil (deed_view deed) }
+{
+    match deed {
+        Deed::Pulse { ms, power } => Action::Pulse { coil, ms, power },
+        Deed::Enable { power } => Action::Enable { coil, power },
+        Deed::Disable => Action::Disable { coil },
+    }
 }
 
 /// The action goes to the effect list that began last.
@@ -458,6 +505,8 @@ fn list_count(settings: Settings) -> usize
         Settings::Accrual(_) => 3,
         Settings::Sequence(_) => 3,
         Settings::Timer(_) => 5,
+        Settings::Flipper => 2,
+        Settings::Autofire => 1,
     }
 }
 
@@ -471,18 +520,19 @@ fn begin_lists(alloc: Global, lists: &mut Vec<Vec<Action>>, count: usize) -> Res
     Ok(())
 }
 
-fn add_post_in(
+/// This effect list of the row that came last does this.
+fn add_effect_in(
     names: &NameSets,
     text: &mut Vec<u8>,
     draft: &mut Draft,
     number: u8,
-    name: Parts,
+    effect: Effect,
 ) -> Result<(), AllocError>
-    ensures { OnOk result (draft_view names.now draft.new ≡ with_contribution (name_sets_view names.now) (draft_view names.now draft.old) (post_in number (parts_text name.entry))) }
+    ensures { OnOk result (draft_view names.now draft.new ≡ with_contribution (name_sets_view names.now) (draft_view names.now draft.old) (does_in number (effect_view effect.entry))) }
 {
-    let event = event_of(names, text, name)?;
+    let action = action_of(names, text, effect)?;
     let place = first_of_last(&draft.row_lists).0 as usize + number as usize;
-    push_action_at(&mut draft.lists, place, Action::Post(event))?;
+    push_action_at(&mut draft.lists, place, action)?;
     Ok(())
 }
 
@@ -510,6 +560,69 @@ fn push_action_at(
     Ok(())
 }
 
+/// The row that came last listens to the switch of this name.
+fn add_listener(
+    names: &NameSets,
+    text: &mut Vec<u8>,
+    draft: &mut Draft,
+    number: usize,
+    name: &[u8],
+) -> Result<(), AllocError>
+    requires rows { length draft.old.rows.items ≤ 1024 }
+    ensures { OnOk result (draft_view names.now draft.new ≡ with_contribution (name_sets_view names.now) (draft_view names.now draft.old) (listens number name.now)) }
+{
+    let n = number_among(names.of(Table::Switches), text, whole(name))?;
+    let listener = next_listener(draft, number);
+    push_listener(draft, n, listener)?;
+    Ok(())
+}
+
+/// The row that came last listens to its switch of this number.
+fn next_listener(draft: &Draft, number: usize) -> Listener
+    requires rows { length draft.now.rows.items ≤ 1024 }
+    ensures { (names : NameSetsValue) → result ≡ next_listener (draft_view names draft.now).plan number }
+{
+    Listener {
+        row: last_row(draft),
+        switch: number,
+    }
+}
+
+/// One more listens to the switch of this number.
+fn push_listener(draft: &mut Draft, n: usize, listener: Listener) -> Result<(), AllocError>
+    ensures { OnOk result ((names : NameSetsValue) → draft_view names draft.new ≡ with_listener n listener (draft_view names draft.old)) }
+{
+    if n < draft.switches.len() {
+        draft.switches[n].listeners.push(listener)?;
+    }
+    Ok(())
+}
+
+// ---- coils
+
+fn add_coil(
+    names: &NameSets,
+    text: &mut Vec<u8>,
+    draft: &mut Draft,
+    name: &[u8],
+    limits: CoilLimits,
+) -> Result<(), AllocError>
+    ensures { OnOk result (draft_view names.now draft.new ≡ with_contribution (name_sets_view names.now) (draft_view names.now draft.old) (coil name.now limits)) }
+{
+    let n = number_among(names.of(Table::Coils), text, whole(name))?;
+    limit_coil(&mut draft.coils, n, limits);
+    Ok(())
+}
+
+/// The coil of this number may be sent this.
+fn limit_coil(coils: &mut Vec<CoilLimits>, n: usize, limits: CoilLimits)
+    ensures { (names : List (List ℕ)) → limited_coils names coils.new.items ≡ slice_set (limited_coils names coils.old.items) n (limited_to limits (slice_index_or (limited_coils names coils.old.items) n no_coil)) }
+{
+    if n < coils.len() {
+        coils[n] = limits;
+    }
+}
+
 // ---- before anything is added
 
 /// The names alone.
@@ -518,10 +631,12 @@ fn blank(alloc: Global, names: &NameSets) -> Result<Draft, AllocError>
 {
     let count = names.of(Table::Switches).len();
     let switches = blank_switches(alloc, count)?;
+    let coils = blank_coils(alloc, names.of(Table::Coils).len())?;
     let defined = no_marks(alloc, count)?;
     Ok(Draft {
         modes: Vec::new(alloc),
         switches,
+        coils,
         lists: Vec::new(alloc),
         bindings: Vec::new(alloc),
         rows: Vec::new(alloc),
@@ -543,11 +658,28 @@ fn blank_switches(alloc: Global, count: usize) -> Result<Vec<SwitchEntry>, Alloc
                 contact: Contact::NormallyOpen,
                 quick: false,
             },
+            listeners: Vec::new(alloc),
             active: Vec::new(alloc),
             inactive: Vec::new(alloc),
         })?;
     }
     Ok(switches)
+}
+
+/// So many coils.
+fn blank_coils(alloc: Global, count: usize) -> Result<Vec<CoilLimits>, AllocError>
+    ensures { IfOk result (λ v. (names : List (List ℕ)) → length names ≡ count → limited_coils names v.items ≡ map named_coil names) }
+{
+    let mut coils = Vec::new(alloc);
+    for _ in 0..count {
+        coils.push(CoilLimits {
+            max_pulse_ms: 0,
+            max_pulse_power: 0,
+            max_hold_power: 0,
+            may_hold: false,
+        })?;
+    }
+    Ok(coils)
 }
 
 /// Nothing has defined any of so many switches.

@@ -14,22 +14,28 @@ ghost use Rattle.plan_tables.specs.Inside.{name_sets_view};
 
 use crate::fault::PlanFault;
 use crate::first_uses::Found;
-use plan_contributions::{Contribution, Parts, Row, collect_row, given, used, write_name};
+use plan_contributions::{
+    Contribution, Definitions, Parts, Row, collect_row, given, used, write_name,
+};
 use plan_tables::names::{NameHashing, NameSet, NameSets, NameTable};
 use plan_tables::table::{TABLES, Table};
 use std::alloc::{AllocError, Global};
 use std::hash::{DefaultHasher, FoldHasher, Hasher};
 
 /// The names of the rows, by number, where the plan is within its limits.
-pub(crate) fn number(alloc: Global, rows: &[Row]) -> Result<NameSets, PlanFault>
-    ensures { Numbered (given_by (row_list_view rows.now)) result }
+pub(crate) fn number(
+    alloc: Global,
+    definitions: &Definitions,
+    rows: &[Row],
+) -> Result<NameSets, PlanFault>
+    ensures { Numbered (given_by definitions.now (row_list_view rows.now)) result }
 {
-    let hashing = hashing_of(alloc, rows)?;
-    let lacking = lacks_name(alloc, hashing, rows)?;
+    let hashing = hashing_of(alloc, definitions, rows)?;
+    let lacking = lacks_name(alloc, definitions, hashing, rows)?;
     if lacking {
         return Err(PlanFault::NoSuchName);
     }
-    let found = find_names(alloc, hashing, rows)?;
+    let found = find_names(alloc, definitions, hashing, rows)?;
     if let Some(table) = first_above(&found) {
         return Err(PlanFault::Limit(table));
     }
@@ -55,11 +61,15 @@ pub(crate) fn number_among(
 // ---- hashing
 
 /// Hashing by all names that the rows use. Their SipHash is the first thing that is hashed.
-fn hashing_of(alloc: Global, rows: &[Row]) -> Result<NameHashing, AllocError> {
+fn hashing_of(
+    alloc: Global,
+    definitions: &Definitions,
+    rows: &[Row],
+) -> Result<NameHashing, AllocError> {
     let mut all = DefaultHasher::new();
     let mut contributions = Vec::new(alloc);
     for row in rows {
-        collect_row(&mut contributions, *row)?;
+        collect_row(&mut contributions, definitions, *row)?;
         feed(&mut all, &contributions);
     }
     let mut start = FoldHasher::default();
@@ -107,8 +117,13 @@ fn is_above(found: &Found, table: Table) -> bool
 
 /// The names that the rows use, each table up to its limit, and how many bindings and rows of
 /// devices they give.
-fn find_names(alloc: Global, hashing: NameHashing, rows: &[Row]) -> Result<Found, AllocError>
-    ensures { IfOk result (HasFound (given_by (row_list_view rows.now))) }
+fn find_names(
+    alloc: Global,
+    definitions: &Definitions,
+    hashing: NameHashing,
+    rows: &[Row],
+) -> Result<Found, AllocError>
+    ensures { IfOk result (HasFound (given_by definitions.now (row_list_view rows.now))) }
 {
     let mut found = Found {
         tables: no_names(alloc, hashing)?,
@@ -118,7 +133,7 @@ fn find_names(alloc: Global, hashing: NameHashing, rows: &[Row]) -> Result<Found
     let mut text = Vec::new(alloc);
     let mut contributions = Vec::new(alloc);
     for row in rows {
-        collect_row(&mut contributions, *row)?;
+        collect_row(&mut contributions, definitions, *row)?;
         note_all(alloc, &mut found, &mut text, &contributions)?;
     }
     Ok(found)
@@ -225,14 +240,19 @@ fn count_row(before: usize, contribution: &Contribution) -> usize
 // ---- names that nothing has
 
 /// Whether the rows use a name that nothing has.
-fn lacks_name(alloc: Global, hashing: NameHashing, rows: &[Row]) -> Result<bool, AllocError>
-    ensures { IfOk result (λ b. b ≡ lacks_name (given_by (row_list_view rows.now))) }
+fn lacks_name(
+    alloc: Global,
+    definitions: &Definitions,
+    hashing: NameHashing,
+    rows: &[Row],
+) -> Result<bool, AllocError>
+    ensures { IfOk result (λ b. b ≡ lacks_name (given_by definitions.now (row_list_view rows.now))) }
 {
-    let sets = given_names(alloc, hashing, rows)?;
+    let sets = given_names(alloc, definitions, hashing, rows)?;
     let mut text = Vec::new(alloc);
     let mut contributions = Vec::new(alloc);
     for row in rows {
-        collect_row(&mut contributions, *row)?;
+        collect_row(&mut contributions, definitions, *row)?;
         let lacking = use_other(&sets, &mut text, &contributions)?;
         if lacking {
             return Ok(true);
@@ -244,15 +264,16 @@ fn lacks_name(alloc: Global, hashing: NameHashing, rows: &[Row]) -> Result<bool,
 /// The names under which the rows give something, those of each table at its index.
 fn given_names(
     alloc: Global,
+    definitions: &Definitions,
     hashing: NameHashing,
     rows: &[Row],
 ) -> Result<Vec<NameSet>, AllocError>
-    ensures { IfOk result (λ sets. HoldGivenNames (given_by (row_list_view rows.now)) sets.items) }
+    ensures { IfOk result (λ sets. HoldGivenNames (given_by definitions.now (row_list_view rows.now)) sets.items) }
 {
     let mut sets = no_sets(alloc, hashing)?;
     let mut contributions = Vec::new(alloc);
     for row in rows {
-        collect_row(&mut contributions, *row)?;
+        collect_row(&mut contributions, definitions, *row)?;
         note_given(alloc, &mut sets, &contributions)?;
     }
     Ok(sets)

@@ -1,20 +1,21 @@
 -- What holds of coils, coil players, flippers and autofire coils, by the names of their settings: their names are names, and their settings are in their ranges.
-use Rattle.std.proofs.Common.{◌≡◌, ℕ, ◌≤◌, nat_le, Bool, true, false, ◌&&◌, if◌then◌else◌, map, List, [], ◌∷◌, Option, Some, None, IfSome, unwrap_or, slice_get, refl, arith}
+use Rattle.std.proofs.Common.{◌≡◌, ℕ, ◌≤◌, nat_le, Bool, true, false, ◌&&◌, if◌then◌else◌, map, List, [], ◌∷◌, length, Option, Some, None, IfSome, unwrap_or, slice_get, refl, arith}
 use Rattle.std.specs.List.{All, AllByRecursion}
 use Rattle.std.proofs.lemmas.Bool.{leb-true}
+use Rattle.std.proofs.lemmas.List.{length-map}
 use Rattle.std.proofs.lemmas.List.Elements.{All-nil, All-cons, All-map, All-weaker}
 use Rattle.mpf_values.specs.Names.{IsName}
 use Rattle.section_tables.specs.Rows.{Plain, nothing, flag, number, time, power, word, name, event, Keyed, Value, one, names, posts, events, steps, maps, keyed, Entry, Player}
-use Rattle.section_tables.specs.Named.{IsNamedKeyed, IsNamedValue, IsNamedEntry, IsNamedPlayer, IsShortEntry}
+use Rattle.section_tables.specs.Named.{IsNamedKeyed, IsNamedValue, IsNamedEntry, IsNamedPlayer, IsShortEntry, IsShortPlayer}
 use Rattle.mpf_sections.specs.Rows.{Written, CoilItem, SectionRows}
 use Rattle.mpf_sections.specs.Typed.{text_of, flag_of, listed_keyed, name_in, pulse_in, power_in, entries_of, players_of}
 use Rattle.mpf_sections.specs.TypedCoils.{coils_name, coil_player_name, flippers_name, autofire_coils_name, max_hold_power, coil_of, coil_item_of, coil_player_of, flipper_of, autofire_of, coils_in, coil_players_in, flippers_in, autofires_in}
 use Rattle.mpf_sections.specs.Inside.{needed_at}
 use Rattle.mpf_sections.specs.Named.{IsNamedCoil, IsNamedCoilPlayer, IsNamedFlipper, IsNamedAutofire, IsNamed}
-use Rattle.mpf_sections.specs.Short.{IsPulseInRange, IsPowerInRange, IsCoilInRange, IsItemInRange, IsCoilPlayerInRange, IsShortFlipper, IsShortAutofire, IsShortSection}
+use Rattle.mpf_sections.specs.Short.{IsPulseInRange, IsPowerInRange, IsCoilInRange, IsItemInRange, IsShortCoilPlayer, IsCoilPlayerInRange, IsShortFlipper, IsShortAutofire, IsShortSection}
 use Rattle.mpf_sections.proofs.Each.{all_mapped}
 use Rattle.mpf_sections.proofs.RowNames.{IsNamedOption, value_at_named, names_named, event_named, entries_of_named, players_of_named}
-use Rattle.mpf_sections.proofs.ShortRows.{value_at_short, names_short, entries_of_short}
+use Rattle.mpf_sections.proofs.ShortRows.{IsShortOption, none_short, value_at_short, names_short, entries_of_short, players_of_short}
 use Rattle.mpf_sections.proofs.DeviceRows.{IsNamedText, IsNamedWritten, name_in_named}
 
 -- ---- names
@@ -204,6 +205,23 @@ pub coil_player_in_range : (p : Player) → IsCoilPlayerInRange (coil_player_of 
 unfolding coil_player_of
 coil_player_in_range p = all_mapped IsItemInRange coil_item_of item_in_range (listed_keyed (Some p.value))
 
+-- An entry of `coil_player` says of at most 1,024 coils what they do.
+keyed_short : (o : Option Value) → IsShortOption o → length (listed_keyed o) ≤ 1024
+keyed_short None h = none_short
+keyed_short (Some (one x)) h = none_short
+keyed_short (Some (names xs)) h = none_short
+keyed_short (Some (posts xs)) h = none_short
+keyed_short (Some (events xs)) h = none_short
+keyed_short (Some (steps xs)) h = none_short
+keyed_short (Some (maps xs)) h = none_short
+keyed_short (Some (keyed xs)) h = h.0
+
+pub coil_player_short : (p : Player) → IsShortPlayer 1024 p → IsShortCoilPlayer (coil_player_of p)
+unfolding coil_player_of
+coil_player_short p h =
+    let few : length (listed_keyed (Some p.value)) ≤ 1024 = keyed_short (Some p.value) h in
+    rw (length-map (listed_keyed (Some p.value)) coil_item_of) few
+
 -- No list of a flipper or of an autofire coil has more than 1,024 items.
 pub flipper_short : (e : Entry) → IsShortEntry 1024 e → IsShortFlipper (flipper_of e)
 unfolding flipper_of
@@ -227,6 +245,13 @@ coils_in_range s = all_mapped IsCoilInRange coil_of coil_in_range (entries_of co
 pub coil_players_in_range : (s : SectionRows) → All IsCoilPlayerInRange (coil_players_in s)
 unfolding coil_players_in
 coil_players_in_range s = all_mapped IsCoilPlayerInRange coil_player_of coil_player_in_range (players_of coil_player_name s)
+
+pub coil_players_short : (s : SectionRows) → IsShortSection s → All IsShortCoilPlayer (coil_players_in s)
+unfolding coil_players_in
+coil_players_short s h =
+    let ps = players_of coil_player_name s in
+    All-map IsShortCoilPlayer coil_player_of ps
+    (All-weaker (IsShortPlayer 1024) (λ p. IsShortCoilPlayer (coil_player_of p)) coil_player_short ps (players_of_short coil_player_name s h))
 
 pub flippers_short : (s : SectionRows) → IsShortSection s → All IsShortFlipper (flippers_in s)
 unfolding flippers_in

@@ -63,7 +63,7 @@ event_player_short p h = posts_short (Some p.value) h
 pub entries_of_short : (section : List ℕ) (s : SectionRows) → IsShortSection s → All (IsShortEntry 1024) (entries_of section s)
 entries_of_short section s h = all_where (IsShortEntry 1024) (bytes_eq s.name section) (entries_in s.content) h.0
 
-players_of_short : (section : List ℕ) (s : SectionRows) → IsShortSection s → All (IsShortPlayer 1024) (players_of section s)
+pub players_of_short : (section : List ℕ) (s : SectionRows) → IsShortSection s → All (IsShortPlayer 1024) (players_of section s)
 players_of_short section s h = all_where (IsShortPlayer 1024) (bytes_eq s.name section) (players_in s.content) h.1
 
 -- No list in the switches of a section has more items.

@@ -5,7 +5,7 @@ pub use Rattle.section_tables.specs.Named.{IsShortEntry, IsShortPlayer}
 use Rattle.mpf_sections.specs.Rows.{Switch, EventPlayer, Coil, CoilItem, CoilPlayer, Flipper, Autofire, Block, Counter, StepBlock, Timer, Content, SectionRows}
 use Rattle.mpf_sections.specs.Typed.{entries_in, players_in, entry_in, names_in}
 
--- No list in a section is longer, whatever its settings are.
+-- No list in a section is longer, whatever its settings are; the coils of an entry of `coil_player` are such a list.
 abbrev pub IsShortContent : Content → Type 0
 IsShortContent content =
     All (IsShortEntry 1024) (entries_in content) × All (IsShortPlayer 1024) (players_in content) × All (IsShortEntry 1024) (entry_in content) × (length (names_in content) ≤ 1024)
@@ -22,6 +22,9 @@ pub record IsShortSwitch (s : Switch) : Type 0 where
 
 abbrev pub IsShortEventPlayer : EventPlayer → Type 0
 IsShortEventPlayer p = length p.posts ≤ 1024
+
+abbrev pub IsShortCoilPlayer : CoilPlayer → Type 0
+IsShortCoilPlayer p = length p.items ≤ 1024
 
 -- the milliseconds of a pulse
 abbrev pub IsPulseInRange : ℕ → Type 0

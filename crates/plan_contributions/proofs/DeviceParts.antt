@@ -1,9 +1,11 @@
 -- What is collected of the entry of a device, part after part.
-use Rattle.std.proofs.Common.{◌≡◌, ℕ, suc, ◌+◌, ◌<◌, List, [], ◌∷◌, ◌++◌, length, map, drop, get_or, refl, sym, ◌∙◌, ap, arith}
+use Rattle.std.proofs.Common.{◌≡◌, true, false, ℕ, suc, ◌+◌, ◌<◌, List, [], ◌∷◌, ◌++◌, length, map, drop, get_or, refl, sym, ◌∙◌, ap, arith}
 use Rattle.std.specs.Prelude.{Option, None, Some}
 use Rattle.std.proofs.lemmas.List.{append-nil, append_assoc, map-append, drop_more}
-use Rattle.mpf_sections.specs.Rows.{Written, Control}
-use Rattle.mpf_sections.specs.Typed.{with_control}
+use Rattle.std.specs.Str.{bytes_eq}
+use Rattle.mpf_sections.specs.Rows.{Written, Entry, Control}
+use Rattle.mpf_sections.specs.Typed.{counters_name, accruals_name, sequences_name, timers_name, with_control, step_block_of, timer_of}
+use Rattle.plan_tables.specs.declared.devices.Settings.TheVariants as kinds
 use Rattle.plan_tables.specs.declared.devices.Act.{Act}
 use Rattle.plan_tables.specs.declared.devices.Act.TheVariants.{Step}
 use Rattle.plan_tables.specs.declared.devices.Settings.{Settings}
@@ -11,8 +13,9 @@ use Rattle.plan_contributions.specs.declared.contribution.Contribution as contri
 use Rattle.plan_contributions.specs.declared.contribution.Contribution.TheVariants as contribution
 use Rattle.plan_contributions.specs.declared.contribution.Parts.{Parts}
 use Rattle.plan_contributions.specs.declared.contribution.Place.{Place}
-use Rattle.plan_contributions.specs.DeviceEntries.{acts, step_acts, controlled}
-use Rattle.plan_contributions.specs.Contributions.{Contribution, device, post_in, mentions, Device, act_binding, posts_from, device_contributions}
+use Rattle.plan_contributions.specs.DeviceEntries.{device_of, step_settings, step_device, timer_device, acts, step_acts, controlled, Effect, posts}
+use Rattle.plan_contributions.specs.declared.contribution.Effect.TheVariants as effect
+use Rattle.plan_contributions.specs.Contributions.{Contribution, device, does_in, mentions, Device, act_binding, effects_from, listens_from, device_contributions}
 use Rattle.plan_contributions.specs.View.{parts_text, contribution_view, contributions_view}
 
 -- what is made of some things, and then of others
@@ -25,32 +28,33 @@ row_first old new place s t pushed same =
     ap contributions_view pushed ∙ map-append contribution_view old (contribution.Device place s ∷ []) ∙ ap (λ x. contributions_view old ++ device place x ∷ []) same
 
 -- a post of this event in a list of the row
-pub post_first : (old new : List contributions.Contribution) (k : ℕ) (p : Parts) (u : List ℕ) → new ≡ old ++ contribution.PostIn k p ∷ [] → parts_text p ≡ u → contributions_view new ≡ contributions_view old ++ post_in k u ∷ []
+pub post_first : (old new : List contributions.Contribution) (k : ℕ) (p : Parts) (u : List ℕ) → new ≡ old ++ contribution.DoesIn k (effect.Post p) ∷ [] → parts_text p ≡ u → contributions_view new ≡ contributions_view old ++ does_in k (posts u) ∷ []
 post_first old new k p u pushed same =
-    ap contributions_view pushed ∙ map-append contribution_view old (contribution.PostIn k p ∷ []) ∙ ap (λ x. contributions_view old ++ post_in k x ∷ []) same
+    ap contributions_view pushed ∙ map-append contribution_view old (contribution.DoesIn k (effect.Post p) ∷ []) ∙ ap (λ x. contributions_view old ++ does_in k (posts x) ∷ []) same
 
 -- the three lists of a block
-pub lists_collected : (old a b e : List Contribution) (u : List ℕ) (hit complete : List (List ℕ)) → a ≡ old ++ post_in 0 u ∷ [] → b ≡ a ++ map (post_in 1) hit → e ≡ b ++ map (post_in 2) complete
-    → e ≡ old ++ posts_from 0 ((u ∷ []) ∷ hit ∷ complete ∷ [])
+pub lists_collected : (old a b e : List Contribution) (u : Effect) (hit complete : List Effect) → a ≡ old ++ does_in 0 u ∷ [] → b ≡ a ++ map (does_in 1) hit → e ≡ b ++ map (does_in 2) complete
+    → e ≡ old ++ effects_from 0 ((u ∷ []) ∷ hit ∷ complete ∷ [])
 lists_collected old a b e u hit complete first then_ rest =
-    let hits = map (post_in 1) hit in
-    let completes = map (post_in 2) complete in
+    let hits = map (does_in 1) hit in
+    let completes = map (does_in 2) complete in
     rest ∙ ap (λ l. l ++ completes) (then_ ∙ ap (λ l. l ++ hits) first)
-    ∙ append_assoc (old ++ post_in 0 u ∷ []) hits completes
-    ∙ append_assoc old (post_in 0 u ∷ []) (hits ++ completes)
-    ∙ ap (λ l. old ++ post_in 0 u ∷ (hits ++ l)) (sym (append-nil completes))
+    ∙ append_assoc (old ++ does_in 0 u ∷ []) hits completes
+    ∙ append_assoc old (does_in 0 u ∷ []) (hits ++ completes)
+    ∙ ap (λ l. old ++ does_in 0 u ∷ (hits ++ l)) (sym (append-nil completes))
 
--- then what acts on it, and the rest
-pub device_collected : (place : Place) (d : Device) (old a b e : List Contribution) → a ≡ old ++ device place d.settings ∷ [] → b ≡ a ++ map (act_binding place) d.handled
-    → e ≡ b ++ (map mentions d.mentioned ++ posts_from 0 d.lists) → e ≡ old ++ device_contributions place d
+-- then what acts on a row that listens to no switch, and the rest
+pub device_collected : (place : Place) (d : Device) (old a b e : List Contribution) → d.listens ≡ [] → a ≡ old ++ device place d.settings ∷ [] → b ≡ a ++ map (act_binding place) d.handled
+    → e ≡ b ++ (map mentions d.mentioned ++ effects_from 0 d.lists) → e ≡ old ++ device_contributions place d
 unfolding device_contributions
-device_collected place d old a b e first then_ rest =
+device_collected place d old a b e silent first then_ rest =
     let row = device place d.settings in
     let acting = map (act_binding place) d.handled in
-    let posting = map mentions d.mentioned ++ posts_from 0 d.lists in
-    rest ∙ ap (λ l. l ++ posting) (then_ ∙ ap (λ l. l ++ acting) first)
-    ∙ append_assoc (old ++ row ∷ []) acting posting
-    ∙ append_assoc old (row ∷ []) (acting ++ posting)
+    let doing = map mentions d.mentioned ++ effects_from 0 d.lists in
+    rest ∙ ap (λ l. l ++ doing) (then_ ∙ ap (λ l. l ++ acting) first)
+    ∙ append_assoc (old ++ row ∷ []) acting doing
+    ∙ append_assoc old (row ∷ []) (acting ++ doing)
+    ∙ ap (λ ns. old ++ row ∷ (listens_from 0 ns ++ (acting ++ doing))) (sym silent)
 
 -- one step, and then the others
 pub steps_next : {X : Type 0} (f : List ℕ × Act → Contribution) (view : X → List Written) (steps : List X) (i : ℕ) (d : X) → i < length steps
@@ -67,3 +71,18 @@ steps_next f view steps i d within =
 pub control_next : (f : List ℕ × Act → Contribution) (o : Option Control) (cs : List Control) → map f (map controlled (with_control o [])) ++ map f (map controlled cs) ≡ map f (map controlled (with_control o cs))
 control_next f None cs = refl
 control_next f (Some c) cs = refl
+
+-- the device of an entry whose section has this name
+module _ (section : List ℕ) (e : Entry) (others : bytes_eq section counters_name ≡ false) where
+  pub accrual_there : bytes_eq section accruals_name ≡ true → Some (step_device (kinds.Accrual (step_settings (step_block_of e))) (step_block_of e)) ≡ device_of section e
+  unfolding device_of
+  accrual_there is = rw (others, is) refl
+
+  module _ (more : bytes_eq section accruals_name ≡ false) where
+    pub sequence_there : bytes_eq section sequences_name ≡ true → Some (step_device (kinds.Sequence (step_settings (step_block_of e))) (step_block_of e)) ≡ device_of section e
+    unfolding device_of
+    sequence_there is = rw (others, more, is) refl
+
+    pub timer_there : bytes_eq section sequences_name ≡ false → bytes_eq section timers_name ≡ true → Some (timer_device (timer_of e)) ≡ device_of section e
+    unfolding device_of
+    timer_there last is = rw (others, more, last, is) refl

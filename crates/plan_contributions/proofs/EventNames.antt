@@ -1,39 +1,81 @@
--- The names of the events that contributions use.
+-- The names that contributions use.
 use Rattle.std.proofs.Common.{List, [], ℕ}
+use Rattle.std.specs.Prelude.{Option, None, Some}
 use Rattle.std.specs.List.{All}
 use Rattle.std.proofs.lemmas.List.Elements.{All-nil, All-cons, All-weaker}
 use Rattle.mpf_config.specs.Rows.{Rows}
-use Rattle.mpf_sections.specs.Named.{IsNamed}
+use Rattle.mpf_sections.specs.Named.{IsName, IsNamed}
 use Rattle.mpf_config.specs.Named.{IsNamedMode}
 use Rattle.plan_tables.specs.declared.entries.ModeEvent.TheVariants.{WillStart}
 use Rattle.plan_tables.specs.declared.table.Table.{Table}
-use Rattle.plan_tables.specs.declared.table.Table.TheVariants.{Events}
-use Rattle.plan_contributions.specs.Contributions.{Contribution, gives, reads, active, inactive, mode, mode_event, mode_event_name, binds, post, device, post_in, mentions, contributions_of}
-use Rattle.plan_contributions.specs.UsedNames.{used, uses, name_in_table}
-use Rattle.plan_contributions.proofs.RowFacts.{IsFitName, IsFit, All-flat_map, rows_fit}
+use Rattle.plan_tables.specs.declared.table.Table.TheVariants.{Events, Switches, Coils}
+use Rattle.plan_contributions.specs.DeviceEntries.{Effect, posts, works}
+use Rattle.plan_contributions.specs.Contributions.{Contribution, gives, reads, active, inactive, mode, mode_event, mode_event_name, binds, does, device, does_in, listens, mentions, coil, contributions_of}
+use Rattle.plan_contributions.specs.UsedNames.{used_by, used, uses, name_in_table}
+use Rattle.plan_contributions.proofs.RowFacts.{IsFitName, IsFitEffect, IsFit, All-flat_map, any_name, rows_fit}
 use Rattle.plan_contributions.specs.Facts.{IsOfNames}
 
+-- the name that is used, if there is one, is fit for its table
+abbrev IsFitUse : (List ℕ → Type 0) → Option (Table × List ℕ) → Type 0
+IsFitUse P None = Unit {0}
+IsFitUse P (Some u) = IsFitName P u.0 u.1
+
 module _ (P : List ℕ → Type 0) where
-  given_fit : (t : Table) (n : List ℕ) → IsFitName P t n → All P (name_in_table Events (used (gives t n)))
-  given_fit Events n h = All-cons P n [] h (All-nil P)
-  given_fit _ n h = All-nil P
+  effect_fit : (e : Effect) → IsFitEffect P e → IsFitUse P (used_by e)
+  effect_fit (posts n) h = h
+  effect_fit (works n deed) h = h
 
-  name_fit : (c : Contribution) → IsFit P c → All P (name_in_table Events (used c))
-  name_fit (gives t n) h = given_fit t n h
-  name_fit (reads kind) h = All-nil P
-  name_fit (active n) h = All-cons P n [] h (All-nil P)
-  name_fit (inactive n) h = All-cons P n [] h (All-nil P)
-  name_fit (mode n priority game) h = All-cons P (mode_event_name WillStart n) [] h (All-nil P)
-  name_fit (mode_event which n) h = All-cons P (mode_event_name which n) [] h (All-nil P)
-  name_fit (binds n place aim) h = All-cons P n [] h (All-nil P)
-  name_fit (post n) h = All-cons P n [] h (All-nil P)
-  name_fit (device place settings) h = All-nil P
-  name_fit (post_in k n) h = All-cons P n [] h (All-nil P)
-  name_fit (mentions n) h = All-cons P n [] h (All-nil P)
+  use_fit : (c : Contribution) → IsFit P c → IsFitUse P (used c)
+  use_fit (gives t n) h = h
+  use_fit (reads kind) h = tt
+  use_fit (active n) h = h
+  use_fit (inactive n) h = h
+  use_fit (mode n priority game) h = h
+  use_fit (mode_event which n) h = h
+  use_fit (binds n place aim) h = h
+  use_fit (does e) h = effect_fit e h
+  use_fit (device place settings) h = tt
+  use_fit (does_in k e) h = effect_fit e h
+  use_fit (listens k n) h = h
+  use_fit (mentions n) h = h
+  use_fit (coil n limits) h = h
 
-  uses_fit : (cs : List Contribution) → All (IsFit P) cs → All P (uses Events cs)
-  uses_fit cs h = All-flat_map P (λ c. name_in_table Events (used c)) cs (All-weaker (IsFit P) (λ c. All P (name_in_table Events (used c))) name_fit cs h)
+  -- what holds of the names of a table that are used, where it holds of each that is fit for it
+  module _ (table : Table) (Q : List ℕ → Type 0) (each : (o : Option (Table × List ℕ)) → IsFitUse P o → All Q (name_in_table table o)) where
+    uses_fit : (cs : List Contribution) → All (IsFit P) cs → All Q (uses table cs)
+    uses_fit cs h = All-flat_map Q (λ c. name_in_table table (used c)) cs (All-weaker (IsFit P) (λ c. All Q (name_in_table table (used c))) (λ c k. each (used c) (use_fit c k)) cs h)
 
-  -- where the names in the rows are names
+  event_fit : (o : Option (Table × List ℕ)) → IsFitUse P o → All P (name_in_table Events o)
+  event_fit None h = All-nil P
+  event_fit (Some u) h = by u.0 u.1 h
+    where
+      by : (t : Table) (n : List ℕ) → IsFitName P t n → All P (name_in_table Events (Some (t, n)))
+      by Events n k = All-cons P n [] k (All-nil P)
+      by _ n k = All-nil P
+
+  switch_fit : (o : Option (Table × List ℕ)) → IsFitUse P o → All IsName (name_in_table Switches o)
+  switch_fit None h = All-nil IsName
+  switch_fit (Some u) h = by u.0 u.1 h
+    where
+      by : (t : Table) (n : List ℕ) → IsFitName P t n → All IsName (name_in_table Switches (Some (t, n)))
+      by Switches n k = All-cons IsName n [] k (All-nil IsName)
+      by _ n k = All-nil IsName
+
+  coil_fit : (o : Option (Table × List ℕ)) → IsFitUse P o → All IsName (name_in_table Coils o)
+  coil_fit None h = All-nil IsName
+  coil_fit (Some u) h = by u.0 u.1 h
+    where
+      by : (t : Table) (n : List ℕ) → IsFitName P t n → All IsName (name_in_table Coils (Some (t, n)))
+      by Coils n k = All-cons IsName n [] k (All-nil IsName)
+      by _ n k = All-nil IsName
+
+  -- where the names in the rows are names, each used name of an event meets P
   pub used_names : IsOfNames P → (rows : Rows) → All IsNamed rows.machine → All IsNamedMode rows.modes → All P (uses Events (contributions_of rows))
-  used_names of rows machine modes = uses_fit (contributions_of rows) (rows_fit P of rows machine modes)
+  used_names of rows machine modes = uses_fit Events P event_fit (contributions_of rows) (rows_fit P of rows machine modes)
+
+-- and those of switches and coils are names
+pub used_switches : (rows : Rows) → All IsNamed rows.machine → All IsNamedMode rows.modes → All IsName (uses Switches (contributions_of rows))
+used_switches rows machine modes = let P : List ℕ → Type 0 = λ n. Unit {0} in uses_fit P Switches IsName (switch_fit P) (contributions_of rows) (rows_fit P any_name rows machine modes)
+
+pub used_coils : (rows : Rows) → All IsNamed rows.machine → All IsNamedMode rows.modes → All IsName (uses Coils (contributions_of rows))
+used_coils rows machine modes = let P : List ℕ → Type 0 = λ n. Unit {0} in uses_fit P Coils IsName (coil_fit P) (contributions_of rows) (rows_fit P any_name rows machine modes)

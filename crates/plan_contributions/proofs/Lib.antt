@@ -1,7 +1,10 @@
 pub mod DeviceParts
 pub mod Placed
 pub mod RowFacts
+pub mod RowEffects
+pub mod Silent
 pub mod Unnamed
+pub mod CoilsGiven
+pub mod SwitchesGiven
 pub mod ModeNames
 pub mod EventNames
-pub mod RowPosts

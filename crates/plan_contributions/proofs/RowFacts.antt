@@ -1,23 +1,27 @@
 -- What the contributions of a row are like: proved here once for each section, and all else follows from it.
-use Rattle.std.proofs.Common.{◌≡◌, ℕ, suc, ◌+◌, ◌<◌, ◌≤◌, ◌==◌, Bool, true, false, if◌then◌else◌, List, [], ◌∷◌, ◌++◌, length, map, refl, sym, ap, subst, arith, codes}
-use Rattle.std.specs.Prelude.{Option, None, Some}
+use Rattle.std.proofs.Common.{◌≡◌, ℕ, suc, ◌+◌, ◌<◌, ◌≤◌, ◌==◌, Bool, true, false, if◌then◌else◌, List, [], ◌∷◌, ◌++◌, length, map, get_or, refl, sym, ap, subst, arith, codes}
+use Rattle.std.specs.Prelude.{Option, None, Some, IfSome, fold, unwrap_or}
 use Rattle.std.specs.Str.{bytes_eq}
 use Rattle.std.specs.List.{All, flat_map}
 use Rattle.std.proofs.lemmas.Bool.{eqb-true}
 use Rattle.std.proofs.lemmas.Grind.{flat_map-append}
 use Rattle.std.proofs.lemmas.List.{length-map}
 use Rattle.std.proofs.lemmas.List.Elements.{All-nil, All-cons, All-head, All-tail, All-append, All-map, All-weaker}
-use Rattle.mpf_sections.specs.Rows.{Written, Entry, Player, Switch, EventPlayer, Block, Counter, StepBlock, Control as TimerControl, Timer, ModeSettings, Content, entries, players, SectionRows}
+use Rattle.mpf_sections.specs.declared.words.CoilAction.{CoilAction}
+use Rattle.mpf_sections.specs.declared.words.CoilAction.TheVariants as actions
+use Rattle.mpf_sections.specs.Rows.{Written, Entry, Player, Switch, EventPlayer, Coil, CoilItem, CoilPlayer, Flipper, Autofire, Block, Counter, StepBlock, Control as TimerControl, Timer, ModeSettings, Content, entries, players, SectionRows}
 use Rattle.mpf_config.specs.Rows.{ModeRows, Rows}
 use Rattle.mpf_sections.specs.Rows as sections
-use Rattle.mpf_sections.specs.Named.{IsName, AllNames, IsNamedEntry, IsNamedPlayer, IsNamedSwitch, IsNamedEventPlayer, IsNamedBlock, IsNamedCounter, IsNamedStepBlock, IsNamedTimer, AreNamedSettings, IsNamedContent, IsNamed}
+use Rattle.mpf_sections.specs.Named.{IsName, AllNames, IsNamedEntry, IsNamedPlayer, IsNamedSwitch, IsNamedEventPlayer, IsNamedCoil, IsNamedCoilPlayer, IsNamedFlipper, IsNamedAutofire, IsNamedBlock, IsNamedCounter, IsNamedStepBlock, IsNamedTimer, AreNamedSettings, IsNamedContent, IsNamed}
 use Rattle.mpf_config.specs.Named.{IsNamedMode}
 use Rattle.mpf_sections.specs.Typed.{switches_name, event_player_name, counters_name, accruals_name, sequences_name, timers_name, switch_of, event_player_of, counter_of, step_block_of, timer_of, mode_settings}
-use Rattle.mpf_sections.specs.Short.{IsShortEntry, IsShortPlayer, IsShortBlock, IsShortCounter, IsShortStepBlock, IsShortTimer, IsShortContent, IsShortSection}
+use Rattle.mpf_sections.specs.TypedCoils.{coils_name, coil_player_name, flippers_name, autofire_coils_name, coil_of, coil_player_of, flipper_of, autofire_of, coils_in}
+use Rattle.mpf_sections.specs.Short.{IsPulseInRange, IsPowerInRange, IsCoilInRange, IsItemInRange, IsCoilPlayerInRange, IsShortEntry, IsShortPlayer, IsShortBlock, IsShortCounter, IsShortStepBlock, IsShortTimer, IsShortContent, IsShortSection}
 use Rattle.mpf_config.specs.Short.{IsShortMode, AreListsShort}
 use Rattle.mpf_sections.proofs.RowNames.{switch_named, event_player_named, mode_settings_named}
 use Rattle.mpf_sections.proofs.ShortRows.{event_player_short}
 use Rattle.mpf_sections.proofs.DeviceRows.{counter_named, step_block_named, timer_named, counter_short, step_block_short, timer_in_range}
+use Rattle.mpf_sections.proofs.CoilRows.{coil_named, coil_player_named, flipper_named, autofire_named, coil_in_range, coil_player_short, coil_player_in_range, coils_in_range}
 use Rattle.plan_contributions.specs.declared.contribution.Aim.{Aim}
 use Rattle.plan_contributions.specs.declared.contribution.Aim.TheVariants.{Run, Start, Stop, Do}
 use Rattle.plan_contributions.specs.declared.contribution.Place.{Place}
@@ -27,23 +31,32 @@ use Rattle.plan_tables.specs.declared.devices.Act.{Act}
 use Rattle.plan_tables.specs.declared.devices.Act.TheVariants.{Count, Step, Enable, Disable, Reset, Restart}
 use Rattle.plan_tables.specs.declared.devices.Settings.{Settings}
 use Rattle.plan_tables.specs.declared.devices.Settings.TheVariants as kinds
-use Rattle.plan_contributions.specs.DeviceEntries.{device_of, acts, block_acts, block_mentions, block_event, or_own, block_lists, counter_device, step_acts, step_settings, step_device, controlled, timer_event, timer_endings, timer_device}
+use Rattle.plan_tables.specs.declared.entries.CoilLimits.{CoilLimits}
+use Rattle.machine_definitions.specs.Definitions.{latest_coil, no_coil, coil_of_name}
+use Rattle.plan_contributions.specs.CoilEntries.{limits_of_coil, Defaults, defaults_called, own_pulse, own_hold, deed_by, item_effect, flipper_on, flipper_off, flipper_device, autofire_device}
+use Rattle.plan_contributions.specs.DeviceEntries.{Deed, disable, Effect, posts, works, device_of, acts, block_acts, block_mentions, block_event, or_own, block_lists, counter_device, step_acts, step_settings, step_device, controlled, timer_event, timer_endings, timer_device}
 use Rattle.plan_tables.specs.declared.entries.ModeEvent.{ModeEvent}
 use Rattle.plan_tables.specs.declared.entries.ModeEvent.TheVariants.{WillStart, Starting, Started, Stopping, Stopped}
 use Rattle.plan_tables.specs.declared.table.Table.{Table}
-use Rattle.plan_tables.specs.declared.table.Table.TheVariants.{Events}
-use Rattle.plan_contributions.specs.Contributions.{Contribution, gives, reads, active, inactive, mode, mode_event, mode_event_name, binds, post, device, post_in, mentions, texts, kind_of, tag_event, active_posts, inactive_posts, switch_contributions, player_contributions, starter, stopper, stopper_where, later_events, controls, mode_contributions, Device, act_binding, posts_from, device_contributions, where_device, Row, entry, player, of_mode, rows_from, rows_in, mode_rows, rows_of, entry_contributions, player_entry_contributions, row_contributions, given_by, contributions_of}
-use Rattle.plan_contributions.specs.Facts.{ArePlaced, IsOfNames, posts_after, posts_in_after, full, IsRoomy, AreShort, IsLimited, IsOpenPlace, IsOpenAim, IsOpen, modes_after, AreOpened}
-use Rattle.plan_contributions.proofs.Placed.{ArePlaced-append, ArePlaced-before, ArePlaced-each, ArePlaced-posts}
+use Rattle.plan_tables.specs.declared.table.Table.TheVariants.{Events, Switches, Coils}
+use Rattle.plan_contributions.specs.Contributions.{Contribution, gives, reads, active, inactive, mode, mode_event, mode_event_name, binds, does, device, does_in, listens, mentions, coil, texts, kind_of, tag_event, active_posts, inactive_posts, switch_contributions, player_contributions, coil_contributions, coil_player_contributions, starter, stopper, stopper_where, later_events, controls, mode_contributions, Device, act_binding, effects_from, listens_from, device_contributions, where_device, Row, entry, player, of_mode, rows_from, rows_in, mode_rows, rows_of, machine_device, machine_entry_contributions, entry_contributions, player_entry_contributions, row_contributions, given_by, contributions_of}
+use Rattle.plan_contributions.specs.Facts.{ArePlaced, IsOfNames, effects_after, effects_in_after, full, IsRoomy, AreShort, AreLimits, IsDeedInRange, IsEffectInRange, IsLimited, IsPlaceOf, IsOfMachine, IsOpenPlace, IsOpenAim, IsOpen, modes_after, AreOpened}
+use Rattle.plan_contributions.proofs.Placed.{ArePlaced-append, ArePlaced-before, ArePlaced-each, ArePlaced-listens, ArePlaced-effects}
 
 -- ---- what contributions are like
 
--- the name meets P where it is that of an event
+-- the name meets P where it is that of an event, and is a name where it is that of a switch or a coil
 abbrev pub IsFitName : (List ℕ → Type 0) → Table → List ℕ → Type 0
 IsFitName P Events n = P n
+IsFitName P Switches n = IsName n
+IsFitName P Coils n = IsName n
 IsFitName P _ n = Unit {0}
 
--- the name of the event that a contribution uses meets P
+abbrev pub IsFitEffect : (List ℕ → Type 0) → Effect → Type 0
+IsFitEffect P (posts n) = P n
+IsFitEffect P (works n deed) = IsName n
+
+-- so it is with the name that a contribution uses
 abbrev pub IsFit : (List ℕ → Type 0) → Contribution → Type 0
 IsFit P (gives table n) = IsFitName P table n
 IsFit P (active n) = P n
@@ -51,20 +64,26 @@ IsFit P (inactive n) = P n
 IsFit P (mode n priority game) = P (mode_event_name WillStart n)
 IsFit P (mode_event which n) = P (mode_event_name which n)
 IsFit P (binds n place aim) = P n
-IsFit P (post n) = P n
-IsFit P (post_in k n) = P n
+IsFit P (does e) = IsFitEffect P e
+IsFit P (does_in k e) = IsFitEffect P e
+IsFit P (listens k n) = IsName n
 IsFit P (mentions n) = P n
+IsFit P (coil n limits) = IsName n
 IsFit P _ = Unit {0}
+
+-- a contribution is within its limits, and of the machine where it has to be
+abbrev pub IsRight : Contribution → Type 0
+IsRight c = IsLimited c × IsOfMachine c
 
 -- ---- the rows
 
--- what contributions are like, where the names of their row are names, where its lists are short, and where so many
--- modes have come before what is of one; and acts come after their rows
+-- What contributions are like, where the names of their row are names, where its lists are short, and where so many
+-- modes have come before what is of one; and acts come after their rows.
 pub record Facts (P : List ℕ → Type 0) (n : ℕ) (Named Short Open : Type 0) (cs : List Contribution) : Type 0 where
   pub names : Named → All (IsFit P) cs
   pub lists : Short → AreShort 1024 full cs
   pub modes : Open → AreOpened n cs
-  pub limits : Short → All IsLimited cs
+  pub limits : Short → All IsRight cs
   pub acts : ArePlaced None cs
 
 abbrev pub IsNamedRow : Row → Type 0
@@ -94,73 +113,77 @@ All-flat_map P f (x ∷ xs) all =
 AreShort-fewer : (cs : List Contribution) (m n : ℕ) (f g : ℕ → ℕ) → m ≤ n → ((k : ℕ) → f k ≤ g k) → AreShort n g cs → AreShort m f cs
 AreShort-fewer [] m n f g fewer less h = tt
 AreShort-fewer (c ∷ cs) m n f g fewer less h =
-    (roomy c h.0, AreShort-fewer cs (posts_after m c) (posts_after n c) (posts_in_after f c) (posts_in_after g c) (after c) (in_after c) h.1)
+    (roomy c h.0, AreShort-fewer cs (effects_after m c) (effects_after n c) (effects_in_after f c) (effects_in_after g c) (after c) (in_after c) h.1)
   where
     roomy : (x : Contribution) → IsRoomy n g x → IsRoomy m f x
-    roomy (post e) is = omega (arith, fewer, is)
-    roomy (post_in k e) is = omega (arith, less k, is)
+    roomy (does e) is = omega (arith, fewer, is)
+    roomy (does_in k e) is = omega (arith, less k, is)
     roomy _ is = tt
 
-    after : (x : Contribution) → posts_after m x ≤ posts_after n x
+    after : (x : Contribution) → effects_after m x ≤ effects_after n x
     after (binds e place Run) = omega arith
-    after (post e) = omega (arith, fewer)
+    after (does e) = omega (arith, fewer)
     after (device place settings) = omega arith
-    after (post_in k e) = omega arith
+    after (does_in k e) = omega arith
     after _ = fewer
 
     raised : (b : Bool) (j : ℕ) → (if b then suc (f j) else f j) ≤ (if b then suc (g j) else g j)
     raised true j = omega (arith, less j)
     raised false j = less j
 
-    in_after : (x : Contribution) (j : ℕ) → posts_in_after f x j ≤ posts_in_after g x j
-    in_after (post e) j = omega arith
+    in_after : (x : Contribution) (j : ℕ) → effects_in_after f x j ≤ effects_in_after g x j
+    in_after (does e) j = omega arith
     in_after (device place settings) j = omega arith
-    in_after (post_in k e) j = raised (j == k) j
+    in_after (does_in k e) j = raised (j == k) j
     in_after _ j = less j
 
 -- no more is there than may be
 AreShort-append : (cs ds : List Contribution) (n : ℕ) (f : ℕ → ℕ) → n ≤ 1024 → ((k : ℕ) → f k ≤ 1024) → AreShort n f cs → AreShort 1024 full ds → AreShort n f (cs ++ ds)
 AreShort-append [] ds n f few some first then_ = AreShort-fewer ds n 1024 f full few some then_
-AreShort-append (c ∷ cs) ds n f few some first then_ = (first.0, AreShort-append cs ds (posts_after n c) (posts_in_after f c) (after c first.0) (in_after c first.0) first.1 then_)
+AreShort-append (c ∷ cs) ds n f few some first then_ = (first.0, AreShort-append cs ds (effects_after n c) (effects_in_after f c) (after c first.0) (in_after c first.0) first.1 then_)
   where
-    after : (x : Contribution) → IsRoomy n f x → posts_after n x ≤ 1024
+    after : (x : Contribution) → IsRoomy n f x → effects_after n x ≤ 1024
     after (binds e place Run) is = omega arith
-    after (post e) is = omega (arith, is)
+    after (does e) is = omega (arith, is)
     after (device place settings) is = omega arith
-    after (post_in k e) is = omega arith
+    after (does_in k e) is = omega arith
     after _ is = few
 
     raised : (k j : ℕ) → f k < 1024 → (b : Bool) → (j == k) ≡ b → (if b then suc (f j) else f j) ≤ 1024
     raised k j room true same = omega (arith, room, ap f (eqb-true j k same))
     raised k j room false other = some j
 
-    in_after : (x : Contribution) → IsRoomy n f x → (j : ℕ) → posts_in_after f x j ≤ 1024
-    in_after (post e) is j = omega arith
+    in_after : (x : Contribution) → IsRoomy n f x → (j : ℕ) → effects_in_after f x j ≤ 1024
+    in_after (does e) is j = omega arith
     in_after (device place settings) is j = omega arith
-    in_after (post_in k e) is j = raised k j is (j == k) refl
+    in_after (does_in k e) is j = raised k j is (j == k) refl
     in_after _ is j = some j
 
--- what is no post, before others
+-- what is no effect, before others
 AreShort-before : {X : Type 0} (n : ℕ) (f : ℕ → ℕ) (make : X → Contribution) → ((x : X) (cs : List Contribution) → AreShort n f cs → AreShort n f (make x ∷ cs)) → (xs : List X) (rest : List Contribution)
     → AreShort n f rest → AreShort n f (map make xs ++ rest)
 AreShort-before n f make more [] rest h = h
 AreShort-before n f make more (x ∷ xs) rest h = more x (map make xs ++ rest) (AreShort-before n f make more xs rest h)
+
+AreShort-listens : (n : ℕ) (f : ℕ → ℕ) (k : ℕ) (ns : List (List ℕ)) (rest : List Contribution) → AreShort n f rest → AreShort n f (listens_from k ns ++ rest)
+AreShort-listens n f k [] rest h = h
+AreShort-listens n f k (s ∷ ss) rest h = (tt, AreShort-listens n f (suc k) ss rest h)
 
 -- or alone
 AreShort-each : (make : List ℕ → Contribution) → ((n : List ℕ) (cs : List Contribution) → AreShort 1024 full cs → AreShort 1024 full (make n ∷ cs)) → (ns : List (List ℕ)) → AreShort 1024 full (map make ns)
 AreShort-each make more [] = tt
 AreShort-each make more (n ∷ ns) = more n (map make ns) (AreShort-each make more ns)
 
-AreShort-posts : (n : ℕ) (f : ℕ → ℕ) (ns : List (List ℕ)) → n + length ns ≤ 1024 → AreShort n f (map post ns)
-AreShort-posts n f [] room = tt
-AreShort-posts n f (e ∷ es) room = (omega (arith, room), AreShort-posts (suc n) full es (omega (arith, room)))
+AreShort-does : {X : Type 0} (effect : X → Effect) (n : ℕ) (f : ℕ → ℕ) (xs : List X) → n + length xs ≤ 1024 → AreShort n f (map (λ x. does (effect x)) xs)
+AreShort-does effect n f [] room = tt
+AreShort-does effect n f (x ∷ xs) room = (omega (arith, room), AreShort-does effect (suc n) full xs (omega (arith, room)))
 
--- posts in one effect list of a row, where those after it are empty
-AreShort-in : (k c : ℕ) (es : List (List ℕ)) (rest : List Contribution) → ((n : ℕ) (g : ℕ → ℕ) → ((j : ℕ) → k < j → g j ≤ 0) → AreShort n g rest)
-    → (n : ℕ) (f : ℕ → ℕ) → f k ≤ c → c + length es ≤ 1024 → ((j : ℕ) → k < j → f j ≤ 0) → AreShort n f (map (post_in k) es ++ rest)
+-- effects in one list of a row, where those after it are empty
+AreShort-in : (k c : ℕ) (es : List Effect) (rest : List Contribution) → ((n : ℕ) (g : ℕ → ℕ) → ((j : ℕ) → k < j → g j ≤ 0) → AreShort n g rest)
+    → (n : ℕ) (f : ℕ → ℕ) → f k ≤ c → c + length es ≤ 1024 → ((j : ℕ) → k < j → f j ≤ 0) → AreShort n f (map (does_in k) es ++ rest)
 AreShort-in k c [] rest then_ n f few room empty = then_ n f empty
 AreShort-in k c (e ∷ es) rest then_ n f few room empty =
-    (omega (arith, few, room), AreShort-in k (suc c) es rest then_ 1024 (posts_in_after f (post_in k e)) (here (k == k)) (omega (arith, room)) (λ j later. there j later (j == k) refl))
+    (omega (arith, few, room), AreShort-in k (suc c) es rest then_ 1024 (effects_in_after f (does_in k e)) (here (k == k)) (omega (arith, room)) (λ j later. there j later (j == k) refl))
   where
     here : (b : Bool) → (if b then suc (f k) else f k) ≤ suc c
     here true = omega (arith, few)
@@ -171,12 +194,12 @@ AreShort-in k c (e ∷ es) rest then_ n f few room empty =
     there j later false other = empty j later
 
 -- and in one after the other
-AreShort-lists : (k : ℕ) (lists : List (List (List ℕ))) → All (λ es. length es ≤ 1024) lists → (n : ℕ) (f : ℕ → ℕ) → ((j : ℕ) → k ≤ j → f j ≤ 0) → AreShort n f (posts_from k lists)
+AreShort-lists : (k : ℕ) (lists : List (List Effect)) → All (λ es. length es ≤ 1024) lists → (n : ℕ) (f : ℕ → ℕ) → ((j : ℕ) → k ≤ j → f j ≤ 0) → AreShort n f (effects_from k lists)
 AreShort-lists k [] short n f empty = tt
 AreShort-lists k (es ∷ rest) short n f empty =
-    let room : length es ≤ 1024 = All-head (λ (xs : List (List ℕ)). length xs ≤ 1024) es rest short in
-    let later = All-tail (λ (xs : List (List ℕ)). length xs ≤ 1024) es rest short in
-    AreShort-in k 0 es (posts_from (suc k) rest) (λ m g none. AreShort-lists (suc k) rest later m g (λ j from. none j (omega (arith, from)))) n f (empty k (omega arith)) (omega (arith, room)) (λ j from. empty j (omega (arith, from)))
+    let room : length es ≤ 1024 = All-head (λ (xs : List Effect). length xs ≤ 1024) es rest short in
+    let later = All-tail (λ (xs : List Effect). length xs ≤ 1024) es rest short in
+    AreShort-in k 0 es (effects_from (suc k) rest) (λ m g none. AreShort-lists (suc k) rest later m g (λ j from. none j (omega (arith, from)))) n f (empty k (omega arith)) (omega (arith, room)) (λ j from. empty j (omega (arith, from)))
 
 -- more modes have come
 AreOpened-more : (cs : List Contribution) (m n : ℕ) → m ≤ n → AreOpened m cs → AreOpened n cs
@@ -211,7 +234,7 @@ AreOpened-append (c ∷ cs) ds m n some first then_ = (first.0, AreOpened-append
     after (mode name priority game) = omega (arith, some)
     after _ = some
 
-AreOpened-each : (n : ℕ) (make : List ℕ → Contribution) → ((e : List ℕ) (cs : List Contribution) → AreOpened n cs → AreOpened n (make e ∷ cs)) → (es : List (List ℕ)) → AreOpened n (map make es)
+AreOpened-each : {X : Type 0} (n : ℕ) (make : X → Contribution) → ((e : X) (cs : List Contribution) → AreOpened n cs → AreOpened n (make e ∷ cs)) → (es : List X) → AreOpened n (map make es)
 AreOpened-each n make more [] = tt
 AreOpened-each n make more (e ∷ es) = more e (map make es) (AreOpened-each n make more es)
 
@@ -220,29 +243,116 @@ AreOpened-before : {X : Type 0} (n : ℕ) (make : X → Contribution) → ((x : 
 AreOpened-before n make more [] rest h = h
 AreOpened-before n make more (x ∷ xs) rest h = more x (map make xs ++ rest) (AreOpened-before n make more xs rest h)
 
-AreOpened-lists : (n k : ℕ) (lists : List (List (List ℕ))) → AreOpened n (posts_from k lists)
+AreOpened-listens : (n k : ℕ) (ns : List (List ℕ)) (rest : List Contribution) → AreOpened n rest → AreOpened n (listens_from k ns ++ rest)
+AreOpened-listens n k [] rest h = h
+AreOpened-listens n k (s ∷ ss) rest h = (tt, AreOpened-listens n (suc k) ss rest h)
+
+AreOpened-lists : (n k : ℕ) (lists : List (List Effect)) → AreOpened n (effects_from k lists)
 AreOpened-lists n k [] = tt
-AreOpened-lists n k (es ∷ rest) = AreOpened-before n (post_in k) (λ e cs h. (tt, h)) es (posts_from (suc k) rest) (AreOpened-lists n (suc k) rest)
+AreOpened-lists n k (es ∷ rest) = AreOpened-before n (does_in k) (λ e cs h. (tt, h)) es (effects_from (suc k) rest) (AreOpened-lists n (suc k) rest)
 
 -- what holds of all that is made
 pub All-made : {X : Type 0} (Q : Contribution → Type 0) (make : X → Contribution) → ((x : X) → Q (make x)) → (xs : List X) → All Q (map make xs)
 All-made Q make each [] = All-nil Q
 All-made Q make each (x ∷ xs) = All-cons Q (make x) (map make xs) (each x) (All-made Q make each xs)
 
--- and of all posts of a row's effect lists
-pub All-lists : (Q : Contribution → Type 0) (R : List ℕ → Type 0) → ((k : ℕ) (e : List ℕ) → R e → Q (post_in k e)) → (k : ℕ) (lists : List (List (List ℕ))) → All (All R) lists → All Q (posts_from k lists)
+-- of all switches to which a row listens
+pub All-listens : (Q : Contribution → Type 0) (R : List ℕ → Type 0) → ((k : ℕ) (n : List ℕ) → R n → Q (listens k n)) → (k : ℕ) (ns : List (List ℕ)) → All R ns → All Q (listens_from k ns)
+All-listens Q R each k [] h = All-nil Q
+All-listens Q R each k (n ∷ ns) h = All-cons Q (listens k n) (listens_from (suc k) ns) (each k n (All-head R n ns h)) (All-listens Q R each (suc k) ns (All-tail R n ns h))
+
+-- and of all effects in a row's lists
+pub All-lists : (Q : Contribution → Type 0) (R : Effect → Type 0) → ((k : ℕ) (e : Effect) → R e → Q (does_in k e)) → (k : ℕ) (lists : List (List Effect)) → All (All R) lists → All Q (effects_from k lists)
 All-lists Q R each k [] h = All-nil Q
 All-lists Q R each k (es ∷ rest) h =
-    All-append Q (map (post_in k) es) (posts_from (suc k) rest)
-    (All-map Q (post_in k) es (All-weaker R (λ e. Q (post_in k e)) (each k) es (All-head (All R) es rest h)))
+    All-append Q (map (does_in k) es) (effects_from (suc k) rest)
+    (All-map Q (does_in k) es (All-weaker R (λ e. Q (does_in k e)) (each k) es (All-head (All R) es rest h)))
     (All-lists Q R each (suc k) rest (All-tail (All R) es rest h))
+
+-- ---- coils
+
+abbrev IsRanged : Option Coil → Type 0
+IsRanged o = IfSome o IsCoilInRange
+
+latest_ranged : (name : List ℕ) (cs : List Coil) (found : Option Coil) → IsRanged found → All IsCoilInRange cs → IsRanged (fold (latest_coil name) found cs)
+latest_ranged name [] found h all = h
+latest_ranged name (c ∷ cs) found h all = latest_ranged name cs (latest_coil name found c) (by (bytes_eq name c.name.text)) (All-tail IsCoilInRange c cs all)
+  where
+    by : (b : Bool) → IsRanged (if b then Some c else found)
+    by true = All-head IsCoilInRange c cs all
+    by false = h
+
+no_coil_ranged : IsCoilInRange no_coil
+no_coil_ranged = record {
+  pulse_ms = (omega arith, omega arith);
+  max_pulse_ms = (omega arith, omega arith);
+  pulse_power = omega arith;
+  max_pulse_power = omega arith;
+  hold_power = omega arith;
+  max_hold_power = omega arith;
+}
+
+-- what is written, or else another
+or_else : {A : Type 0} (Q : A → Type 0) (o : Option A) (other : A) → IfSome o Q → Q other → Q (unwrap_or o other)
+or_else Q None other h is = is
+or_else Q (Some x) other h is = h
+
+-- the numbers of the coil of a name are in their ranges
+called_ranged : (machine : List SectionRows) (name : List ℕ) → IsCoilInRange (coil_of_name machine name)
+called_ranged machine name =
+    let cs = flat_map coils_in machine in
+    or_else IsCoilInRange (fold (latest_coil name) None cs) no_coil
+    (latest_ranged name cs None tt (All-flat_map IsCoilInRange coils_in machine (λ i d within. coils_in_range (get_or machine i d)))) no_coil_ranged
+
+pulse_ranged : (machine : List SectionRows) (name : List ℕ) → IsDeedInRange (own_pulse (defaults_called machine name))
+pulse_ranged machine name = let coil = called_ranged machine name in (coil.pulse_ms, coil.pulse_power)
+
+hold_ranged : (machine : List SectionRows) (name : List ℕ) → IsDeedInRange (own_hold (defaults_called machine name))
+hold_ranged machine name = let coil = called_ranged machine name in coil.hold_power
+
+item_ranged : (machine : List SectionRows) (item : CoilItem) → IsItemInRange item → IsEffectInRange (item_effect machine item)
+item_ranged machine item h = by item.action
+  where
+    c : IsCoilInRange (coil_of_name machine item.coil.text)
+    c = called_ranged machine item.coil.text
+
+    by : (action : CoilAction) → IsDeedInRange (deed_by (defaults_called machine item.coil.text) item action)
+    by actions.Pulse = (or_else IsPulseInRange item.pulse_ms _ h.pulse_ms c.pulse_ms, or_else IsPowerInRange item.pulse_power _ h.pulse_power c.pulse_power)
+    by actions.Enable = or_else IsPowerInRange item.hold_power _ h.hold_power c.hold_power
+    by actions.Disable = tt
+
+-- what holds of all effects of a flipper
+module _ (Q : Effect → Type 0) (machine : List SectionRows) (main : Written) where
+  one_of_two : (b : Bool) (x y : Deed) → Q (works main.text x) → Q (works main.text y) → Q (works main.text (if b then x else y))
+  one_of_two true x y h k = h
+  one_of_two false x y h k = k
+
+  flips_on : (hold : Option Written) → Q (works main.text (own_pulse (defaults_called machine main.text))) → Q (works main.text (own_hold (defaults_called machine main.text)))
+      → IfSome hold (λ w. Q (works w.text (own_hold (defaults_called machine w.text)))) → All Q (flipper_on machine main hold)
+  flips_on (Some hold) pulsed held other =
+      All-cons Q (works main.text (own_pulse (defaults_called machine main.text))) (works hold.text (own_hold (defaults_called machine hold.text)) ∷ []) pulsed
+      (All-cons Q (works hold.text (own_hold (defaults_called machine hold.text))) [] other (All-nil Q))
+  flips_on None pulsed held other =
+      let c = defaults_called machine main.text in
+      All-cons Q (works main.text (if c.may_hold then own_hold c else own_pulse c)) [] (one_of_two c.may_hold (own_hold c) (own_pulse c) held pulsed) (All-nil Q)
+
+  flips_off : (hold : Option Written) → Q (works main.text disable) → IfSome hold (λ w. Q (works w.text disable)) → All Q (flipper_off machine main hold)
+  flips_off (Some hold) own other = All-cons Q (works hold.text disable) [] other (All-nil Q)
+  flips_off None own other = by (let c = defaults_called machine main.text in c.may_hold)
+    where
+      by : (b : Bool) → All Q (if b then works main.text disable ∷ [] else [])
+      by true = All-cons Q (works main.text disable) [] own (All-nil Q)
+      by false = All-nil Q
 
 -- ---- each section
 
-abbrev IsFew : List (List ℕ) → Type 0
+abbrev IsFew : List Effect → Type 0
 IsFew es = length es ≤ 1024
 
-short_or_own : (ws : List Written) (own : List ℕ) → length ws ≤ 1024 → IsFew (or_own ws own)
+few_posts : (ns : List (List ℕ)) → length ns ≤ 1024 → IsFew (map posts ns)
+few_posts ns few = omega (arith, few, length-map ns posts)
+
+short_or_own : (ws : List Written) (own : List ℕ) → length ws ≤ 1024 → length (or_own ws own) ≤ 1024
 short_or_own [] own few = omega arith
 short_or_own (w ∷ ws) own few = omega (arith, few, length-map (w ∷ ws) (λ (x : Written). x.text))
 
@@ -250,27 +360,98 @@ short_lists : (name : List ℕ) (b : Block) → IsShortBlock b → All IsFew (bl
 short_lists name b h =
     let hit = or_own b.hit (block_event name (codes "_hit")) in
     let complete = or_own b.complete (block_event name (codes "_complete")) in
-    All-cons IsFew (block_event name (codes "_updated") ∷ []) (hit ∷ complete ∷ []) (omega arith)
-    (All-cons IsFew hit (complete ∷ []) (short_or_own b.hit _ h.hit) (All-cons IsFew complete [] (short_or_own b.complete _ h.complete) (All-nil IsFew)))
+    All-cons IsFew (posts (block_event name (codes "_updated")) ∷ []) (map posts hit ∷ map posts complete ∷ []) (omega arith)
+    (All-cons IsFew (map posts hit) (map posts complete ∷ []) (few_posts hit (short_or_own b.hit _ h.hit))
+    (All-cons IsFew (map posts complete) [] (few_posts complete (short_or_own b.complete _ h.complete)) (All-nil IsFew)))
 
--- no effect list of a device has more posts, and its settings are within their limits
-record IsShortDevice (d : Device) : Type 0 where
+-- what holds of each effect that posts holds of all effects of a block
+all_block : (Q : Effect → Type 0) → ((n : List ℕ) → Q (posts n)) → (name : List ℕ) (b : Block) → All (All Q) (block_lists name b)
+all_block Q each name b =
+    let hit = or_own b.hit (block_event name (codes "_hit")) in
+    let complete = or_own b.complete (block_event name (codes "_complete")) in
+    All-cons (All Q) (map posts (block_event name (codes "_updated") ∷ [])) (map posts hit ∷ map posts complete ∷ []) (of (block_event name (codes "_updated") ∷ []))
+    (All-cons (All Q) (map posts hit) (map posts complete ∷ []) (of hit) (All-cons (All Q) (map posts complete) [] (of complete) (All-nil (All Q))))
+  where
+    of : (ns : List (List ℕ)) → All Q (map posts ns)
+    of [] = All-nil Q
+    of (n ∷ ns) = All-cons Q (posts n) (map posts ns) (each n) (of ns)
+
+-- no effect list of a device has more effects, its settings and effects are within their limits, and it has its place
+record IsRightDevice (place : Place) (d : Device) : Type 0 where
   lists : All (λ es. length es ≤ 1024) d.lists
   limits : IsWithinLimits d.settings
+  effects : All (All IsEffectInRange) d.lists
+  place_of : IsPlaceOf d.settings place
 
-short_counter : (c : Counter) → IsShortCounter c → IsShortDevice (counter_device c)
-short_counter c h = record { lists = short_lists c.name.text c.block h.block; limits = h.end }
-
-short_steps : (settings : Settings) (b : StepBlock) → IsWithinLimits settings → IsShortStepBlock b → IsShortDevice (step_device settings b)
-short_steps settings b limited h = record { lists = short_lists b.name.text b.block h.block; limits = limited }
-
-short_timer : (t : Timer) → IsShortTimer t → IsShortDevice (timer_device t)
-short_timer t h = record {
-  lists = All-map IsFew (λ ending. timer_event t.name.text ending ∷ []) timer_endings (λ i d within. omega arith);
-  limits = (h.interval, h.end);
+short_counter : (place : Place) (c : Counter) → IsShortCounter c → IsRightDevice place (counter_device c)
+short_counter place c h = record {
+  lists = short_lists c.name.text c.block h.block;
+  limits = h.end;
+  effects = all_block IsEffectInRange (λ n. tt) c.name.text c.block;
+  place_of = tt;
 }
 
-module _ (P : List ℕ → Type 0) (of : IsOfNames P) (n : ℕ) where
+short_steps : (place : Place) (settings : Settings) (b : StepBlock) → IsWithinLimits settings → IsPlaceOf settings place → IsShortStepBlock b → IsRightDevice place (step_device settings b)
+short_steps place settings b limited there h = record {
+  lists = short_lists b.name.text b.block h.block;
+  limits = limited;
+  effects = all_block IsEffectInRange (λ n. tt) b.name.text b.block;
+  place_of = there;
+}
+
+short_timer : (place : Place) (t : Timer) → IsShortTimer t → IsRightDevice place (timer_device t)
+short_timer place t h = record {
+  lists = All-map IsFew (λ ending. posts (timer_event t.name.text ending) ∷ []) timer_endings (λ i d within. omega arith);
+  limits = (h.interval, h.end);
+  effects = All-map (All IsEffectInRange) (λ ending. posts (timer_event t.name.text ending) ∷ []) timer_endings
+      (λ i d within. All-cons IsEffectInRange (posts (timer_event t.name.text (get_or timer_endings i d))) [] tt (All-nil IsEffectInRange));
+  place_of = tt;
+}
+
+short_flipper : (machine : List SectionRows) (f : Flipper) → IsRightDevice Machine (flipper_device machine f)
+short_flipper machine f =
+    let on = flipper_on machine f.main_coil f.hold_coil in
+    let off = flipper_off machine f.main_coil f.hold_coil in
+    record {
+      lists = All-cons IsFew on (off ∷ []) (few_on f.hold_coil) (All-cons IsFew off [] (few_off f.hold_coil) (All-nil IsFew));
+      limits = tt;
+      effects = All-cons (All IsEffectInRange) on (off ∷ [])
+          (flips_on IsEffectInRange machine f.main_coil f.hold_coil (pulse_ranged machine f.main_coil.text) (hold_ranged machine f.main_coil.text) (held f.hold_coil))
+          (All-cons (All IsEffectInRange) off [] (flips_off IsEffectInRange machine f.main_coil f.hold_coil tt (disabled f.hold_coil)) (All-nil (All IsEffectInRange)));
+      place_of = refl;
+    }
+  where
+    few_on : (hold : Option Written) → IsFew (flipper_on machine f.main_coil hold)
+    few_on None = omega arith
+    few_on (Some hold) = omega arith
+
+    few_if : (b : Bool) (e : Effect) → IsFew (if b then e ∷ [] else [])
+    few_if true e = omega arith
+    few_if false e = omega arith
+
+    few_off : (hold : Option Written) → IsFew (flipper_off machine f.main_coil hold)
+    few_off None = few_if (let c = defaults_called machine f.main_coil.text in c.may_hold) (works f.main_coil.text disable)
+    few_off (Some hold) = omega arith
+
+    held : (hold : Option Written) → IfSome hold (λ w. IsDeedInRange (own_hold (defaults_called machine w.text)))
+    held None = tt
+    held (Some hold) = hold_ranged machine hold.text
+
+    disabled : (hold : Option Written) → IfSome hold (λ w. Unit {0})
+    disabled None = tt
+    disabled (Some hold) = tt
+
+short_autofire : (machine : List SectionRows) (a : Autofire) → IsRightDevice Machine (autofire_device machine a)
+short_autofire machine a =
+    let own = works a.coil.text (own_pulse (defaults_called machine a.coil.text)) in
+    record {
+      lists = All-cons IsFew (own ∷ []) [] (omega arith) (All-nil IsFew);
+      limits = tt;
+      effects = All-cons (All IsEffectInRange) (own ∷ []) [] (All-cons IsEffectInRange own [] (pulse_ranged machine a.coil.text) (All-nil IsEffectInRange)) (All-nil (All IsEffectInRange));
+      place_of = refl;
+    }
+
+module _ (machine : List SectionRows) (P : List ℕ → Type 0) (of : IsOfNames P) (n : ℕ) where
   all_names : (ws : List Written) → AllNames ws → All P (texts ws)
   all_names ws h = All-map P (λ (w : Written). w.text) ws (All-weaker (λ (w : Written). IsName w.text) (λ w. P w.text) (λ w. of.name w.text) ws h)
 
@@ -284,66 +465,107 @@ module _ (P : List ℕ → Type 0) (of : IsOfNames P) (n : ℕ) where
       (All-map (IsFit P) active (active_posts s) (All-cons P (s.name.text ++ codes "_active") (map tag_event s.tags ++ texts s.activated) (of.active s.name.text h.name) more))
       (All-map (IsFit P) inactive (inactive_posts s) (All-cons P (s.name.text ++ codes "_inactive") (texts s.deactivated) (of.inactive s.name.text h.name) (all_names s.deactivated h.deactivated)))
 
-  switch_facts : (s : Switch) → Facts P n (IsNamedSwitch s) (Unit {0}) (Unit {0}) (switch_contributions s)
+  switch_facts : (s : Switch) → Facts P n (IsNamedSwitch s) (Unit {0}) (Unit {0}) (switch_contributions machine s)
   unfolding switch_contributions
   switch_facts s =
       let on = map active (active_posts s) in
       let off = map inactive (inactive_posts s) in
+      let kind = kind_of machine s in
       record {
-        names = λ h. All-cons (IsFit P) _ (reads (kind_of s) ∷ on ++ off) tt (All-cons (IsFit P) _ (on ++ off) tt (fit_switch s h));
+        names = λ h. All-cons (IsFit P) _ (reads kind ∷ on ++ off) h.name (All-cons (IsFit P) _ (on ++ off) tt (fit_switch s h));
         lists = λ h. (tt, (tt, AreShort-append on off 1024 full (omega arith) (λ k. omega arith) (AreShort-each active (λ e cs k. (tt, k)) (active_posts s)) (AreShort-each inactive (λ e cs k. (tt, k)) (inactive_posts s))));
         modes = λ h. (tt, (tt, AreOpened-append on off n n (omega arith) (AreOpened-each n active (λ e cs k. (tt, k)) (active_posts s)) (AreOpened-each n inactive (λ e cs k. (tt, k)) (inactive_posts s))));
-        limits = λ h. All-cons IsLimited _ (reads (kind_of s) ∷ on ++ off) tt (All-cons IsLimited _ (on ++ off) tt
-            (All-append IsLimited on off (All-made IsLimited active (λ e. tt) (active_posts s)) (All-made IsLimited inactive (λ e. tt) (inactive_posts s))));
+        limits = λ h. All-cons IsRight _ (reads kind ∷ on ++ off) (tt, tt) (All-cons IsRight _ (on ++ off) (tt, tt)
+            (All-append IsRight on off (All-made IsRight active (λ e. (tt, tt)) (active_posts s)) (All-made IsRight inactive (λ e. (tt, tt)) (inactive_posts s))));
         acts = (tt, (tt, ArePlaced-append on off None (ArePlaced-each None active (λ e cs k. (tt, k)) (active_posts s)) (ArePlaced-each None inactive (λ e cs k. (tt, k)) (inactive_posts s))));
+      }
+
+  -- an entry of a player, by what it does
+  doing_facts : {X : Type 0} (Named Short : Type 0) (place : Place) (event : List ℕ) (effect : X → Effect) (xs : List X)
+      → (Named → P event × All (λ x. IsFitEffect P (effect x)) xs) → (Short → (length xs ≤ 1024) × All (λ x. IsEffectInRange (effect x)) xs)
+      → Facts P n Named Short (IsOpenPlace n place) (binds event place Run ∷ map (λ x. does (effect x)) xs)
+  doing_facts {X} Named Short place event effect xs named short =
+      let make : X → Contribution = λ x. does (effect x) in
+      record {
+        names = λ h. All-cons (IsFit P) (binds event place Run) (map make xs) (named h).0 (All-map (IsFit P) make xs (named h).1);
+        lists = λ h. (tt, AreShort-does effect 0 full xs (omega (arith, (short h).0)));
+        modes = λ h. ((h, tt), AreOpened-each n make (λ e cs k. (tt, k)) xs);
+        limits = λ h. All-cons IsRight (binds event place Run) (map make xs) (tt, tt)
+            (All-map IsRight make xs (All-weaker (λ x. IsEffectInRange (effect x)) (λ x. IsRight (make x)) (λ x k. (k, tt)) xs (short h).1));
+        acts = (tt, ArePlaced-each None make (λ e cs k. (tt, k)) xs);
       }
 
   player_facts : (place : Place) (p : EventPlayer) → Facts P n (IsNamedEventPlayer p) (length p.posts ≤ 1024) (IsOpenPlace n place) (player_contributions place p)
   unfolding player_contributions
-  player_facts place p = record {
-    names = λ h. All-cons (IsFit P) _ (map post (texts p.posts)) (of.name p.event.text h.event) (All-map (IsFit P) post (texts p.posts) (all_names p.posts h.posts));
-    lists = λ h. (tt, AreShort-posts 0 full (texts p.posts) (omega (arith, h, length-map p.posts (λ (w : Written). w.text))));
-    modes = λ h. ((h, tt), AreOpened-each n post (λ e cs k. (tt, k)) (texts p.posts));
-    limits = λ h. All-cons IsLimited _ (map post (texts p.posts)) tt (All-made IsLimited post (λ e. tt) (texts p.posts));
-    acts = (tt, ArePlaced-each None post (λ e cs k. (tt, k)) (texts p.posts));
+  player_facts place p =
+      doing_facts (IsNamedEventPlayer p) (length p.posts ≤ 1024) place p.event.text posts (texts p.posts) (λ h. (of.name p.event.text h.event, all_names p.posts h.posts))
+      (λ h. (omega (arith, h, length-map p.posts (λ (w : Written). w.text)), λ i d within. tt))
+
+  abbrev IsShortItems : CoilPlayer → Type 0
+  IsShortItems p = (length p.items ≤ 1024) × IsCoilPlayerInRange p
+
+  coil_player_facts : (place : Place) (p : CoilPlayer) → Facts P n (IsNamedCoilPlayer p) (IsShortItems p) (IsOpenPlace n place) (coil_player_contributions machine place p)
+  unfolding coil_player_contributions
+  coil_player_facts place p =
+      doing_facts (IsNamedCoilPlayer p) (IsShortItems p) place p.event.text (item_effect machine) p.items (λ h. (of.name p.event.text h.event, h.items))
+      (λ h. (h.0, All-weaker IsItemInRange (λ item. IsEffectInRange (item_effect machine item)) (item_ranged machine) p.items h.1))
+
+  coil_facts : (c : Coil) → Facts P n (IsNamedCoil c) (IsCoilInRange c) (Unit {0}) (coil_contributions c)
+  unfolding coil_contributions
+  coil_facts c = record {
+    names = λ h. All-cons (IsFit P) (coil c.name.text (limits_of_coil c)) [] h.name (All-nil (IsFit P));
+    lists = λ h. (tt, tt);
+    modes = λ h. (tt, tt);
+    limits = λ h. All-cons IsRight (coil c.name.text (limits_of_coil c)) [] (limited h, tt) (All-nil IsRight);
+    acts = (tt, tt);
   }
+    where
+      limited : IsCoilInRange c → AreLimits (limits_of_coil c)
+      limited h = record { some_pulse = h.max_pulse_ms.0; pulse = h.max_pulse_ms.1; pulse_power = h.max_pulse_power; hold_power = h.max_hold_power }
 
   -- ---- devices
 
-  -- P holds of each event that the entry of a device names
+  -- P holds of each event that the entry of a device names, and switches and coils have names
   record IsFitDevice (d : Device) : Type 0 where
+    listens : All IsName d.listens
     handled : All (λ h. P h.0) d.handled
     mentioned : All P d.mentioned
-    lists : All (All P) d.lists
+    lists : All (All (IsFitEffect P)) d.lists
 
-  device_facts : (place : Place) (d : Device) → Facts P n (IsFitDevice d) (IsShortDevice d) (IsOpenPlace n place) (device_contributions place d)
+  device_facts : (place : Place) (d : Device) → Facts P n (IsFitDevice d) (IsRightDevice place d) (IsOpenPlace n place) (device_contributions place d)
   unfolding device_contributions
   device_facts place d =
-      let none = posts_in_after full (device place d.settings) in
+      let none = effects_in_after full (device place d.settings) in
+      let listening = listens_from 0 d.listens in
       let acting = map (act_binding place) d.handled in
       let named = map mentions d.mentioned in
-      let posting = posts_from 0 d.lists in
+      let doing = effects_from 0 d.lists in
       record {
-        names = λ h. All-cons (IsFit P) (device place d.settings) (acting ++ (named ++ posting)) tt
-            (All-append (IsFit P) acting (named ++ posting) (All-map (IsFit P) (act_binding place) d.handled h.handled)
-            (All-append (IsFit P) named posting (All-map (IsFit P) mentions d.mentioned h.mentioned) (All-lists (IsFit P) P (λ k e m. m) 0 d.lists h.lists)));
+        names = λ h. All-cons (IsFit P) (device place d.settings) (listening ++ (acting ++ (named ++ doing))) tt
+            (All-append (IsFit P) listening (acting ++ (named ++ doing)) (All-listens (IsFit P) IsName (λ k s m. m) 0 d.listens h.listens)
+            (All-append (IsFit P) acting (named ++ doing) (All-map (IsFit P) (act_binding place) d.handled h.handled)
+            (All-append (IsFit P) named doing (All-map (IsFit P) mentions d.mentioned h.mentioned) (All-lists (IsFit P) (IsFitEffect P) (λ k e m. m) 0 d.lists h.lists))));
         lists = λ h. (
           tt,
-          AreShort-before 1024 none (act_binding place) (λ x cs k. (tt, k)) d.handled (named ++ posting)
-              (AreShort-before 1024 none mentions (λ x cs k. (tt, k)) d.mentioned posting (AreShort-lists 0 d.lists h.lists 1024 none (λ j from. omega arith))),
+          AreShort-listens 1024 none 0 d.listens (acting ++ (named ++ doing))
+              (AreShort-before 1024 none (act_binding place) (λ x cs k. (tt, k)) d.handled (named ++ doing)
+              (AreShort-before 1024 none mentions (λ x cs k. (tt, k)) d.mentioned doing (AreShort-lists 0 d.lists h.lists 1024 none (λ j from. omega arith)))),
         );
         modes = λ h. (
           h,
-          AreOpened-before n (act_binding place) (λ x cs k. ((h, tt), k)) d.handled (named ++ posting)
-              (AreOpened-before n mentions (λ x cs k. (tt, k)) d.mentioned posting (AreOpened-lists n 0 d.lists)),
+          AreOpened-listens n 0 d.listens (acting ++ (named ++ doing))
+              (AreOpened-before n (act_binding place) (λ x cs k. ((h, tt), k)) d.handled (named ++ doing)
+              (AreOpened-before n mentions (λ x cs k. (tt, k)) d.mentioned doing (AreOpened-lists n 0 d.lists))),
         );
-        limits = λ h. All-cons IsLimited (device place d.settings) (acting ++ (named ++ posting)) h.limits
-            (All-append IsLimited acting (named ++ posting) (All-made IsLimited (act_binding place) (λ x. tt) d.handled)
-            (All-append IsLimited named posting (All-made IsLimited mentions (λ x. tt) d.mentioned) (All-lists IsLimited (λ e. Unit {0}) (λ k e m. tt) 0 d.lists (λ i x within j e inside. tt))));
+        limits = λ h. All-cons IsRight (device place d.settings) (listening ++ (acting ++ (named ++ doing))) (h.limits, h.place_of)
+            (All-append IsRight listening (acting ++ (named ++ doing)) (All-listens IsRight (λ s. Unit {0}) (λ k s m. (tt, tt)) 0 d.listens (λ i x within. tt))
+            (All-append IsRight acting (named ++ doing) (All-made IsRight (act_binding place) (λ x. (tt, tt)) d.handled)
+            (All-append IsRight named doing (All-made IsRight mentions (λ x. (tt, tt)) d.mentioned) (All-lists IsRight IsEffectInRange (λ k e m. (m, tt)) 0 d.lists h.effects))));
         acts = (
           tt,
-          ArePlaced-before (Some place) (act_binding place) (λ x cs k. (refl, k)) d.handled (named ++ posting)
-              (ArePlaced-before (Some place) mentions (λ x cs k. (tt, k)) d.mentioned posting (ArePlaced-posts (Some place) 0 d.lists)),
+          ArePlaced-listens place 0 d.listens (acting ++ (named ++ doing))
+              (ArePlaced-before (Some place) (act_binding place) (λ x cs k. (refl, k)) d.handled (named ++ doing)
+              (ArePlaced-before (Some place) mentions (λ x cs k. (tt, k)) d.mentioned doing (ArePlaced-effects (Some place) 0 d.lists))),
         );
       }
 
@@ -361,21 +583,26 @@ module _ (P : List ℕ → Type 0) (of : IsOfNames P) (n : ℕ) where
   fit_or_own [] own h k = All-cons P own [] k (All-nil P)
   fit_or_own (w ∷ ws) own h k = all_names (w ∷ ws) h
 
-  fit_lists : (name : List ℕ) (b : Block) → IsName name → IsNamedBlock b → All (All P) (block_lists name b)
+  fit_posts : (ns : List (List ℕ)) → All P ns → All (IsFitEffect P) (map posts ns)
+  fit_posts ns h = All-map (IsFitEffect P) posts ns h
+
+  fit_lists : (name : List ℕ) (b : Block) → IsName name → IsNamedBlock b → All (All (IsFitEffect P)) (block_lists name b)
   fit_lists name b k h =
+      let Q = All (IsFitEffect P) in
       let endings = of.block name k in
-      let updated = block_event name (codes "_updated") in
-      let hit = block_event name (codes "_hit") in
-      let complete = block_event name (codes "_complete") in
-      All-cons (All P) (updated ∷ []) (or_own b.hit hit ∷ or_own b.complete complete ∷ []) (All-cons P updated [] (endings 0 [] (omega arith)) (All-nil P))
-      (All-cons (All P) (or_own b.hit hit) (or_own b.complete complete ∷ []) (fit_or_own b.hit hit h.hit (endings 1 [] (omega arith)))
-      (All-cons (All P) (or_own b.complete complete) [] (fit_or_own b.complete complete h.complete (endings 2 [] (omega arith))) (All-nil (All P))))
+      let updated = block_event name (codes "_updated") ∷ [] in
+      let hit = or_own b.hit (block_event name (codes "_hit")) in
+      let complete = or_own b.complete (block_event name (codes "_complete")) in
+      All-cons Q (map posts updated) (map posts hit ∷ map posts complete ∷ []) (fit_posts updated (All-cons P (block_event name (codes "_updated")) [] (endings 0 [] (omega arith)) (All-nil P)))
+      (All-cons Q (map posts hit) (map posts complete ∷ []) (fit_posts hit (fit_or_own b.hit _ h.hit (endings 1 [] (omega arith))))
+      (All-cons Q (map posts complete) [] (fit_posts complete (fit_or_own b.complete _ h.complete (endings 2 [] (omega arith)))) (All-nil Q)))
 
   fit_mentions : (b : Block) → IsNamedBlock b → All P (block_mentions b)
   fit_mentions b h = All-append P (texts b.hit) (texts b.complete) (all_names b.hit h.hit) (all_names b.complete h.complete)
 
   fit_counter : (c : Counter) → IsNamedCounter c → IsFitDevice (counter_device c)
   fit_counter c h = record {
+    listens = All-nil IsName;
     handled = All-append (λ (x : List ℕ × Act). P x.0) (acts Count c.counts) (block_acts c.block) (all_acts Count c.counts h.counts) (fit_acts c.block h.block);
     mentioned = fit_mentions c.block h.block;
     lists = fit_lists c.name.text c.block h.name h.block;
@@ -388,6 +615,7 @@ module _ (P : List ℕ → Type 0) (of : IsOfNames P) (n : ℕ) where
 
   fit_steps : (settings : Settings) (b : StepBlock) → IsNamedStepBlock b → IsFitDevice (step_device settings b)
   fit_steps settings b h = record {
+    listens = All-nil IsName;
     handled = All-append (λ (x : List ℕ × Act). P x.0) (step_acts 0 b.steps) (block_acts b.block) (fit_step_acts 0 b.steps h.steps) (fit_acts b.block h.block);
     mentioned = fit_mentions b.block h.block;
     lists = fit_lists b.name.text b.block h.name h.block;
@@ -395,11 +623,41 @@ module _ (P : List ℕ → Type 0) (of : IsOfNames P) (n : ℕ) where
 
   fit_timer : (t : Timer) → IsNamedTimer t → IsFitDevice (timer_device t)
   fit_timer t h = record {
+    listens = All-nil IsName;
     handled = All-map (λ (x : List ℕ × Act). P x.0) controlled t.controls (All-weaker (λ (c : TimerControl). IsName c.event.text) (λ c. P c.event.text) (λ c. of.name c.event.text) t.controls h.controls);
     mentioned = All-nil P;
-    lists = All-map (All P) (λ ending. timer_event t.name.text ending ∷ []) timer_endings
-        (All-weaker (λ ending. P (timer_event t.name.text ending)) (λ ending. All P (timer_event t.name.text ending ∷ [])) (λ ending k. All-cons P (timer_event t.name.text ending) [] k (All-nil P)) timer_endings (of.timer t.name.text h.name));
+    lists = All-map (All (IsFitEffect P)) (λ ending. posts (timer_event t.name.text ending) ∷ []) timer_endings
+        (All-weaker (λ ending. P (timer_event t.name.text ending)) (λ ending. All (IsFitEffect P) (posts (timer_event t.name.text ending) ∷ []))
+        (λ ending k. All-cons (IsFitEffect P) (posts (timer_event t.name.text ending)) [] k (All-nil (IsFitEffect P))) timer_endings (of.timer t.name.text h.name));
   }
+
+  -- what enables and disables a flipper or an autofire coil
+  fit_rule : (enables disables : List Written) → AllNames enables → AllNames disables → All (λ h. P h.0) (acts Enable enables ++ acts Disable disables)
+  fit_rule enables disables h k = All-append (λ (x : List ℕ × Act). P x.0) (acts Enable enables) (acts Disable disables) (all_acts Enable enables h) (all_acts Disable disables k)
+
+  fit_flipper : (f : Flipper) → IsNamedFlipper f → IsFitDevice (flipper_device machine f)
+  fit_flipper f h =
+      let Q = IsFitEffect P in
+      let on = flipper_on machine f.main_coil f.hold_coil in
+      let off = flipper_off machine f.main_coil f.hold_coil in
+      record {
+        listens = All-cons IsName f.switch.text [] h.switch (All-nil IsName);
+        handled = fit_rule f.enables f.disables h.enables h.disables;
+        mentioned = All-nil P;
+        lists = All-cons (All Q) on (off ∷ []) (flips_on Q machine f.main_coil f.hold_coil h.main_coil h.main_coil h.hold_coil)
+            (All-cons (All Q) off [] (flips_off Q machine f.main_coil f.hold_coil h.main_coil h.hold_coil) (All-nil (All Q)));
+      }
+
+  fit_autofire : (a : Autofire) → IsNamedAutofire a → IsFitDevice (autofire_device machine a)
+  fit_autofire a h =
+      let Q = IsFitEffect P in
+      let own = works a.coil.text (own_pulse (defaults_called machine a.coil.text)) in
+      record {
+        listens = All-cons IsName a.switch.text [] h.switch (All-nil IsName);
+        handled = fit_rule a.enables a.disables h.enables h.disables;
+        mentioned = All-nil P;
+        lists = All-cons (All Q) (own ∷ []) [] (All-cons Q own [] h.coil (All-nil Q)) (All-nil (All Q));
+      }
 
   -- ---- modes
 
@@ -415,9 +673,9 @@ module _ (P : List ℕ → Type 0) (of : IsOfNames P) (n : ℕ) where
   open_where m some true event = ((some, some), tt)
   open_where m some false event = tt
 
-  limited_where : (holds : Bool) (event : List ℕ) → All IsLimited (stopper_where holds event)
-  limited_where true event = All-cons IsLimited (stopper event) [] tt (All-nil IsLimited)
-  limited_where false event = All-nil IsLimited
+  limited_where : (holds : Bool) (event : List ℕ) → All IsRight (stopper_where holds event)
+  limited_where true event = All-cons IsRight (stopper event) [] (tt, tt) (All-nil IsRight)
+  limited_where false event = All-nil IsRight
 
   placed_where : (holds : Bool) (event : List ℕ) → ArePlaced None (stopper_where holds event)
   placed_where true event = (tt, tt)
@@ -463,14 +721,14 @@ module _ (P : List ℕ → Type 0) (of : IsOfNames P) (n : ℕ) where
             (open_where m some s.game (codes "game_ending")) in
             (tt, (tt, (tt, (tt, (tt, opened)))));
         limits = λ h.
-            let limited = All-append IsLimited (starts ++ stops ++ ball) game (All-append IsLimited (starts ++ stops) ball
-            (All-append IsLimited starts stops (All-made IsLimited starter (λ e. tt) (texts s.starts)) (All-made IsLimited stopper (λ e. tt) (texts s.stops)))
+            let limited = All-append IsRight (starts ++ stops ++ ball) game (All-append IsRight (starts ++ stops) ball
+            (All-append IsRight starts stops (All-made IsRight starter (λ e. (tt, tt)) (texts s.starts)) (All-made IsRight stopper (λ e. (tt, tt)) (texts s.stops)))
             (limited_where s.stops_with_ball (codes "ball_ending"))) (limited_where s.game (codes "game_ending")) in
-            All-cons IsLimited (mode name s.priority s.game) (later_events name ++ controls s) tt
-            (All-cons IsLimited (mode_event Starting name) (mode_event Started name ∷ mode_event Stopping name ∷ mode_event Stopped name ∷ controls s) tt
-            (All-cons IsLimited (mode_event Started name) (mode_event Stopping name ∷ mode_event Stopped name ∷ controls s) tt
-            (All-cons IsLimited (mode_event Stopping name) (mode_event Stopped name ∷ controls s) tt
-            (All-cons IsLimited (mode_event Stopped name) (controls s) tt limited))));
+            All-cons IsRight (mode name s.priority s.game) (later_events name ++ controls s) (tt, tt)
+            (All-cons IsRight (mode_event Starting name) (mode_event Started name ∷ mode_event Stopping name ∷ mode_event Stopped name ∷ controls s) (tt, tt)
+            (All-cons IsRight (mode_event Started name) (mode_event Stopping name ∷ mode_event Stopped name ∷ controls s) (tt, tt)
+            (All-cons IsRight (mode_event Stopping name) (mode_event Stopped name ∷ controls s) (tt, tt)
+            (All-cons IsRight (mode_event Stopped name) (controls s) (tt, tt) limited))));
         acts =
             let placed = ArePlaced-append (starts ++ stops ++ ball) game None (ArePlaced-append (starts ++ stops) ball None
             (ArePlaced-append starts stops None (ArePlaced-each None starter (λ e cs k. (tt, k)) (texts s.starts)) (ArePlaced-each None stopper (λ e cs k. (tt, k)) (texts s.stops)))
@@ -482,7 +740,7 @@ module _ (P : List ℕ → Type 0) (of : IsOfNames P) (n : ℕ) where
 
   -- nothing is like all
   none_facts : (Named Short Open : Type 0) → Facts P n Named Short Open []
-  none_facts Named Short Open = record { names = λ h. All-nil (IsFit P); lists = λ h. tt; modes = λ h. tt; limits = λ h. All-nil IsLimited; acts = tt }
+  none_facts Named Short Open = record { names = λ h. All-nil (IsFit P); lists = λ h. tt; modes = λ h. tt; limits = λ h. All-nil IsRight; acts = tt }
 
   -- one of two
   either : {Named Short Open : Type 0} (b : Bool) (cs ds : List Contribution) → Facts P n Named Short Open cs → Facts P n Named Short Open ds → Facts P n Named Short Open (if b then cs else ds)
@@ -490,94 +748,113 @@ module _ (P : List ℕ → Type 0) (of : IsOfNames P) (n : ℕ) where
   either false cs ds first other = other
 
   -- what a device gives, where an entry is one
-  abbrev IsGood : Entry → Option Device → Type 0
-  IsGood e None = Unit {0}
-  IsGood e (Some d) = (IsNamedEntry e → IsFitDevice d) × (IsShortEntry 1024 e → IsShortDevice d)
+  abbrev IsGood : Place → Entry → Option Device → Type 0
+  IsGood place e None = Unit {0}
+  IsGood place e (Some d) = (IsNamedEntry e → IsFitDevice d) × (IsShortEntry 1024 e → IsRightDevice place d)
 
-  good_where : (e : Entry) (b : Bool) (o q : Option Device) → IsGood e o → IsGood e q → IsGood e (if b then o else q)
-  good_where e true o q first other = first
-  good_where e false o q first other = other
+  good_where : (place : Place) (e : Entry) (b : Bool) (o q : Option Device) → IsGood place e o → IsGood place e q → IsGood place e (if b then o else q)
+  good_where place e true o q first other = first
+  good_where place e false o q first other = other
 
-  good_device : (section : List ℕ) (e : Entry) → IsGood e (device_of section e)
+  good_device : (place : Place) (section : List ℕ) (e : Entry) → IsGood place e (device_of section e)
   unfolding device_of
-  good_device section e =
+  good_device place section e =
       let counter = counter_of e in
       let block = step_block_of e in
       let accrual = step_device (kinds.Accrual (step_settings block)) block in
       let sequence = step_device (kinds.Sequence (step_settings block)) block in
       let timer = timer_device (timer_of e) in
-      good_where e (bytes_eq section counters_name) (Some (counter_device counter)) _ (λ h. fit_counter counter (counter_named e h), λ h. short_counter counter (counter_short e h))
-      (good_where e (bytes_eq section accruals_name) (Some accrual) _
-      (λ h. fit_steps (kinds.Accrual (step_settings block)) block (step_block_named e h), λ h. short_steps (kinds.Accrual (step_settings block)) block (let short = step_block_short e h in short.steps) (step_block_short e h))
-      (good_where e (bytes_eq section sequences_name) (Some sequence) _
-      (λ h. fit_steps (kinds.Sequence (step_settings block)) block (step_block_named e h), λ h. short_steps (kinds.Sequence (step_settings block)) block (let short = step_block_short e h in short.steps) (step_block_short e h))
-      (good_where e (bytes_eq section timers_name) (Some timer) None (λ h. fit_timer (timer_of e) (timer_named e h), λ h. short_timer (timer_of e) (timer_in_range e)) tt)))
+      good_where place e (bytes_eq section counters_name) (Some (counter_device counter)) _ (λ h. fit_counter counter (counter_named e h), λ h. short_counter place counter (counter_short e h))
+      (good_where place e (bytes_eq section accruals_name) (Some accrual) _
+      (λ h. fit_steps (kinds.Accrual (step_settings block)) block (step_block_named e h), λ h. short_steps place (kinds.Accrual (step_settings block)) block (let short = step_block_short e h in short.steps) tt (step_block_short e h))
+      (good_where place e (bytes_eq section sequences_name) (Some sequence) _
+      (λ h. fit_steps (kinds.Sequence (step_settings block)) block (step_block_named e h), λ h. short_steps place (kinds.Sequence (step_settings block)) block (let short = step_block_short e h in short.steps) tt (step_block_short e h))
+      (good_where place e (bytes_eq section timers_name) (Some timer) None (λ h. fit_timer (timer_of e) (timer_named e h), λ h. short_timer place (timer_of e) (timer_in_range e)) tt)))
 
-  where_facts : (place : Place) (e : Entry) (o : Option Device) → IsGood e o → Facts P n (IsNamedEntry e) (IsShortEntry 1024 e) (IsOpenPlace n place) (where_device place o)
+  good_machine : (section : List ℕ) (e : Entry) → IsGood Machine e (machine_device machine section e)
+  good_machine section e =
+      let flipper = flipper_of e in
+      let autofire = autofire_of e in
+      good_where Machine e (bytes_eq section flippers_name) (Some (flipper_device machine flipper)) _ (λ h. fit_flipper flipper (flipper_named e h), λ h. short_flipper machine flipper)
+      (good_where Machine e (bytes_eq section autofire_coils_name) (Some (autofire_device machine autofire)) (device_of section e)
+      (λ h. fit_autofire autofire (autofire_named e h), λ h. short_autofire machine autofire) (good_device Machine section e))
+
+  where_facts : (place : Place) (e : Entry) (o : Option Device) → IsGood place e o → Facts P n (IsNamedEntry e) (IsShortEntry 1024 e) (IsOpenPlace n place) (where_device place o)
   where_facts place e None good = none_facts (IsNamedEntry e) (IsShortEntry 1024 e) (IsOpenPlace n place)
   where_facts place e (Some d) good =
       let facts = device_facts place d in
       record { names = λ h. facts.names (good.0 h); lists = λ h. facts.lists (good.1 h); modes = facts.modes; limits = λ h. facts.limits (good.1 h); acts = facts.acts }
 
-  entry_facts : (place : Place) (section : List ℕ) (e : Entry) → Facts P n (IsNamedEntry e) (IsShortEntry 1024 e) (IsOpenPlace n place) (entry_contributions place section e)
-  unfolding entry_contributions
-  entry_facts place section e =
+  machine_facts : (section : List ℕ) (e : Entry) → Facts P n (IsNamedEntry e) (IsShortEntry 1024 e) (Unit {0}) (machine_entry_contributions machine section e)
+  unfolding machine_entry_contributions
+  machine_facts section e =
       let switch = switch_facts (switch_of e) in
-      either (bytes_eq section switches_name) (switch_contributions (switch_of e)) (where_device place (device_of section e))
-      (record { names = λ h. switch.names (switch_named e h); lists = λ h. switch.lists tt; modes = λ h. switch.modes tt; limits = λ h. switch.limits tt; acts = switch.acts })
-      (where_facts place e (device_of section e) (good_device section e))
+      let c = coil_facts (coil_of e) in
+      let device = where_device Machine (machine_device machine section e) in
+      either (bytes_eq section coils_name) (coil_contributions (coil_of e)) (if bytes_eq section switches_name then switch_contributions machine (switch_of e) else device)
+      (record { names = λ h. c.names (coil_named e h); lists = λ h. c.lists (coil_in_range e); modes = c.modes; limits = λ h. c.limits (coil_in_range e); acts = c.acts })
+      (either (bytes_eq section switches_name) (switch_contributions machine (switch_of e)) device
+      (record { names = λ h. switch.names (switch_named e h); lists = λ h. switch.lists tt; modes = switch.modes; limits = λ h. switch.limits tt; acts = switch.acts })
+      (where_facts Machine e (machine_device machine section e) (good_machine section e)))
 
-  player_entry_facts : (place : Place) (section : List ℕ) (p : Player) → Facts P n (IsNamedPlayer p) (IsShortPlayer 1024 p) (IsOpenPlace n place) (player_entry_contributions place section p)
+  entry_facts : (place : Place) (section : List ℕ) (e : Entry) → Facts P n (IsNamedEntry e) (IsShortEntry 1024 e) (IsOpenPlace n place) (entry_contributions machine place section e)
+  unfolding entry_contributions
+  entry_facts Machine section e = machine_facts section e
+  entry_facts Control section e = where_facts Control e (device_of section e) (good_device Control section e)
+  entry_facts Mode section e = where_facts Mode e (device_of section e) (good_device Mode section e)
+
+  player_entry_facts : (place : Place) (section : List ℕ) (p : Player) → Facts P n (IsNamedPlayer p) (IsShortPlayer 1024 p) (IsOpenPlace n place) (player_entry_contributions machine place section p)
   unfolding player_entry_contributions
-  player_entry_facts place section p = by (bytes_eq section event_player_name)
-    where
-      row : Facts P n (IsNamedEventPlayer (event_player_of p)) (length (event_player_of p).posts ≤ 1024) (IsOpenPlace n place) (player_contributions place (event_player_of p))
-      row = player_facts place (event_player_of p)
+  player_entry_facts place section p =
+      let event = player_facts place (event_player_of p) in
+      let item = coil_player_facts place (coil_player_of p) in
+      let short : IsShortPlayer 1024 p → IsShortItems (coil_player_of p) = λ h. (coil_player_short p h, coil_player_in_range p) in
+      either (bytes_eq section event_player_name) (player_contributions place (event_player_of p)) (if bytes_eq section coil_player_name then coil_player_contributions machine place (coil_player_of p) else [])
+      (record { names = λ h. event.names (event_player_named p h); lists = λ h. event.lists (event_player_short p h); modes = event.modes; limits = λ h. event.limits (event_player_short p h); acts = event.acts })
+      (either (bytes_eq section coil_player_name) (coil_player_contributions machine place (coil_player_of p)) []
+      (record { names = λ h. item.names (coil_player_named p h); lists = λ h. item.lists (short h); modes = item.modes; limits = λ h. item.limits (short h); acts = item.acts })
+      (none_facts (IsNamedPlayer p) (IsShortPlayer 1024 p) (IsOpenPlace n place)))
 
-      by : (b : Bool) → Facts P n (IsNamedPlayer p) (IsShortPlayer 1024 p) (IsOpenPlace n place) (if b then player_contributions place (event_player_of p) else [])
-      by true = record { names = λ h. row.names (event_player_named p h); lists = λ h. row.lists (event_player_short p h); modes = row.modes; limits = λ h. row.limits (event_player_short p h); acts = row.acts }
-      by false = none_facts (IsNamedPlayer p) (IsShortPlayer 1024 p) (IsOpenPlace n place)
-
-  row_facts : (r : Row) → Facts P n (IsNamedRow r) (IsShortRow r) (IsOpenRow n r) (row_contributions r)
+  row_facts : (r : Row) → Facts P n (IsNamedRow r) (IsShortRow r) (IsOpenRow n r) (row_contributions machine r)
   row_facts (entry place section e) = entry_facts place section e
   row_facts (player place section p) = player_entry_facts place section p
   row_facts (of_mode name s) = mode_facts name s
 
-  all_fit : (rs : List Row) → All IsNamedRow rs → All (IsFit P) (given_by rs)
+  all_fit : (rs : List Row) → All IsNamedRow rs → All (IsFit P) (given_by machine rs)
   all_fit rs h =
-      All-flat_map (IsFit P) row_contributions rs
-      (All-weaker IsNamedRow (λ r. All (IsFit P) (row_contributions r)) (λ r k. let facts = row_facts r in facts.names k) rs h)
+      All-flat_map (IsFit P) (row_contributions machine) rs
+      (All-weaker IsNamedRow (λ r. All (IsFit P) (row_contributions machine r)) (λ r k. let facts = row_facts r in facts.names k) rs h)
 
 -- what holds whatever names are
-any_name : IsOfNames (λ n. Unit {0})
+pub any_name : IsOfNames (λ n. Unit {0})
 any_name = record { name = λ n k. tt; active = λ n k. tt; inactive = λ n k. tt; tag = λ n k. tt; mode = λ which n k. tt; ball = tt; game = tt; block = λ n k i d within. tt; timer = λ n k i d within. tt }
 
 -- no effect list that rows give has more posts
-all_short : (rs : List Row) → All IsShortRow rs → AreShort 1024 full (given_by rs)
-all_short [] h = tt
-all_short (r ∷ rs) h =
-    let facts = row_facts (λ n. Unit {0}) any_name 0 r in
-    AreShort-append (row_contributions r) (given_by rs) 1024 full (omega arith) (λ k. omega arith) (facts.lists (All-head IsShortRow r rs h)) (all_short rs (All-tail IsShortRow r rs h))
+all_short : (machine : List SectionRows) (rs : List Row) → All IsShortRow rs → AreShort 1024 full (given_by machine rs)
+all_short machine [] h = tt
+all_short machine (r ∷ rs) h =
+    let facts = row_facts machine (λ n. Unit {0}) any_name 0 r in
+    AreShort-append (row_contributions machine r) (given_by machine rs) 1024 full (omega arith) (λ k. omega arith) (facts.lists (All-head IsShortRow r rs h)) (all_short machine rs (All-tail IsShortRow r rs h))
 
 -- what rows give is of modes that came before
-all_open : (n : ℕ) (rs : List Row) → All (IsOpenRow n) rs → AreOpened n (given_by rs)
-all_open n [] h = tt
-all_open n (r ∷ rs) h =
-    let facts = row_facts (λ e. Unit {0}) any_name n r in
-    AreOpened-append (row_contributions r) (given_by rs) n n (omega arith) (facts.modes (All-head (IsOpenRow n) r rs h)) (all_open n rs (All-tail (IsOpenRow n) r rs h))
+all_open : (machine : List SectionRows) (n : ℕ) (rs : List Row) → All (IsOpenRow n) rs → AreOpened n (given_by machine rs)
+all_open machine n [] h = tt
+all_open machine n (r ∷ rs) h =
+    let facts = row_facts machine (λ e. Unit {0}) any_name n r in
+    AreOpened-append (row_contributions machine r) (given_by machine rs) n n (omega arith) (facts.modes (All-head (IsOpenRow n) r rs h)) (all_open machine n rs (All-tail (IsOpenRow n) r rs h))
 
--- the settings that rows give are within their limits
-all_limited : (rs : List Row) → All IsShortRow rs → All IsLimited (given_by rs)
-all_limited rs h =
-    All-flat_map IsLimited row_contributions rs
-    (All-weaker IsShortRow (λ r. All IsLimited (row_contributions r)) (λ r k. let facts = row_facts (λ e. Unit {0}) any_name 0 r in facts.limits k) rs h)
+-- what rows give is within its limits, and of the machine where it has to be
+all_right : (machine : List SectionRows) (rs : List Row) → All IsShortRow rs → All IsRight (given_by machine rs)
+all_right machine rs h =
+    All-flat_map IsRight (row_contributions machine) rs
+    (All-weaker IsShortRow (λ r. All IsRight (row_contributions machine r)) (λ r k. let facts = row_facts machine (λ e. Unit {0}) any_name 0 r in facts.limits k) rs h)
 
 -- what acts on a row comes after it
-all_placed : (rs : List Row) → ArePlaced None (given_by rs)
-all_placed [] = tt
-all_placed (r ∷ rs) =
-    let facts = row_facts (λ e. Unit {0}) any_name 0 r in
-    ArePlaced-append (row_contributions r) (given_by rs) None facts.acts (all_placed rs)
+all_placed : (machine : List SectionRows) (rs : List Row) → ArePlaced None (given_by machine rs)
+all_placed machine [] = tt
+all_placed machine (r ∷ rs) =
+    let facts = row_facts machine (λ e. Unit {0}) any_name 0 r in
+    ArePlaced-append (row_contributions machine r) (given_by machine rs) None facts.acts (all_placed machine rs)
 
 -- ---- the rows of sections
 
@@ -612,9 +889,9 @@ rows_open n place opened name (sections.entry e) = All-nil (IsOpenRow n)
 rows_open n place opened name (sections.listed ws) = All-nil (IsOpenRow n)
 
 -- what rows of sections give
-sections_open : (n : ℕ) (place : Place) → IsOpenPlace n place → (sections : List SectionRows) → AreOpened n (given_by (rows_in place sections))
-sections_open n place opened sections =
-    all_open n (rows_in place sections) (sections_each (IsOpenRow n) (λ s. Unit {0}) place (λ s h. rows_open n place opened s.name s.content) sections (λ i d within. tt))
+sections_open : (machine : List SectionRows) (n : ℕ) (place : Place) → IsOpenPlace n place → (sections : List SectionRows) → AreOpened n (given_by machine (rows_in place sections))
+sections_open machine n place opened sections =
+    all_open machine n (rows_in place sections) (sections_each (IsOpenRow n) (λ s. Unit {0}) place (λ s h. rows_open n place opened s.name s.content) sections (λ i d within. tt))
 
 -- ---- the rows of a bundle
 
@@ -628,7 +905,7 @@ mode_rows_short m h = All-cons IsShortRow (of_mode m.name (mode_settings m.secti
 
 pub rows_fit : (P : List ℕ → Type 0) → IsOfNames P → (rows : Rows) → All IsNamed rows.machine → All IsNamedMode rows.modes → All (IsFit P) (contributions_of rows)
 rows_fit P of rows machine modes =
-    all_fit P of 0 (rows_of rows)
+    all_fit rows.machine P of 0 (rows_of rows)
     (All-append IsNamedRow (rows_in Machine rows.machine) (flat_map mode_rows rows.modes) (sections_each IsNamedRow IsNamed Machine (rows_named Machine) rows.machine machine)
     (All-flat_map IsNamedRow mode_rows rows.modes (All-weaker IsNamedMode (λ m. All IsNamedRow (mode_rows m)) mode_rows_named rows.modes modes)))
 
@@ -638,33 +915,39 @@ all_rows_short rows h =
     (All-flat_map IsShortRow mode_rows rows.modes (All-weaker IsShortMode (λ m. All IsShortRow (mode_rows m)) mode_rows_short rows.modes h.1))
 
 pub rows_are_short : (rows : Rows) → AreListsShort rows → AreShort 1024 full (contributions_of rows)
-rows_are_short rows h = all_short (rows_of rows) (all_rows_short rows h)
+rows_are_short rows h = all_short rows.machine (rows_of rows) (all_rows_short rows h)
+
+rows_are_right : (rows : Rows) → AreListsShort rows → All IsRight (contributions_of rows)
+rows_are_right rows h = all_right rows.machine (rows_of rows) (all_rows_short rows h)
 
 pub rows_are_limited : (rows : Rows) → AreListsShort rows → All IsLimited (contributions_of rows)
-rows_are_limited rows h = all_limited (rows_of rows) (all_rows_short rows h)
+rows_are_limited rows h = All-weaker IsRight IsLimited (λ c k. k.0) (contributions_of rows) (rows_are_right rows h)
+
+pub rows_are_of_machine : (rows : Rows) → AreListsShort rows → All IsOfMachine (contributions_of rows)
+rows_are_of_machine rows h = All-weaker IsRight IsOfMachine (λ c k. k.1) (contributions_of rows) (rows_are_right rows h)
 
 pub rows_are_placed : (rows : Rows) → ArePlaced None (contributions_of rows)
-rows_are_placed rows = all_placed (rows_of rows)
+rows_are_placed rows = all_placed rows.machine (rows_of rows)
 
 -- a mode, and what is of it
-mode_open : (n : ℕ) (m : ModeRows) → AreOpened n (given_by (mode_rows m))
+mode_open : (machine : List SectionRows) (n : ℕ) (m : ModeRows) → AreOpened n (given_by machine (mode_rows m))
 unfolding mode_contributions
-mode_open n m =
+mode_open machine n m =
     let s = mode_settings m.sections in
-    let rest = given_by (rows_in Mode m.sections) in
-    let first = row_facts (λ e. Unit {0}) any_name n (of_mode m.name s) in
+    let rest = given_by machine (rows_in Mode m.sections) in
+    let first = row_facts machine (λ e. Unit {0}) any_name n (of_mode m.name s) in
     let some : 1 ≤ suc n = omega arith in
-    (tt, AreOpened-append (later_events m.name ++ controls s) rest 1 (suc n) some (first.modes tt).1 (sections_open 1 Mode (omega arith) m.sections))
+    (tt, AreOpened-append (later_events m.name ++ controls s) rest 1 (suc n) some (first.modes tt).1 (sections_open machine 1 Mode (omega arith) m.sections))
 
-modes_open : (n : ℕ) (ms : List ModeRows) → AreOpened n (given_by (flat_map mode_rows ms))
-modes_open n [] = tt
-modes_open n (m ∷ ms) =
-    subst (AreOpened n) (sym (flat_map-append row_contributions (mode_rows m) (flat_map mode_rows ms)))
-    (AreOpened-append (given_by (mode_rows m)) (given_by (flat_map mode_rows ms)) n n (omega arith) (mode_open n m) (modes_open n ms))
+modes_open : (machine : List SectionRows) (n : ℕ) (ms : List ModeRows) → AreOpened n (given_by machine (flat_map mode_rows ms))
+modes_open machine n [] = tt
+modes_open machine n (m ∷ ms) =
+    subst (AreOpened n) (sym (flat_map-append (row_contributions machine) (mode_rows m) (flat_map mode_rows ms)))
+    (AreOpened-append (given_by machine (mode_rows m)) (given_by machine (flat_map mode_rows ms)) n n (omega arith) (mode_open machine n m) (modes_open machine n ms))
 
 pub rows_are_open : (rows : Rows) → AreOpened 0 (contributions_of rows)
 rows_are_open rows =
     let first = rows_in Machine rows.machine in
     let rest = flat_map mode_rows rows.modes in
-    subst (AreOpened 0) (sym (flat_map-append row_contributions first rest))
-    (AreOpened-append (given_by first) (given_by rest) 0 0 (omega arith) (sections_open 0 Machine tt rows.machine) (modes_open 0 rows.modes))
+    subst (AreOpened 0) (sym (flat_map-append (row_contributions rows.machine) first rest))
+    (AreOpened-append (given_by rows.machine first) (given_by rows.machine rest) 0 0 (omega arith) (sections_open rows.machine 0 Machine tt rows.machine) (modes_open rows.machine 0 rows.modes))

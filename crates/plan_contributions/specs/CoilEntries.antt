@@ -7,7 +7,7 @@ use Rattle.mpf_sections.specs.Rows.{Written, Coil, CoilItem, Flipper, Autofire, 
 use Rattle.plan_tables.specs.declared.entries.CoilLimits.{CoilLimits}
 use Rattle.plan_tables.specs.declared.devices.Settings.TheVariants as kinds
 use Rattle.plan_tables.specs.declared.devices.Act.TheVariants.{Enable, Disable}
-use Rattle.plan_contributions.specs.Definitions.{coil_of_name}
+use Rattle.machine_definitions.specs.Definitions.{coil_of_name}
 use Rattle.plan_contributions.specs.DeviceEntries.{Deed, pulse, enable, disable, Effect, posts, works, Device, acts}
 
 -- ---- coils

@@ -23,7 +23,7 @@ use Rattle.plan_tables.specs.declared.devices.Act.{Act}
 use Rattle.plan_tables.specs.declared.table.Table.{Table}
 use Rattle.plan_tables.specs.declared.table.Table.TheVariants.{Switches}
 pub use Rattle.plan_contributions.specs.DeviceEntries.{texts, Effect, posts, works, Device, device_of}
-use Rattle.plan_contributions.specs.Definitions.{makes_quick}
+use Rattle.machine_definitions.specs.Definitions.{makes_quick}
 use Rattle.plan_contributions.specs.CoilEntries.{limits_of_coil, item_effect, flipper_device, autofire_device}
 use Rattle.mpf_sections.specs.Rows.{Coil, CoilPlayer}
 use Rattle.mpf_sections.specs.TypedCoils.{coils_name, coil_player_name, flippers_name, autofire_coils_name, coil_of, coil_player_of, flipper_of, autofire_of}
@@ -32,9 +32,10 @@ use Rattle.plan_tables.specs.declared.entries.CoilLimits.{CoilLimits}
 -- One thing that a row gives: an entry of a table, by its name; how the last given switch is read; an event that this
 -- switch posts when it becomes active, or inactive; a mode by its name, with its priority, and whether it starts only
 -- in a game; an event of the mode that came last, which has this name; a binding of an event, with which an effect list
--- begins where it is to run one; an event that the list posts that began last; a row of a device with its settings,
--- with which its effect lists begin; an event that this list of the last row posts, by its number in the row; an event
--- that a setting names, which gets its number here.
+-- begins where it is to run one; what the list does that began last; a row of a device with its settings, with which its
+-- effect lists begin; what this list of the last row does, by its number in the row; a switch to which the last row
+-- listens, by its number in the row; an event that a setting names, which gets its number here; a coil by its name, with
+-- what it may be sent.
 pub data Contribution : Type 0 where
   gives : Table → List ℕ → Contribution
   reads : SwitchKind → Contribution
@@ -199,19 +200,26 @@ mode_rows m = of_mode m.name (mode_settings m.sections) ∷ rows_in Mode m.secti
 abbrev pub rows_of : Rows → List Row
 rows_of rows = rows_in Machine rows.machine ++ flat_map mode_rows rows.modes
 
--- the device of an entry, whatever its kind
-abbrev pub device_in : List SectionRows → List ℕ → Entry → Option Device
-device_in machine section e =
+-- the device of an entry of the machine text, whatever its kind
+abbrev pub machine_device : List SectionRows → List ℕ → Entry → Option Device
+machine_device machine section e =
     if bytes_eq section flippers_name then Some (flipper_device machine (flipper_of e))
     else (if bytes_eq section autofire_coils_name then Some (autofire_device machine (autofire_of e))
     else device_of section e)
 
--- what an entry gives, by the name of its section; what it says of a coil is by the sections of the machine text
+-- what an entry of the machine text gives, by the name of its section
+unfoldable pub machine_entry_contributions : List SectionRows → List ℕ → Entry → List Contribution
+machine_entry_contributions machine section e =
+    if bytes_eq section coils_name then coil_contributions (coil_of e)
+    else (if bytes_eq section switches_name then switch_contributions machine (switch_of e)
+    else where_device Machine (machine_device machine section e))
+
+-- What an entry gives, by the name of its section; what it says of a coil is by the sections of the machine text. Switches,
+-- coils, flippers and autofire coils stand in that text alone.
 unfoldable pub entry_contributions : List SectionRows → Place → List ℕ → Entry → List Contribution
-entry_contributions machine place section e =
-    if bytes_eq section switches_name then switch_contributions machine (switch_of e)
-    else (if bytes_eq section coils_name then coil_contributions (coil_of e)
-    else where_device place (device_in machine section e))
+entry_contributions machine Machine section e = machine_entry_contributions machine section e
+entry_contributions machine Control section e = where_device Control (device_of section e)
+entry_contributions machine Mode section e = where_device Mode (device_of section e)
 
 -- and an entry of a player
 unfoldable pub player_entry_contributions : List SectionRows → Place → List ℕ → Player → List Contribution

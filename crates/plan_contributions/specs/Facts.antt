@@ -1,16 +1,22 @@
 -- What holds of the contributions of rows.
-use Rattle.std.specs.Prelude.{◌≡◌, ℕ, suc, ◌<◌, ◌≤◌, ◌==◌, if◌then◌else◌, List, [], ◌∷◌, ◌++◌, Option, None, Some, codes}
-use Rattle.std.specs.List.{All}
+use Rattle.std.specs.Prelude.{◌≡◌, ℕ, suc, ◌<◌, ◌≤◌, ◌==◌, if◌then◌else◌, List, [], ◌∷◌, ◌++◌, map, Option, None, Some, codes}
+use Rattle.std.specs.List.{All, flat_map}
 use Rattle.mpf_sections.specs.Named.{IsName}
+use Rattle.mpf_sections.specs.Rows.{SectionRows}
+use Rattle.mpf_sections.specs.Short.{IsPulseInRange, IsPowerInRange}
+use Rattle.mpf_sections.specs.TypedCoils.{coils_in}
 use Rattle.plan_contributions.specs.declared.contribution.Aim.{Aim}
 use Rattle.plan_contributions.specs.declared.contribution.Aim.TheVariants.{Run, Start, Stop, Do}
 use Rattle.plan_contributions.specs.declared.contribution.Place.{Place}
 use Rattle.plan_contributions.specs.declared.contribution.Place.TheVariants.{Machine, Control, Mode}
 use Rattle.plan_tables.specs.Devices.{IsWithinLimits}
+use Rattle.plan_tables.specs.declared.devices.Settings.{Settings}
+use Rattle.plan_tables.specs.declared.devices.Settings.TheVariants.{Flipper, Autofire}
 use Rattle.plan_tables.specs.declared.entries.CoilLimits.{CoilLimits}
 use Rattle.plan_tables.specs.declared.entries.ModeEvent.{ModeEvent}
-use Rattle.plan_contributions.specs.DeviceEntries.{block_event, block_endings, timer_event, timer_endings}
-use Rattle.plan_contributions.specs.Contributions.{Contribution, mode, mode_event_name, binds, does, device, does_in, coil}
+use Rattle.plan_contributions.specs.DeviceEntries.{Deed, pulse, enable, disable, Effect, posts, works, block_event, block_endings, timer_event, timer_endings}
+use Rattle.plan_contributions.specs.CoilEntries.{limits_of_coil}
+use Rattle.plan_contributions.specs.Contributions.{Contribution, mode, mode_event_name, binds, does, device, does_in, listens, coil}
 
 -- ---- names
 
@@ -28,26 +34,26 @@ pub record IsOfNames (P : List ℕ → Type 0) : Type 0 where
 
 -- ---- effect lists, settings, modes
 
--- how many posts the effect list has at most that began last, of which so many were there
-abbrev pub posts_after : ℕ → Contribution → ℕ
-posts_after n (binds e place Run) = 0
-posts_after n (does e) = suc n
-posts_after n (device place settings) = 1024
-posts_after n (does_in k e) = 1024
-posts_after n _ = n
+-- how many effects the list has at most that began last, of which so many were there
+abbrev pub effects_after : ℕ → Contribution → ℕ
+effects_after n (binds e place Run) = 0
+effects_after n (does e) = suc n
+effects_after n (device place settings) = 1024
+effects_after n (does_in k e) = 1024
+effects_after n _ = n
 
--- how many posts each effect list of the row has at most that came last, by its number in the row
-abbrev pub posts_in_after : (ℕ → ℕ) → Contribution → ℕ → ℕ
-posts_in_after f (does e) = λ j. 1024
-posts_in_after f (device place settings) = λ j. 0
-posts_in_after f (does_in k e) = λ j. if j == k then suc (f j) else f j
-posts_in_after f _ = f
+-- how many each effect list of the row has at most that came last, by its number in the row
+abbrev pub effects_in_after : (ℕ → ℕ) → Contribution → ℕ → ℕ
+effects_in_after f (does e) = λ j. 1024
+effects_in_after f (device place settings) = λ j. 0
+effects_in_after f (does_in k e) = λ j. if j == k then suc (f j) else f j
+effects_in_after f _ = f
 
 -- no list has room
 abbrev pub full : ℕ → ℕ
 full k = 1024
 
--- an effect list has room for a post
+-- an effect list has room for an effect
 abbrev pub IsRoomy : ℕ → (ℕ → ℕ) → Contribution → Type 0
 IsRoomy n f (does e) = n < 1024
 IsRoomy n f (does_in k e) = f k < 1024
@@ -55,7 +61,7 @@ IsRoomy n f _ = Unit {0}
 
 abbrev pub AreShort : ℕ → (ℕ → ℕ) → List Contribution → Type 0
 AreShort n f [] = Unit {0}
-AreShort n f (c ∷ cs) = IsRoomy n f c × AreShort (posts_after n c) (posts_in_after f c) cs
+AreShort n f (c ∷ cs) = IsRoomy n f c × AreShort (effects_after n c) (effects_in_after f c) cs
 
 -- a pulse of 1 to 5,000 milliseconds, and powers of at most 1,000 thousandths
 pub record AreLimits (limits : CoilLimits) : Type 0 where
@@ -64,10 +70,22 @@ pub record AreLimits (limits : CoilLimits) : Type 0 where
   pub pulse_power : limits.max_pulse_power ≤ 1000
   pub hold_power : limits.max_hold_power ≤ 1000
 
--- the settings of a row, and of a coil, are within their limits
+-- the same of what is done with a coil
+abbrev pub IsDeedInRange : Deed → Type 0
+IsDeedInRange (pulse ms power) = IsPulseInRange ms × IsPowerInRange power
+IsDeedInRange (enable power) = IsPowerInRange power
+IsDeedInRange disable = Unit {0}
+
+abbrev pub IsEffectInRange : Effect → Type 0
+IsEffectInRange (posts n) = Unit {0}
+IsEffectInRange (works n deed) = IsDeedInRange deed
+
+-- the settings of a row, and of a coil, are within their limits, and effects in their ranges
 abbrev pub IsLimited : Contribution → Type 0
 IsLimited (device place settings) = IsWithinLimits settings
 IsLimited (coil n limits) = AreLimits limits
+IsLimited (does e) = IsEffectInRange e
+IsLimited (does_in k e) = IsEffectInRange e
 IsLimited _ = Unit {0}
 
 -- what is of a mode comes after one, where so many have come
@@ -107,10 +125,37 @@ abbrev pub IsPlacedAim : Option Place → Place → Aim → Type 0
 IsPlacedAim o place (Do act) = o ≡ Some place
 IsPlacedAim o place _ = Unit {0}
 
+-- a row has come
+abbrev pub IsRowThere : Option Place → Type 0
+IsRowThere None = ⊥
+IsRowThere (Some place) = Unit {0}
+
 abbrev pub IsPlaced : Option Place → Contribution → Type 0
 IsPlaced o (binds e place aim) = IsPlacedAim o place aim
+IsPlaced o (listens k n) = IsRowThere o
 IsPlaced o _ = Unit {0}
 
 abbrev pub ArePlaced : Option Place → List Contribution → Type 0
 ArePlaced o [] = Unit {0}
 ArePlaced o (c ∷ cs) = IsPlaced o c × ArePlaced (row_after o c) cs
+
+-- flippers and autofire coils are the machine's
+abbrev pub IsPlaceOf : Settings → Place → Type 0
+IsPlaceOf Flipper place = place ≡ Machine
+IsPlaceOf Autofire place = place ≡ Machine
+IsPlaceOf _ place = Unit {0}
+
+abbrev pub IsOfMachine : Contribution → Type 0
+IsOfMachine (device place settings) = IsPlaceOf settings place
+IsOfMachine _ = Unit {0}
+
+-- ---- coils
+
+-- the coil that a contribution gives, if it gives one: its name, and what it may be sent
+abbrev pub given_coil : Contribution → List (List ℕ × CoilLimits)
+given_coil (coil n limits) = (n, limits) ∷ []
+given_coil _ = []
+
+-- the coils of the machine text are all that are given
+abbrev pub AreCoilsOf : List SectionRows → List Contribution → Type 0
+AreCoilsOf machine cs = flat_map given_coil cs ≡ map (λ c. (c.name.text, limits_of_coil c)) (flat_map coils_in machine)

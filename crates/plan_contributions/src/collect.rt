@@ -3,13 +3,13 @@
 ghost use Rattle.std.specs.Prelude.{◌≡◌, ◌++◌, map, IfOk, OnOk, codes};
 ghost use Rattle.mpf_sections.specs.View.{switch_view as switch_row_view, event_player_view, mode_settings_view, section_view, entry_view, player_view, name_view};
 ghost use Rattle.mpf_config.specs.View.{mode_view, rows_view};
-ghost use Rattle.plan_contributions.specs.Contributions.{active, inactive, does, posts, texts, contact_of, is_quick, kind_of, tag_event, active_posts, inactive_posts, switch_contributions, player_contributions, starter, stopper, stopper_where, later_events, controls, mode_contributions, rows_in, rows_from, mode_rows, rows_of, entry, player, entry_contributions, player_entry_contributions, row_contributions};
+ghost use Rattle.plan_contributions.specs.Contributions.{active, inactive, does, posts, texts, contact_of, is_quick, kind_of, tag_event, active_posts, inactive_posts, switch_contributions, player_contributions, starter, stopper, stopper_where, later_events, controls, mode_contributions, rows_in, rows_from, mode_rows, rows_of, entry, player, machine_entry_contributions, entry_contributions, player_entry_contributions, row_contributions};
 ghost use Rattle.plan_contributions.specs.View.{contributions_view, row_view, row_list_view};
 
 use crate::collect_coils::{collect_autofire, collect_coil, collect_coil_player, collect_flipper};
 use crate::collect_devices::collect_device;
 use crate::contribution::{Aim, Contribution, Effect, Parts, Place, whole};
-use crate::definitions::Definitions;
+use machine_definitions::Definitions;
 use mpf_config::config::Contact as WrittenContact;
 use mpf_config::{
     AUTOFIRE_COILS_NAME, COIL_PLAYER_NAME, COILS_NAME, Config, Content, Debounce,
@@ -146,7 +146,8 @@ pub fn collect_row<'a>(
     }
 }
 
-/// What an entry gives, after what is there.
+/// What an entry gives, after what is there. Switches, coils, flippers and autofire coils stand in
+/// the machine text alone.
 #[tactic(auto, unfolding(crate::specs::Contributions::entry_contributions))]
 fn collect_entry<'a>(
     contributions: &mut Vec<Contribution<'a>>,
@@ -157,19 +158,35 @@ fn collect_entry<'a>(
 ) -> Result<(), AllocError>
     ensures { OnOk result (contributions_view contributions.new.items ≡ contributions_view contributions.old.items ++ entry_contributions definitions.now place section.now (entry_view entry.now)) }
 {
-    if section == SWITCHES_NAME {
-        return collect_switch(contributions, definitions, as_switch(entry));
+    match place {
+        Place::Machine => collect_machine_entry(contributions, definitions, section, entry),
+        Place::Control | Place::Mode => collect_device(contributions, place, section, entry),
     }
+}
+
+/// What an entry of the machine text gives, after what is there.
+#[tactic(auto, unfolding(crate::specs::Contributions::machine_entry_contributions))]
+fn collect_machine_entry<'a>(
+    contributions: &mut Vec<Contribution<'a>>,
+    definitions: &Definitions<'_>,
+    section: &[u8],
+    entry: &'a Entry,
+) -> Result<(), AllocError>
+    ensures { OnOk result (contributions_view contributions.new.items ≡ contributions_view contributions.old.items ++ machine_entry_contributions definitions.now section.now (entry_view entry.now)) }
+{
     if section == COILS_NAME {
         return collect_coil(contributions, as_coil(entry));
     }
+    if section == SWITCHES_NAME {
+        return collect_switch(contributions, definitions, as_switch(entry));
+    }
     if section == FLIPPERS_NAME {
-        return collect_flipper(contributions, definitions, place, as_flipper(entry));
+        return collect_flipper(contributions, definitions, as_flipper(entry));
     }
     if section == AUTOFIRE_COILS_NAME {
-        return collect_autofire(contributions, definitions, place, as_autofire(entry));
+        return collect_autofire(contributions, definitions, as_autofire(entry));
     }
-    collect_device(contributions, place, section, entry)
+    collect_device(contributions, Place::Machine, section, entry)
 }
 
 /// What an entry of a player gives, after what is there.

@@ -6,11 +6,12 @@ ghost use Rattle.mpf_sections.specs.TypedCoils.{coil_item_of};
 ghost use Rattle.mpf_sections.specs.View.{keyed_view, name_view, coil_view, coil_item_view, name_at_view, coil_player_view, flipper_view, autofire_view};
 ghost use Rattle.plan_contributions.specs.CoilEntries.{limits_of_coil, defaults_called, own_pulse, own_hold, deed_by, item_effect, flipper_on, flipper_off, flipper_device, autofire_device};
 ghost use Rattle.plan_contributions.specs.Contributions.{does, does_in, effects_from, device_contributions, coil_contributions, coil_player_contributions};
+ghost use Rattle.plan_contributions.specs.declared.contribution.Place.TheVariants.{Machine};
 ghost use Rattle.plan_contributions.specs.View.{deed_view, defaults_view, contributions_view};
 
 use crate::collect_devices::collect_acts;
 use crate::contribution::{Aim, Contribution, Deed, Effect, Place};
-use crate::definitions::Definitions;
+use machine_definitions::Definitions;
 use mpf_config::{
     Autofire, Coil, CoilAction, CoilItem, CoilPlayer, Flipper, Keyed, NameAt, as_coil_item,
 };
@@ -46,8 +47,8 @@ pub(crate) fn collect_coil<'a>(
 
 // ---- `coil_player`
 
-/// What the entry of a coil says where nothing else does; nothing where there is no such entry.
-/// Then there is no plan.
+/// What the entry of a coil says where nothing else does. Where there is no such entry there is no
+/// plan, and any numbers in their ranges serve.
 #[derive(Clone, Copy)]
 pub(crate) struct Defaults {
     pulse_ms: u32,
@@ -67,7 +68,7 @@ fn defaults_of(definitions: &Definitions<'_>, name: &[u8]) -> Defaults
             may_hold: coil.may_hold,
         },
         None => Defaults {
-            pulse_ms: 0,
+            pulse_ms: 1,
             pulse_power: 0,
             hold_power: 0,
             may_hold: false,
@@ -140,20 +141,19 @@ fn own_hold(coil: Defaults) -> Deed
     }
 }
 
-/// A flipper.
+/// A flipper, which is the machine's.
 #[tactic(auto, unfolding(crate::specs::Contributions::device_contributions))]
 pub(crate) fn collect_flipper<'a>(
     contributions: &mut Vec<Contribution<'a>>,
     definitions: &Definitions<'_>,
-    place: Place,
     row: Flipper<'a>,
 ) -> Result<(), AllocError>
-    ensures { OnOk result (contributions_view contributions.new.items ≡ contributions_view contributions.old.items ++ device_contributions place (flipper_device definitions.now (flipper_view row.entry))) }
+    ensures { OnOk result (contributions_view contributions.new.items ≡ contributions_view contributions.old.items ++ device_contributions Machine (flipper_device definitions.now (flipper_view row.entry))) }
 {
-    contributions.push(Contribution::Device(place, Settings::Flipper))?;
+    contributions.push(Contribution::Device(Place::Machine, Settings::Flipper))?;
     contributions.push(Contribution::Listens(0, row.switch.text))?;
-    collect_acts(contributions, place, Act::Enable, row.enables)?;
-    collect_acts(contributions, place, Act::Disable, row.disables)?;
+    collect_acts(contributions, Place::Machine, Act::Enable, row.enables)?;
+    collect_acts(contributions, Place::Machine, Act::Disable, row.disables)?;
     match row.hold_coil {
         Some(hold) => collect_two_coils(contributions, definitions, row.main_coil, hold),
         None => collect_main_coil(contributions, definitions, row.main_coil),
@@ -195,21 +195,20 @@ fn collect_main_coil<'a>(
     Ok(())
 }
 
-/// An autofire coil.
+/// An autofire coil, which is the machine's.
 #[tactic(auto, unfolding(crate::specs::Contributions::device_contributions))]
 pub(crate) fn collect_autofire<'a>(
     contributions: &mut Vec<Contribution<'a>>,
     definitions: &Definitions<'_>,
-    place: Place,
     row: Autofire<'a>,
 ) -> Result<(), AllocError>
-    ensures { OnOk result (contributions_view contributions.new.items ≡ contributions_view contributions.old.items ++ device_contributions place (autofire_device definitions.now (autofire_view row.entry))) }
+    ensures { OnOk result (contributions_view contributions.new.items ≡ contributions_view contributions.old.items ++ device_contributions Machine (autofire_device definitions.now (autofire_view row.entry))) }
 {
     let pulse = own_pulse(defaults_of(definitions, row.coil.text));
-    contributions.push(Contribution::Device(place, Settings::Autofire))?;
+    contributions.push(Contribution::Device(Place::Machine, Settings::Autofire))?;
     contributions.push(Contribution::Listens(0, row.switch.text))?;
-    collect_acts(contributions, place, Act::Enable, row.enables)?;
-    collect_acts(contributions, place, Act::Disable, row.disables)?;
+    collect_acts(contributions, Place::Machine, Act::Enable, row.enables)?;
+    collect_acts(contributions, Place::Machine, Act::Disable, row.disables)?;
     contributions.push(Contribution::DoesIn(0, Effect::Coil(row.coil.text, pulse)))?;
     Ok(())
 }

@@ -10,11 +10,9 @@ pub mod collect;
 mod collect_coils;
 mod collect_devices;
 pub mod contribution;
-pub mod definitions;
 
 pub use collect::{Row, collect_row, rows_of};
 pub use collect_devices::direction_in_plan;
 pub use contribution::{
     Aim, Contribution, Deed, Effect, Parts, Place, given, mode_event_name, used, whole, write_name,
 };
-pub use definitions::Definitions;

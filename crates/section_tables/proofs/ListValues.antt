@@ -71,17 +71,17 @@ count_by most longest bounds spot n few fit true e =
 count_by most longest bounds spot n few fit false e = inl (rw (e, fit) refl)
 
 module _ {A : Type 0} (most : ℕ) (bounds : Bounds) (spot : Spot) (o : Option (List A)) where
-  abbrev counted : Result (List A) RowsFault
+  abbrev pub counted : Result (List A) RowsFault
   counted = expect spot o >>= λ xs. count_at most bounds spot (length xs) >>= λ _. Ok xs
 
-  counted_sound : (xs : List A) → counted ≡ Ok xs → (o ≡ Some xs) × (length xs ≤ most) × (fits bounds (length xs) ≡ true)
+  pub counted_sound : (xs : List A) → counted ≡ Ok xs → (o ≡ Some xs) × (length xs ≤ most) × (fits bounds (length xs) ≡ true)
   counted_sound xs e =
       let a = bind_ok (expect spot o) (λ ys. count_at most bounds spot (length ys) >>= λ _. Ok ys) xs e in
       let b = bind_ok (count_at most bounds spot (length a.0)) (λ _. Ok a.0) xs a.2 in
       let few = count_sound most bounds spot (length a.0) b.0 b.1 in
       subst (λ ys. (o ≡ Some ys) × (length ys ≤ most) × (fits bounds (length ys) ≡ true)) (ok_is a.0 xs b.2) (expected spot o a.0 a.1, few.0, few.1)
 
-  counted_complete : (longest : ℕ) (xs : List A) → o ≡ Some xs → length xs ≤ longest → fits bounds (length xs) ≡ true → IsReadOr (most < longest) counted xs
+  pub counted_complete : (longest : ℕ) (xs : List A) → o ≡ Some xs → length xs ≤ longest → fits bounds (length xs) ≡ true → IsReadOr (most < longest) counted xs
   counted_complete longest xs is few fit =
       let count = count_by most longest bounds spot (length xs) few fit (nat_lt most (length xs)) refl in
       rw is (then_or (most < longest) (count_at most bounds spot (length xs)) (λ _. Ok xs) tt xs count (inl refl))

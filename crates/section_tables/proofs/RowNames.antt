@@ -11,7 +11,7 @@ use Rattle.section_tables.specs.Rows.{Written, Handled, Plain, Keyed, Value, Ent
 use Rattle.section_tables.specs.Kinds.{Scalar, a_flag, number_within, time_within, a_power, one_of, a_name, an_event, Bounds, at_least, Field, Kind, single, name_list, post_list, event_list, step_list, map_list, keyed_maps, Setting, PlayerKinds}
 use Rattle.section_tables.specs.Entries.{is_ignored}
 use Rattle.section_tables.specs.Tables.{behind_one, found_in, field_key, field_default, setting_key, setting_default}
-use Rattle.section_tables.specs.EntryOf.{IsScalar, IsPlain, AreListed, AreNodes, AreNamesListed, IsWritten, IsHandled, OverwritesAt, IsOverwritten, IsField, pass, AreFields, IsKeyedRow, IsKeyed, IsStep, IsValue, IsSetting, IsEntry, IsOtherEntry, AreEntries, IsPlayer, ArePlayers}
+use Rattle.section_tables.specs.EntryOf.{IsScalar, IsPlain, AreListed, AreNodes, AreNamesListed, IsWritten, IsHandled, OverwritesAt, IsOverwritten, IsField, pass, AreFields, IsKeyedRow, IsKeyed, AreKeyed, IsStep, IsValue, IsSetting, IsEntry, IsOtherEntry, AreEntries, IsPlayer, ArePlayers}
 use Rattle.section_tables.specs.Named.{IsNamedPlain, IsNamedEvent, AreNames, AreNamedEvents, AreNamedPlains, IsNamedKeyed, IsNamedValue, IsNamedEntry, IsNamedPlayer, AreNamedFields, IsNamedKind, IsNamedTable, IsEventKind, IsNamedKinds, IsShortValue, IsShortEntry, IsShortPlayer, IsShortTable}
 
 -- ---- lists
@@ -114,7 +114,7 @@ value_named longest (step_list bounds) node v q h =
 value_named longest (map_list table others bounds) node v q h =
     subst IsNamedValue (sym h.2) (all_zip (AreFields table others) (λ m. AreNamedPlains m.values) (λ n m k. row_named table others k.row.pairs m.values q k.row.overwritten) h.1.nodes h.0 h.1.each)
 value_named longest (keyed_maps table place short) node v q h =
-    subst IsNamedValue (sym h.2) (all_zip (IsKeyed table place short) IsNamedKeyed (keyed_named table place short q) h.1.0 h.0 h.1.2)
+    subst IsNamedValue (sym h.2) (all_zip (IsKeyed table place short) IsNamedKeyed (keyed_named table place short q) h.1.pairs h.0 h.1.each)
 
 -- ---- limits of values
 
@@ -123,6 +123,9 @@ listed_short IsOne bounds longest node xs h = rw (sym (same_length IsOne h.items
 
 nodes_short : {B : Type 0} (IsOne : Node → B → Type 0) (bounds : Bounds) (longest : ℕ) (node : Node) (xs : List B) → AreNodes IsOne bounds longest node xs → length xs ≤ longest
 nodes_short IsOne bounds longest node xs h = rw (sym (same_length IsOne h.nodes xs h.each)) h.few
+
+keyed_short : (table : List Field) (place : ℕ) (short : Scalar) (longest : ℕ) (node : Node) (ks : List Keyed) → AreKeyed table place short longest node ks → length ks ≤ longest
+keyed_short table place short longest node ks h = rw (sym (same_length (IsKeyed table place short) h.pairs ks h.each)) h.few
 
 -- a list that has no lists in it
 abbrev Few : ℕ → ℕ → Type 0
@@ -144,7 +147,7 @@ value_short longest (step_list bounds) node v h =
     let each = all_zip (IsStep longest) few (listed_short IsWritten _ longest) h.1.nodes h.0 h.1.each in
     subst (IsShortValue longest) (sym h.2) (nodes_short (IsStep longest) bounds longest node h.0 h.1, All-from_recursion few h.0 each)
 value_short longest (map_list table others bounds) node v h = subst (IsShortValue longest) (sym h.2) (few_items longest (nodes_short (AreFields table others) bounds longest node h.0 h.1))
-value_short longest (keyed_maps table place short) node v h = subst (IsShortValue longest) (sym h.2) (no_items longest)
+value_short longest (keyed_maps table place short) node v h = subst (IsShortValue longest) (sym h.2) (few_items longest (keyed_short table place short longest node h.0 h.1))
 
 -- ---- entries
 

@@ -1,19 +1,20 @@
 -- The values of settings are those that are read, and no others.
-use Rattle.std.proofs.Common.{◌≡◌, ◌<◌, ℕ, Bool, false, List, map, set, Option, Some, None, Result, Ok, refl, sym, ap, subst, inl}
+use Rattle.std.proofs.Common.{◌≡◌, ◌<◌, ℕ, Bool, true, false, List, length, map, set, Option, Some, None, Result, Ok, refl, sym, ap, subst, inl, arith}
+use Rattle.std.proofs.lemmas.Bool.{le-leb}
 use Rattle.yaml_subset.specs.Node.{Node, Pair}
 use Rattle.yaml_subset.specs.View.{line_of, text_in}
 use Rattle.mpf_values.specs.Reading.{is_name}
 use Rattle.mpf_values.proofs.NameTexts.{IsName-from_is_name, is_name-from_IsName}
 use Rattle.section_tables.specs.declared.fault.FaultKind.TheVariants.{BadValue}
 use Rattle.section_tables.specs.Rows.{Written, Plain, Fields, Keyed, Value, one, names, posts, events, steps, maps, keyed, RowsFault}
-use Rattle.section_tables.specs.Kinds.{Scalar, at_least, Field, Kind, single, name_list, post_list, event_list, step_list, map_list, keyed_maps}
+use Rattle.section_tables.specs.Kinds.{Scalar, at_least, fits, Field, Kind, single, name_list, post_list, event_list, step_list, map_list, keyed_maps}
 use Rattle.section_tables.specs.Entries.{pairs_below, written_at}
 use Rattle.section_tables.specs.Tables.{field_key, field_default, field_lacks}
 use Rattle.section_tables.specs.EntryOf.{IsWritten, IsHandled, IsField, pass, IsFieldRow, AreFields, IsKeyedRow, IsKeyed, AreKeyed, IsStep, IsValue}
-use Rattle.section_tables.specs.Reading.{most_items, IsReadOrLong, ◌>>=◌, Spot, rows_fault_at, key_spot, expect, each_read, plain_at, written_in, handled_in, listed_at, nodes_at, field_at, fields_row_at, fields_at, keyed_row_at, keyed_at, keyed_list_at, value_at}
+use Rattle.section_tables.specs.Reading.{most_items, IsReadOrLong, ◌>>=◌, Spot, rows_fault_at, key_spot, expect, each_read, plain_at, written_in, handled_in, listed_at, nodes_at, field_at, fields_row_at, fields_at, keyed_row_at, keyed_at, few_pairs_at, keyed_list_at, value_at}
 use Rattle.section_tables.proofs.Steps.{bind_ok, guard_true, ok_is, expected}
 use Rattle.section_tables.proofs.Outcomes.{then_or, each_sound, each_or}
-use Rattle.section_tables.proofs.ListValues.{plain_sound, plain_complete, name_sound, name_complete, handled_sound, handled_complete, listed_sound, listed_complete, nodes_sound, nodes_complete}
+use Rattle.section_tables.proofs.ListValues.{plain_sound, plain_complete, name_sound, name_complete, handled_sound, handled_complete, listed_sound, counted_sound, counted_complete, listed_complete, nodes_sound, nodes_complete}
 use Rattle.section_tables.proofs.RowsRead.{row_sound, row_complete}
 
 -- ---- maps
@@ -87,16 +88,21 @@ keyed_complete longest text table place short p k h =
     (then_or (most_items < longest) (keyed_row_at table place short spot p.value (text_in p.value)) (λ r. Ok (keyed_made p r)) k.values k
     (keyed_row_complete longest table place short spot p.value k.values (text_in p.value) h.row) (inl (λ i. Ok (record { name = sym h.name i; values = k.values }))))
 
-keyed_list_sound : (table : List Field) (place : ℕ) (short : Scalar) (spot : Spot) (node : Node) (ks : List Keyed) → keyed_list_at table place short spot node ≡ Ok ks → AreKeyed table place short node ks
-unfolding keyed_list_at
+keyed_list_sound : (table : List Field) (place : ℕ) (short : Scalar) (spot : Spot) (node : Node) (ks : List Keyed) → keyed_list_at table place short spot node ≡ Ok ks → AreKeyed table place short 1024 node ks
+unfolding keyed_list_at few_pairs_at
 keyed_list_sound table place short spot node ks e =
-    let a = bind_ok (expect spot (pairs_below node)) (λ pairs. each_read (keyed_at spot.text table place short) pairs) ks e in
-    (a.0, expected spot (pairs_below node) a.0 a.1, each_sound (keyed_at spot.text table place short) (IsKeyed table place short) (keyed_sound spot.text table place short) a.0 ks a.2)
+    let a = bind_ok (few_pairs_at spot node) (each_read (keyed_at spot.text table place short)) ks e in
+    let k = counted_sound most_items (at_least 0) spot (pairs_below node) a.0 a.1 in
+    record { pairs = a.0; has = k.0; few = k.1; each = each_sound (keyed_at spot.text table place short) (IsKeyed table place short) (keyed_sound spot.text table place short) a.0 ks a.2 }
 
-keyed_list_complete : (longest : ℕ) (table : List Field) (place : ℕ) (short : Scalar) (spot : Spot) (node : Node) (ks : List Keyed) → AreKeyed table place short node ks → IsReadOrLong longest (keyed_list_at table place short spot node) ks
-unfolding keyed_list_at
+keyed_list_complete : (longest : ℕ) (table : List Field) (place : ℕ) (short : Scalar) (spot : Spot) (node : Node) (ks : List Keyed) → AreKeyed table place short longest node ks
+    → IsReadOrLong longest (keyed_list_at table place short spot node) ks
+unfolding keyed_list_at few_pairs_at
 keyed_list_complete longest table place short spot node ks h =
-    rw h.1 (each_or (keyed_at spot.text table place short) (IsKeyed table place short) (most_items < longest) (keyed_complete longest spot.text table place short) h.0 ks h.2)
+    let any : fits (at_least 0) (length h.pairs) ≡ true = le-leb 0 (length h.pairs) (omega arith) in
+    then_or (most_items < longest) (few_pairs_at spot node) (each_read (keyed_at spot.text table place short)) h.pairs ks
+    (counted_complete most_items (at_least 0) spot (pairs_below node) longest h.pairs h.has h.few any)
+    (each_or (keyed_at spot.text table place short) (IsKeyed table place short) (most_items < longest) (keyed_complete longest spot.text table place short) h.pairs ks h.each)
 
 -- ---- steps
 

@@ -117,8 +117,12 @@ pub record IsKeyed (table : List Field) (place : ℕ) (short : Scalar) (p : Pair
   pub name : k.name ≡ written_at p.line p.key
   pub row : IsKeyedRow table place short p.value k.values (text_in p.value)
 
-abbrev pub AreKeyed : List Field → ℕ → Scalar → Node → List Keyed → Type 0
-AreKeyed table place short node ks = (pairs : List Pair) × (pairs_below node ≡ Some pairs) × AllZip (IsKeyed table place short) pairs ks
+-- The names of a map, of which there are at most so many, with the values that belong to each.
+pub record AreKeyed (table : List Field) (place : ℕ) (short : Scalar) (longest : ℕ) (node : Node) (ks : List Keyed) : Type 0 where
+  pub pairs : List Pair
+  pub has : pairs_below node ≡ Some pairs
+  pub few : length pairs ≤ longest
+  pub each : AllZip (IsKeyed table place short) pairs ks
 
 -- ---- settings
 
@@ -126,7 +130,7 @@ AreKeyed table place short node ks = (pairs : List Pair) × (pairs_below node �
 abbrev pub IsStep : ℕ → Node → List Written → Type 0
 IsStep longest = AreListed IsWritten (at_least 1) longest
 
--- what a node says as the value of a setting of a kind, with at most so many items in a list
+-- what a node says as the value of a setting of a kind, with at most so many items in a list; a map of names counts as one
 abbrev pub IsValue : ℕ → Kind → Node → Value → Type 0
 IsValue longest (single kind) node v = (x : Plain) × IsPlain kind node x × (v ≡ one x)
 IsValue longest (name_list bounds) node v = (xs : List Written) × AreListed IsWritten bounds longest node xs × (v ≡ names xs)
@@ -134,7 +138,7 @@ IsValue longest (post_list bounds) node v = (xs : List Written) × AreListed IsW
 IsValue longest (event_list bounds) node v = (xs : List Handled) × AreListed IsHandled bounds longest node xs × (v ≡ events xs)
 IsValue longest (step_list bounds) node v = (xs : List (List Written)) × AreNodes (IsStep longest) bounds longest node xs × (v ≡ steps xs)
 IsValue longest (map_list table others bounds) node v = (xs : List Fields) × AreNodes (AreFields table others) bounds longest node xs × (v ≡ maps xs)
-IsValue longest (keyed_maps table place short) node v = (xs : List Keyed) × AreKeyed table place short node xs × (v ≡ keyed xs)
+IsValue longest (keyed_maps table place short) node v = (xs : List Keyed) × AreKeyed table place short longest node xs × (v ≡ keyed xs)
 
 abbrev pub IsSetting : ℕ → Setting → Node → Value → Type 0
 IsSetting longest s node v = IsValue longest s.kind node v

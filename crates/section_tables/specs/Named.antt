@@ -80,13 +80,14 @@ IsNamedShape by_names = Unit {0}
 
 -- ---- limits
 
--- how many items the list has that a value is
+-- how many items the list has that a value is; a map of names counts as one
 abbrev pub item_count : Value → ℕ
 item_count (names xs) = length xs
 item_count (posts xs) = length xs
 item_count (events hs) = length hs
 item_count (steps ss) = length ss
 item_count (maps ms) = length ms
+item_count (keyed ks) = length ks
 item_count _ = 0
 
 -- the lists in that list

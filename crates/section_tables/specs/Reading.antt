@@ -166,8 +166,12 @@ keyed_at text table place short p =
     then (keyed_row_at table place short (key_spot text p) p.value (text_in p.value) >>= λ row. Ok (record { name = written_at p.line p.key; values = row }))
     else refused BadValue (key_spot text p)
 
+-- the pairs of a map that counts as a list: it is too long before any of them is looked at
+unfoldable pub few_pairs_at : Spot → Node → Result (List Pair) RowsFault
+few_pairs_at spot node = expect spot (pairs_below node) >>= λ pairs. count_at most_items (at_least 0) spot (length pairs) >>= λ _. Ok pairs
+
 unfoldable pub keyed_list_at : List Field → ℕ → Scalar → Spot → Node → Result (List Keyed) RowsFault
-keyed_list_at table place short spot node = expect spot (pairs_below node) >>= λ pairs. each_read (keyed_at spot.text table place short) pairs
+keyed_list_at table place short spot node = few_pairs_at spot node >>= λ pairs. each_read (keyed_at spot.text table place short) pairs
 
 -- ---- settings
 

@@ -10,7 +10,7 @@ ghost use Rattle.section_tables.specs.View.{plain_view, plains_view, fields_view
 
 use crate::each::each;
 use crate::fault::{ConfigFault, FaultKind};
-use crate::nodes::{nodes, pairs};
+use crate::nodes::{few_pairs, nodes, pairs};
 use crate::rows::{Fields, Keyed, Plain};
 use crate::scalars::{is_name, name_of, plain};
 use crate::spot::{Spot, spot_of};
@@ -257,7 +257,8 @@ fn keyed(
     Ok(Keyed { name, values })
 }
 
-/// The names of a map with the values that belong to each; or the first fault.
+/// The names of a map with the values that belong to each; or the first fault, which is `Limit` at
+/// the spot where the map has more than 1,024 pairs.
 #[tactic(auto, unfolding(crate::specs::Reading::keyed_list_at))]
 pub fn keyed_list(
     alloc: Global,
@@ -269,7 +270,7 @@ pub fn keyed_list(
 ) -> Result<Vec<Keyed>, ConfigFault>
     ensures { GivesRows keyed_list_view result (keyed_list_at (map field_view table.now) at (scalar_view short) (spot_view spot.entry) (node_view tree.now)) }
 {
-    let pairs = pairs(alloc, spot, tree)?;
+    let pairs = few_pairs(alloc, spot, tree)?;
     let text = spot.text;
     each(
         alloc,

@@ -3,7 +3,7 @@
 ghost use Rattle.std.specs.Prelude.{◌≡◌, map};
 ghost use Rattle.yaml_subset.specs.View.{node_view, pair_view, option_slice};
 ghost use Rattle.section_tables.specs.Entries.{pairs_below, nodes_below};
-ghost use Rattle.section_tables.specs.Reading.{expect, list_nodes_at};
+ghost use Rattle.section_tables.specs.Reading.{expect, few_pairs_at, list_nodes_at};
 ghost use Rattle.section_tables.specs.TableView.{bounds_view};
 ghost use Rattle.section_tables.specs.View.{spot_view, pairs_in_view, nodes_in_view, GivesRows};
 
@@ -54,6 +54,21 @@ pub fn pairs<'a>(
         Some(pairs) => Ok(pairs),
         None => Err(ConfigFault::Bundle(spot.fault(alloc, FaultKind::BadValue)?)),
     }
+}
+
+/// The pairs of a mapping that counts as a list. A fault is at the spot: BadValue where it is no
+/// mapping, or `Limit` where it has more than 1,024 pairs, whatever they are.
+#[tactic(auto, unfolding(crate::specs::Reading::few_pairs_at))]
+pub fn few_pairs<'a>(
+    alloc: Global,
+    spot: Spot<'_>,
+    tree: &'a Tree,
+) -> Result<&'a [(Key, Tree)], ConfigFault>
+    ensures { GivesRows pairs_in_view result (few_pairs_at (spot_view spot.entry) (node_view tree.now)) }
+{
+    let pairs = pairs(alloc, spot, tree)?;
+    check_count(alloc, spot, MAX_ITEMS, Bounds::AtLeast(0), pairs.len())?;
+    Ok(pairs)
 }
 
 /// The nodes of a YAML list; or BadValue at the spot where it is none, or a fault of their number.

@@ -1,7 +1,7 @@
-use Rattle.std.proofs.Common.{◌++◌, ap, ◌∙◌}
+use Rattle.std.proofs.Common.{◌++◌, refl, ap, ◌∙◌}
 use Rattle.mpf_sections.specs.View.{timer_view}
 use Rattle.plan_contributions.specs.DeviceEntries.{timer_lists, timer_settings, timer_device}
-use Rattle.plan_contributions.specs.Contributions.{posts_from}
+use Rattle.plan_contributions.specs.Contributions.{effects_from}
 use Rattle.plan_contributions.specs.View.{contributions_view}
 use Rattle.plan_contributions.proofs.DeviceParts.{row_first, device_collected}
 use Rattle.plan_contributions.proofs.collect_devices.collect_timer.Goals as goal
@@ -13,5 +13,5 @@ returns c =
     let old = c.args.contributions.now.items in
     let first = row_first old c.push.new.self.items place c.timer_settings.result (timer_settings row) c.in_ok-push.ensures.items c.timer_settings.ensures in
     let acted = contributions_view c.collect_timer_acts.new.contributions.items in
-    let posting = c.in_ok-collect_timer_lists.ensures ∙ ap (λ n. acted ++ posts_from 0 (timer_lists n)) c.deref.ensures.value in
-    device_collected place (timer_device row) (contributions_view old) (contributions_view c.push.new.self.items) acted (contributions_view c.collect_timer_lists.new.contributions.items) first c.in_ok-collect_timer_acts.ensures posting
+    let posting = c.in_ok-collect_timer_lists.ensures ∙ ap (λ n. acted ++ effects_from 0 (timer_lists n)) c.deref.ensures.value in
+    device_collected place (timer_device row) (contributions_view old) (contributions_view c.push.new.self.items) acted (contributions_view c.collect_timer_lists.new.contributions.items) refl first c.in_ok-collect_timer_acts.ensures posting

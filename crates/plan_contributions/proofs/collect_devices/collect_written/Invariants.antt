@@ -1,10 +1,10 @@
 use Rattle.std.proofs.Common.{◌≡◌, ◌++◌, map, drop}
 use Rattle.mpf_sections.specs.View.{name_view}
-use Rattle.plan_contributions.specs.Contributions.{post_in, texts}
+use Rattle.plan_contributions.specs.Contributions.{does_in, posts, texts}
 use Rattle.plan_contributions.specs.View.{contributions_view}
 use Rattle.plan_contributions.proofs.collect_devices.collect_written.Given as goal
 
 abbrev pub invariant-loop-name : goal.invariant-loop-name
 invariant-loop-name l =
-    contributions_view l.contributions.items ++ map (post_in l.number) (texts (map name_view (drop l.name-index l.names)))
-    ≡ contributions_view l.initial.contributions.items ++ map (post_in l.number) (texts (map name_view l.names))
+    contributions_view l.contributions.items ++ map (does_in l.number) (map posts (texts (map name_view (drop l.name-index l.names))))
+    ≡ contributions_view l.initial.contributions.items ++ map (does_in l.number) (map posts (texts (map name_view l.names)))

@@ -1,0 +1,57 @@
+-- What a plan says by names: of what its effect lists do, of what its coils may be sent, and of the names that are used.
+use Rattle.std.specs.Prelude.{ℕ, ◌≡◌, ◌<◌, List, length, Option, None, Some, true, Contains}
+use Rattle.std.specs.List.{All, flat_map, list_any}
+use Rattle.std.specs.Str.{bytes_eq}
+use Rattle.plan_tables.specs.declared.entries.CoilId.{CoilId}
+use Rattle.plan_tables.specs.declared.entries.CoilLimits.{CoilLimits}
+use Rattle.plan_tables.specs.declared.entries.Action.{Action}
+use Rattle.plan_tables.specs.declared.entries.Action.TheVariants.{Post, Pulse, Enable, Disable}
+use Rattle.plan_tables.specs.declared.entries.Owner.TheVariants as owners
+use Rattle.plan_tables.specs.declared.table.Table.{Table}
+use Rattle.plan_tables.specs.PlanView.{PlanView, name_of_event, coil_at, row_at}
+use Rattle.plan_contributions.specs.DeviceEntries.{Deed, pulse, enable, disable, Effect, posts, works}
+use Rattle.plan_contributions.specs.Contributions.{Contribution}
+use Rattle.plan_contributions.specs.UsedNames.{used, given_names}
+use Rattle.plan_contributions.specs.Facts.{given_coil}
+use Rattle.mpf_plan.specs.Uses.{is_to_be_given}
+
+-- ---- what is done
+
+-- an action of a plan, by names
+abbrev pub effect_of : PlanView → Action → Effect
+effect_of plan (Post e) = posts (name_of_event plan e)
+effect_of plan (Pulse c ms power) = works (coil_at plan c).name (pulse ms power)
+effect_of plan (Enable c power) = works (coil_at plan c).name (enable power)
+effect_of plan (Disable c) = works (coil_at plan c).name disable
+
+-- P holds of all that effect lists do, and S of the name of each event that a switch posts
+pub record IsDone (P : Effect → Type 0) (S : List ℕ → Type 0) (plan : PlanView) : Type 0 where
+  pub switches : All (λ s. All (λ e. S (name_of_event plan e)) s.active × All (λ e. S (name_of_event plan e)) s.inactive) plan.switches
+  pub lists : All (All (λ a. P (effect_of plan a))) plan.lists
+
+-- ---- what coils may be sent
+
+-- the contributions say so of the coil of this name
+abbrev pub IsLimitedTo : List Contribution → List ℕ → CoilLimits → Type 0
+IsLimitedTo cs name limits = Contains (flat_map given_coil cs) (name, limits)
+
+-- each coil of the plan may be sent what is said of its name
+abbrev pub AreLimitsByName : List Contribution → PlanView → Type 0
+AreLimitsByName cs plan = (c : CoilId) → c.0 < length plan.coils → IsLimitedTo cs (coil_at plan c).name (coil_at plan c).limits
+
+-- ---- the names that are used
+
+-- a name that has to be given is among those that are
+abbrev pub IsGiven : List Contribution → Option (Table × List ℕ) → Type 0
+IsGiven cs None = Unit {0}
+IsGiven cs (Some (t, n)) = is_to_be_given t ≡ true → list_any (bytes_eq n) (given_names t cs) ≡ true
+
+-- so is each that contributions use
+abbrev pub AreGiven : List Contribution → Type 0
+AreGiven cs = All (λ c. IsGiven cs (used c)) cs
+
+-- ---- listeners
+
+-- a device that listens to a switch is the machine's
+abbrev pub ListenersAreOwn : PlanView → Type 0
+ListenersAreOwn plan = All (λ s. All (λ l. (row_at plan l.row).owner ≡ owners.Machine) s.listeners) plan.switches

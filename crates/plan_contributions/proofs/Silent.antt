@@ -1,0 +1,147 @@
+-- What contributions tell that only some of them tell: where no row but a coil's tells any of it, no other does.
+use Rattle.std.proofs.Common.{◌≡◌, ℕ, suc, Bool, true, false, cond, if◌then◌else◌, List, [], ◌∷◌, ◌++◌, Option, None, Some, map, refl, sym, ◌∙◌, ap, codes}
+use Rattle.std.specs.Str.{bytes_eq}
+use Rattle.std.specs.List.{flat_map}
+use Rattle.std.proofs.lemmas.Grind.{flat_map-append}
+use Rattle.mpf_sections.specs.Rows.{Entry, Player, Switch, Coil, EventPlayer, CoilPlayer, ModeSettings, SectionRows}
+use Rattle.mpf_sections.specs.Typed.{switches_name, event_player_name, switch_of, event_player_of}
+use Rattle.mpf_sections.specs.TypedCoils.{coils_name, coil_player_name, coil_of, coil_player_of}
+use Rattle.plan_tables.specs.declared.devices.Settings.{Settings}
+use Rattle.plan_tables.specs.declared.entries.CoilLimits.{CoilLimits}
+use Rattle.plan_tables.specs.declared.entries.ModeEvent.{ModeEvent}
+use Rattle.plan_tables.specs.declared.entries.ModeEvent.TheVariants.{Starting, Started, Stopping, Stopped}
+use Rattle.plan_tables.specs.declared.entries.SwitchKind.{SwitchKind}
+use Rattle.plan_contributions.specs.declared.contribution.Place.{Place}
+use Rattle.plan_contributions.specs.declared.contribution.Place.TheVariants.{Machine, Control, Mode}
+use Rattle.plan_contributions.specs.declared.contribution.Aim.{Aim}
+use Rattle.plan_contributions.specs.declared.contribution.Aim.TheVariants.{Run}
+use Rattle.plan_tables.specs.declared.table.Table.TheVariants.{Switches}
+use Rattle.plan_contributions.specs.CoilEntries.{limits_of_coil, item_effect}
+use Rattle.plan_contributions.specs.DeviceEntries.{Effect, posts}
+use Rattle.plan_contributions.specs.Contributions.{Contribution, gives, reads, active, inactive, mode, mode_event, binds, does, device, does_in, listens, mentions, coil, kind_of, texts, active_posts, inactive_posts, switch_contributions, player_contributions, coil_contributions, coil_player_contributions, starter, stopper, stopper_where, later_events, controls, mode_contributions, Device, act_binding, listens_from, effects_from, device_contributions, device_of, where_device, machine_device, machine_entry_contributions, entry_contributions, player_entry_contributions}
+
+-- each contribution but a coil's tells nothing
+pub record IsSilent {X : Type 0} (tell : Contribution → List X) : Type 0 where
+  pub given : (n : List ℕ) → tell (gives Switches n) ≡ []
+  pub read : (kind : SwitchKind) → tell (reads kind) ≡ []
+  pub on : (n : List ℕ) → tell (active n) ≡ []
+  pub off : (n : List ℕ) → tell (inactive n) ≡ []
+  pub modes : (n : List ℕ) (priority : ℕ) (game : Bool) → tell (mode n priority game) ≡ []
+  pub events : (which : ModeEvent) (n : List ℕ) → tell (mode_event which n) ≡ []
+  pub bound : (n : List ℕ) (place : Place) (aim : Aim) → tell (binds n place aim) ≡ []
+  pub done : (e : Effect) → tell (does e) ≡ []
+  pub rows : (place : Place) (settings : Settings) → tell (device place settings) ≡ []
+  pub done_in : (k : ℕ) (e : Effect) → tell (does_in k e) ≡ []
+  pub listened : (k : ℕ) (n : List ℕ) → tell (listens k n) ≡ []
+  pub mentioned : (n : List ℕ) → tell (mentions n) ≡ []
+
+module _ {X : Type 0} (tell : Contribution → List X) (silent : IsSilent tell) where
+  abbrev pub Tells : List Contribution → List X → Type 0
+  Tells cs xs = flat_map tell cs ≡ xs
+
+  abbrev pub TellsNone : List Contribution → Type 0
+  TellsNone cs = Tells cs []
+
+  first : (c : Contribution) (cs : List Contribution) → tell c ≡ [] → TellsNone cs → TellsNone (c ∷ cs)
+  first c cs a b = λ i. a i ++ b i
+
+  pub both : (cs ds : List Contribution) → TellsNone cs → TellsNone ds → TellsNone (cs ++ ds)
+  both cs ds a b = flat_map-append tell cs ds ∙ (λ i. a i ++ b i)
+
+  each : {Y : Type 0} (f : Y → Contribution) → ((y : Y) → tell (f y) ≡ []) → (ys : List Y) → TellsNone (map f ys)
+  each f none [] = refl
+  each f none (n ∷ ns) = first (f n) (map f ns) (none n) (each f none ns)
+
+  when : (b : Bool) (cs ds : List Contribution) → TellsNone cs → TellsNone ds → TellsNone (if b then cs else ds)
+  when true cs ds none other = none
+  when false cs ds none other = other
+
+  -- ---- rows
+
+  pub in_switch : (machine : List SectionRows) (s : Switch) → TellsNone (switch_contributions machine s)
+  unfolding switch_contributions
+  in_switch machine s =
+      let doing = map active (active_posts s) ++ map inactive (inactive_posts s) in
+      first (gives Switches s.name.text) (reads (kind_of machine s) ∷ doing) (silent.given s.name.text) (first (reads (kind_of machine s)) doing (silent.read (kind_of machine s))
+      (both (map active (active_posts s)) (map inactive (inactive_posts s)) (each active silent.on (active_posts s)) (each inactive silent.off (inactive_posts s))))
+
+  in_player : (place : Place) (p : EventPlayer) → TellsNone (player_contributions place p)
+  unfolding player_contributions
+  in_player place p = first (binds p.event.text place Run) (map (λ e. does (posts e)) (texts p.posts)) (silent.bound p.event.text place Run) (each (λ e. does (posts e)) (λ e. silent.done (posts e)) (texts p.posts))
+
+  in_coil_player : (machine : List SectionRows) (place : Place) (p : CoilPlayer) → TellsNone (coil_player_contributions machine place p)
+  unfolding coil_player_contributions
+  in_coil_player machine place p =
+      first (binds p.event.text place Run) (map (λ item. does (item_effect machine item)) p.items) (silent.bound p.event.text place Run)
+      (each (λ item. does (item_effect machine item)) (λ item. silent.done (item_effect machine item)) p.items)
+
+  in_lists : (k : ℕ) (lists : List (List Effect)) → TellsNone (effects_from k lists)
+  in_lists k [] = refl
+  in_lists k (es ∷ rest) = both (map (does_in k) es) (effects_from (suc k) rest) (each (does_in k) (silent.done_in k) es) (in_lists (suc k) rest)
+
+  in_listens : (k : ℕ) (ns : List (List ℕ)) → TellsNone (listens_from k ns)
+  in_listens k [] = refl
+  in_listens k (n ∷ ns) = first (listens k n) (listens_from (suc k) ns) (silent.listened k n) (in_listens (suc k) ns)
+
+  in_device : (place : Place) (d : Device) → TellsNone (device_contributions place d)
+  unfolding device_contributions
+  in_device place d =
+      let listening = listens_from 0 d.listens in
+      let acting = map (act_binding place) d.handled in
+      let named = map mentions d.mentioned in
+      let doing = effects_from 0 d.lists in
+      first (device place d.settings) (listening ++ (acting ++ (named ++ doing))) (silent.rows place d.settings)
+      (both listening (acting ++ (named ++ doing)) (in_listens 0 d.listens)
+      (both acting (named ++ doing) (each (act_binding place) (λ h. act_silent h) d.handled) (both named doing (each mentions silent.mentioned d.mentioned) (in_lists 0 d.lists))))
+    where
+      act_silent : (h : _) → tell (act_binding place h) ≡ []
+      act_silent h = silent.bound h.0 place _
+
+  pub in_where : (place : Place) (o : Option Device) → TellsNone (where_device place o)
+  in_where place None = refl
+  in_where place (Some d) = in_device place d
+
+  -- an entry of the machine text tells what a coil does, where it is one
+  pub in_machine_entry : (machine : List SectionRows) (section : List ℕ) (e : Entry) → Tells (machine_entry_contributions machine section e) (if bytes_eq section coils_name then flat_map tell (coil_contributions (coil_of e)) else [])
+  unfolding machine_entry_contributions
+  in_machine_entry machine section e = by (bytes_eq section coils_name)
+    where
+      others : List Contribution
+      others = if bytes_eq section switches_name then switch_contributions machine (switch_of e) else where_device Machine (machine_device machine section e)
+
+      by : (b : Bool) → Tells (if b then coil_contributions (coil_of e) else others) (if b then flat_map tell (coil_contributions (coil_of e)) else [])
+      by true = refl
+      by false = when (bytes_eq section switches_name) (switch_contributions machine (switch_of e)) (where_device Machine (machine_device machine section e)) (in_switch machine (switch_of e)) (in_where Machine (machine_device machine section e))
+
+  pub in_player_entry : (machine : List SectionRows) (place : Place) (section : List ℕ) (p : Player) → TellsNone (player_entry_contributions machine place section p)
+  unfolding player_entry_contributions
+  in_player_entry machine place section p =
+      let item = coil_player_contributions machine place (coil_player_of p) in
+      when (bytes_eq section event_player_name) (player_contributions place (event_player_of p)) (if bytes_eq section coil_player_name then item else []) (in_player place (event_player_of p))
+      (when (bytes_eq section coil_player_name) item [] (in_coil_player machine place (coil_player_of p)) refl)
+
+  in_stopper : (holds : Bool) (event : List ℕ) → TellsNone (stopper_where holds event)
+  in_stopper true event = first (stopper event) [] (silent.bound event _ _) refl
+  in_stopper false event = refl
+
+  in_controls : (s : ModeSettings) → TellsNone (controls s)
+  in_controls s =
+      let starts = map starter (texts s.starts) in
+      let stops = map stopper (texts s.stops) in
+      let ball = stopper_where s.stops_with_ball (codes "ball_ending") in
+      let game = stopper_where s.game (codes "game_ending") in
+      both (starts ++ stops ++ ball) game
+      (both (starts ++ stops) ball (both starts stops (each starter (λ e. silent.bound e _ _) (texts s.starts)) (each stopper (λ e. silent.bound e _ _) (texts s.stops))) (in_stopper s.stops_with_ball (codes "ball_ending")))
+      (in_stopper s.game (codes "game_ending"))
+
+  in_later : (name : List ℕ) → TellsNone (later_events name)
+  in_later name =
+      from Starting (mode_event Started name ∷ mode_event Stopping name ∷ mode_event Stopped name ∷ [])
+      (from Started (mode_event Stopping name ∷ mode_event Stopped name ∷ []) (from Stopping (mode_event Stopped name ∷ []) (from Stopped [] refl)))
+    where
+      from : (which : ModeEvent) (cs : List Contribution) → TellsNone cs → TellsNone (mode_event which name ∷ cs)
+      from which cs rest = first (mode_event which name) cs (silent.events which name) rest
+
+  pub in_mode : (name : List ℕ) (s : ModeSettings) → TellsNone (mode_contributions name s)
+  unfolding mode_contributions
+  in_mode name s = first (mode name s.priority s.game) (later_events name ++ controls s) (silent.modes name s.priority s.game) (both (later_events name) (controls s) (in_later name) (in_controls s))
