@@ -15,6 +15,7 @@ import sys
 import tempfile
 
 import cascades
+import coils
 import devices
 import stacked
 import texts
@@ -190,6 +191,13 @@ def plays_devices(bench: Bench, runs: int) -> None:
     plays_both(bench, f", {devices.BLOCKS} blocks, {devices.TIMERS} timers", bundle, log, runs)
 
 
+def plays_coils(bench: Bench, runs: int) -> None:
+    bundle, log = bench.folder / "coils.bundle", bench.folder / "coils.log"
+    bundle.write_bytes(coils.machine())
+    log.write_text(coils.log())
+    plays_both(bench, f" with two flippers and {coils.SLINGSHOTS} slingshots", bundle, log, runs)
+
+
 def plays_waits(bench: Bench, runs: int) -> None:
     log = bench.folder / "waits.log"
     log.write_text(waits.log())
@@ -220,6 +228,7 @@ def main() -> None:
         plays_cascades(bench, max(runs // 3, 1))
         plays_modes(bench, max(runs // 3, 1))
         plays_devices(bench, max(runs // 3, 1))
+        plays_coils(bench, max(runs // 3, 1))
         plays_waits(bench, max(runs // 3, 1))
 
 

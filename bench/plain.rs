@@ -1,6 +1,7 @@
 //! plain LOG < BUNDLE: plays a log like `pinball play`, in plain Rust and without proofs: the other side of the
-//! measurement. Of bundles it reads only the form that `cascades.py`, `stacked.py` and `devices.py` write, and checks
-//! nothing there. It refuses the lines of a log that `pinball play` refuses. Moments are in milliseconds. Built by rustc alone.
+//! measurement. Of bundles it reads only the form that `cascades.py`, `stacked.py`, `devices.py` and `coils.py` write,
+//! and checks nothing there. It refuses the lines of a log that `pinball play` refuses. Moments are in milliseconds.
+//! Built by rustc alone.
 use std::collections::{HashMap, VecDeque};
 use std::fmt::Write as _;
 use std::io::{self, BufWriter, Read, Write};
@@ -9,12 +10,16 @@ use std::io::{self, BufWriter, Read, Write};
 const DEBOUNCE: u64 = 5;
 /// Every moment is below it.
 const MOMENTS: u64 = 1 << 40;
+/// Full power, in thousandths.
+const FULL: u32 = 1000;
 
 struct Switch {
     name: String,
     quick: bool,
     active_posts: Vec<u16>,
     inactive_posts: Vec<u16>,
+    /// The numbers of the devices that are told when it changes.
+    listeners: Vec<u16>,
     raw: bool,
     active: bool,
     /// When the raw level is to be accepted.
@@ -28,6 +33,82 @@ type Owner = Option<u8>;
 enum Line {
     Switch(u64, u16, bool),
     Event(u64, Owner, u16),
+    /// A command to a coil, and whether it was sent or skipped.
+    Coil(u64, Owner, u16, Command, bool),
+    /// A coil that was put off at the end.
+    Off(u64, u16),
+}
+
+/// Powers are in thousandths.
+#[derive(Clone, Copy)]
+enum Command {
+    Pulse { ms: u64, power: u32 },
+    Enable { power: u32 },
+    Disable,
+}
+
+struct Coil {
+    name: String,
+    pulse_ms: u64,
+    /// Where it is written.
+    max_pulse_ms: Option<u64>,
+    pulse_power: u32,
+    allow_enable: bool,
+    /// Where it is written.
+    hold_power: Option<u32>,
+    pulse_end: u64,
+    /// From then on it takes another pulse.
+    ready: u64,
+    holder: Option<Owner>,
+}
+
+impl Coil {
+    fn may_hold(&self) -> bool {
+        self.allow_enable || self.hold_power.is_some_and(|power| power > 0)
+    }
+
+    fn max_hold_power(&self) -> u32 {
+        let most = if self.allow_enable { FULL } else { 0 };
+        most.max(self.hold_power.unwrap_or(0))
+    }
+
+    fn default_pulse(&self) -> Command {
+        Command::Pulse { ms: self.pulse_ms, power: self.pulse_power }
+    }
+
+    fn default_enable(&self) -> Command {
+        Command::Enable { power: self.hold_power.unwrap_or(self.max_hold_power()) }
+    }
+
+    fn is_on(&self, now: u64) -> bool {
+        self.holder.is_some() || now < self.pulse_end
+    }
+
+    /// Whether the command is sent: it is within the limits of the coil, and the coil is ready for it.
+    fn take(&mut self, command: Command, owner: Owner, now: u64) -> bool {
+        match command {
+            Command::Pulse { ms, power } => {
+                let most = self.max_pulse_ms.unwrap_or(self.pulse_ms);
+                if self.holder.is_some() || now < self.ready || ms == 0 || ms > most || power > FULL {
+                    return false;
+                }
+                (self.pulse_end, self.ready) = (now + ms, now + 2 * ms);
+            }
+            Command::Enable { power } => {
+                if self.holder.is_some() || !self.may_hold() || power > self.max_hold_power() {
+                    return false;
+                }
+                self.holder = Some(owner);
+            }
+            Command::Disable => {
+                if !self.is_on(now) {
+                    return false;
+                }
+                (self.pulse_end, self.holder) = (0, None);
+            }
+        }
+        true
+    }
 }
 
 #[derive(Clone, Copy, PartialEq)]
@@ -106,11 +187,19 @@ enum Act {
     Step(usize),
     Start,
     Pause,
+    Enable,
+    Disable,
+    SwitchOn,
+    SwitchOff,
 }
 
 /// What a logic block posts when it is hit: the first two of these, or all of them.
 const BLOCK_POSTS: [&str; 3] = ["updated", "hit", "complete"];
 const TIMER_POSTS: [&str; 4] = ["started", "paused", "tick", "complete"];
+
+/// What a flipper or an autofire coil does, by its place in `Device::commands`.
+const RISES: usize = 0;
+const FALLS: usize = 1;
 
 /// What a timer posts, by its place in `TIMER_POSTS`.
 const RUNS: usize = 0;
@@ -162,6 +251,8 @@ enum Kind {
     Accrual(Vec<bool>),
     Sequence { steps: usize, next: usize },
     Timer(Timer),
+    Flipper { main: u16, hold: Option<u16>, enabled: bool, on: bool },
+    Autofire { coil: u16, enabled: bool },
 }
 
 struct Device {
@@ -169,6 +260,8 @@ struct Device {
     kind: Kind,
     /// The numbers of what it may post.
     events: Vec<u16>,
+    /// The commands of what it may do with coils, each with the number of its coil.
+    commands: [Vec<(u16, Command)>; 2],
 }
 
 impl Device {
@@ -189,6 +282,7 @@ impl Device {
                 timer.value = 0;
                 return if timer.starts { vec![timer.run(now)] } else { vec![] };
             }
+            Kind::Flipper { .. } | Kind::Autofire { .. } => (),
         }
         vec![]
     }
@@ -248,9 +342,35 @@ impl Device {
             Kind::Counter(counter) => counter.value = 0,
             Kind::Accrual(done) => done.fill(false),
             Kind::Sequence { next, .. } => *next = 0,
-            Kind::Timer(_) => (),
+            Kind::Timer(_) | Kind::Flipper { .. } | Kind::Autofire { .. } => (),
         }
     }
+
+    /// Gives the place of what a flipper or an autofire coil does.
+    fn rule(&mut self, act: Act) -> Option<usize> {
+        match (&mut self.kind, act) {
+            (Kind::Flipper { enabled, .. } | Kind::Autofire { enabled, .. }, Act::Enable) => *enabled = true,
+            (Kind::Flipper { enabled, on, .. }, Act::Disable) => {
+                *enabled = false;
+                return std::mem::take(on).then_some(FALLS);
+            }
+            (Kind::Autofire { enabled, .. }, Act::Disable) => *enabled = false,
+            (Kind::Flipper { enabled: true, on, .. }, Act::SwitchOn) => {
+                *on = true;
+                return Some(RISES);
+            }
+            (Kind::Flipper { on, .. }, Act::SwitchOff) => return std::mem::take(on).then_some(FALLS),
+            (Kind::Autofire { enabled: true, .. }, Act::SwitchOn) => return Some(RISES),
+            _ => (),
+        }
+        None
+    }
+}
+
+/// In thousandths.
+fn power(text: &str) -> u32 {
+    let part: f64 = text.parse().expect("a power from 0 to 1");
+    (part * f64::from(FULL)).round() as u32
 }
 
 /// Milliseconds.
@@ -293,6 +413,8 @@ struct Machine {
     switches: Vec<Switch>,
     switch_numbers: HashMap<String, u16>,
     modes: Vec<Mode>,
+    coils: Vec<Coil>,
+    coil_numbers: HashMap<String, u16>,
     devices: Vec<Device>,
     events: Names,
     /// For each event its handlers, in the order in which they run.
@@ -326,6 +448,10 @@ impl Machine {
                 (_, "switches") => machine.set(key, value.trim()),
                 (2, "counters" | "accruals" | "sequences" | "timers") => machine.add_device(owner, section, key),
                 (_, "counters" | "accruals" | "sequences" | "timers") => machine.set_device(key, value.trim()),
+                (2, "coils") => machine.add_coil(key),
+                (_, "coils") => machine.set_coil(key, value.trim()),
+                (2, "flippers" | "autofire_coils") => machine.add_rule(section),
+                (_, "flippers" | "autofire_coils") => machine.set_rule(key, value.trim()),
                 (_, "mode") => machine.set_mode(owner.expect("a text of a mode"), key, value.trim()),
                 _ => machine.add_posts(owner, key, value.trim()),
             }
@@ -334,6 +460,23 @@ impl Machine {
     }
 
     fn finish(mut self) -> Machine {
+        let Machine { devices, coils, .. } = &mut self;
+        let coil = |number: u16| &coils[number as usize];
+        for device in devices {
+            device.commands = match device.kind {
+                Kind::Flipper { main, hold: Some(hold), .. } => [
+                    vec![(main, coil(main).default_pulse()), (hold, coil(hold).default_enable())],
+                    vec![(hold, Command::Disable)],
+                ],
+                Kind::Flipper { main, .. } if coil(main).may_hold() => {
+                    [vec![(main, coil(main).default_enable())], vec![(main, Command::Disable)]]
+                }
+                Kind::Flipper { main: pulsed, .. } | Kind::Autofire { coil: pulsed, .. } => {
+                    [vec![(pulsed, coil(pulsed).default_pulse())], vec![]]
+                }
+                _ => [vec![], vec![]],
+            };
+        }
         self.handlers.resize_with(self.events.names.len(), Vec::new);
         self.steps.resize(self.events.names.len(), None);
         for (number, mode) in (0u8..).zip(&self.modes) {
@@ -376,6 +519,7 @@ impl Machine {
             quick: false,
             active_posts: vec![active],
             inactive_posts: vec![inactive],
+            listeners: vec![],
             raw: false,
             active: false,
             due: None,
@@ -397,7 +541,61 @@ impl Machine {
             _ => (Kind::Timer(Timer::default()), "timer", &TIMER_POSTS[..]),
         };
         let events = posts.iter().map(|post| self.events.number(&format!("{family}_{name}_{post}"))).collect();
-        self.devices.push(Device { owner, kind, events });
+        self.devices.push(Device { owner, kind, events, commands: [vec![], vec![]] });
+    }
+
+    fn add_coil(&mut self, name: &str) {
+        self.coil_numbers.insert(name.to_string(), self.coils.len() as u16);
+        self.coils.push(Coil {
+            name: name.to_string(),
+            pulse_ms: 10,
+            max_pulse_ms: None,
+            pulse_power: FULL,
+            allow_enable: false,
+            hold_power: None,
+            pulse_end: 0,
+            ready: 0,
+            holder: None,
+        });
+    }
+
+    /// A setting of the coil that was added last.
+    fn set_coil(&mut self, setting: &str, value: &str) {
+        let coil = self.coils.last_mut().expect("a coil");
+        match setting {
+            "default_pulse_ms" => coil.pulse_ms = time(value),
+            "max_pulse_ms" => coil.max_pulse_ms = Some(time(value)),
+            "default_pulse_power" => coil.pulse_power = power(value),
+            "allow_enable" => coil.allow_enable = value == "yes",
+            "default_hold_power" => coil.hold_power = Some(power(value)),
+            _ => (),
+        }
+    }
+
+    fn add_rule(&mut self, section: &str) {
+        let kind = match section {
+            "flippers" => Kind::Flipper { main: 0, hold: None, enabled: false, on: false },
+            _ => Kind::Autofire { coil: 0, enabled: false },
+        };
+        self.devices.push(Device { owner: None, kind, events: vec![], commands: [vec![], vec![]] });
+    }
+
+    /// A setting of the flipper or the autofire coil that was added last. Its coils are read before it.
+    fn set_rule(&mut self, setting: &str, value: &str) {
+        let number = self.devices.len() as u16 - 1;
+        let kind = &mut self.devices.last_mut().expect("a device").kind;
+        match (kind, setting) {
+            (Kind::Flipper { main, .. }, "main_coil") => *main = self.coil_numbers[value],
+            (Kind::Flipper { hold, .. }, "hold_coil") => *hold = Some(self.coil_numbers[value]),
+            (Kind::Autofire { coil, .. }, "coil") => *coil = self.coil_numbers[value],
+            (_, "activation_switch" | "switch") => {
+                let switch = self.switch_numbers[value];
+                self.switches[switch as usize].listeners.push(number);
+            }
+            (_, "enable_events") => self.add_handler(value, None, Effect::Act(number, Act::Enable)),
+            (_, "disable_events") => self.add_handler(value, None, Effect::Act(number, Act::Disable)),
+            _ => (),
+        }
     }
 
     /// A setting of the device that was added last.
@@ -457,8 +655,14 @@ impl Machine {
         switch.active = active;
         switch.due = None;
         self.lines.push(Line::Switch(self.now, number, active));
+        let Machine { switches, devices, coils, waiting, lines, now, .. } = self;
+        let switch = &switches[number as usize];
+        let act = if active { Act::SwitchOn } else { Act::SwitchOff };
+        for &listener in &switch.listeners {
+            command(&mut devices[listener as usize], act, coils, *now, lines);
+        }
         let posts = if active { &switch.active_posts } else { &switch.inactive_posts };
-        self.waiting.extend(posts.iter().map(|&event| (None, event)));
+        waiting.extend(posts.iter().map(|&event| (None, event)));
     }
 
     fn change(&mut self, number: u16, raw: bool) {
@@ -494,11 +698,28 @@ impl Machine {
             if let Some((mode, step)) = step {
                 if step == STOPPING {
                     self.devices.iter_mut().filter(|d| d.owner == Some(mode)).for_each(Device::stop);
+                    self.release(mode);
                 }
                 let posted = self.modes[mode as usize].after(step);
                 self.waiting.extend(posted.map(|event| (None, event)));
             }
         }
+    }
+
+    /// Puts off the coils that a mode holds.
+    fn release(&mut self, mode: u8) {
+        for (number, coil) in (0u16..).zip(&mut self.coils) {
+            if coil.holder == Some(Some(mode)) && coil.take(Command::Disable, Some(mode), self.now) {
+                self.lines.push(Line::Coil(self.now, Some(mode), number, Command::Disable, true));
+            }
+        }
+    }
+
+    /// Puts off all coils that are on.
+    fn shut_down(&mut self) {
+        let Machine { coils, lines, now, .. } = self;
+        let on = (0u16..).zip(coils).filter(|(_, coil)| coil.is_on(*now));
+        lines.extend(on.map(|(number, _)| Line::Off(*now, number)));
     }
 
     fn start_devices(&mut self, mode: u8) {
@@ -511,7 +732,7 @@ impl Machine {
 
     /// Runs the handlers of an event whose owners take part.
     fn handle(&mut self, event: u16) {
-        let Machine { handlers, modes, devices, waiting, now, .. } = self;
+        let Machine { handlers, modes, devices, coils, waiting, lines, now, .. } = self;
         for handler in &handlers[event as usize] {
             if handler.owner.is_some_and(|mode| !modes[mode as usize].takes_part()) {
                 continue;
@@ -520,6 +741,9 @@ impl Machine {
                 Effect::Post(posts) => waiting.extend(posts.iter().map(|&event| (handler.owner, event))),
                 Effect::Start(mode) => waiting.extend(modes[*mode as usize].start().map(|event| (None, event))),
                 Effect::Stop(mode) => waiting.extend(modes[*mode as usize].stop().map(|event| (None, event))),
+                Effect::Act(number, act @ (Act::Enable | Act::Disable)) => {
+                    command(&mut devices[*number as usize], *act, coils, *now, lines);
+                }
                 Effect::Act(number, act) => {
                     let device = &mut devices[*number as usize];
                     let places = device.act(*act, *now);
@@ -527,6 +751,15 @@ impl Machine {
                 }
             }
         }
+    }
+}
+
+/// Tells a flipper or an autofire coil something, and gives its coils the commands that follow. Each has its line.
+fn command(device: &mut Device, act: Act, coils: &mut [Coil], now: u64, lines: &mut Vec<Line>) {
+    let Some(place) = device.rule(act) else { return };
+    for &(coil, command) in &device.commands[place] {
+        let sent = coils[coil as usize].take(command, device.owner, now);
+        lines.push(Line::Coil(now, device.owner, coil, command, sent));
     }
 }
 
@@ -563,6 +796,7 @@ impl Machine {
     /// Writes the lines since it wrote last, each through `text`, whose memory is used again.
     fn write(&mut self, text: &mut String, out: &mut impl Write) -> io::Result<()> {
         let modes = &self.modes;
+        let name_of = |owner: Owner| owner.map_or("machine", |mode| &modes[mode as usize].name);
         for line in self.lines.drain(..) {
             text.clear();
             match line {
@@ -571,8 +805,23 @@ impl Machine {
                     let _ = writeln!(text, "{at} machine switch {} {level}", self.switches[number as usize].name);
                 }
                 Line::Event(at, owner, event) => {
-                    let owner = owner.map_or("machine", |mode| &modes[mode as usize].name);
-                    let _ = writeln!(text, "{at} {owner} event {}", self.events.names[event as usize]);
+                    let _ = writeln!(text, "{at} {} event {}", name_of(owner), self.events.names[event as usize]);
+                }
+                Line::Coil(at, owner, coil, command, sent) => {
+                    let (owner, coil) = (name_of(owner), &self.coils[coil as usize].name);
+                    let _ = match (sent, command) {
+                        (true, Command::Pulse { ms, power }) => {
+                            writeln!(text, "{at} {owner} coil {coil} pulse {ms} {power}")
+                        }
+                        (true, Command::Enable { power }) => writeln!(text, "{at} {owner} coil {coil} enable {power}"),
+                        (true, Command::Disable) => writeln!(text, "{at} {owner} coil {coil} disable"),
+                        (false, Command::Pulse { .. }) => writeln!(text, "{at} {owner} skip {coil} pulse"),
+                        (false, Command::Enable { .. }) => writeln!(text, "{at} {owner} skip {coil} enable"),
+                        (false, Command::Disable) => writeln!(text, "{at} {owner} skip {coil} disable"),
+                    };
+                }
+                Line::Off(at, coil) => {
+                    let _ = writeln!(text, "{at} machine off {}", self.coils[coil as usize].name);
                 }
             }
             out.write_all(text.as_bytes())?;
@@ -617,7 +866,8 @@ impl Machine {
                 self.write(&mut text, out)?;
             }
         }
-        Ok(())
+        self.shut_down();
+        self.write(&mut text, out)
     }
 }
 
