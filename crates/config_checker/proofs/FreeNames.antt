@@ -1,102 +1,13 @@
--- Rows without faults of their own post no reserved event; and no switch does by its name or its tags.
-use Rattle.std.proofs.Common.{◌≡◌, ℕ, ◌==◌, nat_lt, if◌then◌else◌, Bool, true, false, ◌||◌, List, [], ◌∷◌, ◌++◌, filter, map, codes, refl, sym, ap, ◌∙◌, inl, inr, true≢false}
-use Rattle.std.specs.List.{All, list_any, flat_map}
+-- The events that switches, blocks and timers post by their own names are not reserved.
+use Rattle.std.proofs.Common.{◌≡◌, ℕ, ◌==◌, Bool, true, false, ◌||◌, List, [], ◌∷◌, ◌++◌, codes, refl, sym, ap, ◌∙◌, true≢false}
+use Rattle.std.specs.List.{list_any}
 use Rattle.std.specs.Str.{bytes_eq}
-use Rattle.std.proofs.lemmas.Bool.{cases_Bool, eq-eqb}
-use Rattle.std.proofs.lemmas.List.Elements.{All-nil, All-cons, All-head, All-tail, All-append, All-weaker}
+use Rattle.std.proofs.lemmas.Bool.{eq-eqb}
 use Rattle.std.proofs.lemmas.Slice.Eq.{bytes_eq-Decides}
 use Rattle.yaml_subset.specs.Keys.{is_among}
-use Rattle.mpf_sections.specs.Rows.{SectionRows}
 use Rattle.mpf_config.specs.Rows.{Rows}
-use Rattle.mpf_config.specs.BundleText.{machine_name, mode_text_name}
 use Rattle.plan_contributions.specs.DeviceEntries.{block_event, timer_event}
-use Rattle.config_checker.specs.FaultView.{FaultView}
-use Rattle.config_checker.specs.Reserved.{game_events, events_of_modes, mode_names, is_reserved_by, is_reserved, posts_in, posts_of, reserved_among}
-use Rattle.config_checker.specs.RowFaults.{put_by, ordered_by, reserved_fault, text_faults, mode_faults, faults_by, listed_once, row_faults, section_faults, fault_line, fault_number}
-use Rattle.config_checker.specs.Checking.{faults_of_rows}
-
--- ---- lists without items
-
-filled : {X : Type 0} (x : X) (xs : List X) → x ∷ xs ≡ [] → ⊥
-filled x xs e = cc
-
-map-none : {X Y : Type 0} (f : X → Y) (xs : List X) → map f xs ≡ [] → xs ≡ []
-map-none f [] e = refl
-map-none f (x ∷ xs) e = absurd (filled (f x) (map f xs) e)
-
-append-none : {X : Type 0} (xs ys : List X) → xs ++ ys ≡ [] → (xs ≡ []) × (ys ≡ [])
-append-none [] ys e = (refl, e)
-append-none (x ∷ xs) ys e = absurd (filled x (xs ++ ys) e)
-
-flat_map-none : {X Y : Type 0} (f : X → List Y) (xs : List X) → flat_map f xs ≡ [] → All (λ x. f x ≡ []) xs
-flat_map-none f [] e = All-nil (λ x. f x ≡ [])
-flat_map-none f (x ∷ xs) e = let both = append-none (f x) (flat_map f xs) e in All-cons (λ x. f x ≡ []) x xs both.0 (flat_map-none f xs both.1)
-
-filter-none : {X : Type 0} (p : X → Bool) (xs : List X) → filter p xs ≡ [] → All (λ x. p x ≡ false) xs
-filter-none p [] e = All-nil (λ x. p x ≡ false)
-filter-none p (x ∷ xs) e =
-    elim (cases_Bool (p x)) [
-      | inl holds ↦ absurd (filled x (filter p xs) (sym (kept holds) ∙ e))
-      | inr fails ↦ All-cons (λ y. p y ≡ false) x xs fails (filter-none p xs (sym (dropped fails) ∙ e))
-    ]
-  where
-    kept : p x ≡ true → filter p (x ∷ xs) ≡ x ∷ filter p xs
-    kept h = rw h refl
-
-    dropped : p x ≡ false → filter p (x ∷ xs) ≡ filter p xs
-    dropped h = rw h refl
-
-put-filled : {X : Type 0} (number : X → ℕ) (x : X) (ys : List X) → put_by number x ys ≡ [] → ⊥
-put-filled number x [] e = filled x [] e
-put-filled number x (y ∷ ys) e = by (nat_lt (number y) (number x)) e
-  where
-    by : (b : Bool) → (if b then y ∷ put_by number x ys else x ∷ y ∷ ys) ≡ [] → ⊥
-    by true e = filled y (put_by number x ys) e
-    by false e = filled x (y ∷ ys) e
-
-ordered-none : {X : Type 0} (number : X → ℕ) (xs : List X) → ordered_by number xs ≡ [] → xs ≡ []
-ordered-none number [] e = refl
-ordered-none number (x ∷ xs) e = absurd (put-filled number x (ordered_by number xs) e)
-
-once-none : (faults : List FaultView) → listed_once [] faults ≡ [] → faults ≡ []
-once-none [] e = refl
-once-none (f ∷ fs) e = absurd (filled f _ e)
-
--- ---- posts as written
-
--- what holds of all that each item gives
-All-each : {X Y : Type 0} (P : Y → Type 0) (f : X → List Y) (xs : List X) → All (λ x. All P (f x)) xs → All P (flat_map f xs)
-All-each P f [] h = All-nil P
-All-each P f (x ∷ xs) h = All-append P (f x) (flat_map f xs) (All-head (λ y. All P (f y)) x xs h) (All-each P f xs (All-tail (λ y. All P (f y)) x xs h))
-
--- no post of these sections is reserved
-abbrev pub AreFree : List (List ℕ) → List SectionRows → Type 0
-AreFree modes sections = All (λ w. is_reserved_by modes w.text ≡ false) (posts_of sections)
-
-section-free : (modes : List (List ℕ)) (text : List ℕ) (s : SectionRows) → section_faults modes text s ≡ [] → All (λ w. is_reserved_by modes w.text ≡ false) (posts_in s)
-section-free modes text s e =
-    filter-none (λ w. is_reserved_by modes w.text) (posts_in s) (map-none (reserved_fault text) (reserved_among modes (posts_in s)) (append-none (map (reserved_fault text) (reserved_among modes (posts_in s))) _ e).0)
-
-text-free : (modes : List (List ℕ)) (text : List ℕ) (sections : List SectionRows) → text_faults modes text sections ≡ [] → AreFree modes sections
-text-free modes text sections e =
-    All-each (λ w. is_reserved_by modes w.text ≡ false) posts_in sections
-    (All-weaker (λ s. section_faults modes text s ≡ []) (λ s. All (λ w. is_reserved_by modes w.text ≡ false) (posts_in s)) (section-free modes text) sections
-    (flat_map-none (section_faults modes text) sections (ordered-none fault_number (flat_map (section_faults modes text) sections) (ordered-none fault_line (ordered_by fault_number (flat_map (section_faults modes text) sections)) e))))
-
--- what rows post as written, in the machine text and in the texts of modes, is not reserved
-pub record PostNothingReserved (rows : Rows) : Type 0 where
-  pub machine : All (λ w. is_reserved rows w.text ≡ false) (posts_of rows.machine)
-  pub modes : All (λ m. All (λ w. is_reserved rows w.text ≡ false) (posts_of m.sections)) rows.modes
-
-pub posts-free : (rows : Rows) → faults_of_rows rows ≡ [] → PostNothingReserved rows
-unfolding row_faults
-posts-free rows none =
-    let modes = events_of_modes (mode_names rows) in
-    let parts = append-none (text_faults modes machine_name rows.machine) (flat_map (mode_faults modes) rows.modes) (once-none (faults_by modes rows) none) in
-    record {
-      machine = text-free modes machine_name rows.machine parts.0;
-      modes = All-weaker (λ m. mode_faults modes m ≡ []) (λ m. AreFree modes m.sections) (λ m e. text-free modes (mode_text_name m.name) m.sections e) rows.modes (flat_map-none (mode_faults modes) rows.modes parts.1);
-    }
+use Rattle.row_faults.specs.Reserved.{game_events, events_of_modes, mode_names, is_reserved}
 
 -- ---- names of switches
 

@@ -7,6 +7,8 @@ use Rattle.mpf_config.specs.Rows.{Rows}
 use Rattle.plan_tables.specs.PlanView.{PlanView, name_of_event}
 use Rattle.mpf_plan.specs.PlanOf.{plan_at, plan_of}
 use Rattle.mpf_plan.proofs.Judged.{plan_at-Ok, plan_at-exceeded}
+use Rattle.config_checker.proofs.Given.{lacks_nothing}
+use Rattle.config_checker.proofs.PlanFree.{rows_sound}
 use Rattle.cascade_rank.specs.Events.{weight_of}
 use Rattle.cascade_rank.specs.Weights.{bound_of}
 use Rattle.cascade_rank.specs.Finding.{RankView, found_at, verified_at}
@@ -93,30 +95,30 @@ none-some x e = absurd (apart e)
 -- ---- a table above its limit
 
 module _ (rows : Rows) where
-  limit-checked : (judge : PlanView → Result CheckedView FaultView) (fault : FaultView) → IsLimitFault rows fault → checked judge (plan_at rows) ≡ Err (fault ∷ [])
-  limit-checked judge (row kind text line name) h = absurd h
-  limit-checked judge (limit t) h = ap (checked judge) (plan_at-exceeded rows t h)
-  limit-checked judge (cycle names) h = absurd h
-  limit-checked judge bound h = absurd h
-  limit-checked judge (certificate fault) h = absurd h
+  limit-checked : faults_of_rows rows ≡ [] → (judge : PlanView → Result CheckedView FaultView) (fault : FaultView) → IsLimitFault rows fault → checked judge (plan_at rows) ≡ Err (fault ∷ [])
+  limit-checked none judge (row f) h = absurd h
+  limit-checked none judge (limit t) h = ap (checked judge) (plan_at-exceeded rows (lacks_nothing rows (rows_sound rows none)) t h)
+  limit-checked none judge (cycle names) h = absurd h
+  limit-checked none judge bound h = absurd h
+  limit-checked none judge (certificate fault) h = absurd h
 
   pub limit-found : faults_of_rows rows ≡ [] → (fault : FaultView) → IsLimitFault rows fault → checked_at rows ≡ Err (fault ∷ [])
   unfolding checked_at
-  limit-found none fault h = first-none rows (checked weighed_plan (plan_at rows)) none ∙ limit-checked weighed_plan fault h
+  limit-found none fault h = first-none rows (checked weighed_plan (plan_at rows)) none ∙ limit-checked none weighed_plan fault h
 
   pub limit-given : faults_of_rows rows ≡ [] → (text : List ℕ) (fault : FaultView) → IsLimitFault rows fault → checked_with_at rows text ≡ Err (fault ∷ [])
   unfolding checked_with_at
-  limit-given none text fault h = first-none rows (checked (certified_plan text) (plan_at rows)) none ∙ limit-checked (certified_plan text) fault h
+  limit-given none text fault h = first-none rows (checked (certified_plan text) (plan_at rows)) none ∙ limit-checked none (certified_plan text) fault h
 
   pub limit-fault : (fault : FaultView) → IsLimitFault rows fault → IsFaultOf rows fault
-  limit-fault (row kind text line name) h = absurd h
+  limit-fault (row f) h = absurd h
   limit-fault (limit t) h = h
   limit-fault (cycle names) h = absurd h
   limit-fault bound h = absurd h
   limit-fault (certificate fault) h = absurd h
 
   pub limit-fault_with : (text : List ℕ) (fault : FaultView) → IsLimitFault rows fault → IsFaultWith rows text fault
-  limit-fault_with text (row kind of line name) h = absurd h
+  limit-fault_with text (row f) h = absurd h
   limit-fault_with text (limit t) h = h
   limit-fault_with text (cycle names) h = absurd h
   limit-fault_with text bound h = absurd h

@@ -7,7 +7,8 @@ pub mod Judging
 pub mod EventWords
 pub mod ReadBack
 pub mod CertificateLength
-pub mod ByLine
-pub mod RowFaults
 pub mod FreeNames
+pub mod CoilDeeds
+pub mod RowsDoing
+pub mod Given
 pub mod PlanFree

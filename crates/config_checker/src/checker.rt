@@ -137,8 +137,10 @@ fn faults_of(alloc: Global, own: Vec<RowFault>) -> Result<Vec<Fault>, AllocError
     Ok(faults)
 }
 
-/// The plan of a configuration, or the report of the table that is above its limit.
+/// The plan of a configuration whose rows have no faults of their own, or the report of the table
+/// that is above its limit.
 fn plan_of(alloc: Global, config: &Config) -> Result<Plan, Report>
+    requires { faults_of_rows (rows_view config.now) ≡ [] }
     ensures plan { IfOk result (λ plan. plan_at (rows_view config.now) ≡ Ok plan) }
     ensures limit { IfErr result (λ report. ReportsOne (IsLimitFault (rows_view config.now)) report) }
 {

@@ -13,7 +13,7 @@ use Rattle.config_checker.specs.View.{GivesChecked, fault_view}
 use Rattle.config_checker.specs.Checking.{certificate, bad_line, other_events, other_bound, same_names, checked_with_at}
 use Rattle.config_checker.specs.Refused.{IsLimitFault, IsFaultWith, Reports}
 use Rattle.written_machine.proofs.Good.{every_run_is_good}
-use Rattle.config_checker.proofs.PlanFree.{plan_free, plan_own}
+use Rattle.config_checker.proofs.PlanFree.{plan_free, plan_own, plan_allowed}
 use Rattle.config_checker.proofs.Judging.{own-given, own-reports, reports-one, one-gives, reports-gives, reports-there, limit-given, limit-fault_with, misread-checked, misread-fault, read-as, other_events-checked, other_events-fault, unverified-checked, unverified-fault, verified-checked, verified-text, other_bound-checked, other_bound-fault}
 use Rattle.config_checker.proofs.checker.check_with.Goals as goal
 
@@ -138,7 +138,7 @@ returns-in-Ok-2-clause-refused c =
 -- ---- accepted
 
 pub new-requires : goal.new-requires
-new-requires c = record { valid = IsValid-plan_at (rows_view c.args.config.now) c.args.config.now.lists_short c.args.config.now.few_modes c.in_ok-plan.plan c.in_ok-plan.ensures.plan; free = plan_free (rows_view c.args.config.now) c.in_ok-refuse_own.ensures.none c.in_ok-plan.plan c.in_ok-plan.ensures.plan; own = plan_own (rows_view c.args.config.now) c.in_ok-plan.plan c.in_ok-plan.ensures.plan; verified = c.in-Ok-verify.ensures.verified }
+new-requires c = record { valid = IsValid-plan_at (rows_view c.args.config.now) c.args.config.now.lists_short c.args.config.now.few_modes c.in_ok-plan.plan c.in_ok-plan.ensures.plan; free = plan_free (rows_view c.args.config.now) c.in_ok-refuse_own.ensures.none c.in_ok-plan.plan c.in_ok-plan.ensures.plan; own = plan_own (rows_view c.args.config.now) c.in_ok-plan.plan c.in_ok-plan.ensures.plan; allowed = plan_allowed (rows_view c.args.config.now) c.in_ok-refuse_own.ensures.none c.in_ok-plan.plan c.in_ok-plan.ensures.plan; verified = c.in-Ok-verify.ensures.verified }
 
 pub returns-in-Ok-verify-clause-exact : goal.returns-in-Ok-verify-clause-exact
 returns-in-Ok-verify-clause-exact c =
@@ -165,4 +165,4 @@ returns-in-Ok-verify-clause-text c =
 pub returns-in-Ok-verify-clause-good : goal.returns-in-Ok-verify-clause-good
 returns-in-Ok-verify-clause-good c =
     let valid = IsValid-plan_at (rows_view c.args.config.now) c.args.config.now.lists_short c.args.config.now.few_modes c.in_ok-plan.plan c.in_ok-plan.ensures.plan in
-    subst IsGood (sym c.new.ensures) (every_run_is_good _ (record { valid = valid; free = plan_free (rows_view c.args.config.now) c.in_ok-refuse_own.ensures.none c.in_ok-plan.plan c.in_ok-plan.ensures.plan; own = plan_own (rows_view c.args.config.now) c.in_ok-plan.plan c.in_ok-plan.ensures.plan; verified = c.in-Ok-verify.ensures.verified }))
+    subst IsGood (sym c.new.ensures) (every_run_is_good _ (record { valid = valid; free = plan_free (rows_view c.args.config.now) c.in_ok-refuse_own.ensures.none c.in_ok-plan.plan c.in_ok-plan.ensures.plan; own = plan_own (rows_view c.args.config.now) c.in_ok-plan.plan c.in_ok-plan.ensures.plan; allowed = plan_allowed (rows_view c.args.config.now) c.in_ok-refuse_own.ensures.none c.in_ok-plan.plan c.in_ok-plan.ensures.plan; verified = c.in-Ok-verify.ensures.verified }))

@@ -1,0 +1,152 @@
+-- Sound rows use no name that nothing has: each coil and each switch that their contributions use is given.
+use Rattle.std.proofs.Common.{◌≡◌, ℕ, zero, suc, ◌<◌, Bool, true, false, cond, ◌||◌, ◌==◌, if◌then◌else◌, List, [], ◌∷◌, ◌++◌, length, map, fold, get_or, refl, sym, ◌∙◌, ap, subst, true≢false, arith}
+use Rattle.std.specs.Prelude.{Option, None, Some}
+use Rattle.std.specs.List.{All, list_any, flat_map}
+use Rattle.std.specs.Str.{bytes_eq}
+use Rattle.std.proofs.lemmas.Bool.{eq-eqb}
+use Rattle.std.proofs.lemmas.List.Folds.{list_any-append}
+use Rattle.std.proofs.lemmas.Slice.Eq.{bytes_eq-Decides}
+use Rattle.mpf_sections.specs.Rows.{Coil, SectionRows}
+use Rattle.mpf_sections.specs.TypedCoils.{coils_in}
+use Rattle.mpf_config.specs.Rows.{Rows}
+use Rattle.plan_tables.specs.declared.entries.CoilLimits.{CoilLimits}
+use Rattle.plan_tables.specs.declared.table.Table.{Table}
+use Rattle.plan_tables.specs.declared.table.Table.TheVariants.{Events, Switches, Coils}
+use Rattle.plan_tables.specs.Limits.{order_of}
+use Rattle.machine_definitions.specs.Definitions.{latest_coil, coil_called}
+use Rattle.plan_contributions.specs.DeviceEntries.{Effect, posts, works}
+use Rattle.plan_contributions.specs.CoilEntries.{limits_of_coil}
+use Rattle.plan_contributions.specs.Contributions.{Contribution, gives, reads, active, inactive, mode, mode_event, binds, does, device, does_in, listens, mentions, coil, contributions_of}
+use Rattle.plan_contributions.specs.Doing.{Does}
+use Rattle.plan_contributions.specs.Facts.{given_coil}
+use Rattle.plan_contributions.specs.UsedNames.{used, given, name_in_table, given_names}
+use Rattle.plan_contributions.proofs.CoilsGiven.{coils_given}
+use Rattle.plan_contributions.proofs.SwitchesGiven.{switches_given}
+use Rattle.plan_contributions.proofs.RowEffects.{all_do}
+use Rattle.mpf_plan.specs.Uses.{is_to_be_given, lacks_name}
+use Rattle.mpf_plan.specs.ByName.{IsGiven, AreGiven}
+use Rattle.mpf_plan.proofs.Judged.{nothing_lacks}
+use Rattle.row_faults.specs.Sound.{IsSound}
+use Rattle.config_checker.proofs.RowsDoing.{IsUnreserved, IsFine, IsThere, rows_doing}
+
+or_first : (a b : Bool) → a ≡ true → (a || b) ≡ true
+or_first true b is = refl
+or_first false b is = absurd (true≢false (sym is))
+
+or_second : (a b : Bool) → b ≡ true → (a || b) ≡ true
+or_second true b is = refl
+or_second false b is = is
+
+same_bytes : (n : List ℕ) → bytes_eq n n ≡ true
+same_bytes n = (bytes_eq-Decides n n).1 refl
+
+-- ---- what a contribution gives itself
+
+own_name : (t : Table) (n : List ℕ) → list_any (bytes_eq n) (name_in_table t (Some (t, n))) ≡ true
+own_name t n = ap (λ b. list_any (bytes_eq n) (cond b (n ∷ []) [])) (eq-eqb (order_of t) (order_of t) refl) ∙ or_first (bytes_eq n n) false (same_bytes n)
+
+given_there : (cs : List Contribution) (i : ℕ) (d c : Contribution) (t : Table) (n : List ℕ) → i < length cs → get_or cs i d ≡ c → given c ≡ Some (t, n) → list_any (bytes_eq n) (given_names t cs) ≡ true
+given_there [] i d c t n within at is = absurd (omega arith)
+given_there (x ∷ cs) zero d c t n within at is =
+    list_any-append (bytes_eq n) (name_in_table t (given x)) (given_names t cs)
+    ∙ or_first (list_any (bytes_eq n) (name_in_table t (given x))) (list_any (bytes_eq n) (given_names t cs)) (ap (λ o. list_any (bytes_eq n) (name_in_table t o)) (ap given at ∙ is) ∙ own_name t n)
+given_there (x ∷ cs) (suc i) d c t n within at is =
+    list_any-append (bytes_eq n) (name_in_table t (given x)) (given_names t cs)
+    ∙ or_second (list_any (bytes_eq n) (name_in_table t (given x))) (list_any (bytes_eq n) (given_names t cs)) (given_there cs i d c t n (omega arith) at is)
+
+-- ---- coils
+
+module _ (n : List ℕ) where
+  abbrev is_it : List ℕ × CoilLimits → Bool
+  is_it g = bytes_eq n g.0
+
+  -- a coil that is found is one of them
+  found_there : (cs : List Coil) (o : Option Coil) (c : Coil) → fold (latest_coil n) o cs ≡ Some c → o ≡ None → list_any (λ x. bytes_eq n x.name.text) cs ≡ true
+  found_there cs o c is none = by cs o is (λ x some. absurd (apart x (sym none ∙ some)))
+    where
+      apart : (x : Coil) → None ≡ Some x → ⊥
+      apart x e = cc
+
+      by : (cs : List Coil) (o : Option Coil) → fold (latest_coil n) o cs ≡ Some c → ((x : Coil) → o ≡ Some x → list_any (λ y. bytes_eq n y.name.text) cs ≡ true) → list_any (λ y. bytes_eq n y.name.text) cs ≡ true
+      by [] o is old = old c is
+      by (x ∷ cs) o is old = step (bytes_eq n x.name.text) refl
+        where
+          rest : Bool
+          rest = list_any (λ y. bytes_eq n y.name.text) cs
+
+          step : (b : Bool) → bytes_eq n x.name.text ≡ b → (bytes_eq n x.name.text || rest) ≡ true
+          step true same = or_first (bytes_eq n x.name.text) rest same
+          step false same = or_second (bytes_eq n x.name.text) rest (by cs o (ap (λ b. fold (latest_coil n) (if b then Some x else o) cs) (sym same) ∙ is) (λ y some. keep y some))
+            where
+              keep : (y : Coil) → o ≡ Some y → rest ≡ true
+              keep y some = ap (λ b. b || rest) (sym same) ∙ old y some
+
+  as_given-any : (cs : List Coil) → list_any (λ x. bytes_eq n x.name.text) cs ≡ true → list_any is_it (map (λ c. (c.name.text, limits_of_coil c)) cs) ≡ true
+  as_given-any [] is = is
+  as_given-any (c ∷ cs) is = by (bytes_eq n c.name.text) is
+    where
+      by : (b : Bool) → (b || list_any (λ x. bytes_eq n x.name.text) cs) ≡ true → (b || list_any is_it (map (λ c. (c.name.text, limits_of_coil c)) cs)) ≡ true
+      by true is = refl
+      by false is = as_given-any cs is
+
+  -- a coil that a contribution gives is among the names that are given
+  coil-named : (cs : List Contribution) → list_any is_it (flat_map given_coil cs) ≡ true → list_any (bytes_eq n) (given_names Coils cs) ≡ true
+  coil-named [] is = is
+  coil-named (c ∷ cs) is = by c is
+    where
+      rest : list_any is_it (flat_map given_coil cs) ≡ true → list_any (bytes_eq n) (name_in_table Coils (given c) ++ given_names Coils cs) ≡ true
+      rest h =
+          list_any-append (bytes_eq n) (name_in_table Coils (given c)) (given_names Coils cs)
+          ∙ or_second (list_any (bytes_eq n) (name_in_table Coils (given c))) (list_any (bytes_eq n) (given_names Coils cs)) (coil-named cs h)
+
+      own : (x : List ℕ) (b : Bool) → (b || list_any is_it (flat_map given_coil cs)) ≡ true → (b || list_any (bytes_eq n) (given_names Coils cs)) ≡ true
+      own x true h = refl
+      own x false h = coil-named cs h
+
+      by : (c : Contribution) → list_any is_it (given_coil c ++ flat_map given_coil cs) ≡ true → list_any (bytes_eq n) (name_in_table Coils (given c) ++ given_names Coils cs) ≡ true
+      by (coil x limits) h = own x (bytes_eq n x) h
+      by (gives t x) h =
+          list_any-append (bytes_eq n) (name_in_table Coils (Some (t, x))) (given_names Coils cs)
+          ∙ or_second (list_any (bytes_eq n) (name_in_table Coils (Some (t, x)))) (list_any (bytes_eq n) (given_names Coils cs)) (coil-named cs h)
+      by _ h = coil-named cs h
+
+  coil_given : (rows : Rows) (c : Coil) → coil_called rows.machine n ≡ Some c → list_any (bytes_eq n) (given_names Coils (contributions_of rows)) ≡ true
+  coil_given rows c is =
+      coil-named (contributions_of rows)
+      (ap (list_any is_it) (coils_given rows) ∙ as_given-any (flat_map coils_in rows.machine) (found_there (flat_map coils_in rows.machine) None c is refl))
+
+-- ---- all contributions
+
+module _ (rows : Rows) (sound : IsSound rows) where
+  abbrev cs : List Contribution
+  cs = contributions_of rows
+
+  never : (n : List ℕ) → IsGiven cs (Some (Events, n))
+  never n needed = absurd (true≢false (sym needed))
+
+  effect-given : (e : Effect) → IsFine rows e → IsGiven cs (used (does e))
+  effect-given (posts n) h = never n
+  effect-given (works n deed) h = λ needed. coil_given n rows h.coil h.called
+
+  is_given : (i : ℕ) (d c : Contribution) → i < length cs → get_or cs i d ≡ c → Does (IsFine rows) (IsUnreserved rows) (IsThere rows) c → IsGiven cs (used c)
+  is_given i d (gives t n) within at h = λ needed. given_there cs i d (gives t n) t n within at refl
+  is_given i d (coil n limits) within at h = λ needed. given_there cs i d (coil n limits) Coils n within at refl
+  is_given i d (listens k n) within at h = λ needed. switches_given rows n h
+  is_given i d (does e) within at h = effect-given e h
+  is_given i d (does_in k e) within at h = effect-given e h
+  is_given i d (reads kind) within at h = tt
+  is_given i d (device place settings) within at h = tt
+  is_given i d (active n) within at h = never n
+  is_given i d (inactive n) within at h = never n
+  is_given i d (mode n priority game) within at h = never _
+  is_given i d (mode_event which n) within at h = never _
+  is_given i d (binds n place aim) within at h = never n
+  is_given i d (mentions n) within at h = never n
+
+  are_given : AreGiven cs
+  are_given =
+      let doing = all_do (IsFine rows) (IsUnreserved rows) (IsThere rows) rows (rows_doing rows sound) in
+      λ i d within. is_given i d (get_or cs i d) within refl (doing i d within)
+
+  pub lacks_nothing : lacks_name (contributions_of rows) ≡ false
+  lacks_nothing = nothing_lacks cs are_given

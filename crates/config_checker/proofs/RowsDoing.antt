@@ -1,0 +1,199 @@
+-- What sound rows do: they post nothing reserved, each deed is within the limits of its coil, and each switch to which a
+-- device listens is defined.
+use Rattle.std.proofs.Common.{◌≡◌, ℕ, Bool, true, false, if◌then◌else◌, List, [], ◌∷◌, ◌++◌, map, get_or, codes, refl, sym, true≢false}
+use Rattle.std.specs.Prelude.{Option, Some, None}
+use Rattle.std.specs.Str.{bytes_eq}
+use Rattle.std.specs.List.{All, flat_map}
+use Rattle.std.proofs.lemmas.List.Elements.{All-nil, All-cons, All-head, All-tail, All-append, All-map, All-weaker, All-from_get_or}
+use Rattle.mpf_sections.specs.Rows.{Written, Entry, Switch, EventPlayer, CoilItem, CoilPlayer, Block, Flipper, Autofire, SectionRows}
+use Rattle.mpf_config.specs.Rows.{ModeRows, Rows}
+use Rattle.mpf_sections.specs.Typed.{counters_name, accruals_name, sequences_name, timers_name, counter_of, step_block_of, timer_of, entries_in, switches_in, event_players_in, counters_in, accruals_in, sequences_in}
+use Rattle.mpf_sections.specs.TypedCoils.{coil_players_in, flippers_in, autofires_in}
+use Rattle.plan_tables.specs.declared.devices.StepSettings.{StepSettings}
+use Rattle.plan_tables.specs.declared.devices.Settings.{Settings}
+use Rattle.plan_tables.specs.declared.devices.Settings.TheVariants as kinds
+use Rattle.machine_definitions.specs.Definitions.{has_switch}
+use Rattle.plan_contributions.specs.DeviceEntries.{Deed, Effect, posts, works, Device, counter_device, step_device, step_settings, timer_device, device_of, block_event, or_own, block_lists, timer_event, timer_endings, timer_lists}
+use Rattle.plan_contributions.specs.CoilEntries.{item_effect, flipper_device, autofire_device}
+use Rattle.plan_contributions.specs.Contributions.{texts, tag_event, active_posts, inactive_posts}
+use Rattle.plan_contributions.specs.Doing.{IsSwitchDoing, IsPlayerDoing, IsDeviceDoing, IsEntryDoing, IsCoilPlayerDoing, IsDoing, IsMachineDoing, AreDoing}
+use Rattle.row_faults.specs.Reserved.{is_reserved, switch_posts, player_posts, block_posts, counter_posts, step_posts, posts_in, posts_of}
+use Rattle.row_faults.specs.Sound.{IsItemSound, IsCoilPlayerSound, IsFlipperSound, IsAutofireSound, IsSectionSound, IsSound}
+use Rattle.config_checker.proofs.FreeNames.{active-free, inactive-free, tag-free, block-free, timer-free}
+use Rattle.config_checker.proofs.CoilDeeds.{IsDeedSound, item_deed, flipper_doing, autofire_doing}
+
+-- ---- parts of lists
+
+all-parts : {X : Type 0} (P : X → Type 0) (xs ys : List X) → All P (xs ++ ys) → All P xs × All P ys
+all-parts P [] ys h = (All-nil P, h)
+all-parts P (x ∷ xs) ys h =
+    let rest = all-parts P xs ys (All-tail P x (xs ++ ys) h) in
+    (All-cons P x xs (All-head P x (xs ++ ys) h) rest.0, rest.1)
+
+all-each : {X Y : Type 0} (P : Y → Type 0) (f : X → List Y) (xs : List X) → All P (flat_map f xs) → All (λ x. All P (f x)) xs
+all-each P f [] h = All-nil (λ x. All P (f x))
+all-each P f (x ∷ xs) h =
+    let parts = all-parts P (f x) (flat_map f xs) h in
+    All-cons (λ y. All P (f y)) x xs parts.0 (all-each P f xs parts.1)
+
+-- of what an item of a list is made, where it is in the list
+from_map : {X Y : Type 0} (P : Y → Type 0) (f : X → Y) (xs : List X) → All P (map f xs) → All (λ x. P (f x)) xs
+from_map P f [] h = All-nil (λ x. P (f x))
+from_map P f (x ∷ xs) h = All-cons (λ y. P (f y)) x xs (All-head P (f x) (map f xs) h) (from_map P f xs (All-tail P (f x) (map f xs) h))
+
+module _ (rows : Rows) where
+  abbrev pub IsUnreserved : List ℕ → Type 0
+  IsUnreserved name = is_reserved rows name ≡ false
+
+  -- an effect posts nothing reserved, and its deed is within the limits of its coil
+  abbrev pub IsFine : Effect → Type 0
+  IsFine (posts n) = IsUnreserved n
+  IsFine (works n deed) = IsDeedSound rows.machine n deed
+
+  -- a switch to which a device listens is defined
+  abbrev pub IsThere : List ℕ → Type 0
+  IsThere n = has_switch rows.machine n ≡ true
+
+  abbrev IsFreePost : Written → Type 0
+  IsFreePost w = IsUnreserved w.text
+
+  written-free : (ws : List Written) → All IsFreePost ws → All IsUnreserved (texts ws)
+  written-free ws h = All-map IsUnreserved (λ (w : Written). w.text) ws h
+
+  -- ---- switches and players
+
+  abbrev nothing_written : Written
+  nothing_written = record { line = 0; text = [] }
+
+  tags-free : (tags : List Written) → All IsUnreserved (map tag_event tags)
+  tags-free tags = All-map IsUnreserved tag_event tags (All-from_get_or (λ t. IsUnreserved (tag_event t)) tags nothing_written (λ i inside. tag-free (get_or tags i nothing_written).text rows))
+
+  switch-doing : (s : Switch) → All IsFreePost (switch_posts s) → IsSwitchDoing IsFine IsUnreserved IsThere s
+  switch-doing s h =
+      let parts = all-parts IsFreePost s.activated s.deactivated h in (
+        All-cons IsUnreserved (s.name.text ++ codes "_active") (map tag_event s.tags ++ texts s.activated) (active-free s.name.text rows)
+            (All-append IsUnreserved (map tag_event s.tags) (texts s.activated) (tags-free s.tags) (written-free s.activated parts.0)),
+        All-cons IsUnreserved (s.name.text ++ codes "_inactive") (texts s.deactivated) (inactive-free s.name.text rows) (written-free s.deactivated parts.1),
+      )
+
+  coil_player-doing : (p : CoilPlayer) → IsCoilPlayerSound rows.machine p → IsCoilPlayerDoing IsFine IsUnreserved IsThere rows.machine p
+  coil_player-doing p h = All-weaker (IsItemSound rows.machine) (λ item. IsFine (item_effect rows.machine item)) (λ item sound. item_deed rows.machine item sound) p.items h
+
+  -- ---- devices
+
+  one : (e : Effect) → IsFine e → All IsFine (e ∷ [])
+  one e h = All-cons IsFine e [] h (All-nil IsFine)
+
+  -- what the effect lists of a block post
+  block-lists : (name : List ℕ) (b : Block) → All IsFreePost (block_posts b) → All (All IsFine) (block_lists name b)
+  block-lists name b h =
+      let parts = all-parts IsFreePost b.hit b.complete h in
+      let updated = posts (block_event name (codes "_updated")) ∷ [] in
+      let hit = map posts (or_own b.hit (block_event name (codes "_hit"))) in
+      let complete = map posts (or_own b.complete (block_event name (codes "_complete"))) in
+      All-cons (All IsFine) updated (hit ∷ complete ∷ []) (one (posts (block_event name (codes "_updated"))) (block-free name (codes "_updated") rows))
+      (All-cons (All IsFine) hit (complete ∷ []) (own_or b.hit (block_event name (codes "_hit")) (block-free name (codes "_hit") rows) parts.0)
+      (All-cons (All IsFine) complete [] (own_or b.complete (block_event name (codes "_complete")) (block-free name (codes "_complete") rows) parts.1) (All-nil (All IsFine))))
+    where
+      own_or : (ws : List Written) (own : List ℕ) → IsUnreserved own → All IsFreePost ws → All IsFine (map posts (or_own ws own))
+      own_or [] own free h = one (posts own) free
+      own_or (w ∷ ws) own free h = All-map IsFine posts (texts (w ∷ ws)) (written-free (w ∷ ws) h)
+
+  timer-all : (name : List ℕ) → All (All IsFine) (timer_lists name)
+  timer-all name =
+      All-map (All IsFine) (λ ending. posts (timer_event name ending) ∷ []) timer_endings
+      (λ i d within. one (posts (timer_event name (get_or timer_endings i d))) (timer-free name (get_or timer_endings i d) rows))
+
+  where_free : {X : Type 0} (posts_by : X → List Written) (f : Entry → X) (b : Bool) (es : List Entry) → All IsFreePost (flat_map posts_by (map f (if b then es else []))) → b ≡ true → All (λ e. All IsFreePost (posts_by (f e))) es
+  where_free posts_by f true es h is = from_map (λ x. All IsFreePost (posts_by x)) f es (all-each IsFreePost posts_by (map f es) h)
+  where_free posts_by f false es h is = absurd (true≢false (sym is))
+
+  abbrev IsEntry : Option Device → Type 0
+  IsEntry o = IsEntryDoing IsFine IsUnreserved IsThere o
+
+  -- the devices of a section that stand in any text
+  entries-doing : (s : SectionRows) → All IsFreePost (flat_map counter_posts (counters_in s)) → All IsFreePost (flat_map step_posts (accruals_in s)) → All IsFreePost (flat_map step_posts (sequences_in s))
+      → All (λ e. IsEntry (device_of s.name e)) (entries_in s.content)
+  unfolding counters_in accruals_in sequences_in device_of
+  entries-doing s counters accruals sequences =
+      by (bytes_eq s.name counters_name) (bytes_eq s.name accruals_name) (bytes_eq s.name sequences_name) (bytes_eq s.name timers_name)
+      (where_free counter_posts counter_of (bytes_eq s.name counters_name) es counters) (where_free step_posts step_block_of (bytes_eq s.name accruals_name) es accruals)
+      (where_free step_posts step_block_of (bytes_eq s.name sequences_name) es sequences)
+    where
+      es : List Entry
+      es = entries_in s.content
+
+      steps : (settings : StepSettings → Settings) (e : Entry) → All IsFreePost (step_posts (step_block_of e)) → IsEntry (Some (step_device (settings (step_settings (step_block_of e))) (step_block_of e)))
+      steps settings e h = record { lists = block-lists (step_block_of e).name.text (step_block_of e).block h; listens = All-nil IsThere }
+
+      counter : (e : Entry) → All IsFreePost (counter_posts (counter_of e)) → IsEntry (Some (counter_device (counter_of e)))
+      counter e h = record { lists = block-lists (counter_of e).name.text (counter_of e).block h; listens = All-nil IsThere }
+
+      by : (c a q t : Bool) → (c ≡ true → All (λ e. All IsFreePost (counter_posts (counter_of e))) es) → (a ≡ true → All (λ e. All IsFreePost (step_posts (step_block_of e))) es) → (q ≡ true → All (λ e. All IsFreePost (step_posts (step_block_of e))) es)
+          → All (λ e. IsEntry (if c then Some (counter_device (counter_of e))
+          else (if a then Some (step_device (kinds.Accrual (step_settings (step_block_of e))) (step_block_of e))
+          else (if q then Some (step_device (kinds.Sequence (step_settings (step_block_of e))) (step_block_of e))
+          else (if t then Some (timer_device (timer_of e)) else None))))) es
+      by true a q t hc ha hq =
+          All-weaker (λ e. All IsFreePost (counter_posts (counter_of e))) _ counter es (hc refl)
+      by false true q t hc ha hq = All-weaker (λ e. All IsFreePost (step_posts (step_block_of e))) _ (steps kinds.Accrual) es (ha refl)
+      by false false true t hc ha hq = All-weaker (λ e. All IsFreePost (step_posts (step_block_of e))) _ (steps kinds.Sequence) es (hq refl)
+      by false false false true hc ha hq = λ i d within. record { lists = timer-all (timer_of (get_or es i d)).name.text; listens = All-nil IsThere }
+      by false false false false hc ha hq = λ i d within. tt
+
+  flipper-doing : (f : Flipper) → IsFlipperSound rows.machine f → IsDeviceDoing IsFine IsUnreserved IsThere (flipper_device rows.machine f)
+  flipper-doing f h = record {
+    lists = flipper_doing rows.machine IsFine (λ name deed sound. sound) f h;
+    listens = All-cons IsThere f.switch.text [] h.switch (All-nil IsThere);
+  }
+
+  autofire-doing : (a : Autofire) → IsAutofireSound rows.machine a → IsDeviceDoing IsFine IsUnreserved IsThere (autofire_device rows.machine a)
+  autofire-doing a h = record {
+    lists = autofire_doing rows.machine IsFine (λ name deed sound. sound) a h;
+    listens = All-cons IsThere a.switch.text [] h.switch (All-nil IsThere);
+  }
+
+  -- ---- sections
+
+  module _ (s : SectionRows) (free : All IsFreePost (posts_in s)) (sound : IsSectionSound rows.machine s) where
+    section-parts : All IsFreePost (flat_map switch_posts (switches_in s)) × All IsFreePost (flat_map player_posts (event_players_in s)) × All IsFreePost (flat_map counter_posts (counters_in s))
+        × All IsFreePost (flat_map step_posts (accruals_in s)) × All IsFreePost (flat_map step_posts (sequences_in s))
+    section-parts =
+        let switches = flat_map switch_posts (switches_in s) in
+        let players = flat_map player_posts (event_players_in s) in
+        let counters = flat_map counter_posts (counters_in s) in
+        let accruals = flat_map step_posts (accruals_in s) in
+        let last = all-parts IsFreePost (((switches ++ players) ++ counters) ++ accruals) (flat_map step_posts (sequences_in s)) free in
+        let more = all-parts IsFreePost ((switches ++ players) ++ counters) accruals last.0 in
+        let rest = all-parts IsFreePost (switches ++ players) counters more.0 in
+        let parts = all-parts IsFreePost switches players rest.0 in
+        (parts.0, parts.1, rest.1, more.1, last.1)
+
+    section-doing : IsDoing IsFine IsUnreserved IsThere rows.machine s
+    section-doing = record {
+      players = All-weaker (λ x. All IsFreePost (player_posts x)) (IsPlayerDoing IsFine IsUnreserved IsThere) (λ p k. written-free p.posts k) (event_players_in s)
+          (all-each IsFreePost player_posts (event_players_in s) section-parts.1);
+      coil_players = All-weaker (IsCoilPlayerSound rows.machine) (IsCoilPlayerDoing IsFine IsUnreserved IsThere rows.machine) coil_player-doing (coil_players_in s) sound.coil_players;
+      devices = entries-doing s section-parts.2 section-parts.3 section-parts.4;
+    }
+
+    machine-doing : IsMachineDoing IsFine IsUnreserved IsThere rows.machine s
+    machine-doing = record {
+      all = section-doing;
+      switches = All-weaker (λ x. All IsFreePost (switch_posts x)) (IsSwitchDoing IsFine IsUnreserved IsThere) switch-doing (switches_in s) (all-each IsFreePost switch_posts (switches_in s) section-parts.0);
+      flippers = All-weaker (IsFlipperSound rows.machine) (λ f. IsDeviceDoing IsFine IsUnreserved IsThere (flipper_device rows.machine f)) flipper-doing (flippers_in s) sound.flippers;
+      autofires = All-weaker (IsAutofireSound rows.machine) (λ a. IsDeviceDoing IsFine IsUnreserved IsThere (autofire_device rows.machine a)) autofire-doing (autofires_in s) sound.autofires;
+    }
+
+  -- each section of a list
+  each-doing : (R : SectionRows → Type 0) → ((s : SectionRows) → All IsFreePost (posts_in s) → IsSectionSound rows.machine s → R s)
+      → (ss : List SectionRows) → All IsFreePost (posts_of ss) → All (IsSectionSound rows.machine) ss → All R ss
+  each-doing R make ss free sound =
+      let all = all-each IsFreePost posts_in ss free in
+      λ i d within. make (get_or ss i d) (all i d within) (sound i d within)
+
+  pub rows_doing : IsSound rows → AreDoing IsFine IsUnreserved IsThere rows
+  rows_doing h = record {
+    machine = each-doing (IsMachineDoing IsFine IsUnreserved IsThere rows.machine) machine-doing rows.machine h.posts.machine h.machine;
+    modes = λ i d within. each-doing (IsDoing IsFine IsUnreserved IsThere rows.machine) section-doing (get_or rows.modes i d).sections (h.posts.modes i d within) (h.modes i d within);
+  }

@@ -1,0 +1,4 @@
+pub mod ByLine
+pub mod RowFaults
+pub mod None
+pub mod Sound

@@ -1,0 +1,57 @@
+-- Lists without items, and the faults that they are made of.
+use Rattle.std.proofs.Common.{◌≡◌, ℕ, nat_lt, Bool, true, false, if◌then◌else◌, List, [], ◌∷◌, ◌++◌, map, refl, sym, ◌∙◌, inl, inr}
+use Rattle.std.specs.List.{All, filter, flat_map}
+use Rattle.std.proofs.lemmas.Bool.{cases_Bool}
+use Rattle.std.proofs.lemmas.List.Elements.{All-nil, All-cons, All-head, All-tail, All-append}
+use Rattle.row_faults.specs.FaultView.{RowFaultView}
+use Rattle.row_faults.specs.RowFaults.{put_by, ordered_by, listed_once}
+
+pub filled : {X : Type 0} (x : X) (xs : List X) → x ∷ xs ≡ [] → ⊥
+filled x xs e = cc
+
+pub map-none : {X Y : Type 0} (f : X → Y) (xs : List X) → map f xs ≡ [] → xs ≡ []
+map-none f [] e = refl
+map-none f (x ∷ xs) e = absurd (filled (f x) (map f xs) e)
+
+pub append-none : {X : Type 0} (xs ys : List X) → xs ++ ys ≡ [] → (xs ≡ []) × (ys ≡ [])
+append-none [] ys e = (refl, e)
+append-none (x ∷ xs) ys e = absurd (filled x (xs ++ ys) e)
+
+pub flat_map-none : {X Y : Type 0} (f : X → List Y) (xs : List X) → flat_map f xs ≡ [] → All (λ x. f x ≡ []) xs
+flat_map-none f [] e = All-nil (λ x. f x ≡ [])
+flat_map-none f (x ∷ xs) e = let both = append-none (f x) (flat_map f xs) e in All-cons (λ x. f x ≡ []) x xs both.0 (flat_map-none f xs both.1)
+
+pub filter-none : {X : Type 0} (p : X → Bool) (xs : List X) → filter p xs ≡ [] → All (λ x. p x ≡ false) xs
+filter-none p [] e = All-nil (λ x. p x ≡ false)
+filter-none p (x ∷ xs) e =
+    elim (cases_Bool (p x)) [
+      | inl holds ↦ absurd (filled x (filter p xs) (sym (kept holds) ∙ e))
+      | inr fails ↦ All-cons (λ y. p y ≡ false) x xs fails (filter-none p xs (sym (dropped fails) ∙ e))
+    ]
+  where
+    kept : p x ≡ true → filter p (x ∷ xs) ≡ x ∷ filter p xs
+    kept h = rw h refl
+
+    dropped : p x ≡ false → filter p (x ∷ xs) ≡ filter p xs
+    dropped h = rw h refl
+
+put-filled : {X : Type 0} (number : X → ℕ) (x : X) (ys : List X) → put_by number x ys ≡ [] → ⊥
+put-filled number x [] e = filled x [] e
+put-filled number x (y ∷ ys) e = by (nat_lt (number y) (number x)) e
+  where
+    by : (b : Bool) → (if b then y ∷ put_by number x ys else x ∷ y ∷ ys) ≡ [] → ⊥
+    by true e = filled y (put_by number x ys) e
+    by false e = filled x (y ∷ ys) e
+
+pub ordered-none : {X : Type 0} (number : X → ℕ) (xs : List X) → ordered_by number xs ≡ [] → xs ≡ []
+ordered-none number [] e = refl
+ordered-none number (x ∷ xs) e = absurd (put-filled number x (ordered_by number xs) e)
+
+pub once-none : (faults : List RowFaultView) → listed_once [] faults ≡ [] → faults ≡ []
+once-none [] e = refl
+once-none (f ∷ fs) e = absurd (filled f _ e)
+
+-- what holds of all that each item gives
+pub All-each : {X Y : Type 0} (P : Y → Type 0) (f : X → List Y) (xs : List X) → All (λ x. All P (f x)) xs → All P (flat_map f xs)
+All-each P f [] h = All-nil P
+All-each P f (x ∷ xs) h = All-append P (f x) (flat_map f xs) (All-head (λ y. All P (f y)) x xs h) (All-each P f xs (All-tail (λ y. All P (f y)) x xs h))

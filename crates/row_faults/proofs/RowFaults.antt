@@ -1,0 +1,131 @@
+-- The faults of rows, as they are found.
+use Rattle.std.proofs.Common.{◌≡◌, ℕ, Bool, true, false, not, ◌||◌, List, [], ◌∷◌, ◌++◌, map, append_assoc, refl, sym, ap, ◌∙◌, inl, inr}
+use Rattle.std.specs.List.{list_any, filter, flat_map}
+use Rattle.std.specs.Global.{Vec}
+use Rattle.std.specs.Str.{bytes_eq}
+use Rattle.std.specs.Ordering.{nat_cmp}
+use Rattle.std.specs.BTreeMap.{is_at}
+use Rattle.std.specs.Cmp.Lexicographic.{slice_cmp}
+use Rattle.std.proofs.lemmas.Bool.{not-true, not-false, cases_Bool}
+use Rattle.std.proofs.lemmas.List.{map-append}
+use Rattle.std.proofs.lemmas.List.Folds.{list_any-append}
+use Rattle.std.proofs.lemmas.Slice.Eq.{bytes_eq-Decides}
+use Rattle.yaml_subset.specs.Keys.{is_among}
+use Rattle.yaml_subset.proofs.KeySets.{contains_key}
+use Rattle.row_faults.specs.declared.fault.RowFault.{RowFault}
+use Rattle.row_faults.specs.FaultView.{RowFaultView}
+use Rattle.row_faults.specs.FaultText.{row_fault_line}
+use Rattle.mpf_sections.specs.Rows.{SectionRows}
+use Rattle.mpf_config.specs.Rows.{ModeRows, Rows}
+use Rattle.mpf_config.specs.BundleText.{machine_name, mode_text_name}
+use Rattle.mpf_sections.specs.Typed.{timers_in}
+use Rattle.row_faults.specs.Reserved.{game_events, mode_events, events_of_modes, posts_in}
+use Rattle.row_faults.specs.RowFaults.{fault_line, fault_number, ordered_by, reserved_fault, starts_at_end, timer_fault, coil_faults_in, faults_by, listed_once}
+use Rattle.row_faults.specs.View.{row_fault_view, row_faults_view}
+
+-- ---- sets
+
+or_false : (b : Bool) → (b || false) ≡ b
+or_false true = refl
+or_false false = refl
+
+-- whether a set has a name
+pub has_name : (keys : List (Vec ℕ)) (name : List ℕ) → list_any (λ (k : Vec ℕ). is_at (slice_cmp nat_cmp name) k.items) keys ≡ is_among (map (λ (k : Vec ℕ). k.items) keys) name
+has_name [] name = refl
+has_name (k ∷ keys) name = by (contains_key (λ (x : List ℕ). x) (k.items ∷ []) name) (has_name keys name)
+  where
+    by : (is_at (slice_cmp nat_cmp name) k.items || false) ≡ (bytes_eq k.items name || false) → list_any (λ (k : Vec ℕ). is_at (slice_cmp nat_cmp name) k.items) keys ≡ is_among (map (λ (k : Vec ℕ). k.items) keys) name
+        → (is_at (slice_cmp nat_cmp name) k.items || list_any (λ (k : Vec ℕ). is_at (slice_cmp nat_cmp name) k.items) keys) ≡ (bytes_eq k.items name || is_among (map (λ (k : Vec ℕ). k.items) keys) name)
+    by e rest = rw (sym (or_false (is_at (slice_cmp nat_cmp name) k.items)) ∙ e ∙ or_false (bytes_eq k.items name), rest) refl
+
+or_around : (a b c : Bool) → ((a || b) || c) ≡ (b || (a || c))
+or_around true true c = refl
+or_around true false c = refl
+or_around false b c = refl
+
+-- the names of a mode are taken
+pub took-more : (mode keys new rest : List (List ℕ)) (q : List ℕ) → is_among new q ≡ is_among (mode ++ keys) q → is_among (new ++ rest) q ≡ is_among (keys ++ (mode ++ rest)) q
+took-more mode keys new rest q took =
+    list_any-append (λ k. bytes_eq k q) new rest ∙ ap (λ (b : Bool). b || is_among rest q) (took ∙ list_any-append (λ k. bytes_eq k q) mode keys)
+    ∙ or_around (is_among mode q) (is_among keys q) (is_among rest q)
+    ∙ sym (list_any-append (λ k. bytes_eq k q) keys (mode ++ rest) ∙ ap (λ (b : Bool). is_among keys q || b) (list_any-append (λ k. bytes_eq k q) mode rest))
+
+-- one name more
+pub took-name : (name : List ℕ) (keys older new : List (List ℕ)) → ((q : List ℕ) → is_among keys q ≡ is_among older q) → ((q : List ℕ) → is_among new q ≡ is_among (name ∷ keys) q)
+    → (q : List ℕ) → is_among new q ≡ is_among (name ∷ older) q
+took-name name keys older new same took q = took q ∙ ap (λ (b : Bool). bytes_eq name q || b) (same q)
+
+-- ---- once each
+
+-- which lines there were matters, and not in which order
+abbrev pub SameLines : List (List ℕ) → List (List ℕ) → Type 0
+SameLines lines others = (q : List ℕ) → is_among lines q ≡ is_among others q
+
+same_step : (lines others : List (List ℕ)) (line : List ℕ) → SameLines lines others → SameLines (line ∷ lines) (line ∷ others)
+same_step lines others line h q = ap (λ (b : Bool). bytes_eq line q || b) (h q)
+
+same_lines : (lines others : List (List ℕ)) (faults : List RowFaultView) → SameLines lines others → listed_once lines faults ≡ listed_once others faults
+same_lines lines others [] h = refl
+same_lines lines others (f ∷ fs) h =
+    rw (h (row_fault_line f), same_lines lines others fs h, same_lines (row_fault_line f ∷ lines) (row_fault_line f ∷ others) fs (same_step lines others (row_fault_line f) h)) refl
+
+module _ (lines known : List (List ℕ)) (fault : RowFaultView) (rest : List RowFaultView) (fresh : Bool) (is : fresh ≡ not (is_among lines (row_fault_line fault))) (knows : (q : List ℕ) → is_among known q ≡ (bytes_eq (row_fault_line fault) q || is_among lines q)) where
+  -- a fault whose line is new
+  pub once-new : fresh ≡ true → listed_once lines (fault ∷ rest) ≡ fault ∷ listed_once known rest
+  once-new new =
+      let none : is_among lines (row_fault_line fault) ≡ false = not-true (is_among lines (row_fault_line fault)) (sym is ∙ new) in
+      rw none (ap (λ (faults : List RowFaultView). fault ∷ faults) (sym (same_lines known (row_fault_line fault ∷ lines) rest knows)))
+
+  -- a fault whose line was there
+  pub once-again : fresh ≡ false → listed_once lines (fault ∷ rest) ≡ listed_once known rest
+  once-again old =
+      let there : is_among lines (row_fault_line fault) ≡ true = not-false (is_among lines (row_fault_line fault)) (sym is ∙ old) in
+      rw there (sym (same_lines known lines rest (λ q. knows q ∙ again q there)))
+    where
+      again : (q : List ℕ) → is_among lines (row_fault_line fault) ≡ true → (bytes_eq (row_fault_line fault) q || is_among lines q) ≡ is_among lines q
+      again q there =
+          elim (cases_Bool (bytes_eq (row_fault_line fault) q)) [
+            | inl holds ↦ let e : row_fault_line fault ≡ q = (bytes_eq-Decides (row_fault_line fault) q).0 holds in ap (λ (b : Bool). b || is_among lines q) holds ∙ sym (ap (is_among lines) (sym e) ∙ there)
+            | inr fails ↦ ap (λ (b : Bool). b || is_among lines q) fails
+          ]
+
+-- ---- the faults that are listed, and those that are left
+
+module _ (lines known : List (List ℕ)) (fault : RowFault) (old new before : List RowFault) (fresh : Bool) (next : old ≡ fault ∷ new) (is : fresh ≡ not (is_among lines (row_fault_line (row_fault_view fault)))) (knows : (q : List ℕ) → is_among known q ≡ (bytes_eq (row_fault_line (row_fault_view fault)) q || is_among lines q)) where
+  pub lists-new : (after : List RowFault) → after ≡ before ++ fault ∷ [] → fresh ≡ true → row_faults_view after ++ listed_once known (row_faults_view new) ≡ row_faults_view before ++ listed_once lines (row_faults_view old)
+  lists-new after more holds =
+      ap (λ (fs : List RowFault). row_faults_view fs ++ listed_once known (row_faults_view new)) more
+      ∙ ap (λ (vs : List RowFaultView). vs ++ listed_once known (row_faults_view new)) (map-append row_fault_view before (fault ∷ []))
+      ∙ append_assoc (row_faults_view before) (row_fault_view fault ∷ []) (listed_once known (row_faults_view new))
+      ∙ ap (λ (vs : List RowFaultView). row_faults_view before ++ vs) (sym (once-new lines known (row_fault_view fault) (row_faults_view new) fresh is knows holds) ∙ ap (λ (fs : List RowFault). listed_once lines (row_faults_view fs)) (sym next))
+
+  pub lists-again : fresh ≡ false → row_faults_view before ++ listed_once known (row_faults_view new) ≡ row_faults_view before ++ listed_once lines (row_faults_view old)
+  lists-again fails =
+      ap (λ (vs : List RowFaultView). row_faults_view before ++ vs) (sym (once-again lines known (row_fault_view fault) (row_faults_view new) fresh is knows fails) ∙ ap (λ (fs : List RowFault). listed_once lines (row_faults_view fs)) (sym next))
+
+-- ---- the faults of all texts, by a test of names
+
+abbrev texts_by : (List ℕ → Bool) → List SectionRows → List ℕ → List SectionRows → List RowFaultView
+texts_by test machine text sections =
+    ordered_by fault_line (ordered_by fault_number (flat_map (λ (s : SectionRows). map (reserved_fault text) (filter (λ w. is_among game_events w.text || test w.text) (posts_in s))
+    ++ coil_faults_in machine text s ++ map (timer_fault text) (filter starts_at_end (timers_in s))) sections))
+
+abbrev all_by : (List ℕ → Bool) → Rows → List RowFaultView
+all_by test rows = texts_by test rows.machine machine_name rows.machine ++ flat_map (λ (m : ModeRows). texts_by test rows.machine (mode_text_name m.name) m.sections) rows.modes
+
+-- only what is among the events of modes matters
+pub same_faults : (modes others : List (List ℕ)) (rows : Rows) → ((q : List ℕ) → is_among modes q ≡ is_among others q) → faults_by modes rows ≡ faults_by others rows
+same_faults modes others rows same = ap (λ (test : List ℕ → Bool). all_by test rows) (λ i q. same q i)
+
+-- ---- the events of modes, of two lists of names
+
+events-append : (names more : List (List ℕ)) → events_of_modes (names ++ more) ≡ events_of_modes names ++ events_of_modes more
+events-append [] more = refl
+events-append (n ∷ names) more = ap (λ (es : List (List ℕ)). mode_events n ++ es) (events-append names more) ∙ sym (append_assoc (mode_events n) (events_of_modes names) (events_of_modes more))
+
+pub joined-events : (names more keys : List (List ℕ)) (q : List ℕ) → is_among keys q ≡ is_among (events_of_modes names) q → is_among (keys ++ events_of_modes more) q ≡ is_among (events_of_modes (names ++ more)) q
+joined-events names more keys q same =
+    list_any-append (λ k. bytes_eq k q) keys (events_of_modes more)
+    ∙ ap (λ (b : Bool). b || is_among (events_of_modes more) q) same
+    ∙ sym (list_any-append (λ k. bytes_eq k q) (events_of_modes names) (events_of_modes more))
+    ∙ ap (λ (es : List (List ℕ)). is_among es q) (sym (events-append names more))

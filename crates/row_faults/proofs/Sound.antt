@@ -1,0 +1,216 @@
+-- Rows without faults are sound.
+use Rattle.std.proofs.Common.{◌≡◌, ℕ, ◌≤◌, nat_lt, get_or, Bool, true, false, not, ◌&&◌, ◌||◌, List, [], ◌++◌, map, filter, Option, Some, None, IfSome, unwrap_or, refl}
+use Rattle.std.specs.Option.{is_none}
+use Rattle.std.specs.List.{All, flat_map}
+use Rattle.std.proofs.lemmas.Bool.{ltb-false, not-false}
+use Rattle.std.proofs.lemmas.List.Elements.{All-weaker}
+use Rattle.mpf_sections.specs.declared.words.CoilAction.{CoilAction}
+use Rattle.mpf_sections.specs.declared.words.CoilAction.TheVariants.{Pulse, Enable, Disable}
+use Rattle.mpf_sections.specs.Rows.{Written, Coil, CoilItem, CoilPlayer, Flipper, Autofire, SectionRows}
+use Rattle.mpf_sections.specs.Typed.{timers_in}
+use Rattle.mpf_sections.specs.TypedCoils.{coils_in, coil_players_in, flippers_in, autofires_in}
+use Rattle.mpf_sections.specs.Short.{IsPulseInRange, IsCoilInRange, IsItemInRange, IsCoilPlayerInRange}
+use Rattle.mpf_sections.proofs.CoilRows.{coils_in_range, coil_players_in_range}
+use Rattle.mpf_config.specs.Rows.{ModeRows, Rows}
+use Rattle.mpf_config.specs.BundleText.{machine_name, mode_text_name}
+use Rattle.machine_definitions.specs.Definitions.{coil_called, has_switch}
+use Rattle.machine_definitions.proofs.Called.{called-such}
+use Rattle.row_faults.specs.declared.fault.RowFaultKind.{RowFaultKind}
+use Rattle.row_faults.specs.declared.fault.RowFaultKind.TheVariants.{Name, PulseLimit, PowerLimit, HoldNotAllowed}
+use Rattle.row_faults.specs.Reserved.{events_of_modes, mode_names, is_reserved_by, posts_in, posts_of, reserved_among}
+use Rattle.row_faults.specs.CoilFaults.{fault_at, fault_if, is_above, is_enable, coil_name_faults, switch_name_faults, coil_faults, item_faults_by, item_faults, coil_player_faults, hold_faults_by, hold_faults, flipper_faults, autofire_faults}
+use Rattle.row_faults.specs.RowFaults.{fault_line, fault_number, ordered_by, reserved_fault, starts_at_end, timer_fault, coil_faults_in, section_faults, text_faults, mode_faults, faults_by, row_faults}
+use Rattle.row_faults.specs.Sound.{IsHoldWithin, IsCoilSound, IsCoilSuch, IsActionWithin, IsItemSound, IsCoilPlayerSound, IsFlipperSound, IsAutofireSound, IsSectionSound, IsSound}
+use Rattle.row_faults.proofs.None.{filled, map-none, append-none, flat_map-none, filter-none, ordered-none, once-none, All-each}
+
+-- ---- tests that find nothing
+
+fault_if-none : (wrong : Bool) (kind : RowFaultKind) (text : List ℕ) (w : Written) → fault_if wrong kind text w ≡ [] → wrong ≡ false
+fault_if-none true kind text w e = absurd (filled (fault_at kind text w) [] e)
+fault_if-none false kind text w e = refl
+
+or-none : (a b : Bool) → (a || b) ≡ false → (a ≡ false) × (b ≡ false)
+or-none true b e = absurd cc
+or-none false b e = (refl, e)
+
+above-none : (o : Option ℕ) (greatest : ℕ) → is_above o greatest ≡ false → IfSome o (λ n. n ≤ greatest)
+above-none None greatest e = tt
+above-none (Some n) greatest e = ltb-false greatest n e
+
+weaker-some : (P Q : ℕ → Type 0) (o : Option ℕ) → ((n : ℕ) → P n → Q n) → IfSome o P → IfSome o Q
+weaker-some P Q None f h = tt
+weaker-some P Q (Some n) f h = f n h
+
+taken : (P : ℕ → Type 0) (o : Option ℕ) (d : ℕ) → IfSome o P → P d → P (unwrap_or o d)
+taken P None d h p = p
+taken P (Some n) d h p = h
+
+-- ---- coils
+
+coil-sound : (text : List ℕ) (c : Coil) → IsCoilInRange c → coil_faults text c ≡ [] → IsCoilSound c
+coil-sound text c range e =
+    let parts = append-none (fault_if (nat_lt c.max_pulse_ms c.pulse_ms) PulseLimit text c.name) _ e in
+    let powers = or-none (nat_lt c.max_pulse_power c.pulse_power) (nat_lt c.max_hold_power c.hold_power) (fault_if-none _ PowerLimit text c.name parts.1) in
+    record {
+      pulse = record {
+        shortest = range.pulse_ms.0;
+        longest = ltb-false c.max_pulse_ms c.pulse_ms (fault_if-none _ PulseLimit text c.name parts.0);
+        greatest = ltb-false c.max_pulse_power c.pulse_power powers.0;
+      };
+      hold = ltb-false c.max_hold_power c.hold_power powers.1;
+    }
+
+module _ (machine : List SectionRows) (all : All IsCoilSound (flat_map coils_in machine)) (text : List ℕ) where
+  sound : (name : List ℕ) (c : Coil) → coil_called machine name ≡ Some c → IsCoilSound c
+  sound name c is = called-such IsCoilSound machine name c all is
+
+  -- ---- names
+
+  named-sound : (w : Written) → coil_name_faults machine text w ≡ [] → IsCoilSuch machine w.text IsCoilSound
+  named-sound w e = by (coil_called machine w.text) refl e
+    where
+      by : (o : Option Coil) → coil_called machine w.text ≡ o → fault_if (is_none o) Name text w ≡ [] → IsCoilSuch machine w.text IsCoilSound
+      by None is e = absurd (filled (fault_at Name text w) [] e)
+      by (Some c) is e = record { coil = c; called = is; such = sound w.text c is }
+
+  switch-sound : (w : Written) → switch_name_faults machine text w ≡ [] → has_switch machine w.text ≡ true
+  switch-sound w e = not-false (has_switch machine w.text) (fault_if-none _ Name text w e)
+
+  -- ---- coil players
+
+  action-within : (c : Coil) (i : CoilItem) (action : CoilAction) → IsCoilSound c → IsItemInRange i → IfSome i.pulse_ms (λ n. n ≤ c.max_pulse_ms) → IfSome i.pulse_power (λ n. n ≤ c.max_pulse_power)
+      → IfSome i.hold_power (λ n. n ≤ c.max_hold_power) → (is_enable action && not c.may_hold) ≡ false → IsActionWithin c i action
+  action-within c i Pulse own range ms power hold e = record {
+    shortest = taken (λ n. 1 ≤ n) i.pulse_ms c.pulse_ms (weaker-some IsPulseInRange (λ n. 1 ≤ n) i.pulse_ms (λ n h. h.0) range.pulse_ms) own.pulse.shortest;
+    longest = taken (λ n. n ≤ c.max_pulse_ms) i.pulse_ms c.pulse_ms ms own.pulse.longest;
+    greatest = taken (λ n. n ≤ c.max_pulse_power) i.pulse_power c.pulse_power power own.pulse.greatest;
+  }
+  action-within c i Enable own range ms power hold e = record {
+    allowed = not-false c.may_hold e;
+    greatest = taken (λ n. n ≤ c.max_hold_power) i.hold_power c.hold_power hold own.hold;
+  }
+  action-within c i Disable own range ms power hold e = tt
+
+  item-sound : (i : CoilItem) → IsItemInRange i → item_faults machine text i ≡ [] → IsItemSound machine i
+  item-sound i range e = by (coil_called machine i.coil.text) refl e
+    where
+      by : (o : Option Coil) → coil_called machine i.coil.text ≡ o → item_faults_by text i o ≡ [] → IsItemSound machine i
+      by None is e = absurd (filled (fault_at Name text i.coil) [] e)
+      by (Some c) is e =
+          let long = fault_if (is_above i.pulse_ms c.max_pulse_ms) PulseLimit text i.coil in
+          let strong = fault_if (is_above i.pulse_power c.max_pulse_power || is_above i.hold_power c.max_hold_power) PowerLimit text i.coil in
+          let parts = append-none (long ++ strong) _ e in
+          let limits = append-none long strong parts.0 in
+          let powers = or-none (is_above i.pulse_power c.max_pulse_power) (is_above i.hold_power c.max_hold_power) (fault_if-none _ PowerLimit text i.coil limits.1) in
+          record {
+            coil = c;
+            called = is;
+            such = action-within c i i.action (sound i.coil.text c is) range
+                (above-none i.pulse_ms c.max_pulse_ms (fault_if-none _ PulseLimit text i.coil limits.0))
+                (above-none i.pulse_power c.max_pulse_power powers.0)
+                (above-none i.hold_power c.max_hold_power powers.1)
+                (fault_if-none _ HoldNotAllowed text i.coil parts.1);
+          }
+
+  player-sound : (p : CoilPlayer) → IsCoilPlayerInRange p → coil_player_faults machine text p ≡ [] → IsCoilPlayerSound machine p
+  player-sound p range e = let none = flat_map-none (item_faults machine text) p.items e in λ i d within. item-sound (get_or p.items i d) (range i d within) (none i d within)
+
+  -- ---- flippers and autofire coils
+
+  hold-sound : (f : Flipper) (o : Option Written) → hold_faults machine text f o ≡ [] → IfSome o (λ w. IsCoilSuch machine w.text (λ c. IsHoldWithin c c.hold_power))
+  hold-sound f None e = tt
+  hold-sound f (Some w) e = by (coil_called machine w.text) refl e
+    where
+      by : (o : Option Coil) → coil_called machine w.text ≡ o → hold_faults_by text f w o ≡ [] → IsCoilSuch machine w.text (λ c. IsHoldWithin c c.hold_power)
+      by None is e = absurd (filled (fault_at Name text w) [] e)
+      by (Some c) is e = record { coil = c; called = is; such = record { allowed = not-false c.may_hold (fault_if-none _ HoldNotAllowed text _ e); greatest = (sound w.text c is).hold } }
+
+  flipper-sound : (f : Flipper) → flipper_faults machine text f ≡ [] → IsFlipperSound machine f
+  flipper-sound f e =
+      let main = coil_name_faults machine text f.main_coil in
+      let hold = hold_faults machine text f f.hold_coil in
+      let parts = append-none (main ++ hold) (switch_name_faults machine text f.switch) e in
+      let coils = append-none main hold parts.0 in
+      record { main_coil = named-sound f.main_coil coils.0; hold_coil = hold-sound f f.hold_coil coils.1; switch = switch-sound f.switch parts.1 }
+
+  autofire-sound : (a : Autofire) → autofire_faults machine text a ≡ [] → IsAutofireSound machine a
+  autofire-sound a e =
+      let parts = append-none (coil_name_faults machine text a.coil) (switch_name_faults machine text a.switch) e in
+      record { coil = named-sound a.coil parts.0; switch = switch-sound a.switch parts.1 }
+
+-- ---- sections
+
+module _ (modes : List (List ℕ)) (machine : List SectionRows) (text : List ℕ) where
+  -- of a section without faults the parts are none
+  record HasNone (s : SectionRows) : Type 0 where
+    pub posts : reserved_among modes (posts_in s) ≡ []
+    pub coils : All (λ c. coil_faults text c ≡ []) (coils_in s)
+    pub players : All (λ p. coil_player_faults machine text p ≡ []) (coil_players_in s)
+    pub flippers : All (λ f. flipper_faults machine text f ≡ []) (flippers_in s)
+    pub autofires : All (λ a. autofire_faults machine text a ≡ []) (autofires_in s)
+
+  section-none : (s : SectionRows) → section_faults modes machine text s ≡ [] → HasNone s
+  section-none s e =
+      let posts = map (reserved_fault text) (reserved_among modes (posts_in s)) in
+      let coils = flat_map (coil_faults text) (coils_in s) in
+      let players = flat_map (coil_player_faults machine text) (coil_players_in s) in
+      let flippers = flat_map (flipper_faults machine text) (flippers_in s) in
+      let autofires = flat_map (autofire_faults machine text) (autofires_in s) in
+      let all = append-none (posts ++ coil_faults_in machine text s) (map (timer_fault text) (filter starts_at_end (timers_in s))) e in
+      let front = append-none posts (coil_faults_in machine text s) all.0 in
+      let last = append-none ((coils ++ players) ++ flippers) autofires front.1 in
+      let third = append-none (coils ++ players) flippers last.0 in
+      let first = append-none coils players third.0 in
+      record {
+        posts = map-none (reserved_fault text) (reserved_among modes (posts_in s)) front.0;
+        coils = flat_map-none (coil_faults text) (coils_in s) first.0;
+        players = flat_map-none (coil_player_faults machine text) (coil_players_in s) first.1;
+        flippers = flat_map-none (flipper_faults machine text) (flippers_in s) third.1;
+        autofires = flat_map-none (autofire_faults machine text) (autofires_in s) last.1;
+      }
+
+  coils-sound : (s : SectionRows) → HasNone s → All IsCoilSound (coils_in s)
+  coils-sound s h = λ i d within. coil-sound text (get_or (coils_in s) i d) (coils_in_range s i d within) (h.coils i d within)
+
+  section-sound : All IsCoilSound (flat_map coils_in machine) → (s : SectionRows) → HasNone s → IsSectionSound machine s
+  section-sound all s h = record {
+    coils = coils-sound s h;
+    coil_players = λ i d within. player-sound machine all text (get_or (coil_players_in s) i d) (coil_players_in_range s i d within) (h.players i d within);
+    flippers = λ i d within. flipper-sound machine all text (get_or (flippers_in s) i d) (h.flippers i d within);
+    autofires = λ i d within. autofire-sound machine all text (get_or (autofires_in s) i d) (h.autofires i d within);
+  }
+
+  text-none : (sections : List SectionRows) → text_faults modes machine text sections ≡ [] → All HasNone sections
+  text-none sections e =
+      let all = flat_map (section_faults modes machine text) sections in
+      let none = flat_map-none (section_faults modes machine text) sections (ordered-none fault_number all (ordered-none fault_line (ordered_by fault_number all) e)) in
+      All-weaker (λ s. section_faults modes machine text s ≡ []) HasNone section-none sections none
+
+  -- no post of the sections is reserved
+  text-free : (sections : List SectionRows) → All HasNone sections → All (λ w. is_reserved_by modes w.text ≡ false) (posts_of sections)
+  text-free sections h =
+      All-each (λ w. is_reserved_by modes w.text ≡ false) posts_in sections
+      (All-weaker HasNone (λ s. All (λ w. is_reserved_by modes w.text ≡ false) (posts_in s)) (λ s k. filter-none (λ w. is_reserved_by modes w.text) (posts_in s) k.posts) sections h)
+
+-- ---- all texts
+
+pub no_faults_sound : (rows : Rows) → row_faults rows ≡ [] → IsSound rows
+unfolding row_faults
+no_faults_sound rows none =
+    let modes = events_of_modes (mode_names rows) in
+    let machine = rows.machine in
+    let parts = append-none (text_faults modes machine machine_name machine) (flat_map (mode_faults modes machine) rows.modes) (once-none (faults_by modes rows) none) in
+    let own = text-none modes machine machine_name machine parts.0 in
+    let each = flat_map-none (mode_faults modes machine) rows.modes parts.1 in
+    let text_of = λ (m : ModeRows). mode_text_name m.name in
+    let all = All-each IsCoilSound coils_in machine (All-weaker (HasNone modes machine machine_name) (λ s. All IsCoilSound (coils_in s)) (coils-sound modes machine machine_name) machine own) in
+    record {
+      posts = record {
+        machine = text-free modes machine machine_name machine own;
+        modes = All-weaker (λ m. mode_faults modes machine m ≡ []) (λ m. All (λ w. is_reserved_by modes w.text ≡ false) (posts_of m.sections))
+            (λ m e. text-free modes machine (text_of m) m.sections (text-none modes machine (text_of m) m.sections e)) rows.modes each;
+      };
+      machine = All-weaker (HasNone modes machine machine_name) (IsSectionSound machine) (section-sound modes machine machine_name all) machine own;
+      modes = All-weaker (λ m. mode_faults modes machine m ≡ []) (λ m. All (IsSectionSound machine) m.sections)
+          (λ m e. All-weaker (HasNone modes machine (text_of m)) (IsSectionSound machine) (section-sound modes machine (text_of m) all) m.sections (text-none modes machine (text_of m) m.sections e)) rows.modes each;
+    }

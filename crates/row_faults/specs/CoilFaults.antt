@@ -1,0 +1,83 @@
+-- What is wrong with coils, and with what is said of them elsewhere. Here `machine` is the sections of the machine
+-- text, which define the coils and the switches, and `text` is the name of the text.
+use Rattle.std.specs.Prelude.{ℕ, nat_lt, Bool, true, false, not, ◌&&◌, ◌||◌, List, [], ◌∷◌, ◌++◌, Option, Some, None}
+use Rattle.std.specs.List.{flat_map}
+use Rattle.std.specs.Option.{is_none}
+use Rattle.mpf_sections.specs.declared.words.CoilAction.{CoilAction}
+use Rattle.mpf_sections.specs.declared.words.CoilAction.TheVariants.{Pulse, Enable, Disable}
+use Rattle.mpf_sections.specs.Rows.{Written, Coil, CoilItem, CoilPlayer, Flipper, Autofire, SectionRows}
+use Rattle.machine_definitions.specs.Definitions.{coil_called, has_switch}
+use Rattle.row_faults.specs.declared.fault.RowFaultKind.{RowFaultKind}
+use Rattle.row_faults.specs.declared.fault.RowFaultKind.TheVariants.{Name, PulseLimit, PowerLimit, HoldNotAllowed}
+use Rattle.row_faults.specs.FaultView.{RowFaultView}
+
+-- a fault of this kind at a name
+abbrev pub fault_at : RowFaultKind → List ℕ → Written → RowFaultView
+fault_at kind text w = record { kind = kind; text = text; line = w.line; name = w.text }
+
+-- it, where something is wrong
+abbrev pub fault_if : Bool → RowFaultKind → List ℕ → Written → List RowFaultView
+fault_if true kind text w = fault_at kind text w ∷ []
+fault_if false kind text w = []
+
+-- ---- names
+
+-- a name of a coil, or of a switch, that no entry defines
+abbrev pub coil_name_faults : List SectionRows → List ℕ → Written → List RowFaultView
+coil_name_faults machine text w = fault_if (is_none (coil_called machine w.text)) Name text w
+
+abbrev pub switch_name_faults : List SectionRows → List ℕ → Written → List RowFaultView
+switch_name_faults machine text w = fault_if (not (has_switch machine w.text)) Name text w
+
+-- ---- entries of `coils`
+
+-- where more than one power is too great there is one fault
+abbrev pub coil_faults : List ℕ → Coil → List RowFaultView
+coil_faults text c =
+    fault_if (nat_lt c.max_pulse_ms c.pulse_ms) PulseLimit text c.name
+    ++ fault_if (nat_lt c.max_pulse_power c.pulse_power || nat_lt c.max_hold_power c.hold_power) PowerLimit text c.name
+
+-- ---- entries of `coil_player`
+
+-- whether a number that is written is above the greatest one
+abbrev pub is_above : Option ℕ → ℕ → Bool
+is_above None greatest = false
+is_above (Some n) greatest = nat_lt greatest n
+
+abbrev pub is_enable : CoilAction → Bool
+is_enable Pulse = false
+is_enable Enable = true
+is_enable Disable = false
+
+-- All that is written counts, whatever the coil does. The limits of a coil that there is not are not judged.
+abbrev pub item_faults_by : List ℕ → CoilItem → Option Coil → List RowFaultView
+item_faults_by text i None = fault_at Name text i.coil ∷ []
+item_faults_by text i (Some c) =
+    fault_if (is_above i.pulse_ms c.max_pulse_ms) PulseLimit text i.coil
+    ++ fault_if (is_above i.pulse_power c.max_pulse_power || is_above i.hold_power c.max_hold_power) PowerLimit text i.coil
+    ++ fault_if (is_enable i.action && not c.may_hold) HoldNotAllowed text i.coil
+
+abbrev pub item_faults : List SectionRows → List ℕ → CoilItem → List RowFaultView
+item_faults machine text i = item_faults_by text i (coil_called machine i.coil.text)
+
+abbrev pub coil_player_faults : List SectionRows → List ℕ → CoilPlayer → List RowFaultView
+coil_player_faults machine text p = flat_map (item_faults machine text) p.items
+
+-- ---- entries of `flippers` and `autofire_coils`
+
+-- a hold coil that may not be held is at fault at the line of the flipper
+abbrev pub hold_faults_by : List ℕ → Flipper → Written → Option Coil → List RowFaultView
+hold_faults_by text f w None = fault_at Name text w ∷ []
+hold_faults_by text f w (Some c) = fault_if (not c.may_hold) HoldNotAllowed text (record { line = f.name.line; text = w.text })
+
+abbrev pub hold_faults : List SectionRows → List ℕ → Flipper → Option Written → List RowFaultView
+hold_faults machine text f None = []
+hold_faults machine text f (Some w) = hold_faults_by text f w (coil_called machine w.text)
+
+-- names in the order of the section's table
+abbrev pub flipper_faults : List SectionRows → List ℕ → Flipper → List RowFaultView
+flipper_faults machine text f =
+    coil_name_faults machine text f.main_coil ++ hold_faults machine text f f.hold_coil ++ switch_name_faults machine text f.switch
+
+abbrev pub autofire_faults : List SectionRows → List ℕ → Autofire → List RowFaultView
+autofire_faults machine text a = coil_name_faults machine text a.coil ++ switch_name_faults machine text a.switch

@@ -1,0 +1,72 @@
+-- Events that no row may post, and what rows post.
+use Rattle.std.specs.Prelude.{ℕ, Bool, ◌||◌, List, [], ◌∷◌, ◌++◌, map, filter, codes}
+use Rattle.std.specs.List.{flat_map}
+use Rattle.yaml_subset.specs.Keys.{is_among}
+use Rattle.mpf_sections.specs.Rows.{Written, Switch, EventPlayer, Block, Counter, StepBlock, SectionRows}
+use Rattle.mpf_config.specs.Rows.{Rows}
+use Rattle.mpf_sections.specs.Typed.{switches_in, event_players_in, counters_in, accruals_in, sequences_in, listed_modes}
+
+-- ---- reserved events
+
+-- the events of a game, whether there is one or not
+abbrev pub game_events : List (List ℕ)
+game_events =
+    codes "game_will_start" ∷ codes "game_starting" ∷ codes "game_started" ∷ codes "player_added" ∷ codes "player_turn_will_start" ∷ codes "player_turn_starting" ∷ codes "player_turn_started" ∷ codes "ball_will_start"
+    ∷ codes "ball_starting" ∷ codes "ball_started" ∷ codes "ball_drain" ∷ codes "ball_will_end" ∷ codes "ball_ending" ∷ codes "ball_ended" ∷ codes "player_turn_will_end" ∷ codes "player_turn_ending"
+    ∷ codes "player_turn_ended" ∷ codes "game_will_end" ∷ codes "game_ending" ∷ codes "game_ended" ∷ []
+
+-- the five events of a mode of this name
+abbrev pub mode_events : List ℕ → List (List ℕ)
+mode_events mode =
+    (codes "mode_" ++ mode ++ codes "_will_start") ∷ (codes "mode_" ++ mode ++ codes "_starting") ∷ (codes "mode_" ++ mode ++ codes "_started") ∷ (codes "mode_" ++ mode ++ codes "_stopping")
+    ∷ (codes "mode_" ++ mode ++ codes "_stopped") ∷ []
+
+-- the events of modes of these names
+abbrev pub events_of_modes : List (List ℕ) → List (List ℕ)
+events_of_modes modes = flat_map mode_events modes
+
+-- the names of the modes: of those that the machine text lists, whether they have a text or not, and of those that have
+-- one
+abbrev pub mode_names : Rows → List (List ℕ)
+mode_names rows = map (λ w. w.text) (listed_modes rows.machine) ++ map (λ m. m.name) rows.modes
+
+-- whether a name is one of an event of a game, or one of these events of modes
+abbrev pub is_reserved_by : List (List ℕ) → List ℕ → Bool
+is_reserved_by modes name = is_among game_events name || is_among modes name
+
+-- The events of each mode are reserved.
+abbrev pub is_reserved : Rows → List ℕ → Bool
+is_reserved rows name = is_reserved_by (events_of_modes (mode_names rows)) name
+
+-- ---- posts as written
+
+-- of a switch those of its becoming active are before those of its becoming inactive
+abbrev pub switch_posts : Switch → List Written
+switch_posts s = s.activated ++ s.deactivated
+
+abbrev pub player_posts : EventPlayer → List Written
+player_posts p = p.posts
+
+-- of a block those that it posts in place of its own: first when it is hit, then when it completes
+abbrev pub block_posts : Block → List Written
+block_posts b = b.hit ++ b.complete
+
+abbrev pub counter_posts : Counter → List Written
+counter_posts c = block_posts c.block
+
+abbrev pub step_posts : StepBlock → List Written
+step_posts s = block_posts s.block
+
+-- what a section posts, entry by entry as written
+abbrev pub posts_in : SectionRows → List Written
+posts_in s =
+    flat_map switch_posts (switches_in s) ++ flat_map player_posts (event_players_in s) ++ flat_map counter_posts (counters_in s)
+    ++ flat_map step_posts (accruals_in s) ++ flat_map step_posts (sequences_in s)
+
+-- what the sections of a text post
+abbrev pub posts_of : List SectionRows → List Written
+posts_of sections = flat_map posts_in sections
+
+-- of these posts the reserved ones
+abbrev pub reserved_among : List (List ℕ) → List Written → List Written
+reserved_among modes posts = filter (λ w. is_reserved_by modes w.text) posts

@@ -1,0 +1,93 @@
+-- The faults of rows, in the order in which a report lists them.
+use Rattle.std.specs.Prelude.{ℕ, ℤ, nat_lt, int_le, Bool, false, if◌then◌else◌, List, [], ◌∷◌, ◌++◌, Option, None, Some, map, filter}
+use Rattle.std.specs.List.{flat_map}
+use Rattle.yaml_subset.specs.Keys.{is_among}
+use Rattle.mpf_sections.specs.declared.words.Direction.{Direction}
+use Rattle.mpf_sections.specs.declared.words.Direction.TheVariants.{Up, Down}
+use Rattle.mpf_sections.specs.Rows.{Written, Timer, SectionRows}
+use Rattle.mpf_sections.specs.Typed.{timers_in}
+use Rattle.mpf_sections.specs.TypedCoils.{coils_in, coil_players_in, flippers_in, autofires_in}
+use Rattle.mpf_config.specs.Rows.{ModeRows, Rows}
+use Rattle.mpf_config.specs.BundleText.{machine_name, mode_text_name}
+use Rattle.row_faults.specs.declared.fault.RowFaultKind.TheVariants.{Name, TimerAtEnd}
+use Rattle.row_faults.specs.FaultView.{RowFaultView}
+use Rattle.row_faults.specs.FaultText.{row_fault_number, row_fault_line}
+use Rattle.row_faults.specs.Reserved.{events_of_modes, mode_names, posts_in, reserved_among}
+use Rattle.row_faults.specs.CoilFaults.{fault_at, coil_faults, coil_player_faults, flipper_faults, autofire_faults}
+
+-- ---- one section
+
+-- a reserved event is posted
+abbrev pub reserved_fault : List ℕ → Written → RowFaultView
+reserved_fault text w = fault_at Name text w
+
+-- whether a value has reached or passed its end, if it has one
+abbrev pub has_reached : Direction → Option ℤ → ℤ → Bool
+has_reached direction None value = false
+has_reached Up (Some end) value = int_le end value
+has_reached Down (Some end) value = int_le value end
+
+-- whether a timer is at its end before it runs
+abbrev pub starts_at_end : Timer → Bool
+starts_at_end t = has_reached t.direction t.end t.start
+
+abbrev pub timer_fault : List ℕ → Timer → RowFaultView
+timer_fault text t = fault_at TimerAtEnd text t.name
+
+-- the faults of what a section says of coils
+abbrev pub coil_faults_in : List SectionRows → List ℕ → SectionRows → List RowFaultView
+coil_faults_in machine text s =
+    flat_map (coil_faults text) (coils_in s)
+    ++ flat_map (coil_player_faults machine text) (coil_players_in s)
+    ++ flat_map (flipper_faults machine text) (flippers_in s)
+    ++ flat_map (autofire_faults machine text) (autofires_in s)
+
+-- The faults of a section of a text, as written: its posts of reserved events, those of what it says of coils, and its
+-- timers that start at their end. A section is of one kind, so at most one of these lists has any.
+abbrev pub section_faults : List (List ℕ) → List SectionRows → List ℕ → SectionRows → List RowFaultView
+section_faults modes machine text s =
+    map (reserved_fault text) (reserved_among modes (posts_in s))
+    ++ coil_faults_in machine text s
+    ++ map (timer_fault text) (filter starts_at_end (timers_in s))
+
+-- ---- by line
+
+-- an item before the first one of no lower number
+abbrev pub put_by : {X : Type 0} → (X → ℕ) → X → List X → List X
+put_by number x [] = x ∷ []
+put_by number x (y ∷ ys) = if nat_lt (number y) (number x) then y ∷ put_by number x ys else x ∷ y ∷ ys
+
+-- items by their numbers, lowest first, equal ones as they are
+abbrev pub ordered_by : {X : Type 0} → (X → ℕ) → List X → List X
+ordered_by number [] = []
+ordered_by number (x ∷ xs) = put_by number x (ordered_by number xs)
+
+-- the line of a fault, and the number of its kind
+abbrev pub fault_line : RowFaultView → ℕ
+fault_line f = f.line
+
+abbrev pub fault_number : RowFaultView → ℕ
+fault_number f = row_fault_number f.kind
+
+-- the faults of a text, by line, on one line by number, and those of one line and number as written
+abbrev pub text_faults : List (List ℕ) → List SectionRows → List ℕ → List SectionRows → List RowFaultView
+text_faults modes machine text sections = ordered_by fault_line (ordered_by fault_number (flat_map (section_faults modes machine text) sections))
+
+abbrev pub mode_faults : List (List ℕ) → List SectionRows → ModeRows → List RowFaultView
+mode_faults modes machine m = text_faults modes machine (mode_text_name m.name) m.sections
+
+-- the faults of all texts: the machine text, then the modes' in their order
+abbrev pub faults_by : List (List ℕ) → Rows → List RowFaultView
+faults_by modes rows = text_faults modes rows.machine machine_name rows.machine ++ flat_map (mode_faults modes rows.machine) rows.modes
+
+-- ---- once each
+
+-- each fault whose line in the report is none of these, and not that of a fault before it
+abbrev pub listed_once : List (List ℕ) → List RowFaultView → List RowFaultView
+listed_once lines [] = []
+listed_once lines (fault ∷ faults) =
+    if is_among lines (row_fault_line fault) then listed_once lines faults else fault ∷ listed_once (row_fault_line fault ∷ lines) faults
+
+-- The faults of rows, in the order in which a report lists them. Faults that print the same line are listed once.
+unfoldable pub row_faults : Rows → List RowFaultView
+row_faults rows = listed_once [] (faults_by (events_of_modes (mode_names rows)) rows)

@@ -1,0 +1,78 @@
+-- What holds of rows without faults: nothing that they say of a coil goes past its limits, and the coils and switches
+-- of which they speak are defined. Here `machine` is the sections of the machine text.
+use Rattle.std.specs.Prelude.{◌≡◌, ℕ, ◌≤◌, true, false, Some, IfSome, List, unwrap_or}
+use Rattle.std.specs.List.{All}
+use Rattle.mpf_sections.specs.declared.words.CoilAction.{CoilAction}
+use Rattle.mpf_sections.specs.declared.words.CoilAction.TheVariants.{Pulse, Enable, Disable}
+use Rattle.mpf_sections.specs.Rows.{Coil, CoilItem, CoilPlayer, Flipper, Autofire, SectionRows}
+use Rattle.mpf_sections.specs.TypedCoils.{coils_in, coil_players_in, flippers_in, autofires_in}
+use Rattle.mpf_config.specs.Rows.{Rows}
+use Rattle.machine_definitions.specs.Definitions.{coil_called, has_switch}
+use Rattle.row_faults.specs.Reserved.{is_reserved, posts_of}
+
+-- ---- what a coil is sent
+
+-- a pulse of so many milliseconds with this power is within the limits of the coil
+pub record IsPulseWithin (c : Coil) (ms power : ℕ) : Type 0 where
+  pub shortest : 1 ≤ ms
+  pub longest : ms ≤ c.max_pulse_ms
+  pub greatest : power ≤ c.max_pulse_power
+
+-- the coil may be held with this power
+pub record IsHoldWithin (c : Coil) (power : ℕ) : Type 0 where
+  pub allowed : c.may_hold ≡ true
+  pub greatest : power ≤ c.max_hold_power
+
+-- what the coil's own entry says where nothing else is said
+pub record IsCoilSound (c : Coil) : Type 0 where
+  pub pulse : IsPulseWithin c c.pulse_ms c.pulse_power
+  pub hold : c.hold_power ≤ c.max_hold_power
+
+-- a coil of this name is defined, and this holds of it
+pub record IsCoilSuch (machine : List SectionRows) (name : List ℕ) (P : Coil → Type 0) : Type 0 where
+  pub coil : Coil
+  pub called : coil_called machine name ≡ Some coil
+  pub such : P coil
+
+-- ---- rows
+
+-- what is not written is by the coil's own entry
+abbrev pub IsActionWithin : Coil → CoilItem → CoilAction → Type 0
+IsActionWithin c i Pulse = IsPulseWithin c (unwrap_or i.pulse_ms c.pulse_ms) (unwrap_or i.pulse_power c.pulse_power)
+IsActionWithin c i Enable = IsHoldWithin c (unwrap_or i.hold_power c.hold_power)
+IsActionWithin c i Disable = Unit {0}
+
+abbrev pub IsItemSound : List SectionRows → CoilItem → Type 0
+IsItemSound machine i = IsCoilSuch machine i.coil.text (λ c. IsActionWithin c i i.action)
+
+abbrev pub IsCoilPlayerSound : List SectionRows → CoilPlayer → Type 0
+IsCoilPlayerSound machine p = All (IsItemSound machine) p.items
+
+-- A coil that holds the flipper up may be held. Where there is none, the main coil is held if it may be, and else
+-- pulsed.
+pub record IsFlipperSound (machine : List SectionRows) (f : Flipper) : Type 0 where
+  pub main_coil : IsCoilSuch machine f.main_coil.text IsCoilSound
+  pub hold_coil : IfSome f.hold_coil (λ w. IsCoilSuch machine w.text (λ c. IsHoldWithin c c.hold_power))
+  pub switch : has_switch machine f.switch.text ≡ true
+
+pub record IsAutofireSound (machine : List SectionRows) (a : Autofire) : Type 0 where
+  pub coil : IsCoilSuch machine a.coil.text IsCoilSound
+  pub switch : has_switch machine a.switch.text ≡ true
+
+pub record IsSectionSound (machine : List SectionRows) (s : SectionRows) : Type 0 where
+  pub coils : All IsCoilSound (coils_in s)
+  pub coil_players : All (IsCoilPlayerSound machine) (coil_players_in s)
+  pub flippers : All (IsFlipperSound machine) (flippers_in s)
+  pub autofires : All (IsAutofireSound machine) (autofires_in s)
+
+-- ---- all texts
+
+-- what rows post as written, in the machine text and in the texts of modes, is not reserved
+pub record PostNothingReserved (rows : Rows) : Type 0 where
+  pub machine : All (λ w. is_reserved rows w.text ≡ false) (posts_of rows.machine)
+  pub modes : All (λ m. All (λ w. is_reserved rows w.text ≡ false) (posts_of m.sections)) rows.modes
+
+pub record IsSound (rows : Rows) : Type 0 where
+  pub posts : PostNothingReserved rows
+  pub machine : All (IsSectionSound rows.machine) rows.machine
+  pub modes : All (λ m. All (IsSectionSound rows.machine) m.sections) rows.modes

@@ -1,0 +1,24 @@
+-- What contracts see of faults.
+use Rattle.std.specs.Prelude.{ℕ, List, map}
+use Rattle.std.specs.BTreeSet.{BTreeSet}
+use Rattle.std.specs.Borrow.{Bor}
+use Rattle.std.specs.Global.{Vec}
+use Rattle.section_tables.specs.declared.rows.Name.{Name}
+use Rattle.mpf_config.specs.Rows.{Written}
+use Rattle.mpf_config.specs.View.{name_view}
+use Rattle.row_faults.specs.declared.fault.RowFault.{RowFault}
+use Rattle.row_faults.specs.FaultView.{RowFaultView}
+
+abbrev pub row_fault_view : RowFault → RowFaultView
+row_fault_view f = record { kind = f.kind; text = f.text.items; line = f.line; name = f.name.items }
+
+abbrev pub row_faults_view : List RowFault → List RowFaultView
+row_faults_view faults = map row_fault_view faults
+
+-- the keys of a set of names, or of lines
+abbrev pub keys_view : BTreeSet (Vec ℕ) → List (List ℕ)
+keys_view set = map (λ key. key.items) set.keys
+
+-- the names that are met in a text
+abbrev pub written_view : List (Bor Name) → List Written
+written_view names = map (λ n. name_view n.now) names

@@ -1,0 +1,60 @@
+//! What can be wrong with the rows of a configuration.
+
+ghost use Rattle.std.specs.Prelude.{◌≡◌};
+ghost use Rattle.row_faults.specs.FaultText.{row_fault_number, row_fault_name};
+
+/// What can be wrong with the rows of a text.
+#[derive(Clone, Copy, Debug, PartialEq, Eq)]
+pub enum RowFaultKind {
+    /// A reserved event is posted: one of a game, or of a mode that the machine text lists. Or no
+    /// entry defines the coil or the switch of this name.
+    Name,
+    /// A pulse is longer than the longest one of its coil.
+    PulseLimit,
+    /// A power is above the greatest one of its coil.
+    PowerLimit,
+    /// A coil is held that may not be held.
+    HoldNotAllowed,
+    /// The value at which a timer starts has reached or passed its end.
+    TimerAtEnd,
+}
+
+impl RowFaultKind {
+    /// The number with which the fault is printed.
+    pub fn number(self) -> u32
+        ensures { result ≡ row_fault_number self }
+    {
+        match self {
+            RowFaultKind::Name => 1,
+            RowFaultKind::PulseLimit => 2,
+            RowFaultKind::PowerLimit => 3,
+            RowFaultKind::HoldNotAllowed => 4,
+            RowFaultKind::TimerAtEnd => 5,
+        }
+    }
+
+    /// The name with which it is printed.
+    pub fn name(self) -> &'static str
+        ensures { result.now ≡ row_fault_name self }
+    {
+        match self {
+            RowFaultKind::Name => "Name",
+            RowFaultKind::PulseLimit => "PulseLimit",
+            RowFaultKind::PowerLimit => "PowerLimit",
+            RowFaultKind::HoldNotAllowed => "HoldNotAllowed",
+            RowFaultKind::TimerAtEnd => "TimerAtEnd",
+        }
+    }
+}
+
+/// What is wrong with the rows of a text.
+#[derive(Debug, Drop)]
+pub struct RowFault {
+    pub kind: RowFaultKind,
+    /// The name of the text.
+    pub text: Vec<u8>,
+    /// The line of what is at fault, counted from 1.
+    pub line: u32,
+    /// The name that is at fault: that of the event, the coil, the switch or the timer.
+    pub name: Vec<u8>,
+}

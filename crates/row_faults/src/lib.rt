@@ -1,0 +1,16 @@
+//! What is wrong with the rows of a configuration.
+//!
+//! No plan is needed for that: each fault is one of a name or a number where it is written.
+#![tactic(auto)]
+
+mod adding;
+mod coil_faults;
+pub mod fault;
+pub mod fault_text;
+mod once;
+mod reserved;
+pub mod rows;
+
+pub use fault::{RowFault, RowFaultKind};
+pub use fault_text::write_row_fault;
+pub use rows::faults_of_rows;

@@ -1,0 +1,214 @@
+//! The events that no row may post, and where a text posts them.
+
+ghost use Rattle.std.specs.Prelude.{◌≡◌, ◌++◌, ◌∷◌, ℕ, List, map, codes, IfOk, OnOk};
+ghost use Rattle.std.specs.List.{flat_map};
+ghost use Rattle.yaml_subset.specs.Keys.{is_among};
+ghost use Rattle.mpf_sections.specs.View.{name_view, entry_view, player_view, section_view};
+ghost use Rattle.mpf_config.specs.View.{mode_view};
+ghost use Rattle.mpf_sections.specs.Typed.{switch_of, event_player_of, counter_of, step_block_of};
+ghost use Rattle.row_faults.specs.Reserved.{game_events, mode_events, events_of_modes, is_reserved_by, switch_posts, player_posts, counter_posts, step_posts, posts_in, reserved_among};
+ghost use Rattle.row_faults.specs.View.{keys_view, written_view};
+
+use mpf_config::{
+    Entry, ModeText, Name, Player, Section, as_counter, as_event_player, as_step_block, as_switch,
+};
+use section_tables::is_one_of;
+use std::alloc::{AllocError, Global};
+use std::collections::BTreeSet;
+
+/// The events of a game.
+const GAME_EVENTS: [&[u8]; 20] = [
+    b"game_will_start",
+    b"game_starting",
+    b"game_started",
+    b"player_added",
+    b"player_turn_will_start",
+    b"player_turn_starting",
+    b"player_turn_started",
+    b"ball_will_start",
+    b"ball_starting",
+    b"ball_started",
+    b"ball_drain",
+    b"ball_will_end",
+    b"ball_ending",
+    b"ball_ended",
+    b"player_turn_will_end",
+    b"player_turn_ending",
+    b"player_turn_ended",
+    b"game_will_end",
+    b"game_ending",
+    b"game_ended",
+];
+
+/// The names of the events of modes.
+pub(crate) type ModeEvents = BTreeSet<Vec<u8>>;
+
+// ---- names
+
+/// The events of the modes of these names.
+pub(crate) fn events_of_modes(alloc: Global, modes: &[Name]) -> Result<ModeEvents, AllocError>
+    ensures { IfOk result (λ events. (q : List ℕ) → is_among (keys_view events) q ≡ is_among (events_of_modes (map (λ w. w.text) (map name_view modes.now))) q) }
+{
+    let mut events = BTreeSet::new(alloc);
+    for mode in modes {
+        add_mode(alloc, &mut events, &mode.text)?;
+    }
+    Ok(events)
+}
+
+/// Adds the events of the modes that have these texts.
+pub(crate) fn add_texts(
+    alloc: Global,
+    events: &mut ModeEvents,
+    texts: &[ModeText],
+) -> Result<(), AllocError>
+    ensures { OnOk result ((q : List ℕ) → is_among (keys_view events.new) q ≡ is_among (keys_view events.old ++ events_of_modes (map (λ m. m.name) (map mode_view texts.now))) q) }
+{
+    for text in texts {
+        add_mode(alloc, events, &text.name)?;
+    }
+    Ok(())
+}
+
+/// Adds the events of a mode.
+fn add_mode(alloc: Global, events: &mut ModeEvents, mode: &[u8]) -> Result<(), AllocError>
+    ensures { OnOk result ((q : List ℕ) → is_among (keys_view events.new) q ≡ is_among (mode_events mode.now ++ keys_view events.old) q) }
+{
+    add_event(alloc, events, mode, b"_stopped")?;
+    add_event(alloc, events, mode, b"_stopping")?;
+    add_event(alloc, events, mode, b"_started")?;
+    add_event(alloc, events, mode, b"_starting")?;
+    add_event(alloc, events, mode, b"_will_start")
+}
+
+/// Adds the event of a mode that ends so.
+fn add_event(
+    alloc: Global,
+    events: &mut ModeEvents,
+    mode: &[u8],
+    end: &[u8],
+) -> Result<(), AllocError>
+    ensures { OnOk result ((q : List ℕ) → is_among (keys_view events.new) q ≡ is_among ((codes "mode_" ++ mode.now ++ end.now) ∷ keys_view events.old) q) }
+{
+    let mut name = Vec::from_slice(alloc, b"mode_")?;
+    name.extend_from_slice(mode)?;
+    name.extend_from_slice(end)?;
+    let _added = events.insert(name)?;
+    Ok(())
+}
+
+/// Whether a name is one of an event of a game, or one of these events of modes.
+fn is_reserved(modes: &ModeEvents, name: &[u8]) -> bool
+    ensures { result ≡ is_reserved_by (keys_view modes.now) name.now }
+{
+    is_one_of(&GAME_EVENTS, name) || modes.contains(name)
+}
+
+// ---- posts
+
+/// The reserved events that a section posts, entry by entry as written.
+pub(crate) fn reserved_posts<'a>(
+    alloc: Global,
+    modes: &ModeEvents,
+    section: &'a Section,
+) -> Result<Vec<&'a Name>, AllocError>
+    ensures { IfOk result (λ found. written_view found.items ≡ reserved_among (keys_view modes.now) (posts_in (section_view section.now))) }
+{
+    let mut found: Vec<&'a Name> = Vec::new(alloc);
+    add_section(&mut found, modes, section)?;
+    Ok(found)
+}
+
+/// Adds the reserved events that a section posts, entry by entry as written.
+fn add_section<'a>(
+    found: &mut Vec<&'a Name>,
+    modes: &ModeEvents,
+    section: &'a Section,
+) -> Result<(), AllocError>
+    ensures { OnOk result (written_view found.new.items ≡ written_view found.old.items ++ reserved_among (keys_view modes.now) (posts_in (section_view section.now))) }
+{
+    add_switches(found, modes, section.switches())?;
+    add_players(found, modes, section.event_players())?;
+    add_counters(found, modes, section.counters())?;
+    add_step_blocks(found, modes, section.accruals())?;
+    add_step_blocks(found, modes, section.sequences())
+}
+
+/// Adds those that switches post.
+fn add_switches<'a>(
+    found: &mut Vec<&'a Name>,
+    modes: &ModeEvents,
+    entries: &'a [Entry],
+) -> Result<(), AllocError>
+    ensures { OnOk result (written_view found.new.items ≡ written_view found.old.items ++ reserved_among (keys_view modes.now) (flat_map switch_posts (map switch_of (map entry_view entries.now)))) }
+{
+    for entry in entries {
+        let switch = as_switch(entry);
+        add_names(found, modes, switch.activated)?;
+        add_names(found, modes, switch.deactivated)?;
+    }
+    Ok(())
+}
+
+/// Adds those that entries of `event_player` post.
+fn add_players<'a>(
+    found: &mut Vec<&'a Name>,
+    modes: &ModeEvents,
+    players: &'a [Player],
+) -> Result<(), AllocError>
+    ensures { OnOk result (written_view found.new.items ≡ written_view found.old.items ++ reserved_among (keys_view modes.now) (flat_map player_posts (map event_player_of (map player_view players.now)))) }
+{
+    for player in players {
+        let row = as_event_player(player);
+        add_names(found, modes, row.posts)?;
+    }
+    Ok(())
+}
+
+/// Adds those that counters post.
+fn add_counters<'a>(
+    found: &mut Vec<&'a Name>,
+    modes: &ModeEvents,
+    entries: &'a [Entry],
+) -> Result<(), AllocError>
+    ensures { OnOk result (written_view found.new.items ≡ written_view found.old.items ++ reserved_among (keys_view modes.now) (flat_map counter_posts (map counter_of (map entry_view entries.now)))) }
+{
+    for entry in entries {
+        let block = as_counter(entry).block;
+        add_names(found, modes, block.hit)?;
+        add_names(found, modes, block.complete)?;
+    }
+    Ok(())
+}
+
+/// Adds those that accruals or sequences post.
+fn add_step_blocks<'a>(
+    found: &mut Vec<&'a Name>,
+    modes: &ModeEvents,
+    entries: &'a [Entry],
+) -> Result<(), AllocError>
+    ensures { OnOk result (written_view found.new.items ≡ written_view found.old.items ++ reserved_among (keys_view modes.now) (flat_map step_posts (map step_block_of (map entry_view entries.now)))) }
+{
+    for entry in entries {
+        let block = as_step_block(entry).block;
+        add_names(found, modes, block.hit)?;
+        add_names(found, modes, block.complete)?;
+    }
+    Ok(())
+}
+
+/// Adds the reserved ones of these names.
+fn add_names<'a>(
+    found: &mut Vec<&'a Name>,
+    modes: &ModeEvents,
+    names: &'a [Name],
+) -> Result<(), AllocError>
+    ensures { OnOk result (written_view found.new.items ≡ written_view found.old.items ++ reserved_among (keys_view modes.now) (map name_view names.now)) }
+{
+    for name in names {
+        if is_reserved(modes, &name.text) {
+            found.push(name)?;
+        }
+    }
+    Ok(())
+}

@@ -1,0 +1,209 @@
+//! The faults of all rows.
+
+ghost use Rattle.std.specs.Prelude.{◌≡◌, [], ◌++◌, map, IfOk, OnOk};
+ghost use Rattle.std.specs.List.{filter, flat_map};
+ghost use Rattle.mpf_sections.specs.Typed.{timer_of};
+ghost use Rattle.mpf_sections.specs.View.{entry_view, section_view, timer_view};
+ghost use Rattle.mpf_config.specs.View.{mode_view, rows_view};
+ghost use Rattle.row_faults.specs.RowFaults.{reserved_fault, has_reached, starts_at_end, timer_fault, section_faults, ordered_by, fault_line, fault_number, text_faults, mode_faults, faults_by, row_faults};
+ghost use Rattle.row_faults.specs.Sound.{IsSound};
+ghost use Rattle.row_faults.specs.View.{keys_view, written_view, row_fault_view, row_faults_view};
+
+use crate::adding::{at, fault_at};
+use crate::coil_faults::add_coil_faults;
+use crate::fault::{RowFault, RowFaultKind};
+use crate::once::listed_once;
+use crate::reserved::{ModeEvents, add_texts, events_of_modes, reserved_posts};
+use machine_definitions::Definitions;
+use mpf_config::{
+    Config, Direction, Entry, MACHINE_NAME, ModeText, Name, Section, Timer, as_timer, listed_modes,
+    mode_text_name,
+};
+use std::alloc::{AllocError, Global};
+
+/// The faults of the rows of a configuration, in the order in which a report lists them: by text,
+/// line and number. Those that print the same line are listed once. Rows without any are sound: no
+/// coil is sent what goes past its limits.
+///
+/// # Errors
+///
+/// Memory ran out.
+#[tactic(auto, unfolding(crate::specs::RowFaults::row_faults))]
+pub fn faults_of_rows(alloc: Global, config: &Config) -> Result<Vec<RowFault>, AllocError>
+    ensures exact { IfOk result (λ faults. row_faults_view faults.items ≡ row_faults (rows_view config.now)) }
+    ensures sound { IfOk result (λ faults. faults.items ≡ [] → IsSound (rows_view config.now)) }
+{
+    let mut modes = events_of_modes(alloc, listed_modes(&config.machine.sections))?;
+    add_texts(alloc, &mut modes, &config.modes)?;
+    let faults = faults_of_texts(alloc, &modes, config)?;
+    listed_once(alloc, faults)
+}
+
+/// The faults of all texts: of the machine text, then of the modes' in their order.
+fn faults_of_texts(
+    alloc: Global,
+    modes: &ModeEvents,
+    config: &Config,
+) -> Result<Vec<RowFault>, AllocError>
+    ensures { IfOk result (λ faults. row_faults_view faults.items ≡ faults_by (keys_view modes.now) (rows_view config.now)) }
+{
+    let mut faults = Vec::new(alloc);
+    let machine = config.machine.sections.as_slice();
+    let definitions = Definitions::new(alloc, machine)?;
+    add_text(
+        alloc,
+        &mut faults,
+        modes,
+        &definitions,
+        MACHINE_NAME,
+        machine,
+    )?;
+    add_modes(alloc, &mut faults, modes, &definitions, &config.modes)?;
+    Ok(faults)
+}
+
+/// Adds the faults of the texts of these modes.
+fn add_modes(
+    alloc: Global,
+    faults: &mut Vec<RowFault>,
+    modes: &ModeEvents,
+    definitions: &Definitions<'_>,
+    texts: &[ModeText],
+) -> Result<(), AllocError>
+    ensures { OnOk result (row_faults_view faults.new.items ≡ row_faults_view faults.old.items ++ flat_map (mode_faults (keys_view modes.now) definitions.now) (map mode_view texts.now)) }
+{
+    for text in texts {
+        let name = mode_text_name(alloc, &text.name)?;
+        add_text(alloc, faults, modes, definitions, &name, &text.sections)?;
+    }
+    Ok(())
+}
+
+/// Adds the faults of the text of this name, by line and number.
+fn add_text(
+    alloc: Global,
+    faults: &mut Vec<RowFault>,
+    modes: &ModeEvents,
+    definitions: &Definitions<'_>,
+    text: &[u8],
+    sections: &[Section],
+) -> Result<(), AllocError>
+    ensures { OnOk result (row_faults_view faults.new.items ≡ row_faults_view faults.old.items ++ text_faults (keys_view modes.now) definitions.now text.now (map section_view sections.now)) }
+{
+    let own = faults_of_text(alloc, modes, definitions, text, sections)?;
+    add_all(faults, own)
+}
+
+fn add_all(faults: &mut Vec<RowFault>, own: Vec<RowFault>) -> Result<(), AllocError>
+    ensures { OnOk result (row_faults_view faults.new.items ≡ row_faults_view faults.old.items ++ row_faults_view own.items) }
+{
+    for fault in own {
+        faults.push(fault)?;
+    }
+    Ok(())
+}
+
+/// The faults of the text of this name, by line and number.
+fn faults_of_text(
+    alloc: Global,
+    modes: &ModeEvents,
+    definitions: &Definitions<'_>,
+    text: &[u8],
+    sections: &[Section],
+) -> Result<Vec<RowFault>, AllocError>
+    ensures { IfOk result (λ faults. row_faults_view faults.items ≡ text_faults (keys_view modes.now) definitions.now text.now (map section_view sections.now)) }
+{
+    let mut faults = Vec::new(alloc);
+    for section in sections {
+        add_section(alloc, &mut faults, modes, definitions, text, section)?;
+    }
+    sort_by_number(&mut faults)?;
+    sort_by_line(&mut faults)?;
+    Ok(faults)
+}
+
+/// By number, those of one number as they are.
+fn sort_by_number(faults: &mut Vec<RowFault>) -> Result<(), AllocError>
+    ensures { OnOk result (row_faults_view faults.new.items ≡ ordered_by fault_number (row_faults_view faults.old.items)) }
+{
+    faults.sort_by_key(|fault| fault.kind.number())?;
+    Ok(())
+}
+
+/// By line, those of one line as they are.
+fn sort_by_line(faults: &mut Vec<RowFault>) -> Result<(), AllocError>
+    ensures { OnOk result (row_faults_view faults.new.items ≡ ordered_by fault_line (row_faults_view faults.old.items)) }
+{
+    faults.sort_by_key(|fault| fault.line)?;
+    Ok(())
+}
+
+/// Adds the faults of a section of the text of this name, as written.
+fn add_section(
+    alloc: Global,
+    faults: &mut Vec<RowFault>,
+    modes: &ModeEvents,
+    definitions: &Definitions<'_>,
+    text: &[u8],
+    section: &Section,
+) -> Result<(), AllocError>
+    ensures { OnOk result (row_faults_view faults.new.items ≡ row_faults_view faults.old.items ++ section_faults (keys_view modes.now) definitions.now text.now (section_view section.now)) }
+{
+    let posts = reserved_posts(alloc, modes, section)?;
+    add_posts(alloc, faults, text, &posts)?;
+    add_coil_faults(alloc, faults, definitions, text, section)?;
+    add_timers(alloc, faults, text, section.timers())
+}
+
+/// Adds a fault for each of these reserved events, which the text posts.
+fn add_posts(
+    alloc: Global,
+    faults: &mut Vec<RowFault>,
+    text: &[u8],
+    posts: &[&Name],
+) -> Result<(), AllocError>
+    ensures { OnOk result (row_faults_view faults.new.items ≡ row_faults_view faults.old.items ++ map (reserved_fault text.now) (written_view posts.now)) }
+{
+    for post in posts {
+        let fault = fault_at(alloc, RowFaultKind::Name, text, at(post))?;
+        faults.push(fault)?;
+    }
+    Ok(())
+}
+
+/// Adds a fault for each of these timers that starts at its end.
+fn add_timers(
+    alloc: Global,
+    faults: &mut Vec<RowFault>,
+    text: &[u8],
+    entries: &[Entry],
+) -> Result<(), AllocError>
+    ensures { OnOk result (row_faults_view faults.new.items ≡ row_faults_view faults.old.items ++ map (timer_fault text.now) (filter starts_at_end (map timer_of (map entry_view entries.now)))) }
+{
+    for entry in entries {
+        let timer = as_timer(entry);
+        if starts_at_end(timer) {
+            let fault = fault_at(alloc, RowFaultKind::TimerAtEnd, text, at(timer.name))?;
+            faults.push(fault)?;
+        }
+    }
+    Ok(())
+}
+
+/// Whether a timer is at its end before it runs.
+fn starts_at_end(timer: Timer<'_>) -> bool
+    ensures { result ≡ starts_at_end (timer_view timer.entry) }
+{
+    has_reached(timer.direction, timer.end, timer.start)
+}
+
+/// Whether a value has reached or passed its end, if it has one.
+fn has_reached(direction: Direction, end: Option<i64>, value: i64) -> bool
+    ensures { result ≡ has_reached direction end value }
+{
+    match (direction, end) {
+        (_, None) => false,
+        (Direction::Up, Some(end)) => end <= value,
+        (Direction::Down, Some(end)) => value <= end,
+    }
+}
