@@ -49,7 +49,7 @@ module _ (cs : List Contribution) where
 
 -- ---- what is done
 
-module _ (P : Effect → Type 0) (S : List ℕ → Type 0) where
+module _ (P : Effect → Type 0) (S L : List ℕ → Type 0) where
   module _ (cs : List Contribution) where
     abbrev AtEvent : EventId → Type 0
     AtEvent e = S (slice_index_or (names_from cs Events) e.0 [])
@@ -57,14 +57,14 @@ module _ (P : Effect → Type 0) (S : List ℕ → Type 0) where
     abbrev AtAction : Action → Type 0
     AtAction a = P (named_effect (names_from cs) a)
 
-    is_met : (c : Contribution) → IsKnown (names_from cs) c → Does P S c → IsMet AtEvent AtAction (names_from cs) c
+    is_met : (c : Contribution) → IsKnown (names_from cs) c → Does P S L c → IsMet AtEvent AtAction (names_from cs) c
     is_met (active n) known h = subst S (sym (at_number (names_from cs Events) n known)) h
     is_met (inactive n) known h = subst S (sym (at_number (names_from cs Events) n known)) h
     is_met (does e) known h = subst P (sym (effect_named (names_from cs) e known)) h
     is_met (does_in k e) known h = subst P (sym (effect_named (names_from cs) e known)) h
     is_met _ known h = tt
 
-    pub done_from : All (Does P S) cs → IsDone P S (plan_from cs)
+    pub done_from : All (Does P S L) cs → IsDone P S (plan_from cs)
     done_from h =
         let meet = meet_drafted AtEvent AtAction (names_from cs) cs (λ i d within. is_met (get_or cs i d) (all_known cs i d within) (h i d within)) in
         let event : (e : EventId) → AtEvent e → S (name_of_event (plan_from cs) e) = λ e. subst S (event_name cs e) in
@@ -76,10 +76,10 @@ module _ (P : Effect → Type 0) (S : List ℕ → Type 0) where
               (λ actions. All-weaker AtAction (λ a. P (effect_of (plan_from cs) a)) (λ a. subst P (named_is cs a)) actions) (plan_from cs).lists meet.lists;
         }
 
-  done_of_plan : (rows : Rows) → All (Does P S) (contributions_of rows) → IsDone P S (plan_of rows)
+  done_of_plan : (rows : Rows) → All (Does P S L) (contributions_of rows) → IsDone P S (plan_of rows)
   unfolding plan_of
   done_of_plan rows h = done_from (contributions_of rows) h
 
   -- P holds of all that the plan does, by names
-  pub done-named : (rows : Rows) (plan : PlanView) → plan_at rows ≡ Ok plan → All (Does P S) (contributions_of rows) → IsDone P S plan
+  pub done-named : (rows : Rows) (plan : PlanView) → plan_at rows ≡ Ok plan → All (Does P S L) (contributions_of rows) → IsDone P S plan
   done-named rows plan is h = subst (IsDone P S) (sym (plan_at-Ok rows plan is).0) (done_of_plan rows h)

@@ -182,9 +182,9 @@ heard_machine_entry : (machine : List SectionRows) (section : List ℕ) (e : Ent
 unfolding machine_entry_contributions coil_contributions
 heard_machine_entry machine section e = by (bytes_eq section switches_name) (bytes_eq section coils_name)
   where
-    by : (b c : Bool) → AreHeard None (if b then switch_contributions machine (switch_of e) else (if c then coil_contributions (coil_of e) else where_device Machine (machine_device machine section e)))
-    by true c = quiet_heard (switch_contributions machine (switch_of e)) None (quiet_switch machine (switch_of e))
-    by false true = (tt, tt)
+    by : (b c : Bool) → AreHeard None (if c then coil_contributions (coil_of e) else (if b then switch_contributions machine (switch_of e) else where_device Machine (machine_device machine section e)))
+    by b true = (tt, tt)
+    by true false = quiet_heard (switch_contributions machine (switch_of e)) None (quiet_switch machine (switch_of e))
     by false false = heard_where (machine_device machine section e)
 
 heard_entry : (machine : List SectionRows) (place : Place) (section : List ℕ) (e : Entry) → AreHeard None (entry_contributions machine place section e)

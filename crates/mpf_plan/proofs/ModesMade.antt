@@ -102,9 +102,9 @@ module _ (names : Names) where
   unfolding machine_entry_contributions coil_contributions
   in_machine_entry machine section e ms = by (bytes_eq section switches_name) (bytes_eq section coils_name)
     where
-      by : (b c : Bool) → fold modes_with ms (if b then switch_contributions machine (switch_of e) else (if c then coil_contributions (coil_of e) else where_device Machine (machine_device machine section e))) ≡ ms
-      by true c = quiet_leaves (switch_contributions machine (switch_of e)) (quiet_switch machine (switch_of e)) ms
-      by false true = refl
+      by : (b c : Bool) → fold modes_with ms (if c then coil_contributions (coil_of e) else (if b then switch_contributions machine (switch_of e) else where_device Machine (machine_device machine section e))) ≡ ms
+      by b true = refl
+      by true false = quiet_leaves (switch_contributions machine (switch_of e)) (quiet_switch machine (switch_of e)) ms
       by false false = in_where Machine (machine_device machine section e) ms
 
   in_entry : (machine : List SectionRows) (place : Place) (section : List ℕ) (e : Entry) → Leaves (entry_contributions machine place section e)

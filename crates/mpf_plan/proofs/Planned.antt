@@ -88,7 +88,8 @@ module _ (rows : Rows) (machine : List SectionRows) (text : machine ≡ rows.mac
 -- rows give as many modes as there are in the texts
 pub modes_few : (rows : Rows) (machine : List SectionRows) (rs made_of : List found.Row) → machine ≡ rows.machine → row_list_view rs ≡ rows_of rows → made_of ≡ rs → AreFewModes rows.modes → mode_count (given_by machine (row_list_view made_of)) ≤ 64
 modes_few rows machine rs made_of text are again few =
-    omega (arith, few.few, modes-count rows, modes-from (contributions_of rows), λ i. mode_count (given_by (text i) ((ap row_list_view again ∙ are) i)))
+    let same : given_by machine (row_list_view made_of) ≡ contributions_of rows = λ i. given_by (text i) ((ap row_list_view again ∙ are) i) in
+    omega (arith, few.few, modes-count rows, modes-from (contributions_of rows), ap mode_count same)
 
 -- each binding is of an event of the plan
 pub events_bound : (plan : PlanView) → IsValid plan → All (λ b. b.event.0 < length plan.events) plan.bindings
