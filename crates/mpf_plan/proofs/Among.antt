@@ -7,12 +7,13 @@ use Rattle.std.proofs.lemmas.List.Folds.{list_any-append}
 use Rattle.std.proofs.lemmas.Slice.Eq.{bytes_eq-Decides}
 use Rattle.plan_tables.specs.declared.table.Table.{Table}
 use Rattle.plan_tables.specs.declared.table.Table.TheVariants.{Events}
-use Rattle.plan_contributions.specs.Contributions.{Contribution, post}
+use Rattle.plan_contributions.specs.DeviceEntries.{posts}
+use Rattle.plan_contributions.specs.Contributions.{Contribution, does}
 use Rattle.mpf_plan.specs.Uses.{Names, names_from, number_among}
 use Rattle.plan_contributions.specs.UsedNames.{used, uses, name_in_table}
 use Rattle.mpf_plan.proofs.Lacking.{any_first}
 
-place_within : {X : Type 0} (p : X → Bool) (xs : List X) → list_any p xs ≡ true → position_or_len p xs < length xs
+pub place_within : {X : Type 0} (p : X → Bool) (xs : List X) → list_any p xs ≡ true → position_or_len p xs < length xs
 place_within p [] e = absurd (true≢false (sym e))
 place_within p (x ∷ xs) e = by (p x) (place_within p xs) e
   where
@@ -57,4 +58,4 @@ among_first cs i d within (Some (t, n)) is =
     place_within (bytes_eq n) (names_from cs t) (any_first n (uses t cs) ∙ used_there t n cs i d within is)
 
 pub all_known : (cs : List Contribution) → All (IsKnown (names_from cs)) cs
-all_known cs = All-from_get_or (IsKnown (names_from cs)) cs (post []) (λ i within. among_first cs i (post []) within (used (get_or cs i (post []))) refl)
+all_known cs = All-from_get_or (IsKnown (names_from cs)) cs (does (posts [])) (λ i within. among_first cs i (does (posts [])) within (used (get_or cs i (does (posts [])))) refl)

@@ -5,6 +5,7 @@ use Rattle.std.specs.List.{list_any}
 use Rattle.std.proofs.lemmas.Bool.{or_from}
 use Rattle.std.proofs.lemmas.List.{append_assoc, drop_more}
 use Rattle.std.proofs.lemmas.List.Folds.{list_any-append, list_any_at}
+use Rattle.mpf_sections.specs.Rows.{SectionRows}
 use Rattle.plan_contributions.specs.declared.collect.Row as rows
 use Rattle.plan_contributions.specs.declared.contribution.Contribution as contributions
 use Rattle.plan_contributions.specs.Contributions.{Contribution, row_contributions, given_by}
@@ -43,14 +44,14 @@ module _ (p : Contribution → Bool) where
 
 -- ---- rows
 
-module _ (rs : List rows.Row) (i : ℕ) (r : rows.Row) (within : i < length rs) (at : r ≡ get_or rs i r) (now new : List contributions.Contribution) where
+module _ (machine : List SectionRows) (rs : List rows.Row) (i : ℕ) (r : rows.Row) (within : i < length rs) (at : r ≡ get_or rs i r) (now new : List contributions.Contribution) where
   -- what is collected of a row
-  pub row_is : now ≡ new → contributions_view new ≡ row_contributions (row_view r) → contributions_view now ≡ row_contributions (row_view (get_or rs i r))
-  row_is same collected = ap contributions_view same ∙ collected ∙ ap (λ x. row_contributions (row_view x)) at
+  pub row_is : now ≡ new → contributions_view new ≡ row_contributions machine (row_view r) → contributions_view now ≡ row_contributions machine (row_view (get_or rs i r))
+  row_is same collected = ap contributions_view same ∙ collected ∙ ap (λ x. row_contributions machine (row_view x)) at
 
   -- after what the first rows give
-  pub row_more : now ≡ new → contributions_view new ≡ row_contributions (row_view r) → given_by (row_list_view (take i rs)) ++ contributions_view now ≡ given_by (row_list_view (take (i + 1) rs))
-  row_more same collected = ap (λ l. given_by (row_list_view (take i rs)) ++ l) (row_is same collected) ∙ sym (rows_more rs i r within)
+  pub row_more : now ≡ new → contributions_view new ≡ row_contributions machine (row_view r) → given_by machine (row_list_view (take i rs)) ++ contributions_view now ≡ given_by machine (row_list_view (take (i + 1) rs))
+  row_more same collected = ap (λ l. given_by machine (row_list_view (take i rs)) ++ l) (row_is same collected) ∙ sym (rows_more machine rs i r within)
 
 -- ---- the first item that passes
 

@@ -4,6 +4,7 @@ use Rattle.std.specs.List.{sum_by}
 use Rattle.std.proofs.Math.Seq.{map-set_same}
 use Rattle.std.proofs.lemmas.List.{length_push, length-set, length-map, length-append, length-replicate}
 use Rattle.std.proofs.lemmas.List.Sums.{sum_by-cons}
+use Rattle.mpf_sections.specs.Rows.{SectionRows}
 use Rattle.plan_contributions.specs.declared.collect.Row as rows
 use Rattle.plan_contributions.specs.declared.contribution.Aim.{Aim}
 use Rattle.plan_contributions.specs.declared.contribution.Aim.TheVariants.{Run}
@@ -11,27 +12,29 @@ use Rattle.plan_contributions.specs.declared.contribution.Contribution as contri
 use Rattle.plan_tables.specs.declared.names.NameSets.{NameSets}
 use Rattle.mpf_plan.specs.declared.draft.Draft.{Draft}
 use Rattle.plan_tables.specs.declared.entries.Action.{Action}
-use Rattle.plan_tables.specs.declared.entries.Action.TheVariants.{Post}
 use Rattle.plan_tables.specs.declared.entries.Binding.{Binding}
 use Rattle.plan_tables.specs.declared.entries.ListId.{ListId}
+use Rattle.plan_tables.specs.declared.entries.Listener.{Listener}
+use Rattle.plan_tables.specs.declared.entries.CoilLimits.{CoilLimits}
 use Rattle.plan_tables.specs.declared.devices.DeviceRow.{DeviceRow}
 use Rattle.plan_tables.specs.declared.devices.Settings.{Settings}
-use Rattle.plan_tables.specs.declared.devices.Settings.TheVariants.{Counter, Accrual, Sequence, Timer}
+use Rattle.plan_tables.specs.declared.devices.Settings.TheVariants.{Counter, Accrual, Sequence, Timer, Flipper, Autofire}
 use Rattle.plan_contributions.specs.declared.contribution.Place.{Place}
 use Rattle.plan_tables.specs.Devices.{list_count}
 use Rattle.plan_tables.specs.declared.table.Table.{Table}
-use Rattle.plan_tables.specs.declared.table.Table.TheVariants.{Events, Bindings, Switches, Rows}
+use Rattle.plan_tables.specs.declared.table.Table.TheVariants.{Events, Bindings, Switches, Coils, Rows}
 use Rattle.plan_tables.specs.declared.entries.ModeEvent.TheVariants.{WillStart}
-use Rattle.plan_tables.specs.PlanView.{PlanSwitch, no_switch, PlanMode, no_mode, PlanView}
+use Rattle.plan_tables.specs.PlanView.{PlanSwitch, no_switch, PlanCoil, no_coil, PlanMode, no_mode, PlanView}
 use Rattle.plan_tables.specs.Limits.{entry_count, entry_names}
-use Rattle.plan_contributions.specs.Contributions.{Contribution, gives, reads, active, inactive, mode, mode_event, mode_event_name, binds, post, device, post_in, mentions, row_contributions, given_by}
+use Rattle.plan_contributions.specs.Contributions.{Contribution, gives, reads, active, inactive, mode, mode_event, mode_event_name, binds, does, device, does_in, listens, mentions, coil, row_contributions, given_by}
 use Rattle.mpf_plan.specs.Uses.{Names, names_from, number_among}
-use Rattle.mpf_plan.specs.PlanOf.{DraftView, event_of, last_switch, with_given, new_mode, with_event_in, next_binding, lists_for, with_binding, with_list_for, with_one_more, next_row, next_list, with_device, first_of_last, with_contribution, named_switch, blank, drafted, plan_from}
+use Rattle.mpf_plan.specs.PlanOf.{DraftView, event_of, action_of, last_switch, with_given, new_mode, with_event_in, next_binding, lists_for, with_binding, with_list_for, with_one_more, next_row, next_list, with_device, next_listener, heard_by, with_listener, first_of_last, limited_to, with_coil, with_contribution, named_switch, named_coil, blank, drafted, plan_from}
 use Rattle.plan_tables.specs.Inside.{name_sets_view, mode_entry_view}
-use Rattle.mpf_plan.specs.Inside.{draft_view}
+use Rattle.mpf_plan.specs.Inside.{limited_coils, draft_view}
 use Rattle.plan_contributions.specs.View.{contribution_view, contributions_view, row_view, row_list_view}
 use Rattle.mpf_plan.specs.Numbering.{bindings_given, binding_count, rows_given, row_count, modes_given, mode_count}
 use Rattle.mpf_plan.proofs.Counts.{named_of, count_of}
+use Rattle.mpf_plan.proofs.Steps.{length-limited}
 use Rattle.mpf_plan.proofs.Taken.{part_count, part_rows, part_modes}
 
 -- ---- what one contribution changes
@@ -91,6 +94,33 @@ switch_counts change same d = record {
   defined = refl;
 }
 
+listener_counts : (n : ℕ) (l : Listener) (d : DraftView) → Counts 0 0 d (with_listener n l d)
+listener_counts n l d = record {
+  bindings = omega arith;
+  rows = omega arith;
+  row_lists = omega arith;
+  lists = omega arith;
+  names = switches_names d.plan (slice_set d.plan.switches n (heard_by l (slice_index_or d.plan.switches n no_switch)))
+      (map-set_same (λ (s : PlanSwitch). s.name) d.plan.switches n (heard_by l (get_or d.plan.switches n no_switch)) no_switch refl);
+  defined = refl;
+}
+
+coils_names : (plan : PlanView) (coils : List PlanCoil) → map (λ (c : PlanCoil). c.name) coils ≡ map (λ (c : PlanCoil). c.name) plan.coils
+    → (t : Table) → entry_names (record plan { coils = coils }) t ≡ entry_names plan t
+coils_names plan coils same Coils = same
+coils_names plan coils same _ = refl
+
+coil_counts : (n : ℕ) (limits : CoilLimits) (d : DraftView) → Counts 0 0 d (with_coil n limits d)
+coil_counts n limits d = record {
+  bindings = omega arith;
+  rows = omega arith;
+  row_lists = omega arith;
+  lists = omega arith;
+  names = coils_names d.plan (slice_set d.plan.coils n (limited_to limits (slice_index_or d.plan.coils n no_coil)))
+      (map-set_same (λ (c : PlanCoil). c.name) d.plan.coils n (limited_to limits (get_or d.plan.coils n no_coil)) no_coil refl);
+  defined = refl;
+}
+
 -- modes, lists, bindings and rows have no names
 unnamed : (plan : PlanView) (modes : List PlanMode) (lists : List (List Action)) (bindings : List Binding) (rows : List DeviceRow) (firsts : List ListId) (t : Table)
     → entry_names (record plan { modes = modes; lists = lists; bindings = bindings; rows = rows; row_lists = firsts }) t ≡ entry_names plan t
@@ -138,6 +168,8 @@ five_lists (Counter c) = omega arith
 five_lists (Accrual a) = omega arith
 five_lists (Sequence q) = omega arith
 five_lists (Timer t) = omega arith
+five_lists Flipper = omega arith
+five_lists Autofire = omega arith
 
 -- the effect lists of a row begin
 pub lists_begun : (lists : List (List Action)) (n : ℕ) → length (lists ++ replicate n []) ≡ length lists + n
@@ -169,9 +201,11 @@ module _ (names : Names) where
       let last = length d.plan.modes - 1 in
       modes_counts (slice_set d.plan.modes last (with_event_in which (event_of (names Events) (mode_event_name which n)) (get_or d.plan.modes last no_mode))) d
   counts_one d (binds n place aim) = binding_counts aim (next_binding d.plan (event_of (names Events) n) place aim) d
-  counts_one d (post n) = action_counts (length d.plan.lists - 1) (Post (event_of (names Events) n)) d
+  counts_one d (does e) = action_counts (length d.plan.lists - 1) (action_of names e) d
   counts_one d (device place settings) = device_counts place settings d
-  counts_one d (post_in k n) = action_counts ((first_of_last d.plan.row_lists).0 + k) (Post (event_of (names Events) n)) d
+  counts_one d (does_in k e) = action_counts ((first_of_last d.plan.row_lists).0 + k) (action_of names e) d
+  counts_one d (listens k n) = listener_counts (number_among (names Switches) n) (next_listener d.plan k) d
+  counts_one d (coil n limits) = coil_counts (number_among (names Coils) n) limits d
   counts_one d (mentions n) = modes_counts d.plan.modes d
 
   counts_then : (n m r q : ℕ) (a b c : DraftView) → Counts n r a b → Counts m q b c → Counts (n + m) (r + q) a c
@@ -215,6 +249,10 @@ blank_switches : (ns : List (List ℕ)) → map (λ (s : PlanSwitch). s.name) (m
 blank_switches [] = refl
 blank_switches (n ∷ ns) = ap (λ l. n ∷ l) (blank_switches ns)
 
+blank_coils : (ns : List (List ℕ)) → map (λ (c : PlanCoil). c.name) (map named_coil ns) ≡ ns
+blank_coils [] = refl
+blank_coils (n ∷ ns) = ap (λ l. n ∷ l) (blank_coils ns)
+
 -- ---- the plan of contributions
 
 module _ (cs : List Contribution) where
@@ -223,6 +261,7 @@ module _ (cs : List Contribution) where
 
   blank_names : (t : Table) → entry_names (blank (names_from cs)).plan t ≡ named_of cs t
   blank_names Switches = blank_switches (names_from cs Switches)
+  blank_names Coils = blank_coils (names_from cs Coils)
   blank_names _ = refl
 
   -- it has the modes that are given
@@ -250,6 +289,7 @@ module _ (cs : List Contribution) where
   count-from Bindings = count-bindings
   count-from Rows = count-rows
   count-from Switches = sym (length-map (plan_from cs).switches (λ (s : PlanSwitch). s.name)) ∙ ap length (names-from Switches)
+  count-from Coils = sym (length-map (plan_from cs).coils (λ (c : PlanCoil). c.name)) ∙ ap length (names-from Coils)
   count-from Events = ap length (names-from Events)
 
 -- ---- room for effect lists, rows and modes
@@ -284,25 +324,35 @@ module _ (names : NameSets) (old new : Draft) (cs : List contributions.Contribut
       let count = modes_fold (name_sets_view names) (draft_view names old) (contributions_view (take i cs)) in
       omega (arith, room, ap (λ d. length d.plan.modes) is, count, taken_few modes_given cs i, length-map new.modes.items mode_entry_view, length-map old.modes.items mode_entry_view)
 
-module _ (names : NameSets) (d : Draft) (rs : List rows.Row) (i : ℕ) (r : rows.Row) (now : List contributions.Contribution) (within : i < length rs) (here : contributions_view now ≡ row_contributions (row_view (get_or rs i r)))
-    (is : draft_view names d ≡ drafted (name_sets_view names) (given_by (row_list_view (take i rs)))) where
+module _ (machine : List SectionRows) (names : NameSets) (d : Draft) (rs : List rows.Row) (i : ℕ) (r : rows.Row) (now : List contributions.Contribution) (within : i < length rs) (here : contributions_view now ≡ row_contributions machine (row_view (get_or rs i r)))
+    (is : draft_view names d ≡ drafted (name_sets_view names) (given_by machine (row_list_view (take i rs)))) where
   -- nor than the rows give
-  pub row_fits : binding_count (given_by (row_list_view rs)) ≤ 16384 → row_count (given_by (row_list_view rs)) ≤ 1024 → length d.lists.items + binding_count (contributions_view now) + 5 * row_count (contributions_view now) ≤ 21504
+  pub row_fits : binding_count (given_by machine (row_list_view rs)) ≤ 16384 → row_count (given_by machine (row_list_view rs)) ≤ 1024 → length d.lists.items + binding_count (contributions_view now) + 5 * row_count (contributions_view now) ≤ 21504
   row_fits room few =
-      let counts = counts_drafted (name_sets_view names) (given_by (row_list_view (take i rs))) in
-      omega (arith, room, few, part_count rs i r within, part_rows rs i r within, ap binding_count here, ap row_count here, ap (λ x. length x.plan.lists) is, counts.lists, length-map d.lists.items (λ v. v.items))
+      let counts = counts_drafted (name_sets_view names) (given_by machine (row_list_view (take i rs))) in
+      omega (arith, room, few, part_count machine rs i r within, part_rows machine rs i r within, ap binding_count here, ap row_count here, ap (λ x. length x.plan.lists) is, counts.lists, length-map d.lists.items (λ v. v.items))
 
-  pub row_rows_fit : row_count (given_by (row_list_view rs)) ≤ 1024 → length d.rows.items + row_count (contributions_view now) ≤ 1024
+  pub row_rows_fit : row_count (given_by machine (row_list_view rs)) ≤ 1024 → length d.rows.items + row_count (contributions_view now) ≤ 1024
   row_rows_fit few =
-      let counts = counts_drafted (name_sets_view names) (given_by (row_list_view (take i rs))) in
-      omega (arith, few, part_rows rs i r within, ap row_count here, ap (λ x. length x.plan.rows) is, counts.rows)
+      let counts = counts_drafted (name_sets_view names) (given_by machine (row_list_view (take i rs))) in
+      omega (arith, few, part_rows machine rs i r within, ap row_count here, ap (λ x. length x.plan.rows) is, counts.rows)
 
-  pub row_modes_fit : mode_count (given_by (row_list_view rs)) ≤ 64 → length d.modes.items + mode_count (contributions_view now) ≤ 64
+  pub row_modes_fit : mode_count (given_by machine (row_list_view rs)) ≤ 64 → length d.modes.items + mode_count (contributions_view now) ≤ 64
   row_modes_fit room =
-      let count = modes_fold (name_sets_view names) (blank (name_sets_view names)) (given_by (row_list_view (take i rs))) in
-      omega (arith, room, part_modes rs i r within, ap mode_count here, ap (λ x. length x.plan.modes) is, count, length-map d.modes.items mode_entry_view)
+      let count = modes_fold (name_sets_view names) (blank (name_sets_view names)) (given_by machine (row_list_view (take i rs))) in
+      omega (arith, room, part_modes machine rs i r within, ap mode_count here, ap (λ x. length x.plan.modes) is, count, length-map d.modes.items mode_entry_view)
 
 -- each name of a switch has an entry
 pub entries_count : (names : NameSets) (d : Draft) (cs : List Contribution) → draft_view names d ≡ drafted (name_sets_view names) cs → length d.switches.items ≡ length (name_sets_view names Switches)
 entries_count names d cs is =
     sym d.same_count ∙ ap (λ x. length x.defined) is ∙ (counts_drafted (name_sets_view names) cs).defined ∙ length-map (name_sets_view names Switches) (λ n. false)
+
+-- and each name of a coil
+pub coils_count : (names : NameSets) (d : Draft) (cs : List Contribution) → draft_view names d ≡ drafted (name_sets_view names) cs → length d.coils.items ≡ length (name_sets_view names Coils)
+coils_count names d cs is =
+    let ns = name_sets_view names Coils in
+    let named : List PlanCoil → List (List ℕ) = λ coils. map (λ (c : PlanCoil). c.name) coils in
+    sym (length-limited ns d.coils.items)
+    ∙ sym (length-map (limited_coils ns d.coils.items) (λ (c : PlanCoil). c.name))
+    ∙ ap (λ x. length (named x.plan.coils)) is
+    ∙ ap length ((counts_drafted (name_sets_view names) cs).names Coils ∙ blank_coils ns)

@@ -10,7 +10,7 @@ use Rattle.plan_contributions.specs.UsedNames.{uses}
 use Rattle.mpf_plan.specs.PlanOf.{plan_of}
 use Rattle.mpf_plan.proofs.Drafted.{names-from}
 use Rattle.plan_contributions.specs.Facts.{IsOfNames}
-use Rattle.mpf_plan.proofs.ValidPlan.{All-first_by}
+use Rattle.mpf_plan.proofs.Apart.{All-first_by}
 use Rattle.plan_contributions.proofs.EventNames.{used_names}
 
 module _ (P : List ℕ → Type 0) where

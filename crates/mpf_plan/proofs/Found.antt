@@ -6,6 +6,7 @@ use Rattle.std.proofs.lemmas.Grind.{flat_map-append}
 use Rattle.std.proofs.lemmas.List.{append-nil, length-set}
 use Rattle.std.proofs.lemmas.List.Sums.{fold-append, sum_by-append}
 use Rattle.std.proofs.lemmas.Option.{slice_get_cases}
+use Rattle.mpf_sections.specs.Rows.{SectionRows}
 use Rattle.plan_tables.specs.declared.table.Table.{Table}
 use Rattle.plan_tables.specs.declared.table.Table.TheVariants.{Bindings, Rows}
 use Rattle.plan_tables.specs.declared.names.NameTable.{NameTable}
@@ -165,5 +166,5 @@ module _ (cs : List Contribution) (found : Found) (has : HasFound cs found) wher
     kept_fit t = omega (arith, names_fit t, ap length (names_are_kept t))
 
 -- neither bindings nor rows of devices have names, whatever rows give
-pub nameless : (rows : List Row) → (names_from (given_by rows) Bindings ≡ []) × (names_from (given_by rows) Rows ≡ [])
-nameless rows = (ap first_uses (bindings_unnamed rows), ap first_uses (rows_unnamed rows))
+pub nameless : (machine : List SectionRows) (rows : List Row) → (names_from (given_by machine rows) Bindings ≡ []) × (names_from (given_by machine rows) Rows ≡ [])
+nameless machine rows = (ap first_uses (bindings_unnamed machine rows), ap first_uses (rows_unnamed machine rows))

@@ -1,48 +1,36 @@
 -- The first table that is above its limit, and the plan where there is none.
-use Rattle.std.proofs.Common.{◌≡◌, ◌<◌, ◌≤◌, ◌⊎◌, inl, inr, ℕ, zero, suc, ◌+◌, ◌==◌, Bool, true, false, cond, not, List, [], ◌∷◌, length, get_or, nat_lt, Some, None, refl, sym, ◌∙◌, ap, subst, arith}
+use Rattle.std.proofs.Common.{◌≡◌, ◌<◌, ◌≤◌, ◌⊎◌, inl, inr, ℕ, zero, suc, ◌+◌, ◌==◌, Bool, true, false, cond, not, List, [], ◌∷◌, ◌&&◌, length, nat_lt, Option, Some, None, refl, sym, ◌∙◌, ap, subst, arith}
 use Rattle.std.specs.Prelude.{Result, Ok, Err, find}
 use Rattle.std.specs.List.{list_any}
 use Rattle.std.specs.Str.{bytes_eq}
-use Rattle.std.proofs.lemmas.Bool.{le-ltb, lt-ltb, cases_lt, eqb-true, eq-eqb, and_parts, and_right, or_left, or_right, not_from_true}
-use Rattle.std.proofs.lemmas.List.Elements.{All-from_get_or}
-use Rattle.std.proofs.lemmas.List.Folds.{list_any-append, list_any_none}
-use Rattle.std.proofs.lemmas.Slice.Eq.{bytes_eq-Decides}
+use Rattle.std.proofs.lemmas.Bool.{le-ltb, lt-ltb, cases_lt, eqb-true, and_parts}
+use Rattle.std.proofs.lemmas.List.Elements.{All-weaker}
+use Rattle.std.proofs.lemmas.List.Folds.{list_any_none}
 use Rattle.mpf_config.specs.Rows.{Rows}
 use Rattle.plan_tables.specs.declared.table.Table.{Table}
-use Rattle.plan_tables.specs.PlanView.{PlanView, no_switch}
-use Rattle.plan_contributions.specs.Contributions.{Contribution, gives, reads, contributions_of}
-use Rattle.plan_contributions.specs.UsedNames.{used, given, name_in_table, given_names}
+use Rattle.plan_tables.specs.PlanView.{PlanView}
+use Rattle.plan_contributions.specs.Contributions.{Contribution, contributions_of}
+use Rattle.plan_contributions.specs.UsedNames.{used, given_names}
 use Rattle.mpf_plan.specs.Uses.{is_to_be_given, is_lacking, lacks_name}
 use Rattle.plan_tables.specs.Limits.{entry_count, limit_of, order_of, tables_in_order, first_above, IsFirstAbove}
 use Rattle.mpf_plan.specs.PlanOf.{plan_of, plan_at, PlanRefusal, no_such_name, above_limit, fitting, IsExceeded}
+use Rattle.mpf_plan.specs.ByName.{IsGiven, AreGiven}
 use Rattle.mpf_plan.proofs.ByTable.{place_within, same_place, in_place}
 
 -- ---- names
 
--- a name that a contribution gives is among those that are given
-given_there : (cs : List Contribution) (i : ℕ) (d c : Contribution) (t : Table) (n : List ℕ) → i < length cs → get_or cs i d ≡ c → given c ≡ Some (t, n) → list_any (bytes_eq n) (given_names t cs) ≡ true
-given_there [] i d c t n within at is = absurd (omega arith)
-given_there (x ∷ cs) zero d c t n within at is =
-    list_any-append (bytes_eq n) (name_in_table t (given x)) (given_names t cs)
-    ∙ or_left (list_any (bytes_eq n) (name_in_table t (given x))) (list_any (bytes_eq n) (given_names t cs)) (ap (λ o. list_any (bytes_eq n) (name_in_table t o)) (ap given at ∙ is) ∙ there)
+-- no name is lacking where each that has to be given is
+pub nothing_lacks : (cs : List Contribution) → AreGiven cs → lacks_name cs ≡ false
+nothing_lacks cs each =
+    list_any_none (λ c. is_lacking (λ t. given_names t cs) (used c)) cs (All-weaker (λ c. IsGiven cs (used c)) (λ c. is_lacking (λ t. given_names t cs) (used c) ≡ false) (λ c. here (used c)) cs each)
   where
-    there : list_any (bytes_eq n) (name_in_table t (Some (t, n))) ≡ true
-    there = ap (λ b. list_any (bytes_eq n) (cond b (n ∷ []) [])) (eq-eqb (order_of t) (order_of t) refl) ∙ or_left (bytes_eq n n) false ((bytes_eq-Decides n n).1 refl)
-given_there (x ∷ cs) (suc i) d c t n within at is =
-    list_any-append (bytes_eq n) (name_in_table t (given x)) (given_names t cs)
-    ∙ or_right (list_any (bytes_eq n) (name_in_table t (given x))) (list_any (bytes_eq n) (given_names t cs)) (given_there cs i d c t n (omega arith) at is)
+    by : (b there : Bool) → (b ≡ true → there ≡ true) → (b && not there) ≡ false
+    by true there is = ap not (is refl)
+    by false there is = refl
 
--- no contribution lacks a name yet: what uses a name that has to be given gives it
-named : (cs : List Contribution) (i : ℕ) (d c : Contribution) → i < length cs → get_or cs i d ≡ c → is_lacking (λ t. given_names t cs) (used c) ≡ false
-named cs i d (gives t n) within at =
-    let there = list_any (bytes_eq n) (given_names t cs) in
-    and_right (is_to_be_given t) (not there) (not_from_true there (given_there cs i d (gives t n) t n within at refl))
-named cs i d _ within at = refl
-
-pub lacks_none : (cs : List Contribution) → lacks_name cs ≡ false
-lacks_none cs =
-    let lacking : Contribution → Bool = λ c. is_lacking (λ t. given_names t cs) (used c) in
-    list_any_none lacking cs (All-from_get_or (λ c. lacking c ≡ false) cs (reads no_switch.kind) (λ i within. named cs i (reads no_switch.kind) (get_or cs i (reads no_switch.kind)) within refl))
+    here : (o : Option (Table × List ℕ)) → IsGiven cs o → is_lacking (λ t. given_names t cs) o ≡ false
+    here None is = refl
+    here (Some (t, n)) is = by (is_to_be_given t) (list_any (bytes_eq n) (given_names t cs)) is
 
 -- ---- tables
 
@@ -142,45 +130,71 @@ limit-name : (t : Table) → ◌≡◌ {A = Result PlanView PlanRefusal} (Err (a
 limit-name t e = cc
 
 module _ (rows : Rows) where
-  unnamed : plan_at rows ≡ fitting (plan_of rows) (first_above (plan_of rows))
-  unfolding plan_at
-  unnamed = ap (λ b. cond b (Err no_such_name) (fitting (plan_of rows) (first_above (plan_of rows)))) (lacks_none (contributions_of rows))
+  abbrev lacks : Bool
+  lacks = lacks_name (contributions_of rows)
 
   -- a name that nothing has
   pub plan_at-lacking : lacks_name (contributions_of rows) ≡ true → plan_at rows ≡ Err no_such_name
   unfolding plan_at
   plan_at-lacking lacking = ap (λ b. cond b (Err no_such_name) (fitting (plan_of rows) (first_above (plan_of rows)))) lacking
 
-  -- the plan, where each table is within its limit
-  pub plan_at-within : ((t : Table) → entry_count (plan_of rows) t ≤ limit_of t) → plan_at rows ≡ Ok (plan_of rows)
-  plan_at-within within = unnamed ∙ ap (fitting (plan_of rows)) (none_above (plan_of rows) within)
+  complete : lacks_name (contributions_of rows) ≡ false → plan_at rows ≡ fitting (plan_of rows) (first_above (plan_of rows))
+  unfolding plan_at
+  complete none = ap (λ b. cond b (Err no_such_name) (fitting (plan_of rows) (first_above (plan_of rows)))) none
+
+  -- the plan, where no name is lacking and each table is within its limit
+  pub plan_at-within : lacks_name (contributions_of rows) ≡ false → ((t : Table) → entry_count (plan_of rows) t ≤ limit_of t) → plan_at rows ≡ Ok (plan_of rows)
+  plan_at-within none within = complete none ∙ ap (fitting (plan_of rows)) (none_above (plan_of rows) within)
 
   -- the first table that is above its limit
-  pub plan_at-exceeded : (t : Table) → IsExceeded rows t → plan_at rows ≡ Err (above_limit t)
-  plan_at-exceeded t first = unnamed ∙ ap (fitting (plan_of rows)) (first_is (plan_of rows) t first)
+  pub plan_at-exceeded : lacks_name (contributions_of rows) ≡ false → (t : Table) → IsExceeded rows t → plan_at rows ≡ Err (above_limit t)
+  plan_at-exceeded none t first = complete none ∙ ap (fitting (plan_of rows)) (first_is (plan_of rows) t first)
+
+  -- An answer other than that a name is lacking says that none is.
+  named_if : (r : Result PlanView PlanRefusal) → plan_at rows ≡ r → (r ≡ Err no_such_name → ⊥) → (b : Bool) → lacks ≡ b → lacks ≡ false
+  named_if r is other true lacking = absurd (other (sym is ∙ plan_at-lacking lacking))
+  named_if r is other false none = none
+
+  -- Where there is a plan, no name is lacking.
+  pub plan_at-complete : (plan : PlanView) → plan_at rows ≡ Ok plan → lacks_name (contributions_of rows) ≡ false
+  plan_at-complete plan is = named_if (Ok plan) is (Ok-Err plan no_such_name) lacks refl
+
+  -- Nor is one where a table is above its limit.
+  pub plan_at-above : (t : Table) → plan_at rows ≡ Err (above_limit t) → lacks_name (contributions_of rows) ≡ false
+  plan_at-above t is = named_if (Err (above_limit t)) is (limit-name t) lacks refl
 
   -- An answer with a plan is the plan of the rows, and each table is within its limit.
   pub plan_at-Ok : (plan : PlanView) → plan_at rows ≡ Ok plan → (plan ≡ plan_of rows) × ((t : Table) → entry_count plan t ≤ limit_of t)
   plan_at-Ok plan is = by (some_or_none (plan_of rows))
     where
+      none : lacks_name (contributions_of rows) ≡ false
+      none = plan_at-complete plan is
+
       by : ((t : Table) → entry_count (plan_of rows) t ≤ limit_of t) ⊎ ((t : Table) × IsFirstAbove (plan_of rows) t) → (plan ≡ plan_of rows) × ((t : Table) → entry_count plan t ≤ limit_of t)
       by (inl within) =
-          let same : plan ≡ plan_of rows = same_Ok plan (plan_of rows) (sym is ∙ plan_at-within within) in
+          let same : plan ≡ plan_of rows = same_Ok plan (plan_of rows) (sym is ∙ plan_at-within none within) in
           (same, subst (λ p. (t : Table) → entry_count p t ≤ limit_of t) (sym same) within)
-      by (inr first) = absurd (Ok-Err plan (above_limit first.0) (sym is ∙ plan_at-exceeded first.0 first.1))
+      by (inr first) = absurd (Ok-Err plan (above_limit first.0) (sym is ∙ plan_at-exceeded none first.0 first.1))
 
   -- An answer without one names the first table that is above its limit.
   pub plan_at-Err : (t : Table) → plan_at rows ≡ Err (above_limit t) → IsExceeded rows t
   plan_at-Err t is = by (some_or_none (plan_of rows))
     where
-      by : ((t : Table) → entry_count (plan_of rows) t ≤ limit_of t) ⊎ ((t : Table) × IsFirstAbove (plan_of rows) t) → IsFirstAbove (plan_of rows) t
-      by (inl within) = absurd (Ok-Err (plan_of rows) (above_limit t) (sym (plan_at-within within) ∙ is))
-      by (inr first) = subst (IsFirstAbove (plan_of rows)) (same_limit first.0 t (sym (plan_at-exceeded first.0 first.1) ∙ is)) first.1
+      none : lacks_name (contributions_of rows) ≡ false
+      none = plan_at-above t is
 
-  -- No row lacks a name yet.
-  pub plan_at-named : plan_at rows ≡ Err no_such_name → ⊥
-  plan_at-named is = by (some_or_none (plan_of rows))
+      by : ((t : Table) → entry_count (plan_of rows) t ≤ limit_of t) ⊎ ((t : Table) × IsFirstAbove (plan_of rows) t) → IsFirstAbove (plan_of rows) t
+      by (inl within) = absurd (Ok-Err (plan_of rows) (above_limit t) (sym (plan_at-within none within) ∙ is))
+      by (inr first) = subst (IsFirstAbove (plan_of rows)) (same_limit first.0 t (sym (plan_at-exceeded none first.0 first.1) ∙ is)) first.1
+
+  -- An answer that a name is lacking tells of one.
+  pub plan_at-named : plan_at rows ≡ Err no_such_name → lacks_name (contributions_of rows) ≡ true
+  plan_at-named is = by lacks refl
     where
-      by : ((t : Table) → entry_count (plan_of rows) t ≤ limit_of t) ⊎ ((t : Table) × IsFirstAbove (plan_of rows) t) → ⊥
-      by (inl within) = Ok-Err (plan_of rows) no_such_name (sym (plan_at-within within) ∙ is)
-      by (inr first) = limit-name first.0 (sym (plan_at-exceeded first.0 first.1) ∙ is)
+      fitted : (o : Option Table) → ◌≡◌ {A = Result PlanView PlanRefusal} (fitting (plan_of rows) o) (Err no_such_name) → ⊥
+      fitted None e = Ok-Err (plan_of rows) no_such_name e
+      fitted (Some t) e = limit-name t e
+
+      by : (b : Bool) → lacks ≡ b → lacks ≡ true
+      by true lacking = lacking
+      by false none = absurd (fitted (first_above (plan_of rows)) (sym (complete none) ∙ is))

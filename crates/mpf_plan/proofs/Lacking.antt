@@ -11,6 +11,7 @@ use Rattle.std.proofs.lemmas.Option.{get_or_from_slice_get, slice_get_read, slic
 use Rattle.std.proofs.lemmas.List.Sums.{fold-append}
 use Rattle.std.proofs.lemmas.Slice.Eq.{bytes_eq-Decides}
 use Rattle.indexmap.specs.IndexSet.{IndexSet}
+use Rattle.mpf_sections.specs.Rows.{SectionRows}
 use Rattle.plan_contributions.specs.declared.collect.Row as rows
 use Rattle.plan_tables.specs.declared.table.Table.{Table}
 use Rattle.plan_contributions.specs.Contributions.{Contribution, row_contributions, given_by}
@@ -111,11 +112,11 @@ module _ {S : Type 0} where
 
 -- ---- a contribution of one row is one of all
 
-pub any_row : (p : Contribution → Bool) (rs : List rows.Row) (i : ℕ) (r : rows.Row) → i < length rs → list_any p (row_contributions (row_view (get_or rs i r))) ≡ true → list_any p (given_by (row_list_view rs)) ≡ true
-any_row p [] i r within is = absurd (omega arith)
-any_row p (x ∷ rs) zero r within is =
-    let here = row_contributions (row_view x) in
-    list_any-append p here (given_by (row_list_view rs)) ∙ or_left (list_any p here) (list_any p (given_by (row_list_view rs))) is
-any_row p (x ∷ rs) (suc i) r within is =
-    let here = row_contributions (row_view x) in
-    list_any-append p here (given_by (row_list_view rs)) ∙ or_right (list_any p here) (list_any p (given_by (row_list_view rs))) (any_row p rs i r (omega arith) is)
+pub any_row : (machine : List SectionRows) (p : Contribution → Bool) (rs : List rows.Row) (i : ℕ) (r : rows.Row) → i < length rs → list_any p (row_contributions machine (row_view (get_or rs i r))) ≡ true → list_any p (given_by machine (row_list_view rs)) ≡ true
+any_row machine p [] i r within is = absurd (omega arith)
+any_row machine p (x ∷ rs) zero r within is =
+    let here = row_contributions machine (row_view x) in
+    list_any-append p here (given_by machine (row_list_view rs)) ∙ or_left (list_any p here) (list_any p (given_by machine (row_list_view rs))) is
+any_row machine p (x ∷ rs) (suc i) r within is =
+    let here = row_contributions machine (row_view x) in
+    list_any-append p here (given_by machine (row_list_view rs)) ∙ or_right (list_any p here) (list_any p (given_by machine (row_list_view rs))) (any_row machine p rs i r (omega arith) is)

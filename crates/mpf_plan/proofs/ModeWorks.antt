@@ -22,22 +22,13 @@ use Rattle.plan_contributions.specs.Contributions.{mode_event_name, contribution
 use Rattle.mpf_plan.specs.Uses.{Names, names_from, number_among}
 use Rattle.mpf_plan.specs.PlanOf.{plan_from}
 use Rattle.mpf_plan.proofs.Drafted.{names-from}
+use Rattle.mpf_plan.proofs.Heard.{rows_are_heard}
+use Rattle.mpf_plan.proofs.Numbers.{at_number}
 use Rattle.plan_contributions.proofs.RowFacts.{rows_are_open, rows_are_placed}
 use Rattle.mpf_plan.proofs.SoundDraft.{has_entries}
 use Rattle.plan_contributions.proofs.ModeNames.{same_which, same_mode}
 use Rattle.mpf_plan.proofs.ModesMade.{made, made-event, modes-made}
 use Rattle.plan_tables.proofs.Worked.{work_found}
-
--- a name stands at its number
-pub at_number : (names : List (List ℕ)) (n : List ℕ) → number_among names n < length names → get_or names (number_among names n) [] ≡ n
-at_number [] n within = absurd (omega arith)
-at_number (x ∷ xs) n within = by (at_number xs n) (bytes_eq n x) refl within
-  where
-    by : (position_or_len (bytes_eq n) xs < length xs → get_or xs (position_or_len (bytes_eq n) xs) [] ≡ n) → (b : Bool) → bytes_eq n x ≡ b → cond (not b) (1 + position_or_len (bytes_eq n) xs) 0 < suc (length xs) → get_or (x ∷ xs) (cond (not b) (1 + position_or_len (bytes_eq n) xs) 0) [] ≡ n
-    by rest true same inside = sym ((bytes_eq-Decides n x).0 same)
-    by rest false other inside =
-        let next : 1 + position_or_len (bytes_eq n) xs ≡ suc (position_or_len (bytes_eq n) xs) = omega arith in
-        ap (λ k. get_or (x ∷ xs) k []) next ∙ rest (omega (arith, inside))
 
 -- ---- an event of a mode has work
 
@@ -117,7 +108,7 @@ module _ (rows : Rows) where
 
     known : (which : ModeEvent) → number_among (names Events) (mode_event_name which row.name) < length (names Events)
     known which =
-        let entries = has_entries (contributions_of rows) (rows_are_open rows) (rows_are_placed rows) in
+        let entries = has_entries (contributions_of rows) (rows_are_open rows) (rows_are_placed rows) (rows_are_heard rows) in
         let at = subst (IsModeWithin (length plan.events)) made_at (All-get_or (IsModeWithin (length plan.events)) plan.modes m.0 no_mode within entries.modes) in
         subst (λ es. number_among (names Events) (mode_event_name which row.name) < length es) (names-from (contributions_of rows) Events) (by which at)
       where

@@ -5,22 +5,26 @@ use Rattle.std.specs.Str.{bytes_eq}
 use Rattle.std.specs.List.{flat_map}
 use Rattle.std.proofs.lemmas.Grind.{flat_map-append}
 use Rattle.std.proofs.lemmas.List.{append-nil, append_assoc, set_at, get_or_push, length_push}
+use Rattle.std.proofs.lemmas.List.Elements.{All-head, All-tail}
 use Rattle.std.proofs.lemmas.List.Sums.{fold-append}
 use Rattle.mpf_sections.specs.Rows.{Entry, Player, Switch, EventPlayer, ModeSettings, Content, entries, players, SectionRows}
 use Rattle.mpf_config.specs.Rows.{ModeRows, Rows}
 use Rattle.mpf_sections.specs.Rows as sections
-use Rattle.mpf_sections.specs.Typed.{switches_name, event_player_name, switch_of, event_player_of, mode_settings}
+use Rattle.mpf_sections.specs.Typed.{switches_name, switch_of, mode_settings}
+use Rattle.mpf_sections.specs.TypedCoils.{coils_name, coil_of}
 use Rattle.plan_contributions.specs.declared.contribution.Place.{Place}
-use Rattle.plan_contributions.specs.declared.contribution.Place.TheVariants.{Machine, Mode}
+use Rattle.plan_contributions.specs.declared.contribution.Place.TheVariants.{Machine, Control, Mode}
 use Rattle.plan_tables.specs.declared.entries.EventId.{EventId}
 use Rattle.plan_tables.specs.declared.entries.ModeEvent.{ModeEvent}
 use Rattle.plan_tables.specs.declared.entries.ModeEvent.TheVariants.{WillStart, Starting, Started, Stopping, Stopped}
 use Rattle.plan_tables.specs.declared.table.Table.TheVariants.{Events}
 use Rattle.plan_tables.specs.PlanView.{PlanMode, no_mode, event_among}
-use Rattle.plan_contributions.specs.Contributions.{Contribution, gives, active, inactive, mode, mode_event, mode_event_name, post, post_in, mentions, texts, active_posts, inactive_posts, switch_contributions, player_contributions, starter, stopper, stopper_where, later_events, controls, mode_contributions, Device, act_binding, posts_from, device_contributions, device_of, where_device, Row, entry, player, of_mode, rows_from, rows_in, mode_rows, rows_of, entry_contributions, player_entry_contributions, row_contributions, given_by, contributions_of}
+use Rattle.plan_contributions.specs.DeviceEntries.{Device, device_of}
+use Rattle.plan_contributions.specs.Contributions.{Contribution, gives, mode, mode_event, mode_event_name, mentions, switch_contributions, coil_contributions, later_events, controls, mode_contributions, act_binding, effects_from, listens_from, device_contributions, where_device, Row, entry, player, of_mode, rows_from, rows_in, mode_rows, rows_of, machine_device, machine_entry_contributions, entry_contributions, player_entry_contributions, row_contributions, given_by, contributions_of}
 use Rattle.mpf_plan.specs.Uses.{Names, names_from, number_among}
 use Rattle.mpf_plan.specs.PlanOf.{DraftView, event_of, new_mode, with_event_in, last_with_event, with_contribution, blank, drafted, plan_from}
 use Rattle.mpf_plan.proofs.Drafted.{given_plan}
+use Rattle.mpf_plan.proofs.Heard.{IsQuiet, AreQuiet, quiet_switch, quiet_player_entry, quiet_device, quiet_controls}
 
 module _ (names : Names) where
   -- the event of this name of a mode
@@ -69,60 +73,51 @@ module _ (names : Names) where
   Leaves cs = (ms : List PlanMode) → fold modes_with ms cs ≡ ms
 
   both : (cs ds : List Contribution) → Leaves cs → Leaves ds → Leaves (cs ++ ds)
-  both cs ds first then_ ms = fold-append modes_with ms cs ds ∙ ap (λ x. fold modes_with x ds) (first ms) ∙ then_ ms
+  both cs ds a b ms = fold-append modes_with ms cs ds ∙ ap (λ x. fold modes_with x ds) (a ms) ∙ b ms
 
-  each : {X : Type 0} (make : X → Contribution) → ((ms : List PlanMode) (x : X) → modes_with ms (make x) ≡ ms) → (xs : List X) → Leaves (map make xs)
-  each make one [] ms = refl
-  each make one (n ∷ ns) ms = ap (λ x. fold modes_with x (map make ns)) (one ms n) ∙ each make one ns ms
+  quiet_leaves : (cs : List Contribution) → AreQuiet cs → Leaves cs
+  quiet_leaves [] quiet ms = refl
+  quiet_leaves (c ∷ cs) quiet ms = ap (λ x. fold modes_with x cs) (by c (All-head IsQuiet c cs quiet)) ∙ quiet_leaves cs (All-tail IsQuiet c cs quiet) ms
+    where
+      by : (c : Contribution) → IsQuiet c → modes_with ms c ≡ ms
+      by (mode n priority game) is = absurd is
+      by (mode_event which n) is = absurd is
+      by _ is = refl
 
-  when : (b : Bool) (cs : List Contribution) → Leaves cs → Leaves (if b then cs else [])
-  when true cs leaves ms = leaves ms
-  when false cs leaves ms = refl
-
-  in_switch : (s : Switch) → Leaves (switch_contributions s)
-  unfolding switch_contributions
-  in_switch s = both (map active (active_posts s)) (map inactive (inactive_posts s)) (each active (λ ms n. refl) (active_posts s)) (each inactive (λ ms n. refl) (inactive_posts s))
-
-  in_player : (place : Place) (p : EventPlayer) → Leaves (player_contributions place p)
-  unfolding player_contributions
-  in_player place p = each post (λ ms n. refl) (texts p.posts)
-
-  in_lists : (k : ℕ) (lists : List (List (List ℕ))) → Leaves (posts_from k lists)
-  in_lists k [] ms = refl
-  in_lists k (es ∷ rest) ms = both (map (post_in k) es) (posts_from (suc k) rest) (each (post_in k) (λ m n. refl) es) (in_lists (suc k) rest) ms
+  in_listens : (k : ℕ) (ns : List (List ℕ)) → Leaves (listens_from k ns)
+  in_listens k [] ms = refl
+  in_listens k (n ∷ ns) ms = in_listens (suc k) ns ms
 
   in_device : (place : Place) (d : Device) → Leaves (device_contributions place d)
   unfolding device_contributions
-  in_device place d =
-      let named = map mentions d.mentioned in
-      let posting = posts_from 0 d.lists in
-      both (map (act_binding place) d.handled) (named ++ posting) (each (act_binding place) (λ ms h. refl) d.handled) (both named posting (each mentions (λ ms n. refl) d.mentioned) (in_lists 0 d.lists))
+  in_device place d ms =
+      let rest = map (act_binding place) d.handled ++ (map mentions d.mentioned ++ effects_from 0 d.lists) in
+      both (listens_from 0 d.listens) rest (in_listens 0 d.listens) (quiet_leaves rest (quiet_device place d)) ms
 
   in_where : (place : Place) (o : Option Device) → Leaves (where_device place o)
   in_where place None ms = refl
   in_where place (Some d) ms = in_device place d ms
 
-  in_entry : (place : Place) (section : List ℕ) (e : Entry) → Leaves (entry_contributions place section e)
-  unfolding entry_contributions
-  in_entry place section e ms = by (bytes_eq section switches_name)
+  in_machine_entry : (machine : List SectionRows) (section : List ℕ) (e : Entry) → Leaves (machine_entry_contributions machine section e)
+  unfolding machine_entry_contributions coil_contributions
+  in_machine_entry machine section e ms = by (bytes_eq section switches_name) (bytes_eq section coils_name)
     where
-      by : (b : Bool) → fold modes_with ms (if b then switch_contributions (switch_of e) else where_device place (device_of section e)) ≡ ms
-      by true = in_switch (switch_of e) ms
-      by false = in_where place (device_of section e) ms
+      by : (b c : Bool) → fold modes_with ms (if c then coil_contributions (coil_of e) else (if b then switch_contributions machine (switch_of e) else where_device Machine (machine_device machine section e))) ≡ ms
+      by b true = refl
+      by true false = quiet_leaves (switch_contributions machine (switch_of e)) (quiet_switch machine (switch_of e)) ms
+      by false false = in_where Machine (machine_device machine section e) ms
 
-  in_player_entry : (place : Place) (section : List ℕ) (p : Player) → Leaves (player_entry_contributions place section p)
-  unfolding player_entry_contributions
-  in_player_entry place section p = when (bytes_eq section event_player_name) (player_contributions place (event_player_of p)) (in_player place (event_player_of p))
+  in_entry : (machine : List SectionRows) (place : Place) (section : List ℕ) (e : Entry) → Leaves (entry_contributions machine place section e)
+  unfolding entry_contributions
+  in_entry machine Machine section e = in_machine_entry machine section e
+  in_entry machine Control section e = in_where Control (device_of section e)
+  in_entry machine Mode section e = in_where Mode (device_of section e)
+
+  in_player_entry : (machine : List SectionRows) (place : Place) (section : List ℕ) (p : Player) → Leaves (player_entry_contributions machine place section p)
+  in_player_entry machine place section p = quiet_leaves (player_entry_contributions machine place section p) (quiet_player_entry machine place section p)
 
   in_controls : (s : ModeSettings) → Leaves (controls s)
-  in_controls s =
-      let starts = map starter (texts s.starts) in
-      let stops = map stopper (texts s.stops) in
-      let ball = stopper_where s.stops_with_ball (codes "ball_ending") in
-      let game = stopper_where s.game (codes "game_ending") in
-      both (starts ++ stops ++ ball) game
-      (both (starts ++ stops) ball (both starts stops (each starter (λ ms n. refl) (texts s.starts)) (each stopper (λ ms n. refl) (texts s.stops))) (when s.stops_with_ball (stopper (codes "ball_ending") ∷ []) (λ ms. refl)))
-      (when s.game (stopper (codes "game_ending") ∷ []) (λ ms. refl))
+  in_controls s = quiet_leaves (controls s) (quiet_controls s)
 
   -- ---- a mode
 
@@ -153,17 +148,17 @@ module _ (names : Names) where
   modes_of (of_mode name s) = made_by name s ∷ []
   modes_of _ = []
 
-  row_adds : (r : Row) (ms : List PlanMode) → fold modes_with ms (row_contributions r) ≡ ms ++ modes_of r
-  row_adds (entry place section e) ms = in_entry place section e ms ∙ sym (append-nil ms)
-  row_adds (player place section p) ms = in_player_entry place section p ms ∙ sym (append-nil ms)
-  row_adds (of_mode name s) ms = mode_adds name s ms
+  row_adds : (machine : List SectionRows) (r : Row) (ms : List PlanMode) → fold modes_with ms (row_contributions machine r) ≡ ms ++ modes_of r
+  row_adds machine (entry place section e) ms = in_entry machine place section e ms ∙ sym (append-nil ms)
+  row_adds machine (player place section p) ms = in_player_entry machine place section p ms ∙ sym (append-nil ms)
+  row_adds machine (of_mode name s) ms = mode_adds name s ms
 
-  rows_add : (rs : List Row) (ms : List PlanMode) → fold modes_with ms (given_by rs) ≡ ms ++ flat_map modes_of rs
-  rows_add [] ms = sym (append-nil ms)
-  rows_add (r ∷ rs) ms =
-      fold-append modes_with ms (row_contributions r) (given_by rs)
-      ∙ ap (λ x. fold modes_with x (given_by rs)) (row_adds r ms)
-      ∙ rows_add rs (ms ++ modes_of r)
+  rows_add : (machine : List SectionRows) (rs : List Row) (ms : List PlanMode) → fold modes_with ms (given_by machine rs) ≡ ms ++ flat_map modes_of rs
+  rows_add machine [] ms = sym (append-nil ms)
+  rows_add machine (r ∷ rs) ms =
+      fold-append modes_with ms (row_contributions machine r) (given_by machine rs)
+      ∙ ap (λ x. fold modes_with x (given_by machine rs)) (row_adds machine r ms)
+      ∙ rows_add machine rs (ms ++ modes_of r)
       ∙ append_assoc ms (modes_of r) (flat_map modes_of rs)
 
   -- the rows of sections have none
@@ -190,7 +185,7 @@ module _ (names : Names) where
   pub modes_drafted : (rows : Rows) → (drafted names (contributions_of rows)).plan.modes ≡ map made rows.modes
   modes_drafted rows =
       modes_fold (contributions_of rows) (blank names)
-      ∙ rows_add (rows_of rows) []
+      ∙ rows_add rows.machine (rows_of rows) []
       ∙ flat_map-append modes_of (rows_in Machine rows.machine) (flat_map mode_rows rows.modes)
       ∙ (λ i. none_in Machine rows.machine i ++ of_modes rows.modes i)
 

@@ -1,8 +1,9 @@
 -- What was numbered and made of rows is their plan, or why there is none.
-use Rattle.std.proofs.Common.{◌≡◌, ◌<◌, ◌≤◌, List, length, sym, ◌∙◌, ap, subst, arith}
+use Rattle.std.proofs.Common.{◌≡◌, ◌<◌, ◌≤◌, false, List, length, sym, ◌∙◌, ap, subst, arith}
 use Rattle.std.specs.Prelude.{Result, Ok, Err}
 use Rattle.std.specs.List.{All}
 use Rattle.std.proofs.lemmas.List.Elements.{All-weaker}
+use Rattle.mpf_sections.specs.Rows.{SectionRows}
 use Rattle.mpf_config.specs.Rows.{Rows}
 use Rattle.mpf_config.specs.Short.{AreListsShort}
 use Rattle.mpf_config.specs.FewModes.{AreFewModes}
@@ -10,6 +11,7 @@ use Rattle.plan_contributions.specs.declared.collect.Row as found
 use Rattle.plan_tables.specs.declared.names.NameSets.{NameSets}
 use Rattle.mpf_plan.specs.declared.draft.Draft.{Draft}
 use Rattle.plan_tables.specs.declared.table.Table.{Table}
+use Rattle.plan_tables.specs.declared.table.Table.TheVariants.{Coils}
 use Rattle.mpf_plan.specs.declared.fault.PlanFault.{PlanFault}
 use Rattle.mpf_plan.specs.declared.fault.PlanFault.TheVariants as faults
 use Rattle.plan_tables.specs.PlanView.{PlanView}
@@ -18,21 +20,22 @@ use Rattle.plan_contributions.specs.Contributions.{Contribution, rows_of, given_
 use Rattle.mpf_plan.specs.Uses.{lacks_name}
 use Rattle.plan_tables.specs.Limits.{entry_count, limit_of, first_above}
 use Rattle.mpf_plan.specs.PlanOf.{drafted, plan_from, plan_of, plan_at, GivesPlan, IsExceeded}
-use Rattle.plan_tables.specs.Inside.{name_sets_view}
+use Rattle.plan_tables.specs.Inside.{name_sets_view, tables_view}
 use Rattle.plan_contributions.specs.View.{row_list_view}
 use Rattle.mpf_plan.specs.Inside.{draft_view}
 use Rattle.mpf_plan.specs.Numbering.{mode_count, Numbered}
 use Rattle.mpf_plan.proofs.Judged.{all_within, is_first, plan_at-lacking, plan_at-within, plan_at-exceeded, plan_at-Err}
 use Rattle.mpf_plan.proofs.ValidPlan.{IsValid-plan_of}
-use Rattle.mpf_plan.proofs.Drafted.{modes-from}
+use Rattle.mpf_plan.proofs.Drafted.{modes-from, coils_count}
+use Rattle.mpf_plan.proofs.Steps.{coils_seen}
 use Rattle.mpf_plan.proofs.ModeWorks.{modes-count}
 
-module _ (rows : Rows) (rs numbered_of : List found.Row) (are : row_list_view rs ≡ rows_of rows) (first : numbered_of ≡ rs) where
+module _ (rows : Rows) (machine : List SectionRows) (text : machine ≡ rows.machine) (rs numbered_of : List found.Row) (are : row_list_view rs ≡ rows_of rows) (first : numbered_of ≡ rs) where
   abbrev cs : List Contribution
-  cs = given_by (row_list_view numbered_of)
+  cs = given_by machine (row_list_view numbered_of)
 
   same : cs ≡ contributions_of rows
-  same = ap given_by (ap row_list_view first ∙ are)
+  same = λ i. given_by (text i) ((ap row_list_view first ∙ are) i)
 
   from_rows : plan_from cs ≡ plan_of rows
   unfolding plan_of
@@ -43,7 +46,7 @@ module _ (rows : Rows) (rs numbered_of : List found.Row) (are : row_list_view rs
   refused : (d : PlanFault) → Numbered cs (Err d) → GivesPlan (Err d) (plan_at rows)
   refused faults.NoMemory why = tt
   refused faults.NoSuchName why = plan_at-lacking rows (ap lacks_name (sym same) ∙ why)
-  refused (faults.Limit t) why = plan_at-exceeded rows t (is_first (plan_of rows) t (ap first_above (sym from_rows) ∙ why.1))
+  refused (faults.Limit t) why = plan_at-exceeded rows (ap lacks_name (sym same) ∙ why.0) t (is_first (plan_of rows) t (ap first_above (sym from_rows) ∙ why.1))
 
   module _ (r : Result PlanView PlanFault) (d : PlanFault) (is : r ≡ Err d) (why : Numbered cs (Err d)) where
     pub refused_exact : GivesPlan r (plan_at rows)
@@ -55,24 +58,38 @@ module _ (rows : Rows) (rs numbered_of : List found.Row) (are : row_list_view rs
   -- ---- a plan
 
   module _ (names : NameSets) (numbered : Numbered cs (Ok names)) where
+    complete : lacks_name (contributions_of rows) ≡ false
+    complete = ap lacks_name (sym same) ∙ numbered.0
+
     pub rows_within : (t : Table) → entry_count (plan_of rows) t ≤ limit_of t
     rows_within = all_within (plan_of rows) (ap first_above (sym from_rows) ∙ numbered.2)
 
     -- made of the same rows
-    module _ (d : Draft) (made_of : List found.Row) (again : made_of ≡ rs) (made : draft_view names d ≡ drafted (name_sets_view names) (given_by (row_list_view made_of))) where
-      pub is_plan : (draft_view names d).plan ≡ plan_of rows
-      is_plan = ap (λ x. x.plan) (made ∙ (λ i. drafted (numbered.1 i) (given_by (row_list_view ((again ∙ sym first) i))))) ∙ from_rows
+    module _ (d : Draft) (made_of : List found.Row) (again : made_of ≡ rs) (made : draft_view names d ≡ drafted (name_sets_view names) (given_by machine (row_list_view made_of))) where
+      abbrev tables : PlanView
+      tables = tables_view (record { names = names; modes = d.modes; switches = d.switches; coils = d.coils; lists = d.lists; bindings = d.bindings; rows = d.rows; row_lists = d.row_lists })
 
-      pub is_planned : plan_at rows ≡ Ok (draft_view names d).plan
-      is_planned = plan_at-within rows rows_within ∙ ap Ok (sym is_plan)
+      count : length d.coils.items ≡ length (name_sets_view names Coils)
+      count = coils_count names d (given_by machine (row_list_view made_of)) made
 
-      pub is_valid : AreListsShort rows → AreFewModes rows.modes → IsValid (draft_view names d).plan
-      is_valid short few = subst IsValid (sym is_plan) (IsValid-plan_of rows short few rows_within)
+      -- each coil has a name
+      seen : tables ≡ (draft_view names d).plan
+      seen = ap (λ coils. record tables { coils = coils }) (sym (coils_seen (name_sets_view names Coils) d.coils.items (omega (arith, count))))
+
+      pub is_plan : tables ≡ plan_of rows
+      is_plan = seen ∙ ap (λ x. x.plan) (made ∙ (λ i. drafted (numbered.1 i) (given_by machine (row_list_view ((again ∙ sym first) i))))) ∙ from_rows
+
+      pub is_planned : plan_at rows ≡ Ok tables
+      is_planned = plan_at-within rows complete rows_within ∙ ap Ok (sym is_plan)
+
+      pub is_valid : AreListsShort rows → AreFewModes rows.modes → IsValid tables
+      is_valid short few = subst IsValid (sym is_plan) (IsValid-plan_of rows short few complete rows_within)
 
 -- rows give as many modes as there are in the texts
-pub modes_few : (rows : Rows) (rs made_of : List found.Row) → row_list_view rs ≡ rows_of rows → made_of ≡ rs → AreFewModes rows.modes → mode_count (given_by (row_list_view made_of)) ≤ 64
-modes_few rows rs made_of are again few =
-    omega (arith, few.few, modes-count rows, modes-from (contributions_of rows), ap (λ r. mode_count (given_by r)) (ap row_list_view again ∙ are))
+pub modes_few : (rows : Rows) (machine : List SectionRows) (rs made_of : List found.Row) → machine ≡ rows.machine → row_list_view rs ≡ rows_of rows → made_of ≡ rs → AreFewModes rows.modes → mode_count (given_by machine (row_list_view made_of)) ≤ 64
+modes_few rows machine rs made_of text are again few =
+    let same : given_by machine (row_list_view made_of) ≡ contributions_of rows = λ i. given_by (text i) ((ap row_list_view again ∙ are) i) in
+    omega (arith, few.few, modes-count rows, modes-from (contributions_of rows), ap mode_count same)
 
 -- each binding is of an event of the plan
 pub events_bound : (plan : PlanView) → IsValid plan → All (λ b. b.event.0 < length plan.events) plan.bindings

@@ -3,14 +3,14 @@ use Rattle.std.proofs.Common.{◌≡◌, ℕ, ◌+◌, ◌-◌, ◌<◌, ◌≤�
 use Rattle.std.specs.Prelude.{Option, None}
 use Rattle.std.specs.List.{All}
 use Rattle.std.proofs.lemmas.Bool.{cases_lt, ltb-true, ltb-false}
-use Rattle.std.proofs.lemmas.List.{length_push, length-set, set_past, get_or_push, get_or_append_left}
+use Rattle.std.proofs.lemmas.List.{length_push, length-map, length-set, set_past, get_or_push, get_or_append_left}
 use Rattle.std.proofs.lemmas.List.Elements.{All-nil, All-push, All-set, All-weaker, All-get_or, All-head, All-tail}
 use Rattle.plan_contributions.specs.declared.contribution.Aim.{Aim}
 use Rattle.plan_contributions.specs.declared.contribution.Aim.TheVariants as aims
 use Rattle.plan_contributions.specs.declared.contribution.Place.{Place}
 use Rattle.plan_contributions.specs.declared.contribution.Place.TheVariants as places
 use Rattle.plan_tables.specs.declared.entries.Action.{Action}
-use Rattle.plan_tables.specs.declared.entries.Action.TheVariants.{Post}
+use Rattle.plan_tables.specs.declared.entries.Action.TheVariants.{Post, Pulse, Enable, Disable}
 use Rattle.plan_tables.specs.declared.entries.EventId.{EventId}
 use Rattle.plan_tables.specs.declared.entries.ModeEvent.{ModeEvent}
 use Rattle.plan_tables.specs.declared.entries.ModeEvent.TheVariants.{WillStart, Starting, Started, Stopping, Stopped}
@@ -19,22 +19,26 @@ use Rattle.plan_tables.specs.declared.entries.Owner.TheVariants.{Machine, Mode}
 use Rattle.plan_tables.specs.declared.entries.Target.{Target}
 use Rattle.plan_tables.specs.declared.entries.Target.TheVariants as targets
 use Rattle.plan_tables.specs.declared.entries.Binding.{Binding}
-use Rattle.plan_tables.specs.declared.table.Table.TheVariants.{Events}
+use Rattle.plan_tables.specs.declared.table.Table.TheVariants.{Events, Coils}
 use Rattle.plan_tables.specs.declared.entries.ListId.{ListId}
+use Rattle.plan_tables.specs.declared.entries.Listener.{Listener}
 use Rattle.plan_tables.specs.declared.devices.DeviceRow.{DeviceRow}
 use Rattle.plan_tables.specs.declared.devices.RowId.{RowId}
 use Rattle.plan_tables.specs.declared.devices.Settings.{Settings}
 use Rattle.plan_tables.specs.Devices.{list_count}
-use Rattle.plan_tables.specs.PlanView.{PlanSwitch, PlanMode, no_mode, no_row, row_at, list_of_row, PlanView}
-use Rattle.plan_tables.specs.Valid.{IsEventWithin, IsModeWithin, IsActionWithin, IsOwnerWithin, IsTargetWithin, IsBindingWithin, IsRowWithin, HasEntries}
-use Rattle.plan_contributions.specs.Contributions.{Contribution, gives, reads, active, inactive, mode, mode_event, mode_event_name, binds, post, device, post_in, mentions}
+use Rattle.plan_tables.specs.PlanView.{PlanSwitch, PlanCoil, PlanMode, no_mode, no_row, row_at, list_of_row, PlanView}
+use Rattle.plan_tables.specs.Valid.{IsEventWithin, IsSwitchWithin, IsListenerWithin, IsModeWithin, IsActionWithin, IsOwnerWithin, IsTargetWithin, IsBindingWithin, IsRowWithin, HasEntries}
+use Rattle.plan_contributions.specs.DeviceEntries.{pulse, enable, disable, Effect, posts, works}
+use Rattle.plan_contributions.specs.UsedNames.{used_by}
+use Rattle.plan_contributions.specs.Contributions.{Contribution, gives, reads, active, inactive, mode, mode_event, mode_event_name, binds, does, device, does_in, listens, mentions, coil}
 use Rattle.mpf_plan.specs.Uses.{Names, names_from, number_among}
-use Rattle.mpf_plan.specs.PlanOf.{DraftView, event_of, new_mode, with_event_in, with_mode, with_mode_event, last_mode, owner_at, target_at, next_binding, lists_for, with_list_for, with_binding, next_row, next_list, with_device, first_of_last, with_one_more, with_contribution, blank, drafted}
-use Rattle.mpf_plan.proofs.Among.{IsKnown, all_known}
-use Rattle.mpf_plan.proofs.Drafted.{given_plan, modes_one, lists_begun}
+use Rattle.mpf_plan.specs.PlanOf.{DraftView, event_of, action_of, new_mode, with_event_in, with_mode, with_mode_event, last_mode, owner_at, target_at, next_binding, lists_for, with_list_for, with_binding, next_row, next_list, with_device, first_of_last, with_one_more, with_contribution, blank, drafted}
+use Rattle.mpf_plan.proofs.Among.{IsAmong, IsKnown, all_known}
+use Rattle.mpf_plan.proofs.Drafted.{given_plan, names-from, modes_one, lists_begun}
+use Rattle.mpf_plan.proofs.Heard.{IsHeard, AreHeard}
 use Rattle.plan_contributions.specs.Facts.{row_after, IsPlacedAim, IsPlaced, ArePlaced, IsOpenPlace, IsOpenAim, IsOpen, modes_after, AreOpened}
-use Rattle.mpf_plan.proofs.Owned.{IsOwn, own_one, own_blank}
-use Rattle.mpf_plan.proofs.Posted.{IsPost, PostMeets, PostsMeet, meet_drafted}
+use Rattle.mpf_plan.proofs.Owned.{IsOwn, IsOwnListener, IsOwnSwitch, own_one, own_blank, own_fold}
+use Rattle.mpf_plan.proofs.Done.{IsPosting, IsMet, Meets, meet_drafted}
 
 -- ---- a plan with more lists, modes and rows
 
@@ -129,9 +133,9 @@ module _ (names : Names) (d : DraftView) (sound : IsSound names d.plan) where
   event_within n known = subst (λ es. number_among (names Events) n < length es) (sym sound.events) known
 
   -- the bindings and rows stay, where there are no fewer entries
-  same_sound : (switches : List PlanSwitch) (lists : List (List Action)) → length d.plan.lists ≤ length lists → IsSound names (record d.plan { switches = switches; lists = lists })
-  same_sound switches lists more =
-      let new : PlanView = record d.plan { switches = switches; lists = lists } in
+  same_sound : (switches : List PlanSwitch) (coils : List PlanCoil) (lists : List (List Action)) → length d.plan.lists ≤ length lists → IsSound names (record d.plan { switches = switches; coils = coils; lists = lists })
+  same_sound switches coils lists more =
+      let new : PlanView = record d.plan { switches = switches; coils = coils; lists = lists } in
       let grows : Grows d.plan new = record { events = refl; modes = omega arith; lists = more; rows = omega arith } in
       record {
         events = sound.events;
@@ -216,7 +220,7 @@ module _ (names : Names) (d : DraftView) (sound : IsSound names d.plan) where
 
     -- an action more in a list
     action_sound : (at : ℕ) (a : Action) → IsSound names (record d.plan { lists = with_one_more at a d.plan.lists })
-    action_sound at a = same_sound d.plan.switches (with_one_more at a d.plan.lists) (omega (arith, length-set d.plan.lists at (get_or d.plan.lists at [] ++ a ∷ [])))
+    action_sound at a = same_sound d.plan.switches d.plan.coils (with_one_more at a d.plan.lists) (omega (arith, length-set d.plan.lists at (get_or d.plan.lists at [] ++ a ∷ [])))
 
     has_row : (o : Option Place) → IsOwn o d.plan → (place : Place) (aim : Aim) → IsPlacedAim o place aim → HasRow (length d.plan.rows) aim
     has_row o own place (aims.Do act) is = (own.last place is).0
@@ -226,19 +230,21 @@ module _ (names : Names) (d : DraftView) (sound : IsSound names d.plan) where
 
     sound_one : (c : Contribution) (o : Option Place) → IsOwn o d.plan → IsPlaced o c → IsOpen n c → IsKnown names c → IsSound names (with_contribution names d c).plan
     sound_one (gives t x) o own placed opened known = subst (IsSound names) (sym (given_plan t (number_among (names t) x) d)) sound
-    sound_one (reads kind) o own placed opened known = same_sound (with_contribution names d (reads kind)).plan.switches d.plan.lists (omega arith)
-    sound_one (active x) o own placed opened known = same_sound (with_contribution names d (active x)).plan.switches d.plan.lists (omega arith)
-    sound_one (inactive x) o own placed opened known = same_sound (with_contribution names d (inactive x)).plan.switches d.plan.lists (omega arith)
+    sound_one (reads kind) o own placed opened known = same_sound (with_contribution names d (reads kind)).plan.switches d.plan.coils d.plan.lists (omega arith)
+    sound_one (active x) o own placed opened known = same_sound (with_contribution names d (active x)).plan.switches d.plan.coils d.plan.lists (omega arith)
+    sound_one (inactive x) o own placed opened known = same_sound (with_contribution names d (inactive x)).plan.switches d.plan.coils d.plan.lists (omega arith)
     sound_one (mode x priority game) o own placed opened known =
         let here = event_within (mode_event_name WillStart x) known in
         let some : 0 < length d.plan.events = omega (arith, here) in
         mode_added (new_mode x priority game (event_of (names Events) (mode_event_name WillStart x))) (record { will_start = here; starting = some; started = some; stopping = some; stopped = some })
     sound_one (mode_event which x) o own placed opened known = mode_changed which (event_of (names Events) (mode_event_name which x)) (event_within (mode_event_name which x) known)
     sound_one (binds x place aim) o own placed opened known = binding_sound (event_of (names Events) x) place aim (event_within x known) opened.0 opened.1 (has_row o own place aim placed)
-    sound_one (post x) o own placed opened known = action_sound (length d.plan.lists - 1) (Post (event_of (names Events) x))
+    sound_one (does e) o own placed opened known = action_sound (length d.plan.lists - 1) (action_of names e)
     sound_one (device place settings) o own placed opened known = device_sound place settings opened
-    sound_one (post_in k x) o own placed opened known = action_sound ((first_of_last d.plan.row_lists).0 + k) (Post (event_of (names Events) x))
+    sound_one (does_in k e) o own placed opened known = action_sound ((first_of_last d.plan.row_lists).0 + k) (action_of names e)
+    sound_one (listens k x) o own placed opened known = same_sound (with_contribution names d (listens k x)).plan.switches d.plan.coils d.plan.lists (omega arith)
     sound_one (mentions x) o own placed opened known = sound
+    sound_one (coil x limits) o own placed opened known = same_sound d.plan.switches (with_contribution names d (coil x limits)).plan.coils d.plan.lists (omega arith)
 
 -- ---- all contributions
 
@@ -250,11 +256,11 @@ module _ (names : Names) where
   more_modes n d (mode_event which x) few = omega (arith, few, modes_one names d (mode_event which x))
   more_modes n d _ few = few
 
-  sound_fold : (cs : List Contribution) (n : ℕ) (o : Option Place) (d : DraftView) → n ≤ length d.plan.modes → AreOpened n cs → ArePlaced o cs → All (IsKnown names) cs → IsOwn o d.plan → IsSound names d.plan
+  sound_fold : (cs : List Contribution) (n : ℕ) (o : Option Place) (d : DraftView) → n ≤ length d.plan.modes → AreOpened n cs → ArePlaced o cs → AreHeard o cs → All (IsKnown names) cs → IsOwn o d.plan → IsSound names d.plan
       → IsSound names (fold (with_contribution names) d cs).plan
-  sound_fold [] n o d few opened placed known own sound = sound
-  sound_fold (c ∷ cs) n o d few opened placed known own sound =
-      sound_fold cs (modes_after n c) (row_after o c) (with_contribution names d c) (more_modes n d c few) opened.1 placed.1 (All-tail (IsKnown names) c cs known) (own_one names d o own c placed.0)
+  sound_fold [] n o d few opened placed heard known own sound = sound
+  sound_fold (c ∷ cs) n o d few opened placed heard known own sound =
+      sound_fold cs (modes_after n c) (row_after o c) (with_contribution names d c) (more_modes n d c few) opened.1 placed.1 heard.1 (All-tail (IsKnown names) c cs known) (own_one names d o own c placed.0 heard.0)
       (sound_one names d sound n few c o own placed.0 opened.0 (All-head (IsKnown names) c cs known))
 
   sound_blank : IsSound names (blank names).plan
@@ -266,32 +272,51 @@ module _ (names : Names) where
     row_lists = refl;
   }
 
-  -- an event that is posted is one of the names
-  posts_known : (c : Contribution) → IsKnown names c → PostMeets (IsEventWithin (length (names Events))) names c
-  posts_known (active x) known = known
-  posts_known (inactive x) known = known
-  posts_known (post x) known = known
-  posts_known (post_in k x) known = known
-  posts_known _ known = tt
+  -- an event that is posted is one of the names, and so is a coil with which something is done
+  abbrev IsNumbered : Action → Type 0
+  IsNumbered (Post e) = e.0 < length (names Events)
+  IsNumbered (Pulse c ms power) = c.0 < length (names Coils)
+  IsNumbered (Enable c power) = c.0 < length (names Coils)
+  IsNumbered (Disable c) = c.0 < length (names Coils)
+
+  effect_known : (e : Effect) → IsAmong names (used_by e) → IsNumbered (action_of names e)
+  effect_known (posts x) known = known
+  effect_known (works x (pulse ms power)) known = known
+  effect_known (works x (enable power)) known = known
+  effect_known (works x disable) known = known
+
+  done_known : (c : Contribution) → IsKnown names c → IsMet (IsEventWithin (length (names Events))) IsNumbered names c
+  done_known (active x) known = known
+  done_known (inactive x) known = known
+  done_known (does e) known = effect_known e known
+  done_known (does_in k e) known = effect_known e known
+  done_known _ known = tt
+
+  action_within : (plan : PlanView) → length plan.events ≡ length (names Events) → length plan.coils ≡ length (names Coils) → (a : Action) → IsNumbered a → IsActionWithin plan a
+  action_within plan events coils (Post e) within = omega (arith, within, events)
+  action_within plan events coils (Pulse c ms power) within = omega (arith, within, coils)
+  action_within plan events coils (Enable c power) within = omega (arith, within, coils)
+  action_within plan events coils (Disable c) within = omega (arith, within, coils)
 
 -- what contributions make is sound, where a mode came before what is of one, and a row before what acts on it
-pub sound_drafted : (cs : List Contribution) → AreOpened 0 cs → ArePlaced None cs → IsSound (names_from cs) (drafted (names_from cs) cs).plan
-sound_drafted cs opened placed = sound_fold (names_from cs) cs 0 None (blank (names_from cs)) (omega arith) opened placed (all_known cs) (own_blank (names_from cs)) (sound_blank (names_from cs))
+pub sound_drafted : (cs : List Contribution) → AreOpened 0 cs → ArePlaced None cs → AreHeard None cs → IsSound (names_from cs) (drafted (names_from cs) cs).plan
+sound_drafted cs opened placed heard = sound_fold (names_from cs) cs 0 None (blank (names_from cs)) (omega arith) opened placed heard (all_known cs) (own_blank (names_from cs)) (sound_blank (names_from cs))
 
-pub has_entries : (cs : List Contribution) → AreOpened 0 cs → ArePlaced None cs → HasEntries (drafted (names_from cs) cs).plan
-has_entries cs opened placed =
+pub has_entries : (cs : List Contribution) → AreOpened 0 cs → ArePlaced None cs → AreHeard None cs → HasEntries (drafted (names_from cs) cs).plan
+has_entries cs opened placed heard =
     let names = names_from cs in
     let plan = (drafted names cs).plan in
-    let sound = sound_drafted cs opened placed in
-    let posts = meet_drafted (IsEventWithin (length (names Events))) names cs (All-weaker (IsKnown names) (PostMeets (IsEventWithin (length (names Events))) names) (posts_known names) cs (all_known cs)) in
-    let meet = subst (λ es. PostsMeet (IsEventWithin (length es)) plan) (sym sound.events) posts in
+    let sound = sound_drafted cs opened placed heard in
+    let posted : EventId → Type 0 = IsEventWithin (length (names Events)) in
+    let meet = meet_drafted posted (IsNumbered names) names cs (All-weaker (IsKnown names) (IsMet posted (IsNumbered names) names) (done_known names) cs (all_known cs)) in
+    let events = ap length sound.events in
+    let coils = sym (length-map plan.coils (λ (c : PlanCoil). c.name)) ∙ ap length (names-from cs Coils) in
+    let own = own_fold names cs None (blank names) placed heard (own_blank names) in
     record {
       modes = sound.modes;
-      switches = meet.switches;
-      lists = All-weaker (All (IsPost (IsEventWithin (length plan.events)))) (All (IsActionWithin plan)) (λ actions. All-weaker (IsPost (IsEventWithin (length plan.events))) (IsActionWithin plan) (action_within plan) actions) plan.lists meet.lists;
+      switches = subst (λ n. All (IsSwitchWithin n) plan.switches) (sym events) meet.switches;
+      listeners = All-weaker (IsOwnSwitch plan.rows) (λ s. All (IsListenerWithin (length plan.rows)) s.listeners) (λ s. All-weaker (IsOwnListener plan.rows) (IsListenerWithin (length plan.rows)) (λ l is. is.0) s.listeners) plan.switches own.1;
+      lists = All-weaker (All (IsNumbered names)) (All (IsActionWithin plan)) (All-weaker (IsNumbered names) (IsActionWithin plan) (action_within names plan events coils)) plan.lists meet.lists;
       bindings = sound.bindings;
       rows = sound.rows;
     }
-  where
-    action_within : (plan : PlanView) (a : Action) → IsPost (IsEventWithin (length plan.events)) a → IsActionWithin plan a
-    action_within plan (Post e) within = within

@@ -1,20 +1,31 @@
 -- Items changed in their places, as they are seen; and switches of which the names alone are known.
-use Rattle.std.proofs.Common.{◌≡◌, ℕ, zero, suc, ◌-◌, ◌<◌, ◌≤◌, List, [], ◌∷◌, ◌++◌, Bool, false, length, map, set, get_or, Vec, Global, refl, sym, ◌∙◌, ap, arith}
+use Rattle.std.proofs.Common.{◌≡◌, ℕ, zero, suc, ◌-◌, ◌<◌, ◌≤◌, List, [], ◌∷◌, ◌++◌, ◌⊎◌, inl, inr, Bool, false, length, map, set, get_or, Vec, Global, refl, sym, ◌∙◌, ap, subst, arith}
 use Rattle.std.specs.List.{All}
 use Rattle.std.proofs.lemmas.List.{set_past, map-set, get_or-map, length-map}
-use Rattle.std.proofs.lemmas.List.Elements.{All-head, All-tail}
+use Rattle.std.proofs.lemmas.List.Elements.{All-head, All-tail, All-set, All-get_or}
+use Rattle.std.proofs.lemmas.Bool.{cases_lt}
 use Rattle.plan_tables.specs.declared.entries.Action.{Action}
 use Rattle.plan_tables.specs.declared.entries.SwitchEntry.{SwitchEntry}
+use Rattle.plan_tables.specs.declared.entries.CoilLimits.{CoilLimits}
 use Rattle.plan_tables.specs.declared.entries.ModeEntry.{ModeEntry}
-use Rattle.plan_tables.specs.PlanView.{PlanSwitch, no_switch, PlanMode, no_mode}
-use Rattle.mpf_plan.specs.PlanOf.{with_one_more, last_with, named_switch}
-use Rattle.plan_tables.specs.Inside.{mode_entry_view, switch_entry_view, switches_view, action_lists}
+use Rattle.plan_tables.specs.PlanView.{PlanSwitch, no_switch, PlanCoil, no_coil, PlanMode, no_mode}
+use Rattle.mpf_plan.specs.PlanOf.{with_one_more, last_with, limited_to, named_switch, named_coil}
+use Rattle.mpf_plan.specs.Inside.{limited_coils}
+use Rattle.plan_tables.specs.Inside.{mode_entry_view, switch_entry_view, switches_view, coils_view, action_lists}
 
 -- an item changed in its place, as it is seen
 shown_at : {X Y : Type 0} (shown : X → Y) (f : Y → Y) (xs : List X) (i : ℕ) (old new : X) (d : Y) → i < length xs → old ≡ get_or xs i old → shown new ≡ f (shown old)
     → map shown (set xs i new) ≡ set (map shown xs) i (f (get_or (map shown xs) i d))
 shown_at shown f xs i old new d within is changed =
     map-set shown xs i new ∙ ap (set (map shown xs) i) (changed ∙ ap f (ap shown is ∙ sym (get_or-map shown xs i old d within)))
+
+-- what holds of each item holds after one of them is changed
+pub All-changed : {X : Type 0} (P : X → Type 0) (f : X → X) (xs : List X) (i : ℕ) (d : X) → ((x : X) → P x → P (f x)) → All P xs → All P (set xs i (f (get_or xs i d)))
+All-changed {X} P f xs i d keeps all = by (cases_lt i (length xs))
+  where
+    by : (i < length xs) ⊎ (length xs ≤ i) → All P (set xs i (f (get_or xs i d)))
+    by (inl inside) = All-set P xs i (f (get_or xs i d)) (keeps (get_or xs i d) (All-get_or P xs i d inside all)) all
+    by (inr past) = subst (All P) (sym (set_past xs i (f (get_or xs i d)) past)) all
 
 -- an action pushed to the list of this number
 pub action_pushed_at : (lists : List (Vec Action Global)) (n : ℕ) (old new : Vec Action Global) (a : Action) → n < length lists → old ≡ get_or lists n old → new.items ≡ old.items ++ a ∷ []
@@ -69,6 +80,7 @@ switch_unchanged change names entries i past =
 -- an entry of which nothing is known
 pub record IsBlank (e : SwitchEntry) : Type 0 where
   pub kind : e.kind ≡ no_switch.kind
+  pub listeners : e.listeners.items ≡ []
   pub active : e.active.items ≡ []
   pub inactive : e.inactive.items ≡ []
 
@@ -77,7 +89,44 @@ blank_entries [] entries count all = refl
 blank_entries (n ∷ ns) [] count all = absurd (omega (arith, count))
 blank_entries (n ∷ ns) (e ∷ es) count all =
     let first = All-head IsBlank e es all in
-    λ i. record { name = n; kind = first.kind i; active = first.active i; inactive = first.inactive i } ∷ blank_entries ns es (omega (arith, count)) (All-tail IsBlank e es all) i
+    λ i. record { name = n; kind = first.kind i; listeners = first.listeners i; active = first.active i; inactive = first.inactive i } ∷ blank_entries ns es (omega (arith, count)) (All-tail IsBlank e es all) i
+
+-- ---- coils
+
+-- the limits of one of them changed
+pub coil_changed : (limits : CoilLimits) (names : List (List ℕ)) (ls : List CoilLimits) (i : ℕ)
+    → limited_coils names (set ls i limits) ≡ set (limited_coils names ls) i (limited_to limits (get_or (limited_coils names ls) i no_coil))
+coil_changed limits names [] i = refl
+coil_changed limits [] (l ∷ ls) zero = refl
+coil_changed limits [] (l ∷ ls) (suc i) = ap (λ cs. record { name = []; limits = l } ∷ cs) (coil_changed limits [] ls i)
+coil_changed limits (n ∷ ns) (l ∷ ls) zero = refl
+coil_changed limits (n ∷ ns) (l ∷ ls) (suc i) = ap (λ cs. record { name = n; limits = l } ∷ cs) (coil_changed limits ns ls i)
+
+-- there is a coil for each
+pub length-limited : (names : List (List ℕ)) (ls : List CoilLimits) → length (limited_coils names ls) ≡ length ls
+length-limited names [] = refl
+length-limited [] (l ∷ ls) = ap suc (length-limited [] ls)
+length-limited (n ∷ ns) (l ∷ ls) = ap suc (length-limited ns ls)
+
+-- past the last nothing is changed
+pub coil_unchanged : (limits : CoilLimits) (names : List (List ℕ)) (ls : List CoilLimits) (i : ℕ) → length ls ≤ i
+    → limited_coils names ls ≡ set (limited_coils names ls) i (limited_to limits (get_or (limited_coils names ls) i no_coil))
+coil_unchanged limits names ls i past = sym (set_past (limited_coils names ls) i (limited_to limits (get_or (limited_coils names ls) i no_coil)) (omega (arith, past, length-limited names ls)))
+
+-- where there is a name for each, they are the coils of a plan
+pub coils_seen : (names : List (List ℕ)) (ls : List CoilLimits) → length ls ≤ length names → limited_coils names ls ≡ coils_view names ls
+coils_seen [] [] few = refl
+coils_seen [] (l ∷ ls) few = absurd (omega arith)
+coils_seen (n ∷ ns) [] few = refl
+coils_seen (n ∷ ns) (l ∷ ls) few = ap (λ cs. record { name = n; limits = l } ∷ cs) (coils_seen ns ls (omega arith))
+
+pub blank_limits : (names : List (List ℕ)) (ls : List CoilLimits) → length ls ≡ length names → All (λ l. l ≡ no_coil.limits) ls → limited_coils names ls ≡ map named_coil names
+blank_limits [] [] count all = refl
+blank_limits [] (l ∷ ls) count all = absurd (omega (arith, count))
+blank_limits (n ∷ ns) [] count all = absurd (omega (arith, count))
+blank_limits (n ∷ ns) (l ∷ ls) count all =
+    let first = All-head (λ x. x ≡ no_coil.limits) l ls all in
+    λ i. record { name = n; limits = first i } ∷ blank_limits ns ls (omega (arith, count)) (All-tail (λ x. x ≡ no_coil.limits) l ls all) i
 
 -- as many marks as names
 pub blank_marks : (names : List (List ℕ)) (marks : List Bool) → length marks ≡ length names → All (λ m. m ≡ false) marks → marks ≡ map (λ n. false) names

@@ -4,6 +4,7 @@ use Rattle.std.specs.List.{sum_by}
 use Rattle.std.proofs.lemmas.Grind.{flat_map-append}
 use Rattle.std.proofs.lemmas.List.{take_more, map-append, append-nil}
 use Rattle.std.proofs.lemmas.List.Sums.{fold-append, sum_by-append}
+use Rattle.mpf_sections.specs.Rows.{SectionRows}
 use Rattle.plan_contributions.specs.declared.collect.Row as rows
 use Rattle.plan_contributions.specs.declared.contribution.Contribution as contributions
 use Rattle.plan_contributions.specs.Contributions.{Contribution, row_contributions, given_by}
@@ -24,31 +25,31 @@ module _ (cs : List contributions.Contribution) (i : ℕ) (d : contributions.Con
 -- ---- rows
 
 -- what the first rows give
-pub rows_more : (rs : List rows.Row) (i : ℕ) (d : rows.Row) → i < length rs
-    → given_by (row_list_view (take (i + 1) rs)) ≡ given_by (row_list_view (take i rs)) ++ row_contributions (row_view (get_or rs i d))
-rows_more rs i d within =
-    ap (λ l. given_by (row_list_view l)) (take_more rs i d within)
-    ∙ ap given_by (map-append row_view (take i rs) (get_or rs i d ∷ []))
-    ∙ flat_map-append row_contributions (row_list_view (take i rs)) (row_view (get_or rs i d) ∷ [])
-    ∙ ap (λ l. given_by (row_list_view (take i rs)) ++ l) (append-nil (row_contributions (row_view (get_or rs i d))))
+pub rows_more : (machine : List SectionRows) (rs : List rows.Row) (i : ℕ) (d : rows.Row) → i < length rs
+    → given_by machine (row_list_view (take (i + 1) rs)) ≡ given_by machine (row_list_view (take i rs)) ++ row_contributions machine (row_view (get_or rs i d))
+rows_more machine rs i d within =
+    ap (λ l. given_by machine (row_list_view l)) (take_more rs i d within)
+    ∙ ap (given_by machine) (map-append row_view (take i rs) (get_or rs i d ∷ []))
+    ∙ flat_map-append (row_contributions machine) (row_list_view (take i rs)) (row_view (get_or rs i d) ∷ [])
+    ∙ ap (λ l. given_by machine (row_list_view (take i rs)) ++ l) (append-nil (row_contributions machine (row_view (get_or rs i d))))
 
 -- what the first rows and the next give together is no more than what all give
-module _ (f : Contribution → ℕ) where
+module _ (machine : List SectionRows) (f : Contribution → ℕ) where
   part_sum : (rs : List rows.Row) (i : ℕ) (d : rows.Row) → i < length rs
-      → sum_by f (given_by (row_list_view (take i rs))) + sum_by f (row_contributions (row_view (get_or rs i d))) ≤ sum_by f (given_by (row_list_view rs))
+      → sum_by f (given_by machine (row_list_view (take i rs))) + sum_by f (row_contributions machine (row_view (get_or rs i d))) ≤ sum_by f (given_by machine (row_list_view rs))
   part_sum [] i d within = absurd (omega arith)
-  part_sum (r ∷ rs) zero d within = omega (arith, sum_by-append f (row_contributions (row_view r)) (given_by (row_list_view rs)))
+  part_sum (r ∷ rs) zero d within = omega (arith, sum_by-append f (row_contributions machine (row_view r)) (given_by machine (row_list_view rs)))
   part_sum (r ∷ rs) (suc i) d within =
-      let here = row_contributions (row_view r) in
-      omega (arith, sum_by-append f here (given_by (row_list_view rs)), sum_by-append f here (given_by (row_list_view (take i rs))), part_sum rs i d (omega arith))
+      let here = row_contributions machine (row_view r) in
+      omega (arith, sum_by-append f here (given_by machine (row_list_view rs)), sum_by-append f here (given_by machine (row_list_view (take i rs))), part_sum rs i d (omega arith))
 
-module _ (rs : List rows.Row) (i : ℕ) (d : rows.Row) (within : i < length rs) where
+module _ (machine : List SectionRows) (rs : List rows.Row) (i : ℕ) (d : rows.Row) (within : i < length rs) where
   -- so it is with bindings, with rows of devices, and with modes
-  pub part_count : binding_count (given_by (row_list_view (take i rs))) + binding_count (row_contributions (row_view (get_or rs i d))) ≤ binding_count (given_by (row_list_view rs))
-  part_count = part_sum bindings_given rs i d within
+  pub part_count : binding_count (given_by machine (row_list_view (take i rs))) + binding_count (row_contributions machine (row_view (get_or rs i d))) ≤ binding_count (given_by machine (row_list_view rs))
+  part_count = part_sum machine bindings_given rs i d within
 
-  pub part_rows : row_count (given_by (row_list_view (take i rs))) + row_count (row_contributions (row_view (get_or rs i d))) ≤ row_count (given_by (row_list_view rs))
-  part_rows = part_sum rows_given rs i d within
+  pub part_rows : row_count (given_by machine (row_list_view (take i rs))) + row_count (row_contributions machine (row_view (get_or rs i d))) ≤ row_count (given_by machine (row_list_view rs))
+  part_rows = part_sum machine rows_given rs i d within
 
-  pub part_modes : mode_count (given_by (row_list_view (take i rs))) + mode_count (row_contributions (row_view (get_or rs i d))) ≤ mode_count (given_by (row_list_view rs))
-  part_modes = part_sum modes_given rs i d within
+  pub part_modes : mode_count (given_by machine (row_list_view (take i rs))) + mode_count (row_contributions machine (row_view (get_or rs i d))) ≤ mode_count (given_by machine (row_list_view rs))
+  part_modes = part_sum machine modes_given rs i d within

@@ -1,85 +1,46 @@
 -- The plan of rows is valid where its tables are within their limits.
-use Rattle.std.proofs.Common.{◌≡◌, ◌≢◌, ℕ, zero, suc, ◌+◌, ◌-◌, ◌<◌, ◌≤◌, ◌==◌, ◌⊎◌, inl, inr, if◌then◌else◌, Bool, true, false, cond, not, List, [], ◌∷◌, ◌++◌, length, filter, fold, set, get_or, replicate, slice_index_or, refl, sym, ◌∙◌, ap, subst, true≢false, arith}
-use Rattle.std.specs.Prelude.{Ok, None}
+use Rattle.std.proofs.Common.{◌≡◌, ◌≢◌, ℕ, zero, suc, ◌+◌, ◌-◌, ◌<◌, ◌≤◌, ◌==◌, ◌⊎◌, inl, inr, if◌then◌else◌, Bool, true, false, List, [], ◌∷◌, ◌++◌, length, Option, None, Some, fold, set, get_or, replicate, slice_index_or, refl, sym, ◌∙◌, ap, subst, arith}
+use Rattle.std.specs.Prelude.{Ok}
 use Rattle.std.specs.Str.{bytes_eq}
-use Rattle.std.specs.List.{All, AllPairs}
+use Rattle.std.specs.List.{All, AllPairs, flat_map}
 use Rattle.std.proofs.lemmas.Bool.{cases_lt, eqb-true, eqb-false}
 use Rattle.std.proofs.lemmas.List.{length_push, length-set, get_or-set_same, get_or-set_other, get_or_push, get_or_past, set_past}
-use Rattle.std.proofs.lemmas.List.Elements.{All-nil, All-cons, All-head, All-tail, All-push, All-append, All-replicate, All-get_or, All-set, All-weaker, All-filter, filter_passes}
-use Rattle.std.proofs.lemmas.Slice.Eq.{bytes_eq-Decides}
+use Rattle.std.proofs.lemmas.List.Elements.{All-nil, All-cons, All-head, All-tail, All-push, All-append, All-replicate, All-get_or, All-set, All-weaker, All-from_get_or}
 use Rattle.mpf_config.specs.Rows.{Rows}
 use Rattle.mpf_config.specs.Short.{AreListsShort}
 use Rattle.mpf_config.specs.FewModes.{AreFewModes}
 use Rattle.plan_contributions.specs.declared.contribution.Aim.TheVariants.{Run, Start, Stop, Do}
 use Rattle.plan_tables.specs.declared.entries.Action.{Action}
-use Rattle.plan_tables.specs.declared.entries.Action.TheVariants.{Post}
+use Rattle.plan_tables.specs.declared.entries.CoilId.{CoilId}
+use Rattle.plan_tables.specs.declared.entries.CoilLimits.{CoilLimits}
 use Rattle.plan_tables.specs.declared.entries.ListId.{ListId}
+use Rattle.plan_tables.specs.declared.entries.Owner.TheVariants as owners
 use Rattle.plan_tables.specs.declared.entries.Target.TheVariants as targets
 use Rattle.plan_tables.specs.declared.devices.Act.{Act}
 use Rattle.plan_tables.specs.declared.devices.DeviceRow.{DeviceRow}
 use Rattle.plan_tables.specs.declared.devices.RowId.{RowId}
 use Rattle.plan_tables.specs.declared.table.Table.{Table}
-use Rattle.plan_tables.specs.declared.table.Table.TheVariants.{Events, Bindings, Switches}
+use Rattle.plan_tables.specs.declared.table.Table.TheVariants.{Events, Bindings, Switches, Coils}
 use Rattle.plan_tables.specs.declared.table.Table.TheVariants as tables
-use Rattle.plan_tables.specs.PlanView.{PlanView, row_at}
+use Rattle.plan_tables.specs.PlanView.{PlanCoil, no_coil, PlanView, coil_at, row_at}
 use Rattle.plan_tables.specs.Devices.{IsWithinLimits, list_count}
-use Rattle.plan_tables.specs.Valid.{IsValid, HasEntries}
-use Rattle.plan_contributions.specs.Contributions.{Contribution, gives, reads, active, inactive, mode, mode_event, binds, post, device, post_in, mentions, contributions_of}
-use Rattle.mpf_plan.specs.Uses.{Names, names_from, number_among, first_by}
-use Rattle.plan_contributions.specs.UsedNames.{uses}
+use Rattle.plan_tables.specs.Valid.{IsCoilWithin, IsValid, HasEntries}
+use Rattle.plan_contributions.specs.Contributions.{Contribution, gives, reads, active, inactive, mode, mode_event, binds, does, device, does_in, listens, mentions, coil, contributions_of}
+use Rattle.mpf_plan.specs.Uses.{Names, names_from, number_among, lacks_name}
+use Rattle.mpf_plan.specs.ByName.{latest_limits, AreLimitsByName, ListenersAreOwn}
 use Rattle.plan_tables.specs.Limits.{entry_count, limit_of}
-use Rattle.mpf_plan.specs.PlanOf.{DraftView, event_of, first_of_last, next_row, next_list, with_one_more, with_contribution, blank, plan_from, plan_of, plan_at}
+use Rattle.mpf_plan.specs.PlanOf.{DraftView, action_of, first_of_last, next_row, next_list, with_one_more, with_contribution, blank, plan_from, plan_of, plan_at}
 use Rattle.mpf_plan.proofs.Counts.{named_of}
 use Rattle.mpf_plan.proofs.Drafted.{given_plan, names-from, count-bindings, count-rows, count-row_lists, count-lists}
-use Rattle.mpf_plan.proofs.Judged.{plan_at-Ok}
-use Rattle.plan_contributions.specs.Facts.{AreShort, IsRoomy, posts_after, posts_in_after, full, IsLimited}
+use Rattle.mpf_plan.proofs.Judged.{plan_at-Ok, plan_at-complete}
+use Rattle.plan_contributions.specs.Facts.{AreShort, IsRoomy, effects_after, effects_in_after, full, AreLimits, IsLimited, given_coil}
 use Rattle.plan_contributions.proofs.RowFacts.{rows_are_short, rows_are_open, rows_are_limited, rows_are_placed}
-use Rattle.mpf_plan.proofs.Owned.{IsOwnTarget, IsOwnBinding, own_fold, own_blank}
+use Rattle.mpf_plan.proofs.Apart.{all_apart, named_apart}
+use Rattle.mpf_plan.proofs.Heard.{rows_are_heard, plain_of_heard}
+use Rattle.mpf_plan.proofs.Limited.{limits_by_name}
+use Rattle.mpf_plan.proofs.Owned.{IsOwnTarget, IsOwnBinding, IsOwnListener, IsOwnSwitch, own_fold, own_blank}
 use Rattle.mpf_plan.proofs.SoundDraft.{has_entries}
 use Rattle.mpf_plan.proofs.ModeWorks.{modes-count, works_are}
-
-pub All-first_by : {X : Type 0} (P : X → Type 0) (name : X → List ℕ) (xs : List X) → All P xs → All P (first_by name xs)
-All-first_by P name [] all = all
-All-first_by P name (x ∷ xs) all =
-    All-cons P x (filter (λ y. not (bytes_eq (name x) (name y))) (first_by name xs)) (All-head P x xs all)
-    (All-filter (λ y. not (bytes_eq (name x) (name y))) P (first_by name xs) (All-first_by P name xs (All-tail P x xs all)))
-
--- ---- no two first uses have one name
-
-abbrev AreApart : List (List ℕ) → Type 0
-AreApart [] = Unit {0}
-AreApart (x ∷ xs) = All (λ y. x ≢ y) xs × AreApart xs
-
-AreApart-filter : (p : List ℕ → Bool) (xs : List (List ℕ)) → AreApart xs → AreApart (filter p xs)
-AreApart-filter p [] apart = tt
-AreApart-filter p (x ∷ xs) apart = by (p x) (AreApart-filter p xs apart.1)
-  where
-    by : (b : Bool) → AreApart (filter p xs) → AreApart (cond b (x ∷ filter p xs) (filter p xs))
-    by true rest = (All-filter p (λ y. x ≢ y) xs apart.0, rest)
-    by false rest = rest
-
-differ : (x y : List ℕ) → not (bytes_eq x y) ≡ true → x ≢ y
-differ x y passes same = true≢false (sym passes ∙ ap not ((bytes_eq-Decides x y).1 same))
-
-AreApart-first_uses : (xs : List (List ℕ)) → AreApart (first_by (λ n. n) xs)
-AreApart-first_uses [] = tt
-AreApart-first_uses (x ∷ xs) =
-    let other : List ℕ → Bool = λ y. not (bytes_eq x y) in
-    let rest = first_by (λ n. n) xs in
-    (All-weaker (λ y. other y ≡ true) (λ y. x ≢ y) (λ y. differ x y) (filter other rest) (filter_passes other rest), AreApart-filter other rest (AreApart-first_uses xs))
-
-all_apart : (xs : List (List ℕ)) → AreApart xs → AllPairs (λ x y. x ≢ y) xs
-all_apart [] apart i j d before within = absurd (omega arith)
-all_apart (x ∷ xs) apart zero zero d before within = absurd (omega arith)
-all_apart (x ∷ xs) apart (suc i) zero d before within = absurd (omega arith)
-all_apart (x ∷ xs) apart zero (suc j) d before within = apart.0 j d (omega arith)
-all_apart (x ∷ xs) apart (suc i) (suc j) d before within = all_apart xs apart.1 i j d (omega arith) (omega arith)
-
-named_apart : (cs : List Contribution) (t : Table) → AreApart (named_of cs t)
-named_apart cs Bindings = tt
-named_apart cs tables.Rows = tt
-named_apart cs Events = AreApart-first_uses (uses Events cs)
-named_apart cs t = AreApart-first_uses (uses t cs)
 
 -- ---- the lengths of effect lists
 
@@ -210,7 +171,7 @@ abbrev IsLimitedRow : DeviceRow → Type 0
 IsLimitedRow row = IsWithinLimits row.settings
 
 module _ (names : Names) where
-  fit_one : (n : ℕ) (f : ℕ → ℕ) (d : DraftView) (c : Contribution) → IsRoomy n f c → AreFit n f d.plan → AreFit (posts_after n c) (posts_in_after f c) (with_contribution names d c).plan
+  fit_one : (n : ℕ) (f : ℕ → ℕ) (d : DraftView) (c : Contribution) → IsRoomy n f c → AreFit n f d.plan → AreFit (effects_after n c) (effects_in_after f c) (with_contribution names d c).plan
   fit_one n f d (gives t e) room fit = subst (AreFit n f) (sym (given_plan t (number_among (names t) e) d)) fit
   fit_one n f d (reads kind) room fit = record { lists = fit.lists; last = fit.last; in_row = fit.in_row }
   fit_one n f d (active e) room fit = record { lists = fit.lists; last = fit.last; in_row = fit.in_row }
@@ -221,15 +182,17 @@ module _ (names : Names) where
   fit_one n f d (binds e place Stop) room fit = record { lists = fit.lists; last = fit.last; in_row = fit.in_row }
   fit_one n f d (binds e place (Do act)) room fit = record { lists = fit.lists; last = fit.last; in_row = fit.in_row }
   fit_one n f d (binds e place Run) room fit = let more = fit_more n f d.plan fit in record { lists = more.lists; last = more.last; in_row = more.in_row }
-  fit_one n f d (post e) room fit = fit_last n f d.plan fit (Post (event_of (names Events) e)) room
+  fit_one n f d (does e) room fit = fit_last n f d.plan fit (action_of names e) room
   fit_one n f d (device place settings) room fit = fit_device n f d.plan fit (d.plan.rows ++ next_row d.plan place settings ∷ []) (list_count settings)
-  fit_one n f d (post_in k e) room fit = fit_in n f d.plan fit k (Post (event_of (names Events) e)) room
+  fit_one n f d (does_in k e) room fit = fit_in n f d.plan fit k (action_of names e) room
+  fit_one n f d (listens k e) room fit = record { lists = fit.lists; last = fit.last; in_row = fit.in_row }
   fit_one n f d (mentions e) room fit = fit
+  fit_one n f d (coil e limits) room fit = record { lists = fit.lists; last = fit.last; in_row = fit.in_row }
 
   fit_fold : (n : ℕ) (f : ℕ → ℕ) (cs : List Contribution) (d : DraftView) → AreShort n f cs → AreFit n f d.plan
       → All (λ actions. length actions ≤ 1024) (fold (with_contribution names) d cs).plan.lists
   fit_fold n f [] d short fit = fit.lists
-  fit_fold n f (c ∷ cs) d short fit = fit_fold (posts_after n c) (posts_in_after f c) cs (with_contribution names d c) short.1 (fit_one n f d c short.0 fit)
+  fit_fold n f (c ∷ cs) d short fit = fit_fold (effects_after n c) (effects_in_after f c) cs (with_contribution names d c) short.1 (fit_one n f d c short.0 fit)
 
   -- ---- the settings of rows
 
@@ -242,11 +205,47 @@ module _ (names : Names) where
   limited_fold [] d each all = all
   limited_fold (c ∷ cs) d each all = limited_fold cs (with_contribution names d c) (All-tail IsLimited c cs each) (limited_one d c (All-head IsLimited c cs each) all)
 
+-- ---- what coils may be sent
+
+-- the limits that are given are within bounds of their own
+limits_given : (cs : List Contribution) → All IsLimited cs → All (λ g. AreLimits g.1) (flat_map given_coil cs)
+limits_given [] each = All-nil (λ g. AreLimits g.1)
+limits_given (c ∷ cs) each = All-append (λ g. AreLimits g.1) (given_coil c) (flat_map given_coil cs) (here c (All-head IsLimited c cs each)) (limits_given cs (All-tail IsLimited c cs each))
+  where
+    here : (c : Contribution) → IsLimited c → All (λ g. AreLimits g.1) (given_coil c)
+    here (coil n limits) is = All-cons (λ g. AreLimits g.1) (n, limits) [] is (All-nil (λ g. AreLimits g.1))
+    here _ is = All-nil (λ g. AreLimits g.1)
+
+-- so are those that are found of a name
+abbrev FoundWell : Option CoilLimits → Type 0
+FoundWell None = Unit {0}
+FoundWell (Some limits) = AreLimits limits
+
+found_well : (n : List ℕ) (gs : List (List ℕ × CoilLimits)) (o : Option CoilLimits) → All (λ g. AreLimits g.1) gs → FoundWell o → FoundWell (fold (latest_limits n) o gs)
+found_well n [] o each well = well
+found_well n (g ∷ gs) o each well = found_well n gs (latest_limits n o g) (All-tail (λ h. AreLimits h.1) g gs each) (by (bytes_eq n g.0))
+  where
+    by : (b : Bool) → FoundWell (if b then Some g.1 else o)
+    by true = All-head (λ h. AreLimits h.1) g gs each
+    by false = well
+
+coils_within : (rows : Rows) → AreListsShort rows → lacks_name (contributions_of rows) ≡ false → All IsCoilWithin (plan_from (contributions_of rows)).coils
+coils_within rows short none =
+    All-from_get_or IsCoilWithin (plan_from cs).coils no_coil (λ i inside.
+    let c : CoilId = record { 0 = i } in
+    let said = limits_by_name cs (plain_of_heard None cs (rows_are_heard rows)) none c inside in
+    let limits = subst FoundWell said (found_well (coil_at (plan_from cs) c).name (flat_map given_coil cs) None (limits_given cs (rows_are_limited rows short)) tt) in
+    record { some_pulse = limits.some_pulse; pulse = limits.pulse; pulse_power = limits.pulse_power; hold_power = limits.hold_power })
+  where
+    cs : List Contribution
+    cs = contributions_of rows
+
 -- ---- the plan
 
--- Where each table is within its limit, no list in the rows is too long, and there are few modes, the plan is valid.
-valid_from : (rows : Rows) → AreListsShort rows → AreFewModes rows.modes → ((t : Table) → entry_count (plan_from (contributions_of rows)) t ≤ limit_of t) → IsValid (plan_from (contributions_of rows))
-valid_from rows short few_modes within =
+-- Where no name is lacking, each table is within its limit, no list in the rows is too long, and there are few modes, the
+-- plan is valid.
+valid_from : (rows : Rows) → AreListsShort rows → AreFewModes rows.modes → lacks_name (contributions_of rows) ≡ false → ((t : Table) → entry_count (plan_from (contributions_of rows)) t ≤ limit_of t) → IsValid (plan_from (contributions_of rows))
+valid_from rows short few_modes none_lacks within =
     let cs = contributions_of rows in
     let names = names_from cs in
     let limit : length (plan_from cs).bindings ≤ 16384 = within Bindings in
@@ -257,47 +256,63 @@ valid_from rows short few_modes within =
       event_limit = within Events;
       binding_limit = limit;
       switch_limit = within Switches;
+      coil_limit = within Coils;
       list_limit = omega (arith, limit, few, count-bindings cs, count-rows cs, count-lists cs);
       row_limit = few;
       row_lists = count-row_lists cs;
+      coils = coils_within rows short none_lacks;
       settings = limited_fold names cs (blank names) (rows_are_limited rows short) (All-nil IsLimitedRow);
       action_limit = fit_fold names 1024 full cs (blank names) (rows_are_short rows short) none;
       names = λ t. subst (AllPairs (λ x y. x ≢ y)) (sym (names-from cs t)) (all_apart (named_of cs t) (named_apart cs t));
-      entries = has_entries cs (rows_are_open rows) (rows_are_placed rows);
+      entries = has_entries cs (rows_are_open rows) (rows_are_placed rows) (rows_are_heard rows);
       works = works_are rows few_modes.apart;
     }
 
-pub IsValid-plan_of : (rows : Rows) → AreListsShort rows → AreFewModes rows.modes → ((t : Table) → entry_count (plan_of rows) t ≤ limit_of t) → IsValid (plan_of rows)
+pub IsValid-plan_of : (rows : Rows) → AreListsShort rows → AreFewModes rows.modes → lacks_name (contributions_of rows) ≡ false → ((t : Table) → entry_count (plan_of rows) t ≤ limit_of t) → IsValid (plan_of rows)
 unfolding plan_of
-IsValid-plan_of rows short few within = valid_from rows short few within
+IsValid-plan_of rows short few none within = valid_from rows short few none within
 
 -- ---- whatever the rows are
 
 HasEntries-plan_of : (rows : Rows) → HasEntries (plan_of rows)
 unfolding plan_of
-HasEntries-plan_of rows = has_entries (contributions_of rows) (rows_are_open rows) (rows_are_placed rows)
+HasEntries-plan_of rows = has_entries (contributions_of rows) (rows_are_open rows) (rows_are_placed rows) (rows_are_heard rows)
 
 pub HasEntries-plan_at : (rows : Rows) (plan : PlanView) → plan_at rows ≡ Ok plan → HasEntries plan
 HasEntries-plan_at rows plan is = subst HasEntries (sym (plan_at-Ok rows plan is).0) (HasEntries-plan_of rows)
 
--- bindings act on rows of their own owner alone
+-- bindings act on rows of their own owner alone, and rows of the machine alone listen to switches
 abbrev AreOwn : PlanView → Type 0
-AreOwn plan = All (IsOwnBinding plan.rows) plan.bindings
+AreOwn plan = All (IsOwnBinding plan.rows) plan.bindings × All (IsOwnSwitch plan.rows) plan.switches
 
 own-plan_of : (rows : Rows) → AreOwn (plan_of rows)
 unfolding plan_of
 own-plan_of rows =
     let cs = contributions_of rows in
-    own_fold (names_from cs) cs None (blank (names_from cs)) (rows_are_placed rows) (own_blank (names_from cs))
+    own_fold (names_from cs) cs None (blank (names_from cs)) (rows_are_placed rows) (rows_are_heard rows) (own_blank (names_from cs))
 
 pub own-plan_at : (rows : Rows) (plan : PlanView) → plan_at rows ≡ Ok plan → All (λ b. (r : RowId) (act : Act) → b.target ≡ targets.Act r act → (row_at plan r).owner ≡ b.owner) plan.bindings
 own-plan_at rows plan is =
     let own = subst AreOwn (sym (plan_at-Ok rows plan is).0) (own-plan_of rows) in
     All-weaker (IsOwnBinding plan.rows) (λ b. (r : RowId) (act : Act) → b.target ≡ targets.Act r act → (row_at plan r).owner ≡ b.owner)
-    (λ b h r act acts. (subst (IsOwnTarget plan.rows b.owner) acts h).1) plan.bindings own
+    (λ b h r act acts. (subst (IsOwnTarget plan.rows b.owner) acts h).1) plan.bindings own.0
+
+pub listeners-plan_at : (rows : Rows) (plan : PlanView) → plan_at rows ≡ Ok plan → ListenersAreOwn plan
+listeners-plan_at rows plan is =
+    let own = subst AreOwn (sym (plan_at-Ok rows plan is).0) (own-plan_of rows) in
+    All-weaker (IsOwnSwitch plan.rows) (λ s. All (λ l. (row_at plan l.row).owner ≡ owners.Machine) s.listeners)
+    (λ s. All-weaker (IsOwnListener plan.rows) (λ l. (row_at plan l.row).owner ≡ owners.Machine) (λ l h. h.1) s.listeners) plan.switches own.1
+
+limits-plan_of : (rows : Rows) → lacks_name (contributions_of rows) ≡ false → AreLimitsByName (contributions_of rows) (plan_of rows)
+unfolding plan_of
+limits-plan_of rows none = limits_by_name (contributions_of rows) (plain_of_heard None (contributions_of rows) (rows_are_heard rows)) none
+
+-- each coil may be sent what the rows say of its name
+pub limits-plan_at : (rows : Rows) (plan : PlanView) → plan_at rows ≡ Ok plan → AreLimitsByName (contributions_of rows) plan
+limits-plan_at rows plan is = subst (AreLimitsByName (contributions_of rows)) (sym (plan_at-Ok rows plan is).0) (limits-plan_of rows (plan_at-complete rows plan is))
 
 -- A plan that planning gives is valid, where no list in the rows is too long, and there are few modes.
 pub IsValid-plan_at : (rows : Rows) → AreListsShort rows → AreFewModes rows.modes → (plan : PlanView) → plan_at rows ≡ Ok plan → IsValid plan
 IsValid-plan_at rows short few plan is =
     let given = plan_at-Ok rows plan is in
-    subst IsValid (sym given.0) (IsValid-plan_of rows short few (subst (λ p. (t : Table) → entry_count p t ≤ limit_of t) given.0 given.1))
+    subst IsValid (sym given.0) (IsValid-plan_of rows short few (plan_at-complete rows plan is) (subst (λ p. (t : Table) → entry_count p t ≤ limit_of t) given.0 given.1))

@@ -1,5 +1,5 @@
 -- What a plan says by names: of what its effect lists do, of what its coils may be sent, and of the names that are used.
-use Rattle.std.specs.Prelude.{ℕ, ◌≡◌, ◌<◌, List, length, Option, None, Some, true, Contains}
+use Rattle.std.specs.Prelude.{ℕ, ◌≡◌, ◌<◌, if◌then◌else◌, List, length, fold, Option, None, Some, true}
 use Rattle.std.specs.List.{All, flat_map, list_any}
 use Rattle.std.specs.Str.{bytes_eq}
 use Rattle.plan_tables.specs.declared.entries.CoilId.{CoilId}
@@ -9,7 +9,7 @@ use Rattle.plan_tables.specs.declared.entries.Action.TheVariants.{Post, Pulse, E
 use Rattle.plan_tables.specs.declared.entries.Owner.TheVariants as owners
 use Rattle.plan_tables.specs.declared.table.Table.{Table}
 use Rattle.plan_tables.specs.PlanView.{PlanView, name_of_event, coil_at, row_at}
-use Rattle.plan_contributions.specs.DeviceEntries.{Deed, pulse, enable, disable, Effect, posts, works}
+use Rattle.plan_contributions.specs.DeviceEntries.{pulse, enable, disable, Effect, posts, works}
 use Rattle.plan_contributions.specs.Contributions.{Contribution}
 use Rattle.plan_contributions.specs.UsedNames.{used, given_names}
 use Rattle.plan_contributions.specs.Facts.{given_coil}
@@ -31,13 +31,18 @@ pub record IsDone (P : Effect → Type 0) (S : List ℕ → Type 0) (plan : Plan
 
 -- ---- what coils may be sent
 
--- the contributions say so of the coil of this name
-abbrev pub IsLimitedTo : List Contribution → List ℕ → CoilLimits → Type 0
-IsLimitedTo cs name limits = Contains (flat_map given_coil cs) (name, limits)
+-- what is given of this name last
+abbrev pub latest_limits : List ℕ → Option CoilLimits → List ℕ × CoilLimits → Option CoilLimits
+latest_limits name found given = if bytes_eq name given.0 then Some given.1 else found
+
+-- what contributions say that the coil of this name may be sent, if they give one
+abbrev pub limits_called : List Contribution → List ℕ → Option CoilLimits
+limits_called cs name = fold (latest_limits name) None (flat_map given_coil cs)
 
 -- each coil of the plan may be sent what is said of its name
 abbrev pub AreLimitsByName : List Contribution → PlanView → Type 0
-AreLimitsByName cs plan = (c : CoilId) → c.0 < length plan.coils → IsLimitedTo cs (coil_at plan c).name (coil_at plan c).limits
+AreLimitsByName cs plan =
+    (c : CoilId) → c.0 < length plan.coils → limits_called cs (coil_at plan c).name ≡ Some (coil_at plan c).limits
 
 -- ---- the names that are used
 

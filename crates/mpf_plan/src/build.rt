@@ -9,8 +9,9 @@ ghost use Rattle.mpf_plan.specs.PlanOf.{plan_at, plan_of, GivesPlan, IsExceeded}
 use crate::fault::PlanFault;
 use crate::fill::fill;
 use crate::numbering::number;
+use machine_definitions::Definitions;
 use mpf_config::config::Config;
-use plan_contributions::{Definitions, rows_of};
+use plan_contributions::rows_of;
 use plan_tables::tables::{Plan, Tables};
 use std::alloc::Global;
 

@@ -15,9 +15,9 @@ ghost use Rattle.plan_tables.specs.NamesKept.{names_of};
 
 use crate::draft::Draft;
 use crate::numbering::number_among;
+use machine_definitions::Definitions;
 use plan_contributions::{
-    Aim, Contribution, Deed, Definitions, Effect, Parts, Place, Row, collect_row, mode_event_name,
-    whole,
+    Aim, Contribution, Deed, Effect, Parts, Place, Row, collect_row, mode_event_name, whole,
 };
 use plan_tables::devices::{DeviceRow, RowId, Settings};
 use plan_tables::entries::{
@@ -413,11 +413,7 @@ fn add_effect(
 }
 
 /// What an effect list does, by number.
-fn action_of(
-    names: &NameSets,
-    text: &mut Vec<u8>,
-    effect: Effect,
-) -> Result<Action, AllocError>
+fn action_of(names: &NameSets, text: &mut Vec<u8>, effect: Effect) -> Result<Action, AllocError>
     ensures { IfOk result (λ a. a ≡ action_of (name_sets_view names.now) (effect_view effect.entry)) }
 {
     match effect {

@@ -14,9 +14,8 @@ ghost use Rattle.plan_tables.specs.Inside.{name_sets_view};
 
 use crate::fault::PlanFault;
 use crate::first_uses::Found;
-use plan_contributions::{
-    Contribution, Definitions, Parts, Row, collect_row, given, used, write_name,
-};
+use machine_definitions::Definitions;
+use plan_contributions::{Contribution, Parts, Row, collect_row, given, used, write_name};
 use plan_tables::names::{NameHashing, NameSet, NameSets, NameTable};
 use plan_tables::table::{TABLES, Table};
 use std::alloc::{AllocError, Global};

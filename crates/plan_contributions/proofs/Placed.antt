@@ -1,10 +1,13 @@
--- Acts are on rows of devices whose place is that of the binding, as contributions come.
-use Rattle.std.proofs.Common.{ℕ, suc, List, [], ◌∷◌, ◌++◌, map}
+-- Acts are on rows of devices whose place is that of the binding, and rows of the machine listen, as contributions come.
+use Rattle.std.proofs.Common.{◌≡◌, ℕ, suc, List, [], ◌∷◌, ◌++◌, map, ap}
 use Rattle.std.specs.Prelude.{Option, None, Some}
+use Rattle.std.specs.List.{All}
+use Rattle.std.proofs.lemmas.List.Elements.{All-head, All-tail}
 use Rattle.std.proofs.lemmas.Option.{none-some}
 use Rattle.plan_contributions.specs.declared.contribution.Aim.{Aim}
 use Rattle.plan_contributions.specs.declared.contribution.Aim.TheVariants.{Run, Start, Stop, Do}
 use Rattle.plan_contributions.specs.declared.contribution.Place.{Place}
+use Rattle.plan_contributions.specs.declared.contribution.Place.TheVariants.{Machine}
 use Rattle.plan_contributions.specs.DeviceEntries.{Effect}
 use Rattle.plan_contributions.specs.Contributions.{Contribution, mode, binds, device, does_in, effects_from, listens, listens_from}
 use Rattle.plan_contributions.specs.Facts.{row_after, IsPlacedAim, IsPlaced, ArePlaced}
@@ -22,7 +25,7 @@ ArePlaced-any o (c ∷ cs) h = (placed c h.0, after (ArePlaced-any o cs) c h.1)
 
     placed : (x : Contribution) → IsPlaced None x → IsPlaced o x
     placed (binds e place aim) is = aimed place aim is
-    placed (listens k n) is = absurd is
+    placed (listens k n) is = absurd (none-some Machine is)
     placed _ is = tt
 
     after : (ArePlaced None cs → ArePlaced o cs) → (x : Contribution) → ArePlaced (row_after None x) cs → ArePlaced (row_after o x) cs
@@ -44,9 +47,10 @@ pub ArePlaced-each : {X : Type 0} (o : Option Place) (make : X → Contribution)
 ArePlaced-each o make more [] = tt
 ArePlaced-each o make more (x ∷ xs) = more x (map make xs) (ArePlaced-each o make more xs)
 
-pub ArePlaced-listens : (place : Place) (k : ℕ) (ns : List (List ℕ)) (rest : List Contribution) → ArePlaced (Some place) rest → ArePlaced (Some place) (listens_from k ns ++ rest)
-ArePlaced-listens place k [] rest h = h
-ArePlaced-listens place k (n ∷ ns) rest h = (tt, ArePlaced-listens place (suc k) ns rest h)
+pub ArePlaced-listens : (place : Place) (k : ℕ) (ns : List (List ℕ)) (rest : List Contribution) → All (λ n. place ≡ Machine) ns → ArePlaced (Some place) rest → ArePlaced (Some place) (listens_from k ns ++ rest)
+ArePlaced-listens place k [] rest own h = h
+ArePlaced-listens place k (n ∷ ns) rest own h =
+    (ap Some (All-head (λ m. place ≡ Machine) n ns own), ArePlaced-listens place (suc k) ns rest (All-tail (λ m. place ≡ Machine) n ns own) h)
 
 pub ArePlaced-effects : (o : Option Place) (k : ℕ) (lists : List (List Effect)) → ArePlaced o (effects_from k lists)
 ArePlaced-effects o k [] = tt

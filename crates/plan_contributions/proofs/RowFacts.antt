@@ -532,9 +532,9 @@ module _ (machine : List SectionRows) (P : List ℕ → Type 0) (of : IsOfNames 
     mentioned : All P d.mentioned
     lists : All (All (IsFitEffect P)) d.lists
 
-  device_facts : (place : Place) (d : Device) → Facts P n (IsFitDevice d) (IsRightDevice place d) (IsOpenPlace n place) (device_contributions place d)
+  device_facts : (place : Place) (d : Device) → All (λ s. place ≡ Machine) d.listens → Facts P n (IsFitDevice d) (IsRightDevice place d) (IsOpenPlace n place) (device_contributions place d)
   unfolding device_contributions
-  device_facts place d =
+  device_facts place d own =
       let none = effects_in_after full (device place d.settings) in
       let listening = listens_from 0 d.listens in
       let acting = map (act_binding place) d.handled in
@@ -563,7 +563,7 @@ module _ (machine : List SectionRows) (P : List ℕ → Type 0) (of : IsOfNames 
             (All-append IsRight named doing (All-made IsRight mentions (λ x. (tt, tt)) d.mentioned) (All-lists IsRight IsEffectInRange (λ k e m. (m, tt)) 0 d.lists h.effects))));
         acts = (
           tt,
-          ArePlaced-listens place 0 d.listens (acting ++ (named ++ doing))
+          ArePlaced-listens place 0 d.listens (acting ++ (named ++ doing)) own
               (ArePlaced-before (Some place) (act_binding place) (λ x cs k. (refl, k)) d.handled (named ++ doing)
               (ArePlaced-before (Some place) mentions (λ x cs k. (tt, k)) d.mentioned doing (ArePlaced-effects (Some place) 0 d.lists))),
         );
@@ -750,7 +750,14 @@ module _ (machine : List SectionRows) (P : List ℕ → Type 0) (of : IsOfNames 
   -- what a device gives, where an entry is one
   abbrev IsGood : Place → Entry → Option Device → Type 0
   IsGood place e None = Unit {0}
-  IsGood place e (Some d) = (IsNamedEntry e → IsFitDevice d) × (IsShortEntry 1024 e → IsRightDevice place d)
+  IsGood place e (Some d) = (IsNamedEntry e → IsFitDevice d) × (IsShortEntry 1024 e → IsRightDevice place d) × All (λ s. place ≡ Machine) d.listens
+
+  -- no switch, and one switch of a device of the machine
+  no_listener : (place : Place) → All (λ (s : List ℕ). place ≡ Machine) []
+  no_listener place = All-nil (λ (s : List ℕ). place ≡ Machine)
+
+  own_listener : (s : List ℕ) → All (λ (s : List ℕ). Machine ≡ Machine) (s ∷ [])
+  own_listener s = All-cons (λ (s : List ℕ). Machine ≡ Machine) s [] refl (All-nil (λ (s : List ℕ). Machine ≡ Machine))
 
   good_where : (place : Place) (e : Entry) (b : Bool) (o q : Option Device) → IsGood place e o → IsGood place e q → IsGood place e (if b then o else q)
   good_where place e true o q first other = first
@@ -764,25 +771,25 @@ module _ (machine : List SectionRows) (P : List ℕ → Type 0) (of : IsOfNames 
       let accrual = step_device (kinds.Accrual (step_settings block)) block in
       let sequence = step_device (kinds.Sequence (step_settings block)) block in
       let timer = timer_device (timer_of e) in
-      good_where place e (bytes_eq section counters_name) (Some (counter_device counter)) _ (λ h. fit_counter counter (counter_named e h), λ h. short_counter place counter (counter_short e h))
+      good_where place e (bytes_eq section counters_name) (Some (counter_device counter)) _ (λ h. fit_counter counter (counter_named e h), λ h. short_counter place counter (counter_short e h), no_listener place)
       (good_where place e (bytes_eq section accruals_name) (Some accrual) _
-      (λ h. fit_steps (kinds.Accrual (step_settings block)) block (step_block_named e h), λ h. short_steps place (kinds.Accrual (step_settings block)) block (let short = step_block_short e h in short.steps) tt (step_block_short e h))
+      (λ h. fit_steps (kinds.Accrual (step_settings block)) block (step_block_named e h), λ h. short_steps place (kinds.Accrual (step_settings block)) block (let short = step_block_short e h in short.steps) tt (step_block_short e h), no_listener place)
       (good_where place e (bytes_eq section sequences_name) (Some sequence) _
-      (λ h. fit_steps (kinds.Sequence (step_settings block)) block (step_block_named e h), λ h. short_steps place (kinds.Sequence (step_settings block)) block (let short = step_block_short e h in short.steps) tt (step_block_short e h))
-      (good_where place e (bytes_eq section timers_name) (Some timer) None (λ h. fit_timer (timer_of e) (timer_named e h), λ h. short_timer place (timer_of e) (timer_in_range e)) tt)))
+      (λ h. fit_steps (kinds.Sequence (step_settings block)) block (step_block_named e h), λ h. short_steps place (kinds.Sequence (step_settings block)) block (let short = step_block_short e h in short.steps) tt (step_block_short e h), no_listener place)
+      (good_where place e (bytes_eq section timers_name) (Some timer) None (λ h. fit_timer (timer_of e) (timer_named e h), λ h. short_timer place (timer_of e) (timer_in_range e), no_listener place) tt)))
 
   good_machine : (section : List ℕ) (e : Entry) → IsGood Machine e (machine_device machine section e)
   good_machine section e =
       let flipper = flipper_of e in
       let autofire = autofire_of e in
-      good_where Machine e (bytes_eq section flippers_name) (Some (flipper_device machine flipper)) _ (λ h. fit_flipper flipper (flipper_named e h), λ h. short_flipper machine flipper)
+      good_where Machine e (bytes_eq section flippers_name) (Some (flipper_device machine flipper)) _ (λ h. fit_flipper flipper (flipper_named e h), λ h. short_flipper machine flipper, own_listener flipper.switch.text)
       (good_where Machine e (bytes_eq section autofire_coils_name) (Some (autofire_device machine autofire)) (device_of section e)
-      (λ h. fit_autofire autofire (autofire_named e h), λ h. short_autofire machine autofire) (good_device Machine section e))
+      (λ h. fit_autofire autofire (autofire_named e h), λ h. short_autofire machine autofire, own_listener autofire.switch.text) (good_device Machine section e))
 
   where_facts : (place : Place) (e : Entry) (o : Option Device) → IsGood place e o → Facts P n (IsNamedEntry e) (IsShortEntry 1024 e) (IsOpenPlace n place) (where_device place o)
   where_facts place e None good = none_facts (IsNamedEntry e) (IsShortEntry 1024 e) (IsOpenPlace n place)
   where_facts place e (Some d) good =
-      let facts = device_facts place d in
+      let facts = device_facts place d good.2 in
       record { names = λ h. facts.names (good.0 h); lists = λ h. facts.lists (good.1 h); modes = facts.modes; limits = λ h. facts.limits (good.1 h); acts = facts.acts }
 
   machine_facts : (section : List ℕ) (e : Entry) → Facts P n (IsNamedEntry e) (IsShortEntry 1024 e) (Unit {0}) (machine_entry_contributions machine section e)

@@ -125,14 +125,10 @@ abbrev pub IsPlacedAim : Option Place → Place → Aim → Type 0
 IsPlacedAim o place (Do act) = o ≡ Some place
 IsPlacedAim o place _ = Unit {0}
 
--- a row has come
-abbrev pub IsRowThere : Option Place → Type 0
-IsRowThere None = ⊥
-IsRowThere (Some place) = Unit {0}
-
+-- what acts on a row comes after a row of its own place, and what listens after one of the machine
 abbrev pub IsPlaced : Option Place → Contribution → Type 0
 IsPlaced o (binds e place aim) = IsPlacedAim o place aim
-IsPlaced o (listens k n) = IsRowThere o
+IsPlaced o (listens k n) = o ≡ Some Machine
 IsPlaced o _ = Unit {0}
 
 abbrev pub ArePlaced : Option Place → List Contribution → Type 0

@@ -142,7 +142,7 @@ module _ (machine : List SectionRows) (all : All IsCoilSound (flat_map coils_in 
 
 module _ (modes : List (List ℕ)) (machine : List SectionRows) (text : List ℕ) where
   -- of a section without faults the parts are none
-  pub record HasNone (s : SectionRows) : Type 0 where
+  record HasNone (s : SectionRows) : Type 0 where
     pub posts : reserved_among modes (posts_in s) ≡ []
     pub coils : All (λ c. coil_faults text c ≡ []) (coils_in s)
     pub players : All (λ p. coil_player_faults machine text p ≡ []) (coil_players_in s)

@@ -1,5 +1,5 @@
--- What is wrong with coils, and with what is said of them elsewhere. Here `machine` is the sections of the machine text,
--- which define the coils and the switches, and `text` is the name of the text.
+-- What is wrong with coils, and with what is said of them elsewhere. Here `machine` is the sections of the machine
+-- text, which define the coils and the switches, and `text` is the name of the text.
 use Rattle.std.specs.Prelude.{ℕ, nat_lt, Bool, true, false, not, ◌&&◌, ◌||◌, List, [], ◌∷◌, ◌++◌, Option, Some, None}
 use Rattle.std.specs.List.{flat_map}
 use Rattle.std.specs.Option.{is_none}

@@ -25,7 +25,8 @@ mode_events mode =
 abbrev pub events_of_modes : List (List ℕ) → List (List ℕ)
 events_of_modes modes = flat_map mode_events modes
 
--- the names of the modes: of those that the machine text lists, whether they have a text or not, and of those that have one
+-- the names of the modes: of those that the machine text lists, whether they have a text or not, and of those that have
+-- one
 abbrev pub mode_names : Rows → List (List ℕ)
 mode_names rows = map (λ w. w.text) (listed_modes rows.machine) ++ map (λ m. m.name) rows.modes
 

@@ -1,5 +1,5 @@
--- What holds of rows without faults: nothing that they say of a coil goes past its limits, and the coils and switches of
--- which they speak are defined. Here `machine` is the sections of the machine text.
+-- What holds of rows without faults: nothing that they say of a coil goes past its limits, and the coils and switches
+-- of which they speak are defined. Here `machine` is the sections of the machine text.
 use Rattle.std.specs.Prelude.{◌≡◌, ℕ, ◌≤◌, true, false, Some, IfSome, List, unwrap_or}
 use Rattle.std.specs.List.{All}
 use Rattle.mpf_sections.specs.declared.words.CoilAction.{CoilAction}
@@ -48,7 +48,8 @@ IsItemSound machine i = IsCoilSuch machine i.coil.text (λ c. IsActionWithin c i
 abbrev pub IsCoilPlayerSound : List SectionRows → CoilPlayer → Type 0
 IsCoilPlayerSound machine p = All (IsItemSound machine) p.items
 
--- A coil that holds the flipper up may be held. Where there is none, the main coil is held if it may be, and else pulsed.
+-- A coil that holds the flipper up may be held. Where there is none, the main coil is held if it may be, and else
+-- pulsed.
 pub record IsFlipperSound (machine : List SectionRows) (f : Flipper) : Type 0 where
   pub main_coil : IsCoilSuch machine f.main_coil.text IsCoilSound
   pub hold_coil : IfSome f.hold_coil (λ w. IsCoilSuch machine w.text (λ c. IsHoldWithin c c.hold_power))

@@ -1,0 +1,85 @@
+-- What holds of all that rows do holds of all that their plan does, by names.
+use Rattle.std.proofs.Common.{◌≡◌, ◌<◌, ◌⊎◌, inl, inr, ℕ, ◌≤◌, List, [], length, map, get_or, slice_index_or, Ok, refl, sym, ◌∙◌, ap, subst, arith}
+use Rattle.std.specs.List.{All}
+use Rattle.std.proofs.lemmas.Bool.{cases_lt}
+use Rattle.std.proofs.lemmas.List.{get_or-map, get_or_past, length-map}
+use Rattle.std.proofs.lemmas.List.Elements.{All-weaker}
+use Rattle.mpf_config.specs.Rows.{Rows}
+use Rattle.plan_tables.specs.declared.entries.EventId.{EventId}
+use Rattle.plan_tables.specs.declared.entries.CoilId.{CoilId}
+use Rattle.plan_tables.specs.declared.entries.Action.{Action}
+use Rattle.plan_tables.specs.declared.entries.Action.TheVariants.{Post, Pulse, Enable, Disable}
+use Rattle.plan_tables.specs.declared.table.Table.TheVariants.{Events, Coils}
+use Rattle.plan_tables.specs.PlanView.{PlanCoil, no_coil, PlanView, coil_at, name_of_event}
+use Rattle.plan_contributions.specs.DeviceEntries.{pulse, enable, disable, Effect, works, posts}
+use Rattle.plan_contributions.specs.Contributions.{Contribution, active, inactive, does, does_in, contributions_of}
+use Rattle.plan_contributions.specs.Doing.{AreDoing, Does}
+use Rattle.mpf_plan.specs.Uses.{Names, names_from, number_among}
+use Rattle.mpf_plan.specs.PlanOf.{event_of, action_of, plan_from, plan_of, plan_at}
+use Rattle.mpf_plan.specs.ByName.{effect_of, IsDone}
+use Rattle.mpf_plan.proofs.Among.{IsKnown, all_known}
+use Rattle.mpf_plan.proofs.Drafted.{names-from}
+use Rattle.mpf_plan.proofs.Judged.{plan_at-Ok}
+use Rattle.mpf_plan.proofs.Numbers.{at_number, named_effect, effect_named}
+use Rattle.mpf_plan.proofs.Done.{IsPosting, Meets, IsMet, meet_drafted}
+
+-- ---- names in the plan of contributions
+
+module _ (cs : List Contribution) where
+  event_name : (e : EventId) → slice_index_or (names_from cs Events) e.0 [] ≡ name_of_event (plan_from cs) e
+  event_name e = ap (λ es. slice_index_or es e.0 []) (sym (names-from cs Events))
+
+  pub coil_name : (c : CoilId) → slice_index_or (names_from cs Coils) c.0 [] ≡ (coil_at (plan_from cs) c).name
+  coil_name c = ap (λ ns. slice_index_or ns c.0 []) (sym (names-from cs Coils)) ∙ by (cases_lt c.0 (length coils))
+    where
+      coils : List PlanCoil
+      coils = (plan_from cs).coils
+
+      by : (c.0 < length coils) ⊎ (length coils ≤ c.0) → get_or (map (λ (x : PlanCoil). x.name) coils) c.0 [] ≡ (get_or coils c.0 no_coil).name
+      by (inl inside) = get_or-map (λ (x : PlanCoil). x.name) coils c.0 no_coil [] inside
+      by (inr past) =
+          get_or_past (map (λ (x : PlanCoil). x.name) coils) c.0 [] (omega (arith, past, length-map coils (λ (x : PlanCoil). x.name)))
+          ∙ ap (λ (x : PlanCoil). x.name) (sym (get_or_past coils c.0 no_coil past))
+
+  named_is : (a : Action) → named_effect (names_from cs) a ≡ effect_of (plan_from cs) a
+  named_is (Post e) = ap posts (event_name e)
+  named_is (Pulse c ms power) = ap (λ n. works n (pulse ms power)) (coil_name c)
+  named_is (Enable c power) = ap (λ n. works n (enable power)) (coil_name c)
+  named_is (Disable c) = ap (λ n. works n disable) (coil_name c)
+
+-- ---- what is done
+
+module _ (P : Effect → Type 0) (S L : List ℕ → Type 0) where
+  module _ (cs : List Contribution) where
+    abbrev AtEvent : EventId → Type 0
+    AtEvent e = S (slice_index_or (names_from cs Events) e.0 [])
+
+    abbrev AtAction : Action → Type 0
+    AtAction a = P (named_effect (names_from cs) a)
+
+    is_met : (c : Contribution) → IsKnown (names_from cs) c → Does P S L c → IsMet AtEvent AtAction (names_from cs) c
+    is_met (active n) known h = subst S (sym (at_number (names_from cs Events) n known)) h
+    is_met (inactive n) known h = subst S (sym (at_number (names_from cs Events) n known)) h
+    is_met (does e) known h = subst P (sym (effect_named (names_from cs) e known)) h
+    is_met (does_in k e) known h = subst P (sym (effect_named (names_from cs) e known)) h
+    is_met _ known h = tt
+
+    pub done_from : All (Does P S L) cs → IsDone P S (plan_from cs)
+    done_from h =
+        let meet = meet_drafted AtEvent AtAction (names_from cs) cs (λ i d within. is_met (get_or cs i d) (all_known cs i d within) (h i d within)) in
+        let event : (e : EventId) → AtEvent e → S (name_of_event (plan_from cs) e) = λ e. subst S (event_name cs e) in
+        let events = All-weaker AtEvent (λ e. S (name_of_event (plan_from cs) e)) event in
+        record {
+          switches = All-weaker (IsPosting AtEvent AtAction) (λ s. All (λ e. S (name_of_event (plan_from cs) e)) s.active × All (λ e. S (name_of_event (plan_from cs) e)) s.inactive)
+              (λ s posts. (events s.active posts.0, events s.inactive posts.1)) (plan_from cs).switches meet.switches;
+          lists = All-weaker (All AtAction) (All (λ a. P (effect_of (plan_from cs) a)))
+              (λ actions. All-weaker AtAction (λ a. P (effect_of (plan_from cs) a)) (λ a. subst P (named_is cs a)) actions) (plan_from cs).lists meet.lists;
+        }
+
+  done_of_plan : (rows : Rows) → All (Does P S L) (contributions_of rows) → IsDone P S (plan_of rows)
+  unfolding plan_of
+  done_of_plan rows h = done_from (contributions_of rows) h
+
+  -- P holds of all that the plan does, by names
+  pub done-named : (rows : Rows) (plan : PlanView) → plan_at rows ≡ Ok plan → All (Does P S L) (contributions_of rows) → IsDone P S plan
+  done-named rows plan is h = subst (IsDone P S) (sym (plan_at-Ok rows plan is).0) (done_of_plan rows h)

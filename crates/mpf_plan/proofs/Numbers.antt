@@ -1,0 +1,38 @@
+-- Names stand at their numbers.
+use Rattle.std.proofs.Common.{◌≡◌, ℕ, suc, ◌+◌, ◌<◌, Bool, true, false, cond, not, List, [], ◌∷◌, length, get_or, slice_index_or, refl, sym, ◌∙◌, ap, arith}
+use Rattle.std.specs.Str.{bytes_eq}
+use Rattle.std.specs.List.{position_or_len}
+use Rattle.std.proofs.lemmas.Slice.Eq.{bytes_eq-Decides}
+use Rattle.plan_tables.specs.declared.entries.Action.{Action}
+use Rattle.plan_tables.specs.declared.entries.Action.TheVariants.{Post, Pulse, Enable, Disable}
+use Rattle.plan_tables.specs.declared.table.Table.TheVariants.{Events, Coils}
+use Rattle.plan_contributions.specs.DeviceEntries.{pulse, enable, disable, Effect, posts, works}
+use Rattle.plan_contributions.specs.UsedNames.{used_by}
+use Rattle.mpf_plan.specs.Uses.{Names, number_among}
+use Rattle.mpf_plan.specs.PlanOf.{action_of}
+use Rattle.mpf_plan.proofs.Among.{IsAmong}
+
+-- a name stands at its number
+pub at_number : (names : List (List ℕ)) (n : List ℕ) → number_among names n < length names → get_or names (number_among names n) [] ≡ n
+at_number [] n within = absurd (omega arith)
+at_number (x ∷ xs) n within = by (at_number xs n) (bytes_eq n x) refl within
+  where
+    by : (position_or_len (bytes_eq n) xs < length xs → get_or xs (position_or_len (bytes_eq n) xs) [] ≡ n) → (b : Bool) → bytes_eq n x ≡ b → cond (not b) (1 + position_or_len (bytes_eq n) xs) 0 < suc (length xs) → get_or (x ∷ xs) (cond (not b) (1 + position_or_len (bytes_eq n) xs) 0) [] ≡ n
+    by rest true same inside = sym ((bytes_eq-Decides n x).0 same)
+    by rest false other inside =
+        let next : 1 + position_or_len (bytes_eq n) xs ≡ suc (position_or_len (bytes_eq n) xs) = omega arith in
+        ap (λ k. get_or (x ∷ xs) k []) next ∙ rest (omega (arith, inside))
+
+-- an action, by the names at its numbers
+abbrev pub named_effect : Names → Action → Effect
+named_effect names (Post e) = posts (slice_index_or (names Events) e.0 [])
+named_effect names (Pulse c ms power) = works (slice_index_or (names Coils) c.0 []) (pulse ms power)
+named_effect names (Enable c power) = works (slice_index_or (names Coils) c.0 []) (enable power)
+named_effect names (Disable c) = works (slice_index_or (names Coils) c.0 []) disable
+
+-- an effect is what its action does, by names
+pub effect_named : (names : Names) (e : Effect) → IsAmong names (used_by e) → named_effect names (action_of names e) ≡ e
+effect_named names (posts n) known = ap posts (at_number (names Events) n known)
+effect_named names (works n (pulse ms power)) known = ap (λ m. works m (pulse ms power)) (at_number (names Coils) n known)
+effect_named names (works n (enable power)) known = ap (λ m. works m (enable power)) (at_number (names Coils) n known)
+effect_named names (works n disable) known = ap (λ m. works m disable) (at_number (names Coils) n known)
