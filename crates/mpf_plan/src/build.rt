@@ -18,14 +18,15 @@ use std::alloc::Global;
 /// The plan of the rows.
 ///
 /// The rows of the machine text come first, then those of one mode after the other, in the order of
-/// the modes. Bindings are in this order, and modes are numbered in it. Events are numbered in the
-/// order of their first uses, as sections and entries are written. A switch uses what it posts,
-/// first when it becomes active, then when it becomes inactive, whatever the order of its settings.
-/// An entry of `event_player` uses the event that it handles, then those that it posts. A device
-/// uses the events that it handles, then those that its settings name, then those that its effect
-/// lists post. A mode uses
-/// its five events in the order of [`plan_tables::ModeEvents`], then the events that start it, then
-/// those that stop it. The rows of its text come after these.
+/// the modes. Bindings are in this order, and modes are numbered in it. Events, switches and coils
+/// are numbered in the order of their first uses, as sections and entries are written. A switch uses
+/// what it posts, first when it becomes active, then when it becomes inactive, whatever the order of
+/// its settings. An entry of `event_player` uses the event that it handles, then those that it
+/// posts; one of `coil_player` the event that it handles, then the coils of its items. A device uses
+/// the switch to which it listens, if there is one, then the events that it handles, then those that
+/// its settings name, then what its effect lists post and the coils with which they do something. A
+/// mode uses its five events in the order of [`plan_tables::ModeEvents`], then the events that start
+/// it, then those that stop it. The rows of its text come after these.
 ///
 /// When a switch becomes active, it posts `NAME_active`, then `sw_TAG` for each of its tags, then
 /// its `events_when_activated`. When it becomes inactive, it posts `NAME_inactive`, then its
@@ -35,7 +36,10 @@ use std::alloc::Global;
 /// Each event in `start_events` of a mode is bound to its start, and each in `stop_events` to its
 /// stop. So is `ball_ending` to its stop where `stop_on_ball_end` holds, and `game_ending` where
 /// `game_mode` holds. These bindings are the machine's, at the mode's priority. The entries of
-/// `event_player` in the mode's text are bindings of the mode, at its priority.
+/// `event_player` and `coil_player` in the mode's text are bindings of the mode, at its priority.
+///
+/// An entry of `coils` says what its coil may be sent. What an item of `coil_player` does not say is
+/// as the entry of its coil has it.
 ///
 /// Each entry of `counters`, `accruals`, `sequences` and `timers` is a row of a device, numbered in
 /// the same order, with its effect lists. Events that it handles are bound to what they do with the
@@ -45,6 +49,11 @@ use std::alloc::Global;
 /// post `logicblock_NAME_updated`, `logicblock_NAME_hit` and `logicblock_NAME_complete`, the last
 /// two unless events are written in their place; those of a timer post `timer_NAME_started`,
 /// `timer_NAME_stopped`, `timer_NAME_paused`, `timer_NAME_tick` and `timer_NAME_complete`.
+///
+/// So are the entries of `flippers` and `autofire_coils` in the machine text. Each listens to its
+/// switch, and its control events are bound to what they do with the row. The first effect list of a
+/// flipper is what it does with its coils while its switch is active, and the second ends that; that
+/// of an autofire coil pulses the coil.
 ///
 /// # Errors
 ///
