@@ -10,13 +10,14 @@ use Rattle.mpf_sections.specs.Rows.{Coil, SectionRows}
 use Rattle.mpf_sections.specs.TypedCoils.{coils_in}
 use Rattle.mpf_config.specs.Rows.{Rows}
 use Rattle.plan_tables.specs.declared.entries.CoilLimits.{CoilLimits}
+use Rattle.plan_tables.specs.declared.entries.ModeEvent.TheVariants.{WillStart}
 use Rattle.plan_tables.specs.declared.table.Table.{Table}
 use Rattle.plan_tables.specs.declared.table.Table.TheVariants.{Events, Switches, Coils}
 use Rattle.plan_tables.specs.Limits.{order_of}
 use Rattle.machine_definitions.specs.Definitions.{latest_coil, coil_called}
 use Rattle.plan_contributions.specs.DeviceEntries.{Effect, posts, works}
 use Rattle.plan_contributions.specs.CoilEntries.{limits_of_coil}
-use Rattle.plan_contributions.specs.Contributions.{Contribution, gives, reads, active, inactive, mode, mode_event, binds, does, device, does_in, listens, mentions, coil, contributions_of}
+use Rattle.plan_contributions.specs.Contributions.{Contribution, gives, reads, active, inactive, mode, mode_event, mode_event_name, binds, does, device, does_in, listens, mentions, coil, contributions_of}
 use Rattle.plan_contributions.specs.Doing.{Does}
 use Rattle.plan_contributions.specs.Facts.{given_coil}
 use Rattle.plan_contributions.specs.UsedNames.{used, given, name_in_table, given_names}
@@ -60,60 +61,54 @@ module _ (n : List ℕ) where
   abbrev is_it : List ℕ × CoilLimits → Bool
   is_it g = bytes_eq n g.0
 
+  abbrev is_called : Coil → Bool
+  is_called c = bytes_eq n c.name.text
+
   -- a coil that is found is one of them
-  found_there : (cs : List Coil) (o : Option Coil) (c : Coil) → fold (latest_coil n) o cs ≡ Some c → o ≡ None → list_any (λ x. bytes_eq n x.name.text) cs ≡ true
-  found_there cs o c is none = by cs o is (λ x some. absurd (apart x (sym none ∙ some)))
+  found_step : (c x : Coil) (cs : List Coil) (o : Option Coil) (b : Bool)
+      → (fold (latest_coil n) o cs ≡ Some c → ((y : Coil) → o ≡ Some y → list_any is_called cs ≡ true) → list_any is_called cs ≡ true)
+      → fold (latest_coil n) (if b then Some x else o) cs ≡ Some c → ((y : Coil) → o ≡ Some y → (b || list_any is_called cs) ≡ true) → (b || list_any is_called cs) ≡ true
+  found_step c x cs o true rest is old = refl
+  found_step c x cs o false rest is old = rest is old
+
+  found_any : (c : Coil) (cs : List Coil) (o : Option Coil) → fold (latest_coil n) o cs ≡ Some c → ((y : Coil) → o ≡ Some y → list_any is_called cs ≡ true) → list_any is_called cs ≡ true
+  found_any c [] o is old = old c is
+  found_any c (x ∷ cs) o is old = found_step c x cs o (is_called x) (found_any c cs o) is old
+
+  found_there : (cs : List Coil) (c : Coil) → fold (latest_coil n) None cs ≡ Some c → list_any is_called cs ≡ true
+  found_there cs c is = found_any c cs None is (λ x some. absurd (apart x some))
     where
       apart : (x : Coil) → None ≡ Some x → ⊥
       apart x e = cc
 
-      by : (cs : List Coil) (o : Option Coil) → fold (latest_coil n) o cs ≡ Some c → ((x : Coil) → o ≡ Some x → list_any (λ y. bytes_eq n y.name.text) cs ≡ true) → list_any (λ y. bytes_eq n y.name.text) cs ≡ true
-      by [] o is old = old c is
-      by (x ∷ cs) o is old = step (bytes_eq n x.name.text) refl
-        where
-          rest : Bool
-          rest = list_any (λ y. bytes_eq n y.name.text) cs
+  abbrev as_given : Coil → List ℕ × CoilLimits
+  as_given c = (c.name.text, limits_of_coil c)
 
-          step : (b : Bool) → bytes_eq n x.name.text ≡ b → (bytes_eq n x.name.text || rest) ≡ true
-          step true same = or_first (bytes_eq n x.name.text) rest same
-          step false same = or_second (bytes_eq n x.name.text) rest (by cs o (ap (λ b. fold (latest_coil n) (if b then Some x else o) cs) (sym same) ∙ is) (λ y some. keep y some))
-            where
-              keep : (y : Coil) → o ≡ Some y → rest ≡ true
-              keep y some = ap (λ b. b || rest) (sym same) ∙ old y some
-
-  as_given-any : (cs : List Coil) → list_any (λ x. bytes_eq n x.name.text) cs ≡ true → list_any is_it (map (λ c. (c.name.text, limits_of_coil c)) cs) ≡ true
-  as_given-any [] is = is
-  as_given-any (c ∷ cs) is = by (bytes_eq n c.name.text) is
-    where
-      by : (b : Bool) → (b || list_any (λ x. bytes_eq n x.name.text) cs) ≡ true → (b || list_any is_it (map (λ c. (c.name.text, limits_of_coil c)) cs)) ≡ true
-      by true is = refl
-      by false is = as_given-any cs is
+  as_given-any : (cs : List Coil) → list_any is_called cs ≡ list_any is_it (map as_given cs)
+  as_given-any [] = refl
+  as_given-any (c ∷ cs) = ap (λ b. bytes_eq n c.name.text || b) (as_given-any cs)
 
   -- a coil that a contribution gives is among the names that are given
   coil-named : (cs : List Contribution) → list_any is_it (flat_map given_coil cs) ≡ true → list_any (bytes_eq n) (given_names Coils cs) ≡ true
   coil-named [] is = is
-  coil-named (c ∷ cs) is = by c is
+  coil-named (c ∷ cs) is = by c (coil-named cs) is
     where
-      rest : list_any is_it (flat_map given_coil cs) ≡ true → list_any (bytes_eq n) (name_in_table Coils (given c) ++ given_names Coils cs) ≡ true
-      rest h =
-          list_any-append (bytes_eq n) (name_in_table Coils (given c)) (given_names Coils cs)
-          ∙ or_second (list_any (bytes_eq n) (name_in_table Coils (given c))) (list_any (bytes_eq n) (given_names Coils cs)) (coil-named cs h)
+      own : (b : Bool) → (list_any is_it (flat_map given_coil cs) ≡ true → list_any (bytes_eq n) (given_names Coils cs) ≡ true) → (b || list_any is_it (flat_map given_coil cs)) ≡ true → (b || list_any (bytes_eq n) (given_names Coils cs)) ≡ true
+      own true rest h = refl
+      own false rest h = rest h
 
-      own : (x : List ℕ) (b : Bool) → (b || list_any is_it (flat_map given_coil cs)) ≡ true → (b || list_any (bytes_eq n) (given_names Coils cs)) ≡ true
-      own x true h = refl
-      own x false h = coil-named cs h
-
-      by : (c : Contribution) → list_any is_it (given_coil c ++ flat_map given_coil cs) ≡ true → list_any (bytes_eq n) (name_in_table Coils (given c) ++ given_names Coils cs) ≡ true
-      by (coil x limits) h = own x (bytes_eq n x) h
-      by (gives t x) h =
+      by : (c : Contribution) → (list_any is_it (flat_map given_coil cs) ≡ true → list_any (bytes_eq n) (given_names Coils cs) ≡ true) → list_any is_it (given_coil c ++ flat_map given_coil cs) ≡ true
+          → list_any (bytes_eq n) (name_in_table Coils (given c) ++ given_names Coils cs) ≡ true
+      by (coil x limits) rest h = own (bytes_eq n x) rest h
+      by (gives t x) rest h =
           list_any-append (bytes_eq n) (name_in_table Coils (Some (t, x))) (given_names Coils cs)
-          ∙ or_second (list_any (bytes_eq n) (name_in_table Coils (Some (t, x)))) (list_any (bytes_eq n) (given_names Coils cs)) (coil-named cs h)
-      by _ h = coil-named cs h
+          ∙ or_second (list_any (bytes_eq n) (name_in_table Coils (Some (t, x)))) (list_any (bytes_eq n) (given_names Coils cs)) (rest h)
+      by _ rest h = rest h
 
   coil_given : (rows : Rows) (c : Coil) → coil_called rows.machine n ≡ Some c → list_any (bytes_eq n) (given_names Coils (contributions_of rows)) ≡ true
   coil_given rows c is =
       coil-named (contributions_of rows)
-      (ap (list_any is_it) (coils_given rows) ∙ as_given-any (flat_map coils_in rows.machine) (found_there (flat_map coils_in rows.machine) None c is refl))
+      (ap (list_any is_it) (coils_given rows) ∙ sym (as_given-any (flat_map coils_in rows.machine)) ∙ found_there (flat_map coils_in rows.machine) c is)
 
 -- ---- all contributions
 
@@ -138,8 +133,8 @@ module _ (rows : Rows) (sound : IsSound rows) where
   is_given i d (device place settings) within at h = tt
   is_given i d (active n) within at h = never n
   is_given i d (inactive n) within at h = never n
-  is_given i d (mode n priority game) within at h = never _
-  is_given i d (mode_event which n) within at h = never _
+  is_given i d (mode n priority game) within at h = never (mode_event_name WillStart n)
+  is_given i d (mode_event which n) within at h = never (mode_event_name which n)
   is_given i d (binds n place aim) within at h = never n
   is_given i d (mentions n) within at h = never n
 

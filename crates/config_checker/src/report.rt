@@ -1,5 +1,6 @@
 //! Why a configuration is refused.
 
+ghost use Rattle.std.specs.Prelude.{◌≡◌};
 ghost use Rattle.config_checker.specs.declared.report.Report.TheVariants.{NoMemory};
 
 use plan_tables::table::Table;

@@ -1,0 +1,10 @@
+use Rattle.std.proofs.Common.{◌≡◌, ◌++◌, map}
+use Rattle.std.specs.Vec.Iter.{into_iter_items}
+use Rattle.row_faults.specs.View.{row_faults_view}
+use Rattle.config_checker.specs.FaultView.{row}
+use Rattle.config_checker.specs.View.{faults_view}
+use Rattle.config_checker.proofs.checker.faults_of.Given as goal
+
+-- the faults so far, and those that are left
+abbrev pub invariant-loop-fault : goal.invariant-loop-fault
+invariant-loop-fault l = faults_view l.faults.items ++ map row (row_faults_view (into_iter_items l.fault-iterator)) ≡ map row (row_faults_view l.fn.own.items)
