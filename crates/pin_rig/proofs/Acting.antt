@@ -1,8 +1,13 @@
 -- A rig that is held acts on an input that is not refused, and is held again.
-use Rattle.std.proofs.Common.{◌≡◌, ℕ, ◌<◌, ◌^◌, Ok, ◌++◌, List, length, refl, ap, sym, ◌∙◌, subst, arith}
-use Rattle.std.proofs.lemmas.List.{length-map}
+use Rattle.std.proofs.Common.{◌≡◌, ℕ, ◌+◌, ◌<◌, ◌≤◌, ◌^◌, None, Ok, List, ◌++◌, length, take, drop, refl, ap, sym, ◌∙◌, subst, arith}
+use Rattle.std.specs.List.{All}
+use Rattle.std.proofs.lemmas.Option.{slice_get_within, none-some}
+use Rattle.std.proofs.lemmas.List.{length-map, take_all, take-append-drop}
 use Rattle.plan_tables.specs.PlanView.{PlanView}
 use Rattle.plan_tables.specs.declared.entries.SwitchKind.{SwitchKind}
+use Rattle.coil_guard.specs.declared.state.CoilState.{CoilState}
+use Rattle.coil_guard.specs.SentCommands.{coil_of}
+use Rattle.written_machine.specs.declared.line.Line.{Line}
 use Rattle.written_machine.specs.Machine.{Machine}
 use Rattle.written_machine.specs.EventStep.{EventSteps}
 use Rattle.written_machine.specs.PlanOrder.{plan_steps}
@@ -11,25 +16,41 @@ use Rattle.written_machine.specs.CheckedView.{CheckedView}
 use Rattle.written_machine.specs.Accepted.{IsAccepted}
 use Rattle.written_machine.proofs.PlanSteps.{plan_steps-event_steps}
 use Rattle.written_machine.proofs.Reached.{reached-next, reached-within, reached-same, reached-has_states, reached-devices, reached-kinds, reached-complete, reached-modes}
-use Rattle.written_machine.proofs.Alarms.{has_states-begin, moment-begin}
+use Rattle.written_machine.proofs.Alarms.{has_states-begin, moment-begin, moment-after}
+use Rattle.written_machine.specs.NextAlarm.{next_alarm}
 use Rattle.written_machine.proofs.Silence.{begin-still}
 use Rattle.pin_rig.specs.declared.input.Input.{Input}
-use Rattle.pin_rig.specs.Core.{CoreView, CanCall, HandlesFor, IsPlayable, HasRoom, StaysWithin, HasSettled, after}
+use Rattle.pin_rig.specs.Core.{CoreView, IsCoreOf, CanCall, HandlesFor, IsPlayable, HasRoom, StaysWithin, HasSettled, after}
 use Rattle.pin_rig.proofs.Settling.{follows-handles}
-use Rattle.pin_rig.specs.Rig.{RigView, stimulus_at, RigStep}
+use Rattle.pin_rig.specs.Board.{HasTakenAll, commands_of, after_lines}
+use Rattle.pin_rig.specs.Driver.{DriverView, IsSendable, HasSent, HasStopped}
+use Rattle.pin_rig.specs.Rig.{RigView, stimulus_at, RigCascade, RigStep, RigHalt}
 use Rattle.pin_rig.specs.Inside.{IsHeld}
-use Rattle.pin_rig.proofs.Judging.{judged-allowed, judged-asks, AsksFor}
+use Rattle.pin_rig.proofs.Judging.{judged-allowed, judged-running, judged-asks, AsksFor}
+use Rattle.pin_rig.proofs.Room.{drop-found}
+use Rattle.pin_rig.proofs.Sending.{Agrees, cascade-agrees, sent-sendable}
 
 -- what a machine is asked for its core can do
-asked-playable : (c : CheckedView) (core : CoreView) (stimulus : Stimulus) → length core.machine.switches.kinds ≡ length c.plan.switches → AsksFor (record { checked = c; machine = core.machine }) stimulus → IsPlayable core stimulus
-asked-playable c core (Change at switch level) count asks = let within = asks.1 in (asks.0, omega arith)
-asked-playable c core (Alarm at source) count asks = asks
-asked-playable c core (Wait at) count asks = asks
+asked-playable : (rig : RigView) (core : CoreView) (stimulus : Stimulus) → rig.machine ≡ core.machine → length core.machine.switches.kinds ≡ length rig.checked.plan.switches → AsksFor rig stimulus → IsPlayable core stimulus
+asked-playable rig core (Change at switch level) is count asks = let within = asks.1 in (asks.0, omega arith)
+asked-playable rig core (Alarm at source) is count asks = (asks.0, ap next_alarm (sym is) ∙ asks.1)
+asked-playable rig core (Wait at) is count asks = asks
 
-module _ (c : CheckedView) (core : CoreView) (held : IsHeld c core) (accepted : IsAccepted c)
-    (input : Input) (stimulus : Stimulus) (judged : stimulus_at (record { checked = c; machine = core.machine }) input ≡ Ok stimulus) where
+-- what is seen of a rig that holds these
+abbrev pub rig_of : CheckedView → CoreView → DriverView → ℕ → RigView
+rig_of c core driver shown = record {
+  checked = c;
+  machine = core.machine;
+  lines = take shown core.machine.lines;
+  board = driver.board;
+  sent = driver.sent;
+  faulted = driver.faulted;
+}
+
+module _ (c : CheckedView) (core : CoreView) (driver : DriverView) (shown : ℕ) (held : IsHeld c core driver shown) (accepted : IsAccepted c)
+    (input : Input) (stimulus : Stimulus) (judged : stimulus_at (rig_of c core driver shown) input ≡ Ok stimulus) where
   abbrev pub rig : RigView
-  rig = record { checked = c; machine = core.machine }
+  rig = rig_of c core driver shown
 
   abbrev pub begun : Machine
   begun = begin c.plan stimulus core.machine
@@ -37,8 +58,11 @@ module _ (c : CheckedView) (core : CoreView) (held : IsHeld c core) (accepted : 
   allowed : IsAllowed c.plan core.machine stimulus
   allowed = judged-allowed rig input stimulus judged
 
+  running : driver.faulted ≡ None
+  running = judged-running rig input stimulus judged
+
   pub playable : IsPlayable core stimulus
-  playable = asked-playable c core stimulus held.core_is.kinds (judged-asks rig input stimulus judged)
+  playable = asked-playable rig core stimulus refl held.core_is.kinds (judged-asks rig input stimulus judged)
 
   stays : StaysWithin c.plan core.room begun
   stays n =
@@ -61,8 +85,8 @@ module _ (c : CheckedView) (core : CoreView) (held : IsHeld c core) (accepted : 
 
   begun-calls : CanCall c.plan (after (begin c.plan stimulus) core)
   begun-calls =
-      let states = reached-has_states c.plan held.reached.0 core.machine held.reached.1 in
-      ((has_states-begin c.plan stimulus core.machine states).devices, omega (arith, early, moment-begin c.plan stimulus core.machine))
+      let states = has_states-begin c.plan stimulus core.machine (reached-has_states c.plan held.reached.0 core.machine held.reached.1) in
+      record { devices = states.devices; coils = states.coils.count; early = omega (arith, early, moment-begin c.plan stimulus core.machine) }
 
   module _ (new : CoreView) (settled : HasSettled c.plan (after (begin c.plan stimulus) core) new) where
     -- as many steps as the bound allows lead to the same state
@@ -72,41 +96,108 @@ module _ (c : CheckedView) (core : CoreView) (held : IsHeld c core) (accepted : 
         let idle = ap (λ (s : Machine). s.waiting) (sym there) ∙ settled.settles in
         sym (reached-same c accepted held.reached.0 core.machine held.reached.1 stimulus allowed settled.count idle) ∙ sym there
 
-    steps : (n : ℕ) × EventSteps c.plan n begun (plan_steps c.plan c.bound begun)
-    steps = plan_steps-event_steps c.plan c.bound begun
+    count : ℕ
+    count = (plan_steps-event_steps c.plan c.bound begun).0
 
-    step : RigStep input rig (record { checked = c; machine = new.machine })
-    step = record {
-      stimulus = stimulus;
-      stimulus_is = judged;
-      allowed = allowed;
-      checked_is = refl;
-      machine_is = sym same;
-      count = steps.0;
-      steps = subst (EventSteps c.plan steps.0 begun) same steps.1;
-      settles = settled.settles;
-    }
+    steps : EventSteps c.plan count begun new.machine
+    unfolding count
+    steps = subst (EventSteps c.plan count begun) same (plan_steps-event_steps c.plan c.bound begun).1
+
+    agrees : Agrees core.machine.coils new.machine
+    agrees = cascade-agrees c.plan stimulus core.machine count new.machine steps
 
     reached : IsReached c.plan (held.reached.0 ++ (plan_steps c.plan c.bound begun).lines) new.machine
     reached =
         subst (IsReached c.plan (held.reached.0 ++ (plan_steps c.plan c.bound begun).lines)) same
         (reached-next c accepted held.reached.0 core.machine held.reached.1 stimulus allowed)
 
-    held-on : IsHeld c new
-    held-on =
+    late : new.machine.moment < 2 ^ 40
+    late = omega (arith, early, moment-after c.plan stimulus core.machine count new.machine steps)
+
+    -- its lines can be sent
+    sendable : All (IsSendable (length driver.sent)) new.machine.lines
+    sendable = sent-sendable new.machine.moment core.machine.coils (length driver.sent) new.machine.lines late (ap (λ (s : List CoilState). length s) (sym (held.all_sent running))) agrees.sent
+
+    core-again : IsCoreOf c.plan new
+    core-again =
         let trace = held.reached.0 ++ (plan_steps c.plan c.bound begun).lines in
         record {
-          core_is = record {
-            devices = reached-devices c.plan trace new.machine reached;
-            modes = reached-modes c.plan trace new.machine reached;
-            handlers = follows-handles c.plan (plan_steps c.plan settled.count) (after (begin c.plan stimulus) core) new begun-handles settled.new_is;
-            kinds = ap (λ (kinds : List SwitchKind). length kinds) (reached-kinds c.plan trace new.machine reached) ∙ length-map c.plan.switches (λ s. s.kind);
-            complete = reached-complete c.plan trace new.machine reached accepted.valid;
-          };
-          room = let was = held.room in let is = ap (λ (v : CoreView). v.room) settled.new_is in omega (arith, was, is);
-          accepted = accepted;
-          reached = (trace, reached);
+          devices = reached-devices c.plan trace new.machine reached;
+          coils = (reached-has_states c.plan trace new.machine reached).coils.count;
+          modes = reached-modes c.plan trace new.machine reached;
+          handlers = follows-handles c.plan (plan_steps c.plan settled.count) (after (begin c.plan stimulus) core) new begun-handles settled.new_is;
+          kinds = ap (λ (kinds : List SwitchKind). length kinds) (reached-kinds c.plan trace new.machine reached) ∙ length-map c.plan.switches (λ s. s.kind);
+          complete = reached-complete c.plan trace new.machine reached accepted.valid;
         }
+
+    -- with what is sent of them
+    module _ (sent : DriverView) (counted : length sent.sent ≡ length driver.sent) (place : ℕ) where
+      cascade : sent.sent ≡ after_lines (take place new.machine.lines) driver.sent → RigCascade input rig (rig_of c new sent place)
+      cascade sent_is = record {
+        stimulus = stimulus;
+        stimulus_is = judged;
+        allowed = allowed;
+        checked_is = refl;
+        machine_is = sym same;
+        count = count;
+        steps = steps;
+        settles = settled.settles;
+        sent_is = sent_is;
+      }
+
+      held-on : place ≤ length new.machine.lines → (sent.faulted ≡ None → (place ≡ length new.machine.lines) × (sent.sent ≡ new.machine.coils)) → IsHeld c new sent place
+      held-on within all = record {
+        accepted = accepted;
+        core_is = core-again;
+        early = late;
+        room = let was = held.room in let is = ap (λ (v : CoreView). v.room) settled.new_is in omega (arith, was, is);
+        reached = (held.reached.0 ++ (plan_steps c.plan c.bound begun).lines, reached);
+        coils = counted ∙ held.coils;
+        shown_within = within;
+        all_shown = λ none. (all none).0;
+        all_sent = λ none. (all none).1;
+      }
+
+      -- all
+      module _ (whole : HasSent new.machine.lines driver sent) (place_is : place ≡ length new.machine.lines) where
+        shown-all : take place new.machine.lines ≡ new.machine.lines
+        shown-all = take_all place new.machine.lines (omega (arith, place_is))
+
+        whole-step : RigStep input rig (rig_of c new sent place)
+        whole-step = record {
+          cascade = cascade (whole.sent ∙ ap (λ ls. after_lines ls driver.sent) (sym shown-all));
+          lines_are = shown-all;
+          taken = subst (λ ls. HasTakenAll (commands_of ls) driver.board sent.board) (sym shown-all) whole.taken;
+          running = whole.faulted ∙ running;
+        }
+
+        whole-held : IsHeld c new sent place
+        whole-held =
+            held-on (omega (arith, place_is))
+            (λ none. (place_is, whole.sent ∙ ap (after_lines new.machine.lines) (held.all_sent running) ∙ sym agrees.coils))
+
+      -- or those before one that the board has not taken
+      module _ (part : HasStopped new.machine.lines place driver sent) where
+        part-halt : RigHalt input rig (rig_of c new sent place)
+        part-halt =
+            let ls = new.machine.lines in
+            record {
+              cascade = cascade (part.fault.fault.sent ∙ part.earlier.sent);
+              line = part.line;
+              command = part.fault.command;
+              later = drop (place + 1) ls;
+              lines_are = sym (take-append-drop place ls) ∙ ap (λ rest. take place ls ++ rest) (drop-found ls place part.line part.there);
+              line_is = part.fault.line_is;
+              board = part.mid.board;
+              taken = part.earlier.taken;
+              not_taken = part.fault.fault.not_taken;
+              halted = part.fault.fault.faulted;
+            }
+
+        part-held : IsHeld c new sent place
+        part-held =
+            let within = slice_get_within new.machine.lines place part.line part.there in
+            held-on (omega (arith, within)) (λ none. absurd (none-some (coil_of part.fault.command) (sym none ∙ part.fault.fault.faulted)))
 
   -- the same, as the plan is read
   module _ (plan : PlanView) (plan_is : plan ≡ c.plan) where
@@ -135,8 +226,29 @@ module _ (c : CheckedView) (core : CoreView) (held : IsHeld c core) (accepted : 
             subst (λ (p : PlanView). HasSettled p (after (begin p stimulus) core) new) plan_is
             (subst (λ (v : CoreView). HasSettled plan v new) begun_is settled)
 
-        pub acts : RigStep input rig (record { checked = c; machine = new.machine })
-        acts = step new settled-here
+        pub can-send : (ls : List Line) → ls ≡ new.machine.lines → All (IsSendable (length driver.sent)) ls
+        can-send ls is = subst (All (IsSendable (length driver.sent))) (sym is) (sendable new settled-here)
 
-        pub held-again : IsHeld c new
-        held-again = held-on new settled-here
+        module _ (sent : DriverView) (counted : length sent.sent ≡ length driver.sent) (place : ℕ) (ls : List Line) (lines_are : ls ≡ new.machine.lines) where
+          module _ (whole : HasSent ls driver sent) (place_is : place ≡ length ls) where
+            whole-here : HasSent new.machine.lines driver sent
+            whole-here = subst (λ t. HasSent t driver sent) lines_are whole
+
+            place-here : place ≡ length new.machine.lines
+            place-here = place_is ∙ ap (λ (t : List Line). length t) lines_are
+
+            pub steps-on : RigStep input rig (rig_of c new sent place)
+            steps-on = whole-step new settled-here sent counted place whole-here place-here
+
+            pub held-again : IsHeld c new sent place
+            held-again = whole-held new settled-here sent counted place whole-here place-here
+
+          module _ (part : HasStopped ls place driver sent) where
+            part-here : HasStopped new.machine.lines place driver sent
+            part-here = subst (λ t. HasStopped t place driver sent) lines_are part
+
+            pub halts : RigHalt input rig (rig_of c new sent place)
+            halts = part-halt new settled-here sent counted place part-here
+
+            pub held-halted : IsHeld c new sent place
+            held-halted = part-held new settled-here sent counted place part-here

@@ -1,7 +1,12 @@
 -- What is done with the modes, and with the handlers of those that run.
-use Rattle.std.proofs.Common.{◌≡◌, ℕ, zero, suc, Bool, true, false, List, ◌∷◌, length, set, replicate, refl, sym, ap, ◌∙◌}
+use Rattle.std.proofs.Common.{◌≡◌, ℕ, zero, suc, Bool, true, false, if◌then◌else◌, List, [], ◌∷◌, length, set, replicate, refl, sym, ap, ◌∙◌}
 use Rattle.std.proofs.lemmas.List.{map-set}
-use Rattle.plan_tables.specs.PlanView.{PlanView, mode_event}
+use Rattle.plan_tables.specs.PlanView.{PlanView, coil_numbers, mode_event}
+use Rattle.plan_tables.specs.declared.entries.CoilId.{CoilId}
+use Rattle.plan_tables.specs.declared.entries.Owner.{Owner}
+use Rattle.coil_guard.specs.declared.command.Command.TheVariants as commands
+use Rattle.coil_guard.specs.CoilStep.{is_held_by}
+use Rattle.coil_guard.specs.Coils.{coil_at}
 use Rattle.plan_tables.specs.declared.entries.ModeEvent.TheVariants.{Started, Stopping, Stopped}
 use Rattle.plan_tables.specs.declared.entries.Owner.TheVariants as owners
 use Rattle.plan_tables.specs.declared.entries.Work.TheVariants.{Mode}
@@ -15,7 +20,7 @@ use Rattle.mode_stack.proofs.WhoRuns.{starting_keeps_who_runs}
 use Rattle.event_queue.specs.Handlers.{none_running, set_running}
 use Rattle.device_objects.specs.declared.device.Call.{Call}
 use Rattle.device_objects.specs.declared.device.Call.TheVariants as calls
-use Rattle.written_machine.specs.Machine.{Machine, post, set_mode, stop_mode, call_devices}
+use Rattle.written_machine.specs.Machine.{Machine, all_do, post, set_mode, stop_mode, call_devices, ask_coil, release_coil, release_coils}
 use Rattle.written_machine.specs.EventStep.{do_before, do_after}
 use Rattle.written_machine.proofs.Does.{stop-by}
 use Rattle.written_machine.proofs.Parts.{does-calls}
@@ -71,17 +76,31 @@ started-follows plan c entered_core new m was is =
       room = c.room;
     })
 
-pub ended-follows : (plan : PlanView) (kept : Bool) (c stopped ended_core : CoreView) (m : ModeId) → c.handlers.running ≡ running_of c.machine.modes
+-- while its coils are put off too
+freed-modes : (owner : Owner) (coils : List CoilId) (s : Machine) → (all_do (release_coil owner) coils s).modes ≡ s.modes
+freed-modes owner [] s = refl
+freed-modes owner (coil ∷ coils) s = freed-modes owner coils (release_coil owner coil s) ∙ by (is_held_by owner (coil_at s.coils coil))
+  where
+    by : (b : Bool) → (if b then ask_coil owner (commands.Disable coil) s else s).modes ≡ s.modes
+    by true = refl
+    by false = refl
+
+pub freed-still : (plan : PlanView) (owner : Owner) (s : Machine) → running_of (release_coils plan owner s).modes ≡ running_of s.modes
+freed-still plan owner s = ap (λ (states : List ModeState). running_of states) (freed-modes owner (coil_numbers plan) s)
+
+pub ended-follows : (plan : PlanView) (kept : Bool) (c stopped freed ended_core : CoreView) (m : ModeId) → c.handlers.running ≡ running_of c.machine.modes
     → stopped ≡ after (call_devices plan calls.ModeStop m) c
-    → ended_core ≡ record stopped { machine = set_mode m (ended (mode_state stopped.machine.modes m)) stopped.machine; handlers = set_running stopped.handlers m false }
+    → freed ≡ after (release_coils plan (owners.Mode m)) stopped
+    → ended_core ≡ record freed { machine = set_mode m (ended (mode_state freed.machine.modes m)) freed.machine; handlers = set_running freed.handlers m false }
     → after (post owners.Machine (mode_event plan m Stopped)) ended_core ≡ follow (do_after plan kept (Mode m Stopping)) c
-ended-follows plan kept c stopped ended_core m is was then =
+ended-follows plan kept c stopped freed ended_core m is was free last =
     let calls_done = call_devices plan calls.ModeStop m c.machine in
-    let running = is ∙ sym (calls-still plan calls.ModeStop m c.machine) in
-    ap (after (post owners.Machine (mode_event plan m Stopped))) then
-    ∙ ap (λ (v : CoreView). after (post owners.Machine (mode_event plan m Stopped)) (record v { machine = set_mode m (ended (mode_state v.machine.modes m)) v.machine; handlers = set_running v.handlers m false })) was
+    let free_now = release_coils plan (owners.Mode m) calls_done in
+    let running = is ∙ sym (freed-still plan (owners.Mode m) calls_done ∙ calls-still plan calls.ModeStop m c.machine) in
+    ap (after (post owners.Machine (mode_event plan m Stopped))) last
+    ∙ ap (λ (v : CoreView). after (post owners.Machine (mode_event plan m Stopped)) (record v { machine = set_mode m (ended (mode_state v.machine.modes m)) v.machine; handlers = set_running v.handlers m false })) (free ∙ ap (after (release_coils plan (owners.Mode m))) was)
     ∙ (λ i. record {
-      handlers = record { plan = c.handlers.plan; running = ended-runs calls_done.modes m c.handlers.running running i };
-      machine = post owners.Machine (mode_event plan m Stopped) (set_mode m (ended (mode_state calls_done.modes m)) calls_done);
+      handlers = record { plan = c.handlers.plan; running = ended-runs free_now.modes m c.handlers.running running i };
+      machine = post owners.Machine (mode_event plan m Stopped) (set_mode m (ended (mode_state free_now.modes m)) free_now);
       room = c.room;
     })

@@ -3,6 +3,7 @@ use Rattle.std.proofs.Common.{◌≡◌, ℕ, ◌<◌, ◌≤◌, ◌^◌, nat_l
 use Rattle.std.specs.Result.{result_and}
 use Rattle.std.proofs.lemmas.Bool.{cond_both, cond-true, cond-false, ltb-true, ltb-false, lt-ltb, le-ltb, leb-false, lt-leb}
 use Rattle.plan_tables.specs.declared.entries.SwitchId.{SwitchId}
+use Rattle.plan_tables.specs.declared.entries.CoilId.{CoilId}
 use Rattle.plan_tables.specs.Valid.{IsValid}
 use Rattle.written_machine.specs.Machine.{Machine}
 use Rattle.written_machine.specs.Run.{Source, Stimulus, Change, Alarm, Wait, IsTimely, IsAllowed}
@@ -14,7 +15,7 @@ use Rattle.pin_rig.specs.declared.input.Input.TheVariants as inputs
 use Rattle.pin_rig.specs.declared.input.StepFault.{StepFault}
 use Rattle.pin_rig.specs.declared.input.StepFault.TheVariants as faults
 use Rattle.pin_rig.specs.Refused.{is_too_late, admitted}
-use Rattle.pin_rig.specs.Rig.{RigView, timely, alarm_at, stimulus_at, IsOfRun}
+use Rattle.pin_rig.specs.Rig.{RigView, timely, alarm_at, stimulus_in, unless_halted, stimulus_at, HasFailed, IsWhy, IsOfRun}
 use Rattle.pin_rig.specs.Steps.{IsOfInput}
 
 ok_is : (a b : Stimulus) → ◌≡◌ {A = Result Stimulus StepFault} (Ok a) (Ok b) → a ≡ b
@@ -90,24 +91,24 @@ change-is rig at switch level given =
     (λ t h. cc)
 
 -- so it may come
-pub judged-allowed : (rig : RigView) (input : Input) (given : Stimulus) → stimulus_at rig input ≡ Ok given → IsAllowed rig.checked.plan rig.machine given
-judged-allowed rig (inputs.Change at switch level) given h =
+in-allowed : (rig : RigView) (input : Input) (given : Stimulus) → stimulus_in rig.checked rig.machine input ≡ Ok given → IsAllowed rig.checked.plan rig.machine given
+in-allowed rig (inputs.Change at switch level) given h =
     let (time, within, is) = change-is rig at switch level given h in
     subst (IsAllowed rig.checked.plan rig.machine) is (time, within)
-judged-allowed rig inputs.Alarm given h =
+in-allowed rig inputs.Alarm given h =
     let a = alarm-is rig.machine given (next_alarm rig.machine) refl h in
     subst (IsAllowed rig.checked.plan rig.machine) a.given_is (found-is_next rig.machine a.at a.source a.next, a.early)
-judged-allowed rig (inputs.Wait at) given h =
+in-allowed rig (inputs.Wait at) given h =
     let (time, is) = timely-is rig.machine at (Wait at) given h in
     subst (IsAllowed rig.checked.plan rig.machine) is time
 
 -- and it is the stimulus of the input
-pub judged-of_input : (rig : RigView) (input : Input) (given : Stimulus) → stimulus_at rig input ≡ Ok given → IsOfInput input given
-judged-of_input rig (inputs.Change at switch level) given h = let (time, within, is) = change-is rig at switch level given h in sym is
-judged-of_input rig inputs.Alarm given h =
+in-of_input : (rig : RigView) (input : Input) (given : Stimulus) → stimulus_in rig.checked rig.machine input ≡ Ok given → IsOfInput input given
+in-of_input rig (inputs.Change at switch level) given h = let (time, within, is) = change-is rig at switch level given h in sym is
+in-of_input rig inputs.Alarm given h =
     let a = alarm-is rig.machine given (next_alarm rig.machine) refl h in
     (a.at, a.source, sym a.given_is)
-judged-of_input rig (inputs.Wait at) given h = let (time, is) = timely-is rig.machine at (Wait at) given h in sym is
+in-of_input rig (inputs.Wait at) given h = let (time, is) = timely-is rig.machine at (Wait at) given h in sym is
 
 -- what it asks for is there
 abbrev pub AsksFor : RigView → Stimulus → Type 0
@@ -115,14 +116,14 @@ AsksFor rig (Change at switch level) = (at < 2 ^ 40) × (switch.0 < length rig.c
 AsksFor rig (Alarm at source) = (at < 2 ^ 40) × (next_alarm rig.machine ≡ Some (at, source))
 AsksFor rig (Wait at) = at < 2 ^ 40
 
-pub judged-asks : (rig : RigView) (input : Input) (given : Stimulus) → stimulus_at rig input ≡ Ok given → AsksFor rig given
-judged-asks rig (inputs.Change at switch level) given h =
+in-asks : (rig : RigView) (input : Input) (given : Stimulus) → stimulus_in rig.checked rig.machine input ≡ Ok given → AsksFor rig given
+in-asks rig (inputs.Change at switch level) given h =
     let (time, within, is) = change-is rig at switch level given h in
     subst (AsksFor rig) is (time.early, within)
-judged-asks rig inputs.Alarm given h =
+in-asks rig inputs.Alarm given h =
     let a = alarm-is rig.machine given (next_alarm rig.machine) refl h in
     subst (AsksFor rig) a.given_is (a.early, a.next)
-judged-asks rig (inputs.Wait at) given h =
+in-asks rig (inputs.Wait at) given h =
     let (time, is) = timely-is rig.machine at (Wait at) given h in
     subst (AsksFor rig) is time.early
 
@@ -133,14 +134,103 @@ timely-ok s at stimulus time =
     ap (λ (r : Result Unit StepFault). result_and r (cond (is_due_by at s) (Err faults.AlarmPending) (Ok stimulus))) (admitted-ok s.moment at time.forward time.early)
     ∙ cond-false (is_due_by at s) (Err faults.AlarmPending) (Ok stimulus) (nothing-not_due s at time.quiet)
 
-pub allowed-judged : (rig : RigView) (input : Input) (given : Stimulus) → IsOfInput input given → IsAllowed rig.checked.plan rig.machine given → stimulus_at rig input ≡ Ok given
-allowed-judged rig (inputs.Change at switch level) given is allowed =
+allowed-in : (rig : RigView) (input : Input) (given : Stimulus) → IsOfInput input given → IsAllowed rig.checked.plan rig.machine given → stimulus_in rig.checked rig.machine input ≡ Ok given
+allowed-in rig (inputs.Change at switch level) given is allowed =
     let (time, within) = subst (IsAllowed rig.checked.plan rig.machine) is allowed in
     cond-true (nat_lt switch.0 (length rig.checked.plan.switches)) (timely rig.machine at (Change at switch level)) (Err faults.NoSuchSwitch) (lt-ltb switch.0 (length rig.checked.plan.switches) within)
     ∙ timely-ok rig.machine at (Change at switch level) time ∙ ap Ok (sym is)
-allowed-judged rig inputs.Alarm given (at, source, is) allowed =
+allowed-in rig inputs.Alarm given (at, source, is) allowed =
     let (next, early) = subst (IsAllowed rig.checked.plan rig.machine) is allowed in
     ap alarm_at (next-is_found rig.machine at source next)
     ∙ cond-false (nat_le (2 ^ 40) at) (Err faults.TooLate) (Ok (Alarm at source)) (lt-leb (2 ^ 40) at early) ∙ ap Ok (sym is)
-allowed-judged rig (inputs.Wait at) given is allowed =
+allowed-in rig (inputs.Wait at) given is allowed =
     timely-ok rig.machine at (Wait at) (subst (IsAllowed rig.checked.plan rig.machine) is allowed) ∙ ap Ok (sym is)
+
+-- ---- as long as the rig is not halted
+
+ok-running : (halted : Option CoilId) (given : Result Stimulus StepFault) (stimulus : Stimulus) → unless_halted halted given ≡ Ok stimulus → (halted ≡ None) × (given ≡ Ok stimulus)
+ok-running None given stimulus h = (refl, h)
+ok-running (Some coil) given stimulus h = cc
+
+module _ (rig : RigView) (input : Input) (given : Stimulus) (judged : stimulus_at rig input ≡ Ok given) where
+  both : (rig.faulted ≡ None) × (stimulus_in rig.checked rig.machine input ≡ Ok given)
+  both = ok-running rig.faulted (stimulus_in rig.checked rig.machine input) given judged
+
+  pub judged-running : rig.faulted ≡ None
+  judged-running = both.0
+
+  pub judged-allowed : IsAllowed rig.checked.plan rig.machine given
+  judged-allowed = in-allowed rig input given both.1
+
+  pub judged-of_input : IsOfInput input given
+  judged-of_input = in-of_input rig input given both.1
+
+  pub judged-asks : AsksFor rig given
+  judged-asks = in-asks rig input given both.1
+
+pub allowed-judged : (rig : RigView) (input : Input) (given : Stimulus) → rig.faulted ≡ None → IsOfInput input given → IsAllowed rig.checked.plan rig.machine given → stimulus_at rig input ≡ Ok given
+allowed-judged rig input given running is allowed =
+    ap (λ (halted : Option CoilId). unless_halted halted (stimulus_in rig.checked rig.machine input)) running ∙ allowed-in rig input given is allowed
+
+-- ---- an input that is refused is not one at which the board does not take a command
+
+abbrev IsRefusal : StepFault → Type 0
+IsRefusal faults.BoardFault = ⊥
+IsRefusal fault = Unit {0}
+
+-- where there is one, it is a refusal
+abbrev Refuses : Result Stimulus StepFault → Type 0
+Refuses (Ok stimulus) = Unit {0}
+Refuses (Err fault) = IsRefusal fault
+
+timely-refuses : (s : Machine) (at : ℕ) (stimulus : Stimulus) → Refuses (timely s at stimulus)
+timely-refuses s at stimulus = by (nat_lt at s.moment) (is_too_late at) (is_due_by at s)
+  where
+    by : (back late due : Bool) → Refuses (result_and (if back then Err faults.Backwards else if late then Err faults.TooLate else Ok (tt {0})) (if due then Err faults.AlarmPending else Ok stimulus))
+    by true late due = tt
+    by false true due = tt
+    by false false true = tt
+    by false false false = tt
+
+in-refuses : (rig : RigView) (input : Input) → Refuses (stimulus_in rig.checked rig.machine input)
+in-refuses rig (inputs.Change at switch level) = by (nat_lt switch.0 (length rig.checked.plan.switches))
+  where
+    by : (there : Bool) → Refuses (if there then timely rig.machine at (Change at switch level) else Err faults.NoSuchSwitch)
+    by true = timely-refuses rig.machine at (Change at switch level)
+    by false = tt
+in-refuses rig inputs.Alarm = by (next_alarm rig.machine)
+  where
+    late : (a : ℕ × Source) (b : Bool) → Refuses (if b then Err faults.TooLate else Ok (Alarm a.0 a.1))
+    late a true = tt
+    late a false = tt
+
+    by : (o : Option (ℕ × Source)) → Refuses (alarm_at o)
+    by None = tt
+    by (Some a) = late a (is_too_late a.0)
+in-refuses rig (inputs.Wait at) = timely-refuses rig.machine at (Wait at)
+
+refuses : (rig : RigView) (input : Input) → Refuses (stimulus_at rig input)
+refuses rig input = by rig.faulted
+  where
+    by : (halted : Option CoilId) → Refuses (unless_halted halted (stimulus_in rig.checked rig.machine input))
+    by None = in-refuses rig input
+    by (Some coil) = tt
+
+-- so nothing has changed, and this is why
+pub refused-failed : (input : Input) (old new : RigView) (fault : StepFault) → stimulus_at old input ≡ Err fault → new ≡ old → HasFailed input old new fault
+refused-failed input old new faults.BoardFault is same = absurd (subst Refuses is (refuses old input))
+refused-failed input old new faults.Halted is same = (is, same)
+refused-failed input old new faults.NoSuchSwitch is same = (is, same)
+refused-failed input old new faults.NoAlarm is same = (is, same)
+refused-failed input old new faults.Backwards is same = (is, same)
+refused-failed input old new faults.TooLate is same = (is, same)
+refused-failed input old new faults.AlarmPending is same = (is, same)
+
+pub failed-why : (input : Input) (old new : RigView) (fault : StepFault) → HasFailed input old new fault → IsWhy (stimulus_at old input) fault
+failed-why input old new faults.BoardFault h = (h.cascade.stimulus, h.cascade.stimulus_is)
+failed-why input old new faults.Halted h = h.0
+failed-why input old new faults.NoSuchSwitch h = h.0
+failed-why input old new faults.NoAlarm h = h.0
+failed-why input old new faults.Backwards h = h.0
+failed-why input old new faults.TooLate h = h.0
+failed-why input old new faults.AlarmPending h = h.0

@@ -10,3 +10,8 @@ pub mod Settling
 pub mod Acting
 pub mod Running
 pub mod Following
+pub mod Callable
+pub mod Releasing
+pub mod Sending
+pub mod Serving
+pub mod PuttingOff

@@ -16,11 +16,12 @@ use Rattle.cascade_rank.proofs.Outcomes.{outcomes_of_row}
 use Rattle.cascade_rank.proofs.Rows.{length-rows, row_of}
 use Rattle.written_machine.specs.Devices.{HasDevices}
 use Rattle.written_machine.specs.Machine.{Machine, all_do, do_action, do_list, world_of, device_at, called, call_device}
-use Rattle.written_machine.proofs.Does.{grows-does, has_devices-does, moment-does}
+use Rattle.written_machine.proofs.Does.{grows-does}
 use Rattle.written_machine.proofs.Growth.{all_do-grows, action-grows}
 use Rattle.written_machine.proofs.Parts.{does-call}
 use Rattle.pin_rig.specs.Core.{CoreView, CanCall, after}
 use Rattle.pin_rig.proofs.Room.{Grows}
+use Rattle.pin_rig.proofs.Callable.{can-does}
 
 module _ (plan : PlanView) where
   pub list-grows : (r : RowId) (k : ℕ) (s : Machine) → Grows s (do_list plan (row_at plan r).owner (list_of_row plan r k) s)
@@ -68,4 +69,4 @@ module _ (plan : PlanView) where
   pub call-calls : (call : Call) (r : RowId) (now next : CoreView) → next ≡ after (call_device plan call r) now → CanCall plan now → CanCall plan next
   call-calls call r now next is h =
       let does = does-call plan (λ owner. Unit {0}) ⊥ call r (λ own. tt) now.machine in
-      subst (CanCall plan) (sym is) (has_devices-does plan does h.0, omega (arith, h.1, moment-does plan does))
+      subst (CanCall plan) (sym is) (can-does plan now (after (call_device plan call r) now) does h)

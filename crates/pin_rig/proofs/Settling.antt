@@ -42,7 +42,7 @@ follow-none plan c was = λ i. record { handlers = record { plan = c.handlers.pl
 pub written-calls : (plan : PlanView) (now took written : CoreView) (first : Posted) (rest : List Posted) → took ≡ after (λ s. record s { waiting = rest }) now → written ≡ after (write first.owner (happenings.Event first.event)) took
     → CanCall plan now → CanCall plan written
 written-calls plan now took written first rest took_is written_is h =
-    subst (CanCall plan) (sym (written_is ∙ ap (after (write first.owner (happenings.Event first.event))) took_is)) h
+    subst (CanCall plan) (sym (written_is ∙ ap (after (write first.owner (happenings.Event first.event))) took_is)) (record { devices = h.devices; coils = h.coils; early = h.early })
 
 -- After so many event steps of a core that has room for all of them, an event waits.
 module _ (plan : PlanView) (start now : CoreView) (was : HandlesFor plan start) (stays : StaysWithin plan start.room start.machine)

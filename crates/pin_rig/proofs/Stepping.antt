@@ -1,5 +1,5 @@
 -- What is done at an event that was taken: the machine's work before its handlers, they, and the work after them.
-use Rattle.std.proofs.Common.{◌≡◌, Bool, List, refl, ap, sym, ◌∙◌, subst, arith}
+use Rattle.std.proofs.Common.{◌≡◌, Bool, List, refl, ap, sym, ◌∙◌, subst}
 use Rattle.plan_tables.specs.declared.entries.BindingId.{BindingId}
 use Rattle.plan_tables.specs.PlanView.{PlanView, work_of}
 use Rattle.plan_tables.specs.declared.entries.EventId.{EventId}
@@ -8,12 +8,13 @@ use Rattle.mode_stack.specs.Modes.{running_of}
 use Rattle.event_queue.specs.PlanOrder.{in_order}
 use Rattle.written_machine.specs.Machine.{Machine, all_do, do_handler}
 use Rattle.written_machine.specs.EventStep.{is_kept, do_before, do_after}
-use Rattle.written_machine.proofs.Does.{Grows, grows-does, has_devices-does, moment-does}
+use Rattle.written_machine.proofs.Does.{Grows, grows-does}
 use Rattle.written_machine.proofs.Growth.{all_do-grows, handler-grows}
 use Rattle.written_machine.proofs.Parts.{does-handlers, does-before, does-after}
 use Rattle.written_machine.proofs.Silence.{handlers-still}
 use Rattle.pin_rig.specs.Core.{CoreView, CanCall, HandlesFor, HasRoom, after, follow, after_taken}
 use Rattle.pin_rig.proofs.Room.{room-before}
+use Rattle.pin_rig.proofs.Callable.{can-does}
 
 -- what is done to one machine alike leaves one core alike
 follow-same : (f g : Machine → Machine) (c : CoreView) → f c.machine ≡ g c.machine → follow f c ≡ follow g c
@@ -25,12 +26,12 @@ module _ (plan : PlanView) where
   pub before-calls : (work : Work) (old ready : CoreView) → ready ≡ follow (do_before plan work) old → CanCall plan old → CanCall plan ready
   before-calls work old ready is h =
       let does = does-before plan work old.machine in
-      subst (CanCall plan) (sym is) (has_devices-does plan does h.0, omega (arith, h.1, moment-does plan does))
+      subst (CanCall plan) (sym is) (can-does plan old (follow (do_before plan work) old) does h)
 
   pub handled-calls : (order : List BindingId) (old then : CoreView) → then ≡ after (all_do (do_handler plan) order) old → CanCall plan old → CanCall plan then
   handled-calls order old then is h =
       let does = does-handlers plan (λ owner. Unit {0}) ⊥ order (λ i d there. tt) old.machine in
-      subst (CanCall plan) (sym is) (has_devices-does plan does h.0, omega (arith, h.1, moment-does plan does))
+      subst (CanCall plan) (sym is) (can-does plan old (after (all_do (do_handler plan) order) old) does h)
 
   pub taken-calls : (event : EventId) (old last : CoreView) → last ≡ follow (after_taken plan event) old → CanCall plan old → CanCall plan last
   taken-calls event old last is h =
@@ -40,7 +41,7 @@ module _ (plan : PlanView) where
       let then = after (all_do (do_handler plan) order) opened in
       let done = handled-calls order opened then refl ready in
       let does = does-after plan (is_kept (work_of plan event) old.machine) event then.machine in
-      subst (CanCall plan) (sym is) (has_devices-does plan does done.0, omega (arith, done.1, moment-does plan does))
+      subst (CanCall plan) (sym is) (can-does plan then (follow (do_after plan (is_kept (work_of plan event) old.machine) (work_of plan event)) then) does done)
 
 module _ (plan : PlanView) (event : EventId) where
   -- the handlers of the event in plan order

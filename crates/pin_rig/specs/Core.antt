@@ -36,9 +36,12 @@ follow does c = record {
   room = c.room;
 }
 
--- devices can be called: each has a state of its shape, and the moment is not too late
-abbrev pub CanCall : PlanView → CoreView → Type 0
-CanCall plan c = HasDevices plan c.machine.devices × (c.machine.moment < 2 ^ 40)
+-- devices can be called, and coils asked: each device has a state of its shape, there are all coils, and the moment is
+-- not too late
+pub record CanCall (plan : PlanView) (c : CoreView) : Type 0 where
+  pub devices : HasDevices plan c.machine.devices
+  pub coils : length c.machine.coils ≡ length plan.coils
+  pub early : c.machine.moment < 2 ^ 40
 
 -- it has the handlers of the modes that run
 abbrev pub HandlesFor : PlanView → CoreView → Type 0
@@ -59,9 +62,10 @@ after_taken plan e s =
 abbrev pub no_world : World
 no_world = record { games = 0; player = 0 }
 
--- the machine of the plan is kept: it has its modes and devices, the handlers of the modes that run, and all its switches
+-- the machine of the plan is kept: it has its modes, devices and coils, the handlers of the modes that run, and all its switches
 pub record IsCoreOf (plan : PlanView) (c : CoreView) : Type 0 where
   pub devices : HasDevices plan c.machine.devices
+  pub coils : length c.machine.coils ≡ length plan.coils
   pub modes : length c.machine.modes ≡ length plan.modes
   pub handlers : HandlesFor plan c
   pub kinds : length c.machine.switches.kinds ≡ length plan.switches

@@ -1,7 +1,12 @@
 -- A rig, and what a step of it does.
-use Rattle.std.specs.Prelude.{◌≡◌, ℕ, nat_lt, if◌then◌else◌, Option, Some, None, Result, Ok, Err, List, [], length}
+use Rattle.std.specs.Prelude.{◌≡◌, ℕ, nat_lt, if◌then◌else◌, Option, Some, None, Result, Ok, Err, List, [], ◌∷◌, ◌++◌, length}
 use Rattle.std.specs.Result.{result_and}
+use Rattle.plan_tables.specs.declared.entries.CoilId.{CoilId}
+use Rattle.coil_guard.specs.declared.command.Command.{Command}
+use Rattle.coil_guard.specs.declared.state.CoilState.{CoilState}
+use Rattle.coil_guard.specs.SentCommands.{coil_of}
 use Rattle.written_machine.specs.declared.line.Line.{Line}
+use Rattle.written_machine.specs.declared.line.Happening.TheVariants as lines
 use Rattle.written_machine.specs.CheckedView.{CheckedView}
 use Rattle.written_machine.specs.Machine.{Machine}
 use Rattle.written_machine.specs.EventStep.{EventSteps}
@@ -13,11 +18,19 @@ use Rattle.pin_rig.specs.declared.input.Input.TheVariants as inputs
 use Rattle.pin_rig.specs.declared.input.StepFault.{StepFault}
 use Rattle.pin_rig.specs.declared.input.StepFault.TheVariants as faults
 use Rattle.pin_rig.specs.Refused.{is_too_late, admitted}
+use Rattle.pin_rig.specs.Board.{BoardView, HasTakenAll, HasNotTaken, commands_of, after_lines}
 
--- what was accepted, and the state of its machine
 pub record RigView : Type 0 where
+  -- what was accepted, and the state of its machine
   pub checked : CheckedView
   pub machine : Machine
+  -- the lines of the latest stimulus that are shown: all, or those before the command that the board has not taken
+  pub lines : List Line
+  pub board : BoardView
+  -- what a guard knows that was asked for just the commands that the board has taken
+  pub sent : List CoilState
+  -- the coil whose command the board has not taken; from then on the rig is halted
+  pub faulted : Option CoilId
 
 -- ---- which stimulus an input is, or why it is refused: the first reason in this order
 
@@ -30,16 +43,26 @@ abbrev pub alarm_at : Option (ℕ × Source) → Result Stimulus StepFault
 alarm_at None = Err faults.NoAlarm
 alarm_at (Some a) = if is_too_late a.0 then Err faults.TooLate else Ok (Alarm a.0 a.1)
 
+-- what the input is to the machine
+abbrev pub stimulus_in : CheckedView → Machine → Input → Result Stimulus StepFault
+stimulus_in checked s (inputs.Change at switch level) =
+    if nat_lt switch.0 (length checked.plan.switches) then timely s at (Change at switch level) else Err faults.NoSuchSwitch
+stimulus_in checked s inputs.Alarm = alarm_at (next_alarm s)
+stimulus_in checked s (inputs.Wait at) = timely s at (Wait at)
+
+-- a halted rig refuses every input
+abbrev pub unless_halted : Option CoilId → Result Stimulus StepFault → Result Stimulus StepFault
+unless_halted None given = given
+unless_halted (Some coil) given = Err faults.Halted
+
 abbrev pub stimulus_at : RigView → Input → Result Stimulus StepFault
-stimulus_at rig (inputs.Change at switch level) =
-    if nat_lt switch.0 (length rig.checked.plan.switches) then timely rig.machine at (Change at switch level) else Err faults.NoSuchSwitch
-stimulus_at rig inputs.Alarm = alarm_at (next_alarm rig.machine)
-stimulus_at rig (inputs.Wait at) = timely rig.machine at (Wait at)
+stimulus_at rig input = unless_halted rig.faulted (stimulus_in rig.checked rig.machine input)
 
 -- ---- steps
 
--- The input is a stimulus that is allowed, and the state after it is that after its event steps in plan order, at whose end no event waits.
-pub record RigStep (input : Input) (old new : RigView) : Type 0 where
+-- The input is a stimulus that is allowed, and the machine is in the state after its event steps in plan order, at whose
+-- end no event waits. The guard of what was sent was asked for the commands of the lines that are shown.
+pub record RigCascade (input : Input) (old new : RigView) : Type 0 where
   pub stimulus : Stimulus
   pub stimulus_is : stimulus_at old input ≡ Ok stimulus
   pub allowed : IsAllowed old.checked.plan old.machine stimulus
@@ -48,7 +71,47 @@ pub record RigStep (input : Input) (old new : RigView) : Type 0 where
   pub count : ℕ
   pub steps : EventSteps old.checked.plan count (begin old.checked.plan stimulus old.machine) new.machine
   pub settles : new.machine.waiting ≡ []
+  pub sent_is : new.sent ≡ after_lines new.lines old.sent
 
--- a run of the plan leads to the state, between two stimuli
+-- All lines of the cascade are shown, and the board has taken just their commands.
+pub record RigStep (input : Input) (old new : RigView) : Type 0 where
+  pub cascade : RigCascade input old new
+  pub lines_are : new.lines ≡ new.machine.lines
+  pub taken : HasTakenAll (commands_of new.lines) old.board new.board
+  pub running : new.faulted ≡ None
+
+-- The board has not taken a command of the cascade. The lines before its line are shown, the board has taken just their
+-- commands, and the rig is halted.
+pub record RigHalt (input : Input) (old new : RigView) : Type 0 where
+  pub cascade : RigCascade input old new
+  pub line : Line
+  pub command : Command
+  pub later : List Line
+  pub lines_are : new.machine.lines ≡ new.lines ++ line ∷ later
+  pub line_is : line.happening ≡ lines.Coil command
+  pub board : BoardView
+  pub taken : HasTakenAll (commands_of new.lines) old.board board
+  pub not_taken : HasNotTaken board new.board
+  pub halted : new.faulted ≡ Some (coil_of command)
+
+-- Why a step gives no lines: the board has not taken a command; or the input is refused, and nothing has changed.
+abbrev pub HasFailed : Input → RigView → RigView → StepFault → Type 0
+HasFailed input old new faults.BoardFault = RigHalt input old new
+HasFailed input old new fault = (stimulus_at old input ≡ Err fault) × (new ≡ old)
+
+-- Where the board has not taken a command, the input was a stimulus; else it is refused for this reason.
+abbrev pub IsWhy : Result Stimulus StepFault → StepFault → Type 0
+IsWhy given faults.BoardFault = (stimulus : Stimulus) × (given ≡ Ok stimulus)
+IsWhy given fault = given ≡ Err fault
+
+-- a run of the plan leads to the machine's state, between two stimuli
 abbrev pub IsOfRun : RigView → Type 0
 IsOfRun rig = (trace : List Line) × IsReached rig.checked.plan trace rig.machine
+
+-- As long as the board takes all commands, all lines are shown, and the guard of what was sent is the machine's.
+pub record IsRunning (rig : RigView) : Type 0 where
+  pub lines_are : rig.lines ≡ rig.machine.lines
+  pub sent_is : rig.sent ≡ rig.machine.coils
+
+abbrev pub RunsUnlessHalted : RigView → Type 0
+RunsUnlessHalted rig = rig.faulted ≡ None → IsRunning rig

@@ -1,21 +1,44 @@
 -- Steps, one after another.
-use Rattle.std.specs.Prelude.{◌≡◌, ◌↔◌, ℕ, List, [], ◌∷◌, ◌++◌, Ok}
+use Rattle.std.specs.Prelude.{◌≡◌, ◌↔◌, ℕ, None, List, [], ◌∷◌, ◌++◌, Ok}
+use Rattle.coil_guard.specs.Asked.{limits_of}
+use Rattle.coil_guard.specs.Coils.{all_off}
+use Rattle.coil_guard.specs.Follows.{Follows}
 use Rattle.written_machine.specs.declared.line.Line.{Line}
 use Rattle.written_machine.specs.CheckedView.{CheckedView}
+use Rattle.written_machine.specs.Accepted.{IsAccepted}
 use Rattle.written_machine.specs.Machine.{initial}
 use Rattle.written_machine.specs.Run.{Source, Stimulus, Change, Alarm, Wait, IsAllowed, IsRun}
+use Rattle.written_machine.specs.Sent.{sendings}
 use Rattle.pin_rig.specs.declared.input.Input.{Input}
 use Rattle.pin_rig.specs.declared.input.Input.TheVariants as inputs
-use Rattle.pin_rig.specs.Rig.{RigView, stimulus_at, RigStep}
+use Rattle.pin_rig.specs.Board.{BoardView, commands_of, TellsMore}
+use Rattle.pin_rig.specs.Rig.{RigView, stimulus_at, RigStep, RigHalt}
 
 -- each input is a step, and the trace is the lines of all, step by step
 abbrev pub AreSteps : List Input → RigView → List Line → RigView → Type 0
 AreSteps [] old trace new = (trace ≡ []) × (new ≡ old)
 AreSteps (input ∷ more) old trace new = (mid : RigView) × (rest : List Line) × RigStep input old mid × AreSteps more mid rest new × (trace ≡ mid.machine.lines ++ rest)
 
--- a new rig
-abbrev pub at_rest : CheckedView → RigView
-at_rest c = record { checked = c; machine = initial c.plan }
+-- These inputs are steps, and at one more the board has not taken a command. Of its lines some are in the trace alone, and
+-- not shown.
+pub record AreStepsToHalt (inputs : List Input) (last : Input) (old : RigView) (trace shown : List Line) (new : RigView) : Type 0 where
+  pub mid : RigView
+  pub earlier : List Line
+  pub steps : AreSteps inputs old earlier mid
+  pub halt : RigHalt last mid new
+  pub trace_is : trace ≡ earlier ++ new.machine.lines
+  pub shown_is : shown ≡ earlier ++ new.lines
+
+-- a new rig, with this board
+abbrev pub at_rest : CheckedView → BoardView → RigView
+at_rest c board = record {
+  checked = c;
+  machine = initial c.plan;
+  lines = [];
+  board = board;
+  sent = all_off (limits_of c.plan);
+  faulted = None;
+}
 
 -- the stimulus that an input is: which alarm comes, the run itself says
 abbrev pub IsOfInput : Input → Stimulus → Type 0
@@ -38,10 +61,29 @@ pub record IsRunOf (inputs : List Input) (old : RigView) (trace : List Line) (ne
   pub run : IsRun old.checked.plan stimuli old.machine trace new.machine
   pub settles : new.machine.waiting ≡ []
 
--- Steps of a new rig are a run of its plan.
+-- Steps of a new rig are a run of its plan, and a board has taken just the commands of its trace.
 abbrev pub StepsAreRun : Type 0
-StepsAreRun = (c : CheckedView) (inputs : List Input) (trace : List Line) (new : RigView) → AreSteps inputs (at_rest c) trace new → IsRunOf inputs (at_rest c) trace new
+StepsAreRun =
+    (c : CheckedView) (board : BoardView) (inputs : List Input) (trace : List Line) (new : RigView) → AreSteps inputs (at_rest c board) trace new
+    → IsRunOf inputs (at_rest c board) trace new × TellsMore (commands_of trace) board.told new.board.told
 
--- An input is taken exactly where it is a stimulus that may come.
+-- So are steps with a last one at which the board has not taken a command. It has taken just those of the lines before,
+-- which are shown.
+abbrev pub HaltedStepsAreRun : Type 0
+HaltedStepsAreRun =
+    (c : CheckedView) (board : BoardView) (inputs : List Input) (last : Input) (trace shown : List Line) (new : RigView) → AreStepsToHalt inputs last (at_rest c board) trace shown new
+    → IsRunOf (inputs ++ last ∷ []) (at_rest c board) trace new × TellsMore (commands_of shown) board.told new.board.told
+    × ((later : List Line) × (trace ≡ shown ++ later))
+
+-- What the guard of what was sent knows follows from the commands of the lines that were shown.
+pub record SentIsShown : Type 0 where
+  pub steps : (c : CheckedView) (board : BoardView) (inputs : List Input) (trace : List Line) (new : RigView) → IsAccepted c → AreSteps inputs (at_rest c board) trace new
+      → Follows (limits_of c.plan) (sendings trace) new.sent new.machine.moment
+  pub halt : (c : CheckedView) (board : BoardView) (inputs : List Input) (last : Input) (trace shown : List Line) (new : RigView) → IsAccepted c
+      → AreStepsToHalt inputs last (at_rest c board) trace shown new → Follows (limits_of c.plan) (sendings shown) new.sent new.machine.moment
+
+-- An input is taken exactly where the rig is not halted and it is a stimulus that may come.
 abbrev pub TakesWhatMayCome : Type 0
-TakesWhatMayCome = (rig : RigView) (input : Input) (stimulus : Stimulus) → (stimulus_at rig input ≡ Ok stimulus) ↔ (IsOfInput input stimulus × IsAllowed rig.checked.plan rig.machine stimulus)
+TakesWhatMayCome =
+    (rig : RigView) (input : Input) (stimulus : Stimulus)
+    → (stimulus_at rig input ≡ Ok stimulus) ↔ ((rig.faulted ≡ None) × IsOfInput input stimulus × IsAllowed rig.checked.plan rig.machine stimulus)

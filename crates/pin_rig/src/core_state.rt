@@ -6,8 +6,10 @@ ghost use Rattle.event_queue.specs.PlanOrder.{bound_in_order, GoesOn};
 ghost use Rattle.mode_stack.specs.ModeStep.{starts, started, stopped, stop_answer, entered, ended};
 ghost use Rattle.mode_stack.specs.Modes.{needs_game, mode_state};
 ghost use Rattle.switch_core.specs.Switches.{after_change, reported_by_change, next_due, after_fire, reported_by_fire};
+ghost use Rattle.coil_guard.specs.Coils.{after_release, answer_release};
+ghost use Rattle.coil_guard.specs.SentCommands.{coil_of};
 ghost use Rattle.device_objects.specs.Laws.{MayCome};
-ghost use Rattle.written_machine.specs.Machine.{initial, write, post, set_switches, set_mode, set_device, device_at, called, is_post};
+ghost use Rattle.written_machine.specs.Machine.{initial, write, post, set_switches, set_mode, set_device, set_coils, ask_coil, device_at, called, is_post};
 ghost use Rattle.written_machine.specs.Run.{arrived};
 ghost use Rattle.device_objects.specs.DeviceStep.{device_step};
 ghost use Rattle.pin_rig.specs.Core.{no_world};
@@ -19,6 +21,7 @@ ghost use Rattle.pin_rig.specs.Inside.{alarm_view};
 use crate::fit::first_wrong;
 use crate::input::RigFault;
 use crate::stimulus::Source;
+use coil_guard::{Answer, Coils, Command};
 use device_objects::{Call, Device, DeviceState, Outcome, World};
 use event_queue::{Alarms, Handlers, Posted, Queue};
 use mode_stack::{Modes, StopAnswer};
@@ -29,8 +32,8 @@ use switch_core::{Change, Switches};
 use written_machine::{Happening, Line};
 
 /// The moment of the latest stimulus, the switches, the modes, the devices and their alarms, the
-/// events that wait and what handles them, and the lines of the latest stimulus. Only `new` takes
-/// memory.
+/// coils, the events that wait and what handles them, and the lines of the latest stimulus. Only
+/// `new` takes memory.
 #[derive(Drop)]
 pub(crate) struct Core<'p, D: Device> {
     moment: u64,
@@ -39,6 +42,7 @@ pub(crate) struct Core<'p, D: Device> {
     /// At each row's number the device of the row.
     devices: Vec<D>,
     alarms: Alarms,
+    coils: Coils,
     queue: Queue,
     handlers: Handlers<'p>,
     lines: Vec<Line>,
@@ -53,7 +57,7 @@ impl<'p, D: Device> Model for Core<'p, D> {
 
     ghost view = { λ c. record {
       handlers = c.handlers;
-      machine = record { moment = c.moment; switches = c.switches; modes = c.modes.modes; devices = map D.state_of c.devices.items; waiting = c.queue.waiting; lines = c.lines.items };
+      machine = record { moment = c.moment; switches = c.switches; modes = c.modes.modes; devices = map D.state_of c.devices.items; coils = c.coils; waiting = c.queue.waiting; lines = c.lines.items };
       room = c.queue.size;
     } };
 
@@ -64,8 +68,8 @@ impl<'p, D: Device> Core<'p, D> {
     ghost use Rattle.std.specs.Prelude.{map};
     ghost use Rattle.pin_rig.specs.Fit.{IsFit, IsFirstWrong};
 
-    /// The plan's machine at moment 0, with all switches inactive and all modes idle, with these
-    /// devices, and with room for so many events that wait and so many lines.
+    /// The plan's machine at moment 0, with all switches inactive, all modes idle and all coils off,
+    /// with these devices, and with room for so many events that wait and so many lines.
     ///
     /// # Errors
     ///
@@ -86,6 +90,7 @@ impl<'p, D: Device> Core<'p, D> {
         let switches = Switches::new(alloc, plan)?;
         let modes = Modes::new(alloc, plan)?;
         let alarms = Alarms::new(alloc, plan.rows().len() as u16)?;
+        let coils = Coils::new(alloc, plan)?;
         let queue = Queue::new(alloc, room)?;
         let handlers = Handlers::new(alloc, plan)?;
         let lines = Vec::with_capacity(alloc, room)?;
@@ -98,6 +103,7 @@ impl<'p, D: Device> Core<'p, D> {
             modes,
             devices,
             alarms,
+            coils,
             queue,
             handlers,
             lines,
@@ -248,6 +254,29 @@ impl<'p, D: Device> Core<'p, D> {
         lists
     }
 
+    /// An owner asks for a command to a coil that there is. It is sent or skipped, and either way
+    /// there is a line.
+    pub(crate) fn ask(&mut self, owner: Owner, command: Command)
+        requires coil { (coil_of command).0 < length self.old.machine.coils }
+        requires moment { self.old.machine.moment < 2 ^ 40 }
+        requires room { length self.old.machine.lines < self.old.room }
+        ensures { self.new ≡ after (ask_coil owner command) self.old }
+    {
+        let happening = match self.coils.ask(command, owner, self.moment) {
+            Answer::Sent(sent) => Happening::Coil(sent),
+            Answer::Skipped => Happening::Skip(command),
+        };
+        self.write(owner, happening);
+    }
+
+    /// The first coil that the owner holds is put off, if one is. Reports the command that is sent.
+    pub(crate) fn release(&mut self, owner: Owner) -> Option<Command>
+        ensures released { self.new ≡ after (λ s. set_coils (after_release owner s.moment s.coils) s) self.old }
+        ensures command { result ≡ answer_release owner self.old.machine.moment self.old.machine.coils }
+    {
+        self.coils.release(owner, self.moment)
+    }
+
     /// A switch that there is has a new raw level. Reports where it is accepted at once.
     pub(crate) fn change(&mut self, at: u64, switch: SwitchId, level: bool) -> Option<Change>
         requires at { at < 2 ^ 40 }
@@ -256,6 +285,26 @@ impl<'p, D: Device> Core<'p, D> {
         ensures reported { result ≡ reported_by_change switch level at self.old.machine.switches }
     {
         self.switches.change(switch, level, at)
+    }
+
+    /// The devices stop, and are dropped.
+    pub(crate) fn stop_devices(self)
+        requires { self.machine.moment < 2 ^ 40 }
+    {
+        let Core {
+            moment,
+            switches: _,
+            modes: _,
+            mut devices,
+            alarms: _,
+            coils: _,
+            queue: _,
+            handlers: _,
+            lines: _,
+        } = self;
+        for device in &mut devices {
+            stop_one(device, moment);
+        }
     }
 
     /// The raw level of the switch that is due next is accepted, which one must be.
@@ -286,6 +335,14 @@ fn call_one<D: Device>(device: &mut D, call: Call, now: u64) -> Outcome
         Call::Fire => device.fire(now, world),
         Call::Act(act) => device.act(act, now, world),
     }
+}
+
+/// One device stops. What it answers is left out.
+fn stop_one<D: Device>(device: &mut D, now: u64)
+    requires { now < 2 ^ 40 }
+    ensures { D.row_of device.new ≡ D.row_of device.old }
+{
+    let _ = call_one(device, Call::ModeStop, now);
 }
 
 /// Of an alarm of a switch and one of a device the one that comes first: the switch's, where they

@@ -28,10 +28,13 @@ pub enum Input {
     },
 }
 
-/// Why an input is refused. The first of these reasons is reported, and nothing has changed then.
+/// Why a step gives no lines. At each of them but `BoardFault` the input is refused and nothing has
+/// changed. The first of these reasons is reported.
 #[derive(Clone, Copy, Debug, Error)]
 #[error("{}", self.name())]
 pub enum StepFault {
+    /// The board has not taken an earlier command.
+    Halted,
     /// The plan has no switch of this number.
     NoSuchSwitch,
     /// No alarm is due.
@@ -42,10 +45,12 @@ pub enum StepFault {
     TooLate,
     /// An alarm is due at or before the moment.
     AlarmPending,
+    /// The board has not taken a command of the cascade. The rig is halted from then on.
+    BoardFault,
 }
 
 impl StepFault {
-    /// The number with which the refusal is printed.
+    /// The number with which it is printed.
     pub fn number(&self) -> u32
         ensures { result ≡ step_fault_number self.now }
     {
@@ -53,6 +58,8 @@ impl StepFault {
             StepFault::Backwards => 1,
             StepFault::TooLate => 2,
             StepFault::NoSuchSwitch => 3,
+            StepFault::BoardFault => 4,
+            StepFault::Halted => 5,
             StepFault::AlarmPending => 6,
             StepFault::NoAlarm => 7,
         }
@@ -66,6 +73,8 @@ impl StepFault {
             StepFault::Backwards => "Backwards",
             StepFault::TooLate => "TooLate",
             StepFault::NoSuchSwitch => "NoSuchSwitch",
+            StepFault::BoardFault => "BoardFault",
+            StepFault::Halted => "Halted",
             StepFault::AlarmPending => "AlarmPending",
             StepFault::NoAlarm => "NoAlarm",
         }

@@ -2,13 +2,16 @@
 #![tactic(auto)]
 
 mod core_state;
+mod driver;
 mod fit;
 pub mod input;
 pub mod law;
 mod parts;
+pub mod report;
 pub mod rig;
 mod stimulus;
 
 pub use input::{Input, RigFault, StepFault, check_moment};
 pub use law::steps_are_run;
+pub use report::ShutReport;
 pub use rig::Rig;

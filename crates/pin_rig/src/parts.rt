@@ -2,7 +2,7 @@
 //! leaves, and so takes no memory.
 
 ghost use Rattle.std.specs.Prelude.{◌≡◌, ◌^◌, ◌<◌, Some, length, option_map};
-ghost use Rattle.plan_tables.specs.Valid.{IsTargetWithin};
+ghost use Rattle.plan_tables.specs.Valid.{IsActionWithin, IsListenerWithin, IsTargetWithin};
 ghost use Rattle.plan_tables.specs.declared.entries.Owner.TheVariants as owners;
 ghost use Rattle.plan_tables.specs.PlanView.{is_owner, row_at, work_of};
 ghost use Rattle.mode_stack.specs.Modes.{running_of};
@@ -11,7 +11,7 @@ ghost use Rattle.std.specs.List.{All};
 ghost use Rattle.plan_tables.specs.Devices.{list_count};
 ghost use Rattle.device_objects.specs.declared.state.DeviceState.{DeviceState as DeviceStateValue};
 ghost use Rattle.device_objects.specs.Laws.{MayCome};
-ghost use Rattle.written_machine.specs.Machine.{all_do, post, post_if, start_mode, stop_mode, device_at, do_action, do_answer, call_device, call_devices, do_target, do_handler, do_accepted, change_switch};
+ghost use Rattle.written_machine.specs.Machine.{all_do, post, post_if, start_mode, stop_mode, device_at, do_action, do_answer, call_device, call_devices, release_coils, tell_listener, do_target, do_handler, do_accepted, change_switch};
 ghost use Rattle.written_machine.specs.EventStep.{is_kept, do_before, do_after};
 ghost use Rattle.written_machine.specs.Run.{begin as begun, fire as fired};
 ghost use Rattle.written_machine.specs.NextAlarm.{next_alarm};
@@ -20,8 +20,11 @@ ghost use Rattle.pin_rig.specs.Inside.{source_view, stimulus_view};
 
 use crate::core_state::Core;
 use crate::stimulus::{Source, Stimulus};
+use coil_guard::Command;
 use device_objects::{Call, Device};
-use plan_tables::{Action, EventId, ModeEvent, ModeId, Owner, Plan, RowId, SwitchId, Target, Work};
+use plan_tables::{
+    Action, EventId, Listener, ModeEvent, ModeId, Owner, Plan, RowId, SwitchId, Target, Work,
+};
 use switch_core::Change;
 use written_machine::Happening;
 
@@ -43,6 +46,7 @@ pub(crate) fn begin<D: Device>(plan: &Plan, core: &mut Core<'_, D>, stimulus: St
 /// A switch of the plan has a new raw level, which may be accepted at once.
 fn change<D: Device>(plan: &Plan, core: &mut Core<'_, D>, at: u64, switch: SwitchId, level: bool)
     requires at { at < 2 ^ 40 }
+    requires moment { core.old.machine.moment < 2 ^ 40 }
     requires switch { switch.0 < length plan.now.switches }
     requires core { IsCoreOf plan.now core.old }
     requires room { HasRoom core.old.room (change_switch plan.now at switch level core.old.machine) }
@@ -70,16 +74,37 @@ fn fire<D: Device>(plan: &Plan, core: &mut Core<'_, D>, source: Source)
     }
 }
 
-/// A switch was accepted as active or inactive: its line is written, and then its events are
-/// posted.
+/// A switch was accepted as active or inactive: its line is written, the devices that listen to it
+/// are told, and then its events are posted.
 fn run_accepted<D: Device>(plan: &Plan, core: &mut Core<'_, D>, change: Change)
     requires switch { change.switch.0 < length plan.now.switches }
+    requires plan { core.old.handlers.plan ≡ plan.now }
+    requires calls { CanCall plan.now core.old }
     requires room { HasRoom core.old.room (do_accepted plan.now change core.old.machine) }
     ensures { core.new ≡ after (do_accepted plan.now change) core.old }
 {
     let Change { switch, active } = change;
     core.write(Owner::Machine, Happening::Switch(switch, active));
+    tell_listeners(plan, core, active, plan.listeners(switch));
     post_each(core, Owner::Machine, plan.posts(switch, active));
+}
+
+/// Devices are told that the switch to which they listen is active, or inactive.
+fn tell_listeners<D: Device>(
+    plan: &Plan,
+    core: &mut Core<'_, D>,
+    active: bool,
+    listeners: &[Listener],
+)
+    requires listeners { All (IsListenerWithin (length plan.now.rows)) listeners.now }
+    requires plan { core.old.handlers.plan ≡ plan.now }
+    requires calls { CanCall plan.now core.old }
+    requires room { HasRoom core.old.room (all_do (tell_listener plan.now active) listeners.now core.old.machine) }
+    ensures { core.new ≡ after (all_do (tell_listener plan.now active) listeners.now) core.old }
+{
+    for listener in listeners {
+        call_device(plan, core, listener.row, Call::Act(listener.act(active)));
+    }
 }
 
 fn post_each<D: Device>(core: &mut Core<'_, D>, owner: Owner, events: &[EventId])
@@ -96,7 +121,8 @@ pub(crate) fn settle<D: Device>(plan: &Plan, core: &mut Core<'_, D>)
     requires handlers { HandlesFor plan.now core.old }
     requires calls { CanCall plan.now core.old }
     requires room { StaysWithin plan.now core.old.room core.old.machine }
-    ensures { HasSettled plan.now core.old core.new }
+    ensures settled { HasSettled plan.now core.old core.new }
+    ensures calls { CanCall plan.now core.new }
 {
     while let Some(first) = core.take() {
         core.write(first.owner, Happening::Event(first.event));
@@ -174,6 +200,7 @@ fn work_after<D: Device>(plan: &Plan, core: &mut Core<'_, D>, kept: bool, work: 
         }
         ModeEvent::Stopping => {
             call_devices(plan, core, mode, Call::ModeStop);
+            release_coils(plan, core, Owner::Mode(mode));
             core.end(mode);
             core.post(Owner::Machine, events.stopped);
         }
@@ -244,6 +271,7 @@ fn call_device<D: Device>(plan: &Plan, core: &mut Core<'_, D>, row: RowId, call:
 fn run_lists<D: Device>(plan: &Plan, core: &mut Core<'_, D>, row: RowId, lists: &[u16])
     requires row { row.0 < length plan.now.rows }
     requires lists { All (λ list. list < list_count (row_at plan.now row).settings) lists.now }
+    requires calls { CanCall plan.now core.old }
     requires room { HasRoom core.old.room (do_answer plan.now row lists.now core.old.machine) }
     ensures { core.new ≡ after (do_answer plan.now row lists.now) core.old }
 {
@@ -285,8 +313,21 @@ fn post_if<D: Device>(core: &mut Core<'_, D>, posts: bool, event: EventId)
     }
 }
 
+/// The coils that an owner holds are put off, in the order of their numbers.
+fn release_coils<D: Device>(plan: &Plan, core: &mut Core<'_, D>, owner: Owner)
+    requires coils { length core.old.machine.coils ≡ length plan.now.coils }
+    requires room { HasRoom core.old.room (release_coils plan.now owner core.old.machine) }
+    ensures { core.new ≡ after (release_coils plan.now owner) core.old }
+{
+    while let Some(command) = core.release(owner) {
+        core.write(owner, Happening::Coil(command));
+    }
+}
+
 fn run_actions<D: Device>(plan: &Plan, core: &mut Core<'_, D>, owner: Owner, actions: &[Action])
-    requires { HasRoom core.old.room (all_do (do_action plan.now owner) actions.now core.old.machine) }
+    requires actions { All (IsActionWithin plan.now) actions.now }
+    requires calls { CanCall plan.now core.old }
+    requires room { HasRoom core.old.room (all_do (do_action plan.now owner) actions.now core.old.machine) }
     ensures { core.new ≡ after (all_do (do_action plan.now owner) actions.now) core.old }
 {
     for action in actions {
@@ -295,11 +336,16 @@ fn run_actions<D: Device>(plan: &Plan, core: &mut Core<'_, D>, owner: Owner, act
 }
 
 fn run_action<D: Device>(plan: &Plan, core: &mut Core<'_, D>, owner: Owner, action: Action)
-    requires { HasRoom core.old.room (do_action plan.now owner action core.old.machine) }
+    requires action { IsActionWithin plan.now action }
+    requires calls { CanCall plan.now core.old }
+    requires room { HasRoom core.old.room (do_action plan.now owner action core.old.machine) }
     ensures { core.new ≡ after (do_action plan.now owner action) core.old }
 {
     match action {
         Action::Post(event) => core.post(owner, event),
+        Action::Pulse { coil, ms, power } => core.ask(owner, Command::Pulse { coil, ms, power }),
+        Action::Enable { coil, power } => core.ask(owner, Command::Enable { coil, power }),
+        Action::Disable { coil } => core.ask(owner, Command::Disable { coil }),
     }
 }
 

@@ -3,9 +3,12 @@
 ghost use Rattle.std.specs.Prelude.{◌≡◌};
 
 use crate::core_state::Core;
+use crate::driver::Driver;
 use crate::input::{Input, RigFault, StepFault, check_moment};
 use crate::parts::{begin, settle};
+use crate::report::ShutReport;
 use crate::stimulus::Stimulus;
+use coil_guard::{Board, Coils};
 use config_checker::Checked;
 use device_objects::{Device, DeviceState};
 use plan_tables::RowId;
@@ -13,32 +16,64 @@ use std::alloc::Global;
 use std::marker::Model;
 use written_machine::Line;
 
-/// The machine of an accepted configuration, between two stimuli: no event waits, and a run of the
-/// plan leads to its state. Moments are milliseconds, below 2^40.
-#[derive(Drop)]
-pub struct Rig<'c, D: Device> {
+/// The machine of an accepted configuration with its board, between two stimuli: no event waits, and
+/// a run of the plan leads to its state. Moments are milliseconds, below 2^40.
+///
+/// At each stimulus the machine goes through its whole cascade, and then the commands of its lines
+/// are sent to the board, in order. At the first one that the board does not take the rig is
+/// halted: it sends nothing more, and refuses every input. `now`, `next_due` and `state` are those
+/// of the end of the cascade then too.
+///
+/// A rig that is dropped sends the commands that `shut_down` sends.
+pub struct Rig<'c, D: Device, B: Board> {
     checked: &'c Checked,
     core: Core<'c, D>,
+    driver: Driver<B>,
+    /// How many lines of the latest stimulus are shown.
+    shown: usize,
 }
 
-impl<'c, D: Device> Model for Rig<'c, D> {
+impl<'c, D: Device, B: Board> Model for Rig<'c, D, B> {
+    ghost use Rattle.std.specs.Prelude.{take};
     ghost use Rattle.pin_rig.specs.Rig.{RigView};
     ghost use Rattle.pin_rig.specs.Inside.{IsHeld};
 
     ghost Value = { RigView };
 
-    ghost view = { λ r. record { checked = r.checked.now; machine = r.core.machine } };
+    ghost view = { λ r. record {
+      checked = r.checked.now;
+      machine = r.core.machine;
+      lines = take r.shown r.core.machine.lines;
+      board = r.driver.board;
+      sent = r.driver.sent;
+      faulted = r.driver.faulted;
+    } };
 
-    ghost invariant = { λ r. IsHeld r.checked.now r.core };
+    ghost invariant = { λ r. IsHeld r.checked.now r.core r.driver r.shown };
 }
 
-impl<'c, D: Device> Rig<'c, D> {
+impl<'c, D: Device, B: Board> Drop for Rig<'c, D, B> {
+    fn drop(self) {
+        let Rig {
+            checked,
+            core,
+            mut driver,
+            shown: _,
+        } = self;
+        let now = core.moment();
+        core.stop_devices();
+        let _ = driver.put_off(checked.plan(), now);
+    }
+}
+
+impl<'c, D: Device, B: Board> Rig<'c, D, B> {
     ghost use Rattle.std.specs.Prelude.{◌≡◌, ℕ, map, slice_get, Err, IfOk, IsOk, MatchResult, option_map, []};
     ghost use Rattle.std.specs.Borrow.{sem};
-    ghost use Rattle.written_machine.specs.Machine.{initial};
     ghost use Rattle.written_machine.specs.Run.{IsReached};
     ghost use Rattle.written_machine.specs.NextAlarm.{next_alarm};
-    ghost use Rattle.pin_rig.specs.Rig.{timely, alarm_at, stimulus_at, RigStep, IsOfRun};
+    ghost use Rattle.pin_rig.specs.Rig.{timely, alarm_at, stimulus_at, RigStep, HasFailed, IsWhy, RunsUnlessHalted, IsOfRun};
+    ghost use Rattle.pin_rig.specs.ShutDown.{ArePutOff, coils_to_put_off};
+    ghost use Rattle.pin_rig.specs.Steps.{at_rest};
     ghost use Rattle.pin_rig.specs.Inside.{stimulus_view, GivesStimulus};
     ghost use Rattle.std.specs.Io.BufRead.{Rests};
     ghost use mir.Syntax.{named};
@@ -47,46 +82,62 @@ impl<'c, D: Device> Rig<'c, D> {
     ghost use Rattle.pin_rig.specs.Lending.{IsStepped};
 
     /// The machine of an accepted configuration, as it begins: at moment 0, with all switches
-    /// inactive and no event waiting. It has a device for each row of the plan, in the order of the
-    /// rows. Only this call takes memory: room for as many waiting events and lines as the bound
-    /// says.
+    /// inactive, all coils off and no event waiting. It has a device for each row of the plan, in
+    /// the order of the rows, and a board for its coils, to which nothing is sent yet. Only this
+    /// call takes memory: room for as many waiting events and lines as the bound says.
     ///
     /// # Errors
     ///
-    /// The first of these that applies. The devices are dropped then.
+    /// The first of these that applies. The devices and the board are dropped then.
     ///
     /// - `NoMemory`: memory ran out.
     /// - `WrongDevice`: a device is not the one of its row, in its first state; or there are too
     ///   few devices, or too many.
-    pub fn new(alloc: Global, checked: &'c Checked, devices: Vec<D>) -> Result<Rig<'c, D>, RigFault>
-        ensures checked { IfOk result (λ rig. rig.checked ≡ checked.now) }
-        ensures machine { IfOk result (λ rig. rig.machine ≡ initial checked.now.plan) }
+    pub fn new(
+        alloc: Global,
+        checked: &'c Checked,
+        devices: Vec<D>,
+        board: B,
+    ) -> Result<Rig<'c, D, B>, RigFault>
+        ensures rest { IfOk result (λ rig. rig ≡ at_rest checked.now (record { told = B.told board; fault_count = B.fault_count board })) }
         ensures reached { IfOk result (λ rig. IsReached checked.now.plan [] rig.machine) }
         ensures fit { IfOk result (λ rig. IsFit checked.now.plan (map D.row_of devices.items) (map D.state_of devices.items)) }
         ensures wrong { (row : ℕ) → result ≡ Err (RigFault.WrongDevice (record { 0 = row })) → IsFirstWrong checked.now.plan (map D.row_of devices.items) (map D.state_of devices.items) row }
     {
-        let room = checked.bound() as usize;
-        match Core::new(alloc, checked.plan(), room, devices) {
-            Ok(core) => Ok(Rig { checked, core }),
+        let plan = checked.plan();
+        let sent = Coils::new(alloc, plan)?;
+        match Core::new(alloc, plan, checked.bound() as usize, devices) {
+            Ok(core) => Ok(Rig {
+                checked,
+                core,
+                driver: Driver::new(board, sent),
+                shown: 0,
+            }),
             Err(fault) => Err(fault),
         }
     }
 
     /// Takes one input, and runs the whole cascade that it begins, the handlers of each event in
-    /// plan order. It lends the lines of both, in the order in which they came.
+    /// plan order. Then it sends the commands of the lines to the board, in order. It lends the
+    /// lines of both, in the order in which they came.
     ///
     /// # Errors
     ///
-    /// The first of these that applies. Nothing has changed then.
+    /// The first of these that applies. Nothing has changed then, except after `BoardFault`.
     ///
+    /// - `Halted`: the board has not taken a command of an earlier step.
     /// - `NoSuchSwitch`: the input is a change of a switch that the plan does not have.
     /// - `NoAlarm`: the input is an alarm, and none is due.
     /// - `Backwards`: the moment of a change or a wait is before that of the latest stimulus.
     /// - `TooLate`: the moment of the input is 2^40 ms or later.
     /// - `AlarmPending`: an alarm is due at or before the moment of a change or a wait.
+    /// - `BoardFault`: the board has not taken a command of the cascade. `trace` has the lines
+    ///   before the line of this command, and the board has taken their commands. Nothing more is
+    ///   sent, and the rig is halted. The machine has gone on to the end of the cascade: `now`,
+    ///   `next_due` and `state` are of that end.
     pub fn step(&mut self, input: Input) -> Result<&[Line], StepFault>
-        ensures* after { sem 𝓛 (Rests (the_row (record { mir = named 1; lft = [] }) D.row D.Device) self.entry (λ new. IsStepped input self.entry.now new result)) }
-        ensures judged { MatchResult result (λ _. IsOk (stimulus_at self.old input)) (λ fault. stimulus_at self.old input ≡ Err fault) }
+        ensures* after { sem 𝓛 (Rests (the_row (record { mir = named 1; lft = [] }) D.row B.row D.Device B.Board) self.entry (λ new. IsStepped input self.entry.now new result)) }
+        ensures judged { MatchResult result (λ _. IsOk (stimulus_at self.old input)) (λ fault. IsWhy (stimulus_at self.old input) fault) }
     {
         self.act(input)?;
         Ok(self.trace())
@@ -120,29 +171,63 @@ impl<'c, D: Device> Rig<'c, D> {
         Some(self.core.state(row))
     }
 
-    /// The lines of the latest stimulus, in the order in which they came.
+    /// The lines of the latest stimulus, in the order in which they came. Where the board has not
+    /// taken a command, they are those before the line of this command.
     pub fn trace(&self) -> &[Line]
-        ensures lines { result.now ≡ self.now.machine.lines }
+        ensures lines { result.now ≡ self.now.lines }
+        ensures running { RunsUnlessHalted self.now }
         ensures reached { IsOfRun self.now }
     {
-        self.core.lines()
+        &self.core.lines()[..self.shown]
+    }
+
+    /// Ends the machine, and gives the board back. The devices stop, and are dropped. Then a disable
+    /// is sent to each coil that is on, at the moment of the latest stimulus and by the commands
+    /// that the board has taken, and to the coil whose command it has not taken: in the order of
+    /// their numbers, and also after a fault. The report says which coils are put off, and how many
+    /// faults there were.
+    pub fn shut_down(self) -> (B, ShutReport)
+        ensures off { ArePutOff (coils_to_put_off self.entry) self.entry.board result.1.off.items result.1.faults (record { told = B.told result.0; fault_count = B.fault_count result.0 }) }
+    {
+        let Rig {
+            checked,
+            core,
+            mut driver,
+            shown: _,
+        } = self;
+        let now = core.moment();
+        core.stop_devices();
+        let report = driver.put_off(checked.plan(), now);
+        (driver.into_board(), report)
     }
 
     /// One input, if it is not refused.
     fn act(&mut self, input: Input) -> Result<(), StepFault>
-        ensures { MatchResult result (λ _. RigStep input self.old self.new) (λ fault. (stimulus_at self.old input ≡ Err fault) × (self.new ≡ self.old)) }
+        ensures { MatchResult result (λ _. RigStep input self.old self.new) (λ fault. HasFailed input self.old self.new fault) }
     {
         let stimulus = self.judge(input)?;
         let plan = self.checked.plan();
         begin(plan, &mut self.core, stimulus);
         settle(plan, &mut self.core);
-        Ok(())
+        match self.driver.serve(self.core.lines()) {
+            None => {
+                self.shown = self.core.lines().len();
+                Ok(())
+            }
+            Some(place) => {
+                self.shown = place;
+                Err(StepFault::BoardFault)
+            }
+        }
     }
 
     /// The stimulus that an input is, or why it is refused.
     fn judge(&self, input: Input) -> Result<Stimulus, StepFault>
         ensures { GivesStimulus result (stimulus_at self.now input) }
     {
+        if self.driver.is_halted() {
+            return Err(StepFault::Halted);
+        }
         match input {
             Input::Change { at, switch, level } => {
                 if switch.0 as usize >= self.checked.plan().switch_count() {

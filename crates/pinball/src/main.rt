@@ -1,6 +1,8 @@
 //! The program `pinball`: words, files and the exit status. All else is in the libraries.
 #![tactic(auto)]
 
+use coil_guard::MemoryBoard;
+use coil_rules::{Autofire, Flipper};
 use command_line::{Ask, AskFault, command};
 use config_checker::Checked;
 use device_objects::Device;
@@ -116,7 +118,8 @@ fn play<R: Files + Input + AllocGlobal, W: Write>(
     play_log(rt.alloc(), &checked, &mut log, writer).map_err(|fault| Failure::at(fault, path))
 }
 
-/// Plays the log on a machine whose devices are made here, one for each row of the plan.
+/// Plays the log on a machine whose devices are made here, one for each row of the plan. Its board is
+/// in memory.
 fn play_log<L: Read, W: Write>(
     alloc: Global,
     checked: &Checked,
@@ -133,9 +136,14 @@ fn play_log<L: Read, W: Write>(
             devices.push(Box::new(alloc, sequence)?)?;
         } else if let Some(timer) = Timer::new(row) {
             devices.push(Box::new(alloc, timer)?)?;
+        } else if let Some(flipper) = Flipper::new(row) {
+            devices.push(Box::new(alloc, flipper)?)?;
+        } else if let Some(autofire) = Autofire::new(row) {
+            devices.push(Box::new(alloc, autofire)?)?;
         }
     }
-    play_text(alloc, checked, devices, log, writer)
+    let board = MemoryBoard::new(alloc)?;
+    play_text(alloc, checked, devices, board, log, writer)
 }
 
 /// The bundle of the configuration in this folder; or the one on standard input.

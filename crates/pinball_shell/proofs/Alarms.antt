@@ -1,5 +1,5 @@
 -- The alarms that come by a moment.
-use Rattle.std.proofs.Common.{◌≡◌, ℕ, suc, ◌<◌, ◌≤◌, ◌^◌, ◌⊎◌, Bool, true, false, Ok, List, ◌∷◌, length, inl, inr, refl, ap, subst, arith}
+use Rattle.std.proofs.Common.{◌≡◌, ℕ, suc, ◌<◌, ◌≤◌, ◌^◌, ◌⊎◌, Bool, true, false, None, Ok, List, ◌∷◌, length, inl, inr, refl, ap, subst, arith}
 use Rattle.plan_tables.specs.PlanView.{PlanView}
 use Rattle.plan_tables.specs.Valid.{IsValid}
 use Rattle.written_machine.specs.declared.line.Line.{Line}
@@ -39,9 +39,9 @@ cases_due s until = go (is_due_by until s) refl
 pub alarm-allowed : (plan : PlanView) (s : Machine) (until : ℕ) → until < 2 ^ 40 → (a : ComesBy s until) → IsAllowed plan s (Alarm a.at a.source)
 alarm-allowed plan s until early a = let by = a.by in (a.next, omega (arith, by, early))
 
--- and the rig takes it
-pub alarm-taken : (rig : RigView) (until : ℕ) → until < 2 ^ 40 → (a : ComesBy rig.machine until) → stimulus_at rig inputs.Alarm ≡ Ok (Alarm a.at a.source)
-alarm-taken rig until early a = allowed-judged rig inputs.Alarm (Alarm a.at a.source) (a.at, a.source, refl) (alarm-allowed rig.checked.plan rig.machine until early a)
+-- and the rig takes it, unless it is halted
+pub alarm-taken : (rig : RigView) (until : ℕ) → rig.faulted ≡ None → until < 2 ^ 40 → (a : ComesBy rig.machine until) → stimulus_at rig inputs.Alarm ≡ Ok (Alarm a.at a.source)
+alarm-taken rig until running early a = allowed-judged rig inputs.Alarm (Alarm a.at a.source) running (a.at, a.source, refl) (alarm-allowed rig.checked.plan rig.machine until early a)
 
 -- ---- those that come one after another
 

@@ -2,6 +2,10 @@ pub mod FirstPlace
 pub mod TextLines
 pub mod LineWords
 pub mod Alarms
+pub mod LineMoments
+pub mod Serving
+pub mod Stimuli
+pub mod Printing
 pub mod Playing
 pub mod LogRuns
 pub mod Taking

@@ -1,5 +1,5 @@
 -- The trace of a log is that of a run which the log gives.
-use Rattle.std.proofs.Common.{◌≡◌, ◌≢◌, ℕ, zero, suc, ◌+◌, ◌<◌, ◌≤◌, ◌^◌, Bool, true, false, Option, Some, None, option_map, option_to_list, Result, Ok, Err, List, [], ◌∷◌, ◌++◌, length, map, position, inl, inr, refl, ap, sym, ◌∙◌, subst, arith, append_assoc, append-nil}
+use Rattle.std.proofs.Common.{◌≡◌, ◌≢◌, ℕ, zero, suc, ◌+◌, ◌<◌, ◌≤◌, ◌^◌, Bool, true, false, Option, Some, None, option_map, option_to_list, Result, Ok, Err, List, [], ◌∷◌, ◌++◌, length, position, inl, inr, refl, ap, sym, ◌∙◌, subst, arith, append_assoc, append-nil}
 use Rattle.std.specs.Option.{option_map_or}
 use Rattle.std.specs.Str.{bytes_eq}
 use Rattle.std.specs.Str.Lines.{lines}
@@ -23,11 +23,12 @@ use Rattle.pin_rig.proofs.Judging.{admitted-is}
 use Rattle.pinball_shell.specs.declared.refusal.Refusal.{Refusal}
 use Rattle.pinball_shell.specs.LogText.{Said, Nothing, Unreadable, said}
 use Rattle.pinball_shell.specs.LogText as says
-use Rattle.pinball_shell.specs.RunOfLog.{if_admitted, change_of, given_by_line, trace_of, all_alarms_by, with_alarms, Printed, Traced, Refused, printed_for_line, after_line, printed_for_lines, printed_for_log, traced}
+use Rattle.pinball_shell.specs.RunOfLog.{if_admitted, change_of, given_by_line, trace_of, all_alarms_by, with_alarms, printed_for_line, after_line, printed_for_lines, printed_for_log, traced}
 use Rattle.pinball_shell.specs.RunGiven.{given_of, given_by_lines, stimuli_of, without_alarms, IsRunInOrder, IsPlayOfLog}
 use Rattle.pinball_shell.proofs.FirstPlace.{place_some}
 use Rattle.pinball_shell.proofs.Alarms.{cases_due, alarm-allowed, AreAll, all-next}
-use Rattle.pinball_shell.proofs.Playing.{state_after-append, trace_of-append}
+use Rattle.pinball_shell.proofs.Serving.{traced-append, traced-lines}
+use Rattle.pinball_shell.proofs.Stimuli.{state_after-append, trace_of-append}
 
 -- ---- what a line gives comes in time
 
@@ -83,15 +84,6 @@ pub in_time-early : (plan : PlanView) (now : ℕ) (stimulus : Stimulus) → IsGi
 in_time-early plan now (Change at n level) (forward, early, within) = (forward, early)
 in_time-early plan now (Alarm at source) none = absurd none
 in_time-early plan now (Wait at) (forward, early) = (forward, early)
-
-traced-append : (xs ys : List Printed) → traced (xs ++ ys) ≡ traced xs ++ traced ys
-traced-append [] ys = refl
-traced-append (Traced line ∷ xs) ys = ap (λ (ls : List Line). line ∷ ls) (traced-append xs ys)
-traced-append (Refused number refusal ∷ xs) ys = traced-append xs ys
-
-traced-lines : (ls : List Line) → traced (map Traced ls) ≡ ls
-traced-lines [] = refl
-traced-lines (l ∷ ls) = ap (λ (xs : List Line). l ∷ xs) (traced-lines ls)
 
 -- ---- the stimuli of a run
 

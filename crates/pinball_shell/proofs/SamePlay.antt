@@ -19,7 +19,7 @@ use Rattle.pinball_shell.specs.declared.refusal.Refusal.{Refusal}
 use Rattle.pinball_shell.specs.LogText.{said}
 use Rattle.pinball_shell.specs.RunOfLog.{given_by_line, trace_of, all_alarms_by, with_alarms, Printed, Traced, printed_for_line, after_line, printed_for_lines, printed_for_log}
 use Rattle.pinball_shell.proofs.Alarms.{cases_due, alarm-allowed, AreAll, all-next}
-use Rattle.pinball_shell.proofs.Playing.{state_after-append, trace_of-append}
+use Rattle.pinball_shell.proofs.Stimuli.{state_after-append, trace_of-append}
 use Rattle.pinball_shell.proofs.LogRuns.{IsGivenInTime, given-in_time, in_time-early, may_come}
 
 module _ (plan : PlanView) (ws vs : List ℕ) (a b : ℕ) where

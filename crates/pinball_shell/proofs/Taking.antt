@@ -1,19 +1,21 @@
 -- What a line gives is taken by the rig, once no alarm is due by its moment.
-use Rattle.std.proofs.Common.{◌≡◌, ℕ, ◌<◌, ◌≤◌, ◌^◌, false, Option, Some, Result, Ok, Err, IsOk, List, [], ◌∷◌, refl, ap, sym, ◌∙◌, subst, arith}
-use Rattle.std.specs.Io.KnownBytes.{Appends}
+use Rattle.std.proofs.Common.{◌≡◌, ℕ, ◌<◌, ◌≤◌, ◌^◌, false, Option, None, Some, Result, Ok, Err, IsOk, OnOk, IfOk, List, [], ◌∷◌, inl, inr, refl, ap, sym, ◌∙◌, subst, arith, append-nil}
 use Rattle.plan_tables.specs.PlanView.{PlanView}
 use Rattle.plan_tables.specs.Valid.{IsValid}
+use Rattle.written_machine.specs.declared.line.Line.{Line}
 use Rattle.written_machine.specs.CheckedView.{CheckedView}
 use Rattle.written_machine.specs.Accepted.{IsAccepted}
-use Rattle.written_machine.specs.Machine.{Machine, initial}
+use Rattle.written_machine.specs.Machine.{Machine}
 use Rattle.written_machine.specs.Run.{Stimulus, Change, Alarm, Wait, moment_of, IsReached}
 use Rattle.written_machine.specs.NextAlarm.{is_due_by}
 use Rattle.written_machine.proofs.NextAlarms.{not_due-nothing}
+use Rattle.config_checker.proofs.Writing.{written-then}
 use Rattle.pin_rig.specs.declared.input.Input.{Input}
 use Rattle.pin_rig.specs.declared.input.Input.TheVariants as inputs
 use Rattle.pin_rig.specs.declared.input.StepFault.{StepFault}
+use Rattle.pin_rig.specs.Board.{BoardView, commands_of, TellsMore}
 use Rattle.pin_rig.specs.Rig.{RigView, stimulus_at, IsOfRun}
-use Rattle.pin_rig.specs.Steps.{IsOfInput}
+use Rattle.pin_rig.specs.Steps.{IsOfInput, at_rest}
 use Rattle.pin_rig.proofs.Judging.{allowed-judged}
 use Rattle.pin_rig.specs.declared.input.RigFault.{RigFault}
 use Rattle.pin_rig.specs.declared.input.RigFault.TheVariants as rig_faults
@@ -23,16 +25,19 @@ use Rattle.device_objects.specs.declared.state.DeviceState.{DeviceState}
 use Rattle.pinball_shell.specs.declared.fault.ShellFault.{ShellFault}
 use Rattle.pinball_shell.specs.declared.fault.ShellFault.TheVariants as faults
 use Rattle.pinball_shell.specs.Status.{fault_of_rig}
-use Rattle.pinball_shell.specs.TraceText.{trace_text}
+use Rattle.pinball_shell.specs.declared.play.Stop.{Stop}
+use Rattle.pinball_shell.specs.declared.play.Stop.TheVariants as stops
 use Rattle.pinball_shell.specs.declared.fault.Verdict.{Verdict}
 use Rattle.pinball_shell.specs.declared.fault.Verdict.TheVariants as verdicts
 use Rattle.pinball_shell.specs.declared.refusal.Refusal.{Refusal}
 use Rattle.pinball_shell.specs.LogText.{Said, said}
-use Rattle.pinball_shell.specs.RunOfLog.{given_by_line}
-use Rattle.pinball_shell.specs.Played.{input_of, GivesInput, IsPlayed, IsRigOf, IsInputPlayed, AreAlarmsPlayed, IsLinePlayed, AreLinesPlayed}
+use Rattle.pinball_shell.specs.RunOfLog.{given_by_line, Printed, Refused, traced}
+use Rattle.pinball_shell.specs.Ends.{IsServed, IsEnd, IsPlayOn}
+use Rattle.pinball_shell.specs.Played.{input_of, GivesInput, GoesOrHalts, IsPlayed, IsPlayedToFault, IsRigOf, IsInputPlayed, IsInputPlayedToFault, AreAlarmsPlayed, AreAlarmsPlayedToFault, IsLinePlayed, IsLinePlayedToFault, IsLogPlayed, IsShutDown}
 use Rattle.pinball_shell.proofs.Alarms.{ComesBy, alarm-taken}
 use Rattle.pinball_shell.proofs.LogRuns.{IsGivenInTime, given-in_time, in_time-early, may_come}
-use Rattle.pinball_shell.proofs.Playing.{line-played}
+use Rattle.pinball_shell.proofs.Serving.{served-tells, halted-tells, end-tells, traced-append}
+use Rattle.pinball_shell.proofs.Playing.{line-played, line-fault, line-alarm_fault}
 
 -- ---- what the rig takes
 
@@ -42,9 +47,9 @@ input_of-stimulus plan now (Alarm at source) none = absurd none
 input_of-stimulus plan now (Wait at) time = refl
 
 -- what comes in time is taken, once nothing is due by its moment
-in_time-taken : (rig : RigView) (now : ℕ) (stimulus : Stimulus) → IsGivenInTime rig.checked.plan now stimulus → rig.machine.moment ≤ moment_of stimulus → is_due_by (moment_of stimulus) rig.machine ≡ false → stimulus_at rig (input_of stimulus) ≡ Ok stimulus
-in_time-taken rig now stimulus time ahead quiet =
-    allowed-judged rig (input_of stimulus) stimulus (input_of-stimulus rig.checked.plan now stimulus time)
+in_time-taken : (rig : RigView) (now : ℕ) (stimulus : Stimulus) → rig.faulted ≡ None → IsGivenInTime rig.checked.plan now stimulus → rig.machine.moment ≤ moment_of stimulus → is_due_by (moment_of stimulus) rig.machine ≡ false → stimulus_at rig (input_of stimulus) ≡ Ok stimulus
+in_time-taken rig now stimulus running time ahead quiet =
+    allowed-judged rig (input_of stimulus) stimulus running (input_of-stimulus rig.checked.plan now stimulus time)
     (may_come rig.checked.plan now rig.machine stimulus time ahead (not_due-nothing rig.machine (moment_of stimulus) quiet))
 
 -- ---- on a rig of the plan
@@ -53,18 +58,38 @@ pub ok_where : {T E : Type 0} (r : Result T E) (x : T) → r ≡ Ok x → IsOk r
 ok_where (Ok y) x h = refl
 ok_where (Err e) x h = cc
 
+-- where a step of playing has halted, so has what goes on to it
+pub halts-on : {T U : Type 0} (stop : Stop) (r : Result U Stop) (goes : T → Type 0) (next : U → Type 0) (first halts : Type 0) → r ≡ Err stop → (first → halts) → GoesOrHalts {T = T} (Err stop) goes first → GoesOrHalts r next halts
+halts-on {T} {U} stop r goes next first halts is step = subst (λ (q : Result U Stop). GoesOrHalts {T = T} (Err stop) goes first → GoesOrHalts q next halts) (sym is) (by stop)
+  where
+    by : (s : Stop) → GoesOrHalts {T = T} (Err s) goes first → GoesOrHalts {T = U} (Err s) next halts
+    by stops.Board h = step h
+    by stops.Write h = tt
+
+pub halts-in : {T : Type 0} (r : Result T Stop) (goes : T → Type 0) (halts : Type 0) → r ≡ Err stops.Board → GoesOrHalts r goes halts → halts
+halts-in {T} r goes halts is = subst (λ (q : Result T Stop). GoesOrHalts q goes halts → halts) (sym is) (λ h. h)
+
+-- what is known of an answer, in two parts
+pub ok-both : {T E : Type 0} (r : Result T E) (A : Type 0) (B P : T → Type 0) → ((x : T) → A → B x → P x) → OnOk r A → IfOk r B → IfOk r P
+ok-both (Ok x) A B P both a b = both x a b
+ok-both (Err e) A B P both a b = tt
+
 is_ok : (a b : Stimulus) (r : Result Stimulus StepFault) → r ≡ Ok a → r ≡ Ok b → a ≡ b
 is_ok a b r h k = let same : ◌≡◌ {A = Result Stimulus StepFault} (Ok a) (Ok b) = sym h ∙ k in cc
 
-pub rig_of-same : (plan : PlanView) (old now : RigView) → now.checked ≡ old.checked → IsRigOf plan old → IsRigOf plan now
-rig_of-same plan old now is h = record {
-  plan_is = ap (λ (c : CheckedView). c.plan) is ∙ h.plan_is;
-  accepted = subst IsAccepted (sym is) h.accepted;
+pub rig_of-served : (plan : PlanView) (printed : List Printed) (old now : RigView) → IsServed printed old now → IsRigOf plan old → IsRigOf plan now
+rig_of-served plan printed old now served h = record {
+  plan_is = ap (λ (c : CheckedView). c.plan) served.checked_is ∙ h.plan_is;
+  accepted = subst IsAccepted (sym served.checked_is) h.accepted;
+  running = served.running;
 }
 
-pub line-same : (plan : PlanView) (old now : RigView) → now.checked ≡ old.checked → (number : ℕ) (line : List ℕ) (t : Machine) (a b : Option (List ℕ)) (v : Verdict)
-    → IsLinePlayed plan now.checked.bound number line now.machine t a b v → IsLinePlayed plan old.checked.bound number line now.machine t a b v
-line-same plan old now is number line t a b v = subst (λ (c : CheckedView). IsLinePlayed plan c.bound number line now.machine t a b v) is
+module _ (plan : PlanView) (old now : RigView) (is : now.checked ≡ old.checked) (number : ℕ) (line : List ℕ) (t : RigView) (a b : Option (List ℕ)) where
+  pub line-same : (v : Verdict) → IsLinePlayed plan now.checked.bound number line now t a b v → IsLinePlayed plan old.checked.bound number line now t a b v
+  line-same v = subst (λ (c : CheckedView). IsLinePlayed plan c.bound number line now t a b v) is
+
+  pub fault-same : IsLinePlayedToFault plan now.checked.bound number line now t a b → IsLinePlayedToFault plan old.checked.bound number line now t a b
+  fault-same = subst (λ (c : CheckedView). IsLinePlayedToFault plan c.bound number line now t a b) is
 
 -- the plan is valid
 pub valid-of : (plan : PlanView) (rig : RigView) → IsRigOf plan rig → IsValid plan
@@ -72,18 +97,36 @@ valid-of plan rig h = subst IsValid h.plan_is h.accepted.valid
 
 -- ---- a log from the beginning
 
--- the lines that were played on a new rig are the text of the log
-pub log-written : (plan : PlanView) (c : CheckedView) (rig : RigView) (log : List ℕ) (a b : Option (List ℕ)) (v : Verdict) → plan ≡ c.plan → rig.checked ≡ c → rig.machine ≡ initial c.plan
-    → AreLinesPlayed plan rig.checked.bound log rig.machine a b v → Appends a b (trace_text c.plan c.bound log)
-log-written plan c rig log a b v plan_is checked_is machine_is h =
-    let begun = subst (λ (m : Machine). AreLinesPlayed plan rig.checked.bound log m a b v) machine_is h in
-    let bound = subst (λ (k : CheckedView). AreLinesPlayed plan k.bound log (initial c.plan) a b v) checked_is begun in
-    let whole = subst (λ (p : PlanView). AreLinesPlayed p c.bound log (initial c.plan) a b v) plan_is bound in
-    whole.text
+-- what a board tells once the log is over
+end-told : (plan : PlanView) (bound : ℕ) (log : List ℕ) (old : RigView) (printed : List Printed) (new : RigView) → IsEnd plan bound log old printed new → TellsMore (commands_of (traced printed)) old.board.told new.board.told
+end-told plan bound log old printed new (inl out) = served-tells printed old new out.served
+end-told plan bound log old printed new (inr cut) =
+    let lines : traced printed ≡ traced cut.shown = ap traced cut.printed_is ∙ traced-append cut.shown (Refused cut.number _ ∷ []) ∙ append-nil (traced cut.shown) in
+    subst (λ (ls : List Line). TellsMore (commands_of ls) old.board.told new.board.told) (sym lines)
+    (halted-tells (commands_of (traced cut.shown)) cut.command old.board cut.mid new (served-tells cut.shown old cut.mid cut.served) cut.halted)
+
+-- a log that was played on a new rig, which was then shut down
+pub log-played : (plan : PlanView) (c : CheckedView) (first rig : RigView) (board last : BoardView) (log : List ℕ) (a b d : Option (List ℕ)) (v : Verdict) → plan ≡ c.plan → first ≡ at_rest c board
+    → IsLogPlayed plan first.checked.bound log first rig a b v → IsShutDown plan rig last b d → IsPlayOn c log board last a d v
+log-played plan c first rig board last log a b d v plan_is rest h shut =
+    let begun = subst (λ (r : RigView). IsLogPlayed plan r.checked.bound log r rig a b v) rest h in
+    let whole = subst (λ (p : PlanView). IsLogPlayed p c.bound log (at_rest c board) rig a b v) plan_is begun in
+    let over = subst (λ (p : PlanView). IsShutDown p rig last b d) plan_is shut in
+    record {
+      printed = whole.printed;
+      rig = rig;
+      end = whole.end;
+      off = over.off;
+      faults = over.faults;
+      put_off = over.put_off;
+      told = end-tells (commands_of (traced whole.printed)) _ over.off over.faults board rig.board last (end-told c.plan c.bound log (at_rest c board) whole.printed rig whole.end) over.put_off;
+      text = written-then a b d _ _ whole.text over.text;
+      verdict_is = whole.verdict_is;
+    }
 
 -- where no rig was made for its devices, they are not those of the plan
-pub wrong-unfit : (plan : PlanView) (rows : List DeviceRow) (states : List DeviceState) (fault : RigFault) → ((row : ℕ) → fault ≡ rig_faults.WrongDevice (record { 0 = row }) → IsFirstWrong plan rows states row)
-    → ◌≡◌ {A = Result Verdict ShellFault} (Err (fault_of_rig fault)) (Err faults.WrongDevice) → IsFit plan rows states → ⊥
+pub wrong-unfit : {T : Type 0} (plan : PlanView) (rows : List DeviceRow) (states : List DeviceState) (fault : RigFault) → ((row : ℕ) → fault ≡ rig_faults.WrongDevice (record { 0 = row }) → IsFirstWrong plan rows states row)
+    → ◌≡◌ {A = Result T ShellFault} (Err (fault_of_rig fault)) (Err faults.WrongDevice) → IsFit plan rows states → ⊥
 wrong-unfit plan rows states rig_faults.NoMemory wrong is fit = cc
 wrong-unfit plan rows states (rig_faults.WrongDevice row) wrong is fit = (wrong row.0 refl).unfit fit
 
@@ -92,17 +135,27 @@ pub reached-of : (plan : PlanView) (first now : RigView) → IsRigOf plan first 
 reached-of plan first now h is held = subst (λ (p : PlanView). IsReached p held.0 now.machine) (ap (λ (c : CheckedView). c.plan) is ∙ h.plan_is) held.1
 
 -- an input whose stimulus is known plays that
-pub known-played : (plan : PlanView) (bound : ℕ) (input : Input) (old new : RigView) (a b : Option (List ℕ)) (stimulus : Stimulus) → old.checked.bound ≡ bound → stimulus_at old input ≡ Ok stimulus
-    → IsInputPlayed plan input old new a b → IsPlayed plan bound (stimulus ∷ []) old.machine new.machine a b
-known-played plan bound input old new a b stimulus same is h =
-    let the : h.stimulus ≡ stimulus = is_ok h.stimulus stimulus (stimulus_at old input) h.stimulus_is is in
-    subst (λ (k : ℕ). IsPlayed plan k (stimulus ∷ []) old.machine new.machine a b) same
-    (subst (λ (x : Stimulus). IsPlayed plan old.checked.bound (x ∷ []) old.machine new.machine a b) the h.played)
+module _ (plan : PlanView) (bound : ℕ) (input : Input) (old new : RigView) (a b : Option (List ℕ)) (stimulus : Stimulus) (same : old.checked.bound ≡ bound) (is : stimulus_at old input ≡ Ok stimulus) where
+  pub known-played : IsInputPlayed plan input old new a b → IsPlayed plan bound (stimulus ∷ []) old new a b
+  known-played h =
+      let the : h.stimulus ≡ stimulus = is_ok h.stimulus stimulus (stimulus_at old input) h.stimulus_is is in
+      subst (λ (k : ℕ). IsPlayed plan k (stimulus ∷ []) old new a b) same
+      (subst (λ (x : Stimulus). IsPlayed plan old.checked.bound (x ∷ []) old new a b) the h.played)
 
-pub alarm-played : (plan : PlanView) (until : ℕ) (first now new : RigView) (a b : Option (List ℕ)) → now.checked ≡ first.checked → until < 2 ^ 40 → (next : ComesBy now.machine until)
-    → IsInputPlayed plan inputs.Alarm now new a b → IsPlayed plan first.checked.bound (Alarm next.at next.source ∷ []) now.machine new.machine a b
-alarm-played plan until first now new a b same early next =
-    known-played plan first.checked.bound inputs.Alarm now new a b (Alarm next.at next.source) (ap (λ (c : CheckedView). c.bound) same) (alarm-taken now until early next)
+  pub known-fault : IsInputPlayedToFault plan input old new a b → IsPlayedToFault plan bound (stimulus ∷ []) old new a b
+  known-fault h =
+      let the : h.stimulus ≡ stimulus = is_ok h.stimulus stimulus (stimulus_at old input) h.stimulus_is is in
+      subst (λ (k : ℕ). IsPlayedToFault plan k (stimulus ∷ []) old new a b) same
+      (subst (λ (x : Stimulus). IsPlayedToFault plan old.checked.bound (x ∷ []) old new a b) the h.played)
+
+module _ (plan : PlanView) (until : ℕ) (first now new : RigView) (a b : Option (List ℕ)) (same : now.checked ≡ first.checked) (running : now.faulted ≡ None) (early : until < 2 ^ 40) (next : ComesBy now.machine until) where
+  pub alarm-played : IsInputPlayed plan inputs.Alarm now new a b → IsPlayed plan first.checked.bound (Alarm next.at next.source ∷ []) now new a b
+  alarm-played =
+      known-played plan first.checked.bound inputs.Alarm now new a b (Alarm next.at next.source) (ap (λ (c : CheckedView). c.bound) same) (alarm-taken now until running early next)
+
+  pub alarm-fault : IsInputPlayedToFault plan inputs.Alarm now new a b → IsPlayedToFault plan first.checked.bound (Alarm next.at next.source ∷ []) now new a b
+  alarm-fault =
+      known-fault plan first.checked.bound inputs.Alarm now new a b (Alarm next.at next.source) (ap (λ (c : CheckedView). c.bound) same) (alarm-taken now until running early next)
 
 -- ---- a line that gives a stimulus
 
@@ -135,16 +188,33 @@ module _ (plan : PlanView) (rig : RigView) (rig_of : IsRigOf plan rig) (line : L
   pub given-forward : rig.machine.moment ≤ at
   given-forward = let (forward, early) = in_time-early plan rig.machine.moment given.stimulus given-in in let is = given.at_is in omega (arith, forward, is)
 
+  -- an alarm before it is not taken
+  pub given-alarm_fault : (number : ℕ) (new : RigView) (a b : Option (List ℕ)) → AreAlarmsPlayedToFault plan at rig new a b → IsLinePlayedToFault plan rig.checked.bound number line rig new a b
+  given-alarm_fault number new a b = line-alarm_fault plan rig.checked.bound number line rig given.stimulus at rig new a a b given.given_is given.at_is
+
   module _ (mid : RigView) (a b : Option (List ℕ)) (alarms : AreAlarmsPlayed plan at rig mid a b) where
     -- once its alarms have come, the rig takes it
     pub given-taken : stimulus_at mid input ≡ Ok given.stimulus
     given-taken =
-        let plan_is : mid.checked.plan ≡ plan = ap (λ (c : CheckedView). c.plan) alarms.checked_is ∙ rig_of.plan_is in
+        let served = alarms.played.printed.served in
+        let plan_is : mid.checked.plan ≡ plan = ap (λ (c : CheckedView). c.plan) served.checked_is ∙ rig_of.plan_is in
         ap (stimulus_at mid) given.input_is
-        ∙ in_time-taken mid rig.machine.moment given.stimulus (subst (λ (p : PlanView). IsGivenInTime p rig.machine.moment given.stimulus) (sym plan_is) given-in)
+        ∙ in_time-taken mid rig.machine.moment given.stimulus served.running (subst (λ (p : PlanView). IsGivenInTime p rig.machine.moment given.stimulus) (sym plan_is) given-in)
         (subst (λ (m : ℕ). mid.machine.moment ≤ m) given.at_is alarms.moment) (subst (λ (m : ℕ). is_due_by m mid.machine ≡ false) given.at_is alarms.quiet)
 
-    pub given-played : (number : ℕ) (new : RigView) (c : Option (List ℕ)) → IsInputPlayed plan input mid new b c → IsLinePlayed plan rig.checked.bound number line rig.machine new.machine a c verdicts.Yes
-    given-played number new c h =
-        line-played plan rig.checked.bound number line rig.machine given.stimulus at mid.machine new.machine a b c given.given_is given.at_is alarms.played
-        (known-played plan rig.checked.bound input mid new b c given.stimulus (ap (λ (k : CheckedView). k.bound) alarms.checked_is) given-taken h)
+    pub given-plan : mid.checked.plan ≡ plan
+    given-plan = ap (λ (c : CheckedView). c.plan) alarms.played.printed.served.checked_is ∙ rig_of.plan_is
+
+    bound-same : mid.checked.bound ≡ rig.checked.bound
+    bound-same = ap (λ (k : CheckedView). k.bound) alarms.played.printed.served.checked_is
+
+    module _ (number : ℕ) (new : RigView) (c : Option (List ℕ)) where
+      pub given-played : IsInputPlayed plan input mid new b c → IsLinePlayed plan rig.checked.bound number line rig new a c verdicts.Yes
+      given-played h =
+          line-played plan rig.checked.bound number line rig given.stimulus at mid new a b c given.given_is given.at_is alarms.played
+          (known-played plan rig.checked.bound input mid new b c given.stimulus bound-same given-taken h)
+
+      pub given-fault : IsInputPlayedToFault plan input mid new b c → IsLinePlayedToFault plan rig.checked.bound number line rig new a c
+      given-fault h =
+          line-fault plan rig.checked.bound number line rig given.stimulus at mid new a b c given.given_is given.at_is alarms.played
+          (known-fault plan rig.checked.bound input mid new b c given.stimulus bound-same given-taken h)

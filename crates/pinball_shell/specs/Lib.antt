@@ -8,6 +8,7 @@ pub mod RunOfLog
 pub mod RunGiven
 pub mod SamePlay
 pub mod TraceText
+pub mod Ends
 -- what the contracts of private functions cite, and no public one
 pub mod ReplyView
 pub mod LogView

@@ -1,23 +1,29 @@
--- What playing does to the state, and to what is written.
-use Rattle.std.specs.Prelude.{◌≡◌, ℕ, ◌≤◌, false, Option, Some, None, Result, Ok, Err, List, [], ◌∷◌}
-use Rattle.std.specs.List.{flat_map}
+-- What playing does to a rig, and to what is written.
+use Rattle.std.specs.Prelude.{◌≡◌, ℕ, ◌≤◌, false, Option, Some, None, Result, Ok, Err, List, [], ◌∷◌, ◌++◌, map}
 use Rattle.std.specs.Io.KnownBytes.{Appends}
-use Rattle.std.specs.Str.Lines.{lines}
 use Rattle.plan_tables.specs.PlanView.{PlanView}
+use Rattle.plan_tables.specs.declared.entries.CoilId.{CoilId}
+use Rattle.coil_guard.specs.declared.command.Command.{Command}
+use Rattle.written_machine.specs.declared.line.Line.{Line}
+use Rattle.written_machine.specs.declared.line.Happening.TheVariants as happenings
 use Rattle.written_machine.specs.Accepted.{IsAccepted}
-use Rattle.written_machine.specs.Machine.{Machine}
 use Rattle.written_machine.specs.Run.{Stimulus, Change, Alarm, Wait, moment_of}
 use Rattle.written_machine.specs.NextAlarm.{is_due_by}
 use Rattle.written_machine.specs.AlarmsBy.{state_after}
 use Rattle.pin_rig.specs.declared.input.Input.{Input}
 use Rattle.pin_rig.specs.declared.input.Input.TheVariants as inputs
+use Rattle.pin_rig.specs.Board.{BoardView}
 use Rattle.pin_rig.specs.Rig.{RigView, stimulus_at}
+use Rattle.pin_rig.specs.ShutDown.{ArePutOff, coils_to_put_off}
 use Rattle.pinball_shell.specs.declared.fault.Verdict.{Verdict}
 use Rattle.pinball_shell.specs.declared.fault.Verdict.TheVariants as verdicts
 use Rattle.pinball_shell.specs.declared.refusal.Refusal.{Refusal}
+use Rattle.pinball_shell.specs.declared.play.Stop.{Stop}
+use Rattle.pinball_shell.specs.declared.play.Stop.TheVariants as stops
 use Rattle.pinball_shell.specs.LogText.{said}
-use Rattle.pinball_shell.specs.RunOfLog.{given_by_line, trace_of, all_alarms_by, Printed, printed_for_line, after_line, printed_for_lines}
-use Rattle.pinball_shell.specs.TraceText.{line_text, printed_text, log_verdict}
+use Rattle.pinball_shell.specs.RunOfLog.{given_by_line, trace_of, all_alarms_by, Printed, Traced, printed_for_line, after_line}
+use Rattle.pinball_shell.specs.TraceText.{printed_texts, off_texts, log_verdict}
+use Rattle.pinball_shell.specs.Ends.{IsServed, IsHalted, IsEnd}
 
 -- what a rig is given for a stimulus: which alarm comes, it says itself
 abbrev pub input_of : Stimulus → Input
@@ -31,33 +37,70 @@ GivesInput (Ok None) given = given ≡ Ok None
 GivesInput (Ok (Some timed)) given = (stimulus : Stimulus) × (given ≡ Ok (Some stimulus)) × (timed ≡ (moment_of stimulus, input_of stimulus))
 GivesInput (Err refusal) given = given ≡ Err refusal
 
--- these stimuli were played, and their lines written
-pub record IsPlayed (plan : PlanView) (bound : ℕ) (stimuli : List Stimulus) (old new : Machine) (before after : Option (List ℕ)) : Type 0 where
-  pub state : new ≡ state_after plan bound stimuli old
-  pub text : Appends before after (flat_map (line_text plan) (trace_of plan bound stimuli old))
-
--- the rig is one of the plan, which was accepted
+-- the rig is one of the plan, which was accepted, and is not halted
 pub record IsRigOf (plan : PlanView) (rig : RigView) : Type 0 where
   pub plan_is : rig.checked.plan ≡ plan
   pub accepted : IsAccepted rig.checked
+  pub running : rig.faulted ≡ None
 
--- the stimulus that the input is was played on a rig of the plan
+-- ---- what is printed
+
+-- these were printed, and the board has taken their commands
+pub record IsPrinted (plan : PlanView) (printed : List Printed) (old new : RigView) (before after : Option (List ℕ)) : Type 0 where
+  pub served : IsServed printed old new
+  pub text : Appends before after (printed_texts plan printed)
+
+-- Of these, those before the line of a command were printed, and the board has not taken this command.
+pub record IsPrintedToFault (plan : PlanView) (printed : List Printed) (old new : RigView) (before after : Option (List ℕ)) : Type 0 where
+  pub shown : List Printed
+  pub line : Line
+  pub command : Command
+  pub line_is : line.happening ≡ happenings.Coil command
+  pub later : List Printed
+  pub whole : printed ≡ shown ++ Traced line ∷ later
+  pub moment_is : new.machine.moment ≡ line.moment
+  pub mid : RigView
+  pub earlier : IsPrinted plan shown old mid before after
+  pub halted : IsHalted command mid new
+
+-- Playing has gone on to its end; or up to a fault of the board. Of a writer that failed nothing is said.
+abbrev pub GoesOrHalts : {T : Type 0} → Result T Stop → (T → Type 0) → Type 0 → Type 0
+GoesOrHalts (Ok done) goes halts = goes done
+GoesOrHalts (Err stops.Board) goes halts = halts
+GoesOrHalts (Err stops.Write) goes halts = Unit {0}
+
+-- ---- stimuli
+
+-- these stimuli were played
+pub record IsPlayed (plan : PlanView) (bound : ℕ) (stimuli : List Stimulus) (old new : RigView) (before after : Option (List ℕ)) : Type 0 where
+  pub state : new.machine ≡ state_after plan bound stimuli old.machine
+  pub printed : IsPrinted plan (map Traced (trace_of plan bound stimuli old.machine)) old new before after
+
+-- these stimuli were played, up to a fault of the board
+abbrev pub IsPlayedToFault : PlanView → ℕ → List Stimulus → RigView → RigView → Option (List ℕ) → Option (List ℕ) → Type 0
+IsPlayedToFault plan bound stimuli old new = IsPrintedToFault plan (map Traced (trace_of plan bound stimuli old.machine)) old new
+
+-- the stimulus that the input is was played
 pub record IsInputPlayed (plan : PlanView) (input : Input) (old new : RigView) (before after : Option (List ℕ)) : Type 0 where
   pub stimulus : Stimulus
   pub stimulus_is : stimulus_at old input ≡ Ok stimulus
-  pub checked_is : new.checked ≡ old.checked
-  pub played : IsPlayed plan old.checked.bound (stimulus ∷ []) old.machine new.machine before after
+  pub played : IsPlayed plan old.checked.bound (stimulus ∷ []) old new before after
+
+pub record IsInputPlayedToFault (plan : PlanView) (input : Input) (old new : RigView) (before after : Option (List ℕ)) : Type 0 where
+  pub stimulus : Stimulus
+  pub stimulus_is : stimulus_at old input ≡ Ok stimulus
+  pub played : IsPlayedToFault plan old.checked.bound (stimulus ∷ []) old new before after
 
 -- the alarms that come by the moment were played, and no more is due by it
 pub record AreAlarmsPlayed (plan : PlanView) (until : ℕ) (old new : RigView) (before after : Option (List ℕ)) : Type 0 where
-  pub checked_is : new.checked ≡ old.checked
-  pub played : IsPlayed plan old.checked.bound (all_alarms_by plan old.checked.bound until old.machine) old.machine new.machine before after
+  pub played : IsPlayed plan old.checked.bound (all_alarms_by plan old.checked.bound until old.machine) old new before after
   pub quiet : is_due_by until new.machine ≡ false
   pub moment : new.machine.moment ≤ until
 
--- what is printed, as bytes
-abbrev pub printed_texts : PlanView → List Printed → List ℕ
-printed_texts plan printed = flat_map (printed_text plan) printed
+abbrev pub AreAlarmsPlayedToFault : PlanView → ℕ → RigView → RigView → Option (List ℕ) → Option (List ℕ) → Type 0
+AreAlarmsPlayedToFault plan until old new = IsPlayedToFault plan old.checked.bound (all_alarms_by plan old.checked.bound until old.machine) old new
+
+-- ---- lines of a log
 
 -- refused where either is
 abbrev pub worse_of : Verdict → Verdict → Verdict
@@ -65,12 +108,27 @@ worse_of before verdicts.Yes = before
 worse_of before verdicts.Refused = verdicts.Refused
 
 -- a line of a log was played, or refused
-pub record IsLinePlayed (plan : PlanView) (bound number : ℕ) (line : List ℕ) (old new : Machine) (before after : Option (List ℕ)) (verdict : Verdict) : Type 0 where
-  pub state : new ≡ after_line plan bound old (given_by_line plan old.moment (said line))
-  pub text : Appends before after (printed_texts plan (printed_for_line plan bound number old (given_by_line plan old.moment (said line))))
-  pub verdict_is : verdict ≡ log_verdict (printed_for_line plan bound number old (given_by_line plan old.moment (said line)))
+pub record IsLinePlayed (plan : PlanView) (bound number : ℕ) (line : List ℕ) (old new : RigView) (before after : Option (List ℕ)) (verdict : Verdict) : Type 0 where
+  pub state : new.machine ≡ after_line plan bound old.machine (given_by_line plan old.machine.moment (said line))
+  pub printed : IsPrinted plan (printed_for_line plan bound number old.machine (given_by_line plan old.machine.moment (said line))) old new before after
+  pub verdict_is : verdict ≡ log_verdict (printed_for_line plan bound number old.machine (given_by_line plan old.machine.moment (said line)))
 
--- the lines of a text were played
-pub record AreLinesPlayed (plan : PlanView) (bound : ℕ) (log : List ℕ) (old : Machine) (before after : Option (List ℕ)) (verdict : Verdict) : Type 0 where
-  pub text : Appends before after (printed_texts plan (printed_for_lines plan bound 1 (lines log) old))
-  pub verdict_is : verdict ≡ log_verdict (printed_for_lines plan bound 1 (lines log) old)
+abbrev pub IsLinePlayedToFault : PlanView → ℕ → ℕ → List ℕ → RigView → RigView → Option (List ℕ) → Option (List ℕ) → Type 0
+IsLinePlayedToFault plan bound number line old new =
+    IsPrintedToFault plan (printed_for_line plan bound number old.machine (given_by_line plan old.machine.moment (said line))) old new
+
+-- the lines of a log were played on a rig at rest, up to one of the ends
+pub record IsLogPlayed (plan : PlanView) (bound : ℕ) (log : List ℕ) (old new : RigView) (before after : Option (List ℕ)) (verdict : Verdict) : Type 0 where
+  pub printed : List Printed
+  pub end : IsEnd plan bound log old printed new
+  pub text : Appends before after (printed_texts plan printed)
+  pub verdict_is : verdict ≡ log_verdict printed
+
+-- ---- the end
+
+-- A rig was shut down, and it was written which coils were put off. In the end the board is `last`.
+pub record IsShutDown (plan : PlanView) (rig : RigView) (last : BoardView) (before after : Option (List ℕ)) : Type 0 where
+  pub off : List CoilId
+  pub faults : ℕ
+  pub put_off : ArePutOff (coils_to_put_off rig) rig.board off faults last
+  pub text : Appends before after (off_texts plan rig.machine.moment off)

@@ -2,9 +2,13 @@
 use Rattle.std.specs.Prelude.{ℕ, Bool, true, false, if◌then◌else◌, List, [], ◌∷◌, ◌++◌, codes}
 use Rattle.std.specs.List.{flat_map, list_any}
 use Rattle.std.specs.Fmt.{decimal}
-use Rattle.plan_tables.specs.PlanView.{PlanView, mode_at, name_of_event, switch_at}
+use Rattle.plan_tables.specs.PlanView.{PlanView, mode_at, name_of_event, switch_at, coil_at}
+use Rattle.plan_tables.specs.declared.entries.CoilId.{CoilId}
 use Rattle.plan_tables.specs.declared.entries.Owner.{Owner}
 use Rattle.plan_tables.specs.declared.entries.Owner.TheVariants as owners
+use Rattle.coil_guard.specs.declared.command.Command.{Command}
+use Rattle.coil_guard.specs.declared.command.Command.TheVariants.{Pulse, Enable, Disable}
+use Rattle.coil_guard.specs.SentCommands.{coil_of}
 use Rattle.written_machine.specs.declared.line.Line.{Line}
 use Rattle.written_machine.specs.declared.line.Happening.{Happening}
 use Rattle.written_machine.specs.declared.line.Happening.TheVariants as happenings
@@ -13,7 +17,7 @@ use Rattle.pinball_shell.specs.declared.fault.Verdict.{Verdict}
 use Rattle.pinball_shell.specs.declared.fault.Verdict.TheVariants as verdicts
 use Rattle.pinball_shell.specs.declared.refusal.Refusal.{Refusal}
 use Rattle.pinball_shell.specs.declared.refusal.Refusal.TheVariants as refusals
-use Rattle.pinball_shell.specs.RunOfLog.{Printed, Traced, Refused, printed_for_log}
+use Rattle.pinball_shell.specs.RunOfLog.{Printed, Traced, Refused}
 
 -- the name of a mode, or `machine`
 abbrev pub owner_text : PlanView → Owner → List ℕ
@@ -31,9 +35,26 @@ switch_text name active = codes "switch " ++ name ++ codes " " ++ level_text act
 abbrev pub event_text : List ℕ → List ℕ
 event_text name = codes "event " ++ name ++ 10 ∷ []
 
+-- `coil NAME pulse MS POWER`, `coil NAME enable POWER`, or `coil NAME disable`, and LF
+abbrev pub sent_text : List ℕ → Command → List ℕ
+sent_text name (Pulse coil ms power) = codes "coil " ++ name ++ codes " pulse " ++ decimal ms ++ codes " " ++ decimal power ++ 10 ∷ []
+sent_text name (Enable coil power) = codes "coil " ++ name ++ codes " enable " ++ decimal power ++ 10 ∷ []
+sent_text name (Disable coil) = codes "coil " ++ name ++ codes " disable" ++ 10 ∷ []
+
+abbrev pub action_name : Command → List ℕ
+action_name (Pulse coil ms power) = codes "pulse"
+action_name (Enable coil power) = codes "enable"
+action_name (Disable coil) = codes "disable"
+
+-- `skip NAME pulse`, `enable`, or `disable`, and LF
+abbrev pub skip_text : List ℕ → Command → List ℕ
+skip_text name command = codes "skip " ++ name ++ codes " " ++ action_name command ++ 10 ∷ []
+
 abbrev pub happening_text : PlanView → Happening → List ℕ
 happening_text plan (happenings.Switch n active) = switch_text (switch_at plan n).name active
 happening_text plan (happenings.Event e) = event_text (name_of_event plan e)
+happening_text plan (happenings.Coil command) = sent_text (coil_at plan (coil_of command)).name command
+happening_text plan (happenings.Skip command) = skip_text (coil_at plan (coil_of command)).name command
 
 -- the moment, the owner, and what happened
 abbrev pub line_text : PlanView → Line → List ℕ
@@ -56,9 +77,17 @@ abbrev pub printed_text : PlanView → Printed → List ℕ
 printed_text plan (Traced line) = line_text plan line
 printed_text plan (Refused number refusal) = refused_text number refusal
 
--- what is printed where a log is played on a plan, whose cascades have this bound
-abbrev pub trace_text : PlanView → ℕ → List ℕ → List ℕ
-trace_text plan bound log = flat_map (printed_text plan) (printed_for_log plan bound log)
+-- these, one after another
+abbrev pub printed_texts : PlanView → List Printed → List ℕ
+printed_texts plan printed = flat_map (printed_text plan) printed
+
+-- `MOMENT machine off NAME`, and LF: at the moment the coil was put off
+abbrev pub off_text : PlanView → ℕ → CoilId → List ℕ
+off_text plan moment coil = decimal moment ++ codes " machine off " ++ (coil_at plan coil).name ++ 10 ∷ []
+
+-- these coils were put off, in order
+abbrev pub off_texts : PlanView → ℕ → List CoilId → List ℕ
+off_texts plan moment coils = flat_map (off_text plan moment) coils
 
 abbrev pub is_refused : Printed → Bool
 is_refused (Traced line) = false

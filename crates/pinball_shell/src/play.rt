@@ -1,39 +1,60 @@
 //! A log is read and played.
 
-ghost use Rattle.std.specs.Prelude.{◌≡◌, ◌≢◌, ◌^◌, ◌<◌, ◌≤◌, ◌⊎◌, IfOk, IfErr, IsOk, OnOk, IfSome, IsErrOf, length, map};
+ghost use Rattle.std.specs.Prelude.{◌≡◌, ◌≢◌, ◌^◌, ◌<◌, ◌≤◌, ◌⊎◌, false, IfOk, IfErr, IsTrue, IsOk, OnOk, IfSome, IsErrOf, length, map};
 ghost use Rattle.std.specs.Io.KnownBytes.{Appends, Keeps};
+ghost use Rattle.written_machine.specs.Machine.{initial};
 ghost use Rattle.written_machine.specs.NextAlarm.{is_due_by};
+ghost use Rattle.pin_rig.specs.Board.{BoardView};
 ghost use Rattle.pin_rig.specs.Fit.{IsFit};
 ghost use Rattle.pin_rig.specs.Refused.{admitted};
-ghost use Rattle.pin_rig.specs.Rig.{stimulus_at, IsOfRun};
+ghost use Rattle.pin_rig.specs.Rig.{stimulus_at, IsOfRun, RigStep, RigHalt};
 ghost use Rattle.pinball_shell.specs.LogView.{said_view};
 ghost use Rattle.pinball_shell.specs.RunOfLog.{if_admitted, given_by_line, printed_for_log, traced};
 ghost use Rattle.pinball_shell.specs.RunGiven.{IsPlayOfLog};
-ghost use Rattle.pinball_shell.specs.TraceText.{trace_text, log_verdict};
-ghost use Rattle.pinball_shell.specs.Played.{worse_of, IsInputPlayed, AreAlarmsPlayed, IsLinePlayed, AreLinesPlayed, GivesInput, IsRigOf};
+ghost use Rattle.pinball_shell.specs.Ends.{IsPlayOn};
+ghost use Rattle.pinball_shell.specs.TraceText.{refused_text};
+ghost use Rattle.pinball_shell.specs.Played.{worse_of, GivesInput, GoesOrHalts, IsRigOf, IsInputPlayed, IsInputPlayedToFault, AreAlarmsPlayed, AreAlarmsPlayedToFault, IsLinePlayed, IsLinePlayedToFault, IsLogPlayed, IsShutDown};
 
 use crate::fault::{ShellFault, Verdict};
 use crate::log_line::{Said, first_line, read_line};
 use crate::refusal::Refusal;
 use crate::text::read_all;
-use crate::trace::{write_lines, write_refused};
+use crate::trace::{write_lines, write_off, write_refused};
+use coil_guard::Board;
 use config_checker::Checked;
 use device_objects::Device;
 use pin_rig::{Input, Rig, StepFault, check_moment};
 use plan_tables::Plan;
 use std::alloc::Global;
-use std::io::{self, Read, Write};
+use std::io::{Read, Write};
 
 /// The most bytes that a log may have: 16 MiB.
 pub const LOG_LIMIT: usize = 16_777_216;
 
-/// Reads a log and plays it on a machine with these devices, one for each row of the plan, in the
-/// order of the rows. Writes the lines of the trace as they come, and a line for each line of the
-/// log that is refused. The verdict is `Yes` if none is.
+/// Why playing does not go on.
+#[derive(Clone, Copy)]
+pub(crate) enum Stop {
+    /// A writer failed.
+    Write,
+    /// The board has not taken a command, and the rig is halted.
+    Board,
+}
+
+/// Reads a log and plays it on a machine with this board and these devices, one for each row of the
+/// plan, in the order of the rows. Writes the lines of the trace as they come, and a line for each
+/// line of the log that is refused. At the end the machine is shut down, and a line is written for
+/// each coil that is put off then, at the moment of the latest stimulus. The verdict is `Yes` if no
+/// line of the log is refused.
 ///
 /// The lines of the trace are those of the run of the plan that the log gives: its changes and
 /// waits in their order, before each the alarms that are due by its moment, and none after the
 /// last. Equal handlers run in plan order. At the end no event waits.
+///
+/// The board is sent the commands of the lines, in order, and at the end a disable for each coil
+/// that is still on. Where it does not take a command of the trace, the log ends there: the lines
+/// before the line of this command are written, and then that the log's line is refused that was
+/// being played. The machine is shut down in this case too, and this coil is put off with those
+/// that are on.
 ///
 /// # Errors
 ///
@@ -45,18 +66,18 @@ pub const LOG_LIMIT: usize = 16_777_216;
 /// - `Write`: the writer failed. How much was written is not said.
 ///
 /// The log is read to its end, and all memory taken, before anything is written. So after all but
-/// the last nothing has been written. The devices are dropped in any case.
-pub fn play_text<D: Device, R: Read, W: Write>(
+/// the last nothing has been written, and nothing was sent to the board. After the last, the coils
+/// that are on are put off. The devices and the board are dropped in any case.
+pub fn play_text<D: Device, B: Board, R: Read, W: Write>(
     alloc: Global,
     checked: &Checked,
     devices: Vec<D>,
+    board: B,
     reader: &mut R,
     writer: &mut W,
 ) -> Result<Verdict, ShellFault>
-    ensures written { OnOk result (IfSome (R.remaining reader.old)
-        (λ log. Appends (W.contents writer.old) (W.contents writer.new) (trace_text checked.now.plan checked.now.bound log))) }
-    ensures verdict { IfOk result (λ v. IfSome (R.remaining reader.old)
-        (λ log. v ≡ log_verdict (printed_for_log checked.now.plan checked.now.bound log))) }
+    ensures played { IfOk result (λ v. IfSome (R.remaining reader.old)
+        (λ log. (last : BoardView) × IsPlayOn checked.now log (record { told = B.told board; fault_count = B.fault_count board }) last (W.contents writer.old) (W.contents writer.new) v)) }
     ensures run { OnOk result (IfSome (R.remaining reader.old)
         (λ log. IsPlayOfLog checked.now.plan log (traced (printed_for_log checked.now.plan checked.now.bound log)))) }
     ensures silent { IfErr result (λ e. e ≢ ShellFault.Write → Keeps (W.contents writer.old) (W.contents writer.new)) }
@@ -66,21 +87,22 @@ pub fn play_text<D: Device, R: Read, W: Write>(
     ensures wrong { IsErrOf result ShellFault.WrongDevice → ¬ (IsFit checked.now.plan (map D.row_of devices.items) (map D.state_of devices.items)) }
 {
     let log = read_all(alloc, reader, LOG_LIMIT)?;
-    play_log(alloc, checked, devices, &log, writer)
+    let (verdict, _board) = play_log(alloc, checked, devices, board, &log, writer)?;
+    Ok(verdict)
 }
 
-/// Plays a log that was read. Fails only by memory and by its devices, before anything is written,
-/// and by the writer.
-fn play_log<D: Device, W: Write>(
+/// Plays a log that was read, and gives the board back. Fails only by memory and by its devices,
+/// before anything is written, and by the writer.
+fn play_log<D: Device, B: Board, W: Write>(
     alloc: Global,
     checked: &Checked,
     devices: Vec<D>,
+    board: B,
     log: &[u8],
     writer: &mut W,
-) -> Result<Verdict, ShellFault>
+) -> Result<(Verdict, B), ShellFault>
     requires { length log.now ≤ 2 ^ 24 }
-    ensures written { OnOk result (Appends (W.contents writer.old) (W.contents writer.new) (trace_text checked.now.plan checked.now.bound log.now)) }
-    ensures verdict { IfOk result (λ v. v ≡ log_verdict (printed_for_log checked.now.plan checked.now.bound log.now)) }
+    ensures played { IfOk result (λ end. IsPlayOn checked.now log.now (record { told = B.told board; fault_count = B.fault_count board }) (record { told = B.told end.1; fault_count = B.fault_count end.1 }) (W.contents writer.old) (W.contents writer.new) end.0) }
     ensures run { IsPlayOfLog checked.now.plan log.now (traced (printed_for_log checked.now.plan checked.now.bound log.now)) }
     ensures silent { IfErr result (λ e. e ≢ ShellFault.Write → Keeps (W.contents writer.old) (W.contents writer.new)) }
     ensures failed { IfErr result (λ e. (e ≡ ShellFault.NoMemory) ⊎ (e ≡ ShellFault.WrongDevice) ⊎ (e ≡ ShellFault.Write)) }
@@ -88,34 +110,71 @@ fn play_log<D: Device, W: Write>(
     ensures wrong { IsErrOf result ShellFault.WrongDevice → ¬ (IsFit checked.now.plan (map D.row_of devices.items) (map D.state_of devices.items)) }
 {
     let plan = checked.plan();
-    let mut rig = Rig::new(alloc, checked, devices)?;
-    match play_lines(plan, &mut rig, log, writer) {
-        Ok(verdict) => Ok(verdict),
+    let mut rig = Rig::new(alloc, checked, devices, board)?;
+    let verdict = play_lines(plan, &mut rig, log, writer)?;
+    let board = shut_down(plan, rig, writer)?;
+    Ok((verdict, board))
+}
+
+/// Shuts the rig of a plan down, and writes which coils were put off. Gives the board back. Fails
+/// only by the writer.
+fn shut_down<D: Device, B: Board, W: Write>(
+    plan: &Plan,
+    rig: Rig<'_, D, B>,
+    writer: &mut W,
+) -> Result<B, ShellFault>
+    ensures done { IfOk result (λ b. IsShutDown plan.now rig.entry (record { told = B.told b; fault_count = B.fault_count b }) (W.contents writer.old) (W.contents writer.new)) }
+    ensures failed { IfErr result (λ e. e ≡ ShellFault.Write) }
+{
+    let now = rig.now();
+    let (board, report) = rig.shut_down();
+    match write_off(plan, now, &report.off, writer) {
+        Ok(()) => Ok(board),
         Err(_) => Err(ShellFault::Write),
     }
 }
 
-/// Plays the lines of a log on the rig of a plan.
-fn play_lines<D: Device, W: Write>(
+/// Plays the lines of a log on a rig at rest of a plan, until the board has not taken a command.
+/// Fails only by the writer.
+fn play_lines<D: Device, B: Board, W: Write>(
     plan: &Plan,
-    rig: &mut Rig<'_, D>,
+    rig: &mut Rig<'_, D, B>,
     log: &[u8],
     writer: &mut W,
-) -> io::Result<Verdict>
+) -> Result<Verdict, ShellFault>
     requires log { length log.now ≤ 2 ^ 24 }
     requires rig { IsRigOf plan.now rig.old }
-    ensures { IfOk result (λ v. AreLinesPlayed plan.now rig.old.checked.bound log.now rig.old.machine (W.contents writer.old) (W.contents writer.new) v) }
+    requires rest { rig.old.machine ≡ initial plan.now }
+    ensures played { IfOk result (λ v. IsLogPlayed plan.now rig.old.checked.bound log.now rig.old rig.new (W.contents writer.old) (W.contents writer.new) v) }
+    ensures failed { IfErr result (λ e. e ≡ ShellFault.Write) }
 {
     let mut verdict = Verdict::Yes;
     let mut number = 1;
     let mut rest = log;
     while !rest.is_empty() {
         let (line, after) = first_line(rest);
-        verdict = worse(verdict, play_line(plan, rig, number, line, writer)?);
+        match play_line(plan, rig, number, line, writer) {
+            Ok(found) => verdict = worse(verdict, found),
+            Err(Stop::Board) => return refuse_for_board(number, writer),
+            Err(Stop::Write) => return Err(ShellFault::Write),
+        }
         number += 1;
         rest = after;
     }
     Ok(verdict)
+}
+
+/// Writes that the line of this number is refused, since the board has not taken a command. Fails
+/// only by the writer.
+fn refuse_for_board<W: Write>(number: usize, writer: &mut W) -> Result<Verdict, ShellFault>
+    ensures written { OnOk result (Appends (W.contents writer.old) (W.contents writer.new) (refused_text number (Refusal.Step StepFault.BoardFault))) }
+    ensures verdict { IfOk result (λ v. v ≡ Verdict.Refused) }
+    ensures failed { IfErr result (λ e. e ≡ ShellFault.Write) }
+{
+    match write_refused(number, Refusal::Step(StepFault::BoardFault), writer) {
+        Ok(()) => Ok(Verdict::Refused),
+        Err(_) => Err(ShellFault::Write),
+    }
 }
 
 /// Refused where either is.
@@ -129,16 +188,16 @@ fn worse(before: Verdict, line: Verdict) -> Verdict
 }
 
 /// Plays a line that has this number, unless it is refused.
-fn play_line<D: Device, W: Write>(
+fn play_line<D: Device, B: Board, W: Write>(
     plan: &Plan,
-    rig: &mut Rig<'_, D>,
+    rig: &mut Rig<'_, D, B>,
     number: usize,
     line: &[u8],
     writer: &mut W,
-) -> io::Result<Verdict>
+) -> Result<Verdict, Stop>
     requires { IsRigOf plan.now rig.old }
-    ensures played { IfOk result (λ v. IsLinePlayed plan.now rig.old.checked.bound number line.now rig.old.machine rig.new.machine (W.contents writer.old) (W.contents writer.new) v) }
-    ensures checked { OnOk result (rig.new.checked ≡ rig.old.checked) }
+    ensures { GoesOrHalts result (λ v. IsLinePlayed plan.now rig.old.checked.bound number line.now rig.old rig.new (W.contents writer.old) (W.contents writer.new) v)
+        (IsLinePlayedToFault plan.now rig.old.checked.bound number line.now rig.old rig.new (W.contents writer.old) (W.contents writer.new)) }
 {
     match given_by(plan, rig.now(), read_line(line)) {
         Ok(None) => Ok(Verdict::Yes),
@@ -147,10 +206,10 @@ fn play_line<D: Device, W: Write>(
             play_input(plan, rig, input, writer)?;
             Ok(Verdict::Yes)
         }
-        Err(refusal) => {
-            write_refused(number, refusal, writer)?;
-            Ok(Verdict::Refused)
-        }
+        Err(refusal) => match write_refused(number, refusal, writer) {
+            Ok(()) => Ok(Verdict::Refused),
+            Err(_) => Err(Stop::Write),
+        },
     }
 }
 
@@ -178,17 +237,18 @@ fn given_at(now: u64, at: u64, input: Input) -> Result<Option<(u64, Input)>, Ref
     Ok(Some((at, input)))
 }
 
-/// Plays the alarms that come by a moment.
-fn play_alarms<D: Device, W: Write>(
+/// Plays the alarms that come by a moment, until the board has not taken a command.
+fn play_alarms<D: Device, B: Board, W: Write>(
     plan: &Plan,
-    rig: &mut Rig<'_, D>,
+    rig: &mut Rig<'_, D, B>,
     until: u64,
     writer: &mut W,
-) -> io::Result<()>
+) -> Result<(), Stop>
     requires until { until < 2 ^ 40 }
     requires forward { rig.old.machine.moment ≤ until }
     requires rig { IsRigOf plan.now rig.old }
-    ensures { OnOk result (AreAlarmsPlayed plan.now until rig.old rig.new (W.contents writer.old) (W.contents writer.new)) }
+    ensures { GoesOrHalts result (λ _. AreAlarmsPlayed plan.now until rig.old rig.new (W.contents writer.old) (W.contents writer.new))
+        (AreAlarmsPlayedToFault plan.now until rig.old rig.new (W.contents writer.old) (W.contents writer.new)) }
 {
     while has_alarm_by(rig, until) {
         play_input(plan, rig, Input::Alarm, writer)?;
@@ -197,7 +257,7 @@ fn play_alarms<D: Device, W: Write>(
 }
 
 /// Whether an alarm is due at or before a moment.
-fn has_alarm_by<D: Device>(rig: &Rig<'_, D>, until: u64) -> bool
+fn has_alarm_by<D: Device, B: Board>(rig: &Rig<'_, D, B>, until: u64) -> bool
     ensures due { result ≡ is_due_by until rig.now.machine }
     ensures reached { IsOfRun rig.now }
 {
@@ -207,19 +267,32 @@ fn has_alarm_by<D: Device>(rig: &Rig<'_, D>, until: u64) -> bool
     }
 }
 
-/// Plays an input that the rig takes, and writes its lines.
-fn play_input<D: Device, W: Write>(
+/// Plays an input that the rig takes, and writes its lines. Where the board has not taken a command,
+/// these are the lines before the line of this command.
+fn play_input<D: Device, B: Board, W: Write>(
     plan: &Plan,
-    rig: &mut Rig<'_, D>,
+    rig: &mut Rig<'_, D, B>,
     input: Input,
     writer: &mut W,
-) -> io::Result<()>
+) -> Result<(), Stop>
     requires taken { IsOk (stimulus_at rig.old input) }
     requires plan { rig.old.checked.plan ≡ plan.now }
-    ensures { OnOk result (IsInputPlayed plan.now input rig.old rig.new (W.contents writer.old) (W.contents writer.new)) }
+    ensures { GoesOrHalts result (λ _. IsInputPlayed plan.now input rig.old rig.new (W.contents writer.old) (W.contents writer.new))
+        (IsInputPlayedToFault plan.now input rig.old rig.new (W.contents writer.old) (W.contents writer.new)) }
 {
-    let Ok(lines) = rig.step(input) else {
-        unreachable!()
-    };
-    write_lines(plan, lines, writer)
+    let is_served = step(rig, input);
+    match write_lines(plan, rig.trace(), writer) {
+        Ok(()) if is_served => Ok(()),
+        Ok(()) => Err(Stop::Board),
+        Err(_) => Err(Stop::Write),
+    }
+}
+
+/// One step of an input that the rig takes. Whether the board has taken all commands.
+fn step<D: Device, B: Board>(rig: &mut Rig<'_, D, B>, input: Input) -> bool
+    requires { IsOk (stimulus_at rig.old input) }
+    ensures served { IsTrue result → RigStep input rig.old rig.new }
+    ensures halted { result ≡ false → RigHalt input rig.old rig.new }
+{
+    rig.step(input).is_ok()
 }

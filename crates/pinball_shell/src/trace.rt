@@ -3,11 +3,13 @@
 ghost use Rattle.std.specs.Prelude.{◌≡◌, OnOk, slice_index_or};
 ghost use Rattle.std.specs.List.{flat_map};
 ghost use Rattle.std.specs.Io.KnownBytes.{Appends};
-ghost use Rattle.plan_tables.specs.PlanView.{mode_at, name_of_event, switch_at};
-ghost use Rattle.pinball_shell.specs.TraceText.{owner_text, level_text, switch_text, event_text, line_text, refused_text};
+ghost use Rattle.plan_tables.specs.PlanView.{mode_at, name_of_event, switch_at, coil_at};
+ghost use Rattle.coil_guard.specs.SentCommands.{coil_of};
+ghost use Rattle.pinball_shell.specs.TraceText.{owner_text, level_text, switch_text, event_text, sent_text, action_name, skip_text, happening_text, line_text, off_text, off_texts, refused_text};
 
 use crate::refusal::Refusal;
-use plan_tables::{EventId, ModeId, Owner, Plan, SwitchId};
+use coil_guard::Command;
+use plan_tables::{CoilId, EventId, ModeId, Owner, Plan, SwitchId};
 use std::io::{self, Write};
 use written_machine::{Happening, Line};
 
@@ -19,6 +21,34 @@ pub fn write_lines<W: Write>(plan: &Plan, lines: &[Line], writer: &mut W) -> io:
         write_line(plan, *line, writer)?;
     }
     Ok(())
+}
+
+/// Writes that these coils were put off at a moment.
+pub fn write_off<W: Write>(
+    plan: &Plan,
+    moment: u64,
+    coils: &[CoilId],
+    writer: &mut W,
+) -> io::Result<()>
+    ensures { OnOk result (Appends (W.contents writer.old) (W.contents writer.new) (off_texts plan.now moment coils.now)) }
+{
+    for coil in coils {
+        write_coil_off(plan, moment, *coil, writer)?;
+    }
+    Ok(())
+}
+
+fn write_coil_off<W: Write>(
+    plan: &Plan,
+    moment: u64,
+    coil: CoilId,
+    writer: &mut W,
+) -> io::Result<()>
+    ensures { OnOk result (Appends (W.contents writer.old) (W.contents writer.new) (off_text plan.now moment coil)) }
+{
+    write!(writer, "{moment} machine off ")?;
+    writer.write_all(coil_name(plan, coil))?;
+    writer.write_all(b"\n")
 }
 
 /// Writes that the line of this number is refused.
@@ -39,11 +69,19 @@ fn write_line<W: Write>(plan: &Plan, line: Line, writer: &mut W) -> io::Result<(
     write!(writer, "{} ", line.moment)?;
     writer.write_all(owner_name(plan, line.owner))?;
     writer.write_all(b" ")?;
-    match line.happening {
+    write_happening(plan, line.happening, writer)
+}
+
+fn write_happening<W: Write>(plan: &Plan, happening: Happening, writer: &mut W) -> io::Result<()>
+    ensures { OnOk result (Appends (W.contents writer.old) (W.contents writer.new) (happening_text plan.now happening)) }
+{
+    match happening {
         Happening::Switch(switch, active) => {
             write_switch(switch_name(plan, switch), active, writer)
         }
         Happening::Event(event) => write_event(event_name(plan, event), writer),
+        Happening::Coil(command) => write_sent(command_name(plan, command), command, writer),
+        Happening::Skip(command) => write_skip(command_name(plan, command), command, writer),
     }
 }
 
@@ -61,6 +99,37 @@ fn write_event<W: Write>(name: &[u8], writer: &mut W) -> io::Result<()>
     writer.write_all(b"event ")?;
     writer.write_all(name)?;
     writer.write_all(b"\n")
+}
+
+fn write_sent<W: Write>(name: &[u8], command: Command, writer: &mut W) -> io::Result<()>
+    ensures { OnOk result (Appends (W.contents writer.old) (W.contents writer.new) (sent_text name.now command)) }
+{
+    writer.write_all(b"coil ")?;
+    writer.write_all(name)?;
+    match command {
+        Command::Pulse { ms, power, .. } => writeln!(writer, " pulse {ms} {power}"),
+        Command::Enable { power, .. } => writeln!(writer, " enable {power}"),
+        Command::Disable { .. } => writer.write_all(b" disable\n"),
+    }
+}
+
+fn write_skip<W: Write>(name: &[u8], command: Command, writer: &mut W) -> io::Result<()>
+    ensures { OnOk result (Appends (W.contents writer.old) (W.contents writer.new) (skip_text name.now command)) }
+{
+    writer.write_all(b"skip ")?;
+    writer.write_all(name)?;
+    writeln!(writer, " {}", action_word(command))
+}
+
+/// The action that was asked for.
+fn action_word(command: Command) -> &'static str
+    ensures { result.now ≡ action_name command }
+{
+    match command {
+        Command::Pulse { .. } => "pulse",
+        Command::Enable { .. } => "enable",
+        Command::Disable { .. } => "disable",
+    }
 }
 
 /// The name of who acts: nothing where the plan lacks the mode.
@@ -106,6 +175,28 @@ fn switch_name(plan: &Plan, switch: SwitchId) -> &[u8]
 {
     if (switch.0 as usize) < plan.switch_count() {
         plan.switch_name(switch)
+    } else {
+        &[]
+    }
+}
+
+/// The name of the coil of a command.
+fn command_name(plan: &Plan, command: Command) -> &[u8]
+    ensures { result.now ≡ (coil_at plan.now (coil_of command)).name }
+{
+    match command {
+        Command::Pulse { coil, .. } => coil_name(plan, coil),
+        Command::Enable { coil, .. } => coil_name(plan, coil),
+        Command::Disable { coil } => coil_name(plan, coil),
+    }
+}
+
+/// The name of a coil: nothing where the plan lacks it.
+fn coil_name(plan: &Plan, coil: CoilId) -> &[u8]
+    ensures { result.now ≡ (coil_at plan.now coil).name }
+{
+    if (coil.0 as usize) < plan.coil_count() {
+        plan.coil_name(coil)
     } else {
         &[]
     }

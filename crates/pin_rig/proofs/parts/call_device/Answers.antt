@@ -2,7 +2,9 @@ use Rattle.std.proofs.Common.{◌<◌, sym, ◌∙◌, subst}
 use Rattle.std.specs.List.{All}
 use Rattle.plan_tables.specs.PlanView.{row_at}
 use Rattle.plan_tables.specs.Devices.{list_count}
-use Rattle.written_machine.specs.Machine.{called}
+use Rattle.written_machine.specs.Machine.{called, set_device}
+use Rattle.pin_rig.specs.Core.{after}
+use Rattle.pin_rig.proofs.Callable.{can-turn}
 use Rattle.pin_rig.proofs.Listing.{answer-lists}
 use Rattle.pin_rig.proofs.parts.call_device.Goals as goal
 
@@ -11,4 +13,11 @@ run_lists-requires-clause-lists g c =
     let plan = c.args.plan.now in
     let r = c.args.row in
     let is = c.deref.ensures.0 ∙ c.call-lists.ensures.lists ∙ (λ i. (called (c.requires.plan i) c.args.call r c.args.core.now.machine).1) in
-    subst (All (λ k. k < list_count (row_at plan r).settings)) (sym is) (answer-lists plan c.args.call r c.args.core.now.machine c.requires.row c.requires.calls.0 c.requires.may)
+    subst (All (λ k. k < list_count (row_at plan r).settings)) (sym is) (answer-lists plan c.args.call r c.args.core.now.machine c.requires.row c.requires.calls.devices c.requires.may)
+
+pub run_lists-requires-clause-calls : goal.run_lists-requires-clause-calls
+run_lists-requires-clause-calls g c =
+    let plan = c.args.plan.now in
+    let r = c.args.row in
+    can-turn plan c.args.call r c.args.core.now c.call-lists.new.self
+    (c.call-lists.ensures.called ∙ (λ i. after (set_device r (called (c.requires.plan i) c.args.call r c.args.core.now.machine).0) c.args.core.now)) c.requires.calls

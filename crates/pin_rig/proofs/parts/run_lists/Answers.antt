@@ -5,13 +5,16 @@ use Rattle.plan_tables.specs.declared.entries.Action.{Action}
 use Rattle.plan_tables.specs.declared.entries.Owner.{Owner}
 use Rattle.plan_tables.specs.declared.devices.DeviceRow.{DeviceRow}
 use Rattle.written_machine.specs.Machine.{all_do, do_action, do_answer, do_list}
-use Rattle.pin_rig.specs.Core.{HasRoom, after}
-use Rattle.pin_rig.proofs.Room.{room-first}
+use Rattle.std.specs.List.{All}
+use Rattle.plan_tables.specs.Valid.{IsActionWithin}
+use Rattle.pin_rig.specs.Core.{CanCall, HasRoom, after}
+use Rattle.pin_rig.proofs.Callable.{actions-within, can-act_all}
+use Rattle.pin_rig.proofs.Room.{room-first, all_do-first}
 use Rattle.pin_rig.proofs.Listing.{list-grows}
 use Rattle.pin_rig.proofs.parts.run_lists.Goals as goal
 
-pub run_actions-requires : goal.run_actions-requires
-run_actions-requires g c =
+pub run_actions-requires-clause-room : goal.run_actions-requires-clause-room
+run_actions-requires-clause-room g c =
     let plan = c.args.plan.now in
     let r = c.args.row in
     let lists = c.args.lists.now in
@@ -22,4 +25,26 @@ run_actions-requires g c =
     subst (λ (actions : List Action). HasRoom core.room (all_do (do_action plan c.row-owner.result.owner) actions core.machine)) (sym list_is)
     (subst (λ (o : Owner). HasRoom core.room (all_do (do_action plan o) (actions_at plan (list_of_row plan r (get_or lists i 0))) core.machine)) (sym owner_is)
     (room-first (λ k. do_list plan (row_at plan r).owner (list_of_row plan r k)) (list-grows plan r) c.loop-list.core (after (do_answer plan r lists) c.args.core.now)
-    (get_or lists i 0) (drop (i + 1) lists) (drop i lists) (drop_more lists i 0 c.loop-list-test.true) c.loop-list.invariant c.requires.room))
+    (get_or lists i 0) (drop (i + 1) lists) (drop i lists) (drop_more lists i 0 c.loop-list-test.true) c.loop-list.invariant.0 c.requires.room))
+
+pub run_actions-requires-clause-actions : goal.run_actions-requires-clause-actions
+run_actions-requires-clause-actions g c =
+    let plan = c.args.plan.now in
+    subst (All (IsActionWithin plan)) (sym c.list.ensures.actions) (actions-within plan c.list.ensures.valid.entries c.list_of_row.result c.list_of_row.ensures.within)
+
+pub loop-list-preserved : goal.loop-list-preserved
+loop-list-preserved g c =
+    let plan = c.args.plan.now in
+    let r = c.args.row in
+    let lists = c.args.lists.now in
+    let i = c.loop-list.list-index in
+    let k = get_or lists i 0 in
+    let core = c.loop-list.core in
+    let list_is : c.list.result.now ≡ actions_at plan (list_of_row plan r k) = c.list.ensures.actions ∙ ap (actions_at plan) c.list_of_row.ensures.list in
+    let owner_is : c.row-owner.result.owner ≡ (row_at plan r).owner = ap (λ (row : DeviceRow). row.owner) c.row-owner.ensures.row in
+    let done : c.run_actions.new.core ≡ after (do_list plan (row_at plan r).owner (list_of_row plan r k)) core =
+    c.run_actions.ensures ∙ (λ j. after (all_do (do_action plan (owner_is j)) (list_is j)) core) in (
+      all_do-first (λ k. do_list plan (row_at plan r).owner (list_of_row plan r k)) core c.run_actions.new.core (after (do_answer plan r lists) c.args.core.now)
+          k (drop (i + 1) lists) (drop i lists) (drop_more lists i 0 c.loop-list-test.true) c.loop-list.invariant.0 done,
+      subst (CanCall plan) (sym done) (can-act_all plan (row_at plan r).owner (actions_at plan (list_of_row plan r k)) core c.loop-list.invariant.1),
+    )

@@ -1,4 +1,4 @@
-use Rattle.std.proofs.Common.{◌≡◌, length}
+use Rattle.std.proofs.Common.{length}
 use Rattle.pinball_shell.specs.RunOfLog.{all_alarms_by}
 use Rattle.pinball_shell.proofs.Playing.{AreAlarmsGoing}
 use Rattle.pinball_shell.proofs.play.play_alarms.Given as goal
@@ -6,9 +6,8 @@ use Rattle.pinball_shell.proofs.play.play_alarms.Given as goal
 -- the alarms that are left complete those that were played
 abbrev pub invariant-loop-rig : goal.invariant-loop-rig
 invariant-loop-rig g l =
-    AreAlarmsGoing l.plan l.fn.rig.checked.bound l.until l.fn.rig.machine l.rig.machine (g.W.Write.contents l.fn.writer) (g.W.Write.contents l.writer)
+    AreAlarmsGoing l.plan l.fn.rig.checked.bound l.until l.fn.rig l.rig (g.W.Write.contents l.fn.writer) (g.W.Write.contents l.writer)
     (all_alarms_by l.plan l.fn.rig.checked.bound l.until l.fn.rig.machine)
-    × (l.rig.checked ≡ l.fn.rig.checked)
 
 -- how many are left
 abbrev pub decreases-loop-rig : goal.decreases-loop-rig

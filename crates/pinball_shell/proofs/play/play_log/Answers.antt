@@ -1,16 +1,20 @@
 use Rattle.std.proofs.Common.{Err, IsErrOf, ap, sym, ◌∙◌, map, subst}
 use Rattle.std.proofs.lemmas.Result.{err_from_is_err_and}
+use Rattle.pin_rig.specs.Board.{BoardView}
 use Rattle.pin_rig.specs.Fit.{IsFit}
 use Rattle.pinball_shell.specs.declared.fault.ShellFault.TheVariants as faults
 use Rattle.pinball_shell.proofs.LogRuns.{log_is_run}
-use Rattle.pinball_shell.proofs.Taking.{log-written, wrong-unfit}
+use Rattle.pinball_shell.proofs.Taking.{log-played, wrong-unfit}
 use Rattle.pinball_shell.proofs.play.play_log.Goals as goal
 
 pub returns-in_err-rig-clause-run : goal.returns-in_err-rig-clause-run
 returns-in_err-rig-clause-run g c = log_is_run c.args.checked.now c.plan-plan.ensures.accepted c.args.log.now
 
-pub returns-in-Ok-clause-run : goal.returns-in-Ok-clause-run
-returns-in-Ok-clause-run g c = log_is_run c.args.checked.now c.plan-plan.ensures.accepted c.args.log.now
+pub returns-in_err-verdict-clause-run : goal.returns-in_err-verdict-clause-run
+returns-in_err-verdict-clause-run g c = log_is_run c.args.checked.now c.plan-plan.ensures.accepted c.args.log.now
+
+pub returns-in_err-board-clause-run : goal.returns-in_err-board-clause-run
+returns-in_err-board-clause-run g c = log_is_run c.args.checked.now c.plan-plan.ensures.accepted c.args.log.now
 
 pub returns-clause-run : goal.returns-clause-run
 returns-clause-run g c = log_is_run c.args.checked.now c.plan-plan.ensures.accepted c.args.log.now
@@ -22,7 +26,10 @@ returns-in_err-rig-clause-wrong g c =
     let p = err_from_is_err_and c.from_residual.result c.from_residual.ensures.1 in
     subst (λ r. IsErrOf r faults.WrongDevice → IsFit c.args.checked.now.plan (map g.D.Device.row_of c.args.devices.items) (map g.D.Device.state_of c.args.devices.items) → ⊥) (sym (p.1 ∙ ap Err p.2)) unfit
 
-pub returns-in-Ok-clause-written : goal.returns-in-Ok-clause-written
-returns-in-Ok-clause-written g c =
-    log-written c.plan-plan.result.now c.args.checked.now c.in_ok-rig.rig c.args.log.now (g.W.Write.contents c.args.writer.now) (g.W.Write.contents c.play_lines.new.writer) c.in-Ok.verdict
-    c.plan-plan.ensures.plan c.in_ok-rig.ensures.checked c.in_ok-rig.ensures.machine c.in-Ok.ensures
+pub returns-clause-played : goal.returns-clause-played
+returns-clause-played g c =
+    let first : BoardView = record { told = g.B.Board.told c.args.board; fault_count = g.B.Board.fault_count c.args.board } in
+    let last : BoardView = record { told = g.B.Board.told c.in_ok-board.board; fault_count = g.B.Board.fault_count c.in_ok-board.board } in
+    log-played c.plan-plan.result.now c.args.checked.now c.in_ok-rig.rig c.play_lines.new.rig first last c.args.log.now
+    (g.W.Write.contents c.args.writer.now) (g.W.Write.contents c.play_lines.new.writer) (g.W.Write.contents c.shut_down.new.writer) c.in_ok-verdict.verdict
+    c.plan-plan.ensures.plan c.in_ok-rig.ensures.rest c.in_ok-verdict.ensures.played c.in_ok-board.ensures.done

@@ -23,6 +23,6 @@ returns-clause-called g c =
     c.args.call c.self.inside.moment c.call_one-lists.ensures.state in
     rw (← c.self.view_is) (λ i. record {
       handlers = c.self.inside.handlers;
-      machine = record { moment = c.self.inside.moment; switches = c.self.inside.switches; modes = c.self.inside.modes.modes; devices = turned i; waiting = c.self.inside.queue.waiting; lines = c.self.inside.lines.items };
+      machine = record { moment = c.self.inside.moment; switches = c.self.inside.switches; modes = c.self.inside.modes.modes; devices = turned i; coils = c.self.inside.coils; waiting = c.self.inside.queue.waiting; lines = c.self.inside.lines.items };
       room = c.self.inside.queue.size;
     })

@@ -17,6 +17,7 @@ returns-clause-plan g c =
     let plan = c.args.plan.now in
     record {
       devices = subst (HasDevices plan) (sym (ap (map g.D.Device.state_of) (sym c.deref.ensures.value) ∙ c.in_default.ensures.fit.states_are)) (initial-devices plan);
+      coils = c.in_ok-coils.ensures.count;
       modes = ap (λ s. length s.modes) c.in_ok-modes.ensures.idle ∙ length-replicate (length plan.modes) (in_phase Idle);
       handlers = c.in_ok-handlers.ensures ∙ (λ i. record { plan = plan; running = (idle-runs plan ∙ ap (λ s. running_of s.modes) (sym c.in_ok-modes.ensures.idle)) i });
       kinds = c.in_ok-switches.ensures.count;

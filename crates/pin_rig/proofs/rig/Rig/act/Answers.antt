@@ -1,49 +1,77 @@
-use Rattle.std.proofs.Common.{◌≡◌, Ok, sym, subst}
-use Rattle.pin_rig.specs.Rig.{RigView, stimulus_at, RigStep}
+use Rattle.std.proofs.Common.{◌≡◌, Ok, List, length, ap, sym, ◌∙◌, subst}
+use Rattle.written_machine.specs.declared.line.Line.{Line}
+use Rattle.pin_rig.specs.Rig.{RigView, stimulus_at, RigStep, RigHalt}
 use Rattle.pin_rig.specs.Inside.{stimulus_view}
-use Rattle.pin_rig.proofs.Acting.{begun-room, begun_core-handles, begun_core-calls, begun-stays, acts, held-again}
+use Rattle.pin_rig.proofs.Acting.{rig_of, begun-room, begun_core-handles, begun_core-calls, begun-stays, can-send, steps-on, held-again, halts, held-halted}
 use Rattle.pin_rig.proofs.rig.Rig.act.Goals as goal
 
 pub begin-requires-clause-room : goal.begin-requires-clause-room
 begin-requires-clause-room g c =
     let stimulus = stimulus_view c.in_ok-stimulus.stimulus in
     let judged = subst (λ (rig : RigView). stimulus_at rig c.args.input ≡ Ok stimulus) (sym c.self.view_is) c.in_ok-stimulus.ensures in
-    begun-room c.self.inside.checked.now c.self.inside.core c.self.invariant c.plan-plan.ensures.accepted c.args.input stimulus judged
+    begun-room c.self.inside.checked.now c.self.inside.core c.self.inside.driver c.self.inside.shown c.self.invariant c.plan-plan.ensures.accepted c.args.input stimulus judged
     c.plan-plan.result.now c.plan-plan.ensures.plan
-
-pub settle-requires-clause-room : goal.settle-requires-clause-room
-settle-requires-clause-room g c =
-    let stimulus = stimulus_view c.in_ok-stimulus.stimulus in
-    let judged = subst (λ (rig : RigView). stimulus_at rig c.args.input ≡ Ok stimulus) (sym c.self.view_is) c.in_ok-stimulus.ensures in
-    begun-stays c.self.inside.checked.now c.self.inside.core c.self.invariant c.plan-plan.ensures.accepted c.args.input stimulus judged
-    c.plan-plan.result.now c.plan-plan.ensures.plan c.begin.new.core c.begin.ensures
-
-pub invariant_of-self : goal.invariant_of-self
-invariant_of-self g c =
-    let stimulus = stimulus_view c.in_ok-stimulus.stimulus in
-    let judged = subst (λ (rig : RigView). stimulus_at rig c.args.input ≡ Ok stimulus) (sym c.self.view_is) c.in_ok-stimulus.ensures in
-    held-again c.self.inside.checked.now c.self.inside.core c.self.invariant c.plan-plan.ensures.accepted c.args.input stimulus judged
-    c.plan-plan.result.now c.plan-plan.ensures.plan c.begin.new.core c.begin.ensures c.settle.new.core c.settle.ensures
-
-pub returns : goal.returns
-returns g c =
-    let stimulus = stimulus_view c.in_ok-stimulus.stimulus in
-    let judged = subst (λ (rig : RigView). stimulus_at rig c.args.input ≡ Ok stimulus) (sym c.self.view_is) c.in_ok-stimulus.ensures in
-    let step =
-    acts c.self.inside.checked.now c.self.inside.core c.self.invariant c.plan-plan.ensures.accepted c.args.input stimulus judged
-    c.plan-plan.result.now c.plan-plan.ensures.plan c.begin.new.core c.begin.ensures c.settle.new.core c.settle.ensures in
-    subst (λ (rig : RigView). RigStep c.args.input rig (record { checked = c.self.inside.checked.now; machine = c.settle.new.core.machine })) c.self.view_is step
 
 pub settle-requires-clause-handlers : goal.settle-requires-clause-handlers
 settle-requires-clause-handlers g c =
     let stimulus = stimulus_view c.in_ok-stimulus.stimulus in
     let judged = subst (λ (rig : RigView). stimulus_at rig c.args.input ≡ Ok stimulus) (sym c.self.view_is) c.in_ok-stimulus.ensures in
-    begun_core-handles c.self.inside.checked.now c.self.inside.core c.self.invariant c.plan-plan.ensures.accepted c.args.input stimulus judged
+    begun_core-handles c.self.inside.checked.now c.self.inside.core c.self.inside.driver c.self.inside.shown c.self.invariant c.plan-plan.ensures.accepted c.args.input stimulus judged
     c.plan-plan.result.now c.plan-plan.ensures.plan c.begin.new.core c.begin.ensures
 
 pub settle-requires-clause-calls : goal.settle-requires-clause-calls
 settle-requires-clause-calls g c =
     let stimulus = stimulus_view c.in_ok-stimulus.stimulus in
     let judged = subst (λ (rig : RigView). stimulus_at rig c.args.input ≡ Ok stimulus) (sym c.self.view_is) c.in_ok-stimulus.ensures in
-    begun_core-calls c.self.inside.checked.now c.self.inside.core c.self.invariant c.plan-plan.ensures.accepted c.args.input stimulus judged
+    begun_core-calls c.self.inside.checked.now c.self.inside.core c.self.inside.driver c.self.inside.shown c.self.invariant c.plan-plan.ensures.accepted c.args.input stimulus judged
     c.plan-plan.result.now c.plan-plan.ensures.plan c.begin.new.core c.begin.ensures
+
+pub settle-requires-clause-room : goal.settle-requires-clause-room
+settle-requires-clause-room g c =
+    let stimulus = stimulus_view c.in_ok-stimulus.stimulus in
+    let judged = subst (λ (rig : RigView). stimulus_at rig c.args.input ≡ Ok stimulus) (sym c.self.view_is) c.in_ok-stimulus.ensures in
+    begun-stays c.self.inside.checked.now c.self.inside.core c.self.inside.driver c.self.inside.shown c.self.invariant c.plan-plan.ensures.accepted c.args.input stimulus judged
+    c.plan-plan.result.now c.plan-plan.ensures.plan c.begin.new.core c.begin.ensures
+
+pub serve-requires : goal.serve-requires
+serve-requires g c =
+    let stimulus = stimulus_view c.in_ok-stimulus.stimulus in
+    let judged = subst (λ (rig : RigView). stimulus_at rig c.args.input ≡ Ok stimulus) (sym c.self.view_is) c.in_ok-stimulus.ensures in
+    can-send c.self.inside.checked.now c.self.inside.core c.self.inside.driver c.self.inside.shown c.self.invariant c.plan-plan.ensures.accepted c.args.input stimulus judged
+    c.plan-plan.result.now c.plan-plan.ensures.plan c.begin.new.core c.begin.ensures c.settle.new.core c.settle.ensures.settled c.lines.result.now c.lines.ensures
+
+pub invariant_of-self : goal.invariant_of-self
+invariant_of-self g c =
+    let stimulus = stimulus_view c.in_ok-stimulus.stimulus in
+    let judged = subst (λ (rig : RigView). stimulus_at rig c.args.input ≡ Ok stimulus) (sym c.self.view_is) c.in_ok-stimulus.ensures in
+    held-again c.self.inside.checked.now c.self.inside.core c.self.inside.driver c.self.inside.shown c.self.invariant c.plan-plan.ensures.accepted c.args.input stimulus judged
+    c.plan-plan.result.now c.plan-plan.ensures.plan c.begin.new.core c.begin.ensures c.settle.new.core c.settle.ensures.settled
+    c.serve.new.self c.serve.ensures.coils (length c.lines-in-None.result.now) c.lines.result.now c.lines.ensures c.in-None.ensures.served (ap (λ (ls : List Line). length ls) (c.lines-in-None.ensures ∙ sym c.lines.ensures))
+
+pub invariant_of-self-in-Some : goal.invariant_of-self-in-Some
+invariant_of-self-in-Some g c =
+    let stimulus = stimulus_view c.in_ok-stimulus.stimulus in
+    let judged = subst (λ (rig : RigView). stimulus_at rig c.args.input ≡ Ok stimulus) (sym c.self.view_is) c.in_ok-stimulus.ensures in
+    held-halted c.self.inside.checked.now c.self.inside.core c.self.inside.driver c.self.inside.shown c.self.invariant c.plan-plan.ensures.accepted c.args.input stimulus judged
+    c.plan-plan.result.now c.plan-plan.ensures.plan c.begin.new.core c.begin.ensures c.settle.new.core c.settle.ensures.settled
+    c.serve.new.self c.serve.ensures.coils c.in-Some.place c.lines.result.now c.lines.ensures c.in-Some.ensures.served
+
+pub returns-in-None : goal.returns-in-None
+returns-in-None g c =
+    let stimulus = stimulus_view c.in_ok-stimulus.stimulus in
+    let judged = subst (λ (rig : RigView). stimulus_at rig c.args.input ≡ Ok stimulus) (sym c.self.view_is) c.in_ok-stimulus.ensures in
+    let step =
+    steps-on c.self.inside.checked.now c.self.inside.core c.self.inside.driver c.self.inside.shown c.self.invariant c.plan-plan.ensures.accepted c.args.input stimulus judged
+    c.plan-plan.result.now c.plan-plan.ensures.plan c.begin.new.core c.begin.ensures c.settle.new.core c.settle.ensures.settled
+    c.serve.new.self c.serve.ensures.coils (length c.lines-in-None.result.now) c.lines.result.now c.lines.ensures c.in-None.ensures.served (ap (λ (ls : List Line). length ls) (c.lines-in-None.ensures ∙ sym c.lines.ensures)) in
+    subst (λ (rig : RigView). RigStep c.args.input rig (rig_of c.self.inside.checked.now c.settle.new.core c.serve.new.self (length c.lines-in-None.result.now))) c.self.view_is step
+
+pub returns-in-Some : goal.returns-in-Some
+returns-in-Some g c =
+    let stimulus = stimulus_view c.in_ok-stimulus.stimulus in
+    let judged = subst (λ (rig : RigView). stimulus_at rig c.args.input ≡ Ok stimulus) (sym c.self.view_is) c.in_ok-stimulus.ensures in
+    let halt =
+    halts c.self.inside.checked.now c.self.inside.core c.self.inside.driver c.self.inside.shown c.self.invariant c.plan-plan.ensures.accepted c.args.input stimulus judged
+    c.plan-plan.result.now c.plan-plan.ensures.plan c.begin.new.core c.begin.ensures c.settle.new.core c.settle.ensures.settled
+    c.serve.new.self c.serve.ensures.coils c.in-Some.place c.lines.result.now c.lines.ensures c.in-Some.ensures.served in
+    subst (λ (rig : RigView). RigHalt c.args.input rig (rig_of c.self.inside.checked.now c.settle.new.core c.serve.new.self c.in-Some.place)) c.self.view_is halt

@@ -1,0 +1,162 @@
+-- What is printed on a rig, one part after another.
+use Rattle.std.proofs.Common.{◌≡◌, ℕ, Option, None, List, [], ◌∷◌, ◌++◌, map, refl, ap, sym, ◌∙◌, subst, append_assoc, append-nil}
+use Rattle.std.specs.List.{flat_map}
+use Rattle.std.specs.Io.KnownBytes.{Appends}
+use Rattle.std.proofs.lemmas.Grind.{flat_map-append}
+use Rattle.std.proofs.lemmas.List.{map-append}
+use Rattle.std.proofs.lemmas.List.Folds.{flat_map-map}
+use Rattle.plan_tables.specs.PlanView.{PlanView}
+use Rattle.written_machine.specs.declared.line.Line.{Line}
+use Rattle.written_machine.specs.Machine.{Machine}
+use Rattle.written_machine.specs.Run.{Stimulus}
+use Rattle.written_machine.specs.AlarmsBy.{state_after}
+use Rattle.written_machine.specs.PlanOrder.{settled}
+use Rattle.config_checker.proofs.Writing.{written-nil, written-then}
+use Rattle.pin_rig.specs.declared.input.Input.{Input}
+use Rattle.pin_rig.specs.Board.{commands_of, after_lines, HasTakenAll}
+use Rattle.pin_rig.specs.Rig.{RigView, RigStep, RigHalt}
+use Rattle.pinball_shell.specs.RunOfLog.{trace_of, Printed, Traced}
+use Rattle.pinball_shell.specs.TraceText.{line_text, printed_text, printed_texts}
+use Rattle.pinball_shell.specs.Played.{IsPrinted, IsPrintedToFault, IsPlayed, IsPlayedToFault, IsInputPlayed, IsInputPlayedToFault}
+use Rattle.pinball_shell.proofs.LineMoments.{line-moment}
+use Rattle.pinball_shell.proofs.Serving.{served-none, served-then, traced-lines}
+use Rattle.pinball_shell.proofs.Stimuli.{state_after-append, trace_of-append}
+
+module _ (plan : PlanView) where
+  pub printed-none : (rig : RigView) (a : Option (List ℕ)) → rig.faulted ≡ None → IsPrinted plan [] rig rig a a
+  printed-none rig a running = record { served = served-none rig [] running refl; text = written-nil a }
+
+  pub texts-append : (xs ys : List Printed) → printed_texts plan (xs ++ ys) ≡ printed_texts plan xs ++ printed_texts plan ys
+  texts-append xs ys = flat_map-append (printed_text plan) xs ys
+
+  pub printed-then : (xs ys : List Printed) (s t u : RigView) (a b c : Option (List ℕ)) → IsPrinted plan xs s t a b → IsPrinted plan ys t u b c → IsPrinted plan (xs ++ ys) s u a c
+  printed-then xs ys s t u a b c h k = record {
+    served = served-then xs ys s t u h.served k.served;
+    text = subst (Appends a c) (sym (texts-append xs ys)) (written-then a b c _ _ h.text k.text);
+  }
+
+  -- a fault, after something was printed
+  pub fault-after : (xs ys : List Printed) (s t u : RigView) (a b c : Option (List ℕ)) → IsPrinted plan xs s t a b → IsPrintedToFault plan ys t u b c → IsPrintedToFault plan (xs ++ ys) s u a c
+  fault-after xs ys s t u a b c h k = record {
+    shown = xs ++ k.shown;
+    line = k.line;
+    command = k.command;
+    line_is = k.line_is;
+    later = k.later;
+    whole = ap (λ (ps : List Printed). xs ++ ps) k.whole ∙ sym (append_assoc xs k.shown (Traced k.line ∷ k.later));
+    moment_is = k.moment_is;
+    mid = k.mid;
+    earlier = printed-then xs k.shown s t k.mid a b c h k.earlier;
+    halted = k.halted;
+  }
+
+  -- or before something that would be printed
+  pub fault-before : (xs ys : List Printed) (s t : RigView) (a b : Option (List ℕ)) → IsPrintedToFault plan xs s t a b → IsPrintedToFault plan (xs ++ ys) s t a b
+  fault-before xs ys s t a b k = record {
+    shown = k.shown;
+    line = k.line;
+    command = k.command;
+    line_is = k.line_is;
+    later = k.later ++ ys;
+    whole = ap (λ (ps : List Printed). ps ++ ys) k.whole ∙ append_assoc k.shown (Traced k.line ∷ k.later) ys;
+    moment_is = k.moment_is;
+    mid = k.mid;
+    earlier = k.earlier;
+    halted = k.halted;
+  }
+
+  -- ---- lines
+
+  lines-text : (ls : List Line) → printed_texts plan (map Traced ls) ≡ flat_map (line_text plan) ls
+  lines-text ls = flat_map-map (printed_text plan) Traced ls
+
+  lines-printed : (ls : List Line) (s t : RigView) (a b : Option (List ℕ)) → t.checked ≡ s.checked → HasTakenAll (commands_of ls) s.board t.board → t.sent ≡ after_lines ls s.sent → t.faulted ≡ None
+      → Appends a b (flat_map (line_text plan) ls) → IsPrinted plan (map Traced ls) s t a b
+  lines-printed ls s t a b checked_is taken sent_is running text =
+      let same = sym (traced-lines ls) in
+      record {
+        served = record {
+          checked_is = checked_is;
+          taken = subst (λ (xs : List Line). HasTakenAll (commands_of xs) s.board t.board) same taken;
+          sent_is = subst (λ (xs : List Line). t.sent ≡ after_lines xs s.sent) same sent_is;
+          running = running;
+        };
+        text = subst (Appends a b) (sym (lines-text ls)) text;
+      }
+
+-- ---- one step
+
+module _ (input : Input) (old new : RigView) (a b : Option (List ℕ)) where
+  here-played : RigStep input old new → Appends a b (flat_map (line_text old.checked.plan) new.lines) → IsInputPlayed old.checked.plan input old new a b
+  here-played r text =
+      let c = r.cascade in
+      let plan = old.checked.plan in
+      let next = settled plan old.checked.bound c.stimulus old.machine in
+      let lines : new.lines ≡ next.lines ++ [] = r.lines_are ∙ ap (λ (m : Machine). m.lines) c.machine_is ∙ sym (append-nil next.lines) in
+      record {
+        stimulus = c.stimulus;
+        stimulus_is = c.stimulus_is;
+        played = record {
+          state = c.machine_is;
+          printed = subst (λ (ls : List Line). IsPrinted plan (map Traced ls) old new a b) lines (lines-printed plan new.lines old new a b c.checked_is r.taken c.sent_is r.running text);
+        };
+      }
+
+  pub step-played : (plan : PlanView) → old.checked.plan ≡ plan → RigStep input old new → Appends a b (flat_map (line_text plan) new.lines) → IsInputPlayed plan input old new a b
+  step-played plan is r = subst (λ (p : PlanView). Appends a b (flat_map (line_text p) new.lines) → IsInputPlayed p input old new a b) is (here-played r)
+
+  here-halted : RigHalt input old new → Appends a b (flat_map (line_text old.checked.plan) new.lines) → IsInputPlayedToFault old.checked.plan input old new a b
+  here-halted r text =
+      let c = r.cascade in
+      let plan = old.checked.plan in
+      let next = settled plan old.checked.bound c.stimulus old.machine in
+      let mid : RigView = record { checked = old.checked; machine = old.machine; lines = new.lines; board = r.board; sent = new.sent; faulted = None } in
+      let lines : next.lines ++ [] ≡ new.lines ++ r.line ∷ r.later = append-nil next.lines ∙ sym (ap (λ (m : Machine). m.lines) c.machine_is) ∙ r.lines_are in
+      record {
+        stimulus = c.stimulus;
+        stimulus_is = c.stimulus_is;
+        played = record {
+          shown = map Traced new.lines;
+          line = r.line;
+          command = r.command;
+          line_is = r.line_is;
+          later = map Traced r.later;
+          whole = ap (map Traced) lines ∙ map-append Traced new.lines (r.line ∷ r.later);
+          moment_is = line-moment plan old.checked.bound c.stimulus old.machine new.machine new.lines r.line r.later c.machine_is r.lines_are;
+          mid = mid;
+          earlier = lines-printed plan new.lines old mid a b refl r.taken c.sent_is refl text;
+          halted = record { checked_is = c.checked_is; not_taken = r.not_taken; sent_is = refl; halted = r.halted };
+        };
+      }
+
+  pub step-halted : (plan : PlanView) → old.checked.plan ≡ plan → RigHalt input old new → Appends a b (flat_map (line_text plan) new.lines) → IsInputPlayedToFault plan input old new a b
+  step-halted plan is r = subst (λ (p : PlanView). Appends a b (flat_map (line_text p) new.lines) → IsInputPlayedToFault p input old new a b) is (here-halted r)
+
+-- ---- stimuli
+
+module _ (plan : PlanView) (bound : ℕ) where
+  abbrev traces : List Stimulus → Machine → List Printed
+  traces xs s = map Traced (trace_of plan bound xs s)
+
+  traces-then : (xs ys : List Stimulus) (s t : Machine) → t ≡ state_after plan bound xs s → traces (xs ++ ys) s ≡ traces xs s ++ traces ys t
+  traces-then xs ys s t is =
+      ap (map Traced) (trace_of-append plan bound xs ys s) ∙ map-append Traced (trace_of plan bound xs s) (trace_of plan bound ys (state_after plan bound xs s))
+      ∙ ap (λ (m : Machine). traces xs s ++ traces ys m) (sym is)
+
+  pub played-none : (s : RigView) (a : Option (List ℕ)) → s.faulted ≡ None → IsPlayed plan bound [] s s a a
+  played-none s a running = record { state = refl; printed = printed-none plan s a running }
+
+  pub played-then : (xs ys : List Stimulus) (s t u : RigView) (a b c : Option (List ℕ)) → IsPlayed plan bound xs s t a b → IsPlayed plan bound ys t u b c → IsPlayed plan bound (xs ++ ys) s u a c
+  played-then xs ys s t u a b c h k = record {
+    state = k.state ∙ ap (state_after plan bound ys) h.state ∙ sym (state_after-append plan bound xs ys s.machine);
+    printed = subst (λ (ps : List Printed). IsPrinted plan ps s u a c) (sym (traces-then xs ys s.machine t.machine h.state)) (printed-then plan (traces xs s.machine) (traces ys t.machine) s t u a b c h.printed k.printed);
+  }
+
+  pub played-fault : (xs ys : List Stimulus) (s t u : RigView) (a b c : Option (List ℕ)) → IsPlayed plan bound xs s t a b → IsPlayedToFault plan bound ys t u b c → IsPlayedToFault plan bound (xs ++ ys) s u a c
+  played-fault xs ys s t u a b c h k =
+      subst (λ (ps : List Printed). IsPrintedToFault plan ps s u a c) (sym (traces-then xs ys s.machine t.machine h.state)) (fault-after plan (traces xs s.machine) (traces ys t.machine) s t u a b c h.printed k)
+
+  pub fault-first : (xs ys : List Stimulus) (s t : RigView) (a b : Option (List ℕ)) → IsPlayedToFault plan bound xs s t a b → IsPlayedToFault plan bound (xs ++ ys) s t a b
+  fault-first xs ys s t a b k =
+      let later = traces ys (state_after plan bound xs s.machine) in
+      subst (λ (ps : List Printed). IsPrintedToFault plan ps s t a b) (sym (traces-then xs ys s.machine (state_after plan bound xs s.machine) refl)) (fault-before plan (traces xs s.machine) later s t a b k)

@@ -1,0 +1,107 @@
+-- What a board has taken, one part after another.
+use Rattle.std.proofs.Common.{◌≡◌, ℕ, Option, Some, None, Ok, List, [], ◌∷◌, ◌++◌, map, inl, inr, refl, ap, sym, ◌∙◌, subst, append_assoc, append-nil}
+use Rattle.std.proofs.lemmas.Grind.{flat_map-append}
+use Rattle.plan_tables.specs.declared.entries.CoilId.{CoilId}
+use Rattle.coil_guard.specs.declared.command.Command.{Command}
+use Rattle.coil_guard.specs.declared.command.Command.TheVariants.{Disable}
+use Rattle.coil_guard.specs.declared.state.CoilState.{CoilState}
+use Rattle.coil_guard.specs.Boards.{IsToldAfter}
+use Rattle.written_machine.specs.declared.line.Line.{Line}
+use Rattle.pin_rig.specs.Board.{BoardView, HasTaken, HasTakenAll, command_of, commands_of, after_line, after_lines, TellsMore}
+use Rattle.pin_rig.specs.Rig.{RigView}
+use Rattle.pin_rig.specs.ShutDown.{ArePutOff}
+use Rattle.pinball_shell.specs.RunOfLog.{Printed, Traced, Refused, traced}
+use Rattle.pinball_shell.specs.Ends.{IsServed, IsHalted}
+
+-- ---- the lines of the trace among what is printed
+
+pub traced-append : (xs ys : List Printed) → traced (xs ++ ys) ≡ traced xs ++ traced ys
+traced-append [] ys = refl
+traced-append (Traced line ∷ xs) ys = ap (λ (ls : List Line). line ∷ ls) (traced-append xs ys)
+traced-append (Refused number refusal ∷ xs) ys = traced-append xs ys
+
+pub traced-lines : (ls : List Line) → traced (map Traced ls) ≡ ls
+traced-lines [] = refl
+traced-lines (l ∷ ls) = ap (λ (xs : List Line). l ∷ xs) (traced-lines ls)
+
+-- ---- what was taken
+
+taken-append : (xs ys : List Command) (a b c : BoardView) → HasTakenAll xs a b → HasTakenAll ys b c → HasTakenAll (xs ++ ys) a c
+taken-append [] ys a b c h k = subst (λ (v : BoardView). HasTakenAll ys v c) h k
+taken-append (x ∷ xs) ys a b c (mid, one, more) k = (mid, one, taken-append xs ys mid b c more k)
+
+after_lines-append : (xs ys : List Line) (s : List CoilState) → after_lines (xs ++ ys) s ≡ after_lines ys (after_lines xs s)
+after_lines-append [] ys s = refl
+after_lines-append (x ∷ xs) ys s = after_lines-append xs ys (after_line x s)
+
+commands-append : (xs ys : List Line) → commands_of (xs ++ ys) ≡ commands_of xs ++ commands_of ys
+commands-append xs ys = flat_map-append (λ l. command_of l.happening) xs ys
+
+pub served-none : (rig : RigView) (printed : List Printed) → rig.faulted ≡ None → traced printed ≡ [] → IsServed printed rig rig
+served-none rig printed running none = record {
+  checked_is = refl;
+  taken = subst (λ (ls : List Line). HasTakenAll (commands_of ls) rig.board rig.board) (sym none) refl;
+  sent_is = sym (ap (λ (ls : List Line). after_lines ls rig.sent) none);
+  running = running;
+}
+
+pub served-then : (xs ys : List Printed) (a b c : RigView) → IsServed xs a b → IsServed ys b c → IsServed (xs ++ ys) a c
+served-then xs ys a b c h k = record {
+  checked_is = k.checked_is ∙ h.checked_is;
+  taken =
+      subst (λ (cs : List Command). HasTakenAll cs a.board c.board) (sym (ap commands_of (traced-append xs ys) ∙ commands-append (traced xs) (traced ys)))
+      (taken-append (commands_of (traced xs)) (commands_of (traced ys)) a.board b.board c.board h.taken k.taken);
+  sent_is =
+      k.sent_is ∙ ap (after_lines (traced ys)) h.sent_is ∙ sym (after_lines-append (traced xs) (traced ys) a.sent) ∙ sym (ap (λ (ls : List Line). after_lines ls a.sent) (traced-append xs ys));
+  running = k.running;
+}
+
+-- ---- what is told
+
+taken-tells : (command : Command) (a b : BoardView) → HasTaken command a b → TellsMore (command ∷ []) a.told b.told
+taken-tells command a b h = go a.told b.told h.list
+  where
+    go : (told next : Option (List Command)) → IsToldAfter command (Ok tt) told next → TellsMore (command ∷ []) told next
+    go None next is = is
+    go (Some xs) None is = tt
+    go (Some xs) (Some ys) is = is
+
+tells-then : (xs ys : List Command) (a b c : Option (List Command)) → TellsMore xs a b → TellsMore ys b c → TellsMore (xs ++ ys) a c
+tells-then [] ys a b c h k = subst (λ (o : Option (List Command)). TellsMore ys o c) h k
+tells-then (x ∷ xs) [] a b c h k = subst (λ (zs : List Command). TellsMore (x ∷ zs) a c) (sym (append-nil xs)) (subst (TellsMore (x ∷ xs) a) (sym k) h)
+tells-then (x ∷ xs) (y ∷ ys) None None c h k = k
+tells-then (x ∷ xs) (y ∷ ys) None (Some b) c h k = absurd (none_some h)
+  where
+    none_some : {X : Type 0} {x : X} → Some x ≡ None → ⊥
+    none_some e = cc
+tells-then (x ∷ xs) (y ∷ ys) (Some a) None None h k = tt
+tells-then (x ∷ xs) (y ∷ ys) (Some a) None (Some c) h k = absurd (none_some k)
+  where
+    none_some : {X : Type 0} {x : X} → Some x ≡ None → ⊥
+    none_some e = cc
+tells-then (x ∷ xs) (y ∷ ys) (Some a) (Some b) None h k = tt
+tells-then (x ∷ xs) (y ∷ ys) (Some a) (Some b) (Some c) h k = k ∙ ap (λ (zs : List Command). zs ++ y ∷ ys) h ∙ append_assoc a (x ∷ xs) (y ∷ ys)
+
+all-tells : (commands : List Command) (a b : BoardView) → HasTakenAll commands a b → TellsMore commands a.told b.told
+all-tells [] a b is = ap (λ (v : BoardView). v.told) is
+all-tells (command ∷ more) a b (mid, one, rest) = tells-then (command ∷ []) more a.told mid.told b.told (taken-tells command a mid one) (all-tells more mid b rest)
+
+off-tells : (coils : List CoilId) (a b : BoardView) (off : List CoilId) (faults : ℕ) → ArePutOff coils a off faults b → TellsMore (map Disable off) a.told b.told
+off-tells [] a b off faults (none, count, is) =
+    subst (λ (cs : List CoilId). TellsMore (map Disable cs) a.told b.told) (sym none) (ap (λ (v : BoardView). v.told) is)
+off-tells (coil ∷ more) a b off faults (mid, inl (one, (rest, is, later))) =
+    subst (λ (cs : List CoilId). TellsMore (map Disable cs) a.told b.told) (sym is)
+    (tells-then (Disable coil ∷ []) (map Disable rest) a.told mid.told b.told (taken-tells (Disable coil) a mid one) (off-tells more mid b rest faults later))
+off-tells (coil ∷ more) a b off faults (mid, inr (not, (others, count, later))) =
+    subst (λ (o : Option (List Command)). TellsMore (map Disable off) o b.told) not.list (off-tells more mid b off others later)
+
+-- what a board tells in the end, after the commands of lines and those that put coils off
+pub end-tells : (commands : List Command) (coils off : List CoilId) (faults : ℕ) (a b c : BoardView) → TellsMore commands a.told b.told → ArePutOff coils b off faults c → TellsMore (commands ++ map Disable off) a.told c.told
+end-tells commands coils off faults a b c h k = tells-then commands (map Disable off) a.told b.told c.told h (off-tells coils b c off faults k)
+
+pub served-tells : (printed : List Printed) (old new : RigView) → IsServed printed old new → TellsMore (commands_of (traced printed)) old.board.told new.board.told
+served-tells printed old new h = all-tells (commands_of (traced printed)) old.board new.board h.taken
+
+-- after a fault it tells the same
+pub halted-tells : (commands : List Command) (command : Command) (a : BoardView) (mid new : RigView) → TellsMore commands a.told mid.board.told → IsHalted command mid new → TellsMore commands a.told new.board.told
+halted-tells commands command a mid new h k = subst (TellsMore commands a.told) (sym k.not_taken.list) h
