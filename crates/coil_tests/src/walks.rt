@@ -3,8 +3,9 @@
 use crate::drawing::{draw, draw_call, draw_limits};
 use crate::guarded::{Call, Guarded};
 use crate::past::Past;
-use coil_guard::{CoilId, CoilLimits};
-use std::alloc::{AllocError, Global};
+use crate::plans::plan_of;
+use plan_tables::{CoilId, CoilLimits};
+use std::alloc::Global;
 use std::test::Fail;
 
 /// How many milliseconds a list of calls takes.
@@ -65,9 +66,10 @@ fn check_stretches(past: &Past, limits: &[CoilLimits; 3], tally: &mut Tally) {
 }
 
 /// One list of calls. The model is asked before each call, and at each millisecond after its calls.
-fn walk(alloc: Global, state: &mut u64, tally: &mut Tally) -> Result<(), AllocError> {
+fn walk(alloc: Global, state: &mut u64, tally: &mut Tally) -> Result<(), Fail> {
     let limits = [draw_limits(state), draw_limits(state), draw_limits(state)];
-    let mut guard = Guarded::new(alloc, &limits)?;
+    let plan = plan_of(alloc, &limits)?;
+    let mut guard = Guarded::new(alloc, &plan)?;
     let mut past = Past::new(alloc);
     for now in 0..END {
         for _ in 0..draw(state, 3) {
