@@ -31,7 +31,8 @@ struct Ending {
 }
 
 /// Notes a step: the commands of its lines, and its moment.
-fn note(course: &mut Course, step: usize, at: u64, lines: &[Line]) -> Result<(), AllocError> {
+fn note(course: &mut Course, at: u64, lines: &[Line]) -> Result<(), AllocError> {
+    let step = course.moments.len();
     for (place, line) in lines.iter().enumerate() {
         if let Happening::Coil(command) = line.happening {
             course.sent.push(Sent {
@@ -72,13 +73,13 @@ fn run<D: Device, B: Board>(
         moments: Vec::new(alloc),
         lines: 0,
     };
-    for (step, text) in inputs.split(',').enumerate() {
-        if step >= steps {
+    for text in inputs.split(',') {
+        if course.moments.len() >= steps {
             break;
         }
-        let goes_on = goes_on(rig, input_of(text))?;
-        note(&mut course, step, rig.now(), rig.trace())?;
-        if !goes_on {
+        let served = goes_on(rig, input_of(text))?;
+        note(&mut course, rig.now(), rig.trace())?;
+        if !served {
             break;
         }
     }
