@@ -1,9 +1,14 @@
-//! What the calls of a row read and write: texts, and readers and writers that fail.
+//! What the calls of a row read, write and send commands to: texts, and readers, writers and boards
+//! that fail.
 
 ghost use Rattle.std.specs.Prelude.{◌≤◌, length};
 
+use arrayvec::ArrayVec;
+use coil_guard::Taken;
 use std::alloc::{AllocError, Global};
+use std::cell::RefCell;
 use std::io::{self, ErrorKind, Read, Write};
+use std::rc::Rc;
 
 /// One switch, whose activation posts two events.
 const ONE_SWITCH: &str = "\
@@ -143,5 +148,44 @@ impl Write for Sink {
 
     fn flush(&mut self) -> io::Result<()> {
         Ok(())
+    }
+}
+
+/// What commands to coils go to.
+#[derive(Drop)]
+pub(crate) enum Wires {
+    /// A board that takes each command.
+    Sound,
+    /// A board that faults at this command alone, or from it on.
+    Fuse {
+        first: u64,
+        onwards: bool,
+        taken: Taken,
+    },
+}
+
+impl Wires {
+    /// The board that a text names, as `fault 2` or `faults 2`, or one that takes each command.
+    pub(crate) fn of(alloc: Global, text: &str) -> Result<Wires, AllocError> {
+        let Some((word, number)) = text.trim_ascii().split_once(' ') else {
+            return Ok(Wires::Sound);
+        };
+        let taken: Taken = Rc::new(alloc, RefCell::new(ArrayVec::new()))?;
+        Ok(Wires::Fuse {
+            first: number.parse::<u64>().unwrap_or(0),
+            onwards: word == "faults",
+            taken,
+        })
+    }
+
+    /// Shows how many commands were taken, where some may not be.
+    pub(crate) fn show(&self, out: &mut String) -> Result<(), AllocError> {
+        let Wires::Fuse { taken, .. } = self else {
+            return Ok(());
+        };
+        match taken.try_borrow() {
+            Ok(commands) => write!(out, " {}", commands.len()),
+            Err(_) => out.push_str(" borrowed"),
+        }
     }
 }

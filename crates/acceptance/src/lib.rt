@@ -11,6 +11,8 @@ mod certificate_rows;
 #[cfg(test)]
 mod check_rows;
 #[cfg(test)]
+mod coil_rows;
+#[cfg(test)]
 mod device_rows;
 #[cfg(test)]
 mod ends;

@@ -5,15 +5,19 @@
 //!
 //! - `--- check`, `--- verify` or `--- play`: what is done, with this bundle;
 //! - `--- certificate` or `--- log`: what is verified or played on it;
+//! - `--- board`: how the board faults, where it does (`Wires::of`);
 //! - `--- writer`: how the writer fails, where it does (`Sink::of`);
 //! - `=> Yes`, `=> Refused` or a fault: the answer, with all that is printed.
 //!
 //! A text is written line by line. A `\` at the end of a line takes the line end away, as in every
 //! text of Rattle. What stands behind `--- N times` comes so often, each time with its number, from
 //! 0, in place of `№`. A text in parentheses is the name of a text or of a reader (`Source::of`).
-//! Behind a fault stands how often each reader or writer was called that may fail.
+//! Behind the answer stands how often each reader or writer was called that may fail, and how many
+//! commands a board took that may fault.
 
-use crate::ends::{Sink, Source};
+use crate::ends::{Sink, Source, Wires};
+use coil_guard::{Board, FuseBoard, MemoryBoard};
+use coil_rules::{Autofire, Flipper};
 use config_checker::Checked;
 use device_objects::Device;
 use logic_blocks::{Accrual, Counter, Sequence, Timer};
@@ -44,12 +48,18 @@ fn parts_of(row: &str) -> Option<(&str, &str, &str)> {
 /// The answer to what is given, and what is printed.
 fn answer_to(alloc: Global, given: &str) -> Result<String, Fail> {
     let (given, writer) = given.split_once("--- writer\n").unwrap_or((given, ""));
+    let (given, board) = given.split_once("--- board\n").unwrap_or((given, ""));
     let (call, texts) = given.split_once("\n").unwrap_or((given, ""));
     let (bundle, other) = two_texts(texts);
     let bundle = written(alloc, bundle)?;
     let other = written(alloc, other)?;
-    let sink = Sink::of(alloc, writer);
-    Ok(shown(alloc, call, Source::of(&bundle), Source::of(&other), sink)?)
+    let ends = Ends {
+        bundle: Source::of(&bundle),
+        other: Source::of(&other),
+        wires: Wires::of(alloc, board)?,
+        sink: Sink::of(alloc, writer),
+    };
+    Ok(shown(alloc, call, ends)?)
 }
 
 /// The bundle, and the certificate or log where there is one.
@@ -60,23 +70,27 @@ fn two_texts(texts: &str) -> (&str, &str) {
         .unwrap_or((texts, ""))
 }
 
+/// What a call reads, sends commands to and writes.
+#[derive(Drop)]
+struct Ends<'a> {
+    bundle: Source<'a>,
+    other: Source<'a>,
+    wires: Wires,
+    sink: Sink,
+}
+
 /// What a call answers, how often it called what may fail, and what it prints.
-fn shown(
-    alloc: Global,
-    call: &str,
-    mut bundle: Source<'_>,
-    mut other: Source<'_>,
-    mut sink: Sink,
-) -> Result<String, AllocError> {
+fn shown(alloc: Global, call: &str, mut ends: Ends<'_>) -> Result<String, AllocError> {
     let answer = match call {
-        "check" => check_text(alloc, &mut bundle, &mut sink),
-        "verify" => verify_text(alloc, &mut bundle, &mut other, &mut sink),
-        _ => play(alloc, &mut bundle, &mut other, &mut sink),
+        "check" => check_text(alloc, &mut ends.bundle, &mut ends.sink),
+        "verify" => verify_text(alloc, &mut ends.bundle, &mut ends.other, &mut ends.sink),
+        _ => play(alloc, &mut ends),
     };
     let mut out = String::from_str(alloc, name_of(answer))?;
-    bundle.show(&mut out)?;
-    other.show(&mut out)?;
-    sink.show(&mut out)?;
+    ends.bundle.show(&mut out)?;
+    ends.other.show(&mut out)?;
+    ends.wires.show(&mut out)?;
+    ends.sink.show(&mut out)?;
     Ok(out)
 }
 
@@ -100,30 +114,20 @@ fn written(alloc: Global, text: &str) -> Result<String, Fail> {
 }
 
 /// Plays a log on a bundle, or prints why the bundle is refused.
-fn play(
-    alloc: Global,
-    bundle: &mut Source<'_>,
-    log: &mut Source<'_>,
-    writer: &mut Sink,
-) -> Result<Verdict, ShellFault> {
+fn play(alloc: Global, ends: &mut Ends<'_>) -> Result<Verdict, ShellFault> {
     let mut refusal = Vec::new(alloc);
-    let loaded = load_text(alloc, bundle, &mut refusal);
-    if writer.write_all(&refusal).is_err() {
+    let loaded = load_text(alloc, &mut ends.bundle, &mut refusal);
+    if ends.sink.write_all(&refusal).is_err() {
         return Err(ShellFault::Write);
     }
     match loaded? {
-        Some(checked) => play_log(alloc, &checked, log, writer),
+        Some(checked) => play_log(alloc, &checked, ends),
         None => Ok(Verdict::Refused),
     }
 }
 
 /// Plays a log on a machine with a device for each row of the plan.
-fn play_log(
-    alloc: Global,
-    checked: &Checked,
-    log: &mut Source<'_>,
-    writer: &mut Sink,
-) -> Result<Verdict, ShellFault> {
+fn play_log(alloc: Global, checked: &Checked, ends: &mut Ends<'_>) -> Result<Verdict, ShellFault> {
     let mut devices: Vec<Box<dyn Device>> = Vec::new(alloc);
     for row in checked.plan().rows() {
         if let Some(counter) = Counter::new(row) {
@@ -134,9 +138,47 @@ fn play_log(
             devices.push(Box::new(alloc, sequence)?)?;
         } else if let Some(timer) = Timer::new(row) {
             devices.push(Box::new(alloc, timer)?)?;
+        } else if let Some(flipper) = Flipper::new(row) {
+            devices.push(Box::new(alloc, flipper)?)?;
+        } else if let Some(autofire) = Autofire::new(row) {
+            devices.push(Box::new(alloc, autofire)?)?;
         }
     }
-    play_text(alloc, checked, devices, log, writer)
+    play_on_board(alloc, checked, devices, ends)
+}
+
+/// Plays a log on a board in memory, or on one that faults.
+fn play_on_board(
+    alloc: Global,
+    checked: &Checked,
+    devices: Vec<Box<dyn Device>>,
+    ends: &mut Ends<'_>,
+) -> Result<Verdict, ShellFault> {
+    if let Wires::Fuse {
+        first,
+        onwards,
+        taken,
+    } = &ends.wires
+    {
+        let board = FuseBoard::new(*first, *onwards, taken.clone()?);
+        return play_text(
+            alloc,
+            checked,
+            devices,
+            board,
+            &mut ends.other,
+            &mut ends.sink,
+        );
+    }
+    let board: Box<dyn Board> = Box::new(alloc, MemoryBoard::new(alloc)?)?;
+    play_text(
+        alloc,
+        checked,
+        devices,
+        board,
+        &mut ends.other,
+        &mut ends.sink,
+    )
 }
 
 fn name_of(answer: Result<Verdict, ShellFault>) -> &'static str {

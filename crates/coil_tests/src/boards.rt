@@ -1,7 +1,8 @@
 //! Boards: one that faults, for each place of its first fault, and one in memory.
 
 use arrayvec::ArrayVec;
-use coil_guard::{Board, CoilId, Command, FuseBoard, MemoryBoard, Taken};
+use coil_guard::{Board, Command, FuseBoard, MemoryBoard, Taken};
+use plan_tables::CoilId;
 use std::alloc::{AllocError, Global};
 use std::cell::RefCell;
 use std::rc::Rc;

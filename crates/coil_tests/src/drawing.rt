@@ -1,7 +1,7 @@
 //! Limits and calls, drawn at random.
 
 use crate::guarded::Call;
-use coil_guard::CoilLimits;
+use plan_tables::CoilLimits;
 
 /// A number below the limit. Numbers look random, and are the same in each run.
 pub(crate) fn draw(state: &mut u64, limit: u32) -> u32 {

@@ -2,8 +2,8 @@
 
 ghost use Rattle.std.specs.Prelude.{◌≡◌, length};
 
-use coil_guard::{Answer, CoilId, CoilLimits, Coils, Command};
-use plan_tables::{ModeId, Owner};
+use coil_guard::{Answer, Coils, Command};
+use plan_tables::{CoilId, ModeId, Owner, Plan};
 use std::alloc::{AllocError, Global};
 
 /// A call of the guard. Coils and owners are numbers; owner 0 is the machine, and mode 0 is owner 1.
@@ -38,13 +38,9 @@ pub(crate) struct Guarded {
 }
 
 impl Guarded {
-    ghost use Rattle.std.specs.Prelude.{◌≤◌, length};
-
-    pub(crate) fn new(alloc: Global, limits: &[CoilLimits]) -> Result<Guarded, AllocError>
-        requires { length limits.now ≤ 256 }
-    {
-        let coils = Coils::new(alloc, limits)?;
-        let count = limits.len() as u16;
+    pub(crate) fn new(alloc: Global, plan: &Plan) -> Result<Guarded, AllocError> {
+        let coils = Coils::new(alloc, plan)?;
+        let count = plan.coil_count() as u16;
         Ok(Guarded { coils, count })
     }
 

@@ -11,6 +11,8 @@ mod guarded;
 #[cfg(test)]
 mod past;
 #[cfg(test)]
+mod plans;
+#[cfg(test)]
 mod scripts;
 #[cfg(test)]
 mod walks;

@@ -2,7 +2,8 @@
 //! it is asked.
 
 use crate::guarded::Call;
-use coil_guard::{CoilId, CoilLimits, Command};
+use coil_guard::Command;
+use plan_tables::{CoilId, CoilLimits};
 use std::alloc::{AllocError, Global};
 
 #[derive(Clone, Copy)]

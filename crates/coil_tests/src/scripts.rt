@@ -1,7 +1,9 @@
 //! The guard by short scripts: a moment and a call, and what is sent.
 
 use crate::guarded::{Call, Guarded};
-use coil_guard::{CoilId, CoilLimits, Command};
+use crate::plans::plan_of;
+use coil_guard::Command;
+use plan_tables::{CoilId, CoilLimits};
 use std::alloc::{AllocError, Global};
 use std::test::Fail;
 
@@ -47,9 +49,9 @@ fn write_on(out: &mut String, coil: Option<CoilId>) -> Result<(), AllocError> {
 }
 
 /// What the calls of a script send, and which coil is on where it asks that.
-fn answers(alloc: Global, script: &str) -> Result<String, AllocError> {
+fn answers(alloc: Global, script: &str) -> Result<String, Fail> {
     let mut out = String::new(alloc);
-    let mut guard = Guarded::new(alloc, &LIMITS)?;
+    let mut guard = Guarded::new(alloc, &plan_of(alloc, &LIMITS)?)?;
     for line in script.split(';') {
         let mut words = line.split_whitespace();
         let now = number(words.next());
@@ -120,7 +122,8 @@ fn scripts(rt: HostRuntime) -> Result<(), Fail> {
 /// 256 coils are on at once, some held and some by pulses, and are put off in order.
 #[test]
 fn all_coils_on(rt: HostRuntime) -> Result<(), Fail> {
-    let mut guard = Guarded::new(rt.alloc(), &[HELD; 256])?;
+    let plan = plan_of(rt.alloc(), &[HELD; 256])?;
+    let mut guard = Guarded::new(rt.alloc(), &plan)?;
     let mut sent = 0u32;
     for coil in 0..256u16 {
         let call = match coil & 1 {

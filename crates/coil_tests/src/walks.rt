@@ -3,7 +3,8 @@
 use crate::drawing::{draw, draw_call, draw_limits};
 use crate::guarded::{Call, Guarded};
 use crate::past::Past;
-use coil_guard::{CoilId, CoilLimits};
+use crate::plans::plan_of;
+use plan_tables::{CoilId, CoilLimits, Plan};
 use std::alloc::{AllocError, Global};
 use std::test::Fail;
 
@@ -64,15 +65,21 @@ fn check_stretches(past: &Past, limits: &[CoilLimits; 3], tally: &mut Tally) {
     }
 }
 
-/// One list of calls. The model is asked before each call, and at each millisecond after its calls.
-fn walk(alloc: Global, state: &mut u64, tally: &mut Tally) -> Result<(), AllocError> {
-    let limits = [draw_limits(state), draw_limits(state), draw_limits(state)];
-    let mut guard = Guarded::new(alloc, &limits)?;
+/// One list of calls on coils with these limits, which are those of the plan. The model is asked
+/// before each call, and at each millisecond after its calls.
+fn walk(
+    alloc: Global,
+    state: &mut u64,
+    tally: &mut Tally,
+    limits: &[CoilLimits; 3],
+    plan: &Plan,
+) -> Result<(), AllocError> {
+    let mut guard = Guarded::new(alloc, plan)?;
     let mut past = Past::new(alloc);
     for now in 0..END {
         for _ in 0..draw(state, 3) {
             let call = draw_call(state);
-            let wanted = past.answer(&limits, call, now);
+            let wanted = past.answer(limits, call, now);
             let sent = guard.call(call, now);
             tally.agrees = tally.agrees && sent == wanted;
             if let Some(command) = sent {
@@ -82,7 +89,17 @@ fn walk(alloc: Global, state: &mut u64, tally: &mut Tally) -> Result<(), AllocEr
         }
         tally.agrees = tally.agrees && guard.next_on(now) == past.lowest_on(3, now);
     }
-    check_stretches(&past, &limits, tally);
+    check_stretches(&past, limits, tally);
+    Ok(())
+}
+
+/// Ten lists of calls on three coils.
+fn walk_coils(alloc: Global, state: &mut u64, tally: &mut Tally) -> Result<(), Fail> {
+    let limits = [draw_limits(state), draw_limits(state), draw_limits(state)];
+    let plan = plan_of(alloc, &limits)?;
+    for _ in 0..10u32 {
+        walk(alloc, state, tally, &limits, &plan)?;
+    }
     Ok(())
 }
 
@@ -98,9 +115,9 @@ fn random_calls(rt: HostRuntime) -> Result<(), Fail> {
         releases: 0,
         longest: 0,
     };
-    for list in 0..10_000u32 {
-        walk(rt.alloc(), &mut state, &mut tally)?;
-        assert!(rt; tally.agrees, "list {list}");
+    for coils in 0..1_000u32 {
+        walk_coils(rt.alloc(), &mut state, &mut tally)?;
+        assert!(rt; tally.agrees, "coils {coils}");
     }
     let least = tally.pulses.min(tally.enables).min(tally.disables);
     assert!(rt;

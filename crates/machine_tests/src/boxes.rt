@@ -1,6 +1,7 @@
 //! Boxes that count how many of them have been dropped, and the rigs that they are handed to.
 
 use crate::cases::{Subject, assert_cases};
+use coil_guard::MemoryBoard;
 use config_checker::{Checked, check};
 use device_objects::{Device, DeviceState, Outcome, World};
 use logic_blocks::Counter;
@@ -95,7 +96,7 @@ fn add_rig<D: Device>(
     devices: Vec<D>,
     dropped: &Drops,
 ) -> Result<(), AllocError> {
-    match Rig::new(alloc, checked, devices) {
+    match Rig::new(alloc, checked, devices, MemoryBoard::new(alloc)?) {
         Ok(_rig) => write!(out, "a rig, {} dropped, ", dropped.get()),
         Err(fault) => write!(out, "{fault:?}, {} dropped, ", dropped.get()),
     }

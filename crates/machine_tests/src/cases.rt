@@ -2,6 +2,7 @@
 //! `QUESTION => ANSWER`. An empty line ends it. In the machine text `«N TEXT»` is the text N times,
 //! with `#` for the numbers from 1 to N.
 
+use crate::boards::boarded;
 use crate::boxes::boxed;
 use crate::checks::checked;
 use crate::levels::changed;
@@ -26,6 +27,7 @@ pub(crate) enum Subject {
     Levels,
     Check,
     Boxes,
+    Boards,
     Steps,
     Moments,
 }
@@ -98,6 +100,7 @@ fn ask(
         Subject::Queue => queued(alloc, out, question),
         Subject::Check => checked(alloc, out, config, question),
         Subject::Boxes => boxed(alloc, out, config, question),
+        Subject::Boards => boarded(alloc, out, config, question),
         Subject::Steps => stepped(alloc, out, config, question),
         Subject::Moments => Ok(admitted(out, question)?),
         _ => ask_plan(alloc, out, subject, config, question),

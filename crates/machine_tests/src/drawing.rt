@@ -152,6 +152,35 @@ fn add_causes(
     out.push('\n')
 }
 
+/// What an entry of a coil player does.
+const DEEDS: [&str; 4] = [
+    "{k: pulse}",
+    "{k: enable, l: enable}",
+    "{l: enable, k: disable}",
+    "{l: pulse}",
+];
+
+fn add_deeds(out: &mut String, state: &mut u64) -> Result<(), AllocError> {
+    writeln!(out, ": {}", DEEDS[draw(state, 4) & 3])
+}
+
+/// A coil player with an entry at any event. That of a mode has one at the mode's start too.
+fn add_coil_player(
+    out: &mut String,
+    state: &mut u64,
+    shape: Shape,
+    mode: &str,
+) -> Result<(), AllocError> {
+    out.push_str("coil_player:\n  ")?;
+    add_name(out, draw(state, shape.count).saturating_add(shape.first))?;
+    add_deeds(out, state)?;
+    if mode.is_empty() {
+        return Ok(());
+    }
+    write!(out, "  mode_{mode}_started")?;
+    add_deeds(out, state)
+}
+
 /// A mode in a text of its own. It has a place among the names: what it posts at its own events stands
 /// behind it.
 fn add_mode(out: &mut String, state: &mut u64, shape: Shape, mode: &str) -> Result<(), AllocError> {
@@ -173,10 +202,14 @@ fn add_mode(out: &mut String, state: &mut u64, shape: Shape, mode: &str) -> Resu
         }
         out.push('\n')?;
     }
+    if draw(state, 2) == 0 {
+        add_coil_player(out, state, shape, mode)?;
+    }
     Ok(())
 }
 
-/// A machine, half of the time with a mode or two. Either section of its text can be the first.
+/// A machine with two coils, half of the time with a mode or two. Either of the sections that post
+/// can be the first.
 pub(crate) fn draw_machine(alloc: Global, state: &mut u64) -> Result<String, AllocError> {
     let shape = draw_shape(state);
     let mut out = String::new(alloc);
@@ -188,6 +221,10 @@ pub(crate) fn draw_machine(alloc: Global, state: &mut u64) -> Result<String, All
     } else {
         add_players(&mut out, state, shape)?;
         add_switches(&mut out, state, shape)?;
+    }
+    out.push_str("coils:\n  l:\n  k:\n")?;
+    if draw(state, 2) == 0 {
+        add_coil_player(&mut out, state, shape, "")?;
     }
     for mode in modes.split_whitespace() {
         add_mode(&mut out, state, shape, mode)?;

@@ -1,7 +1,9 @@
 //! Tests of the machine's layers, each over its public calls: plans, levels of switches, queues,
-//! weights, checks with their certificates, and rigs: their boxes and their steps.
+//! weights, checks with their certificates, and rigs: their boxes, their steps and their boards.
 #![tactic(auto)]
 
+#[cfg(test)]
+mod boards;
 #[cfg(test)]
 mod boxes;
 #[cfg(test)]
@@ -12,6 +14,8 @@ mod checks;
 mod drawing;
 #[cfg(test)]
 mod levels;
+#[cfg(test)]
+mod model;
 #[cfg(test)]
 mod oracle;
 #[cfg(test)]

@@ -15,6 +15,12 @@ pub(crate) struct Graph {
     stimuli: Vec<(u16, u16)>,
 }
 
+/// Numbers of no events. Each stands for a line of a coil: of an action, and of either coil that the
+/// end of a mode puts off.
+const COIL_LINES: [u16; 3] = [ACTION, 0xfffd, 0xfffc];
+
+const ACTION: u16 = 0xfffe;
+
 fn number_of(plan: &Plan, name: &str) -> u16 {
     plan.find_event(name.as_bytes())
         .unwrap_or(EventId(u16::MAX))
@@ -33,8 +39,39 @@ fn add_posts(
     Ok(())
 }
 
+/// Adds a line for each action of an entry of a coil player.
+fn add_actions(
+    posts: &mut Vec<(u16, u16)>,
+    plan: &Plan,
+    event: &str,
+    actions: &str,
+) -> Result<(), AllocError> {
+    for _ in actions.split(',') {
+        posts.push((number_of(plan, event), ACTION))?;
+    }
+    Ok(())
+}
+
+/// Adds a line at the end of a mode for each coil that the line enables, if none was before.
+fn add_holds(
+    alloc: Global,
+    graph: &mut Graph,
+    plan: &Plan,
+    mode: &str,
+    line: &str,
+) -> Result<(), AllocError> {
+    let event = format!(in alloc; "mode_{mode}_stopping")?;
+    let from = number_of(plan, &event);
+    for (held, number) in [("k: enable", COIL_LINES[1]), ("l: enable", COIL_LINES[2])] {
+        if line.contains(held) && !graph.posts.contains(&(from, number)) {
+            graph.posts.push((from, number))?;
+        }
+    }
+    Ok(())
+}
+
 /// Adds what a line posts: a stimulus, four spaces deep, with its first post in a comment, or an
-/// event.
+/// event. An event does what stands in braces.
 fn add_line(graph: &mut Graph, plan: &Plan, line: &str) -> Result<(), AllocError> {
     let (key, names) = line.split_once(':').unwrap_or((line, ""));
     let (names, first) = names.split_once('#').unwrap_or((names, ""));
@@ -42,6 +79,8 @@ fn add_line(graph: &mut Graph, plan: &Plan, line: &str) -> Result<(), AllocError
         graph.count = graph.count.saturating_add(1);
         add_posts(&mut graph.stimuli, plan, graph.count, first)?;
         add_posts(&mut graph.stimuli, plan, graph.count, names)
+    } else if names.contains('{') {
+        add_actions(&mut graph.posts, plan, key.trim_ascii(), names)
     } else {
         add_posts(
             &mut graph.posts,
@@ -107,12 +146,17 @@ pub(crate) fn graph_of(alloc: Global, plan: &Plan, machine: &str) -> Result<Grap
         }
         let (causes, end) = causes_in(line);
         add_causes(alloc, &mut graph, plan, causes, &mode, end)?;
+        add_holds(alloc, &mut graph, plan, &mode, line)?;
         add_line(&mut graph, plan, line)?;
     }
     Ok(graph)
 }
 
+/// The weight of an event, or of the line that a number stands for.
 pub(crate) fn weight_of(weights: &[u32], event: u16) -> u32 {
+    if COIL_LINES.contains(&event) {
+        return 1;
+    }
     weights.get(event as usize).copied().unwrap_or(0)
 }
 

@@ -1,6 +1,7 @@
 //! A machine by hand, one input at a time.
 
 use crate::cases::{Subject, assert_cases, numbers_in};
+use coil_guard::{Board, MemoryBoard};
 use config_checker::check;
 use device_objects::Device;
 use logic_blocks::Counter;
@@ -11,7 +12,7 @@ use std::alloc::{AllocError, Global};
 use std::test::Fail;
 
 /// The input of a text: a moment, a switch and its raw level; or a moment, for a wait; or `alarm`.
-fn input_of(text: &str) -> Input {
+pub(crate) fn input_of(text: &str) -> Input {
     let [at, switch, level] = numbers_in(text);
     match u16::try_from(switch) {
         Ok(number) => Input::Change {
@@ -29,7 +30,11 @@ fn input_of(text: &str) -> Input {
 
 /// Adds what comes of one input: its lines, or the number and the name of its refusal; then the
 /// latest moment, and that of the alarm that is due next.
-fn step<D: Device>(out: &mut String, rig: &mut Rig<'_, D>, input: Input) -> Result<(), AllocError> {
+fn step<D: Device, B: Board>(
+    out: &mut String,
+    rig: &mut Rig<'_, D, B>,
+    input: Input,
+) -> Result<(), AllocError> {
     match rig.step(input) {
         Ok(lines) => write!(out, "{lines:?}")?,
         Err(fault) => write!(out, "{} {fault}", fault.number())?,
@@ -38,9 +43,9 @@ fn step<D: Device>(out: &mut String, rig: &mut Rig<'_, D>, input: Input) -> Resu
 }
 
 /// Adds what comes of the inputs in turn, and the lines of the latest stimulus.
-fn step_all<D: Device>(
+fn step_all<D: Device, B: Board>(
     out: &mut String,
-    rig: &mut Rig<'_, D>,
+    rig: &mut Rig<'_, D, B>,
     inputs: &str,
 ) -> Result<(), AllocError> {
     for text in inputs.split(',') {
@@ -59,7 +64,7 @@ pub(crate) fn stepped(
 ) -> Result<(), Fail> {
     let checked = check(alloc, config)?;
     let devices: Vec<Counter> = Vec::new(alloc);
-    let mut rig = Rig::new(alloc, &checked, devices)?;
+    let mut rig = Rig::new(alloc, &checked, devices, MemoryBoard::new(alloc)?)?;
     Ok(step_all(out, &mut rig, inputs)?)
 }
 
