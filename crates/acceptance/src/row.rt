@@ -80,17 +80,23 @@ struct Ends<'a> {
 }
 
 /// What a call answers, how often it called what may fail, and what it prints.
-fn shown(alloc: Global, call: &str, mut ends: Ends<'_>) -> Result<String, AllocError> {
+fn shown(alloc: Global, call: &str, ends: Ends<'_>) -> Result<String, AllocError> {
+    let Ends {
+        mut bundle,
+        mut other,
+        wires,
+        mut sink,
+    } = ends;
     let answer = match call {
-        "check" => check_text(alloc, &mut ends.bundle, &mut ends.sink),
-        "verify" => verify_text(alloc, &mut ends.bundle, &mut ends.other, &mut ends.sink),
-        _ => play(alloc, &mut ends),
+        "check" => check_text(alloc, &mut bundle, &mut sink),
+        "verify" => verify_text(alloc, &mut bundle, &mut other, &mut sink),
+        _ => play(alloc, &mut bundle, &mut other, &wires, &mut sink),
     };
     let mut out = String::from_str(alloc, name_of(answer))?;
-    ends.bundle.show(&mut out)?;
-    ends.other.show(&mut out)?;
-    ends.wires.show(&mut out)?;
-    ends.sink.show(&mut out)?;
+    bundle.show(&mut out)?;
+    other.show(&mut out)?;
+    wires.show(&mut out)?;
+    sink.show(&mut out)?;
     Ok(out)
 }
 
@@ -114,20 +120,32 @@ fn written(alloc: Global, text: &str) -> Result<String, Fail> {
 }
 
 /// Plays a log on a bundle, or prints why the bundle is refused.
-fn play(alloc: Global, ends: &mut Ends<'_>) -> Result<Verdict, ShellFault> {
+fn play(
+    alloc: Global,
+    bundle: &mut Source<'_>,
+    log: &mut Source<'_>,
+    wires: &Wires,
+    writer: &mut Sink,
+) -> Result<Verdict, ShellFault> {
     let mut refusal = Vec::new(alloc);
-    let loaded = load_text(alloc, &mut ends.bundle, &mut refusal);
-    if ends.sink.write_all(&refusal).is_err() {
+    let loaded = load_text(alloc, bundle, &mut refusal);
+    if writer.write_all(&refusal).is_err() {
         return Err(ShellFault::Write);
     }
     match loaded? {
-        Some(checked) => play_log(alloc, &checked, ends),
+        Some(checked) => play_log(alloc, &checked, log, wires, writer),
         None => Ok(Verdict::Refused),
     }
 }
 
 /// Plays a log on a machine with a device for each row of the plan.
-fn play_log(alloc: Global, checked: &Checked, ends: &mut Ends<'_>) -> Result<Verdict, ShellFault> {
+fn play_log(
+    alloc: Global,
+    checked: &Checked,
+    log: &mut Source<'_>,
+    wires: &Wires,
+    writer: &mut Sink,
+) -> Result<Verdict, ShellFault> {
     let mut devices: Vec<Box<dyn Device>> = Vec::new(alloc);
     for row in checked.plan().rows() {
         if let Some(counter) = Counter::new(row) {
@@ -144,7 +162,7 @@ fn play_log(alloc: Global, checked: &Checked, ends: &mut Ends<'_>) -> Result<Ver
             devices.push(Box::new(alloc, autofire)?)?;
         }
     }
-    play_on_board(alloc, checked, devices, ends)
+    play_on_board(alloc, checked, devices, log, wires, writer)
 }
 
 /// Plays a log on a board in memory, or on one that faults.
@@ -152,33 +170,21 @@ fn play_on_board(
     alloc: Global,
     checked: &Checked,
     devices: Vec<Box<dyn Device>>,
-    ends: &mut Ends<'_>,
+    log: &mut Source<'_>,
+    wires: &Wires,
+    writer: &mut Sink,
 ) -> Result<Verdict, ShellFault> {
     if let Wires::Fuse {
         first,
         onwards,
         taken,
-    } = &ends.wires
+    } = wires
     {
         let board = FuseBoard::new(*first, *onwards, taken.clone()?);
-        return play_text(
-            alloc,
-            checked,
-            devices,
-            board,
-            &mut ends.other,
-            &mut ends.sink,
-        );
+        return play_text(alloc, checked, devices, board, log, writer);
     }
     let board: Box<dyn Board> = Box::new(alloc, MemoryBoard::new(alloc)?)?;
-    play_text(
-        alloc,
-        checked,
-        devices,
-        board,
-        &mut ends.other,
-        &mut ends.sink,
-    )
+    play_text(alloc, checked, devices, board, log, writer)
 }
 
 fn name_of(answer: Result<Verdict, ShellFault>) -> &'static str {
