@@ -99,13 +99,33 @@ fn devices_of(alloc: Global, checked: &Checked) -> Result<Vec<Box<dyn Device>>, 
     Ok(devices)
 }
 
+/// A run of a rig with these devices on a board. Where the rig is not dropped, it gives the board
+/// back, with its report.
+fn run_on<D: Device, B: Board>(
+    alloc: Global,
+    trial: Trial<'_>,
+    ending: Ending,
+    devices: Vec<D>,
+    board: B,
+) -> Result<(Course, Option<(B, ShutReport)>), Fail> {
+    let mut rig = Rig::new(alloc, trial.checked, devices, board)?;
+    let course = run(alloc, &mut rig, trial.inputs, ending.steps)?;
+    if ending.dropped {
+        return Ok((course, None));
+    }
+    Ok((course, Some(rig.shut_down())))
+}
+
 /// Adds what a board in memory takes in the whole run, and what the rig reports. Gives the course of
 /// the run, and how many commands come.
 fn recorded(alloc: Global, out: &mut String, trial: Trial<'_>) -> Result<(Course, usize), Fail> {
+    let ending = Ending {
+        steps: usize::MAX,
+        dropped: false,
+    };
     let devices = devices_of(alloc, trial.checked)?;
-    let mut rig = Rig::new(alloc, trial.checked, devices, MemoryBoard::new(alloc)?)?;
-    let course = run(alloc, &mut rig, trial.inputs, usize::MAX)?;
-    let (board, report) = rig.shut_down();
+    let (course, end) = run_on(alloc, trial, ending, devices, MemoryBoard::new(alloc)?)?;
+    let (board, report) = end.ok_or("a report")?;
     let (first, second) = board.taken();
     for command in first.iter().chain(second) {
         add_command(out, *command)?;
@@ -113,23 +133,6 @@ fn recorded(alloc: Global, out: &mut String, trial: Trial<'_>) -> Result<(Course
     add_report(out, &report)?;
     let count = course.sent.len().saturating_add(report.off.len());
     Ok((course, count))
-}
-
-/// A run on a board that faults. Where the rig is not dropped, it gives its report.
-fn run_on(
-    alloc: Global,
-    trial: Trial<'_>,
-    ending: Ending,
-    board: FuseBoard,
-) -> Result<(Course, Option<ShutReport>), Fail> {
-    let devices = devices_of(alloc, trial.checked)?;
-    let mut rig = Rig::new(alloc, trial.checked, devices, board)?;
-    let course = run(alloc, &mut rig, trial.inputs, ending.steps)?;
-    if ending.dropped {
-        return Ok((course, None));
-    }
-    let (_board, report) = rig.shut_down();
-    Ok((course, Some(report)))
 }
 
 /// Adds what a board takes in a run, and what the rig reports where it is not dropped. Gives the
@@ -143,11 +146,12 @@ fn fused(
 ) -> Result<Course, Fail> {
     let taken: Taken = Rc::new(alloc, RefCell::new(ArrayVec::new()))?;
     let board = FuseBoard::new(fuse.first, fuse.onwards, taken.clone()?);
-    let (course, end) = run_on(alloc, trial, ending, board)?;
+    let devices = devices_of(alloc, trial.checked)?;
+    let (course, end) = run_on(alloc, trial, ending, devices, board)?;
     for command in taken.try_borrow()?.iter() {
         add_command(out, *command)?;
     }
-    if let Some(report) = end {
+    if let Some((_board, report)) = end {
         add_report(out, &report)?;
     }
     Ok(course)
