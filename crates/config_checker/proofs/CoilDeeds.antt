@@ -1,14 +1,14 @@
 -- What sound rows do with coils: each deed is within the limits of a coil that an entry defines.
-use Rattle.std.proofs.Common.{◌≡◌, ℕ, Bool, true, false, if◌then◌else◌, List, [], ◌∷◌, map, refl, sym, ap, subst}
+use Rattle.std.proofs.Common.{◌≡◌, ℕ, Bool, true, false, if◌then◌else◌, List, [], ◌∷◌, refl, sym, ap, subst}
 use Rattle.std.specs.Prelude.{Option, None, Some, IfSome, unwrap_or}
 use Rattle.std.specs.List.{All}
-use Rattle.std.proofs.lemmas.List.Elements.{All-nil, All-cons, All-weaker}
+use Rattle.std.proofs.lemmas.List.Elements.{All-nil, All-cons}
 use Rattle.mpf_sections.specs.declared.words.CoilAction.{CoilAction}
 use Rattle.mpf_sections.specs.declared.words.CoilAction.TheVariants.{Pulse, Enable, Disable}
-use Rattle.mpf_sections.specs.Rows.{Written, Coil, CoilItem, CoilPlayer, Flipper, Autofire, SectionRows}
-use Rattle.machine_definitions.specs.Definitions.{coil_called, has_switch, no_coil, coil_of_name}
-use Rattle.plan_contributions.specs.DeviceEntries.{Deed, pulse, enable, disable, Effect, posts, works}
-use Rattle.plan_contributions.specs.CoilEntries.{Defaults, defaults_of_coil, defaults_called, own_pulse, own_hold, deed_by, item_effect, flipper_on, flipper_off}
+use Rattle.mpf_sections.specs.Rows.{Written, Coil, CoilItem, Flipper, Autofire, SectionRows}
+use Rattle.machine_definitions.specs.Definitions.{coil_called, no_coil}
+use Rattle.plan_contributions.specs.DeviceEntries.{Deed, pulse, enable, disable, Effect, works}
+use Rattle.plan_contributions.specs.CoilEntries.{Defaults, defaults_of_coil, defaults_called, own_pulse, own_hold, deed_by, flipper_on, flipper_off}
 use Rattle.row_faults.specs.Sound.{IsPulseWithin, IsHoldWithin, IsCoilSound, IsCoilSuch, IsActionWithin, IsItemSound, IsFlipperSound, IsAutofireSound}
 
 -- what is done with a coil is within its limits

@@ -1,18 +1,18 @@
 -- Sound rows use no name that nothing has: each coil and each switch that their contributions use is given.
-use Rattle.std.proofs.Common.{◌≡◌, ℕ, zero, suc, ◌<◌, Bool, true, false, cond, ◌||◌, ◌==◌, if◌then◌else◌, List, [], ◌∷◌, ◌++◌, length, map, fold, get_or, refl, sym, ◌∙◌, ap, subst, true≢false, arith}
+use Rattle.std.proofs.Common.{◌≡◌, ℕ, zero, suc, ◌<◌, Bool, true, false, cond, ◌||◌, if◌then◌else◌, List, [], ◌∷◌, ◌++◌, length, map, fold, get_or, refl, sym, ◌∙◌, ap, true≢false, arith}
 use Rattle.std.specs.Prelude.{Option, None, Some}
-use Rattle.std.specs.List.{All, list_any, flat_map}
+use Rattle.std.specs.List.{list_any, flat_map}
 use Rattle.std.specs.Str.{bytes_eq}
 use Rattle.std.proofs.lemmas.Bool.{eq-eqb}
 use Rattle.std.proofs.lemmas.List.Folds.{list_any-append}
 use Rattle.std.proofs.lemmas.Slice.Eq.{bytes_eq-Decides}
-use Rattle.mpf_sections.specs.Rows.{Coil, SectionRows}
+use Rattle.mpf_sections.specs.Rows.{Coil}
 use Rattle.mpf_sections.specs.TypedCoils.{coils_in}
 use Rattle.mpf_config.specs.Rows.{Rows}
 use Rattle.plan_tables.specs.declared.entries.CoilLimits.{CoilLimits}
 use Rattle.plan_tables.specs.declared.entries.ModeEvent.TheVariants.{WillStart}
 use Rattle.plan_tables.specs.declared.table.Table.{Table}
-use Rattle.plan_tables.specs.declared.table.Table.TheVariants.{Events, Switches, Coils}
+use Rattle.plan_tables.specs.declared.table.Table.TheVariants.{Events, Coils}
 use Rattle.plan_tables.specs.Limits.{order_of}
 use Rattle.machine_definitions.specs.Definitions.{latest_coil, coil_called}
 use Rattle.plan_contributions.specs.DeviceEntries.{Effect, posts, works}
@@ -24,7 +24,7 @@ use Rattle.plan_contributions.specs.UsedNames.{used, given, name_in_table, given
 use Rattle.plan_contributions.proofs.CoilsGiven.{coils_given}
 use Rattle.plan_contributions.proofs.SwitchesGiven.{switches_given}
 use Rattle.plan_contributions.proofs.RowEffects.{all_do}
-use Rattle.mpf_plan.specs.Uses.{is_to_be_given, lacks_name}
+use Rattle.mpf_plan.specs.Uses.{lacks_name}
 use Rattle.mpf_plan.specs.ByName.{IsGiven, AreGiven}
 use Rattle.mpf_plan.proofs.Judged.{nothing_lacks}
 use Rattle.row_faults.specs.Sound.{IsSound}

@@ -1,6 +1,6 @@
 -- The plan of rows without faults of their own: nothing posts an event at which the machine itself does something, acts are
 -- on rows of their own owner, and each command to a coil is within the limits of the coil.
-use Rattle.std.proofs.Common.{◌≡◌, ℕ, zero, suc, ◌<◌, ◌≤◌, Bool, true, false, ◌||◌, if◌then◌else◌, List, [], ◌∷◌, ◌++◌, length, map, fold, get_or, slice_index_or, Contains, codes, ◌⊎◌, inl, inr, refl, sym, ap, ◌∙◌, subst, true≢false, arith}
+use Rattle.std.proofs.Common.{◌≡◌, ℕ, zero, suc, ◌<◌, Bool, true, false, ◌||◌, if◌then◌else◌, List, [], ◌∷◌, length, map, fold, get_or, Contains, ◌⊎◌, inl, inr, refl, sym, ap, ◌∙◌, subst, true≢false, arith}
 use Rattle.std.specs.Prelude.{Ok, Option, Some, None, option_map}
 use Rattle.std.specs.Str.{bytes_eq}
 use Rattle.std.specs.List.{All, flat_map}
@@ -25,23 +25,22 @@ use Rattle.plan_tables.specs.declared.entries.Target.{Target}
 use Rattle.plan_tables.specs.declared.entries.Target.TheVariants.{Run, Start, Stop, Act}
 use Rattle.plan_tables.specs.declared.devices.RowId.{RowId}
 use Rattle.plan_tables.specs.declared.devices.Act.{Act as ActOfDevice}
-use Rattle.plan_tables.specs.PlanView.{PlanSwitch, PlanCoil, no_coil, PlanView, name_of_event, coil_at, row_at}
+use Rattle.plan_tables.specs.PlanView.{PlanCoil, no_coil, PlanView, name_of_event, coil_at, row_at}
 use Rattle.plan_tables.specs.Valid.{IsActionWithin}
 use Rattle.coil_guard.specs.Asked.{limits_of}
 use Rattle.coil_guard.specs.Limits.{no_limits, limits_at}
 use Rattle.machine_definitions.specs.Definitions.{latest_coil, coil_called}
 use Rattle.plan_contributions.specs.CoilEntries.{limits_of_coil}
 use Rattle.plan_contributions.specs.Contributions.{mode_event_name, contributions_of}
-use Rattle.plan_contributions.specs.Facts.{given_coil}
 use Rattle.plan_contributions.proofs.CoilsGiven.{coils_given}
 use Rattle.plan_contributions.proofs.RowEffects.{all_do}
 use Rattle.mpf_plan.specs.PlanOf.{plan_at}
-use Rattle.mpf_plan.specs.ByName.{IsDone, effect_of, latest_limits, limits_called, AreLimitsByName}
+use Rattle.mpf_plan.specs.ByName.{IsDone, effect_of, latest_limits, limits_called}
 use Rattle.mpf_plan.proofs.DoneNames.{done-named}
 use Rattle.mpf_plan.proofs.ModeEventNames.{free-by_name}
 use Rattle.mpf_plan.proofs.ValidPlan.{HasEntries-plan_at, own-plan_at, listeners-plan_at, limits-plan_at}
 use Rattle.written_machine.specs.Allowed.{IsAllowed, ActionsAreAllowed}
-use Rattle.written_machine.specs.Devices.{ActsAreOwn, IsOwnAct, IsOwnListener}
+use Rattle.written_machine.specs.Devices.{ActsAreOwn, IsOwnAct}
 use Rattle.written_machine.specs.FreePosts.{IsFree, IsFreeAction, IsFreeSwitch, PostsAreFree}
 use Rattle.row_faults.specs.Reserved.{mode_events, events_of_modes, mode_names, is_reserved, game_events}
 use Rattle.row_faults.specs.RowFaults.{row_faults}
@@ -50,7 +49,6 @@ use Rattle.row_faults.proofs.Sound.{no_faults_sound}
 use Rattle.row_faults.proofs.None.{map-none}
 use Rattle.config_checker.specs.FaultView.{row}
 use Rattle.config_checker.specs.Checking.{faults_of_rows}
-use Rattle.config_checker.proofs.CoilDeeds.{IsDeedSound}
 use Rattle.config_checker.proofs.RowsDoing.{IsUnreserved, IsFine, IsThere, rows_doing}
 
 -- ---- the events of a mode are reserved

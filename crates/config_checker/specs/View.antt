@@ -1,5 +1,5 @@
 -- What contracts see of an answer.
-use Rattle.std.specs.Prelude.{◌≡◌, ◌<◌, ℕ, List, [], ◌∷◌, length, map, Result, Ok, Err}
+use Rattle.std.specs.Prelude.{◌≡◌, ◌<◌, List, [], ◌∷◌, length, map, Result, Ok, Err}
 use Rattle.std.specs.List.{All}
 use Rattle.row_faults.specs.View.{row_fault_view}
 use Rattle.plan_tables.specs.PlanView.{PlanView}

@@ -1,6 +1,6 @@
 -- What holds of each event that a switch posts and of each action: where it holds of those of contributions, it holds in
 -- their plan.
-use Rattle.std.proofs.Common.{◌≡◌, ℕ, ◌+◌, ◌-◌, List, [], ◌∷◌, ◌++◌, length, fold, replicate, slice_index_or, slice_set, refl, sym, subst}
+use Rattle.std.proofs.Common.{ℕ, ◌+◌, ◌-◌, List, [], ◌∷◌, ◌++◌, length, fold, replicate, sym, subst}
 use Rattle.std.specs.List.{All}
 use Rattle.std.proofs.lemmas.List.Elements.{All-nil, All-push, All-append, All-replicate, All-map, All-head, All-tail, All-from_get_or}
 use Rattle.plan_contributions.specs.declared.contribution.Aim.{Aim}
@@ -12,7 +12,7 @@ use Rattle.plan_tables.specs.Devices.{list_count}
 use Rattle.plan_tables.specs.PlanView.{PlanSwitch, no_switch, PlanView}
 use Rattle.plan_contributions.specs.Contributions.{Contribution, gives, reads, active, inactive, mode, mode_event, binds, does, device, does_in, listens, mentions, coil}
 use Rattle.mpf_plan.specs.Uses.{Names, number_among}
-use Rattle.mpf_plan.specs.PlanOf.{DraftView, event_of, action_of, last_switch, lists_for, with_one_more, next_listener, heard_by, with_listener, first_of_last, with_contribution, named_switch, blank, drafted}
+use Rattle.mpf_plan.specs.PlanOf.{DraftView, event_of, action_of, last_switch, lists_for, with_one_more, next_listener, heard_by, first_of_last, with_contribution, named_switch, blank, drafted}
 use Rattle.mpf_plan.proofs.Drafted.{given_plan}
 use Rattle.mpf_plan.proofs.Steps.{All-changed}
 

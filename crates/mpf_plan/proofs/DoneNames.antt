@@ -1,5 +1,5 @@
 -- What holds of all that rows do holds of all that their plan does, by names.
-use Rattle.std.proofs.Common.{◌≡◌, ◌<◌, ◌⊎◌, inl, inr, ℕ, ◌≤◌, List, [], length, map, get_or, slice_index_or, Ok, refl, sym, ◌∙◌, ap, subst, arith}
+use Rattle.std.proofs.Common.{◌≡◌, ◌<◌, ◌⊎◌, inl, inr, ℕ, ◌≤◌, List, [], length, map, get_or, slice_index_or, Ok, sym, ◌∙◌, ap, subst, arith}
 use Rattle.std.specs.List.{All}
 use Rattle.std.proofs.lemmas.Bool.{cases_lt}
 use Rattle.std.proofs.lemmas.List.{get_or-map, get_or_past, length-map}
@@ -13,15 +13,15 @@ use Rattle.plan_tables.specs.declared.table.Table.TheVariants.{Events, Coils}
 use Rattle.plan_tables.specs.PlanView.{PlanCoil, no_coil, PlanView, coil_at, name_of_event}
 use Rattle.plan_contributions.specs.DeviceEntries.{pulse, enable, disable, Effect, works, posts}
 use Rattle.plan_contributions.specs.Contributions.{Contribution, active, inactive, does, does_in, contributions_of}
-use Rattle.plan_contributions.specs.Doing.{AreDoing, Does}
-use Rattle.mpf_plan.specs.Uses.{Names, names_from, number_among}
-use Rattle.mpf_plan.specs.PlanOf.{event_of, action_of, plan_from, plan_of, plan_at}
+use Rattle.plan_contributions.specs.Doing.{Does}
+use Rattle.mpf_plan.specs.Uses.{names_from}
+use Rattle.mpf_plan.specs.PlanOf.{plan_from, plan_of, plan_at}
 use Rattle.mpf_plan.specs.ByName.{effect_of, IsDone}
 use Rattle.mpf_plan.proofs.Among.{IsKnown, all_known}
 use Rattle.mpf_plan.proofs.Drafted.{names-from}
 use Rattle.mpf_plan.proofs.Judged.{plan_at-Ok}
 use Rattle.mpf_plan.proofs.Numbers.{at_number, named_effect, effect_named}
-use Rattle.mpf_plan.proofs.Done.{IsPosting, Meets, IsMet, meet_drafted}
+use Rattle.mpf_plan.proofs.Done.{IsPosting, IsMet, meet_drafted}
 
 -- ---- names in the plan of contributions
 

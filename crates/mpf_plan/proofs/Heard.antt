@@ -7,14 +7,14 @@ use Rattle.std.proofs.lemmas.List.Elements.{All-nil, All-cons, All-append, All-h
 use Rattle.mpf_sections.specs.Rows.{Entry, Player, Switch, EventPlayer, CoilPlayer, ModeSettings, SectionRows}
 use Rattle.mpf_config.specs.Rows.{Rows}
 use Rattle.mpf_sections.specs.Typed.{switches_name, event_player_name, counters_name, accruals_name, sequences_name, timers_name, switch_of, event_player_of}
-use Rattle.mpf_sections.specs.TypedCoils.{coils_name, coil_player_name, flippers_name, autofire_coils_name, coil_of, coil_player_of, flipper_of, autofire_of}
+use Rattle.mpf_sections.specs.TypedCoils.{coils_name, coil_player_name, coil_of, coil_player_of}
 use Rattle.plan_contributions.specs.declared.contribution.Place.{Place}
 use Rattle.plan_contributions.specs.declared.contribution.Place.TheVariants.{Machine, Control, Mode}
 use Rattle.plan_contributions.specs.declared.contribution.Aim.TheVariants.{Run}
 use Rattle.plan_tables.specs.declared.table.Table.TheVariants.{Switches}
 use Rattle.plan_contributions.specs.DeviceEntries.{texts, Effect, posts, Device, device_of}
-use Rattle.plan_contributions.specs.CoilEntries.{item_effect, flipper_device, autofire_device, limits_of_coil}
-use Rattle.plan_contributions.specs.Contributions.{Contribution, gives, reads, active, inactive, mode, mode_event, binds, does, device, does_in, listens, mentions, coil, active_posts, inactive_posts, kind_of, switch_contributions, player_contributions, coil_contributions, coil_player_contributions, starter, stopper, stopper_where, later_events, controls, mode_contributions, act_binding, effects_from, listens_from, device_contributions, where_device, Row, entry, player, of_mode, rows_of, machine_device, machine_entry_contributions, entry_contributions, player_entry_contributions, row_contributions, given_by, contributions_of}
+use Rattle.plan_contributions.specs.CoilEntries.{item_effect}
+use Rattle.plan_contributions.specs.Contributions.{Contribution, gives, reads, active, inactive, mode, mode_event, binds, does, device, does_in, listens, mentions, coil, active_posts, inactive_posts, kind_of, switch_contributions, player_contributions, coil_contributions, coil_player_contributions, starter, stopper, stopper_where, controls, mode_contributions, act_binding, effects_from, listens_from, device_contributions, where_device, Row, entry, player, of_mode, rows_of, machine_device, machine_entry_contributions, entry_contributions, player_entry_contributions, row_contributions, given_by, contributions_of}
 use Rattle.plan_contributions.specs.Facts.{row_after}
 
 -- a switch that is given by its name alone, or a switch to which a row of the machine listens that came last

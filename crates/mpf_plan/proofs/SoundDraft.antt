@@ -21,7 +21,6 @@ use Rattle.plan_tables.specs.declared.entries.Target.TheVariants as targets
 use Rattle.plan_tables.specs.declared.entries.Binding.{Binding}
 use Rattle.plan_tables.specs.declared.table.Table.TheVariants.{Events, Coils}
 use Rattle.plan_tables.specs.declared.entries.ListId.{ListId}
-use Rattle.plan_tables.specs.declared.entries.Listener.{Listener}
 use Rattle.plan_tables.specs.declared.devices.DeviceRow.{DeviceRow}
 use Rattle.plan_tables.specs.declared.devices.RowId.{RowId}
 use Rattle.plan_tables.specs.declared.devices.Settings.{Settings}
@@ -35,10 +34,10 @@ use Rattle.mpf_plan.specs.Uses.{Names, names_from, number_among}
 use Rattle.mpf_plan.specs.PlanOf.{DraftView, event_of, action_of, new_mode, with_event_in, with_mode, with_mode_event, last_mode, owner_at, target_at, next_binding, lists_for, with_list_for, with_binding, next_row, next_list, with_device, first_of_last, with_one_more, with_contribution, blank, drafted}
 use Rattle.mpf_plan.proofs.Among.{IsAmong, IsKnown, all_known}
 use Rattle.mpf_plan.proofs.Drafted.{given_plan, names-from, modes_one, lists_begun}
-use Rattle.mpf_plan.proofs.Heard.{IsHeard, AreHeard}
+use Rattle.mpf_plan.proofs.Heard.{AreHeard}
 use Rattle.plan_contributions.specs.Facts.{row_after, IsPlacedAim, IsPlaced, ArePlaced, IsOpenPlace, IsOpenAim, IsOpen, modes_after, AreOpened}
 use Rattle.mpf_plan.proofs.Owned.{IsOwn, IsOwnListener, IsOwnSwitch, own_one, own_blank, own_fold}
-use Rattle.mpf_plan.proofs.Done.{IsPosting, IsMet, Meets, meet_drafted}
+use Rattle.mpf_plan.proofs.Done.{IsMet, meet_drafted}
 
 -- ---- a plan with more lists, modes and rows
 

@@ -22,7 +22,7 @@ use Rattle.plan_tables.specs.declared.devices.RowId.{RowId}
 use Rattle.plan_tables.specs.declared.table.Table.{Table}
 use Rattle.plan_tables.specs.declared.table.Table.TheVariants.{Events, Bindings, Switches, Coils}
 use Rattle.plan_tables.specs.declared.table.Table.TheVariants as tables
-use Rattle.plan_tables.specs.PlanView.{PlanCoil, no_coil, PlanView, coil_at, row_at}
+use Rattle.plan_tables.specs.PlanView.{no_coil, PlanView, coil_at, row_at}
 use Rattle.plan_tables.specs.Devices.{IsWithinLimits, list_count}
 use Rattle.plan_tables.specs.Valid.{IsCoilWithin, IsValid, HasEntries}
 use Rattle.plan_contributions.specs.Contributions.{Contribution, gives, reads, active, inactive, mode, mode_event, binds, does, device, does_in, listens, mentions, coil, contributions_of}

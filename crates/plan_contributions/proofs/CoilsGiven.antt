@@ -10,12 +10,11 @@ use Rattle.mpf_sections.specs.Typed.{mode_settings}
 use Rattle.mpf_sections.specs.TypedCoils.{coils_name, coil_of, coils_in}
 use Rattle.mpf_config.specs.Rows.{ModeRows, Rows}
 use Rattle.plan_tables.specs.declared.entries.CoilLimits.{CoilLimits}
-use Rattle.plan_contributions.specs.declared.contribution.Place.{Place}
-use Rattle.plan_contributions.specs.declared.contribution.Place.TheVariants.{Machine, Control, Mode}
+use Rattle.plan_contributions.specs.declared.contribution.Place.TheVariants.{Machine, Mode}
 use Rattle.plan_contributions.specs.CoilEntries.{limits_of_coil}
-use Rattle.plan_contributions.specs.Contributions.{Contribution, coil_contributions, device_of, machine_entry_contributions, entry_contributions, Row, entry, player, of_mode, rows_from, rows_in, mode_rows, row_contributions, given_by, contributions_of}
+use Rattle.plan_contributions.specs.Contributions.{Contribution, coil_contributions, device_of, entry_contributions, Row, entry, player, of_mode, rows_from, rows_in, mode_rows, row_contributions, given_by, contributions_of}
 use Rattle.plan_contributions.specs.Facts.{given_coil, AreCoilsOf}
-use Rattle.plan_contributions.proofs.Silent.{IsSilent, both, in_where, in_machine_entry, in_player_entry, in_mode}
+use Rattle.plan_contributions.proofs.Silent.{IsSilent, in_where, in_machine_entry, in_player_entry, in_mode}
 
 silent : IsSilent given_coil
 silent = record {

@@ -6,11 +6,10 @@ use Rattle.std.proofs.lemmas.List.Elements.{All-nil, All-cons, All-weaker}
 use Rattle.mpf_config.specs.Rows.{Rows}
 use Rattle.mpf_sections.specs.Named.{IsName, IsNamed}
 use Rattle.mpf_config.specs.Named.{IsNamedMode}
-use Rattle.plan_tables.specs.declared.entries.ModeEvent.TheVariants.{WillStart}
 use Rattle.plan_tables.specs.declared.table.Table.{Table}
 use Rattle.plan_tables.specs.declared.table.Table.TheVariants.{Events, Switches, Coils}
 use Rattle.plan_contributions.specs.DeviceEntries.{Effect, posts, works}
-use Rattle.plan_contributions.specs.Contributions.{Contribution, gives, reads, active, inactive, mode, mode_event, mode_event_name, binds, does, device, does_in, listens, mentions, coil, contributions_of}
+use Rattle.plan_contributions.specs.Contributions.{Contribution, gives, reads, active, inactive, mode, mode_event, binds, does, device, does_in, listens, mentions, coil, contributions_of}
 use Rattle.plan_contributions.specs.UsedNames.{used_by, used, uses, name_in_table}
 use Rattle.plan_contributions.proofs.RowFacts.{IsFitName, IsFitEffect, IsFit, All-flat_map, any_name, rows_fit}
 use Rattle.plan_contributions.specs.Facts.{IsOfNames}

@@ -8,14 +8,14 @@ use Rattle.std.proofs.lemmas.List.Elements.{All-nil, All-cons, All-append, All-m
 use Rattle.mpf_sections.specs.Rows.{Entry, Player, Switch, EventPlayer, CoilPlayer, Coil, Flipper, Autofire, ModeSettings, Content, entries, players, SectionRows}
 use Rattle.mpf_config.specs.Rows.{ModeRows, Rows}
 use Rattle.mpf_sections.specs.Rows as sections
-use Rattle.mpf_sections.specs.Typed.{switches_name, event_player_name, switch_of, event_player_of, mode_settings, entries_in, switches_in, event_players_in}
+use Rattle.mpf_sections.specs.Typed.{switches_name, event_player_name, switch_of, event_player_of, mode_settings, switches_in, event_players_in}
 use Rattle.mpf_sections.specs.TypedCoils.{coils_name, coil_player_name, flippers_name, autofire_coils_name, coil_of, coil_player_of, flipper_of, autofire_of, coil_players_in, flippers_in, autofires_in}
 use Rattle.plan_contributions.specs.declared.contribution.Place.{Place}
-use Rattle.plan_contributions.specs.declared.contribution.Place.TheVariants.{Machine, Control, Mode}
+use Rattle.plan_contributions.specs.declared.contribution.Place.TheVariants.{Machine, Mode}
 use Rattle.plan_contributions.specs.declared.contribution.Aim.TheVariants.{Run}
 use Rattle.plan_contributions.specs.CoilEntries.{limits_of_coil, item_effect, flipper_device, autofire_device}
 use Rattle.plan_contributions.specs.DeviceEntries.{Effect, posts}
-use Rattle.plan_contributions.specs.Contributions.{Contribution, gives, reads, active, inactive, mode, binds, does, does_in, device, listens, mentions, coil, texts, kind_of, active_posts, inactive_posts, switch_contributions, player_contributions, coil_contributions, coil_player_contributions, starter, stopper, stopper_where, later_events, controls, mode_contributions, Device, act_binding, listens_from, effects_from, device_contributions, device_of, where_device, machine_device, Row, entry, player, of_mode, rows_from, rows_in, mode_rows, rows_of, machine_entry_contributions, entry_contributions, player_entry_contributions, row_contributions, contributions_of}
+use Rattle.plan_contributions.specs.Contributions.{Contribution, reads, active, inactive, mode, binds, does, device, mentions, coil, texts, kind_of, active_posts, inactive_posts, switch_contributions, player_contributions, coil_contributions, coil_player_contributions, starter, stopper, stopper_where, later_events, controls, mode_contributions, Device, act_binding, listens_from, effects_from, device_contributions, device_of, where_device, machine_device, Row, entry, player, of_mode, rows_from, rows_in, mode_rows, rows_of, machine_entry_contributions, entry_contributions, player_entry_contributions, row_contributions, contributions_of}
 use Rattle.plan_contributions.proofs.RowFacts.{All-flat_map, All-made, All-listens, All-lists, sections_each}
 use Rattle.plan_contributions.specs.Doing.{IsSwitchDoing, IsPlayerDoing, IsDeviceDoing, IsEntryDoing, IsCoilPlayerDoing, IsDoing, IsMachineDoing, AreDoing, Does}
 

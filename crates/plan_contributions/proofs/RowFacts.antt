@@ -31,9 +31,8 @@ use Rattle.plan_tables.specs.declared.devices.Act.{Act}
 use Rattle.plan_tables.specs.declared.devices.Act.TheVariants.{Count, Step, Enable, Disable, Reset, Restart}
 use Rattle.plan_tables.specs.declared.devices.Settings.{Settings}
 use Rattle.plan_tables.specs.declared.devices.Settings.TheVariants as kinds
-use Rattle.plan_tables.specs.declared.entries.CoilLimits.{CoilLimits}
 use Rattle.machine_definitions.specs.Definitions.{latest_coil, no_coil, coil_of_name}
-use Rattle.plan_contributions.specs.CoilEntries.{limits_of_coil, Defaults, defaults_called, own_pulse, own_hold, deed_by, item_effect, flipper_on, flipper_off, flipper_device, autofire_device}
+use Rattle.plan_contributions.specs.CoilEntries.{limits_of_coil, defaults_called, own_pulse, own_hold, deed_by, item_effect, flipper_on, flipper_off, flipper_device, autofire_device}
 use Rattle.plan_contributions.specs.DeviceEntries.{Deed, disable, Effect, posts, works, device_of, acts, block_acts, block_mentions, block_event, or_own, block_lists, counter_device, step_acts, step_settings, step_device, controlled, timer_event, timer_endings, timer_device}
 use Rattle.plan_tables.specs.declared.entries.ModeEvent.{ModeEvent}
 use Rattle.plan_tables.specs.declared.entries.ModeEvent.TheVariants.{WillStart, Starting, Started, Stopping, Stopped}

@@ -1,24 +1,23 @@
 -- What contributions tell that only some of them tell: where no row but a coil's tells any of it, no other does.
-use Rattle.std.proofs.Common.{◌≡◌, ℕ, suc, Bool, true, false, cond, if◌then◌else◌, List, [], ◌∷◌, ◌++◌, Option, None, Some, map, refl, sym, ◌∙◌, ap, codes}
+use Rattle.std.proofs.Common.{◌≡◌, ℕ, suc, Bool, true, false, if◌then◌else◌, List, [], ◌∷◌, ◌++◌, Option, None, Some, map, refl, ◌∙◌, codes}
 use Rattle.std.specs.Str.{bytes_eq}
 use Rattle.std.specs.List.{flat_map}
 use Rattle.std.proofs.lemmas.Grind.{flat_map-append}
-use Rattle.mpf_sections.specs.Rows.{Entry, Player, Switch, Coil, EventPlayer, CoilPlayer, ModeSettings, SectionRows}
+use Rattle.mpf_sections.specs.Rows.{Entry, Player, Switch, EventPlayer, CoilPlayer, ModeSettings, SectionRows}
 use Rattle.mpf_sections.specs.Typed.{switches_name, event_player_name, switch_of, event_player_of}
 use Rattle.mpf_sections.specs.TypedCoils.{coils_name, coil_player_name, coil_of, coil_player_of}
 use Rattle.plan_tables.specs.declared.devices.Settings.{Settings}
-use Rattle.plan_tables.specs.declared.entries.CoilLimits.{CoilLimits}
 use Rattle.plan_tables.specs.declared.entries.ModeEvent.{ModeEvent}
 use Rattle.plan_tables.specs.declared.entries.ModeEvent.TheVariants.{Starting, Started, Stopping, Stopped}
 use Rattle.plan_tables.specs.declared.entries.SwitchKind.{SwitchKind}
 use Rattle.plan_contributions.specs.declared.contribution.Place.{Place}
-use Rattle.plan_contributions.specs.declared.contribution.Place.TheVariants.{Machine, Control, Mode}
+use Rattle.plan_contributions.specs.declared.contribution.Place.TheVariants.{Machine}
 use Rattle.plan_contributions.specs.declared.contribution.Aim.{Aim}
 use Rattle.plan_contributions.specs.declared.contribution.Aim.TheVariants.{Run}
 use Rattle.plan_tables.specs.declared.table.Table.TheVariants.{Switches}
-use Rattle.plan_contributions.specs.CoilEntries.{limits_of_coil, item_effect}
+use Rattle.plan_contributions.specs.CoilEntries.{item_effect}
 use Rattle.plan_contributions.specs.DeviceEntries.{Effect, posts}
-use Rattle.plan_contributions.specs.Contributions.{Contribution, gives, reads, active, inactive, mode, mode_event, binds, does, device, does_in, listens, mentions, coil, kind_of, texts, active_posts, inactive_posts, switch_contributions, player_contributions, coil_contributions, coil_player_contributions, starter, stopper, stopper_where, later_events, controls, mode_contributions, Device, act_binding, listens_from, effects_from, device_contributions, device_of, where_device, machine_device, machine_entry_contributions, entry_contributions, player_entry_contributions}
+use Rattle.plan_contributions.specs.Contributions.{Contribution, gives, reads, active, inactive, mode, mode_event, binds, does, device, does_in, listens, mentions, kind_of, texts, active_posts, inactive_posts, switch_contributions, player_contributions, coil_contributions, coil_player_contributions, starter, stopper, stopper_where, later_events, controls, mode_contributions, Device, act_binding, listens_from, effects_from, device_contributions, where_device, machine_device, machine_entry_contributions, player_entry_contributions}
 
 -- each contribution but a coil's tells nothing
 pub record IsSilent {X : Type 0} (tell : Contribution → List X) : Type 0 where

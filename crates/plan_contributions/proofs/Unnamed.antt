@@ -10,7 +10,7 @@ use Rattle.plan_tables.specs.declared.table.Table.TheVariants.{Events, Bindings,
 use Rattle.plan_contributions.specs.declared.contribution.Place.{Place}
 use Rattle.plan_contributions.specs.declared.contribution.Place.TheVariants.{Machine, Control, Mode}
 use Rattle.plan_contributions.specs.DeviceEntries.{Effect, posts, works}
-use Rattle.plan_contributions.specs.Contributions.{Contribution, mode_event_name, does, coil_contributions, device_of, machine_entry_contributions, entry_contributions, Row, entry, player, of_mode, row_contributions, given_by}
+use Rattle.plan_contributions.specs.Contributions.{Contribution, mode_event_name, coil_contributions, device_of, machine_entry_contributions, entry_contributions, Row, entry, player, of_mode, row_contributions, given_by}
 use Rattle.plan_contributions.specs.UsedNames.{used_by, used, name_in_table, uses}
 use Rattle.plan_contributions.proofs.Silent.{IsSilent, both, in_where, in_machine_entry, in_player_entry, in_mode}
 

@@ -1,4 +1,4 @@
-use Rattle.std.proofs.Common.{[], ◌∷◌, ◌++◌, ap, arith}
+use Rattle.std.proofs.Common.{ap, arith}
 use Rattle.plan_tables.specs.declared.table.Table.TheVariants.{Switches}
 use Rattle.plan_tables.specs.Inside.{name_sets_view, switch_entry_view}
 use Rattle.mpf_plan.specs.PlanOf.{heard_by}
