@@ -195,7 +195,7 @@ def plays_coils(bench: Bench, runs: int) -> None:
     bundle, log = bench.folder / "coils.bundle", bench.folder / "coils.log"
     bundle.write_bytes(coils.machine())
     log.write_text(coils.log())
-    plays_both(bench, f", 2 flippers, {coils.SLINGSHOTS} slingshots", bundle, log, runs)
+    plays_both(bench, f", flippers, {coils.SLINGSHOTS} slingshots", bundle, log, runs)
 
 
 def plays_waits(bench: Bench, runs: int) -> None:
