@@ -17,6 +17,7 @@ import tempfile
 import cascades
 import coils
 import devices
+import game
 import stacked
 import texts
 import waits
@@ -198,6 +199,13 @@ def plays_coils(bench: Bench, runs: int) -> None:
     plays_both(bench, f", flippers, {coils.SLINGSHOTS} slingshots", bundle, log, runs)
 
 
+def plays_game(bench: Bench, runs: int) -> None:
+    bundle, log = bench.folder / "game.bundle", bench.folder / "game.log"
+    bundle.write_bytes(game.machine())
+    log.write_text(game.log())
+    plays_both(bench, f", {game.ACTIONS} actions each", bundle, log, runs)
+
+
 def plays_waits(bench: Bench, runs: int) -> None:
     log = bench.folder / "waits.log"
     log.write_text(waits.log())
@@ -230,6 +238,7 @@ def main() -> None:
         plays_devices(bench, max(runs // 3, 1))
         plays_coils(bench, max(runs // 3, 1))
         plays_waits(bench, max(runs // 3, 1))
+        plays_game(bench, max(runs // 3, 1))
 
 
 main()

@@ -1,7 +1,7 @@
 //! plain LOG < BUNDLE: plays a log like `pinball play`, in plain Rust and without proofs: the other side of the
-//! measurement. Of bundles it reads only the form that `cascades.py`, `stacked.py`, `devices.py` and `coils.py` write,
-//! and checks nothing there. It refuses the lines of a log that `pinball play` refuses. Moments are in milliseconds.
-//! Built by rustc alone.
+//! measurement. Of bundles it reads only the form that `cascades.py`, `stacked.py`, `devices.py`, `coils.py` and
+//! `game.py` write, and checks nothing there. It refuses the lines of a log that `pinball play` refuses. Moments are
+//! in milliseconds. Built by rustc alone.
 use std::collections::{HashMap, VecDeque};
 use std::fmt::Write as _;
 use std::io::{self, BufWriter, Read, Write};
@@ -12,6 +12,8 @@ const DEBOUNCE: u64 = 5;
 const MOMENTS: u64 = 1 << 40;
 /// Full power, in thousandths.
 const FULL: u32 = 1000;
+/// A variable of a player stays within plus or minus this.
+const MOST: i64 = 999_999_999_999_999;
 
 struct Switch {
     name: String,
@@ -35,6 +37,8 @@ enum Line {
     Event(u64, Owner, u16),
     /// A command to a coil, and whether it was sent or skipped.
     Coil(u64, Owner, u16, Command, bool),
+    /// The number of a player, from 1, a variable and its new value.
+    Player(u64, Owner, u8, u16, i64),
     /// A coil that was put off at the end.
     Off(u64, u16),
 }
@@ -127,6 +131,7 @@ const STOPPING: usize = 3;
 struct Mode {
     name: String,
     priority: u32,
+    needs_game: bool,
     phase: Phase,
     stop_kept: bool,
     /// The numbers of its `STEPS`.
@@ -139,8 +144,8 @@ impl Mode {
     }
 
     /// Gives the event that the machine then posts.
-    fn start(&mut self) -> Option<u16> {
-        if self.phase != Phase::Idle {
+    fn start(&mut self, game: &Game) -> Option<u16> {
+        if self.phase != Phase::Idle || self.needs_game && !game.goes_on {
             return None;
         }
         self.phase = Phase::Starting;
@@ -173,12 +178,118 @@ impl Mode {
     }
 }
 
+/// What a game posts until its first ball is on, in order. The first comes from the start button.
+const GAME: [&str; 11] = [
+    "sw_start",
+    "game_will_start",
+    "game_starting",
+    "player_added",
+    "game_started",
+    "player_turn_will_start",
+    "player_turn_starting",
+    "player_turn_started",
+    "ball_will_start",
+    "ball_starting",
+    "ball_started",
+];
+const BUTTON: usize = 0;
+const GAME_STARTING: usize = 2;
+const ADDED: usize = 3;
+const GAME_STARTED: usize = 4;
+const TURN_STARTED: usize = 7;
+const BALL_STARTING: usize = 9;
+const BALL_STARTED: usize = 10;
+
+/// The variables that the game sets, which are numbered before all others.
+const OF_GAME: [&str; 2] = ["ball", "number"];
+const BALL: usize = 0;
+const NUMBER: usize = 1;
+
+/// Its first ball does not end.
+#[derive(Default)]
+struct Game {
+    /// 0 where the machine has no game.
+    max_players: usize,
+    /// The numbers of `GAME`.
+    events: Vec<u16>,
+    variables: usize,
+    goes_on: bool,
+    ball_is_on: bool,
+    /// For each player the values of the variables.
+    players: Vec<Vec<i64>>,
+    /// The place of the current player.
+    current: Option<usize>,
+}
+
+impl Game {
+    fn may_add(&self) -> bool {
+        self.players.len() < self.max_players
+    }
+
+    fn meets(&self, condition: &Condition) -> bool {
+        let value = self.current.map(|player| &self.players[player][condition.variable as usize]);
+        value.is_some_and(|value| (condition.compares)(value, &condition.number))
+    }
+
+    /// What follows the handlers of one of its events. Gives what is posted.
+    fn after(&mut self, step: usize) -> &[u16] {
+        match step {
+            BUTTON if self.goes_on => {
+                let joins = self.ball_is_on && self.may_add();
+                return &self.events[ADDED..ADDED + usize::from(joins)];
+            }
+            BUTTON => self.goes_on = true,
+            GAME_STARTING => return &self.events[ADDED..=GAME_STARTED],
+            ADDED => {
+                if self.may_add() {
+                    let mut values = vec![0; self.variables];
+                    values[NUMBER] = self.players.len() as i64 + 1;
+                    self.players.push(values);
+                }
+                return &[];
+            }
+            GAME_STARTED => self.current = Some(0),
+            TURN_STARTED => self.players[0][BALL] += 1,
+            BALL_STARTING => self.ball_is_on = true,
+            BALL_STARTED => return &[],
+            _ => (),
+        }
+        &self.events[step + 1..step + 2]
+    }
+}
+
+/// It is met where a variable of the current player compares so with the number.
+struct Condition {
+    variable: u16,
+    compares: fn(&i64, &i64) -> bool,
+    number: i64,
+}
+
+/// Of a variable. The number is added, or else set.
+struct Change {
+    variable: u16,
+    adds: bool,
+    number: i64,
+    /// What is posted then.
+    event: u16,
+}
+
+impl Change {
+    /// Gives the new value, where it is another one.
+    fn apply(&self, value: &mut i64) -> Option<i64> {
+        let new = if self.adds { *value + self.number } else { self.number }.clamp(-MOST, MOST);
+        (std::mem::replace(value, new) != new).then_some(new)
+    }
+}
+
 enum Effect {
     Post(Vec<u16>),
     Start(u8),
     Stop(u8),
     /// Does this to the device of the number.
     Act(u16, Act),
+    /// The place of its changes.
+    Change(usize),
 }
 
 #[derive(Clone, Copy)]
@@ -378,6 +489,11 @@ fn time(text: &str) -> u64 {
     text.strip_suffix("ms").unwrap_or(text).parse().expect("a time in ms")
 }
 
+/// The words of a list or a mapping in braces.
+fn words(text: &str) -> Vec<&str> {
+    text.split(['[', ']', '{', '}', ':', ',', ' ']).filter(|word| !word.is_empty()).collect()
+}
+
 /// The items of a list in brackets.
 fn items(text: &str) -> Vec<&str> {
     text.trim_matches(['[', ']']).split(", ").collect()
@@ -386,10 +502,18 @@ fn items(text: &str) -> Vec<&str> {
 struct Handler {
     owner: Owner,
     priority: u32,
+    condition: Option<Condition>,
     effect: Effect,
 }
 
-/// The names of events, each with its number, in the order in which they were met.
+/// What the machine itself does at an event: the step of a mode's life, or of the game.
+#[derive(Clone, Copy)]
+enum Step {
+    Mode(u8, usize),
+    Game(usize),
+}
+
+/// Names, each with its number, in the order in which they were met.
 #[derive(Default)]
 struct Names {
     names: Vec<String>,
@@ -416,11 +540,13 @@ struct Machine {
     coils: Vec<Coil>,
     coil_numbers: HashMap<String, u16>,
     devices: Vec<Device>,
+    game: Game,
+    variables: Names,
+    changes: Vec<Vec<Change>>,
     events: Names,
     /// For each event its handlers, in the order in which they run.
     handlers: Vec<Vec<Handler>>,
-    /// For each event the mode, and the step of its life, whose event it is.
-    steps: Vec<Option<(u8, usize)>>,
+    steps: Vec<Option<Step>>,
     now: u64,
     /// Each with who posted it.
     waiting: VecDeque<(Owner, u16)>,
@@ -432,6 +558,9 @@ struct Machine {
 impl Machine {
     fn read(bundle: &str) -> Machine {
         let mut machine = Machine::default();
+        for name in OF_GAME {
+            machine.variables.number(name);
+        }
         let (mut section, mut owner) = ("", None);
         for line in bundle.lines().filter(|line| !line.starts_with('#')) {
             if let Some(text) = line.strip_prefix("@ ") {
@@ -452,6 +581,10 @@ impl Machine {
                 (_, "coils") => machine.set_coil(key, value.trim()),
                 (2, "flippers" | "autofire_coils") => machine.add_rule(section),
                 (_, "flippers" | "autofire_coils") => machine.set_rule(key, value.trim()),
+                (2, "variable_player") => machine.add_changes(owner, key),
+                (_, "variable_player") => machine.add_change(key, value),
+                (_, "game") => machine.set_game(key, value.trim()),
+                (_, "machine") => (),
                 (_, "mode") => machine.set_mode(owner.expect("a text of a mode"), key, value.trim()),
                 _ => machine.add_posts(owner, key, value.trim()),
             }
@@ -477,12 +610,19 @@ impl Machine {
                 _ => [vec![], vec![]],
             };
         }
+        if self.game.max_players > 0 {
+            self.game.events = GAME.iter().map(|event| self.events.number(event)).collect();
+            self.game.variables = self.variables.names.len();
+        }
         self.handlers.resize_with(self.events.names.len(), Vec::new);
         self.steps.resize(self.events.names.len(), None);
         for (number, mode) in (0u8..).zip(&self.modes) {
             for (step, &event) in mode.events.iter().enumerate() {
-                self.steps[event as usize] = Some((number, step));
+                self.steps[event as usize] = Some(Step::Mode(number, step));
             }
+        }
+        for (step, &event) in self.game.events.iter().enumerate() {
+            self.steps[event as usize] = Some(Step::Game(step));
         }
         // Bindings that start and stop a mode are read before its priority.
         for handlers in &mut self.handlers {
@@ -498,7 +638,14 @@ impl Machine {
 
     fn add_mode(&mut self, name: &str) {
         let events = STEPS.map(|step| self.events.number(&format!("mode_{name}_{step}")));
-        self.modes.push(Mode { name: name.to_string(), priority: 100, phase: Phase::Idle, stop_kept: false, events });
+        self.modes.push(Mode {
+            name: name.to_string(),
+            priority: 100,
+            needs_game: true,
+            phase: Phase::Idle,
+            stop_kept: false,
+            events,
+        });
     }
 
     fn set_mode(&mut self, mode: u8, setting: &str, value: &str) {
@@ -506,7 +653,15 @@ impl Machine {
             "start_events" => self.add_handler(value, None, Effect::Start(mode)),
             "stop_events" => self.add_handler(value, None, Effect::Stop(mode)),
             "priority" => self.modes[mode as usize].priority = value.parse().expect("a number"),
+            "game_mode" => self.modes[mode as usize].needs_game = value == "yes",
             _ => (),
+        }
+    }
+
+    /// A setting of the section `game`.
+    fn set_game(&mut self, setting: &str, value: &str) {
+        if setting == "max_players" {
+            self.game.max_players = value.parse().expect("a number");
         }
     }
 
@@ -528,8 +683,12 @@ impl Machine {
 
     /// A setting of the switch that was added last.
     fn set(&mut self, setting: &str, value: &str) {
-        if let (Some(switch), "debounce") = (self.switches.last_mut(), setting) {
-            switch.quick = value == "quick";
+        let Machine { switches, events, .. } = self;
+        let switch = switches.last_mut().expect("a switch");
+        match setting {
+            "debounce" => switch.quick = value == "quick",
+            "tags" => switch.active_posts.extend(words(value).iter().map(|tag| events.number(&format!("sw_{tag}")))),
+            _ => (),
         }
     }
 
@@ -621,9 +780,7 @@ impl Machine {
             (Kind::Timer(timer), "restart_on_complete") => timer.restarts = value == "yes",
             // `[{event: E, action: start}, {event: E, action: pause}]`
             (Kind::Timer(_), "control_events") => {
-                let words = value.split(['[', ']', '{', '}', ':', ',', ' ']).filter(|word| !word.is_empty());
-                let words: Vec<&str> = words.collect();
-                handlers.extend(words.chunks(4).map(|control| {
+                handlers.extend(words(value).chunks(4).map(|control| {
                     (control[1], if control[3] == "start" { Act::Start } else { Act::Pause })
                 }));
             }
@@ -640,11 +797,46 @@ impl Machine {
         self.add_handler(event, owner, Effect::Post(posts));
     }
 
+    fn add_changes(&mut self, owner: Owner, event: &str) {
+        self.add_handler(event, owner, Effect::Change(self.changes.len()));
+        self.changes.push(vec![]);
+    }
+
+    /// What the entry that was added last does to a variable: `N`, or `{int: N, action: set}`.
+    fn add_change(&mut self, name: &str, value: &str) {
+        let (number, adds) = match words(value)[..] {
+            [number] => (number, true),
+            ["int", number, "action", action] => (number, action == "add"),
+            _ => panic!("what becomes of a variable"),
+        };
+        let number = number.parse().expect("a number");
+        let (variable, event) = (self.variables.number(name), self.events.number(&format!("player_{name}")));
+        self.changes.last_mut().expect("an entry").push(Change { variable, adds, number, event });
+    }
+
+    /// `current_player.V OPERATOR N}`
+    fn condition(&mut self, text: &str) -> Condition {
+        let words = words(text);
+        let name = words[0].strip_prefix("current_player.").expect("a variable of the current player");
+        let compares: fn(&i64, &i64) -> bool = match words[1] {
+            "==" => i64::eq,
+            "!=" => i64::ne,
+            "<" => i64::lt,
+            "<=" => i64::le,
+            ">" => i64::gt,
+            _ => i64::ge,
+        };
+        Condition { variable: self.variables.number(name), compares, number: words[2].parse().expect("a number") }
+    }
+
+    /// The event may have a condition after it.
     fn add_handler(&mut self, event: &str, owner: Owner, effect: Effect) {
+        let (event, condition) = event.split_once('{').map_or((event, None), |(event, text)| (event, Some(text)));
+        let condition = condition.map(|text| self.condition(text));
         let event = self.events.number(event) as usize;
         let priority = owner.map_or(0, |mode| self.modes[mode as usize].priority);
         self.handlers.resize_with(self.handlers.len().max(event + 1), Vec::new);
-        self.handlers[event].push(Handler { owner, priority, effect });
+        self.handlers[event].push(Handler { owner, priority, condition, effect });
     }
 }
 
@@ -690,18 +882,25 @@ impl Machine {
         while let Some((owner, event)) = self.waiting.pop_front() {
             self.lines.push(Line::Event(self.now, owner, event));
             let step = self.steps[event as usize];
-            if let Some((mode, STARTED)) = step {
+            if let Some(Step::Mode(mode, STARTED)) = step {
                 self.modes[mode as usize].phase = Phase::Active;
                 self.start_devices(mode);
             }
             self.handle(event);
-            if let Some((mode, step)) = step {
-                if step == STOPPING {
-                    self.devices.iter_mut().filter(|d| d.owner == Some(mode)).for_each(Device::stop);
-                    self.release(mode);
+            match step {
+                Some(Step::Mode(mode, step)) => {
+                    if step == STOPPING {
+                        self.devices.iter_mut().filter(|d| d.owner == Some(mode)).for_each(Device::stop);
+                        self.release(mode);
+                    }
+                    let posted = self.modes[mode as usize].after(step);
+                    self.waiting.extend(posted.map(|event| (None, event)));
                 }
-                let posted = self.modes[mode as usize].after(step);
-                self.waiting.extend(posted.map(|event| (None, event)));
+                Some(Step::Game(step)) => {
+                    let posted = self.game.after(step);
+                    self.waiting.extend(posted.iter().map(|&event| (None, event)));
+                }
+                None => (),
             }
         }
     }
@@ -730,16 +929,19 @@ impl Machine {
         }
     }
 
-    /// Runs the handlers of an event whose owners take part.
+    /// Runs the handlers of an event whose owners take part, and whose conditions are met.
     fn handle(&mut self, event: u16) {
-        let Machine { handlers, modes, devices, coils, waiting, lines, now, .. } = self;
+        let Machine { handlers, modes, devices, coils, game, changes, waiting, lines, now, .. } = self;
         for handler in &handlers[event as usize] {
             if handler.owner.is_some_and(|mode| !modes[mode as usize].takes_part()) {
                 continue;
             }
+            if handler.condition.as_ref().is_some_and(|condition| !game.meets(condition)) {
+                continue;
+            }
             match &handler.effect {
                 Effect::Post(posts) => waiting.extend(posts.iter().map(|&event| (handler.owner, event))),
-                Effect::Start(mode) => waiting.extend(modes[*mode as usize].start().map(|event| (None, event))),
+                Effect::Start(mode) => waiting.extend(modes[*mode as usize].start(game).map(|event| (None, event))),
                 Effect::Stop(mode) => waiting.extend(modes[*mode as usize].stop().map(|event| (None, event))),
                 Effect::Act(number, act @ (Act::Enable | Act::Disable)) => {
                     command(&mut devices[*number as usize], *act, coils, *now, lines);
@@ -748,6 +950,16 @@ impl Machine {
                     let device = &mut devices[*number as usize];
                     let places = device.act(*act, *now);
                     waiting.extend(places.iter().map(|&place| (device.owner, device.events[place])));
+                }
+                Effect::Change(place) => {
+                    let Some(current) = game.current else { continue };
+                    let (number, values) = (current as u8 + 1, &mut game.players[current]);
+                    for change in &changes[*place] {
+                        if let Some(value) = change.apply(&mut values[change.variable as usize]) {
+                            lines.push(Line::Player(*now, handler.owner, number, change.variable, value));
+                            waiting.push_back((handler.owner, change.event));
+                        }
+                    }
                 }
             }
         }
@@ -819,6 +1031,10 @@ impl Machine {
                         (false, Command::Enable { .. }) => writeln!(text, "{at} {owner} skip {coil} enable"),
                         (false, Command::Disable) => writeln!(text, "{at} {owner} skip {coil} disable"),
                     };
+                }
+                Line::Player(at, owner, player, variable, value) => {
+                    let (owner, variable) = (name_of(owner), &self.variables.names[variable as usize]);
+                    let _ = writeln!(text, "{at} {owner} player {player} {variable} {value}");
                 }
                 Line::Off(at, coil) => {
                     let _ = writeln!(text, "{at} machine off {}", self.coils[coil as usize].name);

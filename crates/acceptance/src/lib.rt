@@ -19,6 +19,8 @@ mod ends;
 #[cfg(test)]
 mod faulty;
 #[cfg(test)]
+mod game_rows;
+#[cfg(test)]
 mod hostile;
 mod joined;
 #[cfg(test)]

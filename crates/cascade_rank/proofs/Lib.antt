@@ -3,6 +3,7 @@ pub mod Limits
 pub mod Prices
 pub mod Outcomes
 pub mod Rows
+pub mod Games
 pub mod Within
 pub mod Switches
 pub mod Places

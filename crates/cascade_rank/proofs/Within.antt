@@ -1,14 +1,16 @@
 -- The costs of a valid plan mention only events of the plan.
-use Rattle.std.proofs.Common.{◌≡◌, ℕ, ◌<◌, Bool, true, false, ◌==◌, List, [], ◌∷◌, length, sym, subst, inl, inr, arith}
+use Rattle.std.proofs.Common.{◌≡◌, ℕ, ◌<◌, Bool, true, false, ◌==◌, List, [], ◌∷◌, length, refl, sym, subst, inl, inr, arith}
 use Rattle.std.specs.List.{All, AllByRecursion}
 use Rattle.std.proofs.lemmas.Bool.{cases_lt, or_cases, eqb-true, false≢true}
 use Rattle.std.proofs.lemmas.List.Elements.{recursion_from_All, All-get_or, All-weaker, All-nil, All-cons, All-append, All-filter}
 use Rattle.std.proofs.lemmas.List.{get_or_past}
-use Rattle.plan_tables.specs.PlanView.{PlanSwitch, PlanView, no_mode, mode_at, mode_event, work_of, no_switch, switch_at, act_of_listener, listeners_of, actions_at, posts_of, bound_to, is_owner, list_of_row, row_at, row_numbers, rows_of}
+use Rattle.plan_tables.specs.PlanView.{PlanSwitch, PlanView, game_event, no_mode, mode_at, mode_event, work_of, no_switch, switch_at, act_of_listener, listeners_of, actions_at, posts_of, bound_to, is_owner, list_of_row, row_at, row_numbers, rows_of}
 use Rattle.plan_tables.specs.Devices.{list_count}
 use Rattle.plan_tables.specs.declared.entries.ModeId.{ModeId}
 use Rattle.plan_tables.specs.declared.entries.ModeEvent.{ModeEvent}
 use Rattle.plan_tables.specs.declared.entries.ModeEvent.TheVariants.{WillStart, Starting, Started, Stopping, Stopped}
+use Rattle.plan_tables.specs.declared.entries.GameEvent.{GameEvent}
+use Rattle.player_game.specs.Choices.{choices}
 use Rattle.plan_tables.specs.declared.entries.Work.{Work}
 use Rattle.plan_tables.specs.declared.entries.Work.TheVariants as works
 use Rattle.plan_tables.proofs.Worked.{work_found}
@@ -18,7 +20,7 @@ use Rattle.plan_tables.specs.declared.entries.SwitchId.{SwitchId}
 use Rattle.plan_tables.specs.declared.entries.Listener.{Listener}
 use Rattle.plan_tables.specs.declared.entries.ListId.{ListId}
 use Rattle.plan_tables.specs.declared.entries.Action.{Action}
-use Rattle.plan_tables.specs.declared.entries.Action.TheVariants.{Post, Pulse, Enable, Disable}
+use Rattle.plan_tables.specs.declared.entries.Action.TheVariants.{Post, Pulse, Enable, Disable, Change}
 use Rattle.plan_tables.specs.declared.entries.Target.{Target}
 use Rattle.plan_tables.specs.declared.entries.Target.TheVariants.{Run, Start, Stop, Act}
 use Rattle.plan_tables.specs.declared.entries.Owner.TheVariants as owners
@@ -27,10 +29,11 @@ use Rattle.device_objects.specs.declared.device.Call.{Call}
 use Rattle.device_objects.specs.declared.device.Call.TheVariants as calls
 use Rattle.device_objects.specs.Outcomes.{outcomes}
 use Rattle.plan_tables.specs.declared.entries.Binding.{Binding}
-use Rattle.cascade_rank.specs.Cost.{Cost, Lines, Weight, Both, Greater, mentions, each_of, dearest_of, cost_of_post, cost_of_action, cost_of_list, cost_of_answer, cost_of_call, cost_of_target, cost_of_binding, led_by, cost_if_led, cost_of_starts, cost_of_releases, cost_of_work, cost_of_event, cost_of_listener, cost_of_acceptance, cost_of_switch, switches_of, cost_of_stimuli}
+use Rattle.cascade_rank.specs.Cost.{Cost, Lines, Weight, Both, Greater, mentions, each_of, dearest_of, cost_of_post, cost_of_action, cost_of_list, cost_of_answer, cost_of_call, cost_of_target, cost_of_binding, led_by, cost_if_led, cost_of_starts, cost_of_releases, cost_of_choice, cost_of_game, cost_of_work, cost_of_event, cost_of_listener, cost_of_acceptance, cost_of_switch, switches_of, cost_of_stimuli}
 use Rattle.cascade_rank.specs.Below.{IsBelow}
 use Rattle.cascade_rank.specs.Mentions.{weights_in}
 use Rattle.cascade_rank.proofs.Outcomes.{outcomes_of_row}
+use Rattle.cascade_rank.proofs.Games.{game_event-below, game_has-event}
 use Rattle.cascade_rank.proofs.Rows.{rows-within}
 
 pub IsBelow-mentioned : (n : ℕ) (c : Cost) (e : EventId) → IsBelow n c → mentions e c ≡ true → e.0 < n
@@ -80,6 +83,7 @@ IsBelow-action plan (Post e) h = h
 IsBelow-action plan (Pulse coil ms power) h = tt
 IsBelow-action plan (Enable coil power) h = tt
 IsBelow-action plan (Disable coil) h = tt
+IsBelow-action plan (Change v action n e) h = (tt, h.1)
 
 module _ (plan : PlanView) (valid : HasEntries plan) where
   pub IsBelow-list : (l : ListId) → l.0 < length plan.lists → IsBelow (length plan.events) (cost_of_list plan l)
@@ -106,6 +110,7 @@ module _ (plan : PlanView) (valid : HasEntries plan) where
   IsBelow-led (works.Mode m Started) e h = mode_event-within m Stopping h.0
   IsBelow-led (works.Mode m Stopping) e h = mode_event-within m Stopped h.0
   IsBelow-led (works.Mode m Stopped) e h = tt
+  IsBelow-led (works.Game which) e h = tt
 
   -- what a device of the plan answers to a call
   list_of_row-within : (r : RowId) → r.0 < length plan.rows → (k : ℕ) → k < list_count (row_at plan r).settings → (list_of_row plan r k).0 < length plan.lists
@@ -131,6 +136,7 @@ module _ (plan : PlanView) (valid : HasEntries plan) where
       (All-filter (λ r. is_owner (owners.Mode m) (row_at plan r).owner) (λ r. r.0 < length plan.rows) (row_numbers plan) (rows-within plan))
   IsBelow-starts (works.Mode m Stopping) = tt
   IsBelow-starts (works.Mode m Stopped) = tt
+  IsBelow-starts (works.Game which) = tt
 
   -- the lines of releases mention none
   IsBelow-releases : (w : Work) → IsBelow (length plan.events) (cost_of_releases plan w)
@@ -140,9 +146,24 @@ module _ (plan : PlanView) (valid : HasEntries plan) where
   IsBelow-releases (works.Mode m Started) = tt
   IsBelow-releases (works.Mode m Stopping) = tt
   IsBelow-releases (works.Mode m Stopped) = tt
+  IsBelow-releases (works.Game which) = tt
+
+  -- what an event of the game posts is an event of the plan
+  IsBelow-choices : 0 < length plan.events → (ways : List (List GameEvent)) → IsBelow (length plan.events) (dearest_of (cost_of_choice plan) ways)
+  IsBelow-choices some ways =
+      dearest_below (length plan.events) (cost_of_choice plan)
+      (λ posts. each_below (length plan.events) (λ which. cost_of_post (game_event plan which)) (λ which. Unit {0}) (λ which h. game_event-below plan valid some which) posts (λ i d l. tt)) ways
+
+  IsBelow-game : (w : Work) (e : EventId) → work_of plan e ≡ w → IsBelow (length plan.events) (cost_of_game plan w)
+  IsBelow-game works.Nothing e is = tt
+  IsBelow-game (works.Mode m which) e is = tt
+  IsBelow-game (works.Game which) e is = (tt, IsBelow-choices (game_has-event plan valid e which is) (choices which))
 
   pub IsBelow-work : (e : EventId) → IsBelow (length plan.events) (cost_of_work plan e)
-  IsBelow-work e = (IsBelow-starts (work_of plan e), (IsBelow-releases (work_of plan e), IsBelow-led (work_of plan e) e (work_found plan e)))
+  IsBelow-work e = (
+    IsBelow-starts (work_of plan e),
+    (IsBelow-releases (work_of plan e), (IsBelow-led (work_of plan e) e (work_found plan e), IsBelow-game (work_of plan e) e refl)),
+  )
 
   pub IsBelow-target : (t : Target) → IsTargetWithin plan t → IsBelow (length plan.events) (cost_of_target plan t)
   IsBelow-target (Run l) h = IsBelow-list l h

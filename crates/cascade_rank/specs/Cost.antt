@@ -1,18 +1,21 @@
 -- What a thing costs: the lines that it prints and the weights of the events that it posts, added up or compared.
-use Rattle.std.specs.Prelude.{ℕ, ◌+◌, max, Bool, true, false, ◌&&◌, ◌||◌, ◌==◌, Option, None, Some, List, [], ◌∷◌, length, map}
+use Rattle.std.specs.Prelude.{ℕ, ◌+◌, max, Bool, true, false, ◌&&◌, ◌||◌, ◌==◌, if◌then◌else◌, Option, None, Some, List, [], ◌∷◌, length, map}
 use Rattle.std.specs.List.{range_with_len}
-use Rattle.plan_tables.specs.PlanView.{PlanView, coils_enabled, act_of_listener, listeners_of, posts_of, actions_at, bound_to, list_of_row, mode_event, row_at, row_numbers, rows_of, work_of}
+use Rattle.plan_tables.specs.PlanView.{PlanView, coils_enabled, act_of_listener, listeners_of, posts_of, actions_at, bound_to, list_of_row, game_event, mode_event, row_at, row_numbers, rows_of, work_of}
 use Rattle.plan_tables.specs.declared.entries.EventId.{EventId}
 use Rattle.plan_tables.specs.declared.entries.SwitchId.{SwitchId}
 use Rattle.plan_tables.specs.declared.entries.ListId.{ListId}
 use Rattle.plan_tables.specs.declared.entries.Listener.{Listener}
 use Rattle.plan_tables.specs.declared.entries.Action.{Action}
-use Rattle.plan_tables.specs.declared.entries.Action.TheVariants.{Post, Pulse, Enable, Disable}
+use Rattle.plan_tables.specs.declared.entries.Action.TheVariants.{Post, Pulse, Enable, Disable, Change}
 use Rattle.plan_tables.specs.declared.entries.Target.{Target}
 use Rattle.plan_tables.specs.declared.entries.Target.TheVariants.{Run, Start, Stop, Act}
 use Rattle.plan_tables.specs.declared.entries.ModeEvent.TheVariants.{WillStart, Starting, Started, Stopping, Stopped}
 use Rattle.plan_tables.specs.declared.entries.Work.{Work}
-use Rattle.plan_tables.specs.declared.entries.Work.TheVariants.{Nothing, Mode}
+use Rattle.plan_tables.specs.declared.entries.Work.TheVariants.{Nothing, Mode, Game}
+use Rattle.plan_tables.specs.declared.entries.GameEvent.{GameEvent}
+use Rattle.player_game.specs.Players.{most_players}
+use Rattle.player_game.specs.Choices.{choices, tells_scores}
 use Rattle.plan_tables.specs.declared.entries.Binding.{Binding}
 use Rattle.plan_tables.specs.declared.entries.Owner.TheVariants as owners
 use Rattle.plan_tables.specs.declared.devices.RowId.{RowId}
@@ -61,12 +64,14 @@ dearest_of cost (x ∷ xs) = Greater (cost x) (dearest_of cost xs)
 abbrev pub cost_of_post : EventId → Cost
 cost_of_post e = Weight e
 
--- an action of a coil costs its line, whether its command is sent or skipped
+-- An action of a coil costs its line, whether its command is sent or skipped. One of a variable costs its line and the
+-- post that follows it, whether the variable changes or not.
 abbrev pub cost_of_action : PlanView → Action → Cost
 cost_of_action plan (Post e) = cost_of_post e
 cost_of_action plan (Pulse coil ms power) = Lines 1
 cost_of_action plan (Enable coil power) = Lines 1
 cost_of_action plan (Disable coil) = Lines 1
+cost_of_action plan (Change v action n e) = Both (Lines 1) (cost_of_post e)
 
 -- the actions of an effect list
 abbrev pub cost_of_list : PlanView → ListId → Cost
@@ -86,7 +91,7 @@ cost_of_target plan (Start m) = cost_of_post (mode_event plan m WillStart)
 cost_of_target plan (Stop m) = cost_of_post (mode_event plan m Stopping)
 cost_of_target plan (Act r act) = cost_of_call plan r (calls.Act act)
 
--- what a binding costs: no owner and no priority is looked at
+-- what a binding costs: no owner, no priority and no condition is looked at
 abbrev pub cost_of_binding : PlanView → Binding → Cost
 cost_of_binding plan b = cost_of_target plan b.target
 
@@ -99,6 +104,7 @@ led_by plan (Mode m Starting) = Some (mode_event plan m Started)
 led_by plan (Mode m Started) = Some (mode_event plan m Stopping)
 led_by plan (Mode m Stopping) = Some (mode_event plan m Stopped)
 led_by plan (Mode m Stopped) = None
+led_by plan (Game which) = None
 
 abbrev pub cost_if_led : Option EventId → Cost
 cost_if_led None = Lines 0
@@ -112,6 +118,7 @@ cost_of_starts plan (Mode m Starting) = Lines 0
 cost_of_starts plan (Mode m Started) = each_of (λ r. cost_of_call plan r calls.ModeStart) (rows_of plan (owners.Mode m))
 cost_of_starts plan (Mode m Stopping) = Lines 0
 cost_of_starts plan (Mode m Stopped) = Lines 0
+cost_of_starts plan (Game which) = Lines 0
 
 -- a line for each coil that the mode may hold, at its event `stopping`
 abbrev pub cost_of_releases : PlanView → Work → Cost
@@ -121,11 +128,27 @@ cost_of_releases plan (Mode m Starting) = Lines 0
 cost_of_releases plan (Mode m Started) = Lines 0
 cost_of_releases plan (Mode m Stopping) = Lines (length (coils_enabled plan (owners.Mode m)))
 cost_of_releases plan (Mode m Stopped) = Lines 0
+cost_of_releases plan (Game which) = Lines 0
+
+-- what an event of the game posts, by one of the ways that it can go
+abbrev pub cost_of_choice : PlanView → List GameEvent → Cost
+cost_of_choice plan posts = each_of (λ which. cost_of_post (game_event plan which)) posts
+
+-- a line for each player there can be, where all scores are told
+abbrev pub cost_of_scores : PlanView → GameEvent → Cost
+cost_of_scores plan which = Lines (if tells_scores which then most_players plan.game else 0)
+
+-- the dearest way that an event of the game can go
+abbrev pub cost_of_game : PlanView → Work → Cost
+cost_of_game plan Nothing = Lines 0
+cost_of_game plan (Mode m which) = Lines 0
+cost_of_game plan (Game which) = Both (cost_of_scores plan which) (dearest_of (cost_of_choice plan) (choices which))
 
 -- what the machine itself does at an event, before and after its handlers
 abbrev pub cost_of_work : PlanView → EventId → Cost
 cost_of_work plan e =
-    Both (cost_of_starts plan (work_of plan e)) (Both (cost_of_releases plan (work_of plan e)) (cost_if_led (led_by plan (work_of plan e))))
+    Both (cost_of_starts plan (work_of plan e))
+    (Both (cost_of_releases plan (work_of plan e)) (Both (cost_if_led (led_by plan (work_of plan e))) (cost_of_game plan (work_of plan e))))
 
 -- an event costs its line, all that is bound to it, and the machine's work
 abbrev pub cost_of_event : PlanView → EventId → Cost

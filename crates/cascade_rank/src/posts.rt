@@ -1,20 +1,27 @@
 //! The events whose weights are in what an event costs.
 //!
 //! One pass over all that an event leads to: what follows from it asks only which events these are.
+//! A change of a variable leads to its post, whether the variable changes or not. An event of the game
+//! leads to what it posts by any of the ways that it can go. What is bound leads to its posts whether
+//! its condition is met or not.
 
 ghost use Rattle.std.specs.Prelude.{◌≡◌, ◌<◌, ◌++◌, length, OnOk};
 ghost use Rattle.std.specs.List.{All};
 ghost use Rattle.plan_tables.specs.declared.entries.Owner.TheVariants as owners;
 ghost use Rattle.plan_tables.specs.Devices.{list_count};
-ghost use Rattle.plan_tables.specs.Valid.{IsTargetWithin, IsValid};
-ghost use Rattle.plan_tables.specs.PlanView.{bound_to, row_at, rows_of};
+ghost use Rattle.plan_tables.specs.Valid.{HasGame, IsBindingWithin, IsTargetWithin, IsValid};
+ghost use Rattle.plan_tables.specs.PlanView.{bound_to, row_at, rows_of, work_of};
 ghost use Rattle.device_objects.specs.declared.device.Call.TheVariants as calls;
-ghost use Rattle.cascade_rank.specs.Cost.{each_of, cost_of_action, cost_of_answer, cost_of_binding, cost_of_call, cost_of_event, cost_of_starts, cost_of_target, cost_of_work};
+ghost use Rattle.player_game.specs.Choices.{choices};
+ghost use Rattle.cascade_rank.specs.Cost.{each_of, dearest_of, cost_of_action, cost_of_answer, cost_of_binding, cost_of_call, cost_of_choice, cost_of_event, cost_of_game, cost_of_starts, cost_of_target, cost_of_work};
 ghost use Rattle.cascade_rank.specs.Mentions.{cost_of_start, weights_in};
 
-use crate::work::{is_of, led_by};
+use crate::work::{game_event, is_of, led_by};
 use device_objects::{Call, outcomes};
-use plan_tables::{Action, EventId, ModeEvent, ModeId, Plan, RowId, Target, Work};
+use plan_tables::{
+    Action, Binding, EventId, GameEvent, ModeEvent, ModeId, Plan, RowId, Target, Work,
+};
+use player_game::choices;
 use std::alloc::AllocError;
 
 /// Lists the events whose weights are in what an event costs, each as often as it is there.
@@ -39,9 +46,17 @@ fn push_bound(posts: &mut Vec<EventId>, plan: &Plan, event: EventId) -> Result<(
     ensures valid { OnOk result (IsValid plan.now) }
 {
     for place in plan.bindings_of(event) {
-        push_target(posts, plan, plan.binding(*place).target)?;
+        push_binding(posts, plan, plan.binding(*place))?;
     }
     Ok(())
+}
+
+/// Adds those of a binding, whether its condition is met or not.
+fn push_binding(posts: &mut Vec<EventId>, plan: &Plan, binding: Binding) -> Result<(), AllocError>
+    requires { IsBindingWithin plan.now binding }
+    ensures { OnOk result (posts.new.items ≡ posts.old.items ++ weights_in (cost_of_binding plan.now binding)) }
+{
+    push_target(posts, plan, binding.target)
 }
 
 fn push_target(posts: &mut Vec<EventId>, plan: &Plan, target: Target) -> Result<(), AllocError>
@@ -71,6 +86,7 @@ fn push_action(posts: &mut Vec<EventId>, plan: &Plan, action: Action) -> Result<
 {
     match action {
         Action::Post(posted) => posts.push(posted)?,
+        Action::Change { event, .. } => posts.push(event)?,
         Action::Pulse { .. } | Action::Enable { .. } | Action::Disable { .. } => {}
     }
     Ok(())
@@ -119,7 +135,7 @@ fn push_work(posts: &mut Vec<EventId>, plan: &Plan, event: EventId) -> Result<()
     if let Some(led) = led_by(plan, event) {
         posts.push(led)?;
     }
-    Ok(())
+    push_game(posts, plan, event)
 }
 
 /// Adds those of the starts of a mode's devices, if the work is that of the mode's event `started`.
@@ -154,6 +170,43 @@ fn push_start(
 {
     if is_of(plan.row(row).owner, mode) {
         push_call(posts, plan, row, Call::ModeStart)?;
+    }
+    Ok(())
+}
+
+/// Adds those of all that the game can post at an event, if it is one of the game's.
+fn push_game(posts: &mut Vec<EventId>, plan: &Plan, event: EventId) -> Result<(), AllocError>
+    requires { event.0 < length plan.now.events }
+    ensures { OnOk result (posts.new.items ≡ posts.old.items ++ weights_in (cost_of_game plan.now (work_of plan.now event))) }
+{
+    match plan.work(event) {
+        Work::Game(which) => push_choices(posts, plan, which),
+        _ => Ok(()),
+    }
+}
+
+/// Adds those of each way that an event of the game can go.
+fn push_choices(posts: &mut Vec<EventId>, plan: &Plan, which: GameEvent) -> Result<(), AllocError>
+    requires { HasGame plan.now }
+    ensures { OnOk result (posts.new.items ≡ posts.old.items ++ weights_in (dearest_of (cost_of_choice plan.now) (choices which))) }
+{
+    for choice in choices(which) {
+        push_choice(posts, plan, choice)?;
+    }
+    Ok(())
+}
+
+/// Adds those of one of these ways.
+fn push_choice(
+    posts: &mut Vec<EventId>,
+    plan: &Plan,
+    choice: &[GameEvent],
+) -> Result<(), AllocError>
+    requires { HasGame plan.now }
+    ensures { OnOk result (posts.new.items ≡ posts.old.items ++ weights_in (cost_of_choice plan.now choice.now)) }
+{
+    for which in choice {
+        posts.push(game_event(plan, *which))?;
     }
     Ok(())
 }

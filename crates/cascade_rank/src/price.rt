@@ -1,28 +1,35 @@
 //! What the parts of a plan cost at given weights.
 //!
-//! Nothing is cut off: a weight is below 2^32, and an effect list has at most 1,024 actions, so what a
-//! device answers costs at most 2^44. A plan has too few bindings and devices for a sum of their
-//! prices to reach 2^59. The listeners and posts of a switch for a sum of 2^109 do not fit into memory.
+//! A change of a variable costs its line and the weight of the event that it posts. An event of the
+//! game costs the weights of the dearest way that it can go; where all scores are told, it costs a
+//! line for each player there can be. The condition of a binding is taken as met.
+//!
+//! Nothing is cut off: a weight is below 2^32, so an action costs at most 2^32. An effect list has at
+//! most 1,024 actions, so what a device answers costs at most 2^44. A plan has too few bindings and
+//! devices for a sum of their prices to reach 2^59. The listeners and posts of a switch for a sum of
+//! 2^109 do not fit into memory.
 
 ghost use Rattle.plan_tables.specs.declared.entries.EventId.{EventId as EventIdValue};
 ghost use Rattle.std.specs.Prelude.{ℕ, ◌≡◌, ◌+◌, ◌^◌, ◌<◌, ◌≤◌, length};
 ghost use Rattle.std.specs.List.{All};
-ghost use Rattle.plan_tables.specs.Valid.{IsActionWithin, IsTargetWithin, IsBindingWithin, IsEventWithin, IsListenerWithin};
+ghost use Rattle.plan_tables.specs.Valid.{HasGame, IsActionWithin, IsTargetWithin, IsBindingWithin, IsEventWithin, IsListenerWithin};
 ghost use Rattle.plan_tables.specs.declared.entries.Owner.TheVariants as owners;
 ghost use Rattle.plan_tables.specs.Devices.{list_count};
-ghost use Rattle.plan_tables.specs.PlanView.{bound_to, row_at, row_numbers, rows_of};
+ghost use Rattle.plan_tables.specs.PlanView.{bound_to, row_at, row_numbers, rows_of, work_of};
 ghost use Rattle.device_objects.specs.declared.device.Call.TheVariants as calls;
+ghost use Rattle.player_game.specs.Choices.{choices};
 ghost use Rattle.cascade_rank.specs.Events.{weight_of};
 ghost use Rattle.cascade_rank.specs.Mentions.{cost_of_start};
-ghost use Rattle.cascade_rank.specs.Cost.{price, each_of, dearest_of, cost_of_post, cost_of_action, cost_of_list, cost_of_answer, cost_of_call, cost_of_target, cost_of_binding, cost_of_starts, cost_of_releases, cost_of_work, cost_of_event, cost_of_listener, cost_of_acceptance, cost_of_switch, switches_of, cost_of_stimuli};
+ghost use Rattle.cascade_rank.specs.Cost.{price, each_of, dearest_of, cost_of_post, cost_of_action, cost_of_list, cost_of_answer, cost_of_call, cost_of_target, cost_of_binding, cost_of_starts, cost_of_releases, cost_if_led, led_by, cost_of_choice, cost_of_scores, cost_of_game, cost_of_work, cost_of_event, cost_of_listener, cost_of_acceptance, cost_of_switch, switches_of, cost_of_stimuli};
 
 use crate::releases::count_enabled;
-use crate::work::{is_of, led_by};
+use crate::work::{game_event, is_of, led_by};
 use device_objects::{Call, outcomes};
 use plan_tables::{
-    Action, Binding, EventId, ListId, Listener, ModeEvent, ModeId, Owner, Plan, RowId, SwitchId,
-    Target, Work,
+    Action, Binding, EventId, GameEvent, ListId, Listener, ModeEvent, ModeId, Owner, Plan, RowId,
+    SwitchId, Target, Work,
 };
+use player_game::{choices, tells_scores};
 
 /// What an event costs: its line, all that is bound to it, and the machine's work.
 pub(crate) fn need(plan: &Plan, weights: &[u32], event: EventId) -> u128
@@ -45,10 +52,78 @@ fn price_of_work(plan: &Plan, weights: &[u32], event: EventId) -> u128
 {
     let starts = price_of_starts(plan, weights, plan.work(event));
     let releases = price_of_releases(plan, plan.work(event));
+    let led = price_of_led(plan, weights, event);
+    let game = price_of_game(plan, weights, event);
+    starts + (releases + (led + game))
+}
+
+/// The event with which a mode goes on, if the event is one of a mode's.
+fn price_of_led(plan: &Plan, weights: &[u32], event: EventId) -> u128
+    requires event { event.0 < length plan.now.events }
+    requires weights { length weights.now ≡ length plan.now.events }
+    ensures price { result ≡ price (weight_of weights.now) (cost_if_led (led_by plan.now (work_of plan.now event))) }
+    ensures small { result < 2 ^ 32 }
+{
     match led_by(plan, event) {
-        Some(led) => starts + (releases + price_of_post(weights, led)),
-        None => starts + releases,
+        Some(led) => price_of_post(weights, led),
+        None => 0,
     }
+}
+
+/// The scores that are told and the dearest way that the game can go, if the event is one of the
+/// game's.
+fn price_of_game(plan: &Plan, weights: &[u32], event: EventId) -> u128
+    requires event { event.0 < length plan.now.events }
+    requires weights { length weights.now ≡ length plan.now.events }
+    ensures price { result ≡ price (weight_of weights.now) (cost_of_game plan.now (work_of plan.now event)) }
+    ensures small { result < 2 ^ 34 }
+{
+    match plan.work(event) {
+        Work::Game(which) => price_of_scores(plan, which) + dearest_choice(plan, weights, which),
+        _ => 0,
+    }
+}
+
+/// A line for each player there can be, if all scores are told.
+fn price_of_scores(plan: &Plan, which: GameEvent) -> u128
+    requires { HasGame plan.now }
+    ensures price { (w : EventIdValue → ℕ) → result ≡ price w (cost_of_scores plan.now which) }
+    ensures small { result ≤ 4 }
+{
+    if tells_scores(which) {
+        u128::from(plan.game().unwrap().max_players)
+    } else {
+        0
+    }
+}
+
+/// The dearest way that an event of the game can go.
+fn dearest_choice(plan: &Plan, weights: &[u32], which: GameEvent) -> u128
+    requires game { HasGame plan.now }
+    requires weights { length weights.now ≡ length plan.now.events }
+    ensures price { result ≡ price (weight_of weights.now) (dearest_of (cost_of_choice plan.now) (choices which)) }
+    ensures small { result ≤ 2 ^ 33 }
+{
+    let mut dearest = 0u128;
+    for choice in choices(which) {
+        dearest = dearest.max(price_of_choice(plan, weights, choice));
+    }
+    dearest
+}
+
+/// What an event of the game posts by one of the ways that it can go.
+fn price_of_choice(plan: &Plan, weights: &[u32], choice: &[GameEvent]) -> u128
+    requires game { HasGame plan.now }
+    requires few { length choice.now ≤ 2 }
+    requires weights { length weights.now ≡ length plan.now.events }
+    ensures price { result ≡ price (weight_of weights.now) (cost_of_choice plan.now choice.now) }
+    ensures small { result ≤ 2 ^ 33 }
+{
+    let mut total = 0u128;
+    for which in choice {
+        total += price_of_post(weights, game_event(plan, *which));
+    }
+    total
 }
 
 /// The starts of a mode's devices, if the work is that of the mode's event `started`.
@@ -197,10 +272,11 @@ fn price_of_action(plan: &Plan, weights: &[u32], action: Action) -> u128
     requires action { IsActionWithin plan.now action }
     requires weights { length weights.now ≡ length plan.now.events }
     ensures price { result ≡ price (weight_of weights.now) (cost_of_action plan.now action) }
-    ensures small { result < 2 ^ 32 }
+    ensures small { result ≤ 2 ^ 32 }
 {
     match action {
         Action::Post(event) => price_of_post(weights, event),
+        Action::Change { event, .. } => 1 + price_of_post(weights, event),
         Action::Pulse { .. } | Action::Enable { .. } | Action::Disable { .. } => 1,
     }
 }

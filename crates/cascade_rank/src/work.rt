@@ -3,13 +3,13 @@
 ghost use Rattle.std.specs.Prelude.{◌≡◌, ◌<◌, length, IfSome};
 ghost use Rattle.plan_tables.specs.declared.entries.Owner.TheVariants as owners;
 ghost use Rattle.plan_tables.specs.declared.entries.Work.TheVariants as works;
-ghost use Rattle.plan_tables.specs.PlanView.{is_owner, work_of};
-ghost use Rattle.plan_tables.specs.Valid.{IsValid};
+ghost use Rattle.plan_tables.specs.PlanView.{game_event, is_owner, work_of};
+ghost use Rattle.plan_tables.specs.Valid.{HasGame, IsValid};
 ghost use Rattle.cascade_rank.specs.Cost.{led_by};
 
-use plan_tables::{EventId, ModeEvent, ModeId, Owner, Plan, Work};
+use plan_tables::{EventId, GameEvent, ModeEvent, ModeId, Owner, Plan, Work};
 
-/// The event that the machine itself posts as its work at an event, if it posts one.
+/// The event that the machine itself posts as its work at an event of a mode, if it posts one.
 pub(crate) fn led_by(plan: &Plan, event: EventId) -> Option<EventId>
     requires { event.0 < length plan.now.events }
     ensures led { result ≡ led_by plan.now (work_of plan.now event) }
@@ -19,6 +19,7 @@ pub(crate) fn led_by(plan: &Plan, event: EventId) -> Option<EventId>
     match plan.work(event) {
         Work::Nothing => None,
         Work::Mode(mode, which) => next_event(plan, mode, which),
+        Work::Game(_) => None,
     }
 }
 
@@ -44,4 +45,13 @@ pub(crate) fn is_of(owner: Owner, mode: ModeId) -> bool
     ensures { result ≡ is_owner (owners.Mode mode) owner }
 {
     Owner::Mode(mode).is(owner)
+}
+
+/// This one of the game's events.
+pub(crate) fn game_event(plan: &Plan, which: GameEvent) -> EventId
+    requires { HasGame plan.now }
+    ensures event { result ≡ game_event plan.now which }
+    ensures within { result.0 < length plan.now.events }
+{
+    plan.game().unwrap().events[which.index()]
 }

@@ -1,5 +1,5 @@
 -- What a board says of itself, and what the boards of this crate do.
-use Rattle.std.specs.Prelude.{◌≡◌, ◌⊎◌, ◌<◌, ℕ, zero, suc, ◌+◌, ◌-◌, ◌^◌, ◌==◌, Bool, ◌&&◌, ◌||◌, if◌then◌else◌, Option, None, Some, Result, Ok, Err, List, [], ◌∷◌, ◌++◌, length, nat_le, min}
+use Rattle.std.specs.Prelude.{◌≡◌, ◌⊎◌, ◌<◌, ℕ, zero, suc, ◌+◌, ◌-◌, ◌^◌, ◌==◌, Bool, true, false, not, ◌&&◌, ◌||◌, if◌then◌else◌, Option, None, Some, IfSome, Result, Ok, Err, List, [], ◌∷◌, ◌++◌, length, drop, nat_le, min}
 use Rattle.circular_buffer.specs.Buffer.{keep_last}
 use Rattle.coil_guard.specs.declared.command.Command.{Command}
 use Rattle.coil_guard.specs.declared.board.BoardFault.{BoardFault}
@@ -18,6 +18,26 @@ IsToldAfter command (Err fault) (Some taken) told = told ≡ Some taken
 IsToldAfter command (Ok done) (Some taken) None = Unit {0}
 IsToldAfter command (Ok done) (Some taken) (Some told) = told ≡ taken ++ command ∷ []
 
+-- A board's answers to the commands to come: whether it takes each of the next ones, and whether it takes all that come after
+-- those, where it tells.
+pub record Answers : Type 0 where
+  pub next : List Bool
+  pub later : Option Bool
+
+-- it tells none
+abbrev pub untold : Answers
+untold = record { next = []; later = None }
+
+-- the first of these, or that of all later ones
+abbrev pub first_answer : List Bool → Option Bool → Option Bool
+first_answer [] later = later
+first_answer (taken ∷ more) later = Some taken
+
+-- A board that has taken a command, or has not, has answered as it told. The answers that come after that stay as they were.
+pub record IsAnswered (taken : Bool) (before after : Answers) : Type 0 where
+  pub as_told : IfSome (first_answer before.next before.later) (λ told. told ≡ taken)
+  pub others : after ≡ record { next = drop 1 before.next; later = before.later }
+
 -- ---- the board in memory
 
 -- the latest commands, and how many were taken
@@ -35,6 +55,10 @@ after_taking command b = record { kept = keep_last 1024 (b.kept ++ command ∷ [
 -- It tells its commands while it keeps all.
 abbrev pub told_by_memory : MemoryView → Option (List Command)
 told_by_memory b = if nat_le b.count 1024 then Some b.kept else None
+
+-- It takes all commands to come.
+abbrev pub takes_all : Answers
+takes_all = record { next = []; later = Some true }
 
 -- ---- the board that faults
 
@@ -57,6 +81,16 @@ after_sending b = record {
   onwards = b.onwards;
   faults = if is_fault_next b then min (b.faults + 1) (2 ^ 64 - 1) else b.faults;
 }
+
+-- It takes the commands before the first fault, and not that one.
+abbrev pub until_fault : ℕ → List Bool
+until_fault zero = []
+until_fault (suc zero) = false ∷ []
+until_fault (suc (suc n)) = true ∷ until_fault (suc n)
+
+-- It takes all that come after, or with `onwards` none.
+abbrev pub fuse_answers : FuseView → Answers
+fuse_answers b = record { next = until_fault b.left; later = Some (not b.onwards) }
 
 -- ---- their laws, over every list of commands
 

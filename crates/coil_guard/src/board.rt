@@ -9,19 +9,23 @@ use thiserror::Error;
 pub struct BoardFault;
 
 /// A board takes commands to coils, one at a time. It has a count of its faults. It may tell the
-/// list of the commands that it has taken, and then its meaning includes this list; what a board
-/// does with a coil, no contract can say.
+/// list of the commands that it has taken, and then its meaning includes this list. It may also tell
+/// its answers to the commands to come, and then it is held to them. What a board does with a coil,
+/// no contract can say.
 pub trait Board: Drop {
-    ghost use Rattle.std.specs.Prelude.{◌≡◌, ◌↔◌, ℕ, Option, List, IsErr, OnOk};
+    ghost use Rattle.std.specs.Prelude.{◌≡◌, ◌↔◌, ℕ, Option, List, is_ok, IsErr, OnOk};
     ghost use Rattle.coil_guard.specs.declared.command.Command.{Command};
-    ghost use Rattle.coil_guard.specs.Boards.{HasFaulted, IsToldAfter};
+    ghost use Rattle.coil_guard.specs.Boards.{HasFaulted, IsToldAfter, Answers, untold, IsAnswered};
 
     /// The count of faults.
     ghost fault_count: { Self → ℕ };
     /// The commands that were taken, first taken first, where the board tells them.
     ghost told: { Self → Option (List Command) };
+    /// The answers to the commands to come, where the board tells them.
+    ghost answers: { Self → Answers } = { λ _. untold };
 
-    /// Takes a command. A told list grows by it, or is told no more.
+    /// Takes a command. A told list grows by it, or is told no more. A board that tells its answer
+    /// takes the command exactly if that is the answer, and its later answers stay as they were.
     ///
     /// # Errors
     ///
@@ -30,7 +34,8 @@ pub trait Board: Drop {
     fn send(&mut self, command: Command) -> Result<(), BoardFault>
         ensures fault { IsErr result ↔ HasFaulted (fault_count self.old) (fault_count self.new) }
         ensures count { OnOk result (fault_count self.new ≡ fault_count self.old) }
-        ensures list { IsToldAfter command result (told self.old) (told self.new) };
+        ensures list { IsToldAfter command result (told self.old) (told self.new) }
+        ensures answer { IsAnswered (is_ok result) (answers self.old) (answers self.new) };
 
     /// How many faults there were, counted up to 2^64 - 1.
     fn faults(&self) -> u64

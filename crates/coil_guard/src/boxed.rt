@@ -8,6 +8,8 @@ impl Board for Box<dyn Board> {
 
     ghost told = { λ b. (Board-box b).told b.value };
 
+    ghost answers = { λ b. (Board-box b).answers b.value };
+
     fn send(&mut self, command: Command) -> Result<(), BoardFault> {
         (**self).send(command)
     }

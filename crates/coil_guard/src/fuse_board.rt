@@ -10,8 +10,8 @@ use std::rc::Rc;
 /// The commands that a `FuseBoard` took, which its test shares with it.
 pub type Taken = Rc<RefCell<ArrayVec<Command, 1024>>>;
 
-/// A board for tests that faults at one command, or from one command on. It tells no list, but adds
-/// the commands that it takes to one that a test shares.
+/// A board for tests that faults at one command, or from one command on. It tells which commands to
+/// come these are. It tells no list, but adds the commands that it takes to one that a test shares.
 #[derive(Drop)]
 pub struct FuseBoard {
     /// How many commands come until the first fault, and with it; 0 if it is past.
@@ -61,17 +61,20 @@ impl FuseBoard {
 }
 
 impl Board for FuseBoard {
-    ghost use Rattle.std.specs.Prelude.{◌≡◌, ◌↔◌, true, None, IsErr, OnOk};
-    ghost use Rattle.coil_guard.specs.Boards.{HasFaulted, IsToldAfter, is_fault_next, after_sending};
+    ghost use Rattle.std.specs.Prelude.{◌≡◌, ◌↔◌, true, None, is_ok, IsErr, OnOk};
+    ghost use Rattle.coil_guard.specs.Boards.{HasFaulted, IsToldAfter, IsAnswered, is_fault_next, after_sending, fuse_answers};
 
     ghost fault_count = { λ b. b.faults };
 
     ghost told = { λ _. None };
 
+    ghost answers = { fuse_answers };
+
     fn send(&mut self, command: Command) -> Result<(), BoardFault>
         ensures fault { IsErr result ↔ HasFaulted self.old.faults self.new.faults }
         ensures count { OnOk result (self.new.faults ≡ self.old.faults) }
         ensures list { IsToldAfter command result None None }
+        ensures answer { IsAnswered (is_ok result) (fuse_answers self.old) (fuse_answers self.new) }
         ensures next { IsErr result ↔ (is_fault_next self.old ≡ true) }
         ensures state { self.new ≡ after_sending self.old }
     {

@@ -13,7 +13,7 @@ const ROOM: usize = 1_024;
 const COUNTED: u16 = 1_025;
 
 /// A board that takes every command and keeps the latest 1,024 of them. It tells the list of its
-/// commands until it has taken more than it keeps.
+/// commands until it has taken more than it keeps. It tells that it takes all commands to come.
 #[derive(Drop)]
 pub struct MemoryBoard {
     kept: HeapCircularBuffer<Command>,
@@ -67,11 +67,13 @@ impl MemoryBoard {
 
 impl Board for MemoryBoard {
     ghost use Rattle.std.specs.Prelude.{◌≡◌, IsOk};
-    ghost use Rattle.coil_guard.specs.Boards.{IsToldAfter, told_by_memory, after_taking};
+    ghost use Rattle.coil_guard.specs.Boards.{IsToldAfter, told_by_memory, takes_all, after_taking};
 
     ghost fault_count = { λ _. 0 };
 
     ghost told = { λ b. told_by_memory b };
+
+    ghost answers = { λ _. takes_all };
 
     fn send(&mut self, command: Command) -> Result<(), BoardFault>
         ensures list { IsToldAfter command result (told_by_memory self.old) (told_by_memory self.new) }

@@ -1,7 +1,7 @@
 -- The names of a plan's events are words of few bytes, where its rows are those of a bundle.
-use Rattle.std.proofs.Common.{◌≡◌, ◌≢◌, ℕ, ◌+◌, ◌<◌, ◌≤◌, true, ◌||◌, eqb, List, [], ◌∷◌, ◌++◌, length, Ok, refl, ap, arith, length-append, codes}
-use Rattle.std.specs.List.{All}
-use Rattle.std.proofs.lemmas.Bool.{ne_eqb, or_from, not_from_false}
+use Rattle.std.proofs.Common.{◌≡◌, ◌≢◌, ℕ, ◌+◌, ◌<◌, ◌≤◌, Bool, true, ◌&&◌, ◌||◌, eqb, nat_lt, List, [], ◌∷◌, ◌++◌, length, Ok, refl, ap, arith, length-append, codes}
+use Rattle.std.specs.List.{All, list_all}
+use Rattle.std.proofs.lemmas.Bool.{ne_eqb, or_from, not_from_false, and_parts, ltb-true}
 use Rattle.std.proofs.lemmas.List.Elements.{All-nil, All-cons, All-append, All-weaker}
 use Rattle.std.proofs.lemmas.List.Sums.{AllPass-from_list_all}
 use Rattle.yaml_bytes.specs.Bytes.{is_blank}
@@ -12,6 +12,8 @@ use Rattle.mpf_sections.proofs.RowNames.{name_bytes}
 use Rattle.mpf_config.proofs.RowNames.{rows_are_named, modes_are_named}
 use Rattle.plan_tables.specs.declared.entries.ModeEvent.{ModeEvent}
 use Rattle.plan_tables.specs.declared.entries.ModeEvent.TheVariants.{WillStart, Starting, Started, Stopping, Stopped}
+use Rattle.machine_definitions.specs.GameEvents.{game_event_names}
+use Rattle.machine_definitions.specs.Players.{player_event}
 use Rattle.plan_contributions.specs.Contributions.{event_ending, mode_event_name}
 use Rattle.plan_contributions.specs.DeviceEntries.{block_event, block_endings, timer_event, timer_endings}
 use Rattle.mpf_plan.specs.PlanOf.{plan_of}
@@ -107,6 +109,28 @@ timer-words name h =
     of_timer : (ending : List ℕ) → length ending ≤ 9 → AllInWord ending → (IsEventWord (timer_event name ending))
     of_timer ending few letters = own-word (codes "timer_") ending name (omega arith) (omega (arith, few)) (AllPass-from_list_all is_in_word (codes "timer_") refl) letters h
 
+player-word : (name : List ℕ) → IsName name → IsEventWord (player_event name)
+player-word name h =
+    let few = h.few in
+    joined-word (codes "player_") name (omega arith) (omega (arith, few)) (AllPass-from_list_all is_in_word (codes "player_") refl) (name-in_word name h)
+
+-- the events of the game, by looking at each
+is_short_word : List ℕ → Bool
+is_short_word text = (nat_lt 0 (length text) && nat_lt (length text) 85) && list_all is_in_word text
+
+short-word : (text : List ℕ) → is_short_word text ≡ true → IsEventWord text
+unfolding is_short_word
+short-word text h =
+    let parts = and_parts (nat_lt 0 (length text) && nat_lt (length text) 85) (list_all is_in_word text) h in
+    let sizes = and_parts (nat_lt 0 (length text)) (nat_lt (length text) 85) parts.0 in
+    let some : 0 < length text = ltb-true 0 (length text) sizes.0 in
+    let few : length text < 85 = ltb-true (length text) 85 sizes.1 in
+    some-word text some (omega (arith, few)) (AllPass-from_list_all is_in_word text parts.1)
+
+game-words : All IsEventWord game_event_names
+unfolding is_short_word
+game-words = All-weaker (λ text. is_short_word text ≡ true) IsEventWord short-word game_event_names (AllPass-from_list_all is_short_word game_event_names refl)
+
 -- ---- the events of the plan
 
 module _ (bundle : List ℕ) (rows : Rows) (read : rows_at bundle ≡ Ok rows) where
@@ -119,6 +143,8 @@ module _ (bundle : List ℕ) (rows : Rows) (read : rows_at bundle ≡ Ok rows) w
     mode = mode-word;
     ball = some-word (codes "ball_ending") (omega arith) (omega arith) (AllPass-from_list_all is_in_word (codes "ball_ending") refl);
     game = some-word (codes "game_ending") (omega arith) (omega arith) (AllPass-from_list_all is_in_word (codes "game_ending") refl);
+    game_events = game-words;
+    player = player-word;
     block = block-words;
     timer = timer-words;
   }) rows (rows_are_named bundle rows read) (modes_are_named bundle rows read)

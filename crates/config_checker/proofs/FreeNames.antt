@@ -7,7 +7,8 @@ use Rattle.std.proofs.lemmas.Slice.Eq.{bytes_eq-Decides}
 use Rattle.yaml_subset.specs.Keys.{is_among}
 use Rattle.mpf_config.specs.Rows.{Rows}
 use Rattle.plan_contributions.specs.DeviceEntries.{block_event, timer_event}
-use Rattle.row_faults.specs.Reserved.{game_events, events_of_modes, mode_names, is_reserved}
+use Rattle.machine_definitions.specs.GameEvents.{reserved_game_events}
+use Rattle.row_faults.specs.Reserved.{events_of_modes, mode_names, is_reserved}
 
 -- ---- names of switches
 
@@ -39,9 +40,9 @@ first-other : (byte : ℕ) → (109 == byte) ≡ false → (ws : List (List ℕ)
 first-other byte other [] = refl
 first-other byte other (w ∷ ws) = rw other (first-other byte other ws)
 
-begins-free : (rows : Rows) (byte : ℕ) (rest : List ℕ) → list_any (λ e. first_of e == byte) game_events ≡ false → (109 == byte) ≡ false → is_reserved rows (byte ∷ rest) ≡ false
+begins-free : (rows : Rows) (byte : ℕ) (rest : List ℕ) → list_any (λ e. first_of e == byte) reserved_game_events ≡ false → (109 == byte) ≡ false → is_reserved rows (byte ∷ rest) ≡ false
 begins-free rows byte rest no_game no_mode =
-    let game : is_among game_events (byte ∷ rest) ≡ false = not_among first_of (byte ∷ rest) game_events no_game in
+    let game : is_among reserved_game_events (byte ∷ rest) ≡ false = not_among first_of (byte ∷ rest) reserved_game_events no_game in
     let mode : is_among (events_of_modes (mode_names rows)) (byte ∷ rest) ≡ false = not_among first_of (byte ∷ rest) (events_of_modes (mode_names rows)) (first-other byte no_mode (mode_names rows)) in
     λ i. game i || mode i
 
@@ -60,7 +61,7 @@ module _ (front : List ℕ) where
 
   ends-free : (rows : Rows) (name : List ℕ) → last_from 0 name ≡ 101 → is_reserved rows name ≡ false
   ends-free rows name is =
-      let game : is_among game_events name ≡ false = not_among (last_from 0) name game_events (rw is refl) in
+      let game : is_among reserved_game_events name ≡ false = not_among (last_from 0) name reserved_game_events (rw is refl) in
       let mode : is_among (events_of_modes (mode_names rows)) name ≡ false =
       not_among (last_from 0) name (events_of_modes (mode_names rows)) (rw is (last-other (mode_names rows))) in
       λ i. game i || mode i

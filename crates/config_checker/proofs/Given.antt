@@ -12,12 +12,12 @@ use Rattle.mpf_config.specs.Rows.{Rows}
 use Rattle.plan_tables.specs.declared.entries.CoilLimits.{CoilLimits}
 use Rattle.plan_tables.specs.declared.entries.ModeEvent.TheVariants.{WillStart}
 use Rattle.plan_tables.specs.declared.table.Table.{Table}
-use Rattle.plan_tables.specs.declared.table.Table.TheVariants.{Events, Coils}
+use Rattle.plan_tables.specs.declared.table.Table.TheVariants.{Events, Coils, Variables}
 use Rattle.plan_tables.specs.Limits.{order_of}
 use Rattle.machine_definitions.specs.Definitions.{latest_coil, coil_called}
-use Rattle.plan_contributions.specs.DeviceEntries.{Effect, posts, works}
+use Rattle.plan_contributions.specs.DeviceEntries.{Effect, posts, works, changes}
 use Rattle.plan_contributions.specs.CoilEntries.{limits_of_coil}
-use Rattle.plan_contributions.specs.Contributions.{Contribution, gives, reads, active, inactive, mode, mode_event, mode_event_name, binds, does, device, does_in, listens, mentions, coil, contributions_of}
+use Rattle.plan_contributions.specs.Contributions.{Contribution, gives, reads, active, inactive, mode, mode_event, mode_event_name, binds, does, device, does_in, listens, mentions, coil, under, plays, contributions_of}
 use Rattle.plan_contributions.specs.Doing.{Does}
 use Rattle.plan_contributions.specs.Facts.{given_coil}
 use Rattle.plan_contributions.specs.UsedNames.{used, given, name_in_table, given_names}
@@ -119,9 +119,13 @@ module _ (rows : Rows) (sound : IsSound rows) where
   never : (n : List ℕ) → IsGiven cs (Some (Events, n))
   never n needed = absurd (true≢false (sym needed))
 
+  never_variable : (n : List ℕ) → IsGiven cs (Some (Variables, n))
+  never_variable n needed = absurd (true≢false (sym needed))
+
   effect-given : (e : Effect) → IsFine rows e → IsGiven cs (used (does e))
   effect-given (posts n) h = never n
   effect-given (works n deed) h = λ needed. coil_given n rows h.coil h.called
+  effect-given (changes v action n) h = never_variable v
 
   is_given : (i : ℕ) (d c : Contribution) → i < length cs → get_or cs i d ≡ c → Does (IsFine rows) (IsUnreserved rows) (IsThere rows) c → IsGiven cs (used c)
   is_given i d (gives t n) within at h = λ needed. given_there cs i d (gives t n) t n within at refl
@@ -137,6 +141,8 @@ module _ (rows : Rows) (sound : IsSound rows) where
   is_given i d (mode_event which n) within at h = never (mode_event_name which n)
   is_given i d (binds n place aim) within at h = never n
   is_given i d (mentions n) within at h = never n
+  is_given i d (under c) within at h = never_variable c.variable
+  is_given i d (plays min_balls balls_per_game max_players) within at h = tt
 
   are_given : AreGiven cs
   are_given =

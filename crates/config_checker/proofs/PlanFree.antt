@@ -1,11 +1,11 @@
 -- The plan of rows without faults of their own: nothing posts an event at which the machine itself does something, acts are
 -- on rows of their own owner, and each command to a coil is within the limits of the coil.
-use Rattle.std.proofs.Common.{◌≡◌, ℕ, zero, suc, ◌<◌, Bool, true, false, ◌||◌, if◌then◌else◌, List, [], ◌∷◌, length, map, fold, get_or, Contains, ◌⊎◌, inl, inr, refl, sym, ap, ◌∙◌, subst, true≢false, arith}
+use Rattle.std.proofs.Common.{◌≡◌, ◌≢◌, ℕ, zero, suc, ◌<◌, Bool, true, false, ◌||◌, if◌then◌else◌, List, [], ◌∷◌, length, map, fold, get_or, Contains, ◌⊎◌, inl, inr, refl, sym, ap, ◌∙◌, subst, true≢false, arith}
 use Rattle.std.specs.Prelude.{Ok, Option, Some, None, option_map}
 use Rattle.std.specs.Str.{bytes_eq}
 use Rattle.std.specs.List.{All, flat_map}
 use Rattle.std.proofs.lemmas.List.{get_or-map}
-use Rattle.std.proofs.lemmas.List.Elements.{All-weaker, Contains-append_right}
+use Rattle.std.proofs.lemmas.List.Elements.{All-nil, All-cons, All-weaker, Contains-append_right}
 use Rattle.std.proofs.lemmas.List.Folds.{list_any-append}
 use Rattle.std.proofs.lemmas.Slice.Eq.{bytes_eq-Decides}
 use Rattle.yaml_subset.specs.Keys.{is_among}
@@ -17,7 +17,7 @@ use Rattle.plan_tables.specs.declared.entries.EventId.{EventId}
 use Rattle.plan_tables.specs.declared.entries.ModeEvent.{ModeEvent}
 use Rattle.plan_tables.specs.declared.entries.ModeEvent.TheVariants.{WillStart, Starting, Started, Stopping, Stopped}
 use Rattle.plan_tables.specs.declared.entries.Action.{Action}
-use Rattle.plan_tables.specs.declared.entries.Action.TheVariants.{Post, Pulse, Enable, Disable}
+use Rattle.plan_tables.specs.declared.entries.Action.TheVariants.{Post, Pulse, Enable, Disable, Change}
 use Rattle.plan_tables.specs.declared.entries.CoilId.{CoilId}
 use Rattle.plan_tables.specs.declared.entries.CoilLimits.{CoilLimits}
 use Rattle.plan_tables.specs.declared.entries.Owner.{Owner}
@@ -35,14 +35,15 @@ use Rattle.plan_contributions.specs.Contributions.{mode_event_name, contribution
 use Rattle.plan_contributions.proofs.CoilsGiven.{coils_given}
 use Rattle.plan_contributions.proofs.RowEffects.{all_do}
 use Rattle.mpf_plan.specs.PlanOf.{plan_at}
-use Rattle.mpf_plan.specs.ByName.{IsDone, effect_of, latest_limits, limits_called}
-use Rattle.mpf_plan.proofs.DoneNames.{done-named}
+use Rattle.mpf_plan.specs.ByName.{IsByVariable, IsDone, effect_of, latest_limits, limits_called}
+use Rattle.mpf_plan.proofs.DoneNames.{by_variable, done-named}
 use Rattle.mpf_plan.proofs.ModeEventNames.{free-by_name}
 use Rattle.mpf_plan.proofs.ValidPlan.{HasEntries-plan_at, own-plan_at, listeners-plan_at, limits-plan_at}
 use Rattle.written_machine.specs.Allowed.{IsAllowed, ActionsAreAllowed}
 use Rattle.written_machine.specs.Devices.{ActsAreOwn, IsOwnAct}
-use Rattle.written_machine.specs.FreePosts.{IsFree, IsFreeAction, IsFreeSwitch, PostsAreFree}
-use Rattle.row_faults.specs.Reserved.{mode_events, events_of_modes, mode_names, is_reserved, game_events}
+use Rattle.written_machine.specs.FreePosts.{IsFree, IsFreeWork, IsFreeAction, IsFreeSwitch, PostsAreFree}
+use Rattle.row_faults.specs.Reserved.{mode_events, events_of_modes, mode_names, is_reserved}
+use Rattle.machine_definitions.specs.GameEvents.{reserved_game_events}
 use Rattle.row_faults.specs.RowFaults.{row_faults}
 use Rattle.row_faults.specs.Sound.{IsSound}
 use Rattle.row_faults.proofs.Sound.{no_faults_sound}
@@ -98,6 +99,14 @@ modes-among (n ∷ names) name which (suc k, l, is) =
     list_any-append (λ k. bytes_eq k (mode_event_name which name)) (mode_events n) (events_of_modes names)
     ∙ among-later (is_among (mode_events n) (mode_event_name which name)) (is_among (events_of_modes names) (mode_event_name which name)) (modes-among names name which (k, omega arith, is))
 
+first-false : (a b : Bool) → (a || b) ≡ false → a ≡ false
+first-false true b h = absurd (true≢false h)
+first-false false b h = refl
+
+second-false : (a b : Bool) → (a || b) ≡ false → b ≡ false
+second-false true b h = absurd (true≢false h)
+second-false false b h = h
+
 -- ---- the plan
 
 -- rows without faults are sound
@@ -112,26 +121,40 @@ module _ (rows : Rows) (none : faults_of_rows rows ≡ []) (plan : PlanView) (is
 
   -- ---- what is posted
 
-  -- an event whose name is not reserved is none of a mode's
+  -- what is not among names is none of them
+  apart-all : (names : List (List ℕ)) (n : List ℕ) → is_among names n ≡ false → All (λ name. n ≢ name) names
+  apart-all [] n h = All-nil (λ name. n ≢ name)
+  apart-all (x ∷ names) n h =
+      All-cons (λ name. n ≢ name) x names
+      (λ same. true≢false (sym (among-first (bytes_eq x n) (is_among names n) ((bytes_eq-Decides x n).1 (sym same))) ∙ h))
+      (apart-all names n (second-false (bytes_eq x n) (is_among names n) h))
+
+  -- an event whose name is not reserved is none of a mode's, and of the game's at most that of the start button
   event-free : (e : EventId) → IsUnreserved rows (name_of_event plan e) → IsFree plan e
   event-free e h = free-by_name rows plan is e (λ name there which same.
       let names = map (λ (w : Written). w.text) (listed_modes rows.machine) in
       let more = map (λ (m : ModeRows). m.name) rows.modes in
       let among = modes-among (mode_names rows) name which (Contains-append_right names more name there) in
-      true≢false (sym (among-later (is_among game_events (mode_event_name which name)) (is_among (events_of_modes (mode_names rows)) (mode_event_name which name)) among) ∙ ap (is_reserved rows) (sym same) ∙ h))
+      true≢false (sym (among-later (is_among reserved_game_events (mode_event_name which name)) (is_among (events_of_modes (mode_names rows)) (mode_event_name which name)) among) ∙ ap (is_reserved rows) (sym same) ∙ h))
+      (apart-all reserved_game_events (name_of_event plan e) (first-false (is_among reserved_game_events (name_of_event plan e)) (is_among (events_of_modes (mode_names rows)) (name_of_event plan e)) h))
+      IsFreeWork tt refl
 
-  action-free : (a : Action) → IsFine rows (effect_of plan a) → IsFreeAction plan a
-  action-free (Post e) h = event-free e h
-  action-free (Pulse coil ms power) h = tt
-  action-free (Enable coil power) h = tt
-  action-free (Disable coil) h = tt
+  action-free : (a : Action) → IsByVariable plan a → IsFine rows (effect_of plan a) → IsFreeAction plan a
+  action-free (Post e) by h = event-free e h
+  action-free (Pulse coil ms power) by h = tt
+  action-free (Enable coil power) by h = tt
+  action-free (Disable coil) by h = tt
+  action-free (Change v action n e) by h = event-free e (subst (IsUnreserved rows) (sym by) h)
 
   abbrev IsNamedFree : EventId → Type 0
   IsNamedFree e = IsUnreserved rows (name_of_event plan e)
 
   pub plan_free : PostsAreFree plan
   plan_free = record {
-    lists = All-weaker (All (λ a. IsFine rows (effect_of plan a))) (All (IsFreeAction plan)) (λ l h. All-weaker (λ a. IsFine rows (effect_of plan a)) (IsFreeAction plan) action-free l h) plan.lists done.lists;
+    lists =
+        let by = by_variable rows plan is in
+        let fine = done.lists in
+        λ i d inside j a within. action-free (get_or (get_or plan.lists i d) j a) (by i d inside j a within) (fine i d inside j a within);
     switches = All-weaker (λ s. All IsNamedFree s.active × All IsNamedFree s.inactive) (IsFreeSwitch plan)
         (λ s h. (All-weaker IsNamedFree (IsFree plan) event-free s.active h.0, All-weaker IsNamedFree (IsFree plan) event-free s.inactive h.1)) plan.switches done.switches;
   }
@@ -170,6 +193,7 @@ module _ (rows : Rows) (none : faults_of_rows rows ≡ []) (plan : PlanView) (is
       let hold = h.such in
       (ap (λ (l : CoilLimits). l.may_hold) same ∙ hold.allowed, omega (arith, hold.greatest, ap (λ (l : CoilLimits). l.max_hold_power) same))
   action-allowed (Disable c) within h = tt
+  action-allowed (Change v action n e) within h = tt
 
   pub plan_allowed : ActionsAreAllowed plan
   plan_allowed =

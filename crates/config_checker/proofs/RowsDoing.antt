@@ -1,11 +1,14 @@
--- What sound rows do: they post nothing reserved, each deed is within the limits of its coil, and each switch to which a
+-- What sound rows do: they post nothing reserved, by a variable neither, each deed is within the limits of its coil, and each switch to which a
 -- device listens is defined.
-use Rattle.std.proofs.Common.{◌≡◌, ℕ, Bool, true, false, if◌then◌else◌, List, [], ◌∷◌, ◌++◌, map, get_or, codes, refl, sym, true≢false}
+use Rattle.std.proofs.Common.{◌≡◌, ℕ, Bool, true, false, ◌||◌, if◌then◌else◌, List, [], ◌∷◌, ◌++◌, map, get_or, codes, refl, sym, true≢false}
 use Rattle.std.specs.Prelude.{Option, Some, None}
 use Rattle.std.specs.Str.{bytes_eq}
 use Rattle.std.specs.List.{All, flat_map}
 use Rattle.std.proofs.lemmas.List.Elements.{All-nil, All-cons, All-head, All-tail, All-append, All-map, All-weaker, All-from_get_or}
-use Rattle.mpf_sections.specs.Rows.{Written, Entry, Switch, CoilPlayer, Block, Flipper, Autofire, SectionRows}
+use Rattle.mpf_sections.specs.Rows.{Written, Entry, Switch, CoilPlayer, VariablePlayer, Block, Flipper, Autofire, SectionRows}
+use Rattle.mpf_sections.specs.TypedGame.{variable_players_in}
+use Rattle.machine_definitions.specs.Players.{player_event, is_set_by_game}
+use Rattle.plan_contributions.specs.VariableEntries.{item_change}
 use Rattle.mpf_config.specs.Rows.{Rows}
 use Rattle.mpf_sections.specs.Typed.{counters_name, accruals_name, sequences_name, timers_name, counter_of, step_block_of, timer_of, entries_in, switches_in, event_players_in, counters_in, accruals_in, sequences_in}
 use Rattle.mpf_sections.specs.TypedCoils.{coil_players_in, flippers_in, autofires_in}
@@ -13,12 +16,12 @@ use Rattle.plan_tables.specs.declared.devices.StepSettings.{StepSettings}
 use Rattle.plan_tables.specs.declared.devices.Settings.{Settings}
 use Rattle.plan_tables.specs.declared.devices.Settings.TheVariants as kinds
 use Rattle.machine_definitions.specs.Definitions.{has_switch}
-use Rattle.plan_contributions.specs.DeviceEntries.{Effect, posts, works, Device, counter_device, step_device, step_settings, timer_device, device_of, block_event, or_own, block_lists, timer_event, timer_endings, timer_lists}
+use Rattle.plan_contributions.specs.DeviceEntries.{Effect, posts, works, changes, Device, counter_device, step_device, step_settings, timer_device, device_of, block_event, or_own, block_lists, timer_event, timer_endings, timer_lists}
 use Rattle.plan_contributions.specs.CoilEntries.{item_effect, flipper_device, autofire_device}
 use Rattle.plan_contributions.specs.Contributions.{texts, tag_event}
-use Rattle.plan_contributions.specs.Doing.{IsSwitchDoing, IsPlayerDoing, IsDeviceDoing, IsEntryDoing, IsCoilPlayerDoing, IsDoing, IsMachineDoing, AreDoing}
+use Rattle.plan_contributions.specs.Doing.{IsSwitchDoing, IsPlayerDoing, IsDeviceDoing, IsEntryDoing, IsCoilPlayerDoing, IsVariablePlayerDoing, IsDoing, IsMachineDoing, AreDoing}
 use Rattle.row_faults.specs.Reserved.{is_reserved, switch_posts, player_posts, block_posts, counter_posts, step_posts, posts_in, posts_of}
-use Rattle.row_faults.specs.Sound.{IsItemSound, IsCoilPlayerSound, IsFlipperSound, IsAutofireSound, IsSectionSound, IsSound}
+use Rattle.row_faults.specs.Sound.{ChangesNothingBarred, IsChangeFree, IsItemSound, IsCoilPlayerSound, IsFlipperSound, IsAutofireSound, IsSectionSound, IsSound}
 use Rattle.config_checker.proofs.FreeNames.{active-free, inactive-free, tag-free, block-free, timer-free}
 use Rattle.config_checker.proofs.CoilDeeds.{IsDeedSound, item_deed, flipper_doing, autofire_doing}
 
@@ -45,10 +48,11 @@ module _ (rows : Rows) where
   abbrev pub IsUnreserved : List ℕ → Type 0
   IsUnreserved name = is_reserved rows name ≡ false
 
-  -- an effect posts nothing reserved, and its deed is within the limits of its coil
+  -- an effect posts nothing reserved, nor does the change of a variable, and its deed is within the limits of its coil
   abbrev pub IsFine : Effect → Type 0
   IsFine (posts n) = IsUnreserved n
   IsFine (works n deed) = IsDeedSound rows.machine n deed
+  IsFine (changes v action n) = IsUnreserved (player_event v)
 
   -- a switch to which a device listens is defined
   abbrev pub IsThere : List ℕ → Type 0
@@ -78,6 +82,17 @@ module _ (rows : Rows) where
 
   coil_player-doing : (p : CoilPlayer) → IsCoilPlayerSound rows.machine p → IsCoilPlayerDoing IsFine IsUnreserved IsThere rows.machine p
   coil_player-doing p h = All-weaker (IsItemSound rows.machine) (λ item. IsFine (item_effect rows.machine item)) (λ item sound. item_deed rows.machine item sound) p.items h
+
+  -- ---- variables
+
+  second-false : (a b : Bool) → (a || b) ≡ false → b ≡ false
+  second-false true b h = absurd (true≢false h)
+  second-false false b h = h
+
+  variable_player-doing : (p : VariablePlayer) → All (IsChangeFree rows) p.items → IsVariablePlayerDoing IsFine IsUnreserved IsThere p
+  variable_player-doing p h =
+      All-weaker (IsChangeFree rows) (λ item. IsFine (item_change item))
+      (λ item free. second-false (is_set_by_game item.variable.text) (is_reserved rows (player_event item.variable.text)) free) p.items h
 
   -- ---- devices
 
@@ -155,7 +170,7 @@ module _ (rows : Rows) where
 
   -- ---- sections
 
-  module _ (s : SectionRows) (free : All IsFreePost (posts_in s)) (sound : IsSectionSound rows.machine s) where
+  module _ (s : SectionRows) (free : All IsFreePost (posts_in s)) (changing : ChangesNothingBarred rows s) (sound : IsSectionSound rows.machine s) where
     section-parts : All IsFreePost (flat_map switch_posts (switches_in s)) × All IsFreePost (flat_map player_posts (event_players_in s)) × All IsFreePost (flat_map counter_posts (counters_in s))
         × All IsFreePost (flat_map step_posts (accruals_in s)) × All IsFreePost (flat_map step_posts (sequences_in s))
     section-parts =
@@ -173,6 +188,7 @@ module _ (rows : Rows) where
     section-doing = record {
       players = All-weaker (λ x. All IsFreePost (player_posts x)) (IsPlayerDoing IsFine IsUnreserved IsThere) (λ p k. written-free p.posts k) (event_players_in s)
           (all-each IsFreePost player_posts (event_players_in s) section-parts.1);
+      variable_players = All-weaker (λ p. All (IsChangeFree rows) p.items) (IsVariablePlayerDoing IsFine IsUnreserved IsThere) variable_player-doing (variable_players_in s) changing;
       coil_players = All-weaker (IsCoilPlayerSound rows.machine) (IsCoilPlayerDoing IsFine IsUnreserved IsThere rows.machine) coil_player-doing (coil_players_in s) sound.coil_players;
       devices = entries-doing s section-parts.2 section-parts.3 section-parts.4;
     }
@@ -186,14 +202,14 @@ module _ (rows : Rows) where
     }
 
   -- each section of a list
-  each-doing : (R : SectionRows → Type 0) → ((s : SectionRows) → All IsFreePost (posts_in s) → IsSectionSound rows.machine s → R s)
-      → (ss : List SectionRows) → All IsFreePost (posts_of ss) → All (IsSectionSound rows.machine) ss → All R ss
-  each-doing R make ss free sound =
+  each-doing : (R : SectionRows → Type 0) → ((s : SectionRows) → All IsFreePost (posts_in s) → ChangesNothingBarred rows s → IsSectionSound rows.machine s → R s)
+      → (ss : List SectionRows) → All IsFreePost (posts_of ss) → All (ChangesNothingBarred rows) ss → All (IsSectionSound rows.machine) ss → All R ss
+  each-doing R make ss free changing sound =
       let all = all-each IsFreePost posts_in ss free in
-      λ i d within. make (get_or ss i d) (all i d within) (sound i d within)
+      λ i d within. make (get_or ss i d) (all i d within) (changing i d within) (sound i d within)
 
   pub rows_doing : IsSound rows → AreDoing IsFine IsUnreserved IsThere rows
   rows_doing h = record {
-    machine = each-doing (IsMachineDoing IsFine IsUnreserved IsThere rows.machine) machine-doing rows.machine h.posts.machine h.machine;
-    modes = λ i d within. each-doing (IsDoing IsFine IsUnreserved IsThere rows.machine) section-doing (get_or rows.modes i d).sections (h.posts.modes i d within) (h.modes i d within);
+    machine = each-doing (IsMachineDoing IsFine IsUnreserved IsThere rows.machine) machine-doing rows.machine h.posts.machine h.changes h.machine;
+    modes = λ i d within. each-doing (IsDoing IsFine IsUnreserved IsThere rows.machine) section-doing (get_or rows.modes i d).sections (h.posts.modes i d within) (h.mode_changes i d within) (h.modes i d within);
   }

@@ -1,5 +1,5 @@
 -- Each effect list that a device answers is one of its row, whatever its state is.
-use Rattle.std.proofs.Common.{◌≡◌, ℕ, suc, nat_lt, ◌==◌, ◌<◌, ◌&&◌, Bool, true, false, Option, None, Some, List, [], ◌∷◌, if◌then◌else◌, slice_get, slice_set, pos, ◌+ℤ◌, ◌-ℤ◌, not, arith}
+use Rattle.std.proofs.Common.{ℕ, suc, nat_lt, ◌==◌, ◌<◌, ◌&&◌, Bool, true, false, Option, None, Some, List, [], ◌∷◌, if◌then◌else◌, slice_get, slice_set, pos, ◌+ℤ◌, ◌-ℤ◌, not, arith}
 use Rattle.std.specs.List.{All}
 use Rattle.std.proofs.lemmas.List.Elements.{All-nil, All-cons}
 use Rattle.plan_tables.specs.Devices.{list_count}

@@ -1,2 +1,4 @@
 pub mod Definitions
+pub mod GameEvents
+pub mod Players
 pub mod Found

@@ -5,11 +5,12 @@ ghost use Rattle.std.specs.List.{list_any};
 ghost use Rattle.std.specs.Str.{bytes_eq};
 ghost use Rattle.mpf_sections.specs.Typed.{switch_of};
 ghost use Rattle.mpf_sections.specs.TypedCoils.{coil_of, flipper_of, autofire_of};
+ghost use Rattle.mpf_sections.specs.TypedGame.{min_balls_of};
 ghost use Rattle.mpf_sections.specs.View.{entry_view, section_view, coil_view};
 ghost use Rattle.machine_definitions.specs.Definitions.{coil_called, latest_coil, has_switch, makes_quick};
 ghost use Rattle.machine_definitions.specs.Found.{found_coil, is_found, HasCoils, HasSwitches, HasQuick};
 
-use mpf_config::{Coil, Entry, Section, as_autofire, as_coil, as_flipper, as_switch};
+use mpf_config::{Coil, Entry, Section, as_autofire, as_coil, as_flipper, as_switch, min_balls};
 use std::alloc::{AllocError, Global};
 use std::collections::{BTreeMap, BTreeSet};
 use std::marker::Model;
@@ -69,6 +70,13 @@ impl<'a> Definitions<'a> {
         ensures { result ≡ has_switch self.now name.now }
     {
         self.switches.contains(name)
+    }
+
+    /// How many balls have to be at home for a game to begin: at most 99.
+    pub fn min_balls(&self) -> u32
+        ensures { result ≡ min_balls_of self.now }
+    {
+        min_balls(self.sections)
     }
 
     /// Whether a flipper or an autofire coil uses the switch of this name. Then it is read at once

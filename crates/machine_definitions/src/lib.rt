@@ -4,5 +4,7 @@
 #![tactic(auto)]
 
 pub mod definitions;
+pub mod game_events;
 
 pub use definitions::Definitions;
+pub use game_events::{GAME_EVENT_NAMES, is_reserved_game_event};

@@ -107,8 +107,8 @@ s_left None Some(SwitchId(0)) SwitchKind { contact: NormallyOpen, quick: false }
 s_right None Some(SwitchId(1)) SwitchKind { contact: NormallyOpen, quick: false } [EventId(5)] [EventId(6)]; \
 [Post(EventId(1)), Post(EventId(2)), Post(EventId(1))]; \
 [Post(EventId(3))]; \
-Binding { event: EventId(0), owner: Machine, priority: 0, target: Run(ListId(0)) }; \
-Binding { event: EventId(2), owner: Machine, priority: 0, target: Run(ListId(1)) }; \
+Binding { event: EventId(0), owner: Machine, priority: 0, condition: None, target: Run(ListId(0)) }; \
+Binding { event: EventId(2), owner: Machine, priority: 0, condition: None, target: Run(ListId(1)) }; \
 2 bindings
 
 event_player:
@@ -121,8 +121,8 @@ c Some(EventId(1)) None []; \
 b Some(EventId(2)) None [BindingId(1)]; \
 [Post(EventId(1)), Post(EventId(2))]; \
 []; \
-Binding { event: EventId(0), owner: Machine, priority: 0, target: Run(ListId(0)) }; \
-Binding { event: EventId(2), owner: Machine, priority: 0, target: Run(ListId(1)) }; \
+Binding { event: EventId(0), owner: Machine, priority: 0, condition: None, target: Run(ListId(0)) }; \
+Binding { event: EventId(2), owner: Machine, priority: 0, condition: None, target: Run(ListId(1)) }; \
 2 bindings
 
 switches:

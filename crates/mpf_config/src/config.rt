@@ -8,7 +8,9 @@ ghost use Rattle.mpf_sections.specs.SectionView.{section_view};
 ghost use Rattle.mpf_config.specs.Short.{IsShortMode};
 ghost use Rattle.mpf_config.specs.ModeView.{mode_view};
 
-pub use mpf_sections::{CoilAction, Contact, Content, ControlAction, Debounce, Direction, Section};
+pub use mpf_sections::{
+    CoilAction, Contact, Content, ControlAction, Debounce, Direction, Section, VariableAction,
+};
 
 /// The machine text: its sections as written; in the rows of a bundle no name occurs twice.
 #[derive(Drop)]

@@ -19,20 +19,22 @@ mod version;
 pub use bundle::{mode_names, read_bundle};
 pub use config::{
     CoilAction, Config, Contact, Content, ControlAction, Debounce, Direction, MachineText,
-    ModeText, Note, NoteKind, Section,
+    ModeText, Note, NoteKind, Section, VariableAction,
 };
 pub use escape::{escaped_makes_no_line, write_escaped};
 pub use fault::{ConfigFault, Fault, FaultKind, write_fault};
 pub use mpf_sections::tables::{
     ACCRUALS_NAME, AUTOFIRE_COILS_NAME, COIL_PLAYER_NAME, COILS_NAME, COUNTERS_NAME,
-    EVENT_PLAYER_NAME, FLIPPERS_NAME, MODE_NAME, MODES_NAME, SEQUENCES_NAME, SWITCHES_NAME,
-    TIMERS_NAME,
+    EVENT_PLAYER_NAME, FLIPPERS_NAME, GAME_NAME, MACHINE_SECTION_NAME, MODE_NAME, MODES_NAME,
+    SEQUENCES_NAME, SWITCHES_NAME, TIMERS_NAME, VARIABLE_PLAYER_NAME,
 };
 pub use mpf_sections::{
     Autofire, Block, Coil, CoilItem, CoilPlayer, Control, Counter, EventPlayer, Flipper,
-    ModeSettings, NameAt, StepBlock, Switch, Timer, as_autofire, as_coil, as_coil_item,
-    as_coil_player, as_control, as_counter, as_event_player, as_flipper, as_step_block, as_switch,
-    as_timer, blocks, coil_rules, coils, listed_modes, mode_settings, timers, typed,
+    GameSettings, HandledAt, ModeSettings, NameAt, StepBlock, Switch, Timer, VariableItem,
+    VariablePlayer, as_autofire, as_coil, as_coil_item, as_coil_player, as_control, as_counter,
+    as_event_player, as_flipper, as_game, as_handled, as_step_block, as_switch, as_timer,
+    as_variable_item, as_variable_player, blocks, coil_rules, coils, game, listed_modes, min_balls,
+    mode_settings, timers, typed,
 };
 pub use notes::write_note;
 pub use section_tables::rows::{Entry, Fields, Guard, Handler, Keyed, Name, Plain, Player, Value};

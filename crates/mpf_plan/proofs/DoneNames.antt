@@ -7,27 +7,34 @@ use Rattle.std.proofs.lemmas.List.Elements.{All-weaker}
 use Rattle.mpf_config.specs.Rows.{Rows}
 use Rattle.plan_tables.specs.declared.entries.EventId.{EventId}
 use Rattle.plan_tables.specs.declared.entries.CoilId.{CoilId}
+use Rattle.plan_tables.specs.declared.entries.VariableId.{VariableId}
 use Rattle.plan_tables.specs.declared.entries.Action.{Action}
-use Rattle.plan_tables.specs.declared.entries.Action.TheVariants.{Post, Pulse, Enable, Disable}
-use Rattle.plan_tables.specs.declared.table.Table.TheVariants.{Events, Coils}
-use Rattle.plan_tables.specs.PlanView.{PlanCoil, no_coil, PlanView, coil_at, name_of_event}
-use Rattle.plan_contributions.specs.DeviceEntries.{pulse, enable, disable, Effect, works, posts}
+use Rattle.plan_tables.specs.declared.entries.Action.TheVariants.{Post, Pulse, Enable, Disable, Change}
+use Rattle.plan_tables.specs.declared.table.Table.TheVariants.{Events, Coils, Variables}
+use Rattle.plan_tables.specs.PlanView.{PlanCoil, no_coil, PlanView, coil_at, name_of_event, name_of_variable}
+use Rattle.plan_contributions.specs.DeviceEntries.{pulse, enable, disable, Effect, works, posts, changes}
 use Rattle.plan_contributions.specs.Contributions.{Contribution, active, inactive, does, does_in, contributions_of}
 use Rattle.plan_contributions.specs.Doing.{Does}
+use Rattle.plan_contributions.specs.UsedNames.{used_by}
+use Rattle.machine_definitions.specs.Players.{player_event}
 use Rattle.mpf_plan.specs.Uses.{names_from}
-use Rattle.mpf_plan.specs.PlanOf.{plan_from, plan_of, plan_at}
-use Rattle.mpf_plan.specs.ByName.{effect_of, IsDone}
-use Rattle.mpf_plan.proofs.Among.{IsKnown, all_known}
+use Rattle.mpf_plan.specs.PlanOf.{action_of, plan_from, plan_of, plan_at}
+use Rattle.mpf_plan.specs.ByName.{effect_of, IsDone, IsByVariable, AreByVariable}
+use Rattle.mpf_plan.proofs.Among.{IsAmong, IsKnown, all_known}
 use Rattle.mpf_plan.proofs.Drafted.{names-from}
 use Rattle.mpf_plan.proofs.Judged.{plan_at-Ok}
 use Rattle.mpf_plan.proofs.Numbers.{at_number, named_effect, effect_named}
 use Rattle.mpf_plan.proofs.Done.{IsPosting, IsMet, meet_drafted}
+use Rattle.mpf_plan.proofs.Ready.{IsReadyEffect, IsReady, IsNumberedIn, AreNumbered, rows_are_ready}
 
 -- ---- names in the plan of contributions
 
 module _ (cs : List Contribution) where
   event_name : (e : EventId) → slice_index_or (names_from cs Events) e.0 [] ≡ name_of_event (plan_from cs) e
   event_name e = ap (λ es. slice_index_or es e.0 []) (sym (names-from cs Events))
+
+  variable_name : (v : VariableId) → slice_index_or (names_from cs Variables) v.0 [] ≡ name_of_variable (plan_from cs) v
+  variable_name v = ap (λ vs. slice_index_or vs v.0 []) (sym (names-from cs Variables))
 
   pub coil_name : (c : CoilId) → slice_index_or (names_from cs Coils) c.0 [] ≡ (coil_at (plan_from cs) c).name
   coil_name c = ap (λ ns. slice_index_or ns c.0 []) (sym (names-from cs Coils)) ∙ by (cases_lt c.0 (length coils))
@@ -46,6 +53,7 @@ module _ (cs : List Contribution) where
   named_is (Pulse c ms power) = ap (λ n. works n (pulse ms power)) (coil_name c)
   named_is (Enable c power) = ap (λ n. works n (enable power)) (coil_name c)
   named_is (Disable c) = ap (λ n. works n disable) (coil_name c)
+  named_is (Change v action n e) = ap (λ m. changes m action n) (variable_name v)
 
 -- ---- what is done
 
@@ -83,3 +91,41 @@ module _ (P : Effect → Type 0) (S L : List ℕ → Type 0) where
   -- P holds of all that the plan does, by names
   pub done-named : (rows : Rows) (plan : PlanView) → plan_at rows ≡ Ok plan → All (Does P S L) (contributions_of rows) → IsDone P S plan
   done-named rows plan is h = subst (IsDone P S) (sym (plan_at-Ok rows plan is).0) (done_of_plan rows h)
+
+-- ---- changes of variables
+
+module _ (cs : List Contribution) where
+  abbrev AtVariable : Action → Type 0
+  AtVariable (Change v action n e) = slice_index_or (names_from cs Events) e.0 [] ≡ player_event (slice_index_or (names_from cs Variables) v.0 [])
+  AtVariable _ = Unit {0}
+
+  effect_by_variable : (e : Effect) → IsAmong (names_from cs) (used_by e) → IsReadyEffect (IsNumberedIn (names_from cs Events)) e → AtVariable (action_of (names_from cs) e)
+  effect_by_variable (posts n) known ready = tt
+  effect_by_variable (works n (pulse ms power)) known ready = tt
+  effect_by_variable (works n (enable power)) known ready = tt
+  effect_by_variable (works n disable) known ready = tt
+  effect_by_variable (changes v action n) known ready = at_number (names_from cs Events) (player_event v) ready ∙ ap player_event (sym (at_number (names_from cs Variables) v known))
+
+  change_is_met : (c : Contribution) → IsKnown (names_from cs) c → IsReady (IsNumberedIn (names_from cs Events)) c → IsMet (λ e. Unit {0}) AtVariable (names_from cs) c
+  change_is_met (does e) known ready = effect_by_variable e known ready
+  change_is_met (does_in k e) known ready = effect_by_variable e known ready
+  change_is_met (active n) known ready = tt
+  change_is_met (inactive n) known ready = tt
+  change_is_met _ known ready = tt
+
+  action_by_variable : (a : Action) → AtVariable a → IsByVariable (plan_from cs) a
+  action_by_variable (Change v action n e) is = sym (event_name cs e) ∙ is ∙ ap player_event (variable_name cs v)
+  action_by_variable _ is = tt
+
+  by_variable_from : AreNumbered cs → AreByVariable (plan_from cs)
+  by_variable_from ready =
+      let meet = meet_drafted (λ e. Unit {0}) AtVariable (names_from cs) cs (λ i d within. change_is_met (get_or cs i d) (all_known cs i d within) (ready i d within)) in
+      All-weaker (All AtVariable) (All (IsByVariable (plan_from cs))) (All-weaker AtVariable (IsByVariable (plan_from cs)) action_by_variable) (plan_from cs).lists meet.lists
+
+by_variable_of_plan : (rows : Rows) → AreByVariable (plan_of rows)
+unfolding plan_of
+by_variable_of_plan rows = by_variable_from (contributions_of rows) (rows_are_ready rows)
+
+-- the event of each change in the plan is that of its variable
+pub by_variable : (rows : Rows) (plan : PlanView) → plan_at rows ≡ Ok plan → AreByVariable plan
+by_variable rows plan is = subst AreByVariable (sym (plan_at-Ok rows plan is).0) (by_variable_of_plan rows)

@@ -1,5 +1,5 @@
 -- What contributions make: as many bindings and effect lists as they give, and the names that were there.
-use Rattle.std.proofs.Common.{◌≡◌, ℕ, ◌+◌, ◌-◌, ◌*◌, ◌<◌, ◌≤◌, zero, suc, take, Bool, true, false, cond, List, [], ◌∷◌, ◌++◌, length, map, fold, get_or, replicate, slice_index_or, slice_set, refl, sym, ◌∙◌, ap, subst, arith}
+use Rattle.std.proofs.Common.{◌≡◌, ℕ, ◌+◌, ◌-◌, ◌*◌, ◌<◌, ◌≤◌, zero, suc, take, Bool, true, false, cond, List, [], ◌∷◌, ◌++◌, length, map, fold, get_or, replicate, slice_index_or, slice_set, Option, Some, refl, sym, ◌∙◌, ap, subst, arith}
 use Rattle.std.specs.List.{sum_by}
 use Rattle.std.proofs.Math.Seq.{map-set_same}
 use Rattle.std.proofs.lemmas.List.{length_push, length-set, length-map, length-append, length-replicate}
@@ -13,6 +13,8 @@ use Rattle.plan_tables.specs.declared.names.NameSets.{NameSets}
 use Rattle.mpf_plan.specs.declared.draft.Draft.{Draft}
 use Rattle.plan_tables.specs.declared.entries.Action.{Action}
 use Rattle.plan_tables.specs.declared.entries.Binding.{Binding}
+use Rattle.plan_tables.specs.declared.entries.Condition.{Condition}
+use Rattle.plan_tables.specs.declared.entries.GameRules.{GameRules}
 use Rattle.plan_tables.specs.declared.entries.ListId.{ListId}
 use Rattle.plan_tables.specs.declared.entries.Listener.{Listener}
 use Rattle.plan_tables.specs.declared.entries.CoilLimits.{CoilLimits}
@@ -22,13 +24,13 @@ use Rattle.plan_tables.specs.declared.devices.Settings.TheVariants.{Counter, Acc
 use Rattle.plan_contributions.specs.declared.contribution.Place.{Place}
 use Rattle.plan_tables.specs.Devices.{list_count}
 use Rattle.plan_tables.specs.declared.table.Table.{Table}
-use Rattle.plan_tables.specs.declared.table.Table.TheVariants.{Events, Bindings, Switches, Coils, Rows}
+use Rattle.plan_tables.specs.declared.table.Table.TheVariants.{Events, Bindings, Switches, Coils, Variables, Rows}
 use Rattle.plan_tables.specs.declared.entries.ModeEvent.TheVariants.{WillStart}
-use Rattle.plan_tables.specs.PlanView.{PlanSwitch, no_switch, PlanCoil, no_coil, PlanMode, no_mode, PlanView}
+use Rattle.plan_tables.specs.PlanView.{PlanSwitch, no_switch, PlanCoil, no_coil, PlanMode, no_mode, no_binding, PlanView}
 use Rattle.plan_tables.specs.Limits.{entry_count, entry_names}
-use Rattle.plan_contributions.specs.Contributions.{Contribution, gives, reads, active, inactive, mode, mode_event, mode_event_name, binds, does, device, does_in, listens, mentions, coil, row_contributions, given_by}
+use Rattle.plan_contributions.specs.Contributions.{Contribution, gives, reads, active, inactive, mode, mode_event, mode_event_name, binds, does, device, does_in, listens, mentions, coil, under, plays, row_contributions, given_by}
 use Rattle.mpf_plan.specs.Uses.{Names, names_from, number_among}
-use Rattle.mpf_plan.specs.PlanOf.{DraftView, event_of, action_of, last_switch, with_given, new_mode, with_event_in, next_binding, lists_for, with_binding, with_list_for, with_one_more, next_row, next_list, with_device, next_listener, heard_by, with_listener, first_of_last, limited_to, with_coil, with_contribution, named_switch, named_coil, blank, drafted, plan_from}
+use Rattle.mpf_plan.specs.PlanOf.{DraftView, event_of, action_of, last_switch, with_given, new_mode, with_event_in, next_binding, lists_for, with_binding, with_list_for, with_one_more, next_row, next_list, with_device, next_listener, heard_by, with_listener, first_of_last, limited_to, with_coil, condition_of, conditioned, last_conditioned, with_condition, rules_of, with_game, with_contribution, named_switch, named_coil, blank, drafted, plan_from}
 use Rattle.plan_tables.specs.Inside.{name_sets_view, mode_entry_view}
 use Rattle.mpf_plan.specs.Inside.{limited_coils, draft_view}
 use Rattle.plan_contributions.specs.View.{contribution_view, contributions_view, row_view, row_list_view}
@@ -152,6 +154,33 @@ binding_counts aim b d = record {
   defined = refl;
 }
 
+-- a condition of a binding
+condition_counts : (c : Condition) (d : DraftView) → Counts 0 0 d (with_condition c d)
+condition_counts c d = record {
+  bindings = let last = length d.plan.bindings - 1 in omega (arith, length-set d.plan.bindings last (conditioned c (get_or d.plan.bindings last no_binding)));
+  rows = omega arith;
+  row_lists = omega arith;
+  lists = omega arith;
+  names = unnamed d.plan d.plan.modes d.plan.lists (last_conditioned c d.plan.bindings) d.plan.rows d.plan.row_lists;
+  defined = refl;
+}
+
+-- the rules of the game have no names
+game_counts : (rules : GameRules) (d : DraftView) → Counts 0 0 d (with_game rules d)
+game_counts rules d = record {
+  bindings = omega arith;
+  rows = omega arith;
+  row_lists = omega arith;
+  lists = omega arith;
+  names = same d.plan (Some rules);
+  defined = refl;
+}
+  where
+    same : (plan : PlanView) (game : Option GameRules) (t : Table) → entry_names (record plan { game = game }) t ≡ entry_names plan t
+    same plan game Bindings = refl
+    same plan game Rows = refl
+    same plan game _ = refl
+
 -- an action more in a list
 action_counts : (n : ℕ) (a : Action) (d : DraftView) → Counts 0 0 d (record d { plan = record d.plan { lists = with_one_more n a d.plan.lists } })
 action_counts n a d = record {
@@ -207,6 +236,8 @@ module _ (names : Names) where
   counts_one d (listens k n) = listener_counts (number_among (names Switches) n) (next_listener d.plan k) d
   counts_one d (coil n limits) = coil_counts (number_among (names Coils) n) limits d
   counts_one d (mentions n) = modes_counts d.plan.modes d
+  counts_one d (under c) = condition_counts (condition_of names c) d
+  counts_one d (plays min_balls balls_per_game max_players) = game_counts (rules_of (names Events) min_balls balls_per_game max_players) d
 
   counts_then : (n m r q : ℕ) (a b c : DraftView) → Counts n r a b → Counts m q b c → Counts (n + m) (r + q) a c
   counts_then n m r q a b c first then_ = record {
@@ -291,6 +322,7 @@ module _ (cs : List Contribution) where
   count-from Switches = sym (length-map (plan_from cs).switches (λ (s : PlanSwitch). s.name)) ∙ ap length (names-from Switches)
   count-from Coils = sym (length-map (plan_from cs).coils (λ (c : PlanCoil). c.name)) ∙ ap length (names-from Coils)
   count-from Events = ap length (names-from Events)
+  count-from Variables = ap length (names-from Variables)
 
 -- ---- room for effect lists, rows and modes
 

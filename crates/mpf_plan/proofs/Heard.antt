@@ -1,21 +1,26 @@
 -- Only devices of the machine listen to switches, and of what is given by name alone there are only switches.
-use Rattle.std.proofs.Common.{◌≡◌, ℕ, suc, Bool, true, false, if◌then◌else◌, List, [], ◌∷◌, ◌++◌, map, refl, sym, subst, codes}
+use Rattle.std.proofs.Common.{◌≡◌, ℕ, suc, Bool, true, false, if◌then◌else◌, List, [], ◌∷◌, ◌++◌, map, refl, sym, subst}
 use Rattle.std.specs.Prelude.{Option, None, Some}
 use Rattle.std.specs.Str.{bytes_eq}
-use Rattle.std.specs.List.{All}
+use Rattle.std.specs.List.{All, flat_map}
 use Rattle.std.proofs.lemmas.List.Elements.{All-nil, All-cons, All-append, All-head, All-tail}
-use Rattle.mpf_sections.specs.Rows.{Entry, Player, Switch, EventPlayer, CoilPlayer, ModeSettings, SectionRows}
+use Rattle.mpf_sections.specs.Rows.{Entry, Player, Switch, VariableItem, VariablePlayer, GameSettings, ModeSettings, SectionRows}
 use Rattle.mpf_config.specs.Rows.{Rows}
 use Rattle.mpf_sections.specs.Typed.{switches_name, event_player_name, counters_name, accruals_name, sequences_name, timers_name, switch_of, event_player_of}
 use Rattle.mpf_sections.specs.TypedCoils.{coils_name, coil_player_name, coil_of, coil_player_of}
+use Rattle.mpf_sections.specs.TypedGame.{variable_player_name, game_name, variable_player_of, game_of, min_balls_of}
+use Rattle.machine_definitions.specs.GameEvents.{game_event_names}
+use Rattle.machine_definitions.specs.Players.{player_event}
+use Rattle.plan_contributions.specs.VariableEntries.{item_change}
 use Rattle.plan_contributions.specs.declared.contribution.Place.{Place}
 use Rattle.plan_contributions.specs.declared.contribution.Place.TheVariants.{Machine, Control, Mode}
 use Rattle.plan_contributions.specs.declared.contribution.Aim.TheVariants.{Run}
 use Rattle.plan_tables.specs.declared.table.Table.TheVariants.{Switches}
-use Rattle.plan_contributions.specs.DeviceEntries.{texts, Effect, posts, Device, device_of}
-use Rattle.plan_contributions.specs.CoilEntries.{item_effect}
-use Rattle.plan_contributions.specs.Contributions.{Contribution, gives, reads, active, inactive, mode, mode_event, binds, does, device, does_in, listens, mentions, coil, active_posts, inactive_posts, kind_of, switch_contributions, player_contributions, coil_contributions, coil_player_contributions, starter, stopper, stopper_where, controls, mode_contributions, act_binding, effects_from, listens_from, device_contributions, where_device, Row, entry, player, of_mode, rows_of, machine_device, machine_entry_contributions, entry_contributions, player_entry_contributions, row_contributions, given_by, contributions_of}
+use Rattle.plan_contributions.specs.DeviceEntries.{Device, device_of}
+use Rattle.plan_contributions.specs.Contributions.{Contribution, gives, reads, active, inactive, mode, mode_event, binds, does, device, does_in, listens, mentions, coil, under, plays, bound, switch_contributions, player_contributions, coil_contributions, coil_player_contributions, item_contributions, variable_player_contributions, game_contributions, controls, mode_contributions, act_binding, effects_from, listens_from, device_contributions, where_device, Row, entry, alone, player, of_mode, rows_of, machine_device, machine_entry_contributions, entry_contributions, alone_contributions, player_entry_contributions, row_contributions, given_by, contributions_of}
 use Rattle.plan_contributions.specs.Facts.{row_after}
+use Rattle.plan_contributions.proofs.RowFacts.{All-each, All-made}
+use Rattle.mpf_plan.proofs.Usual.{IsUsual, of_switch, of_bound, of_player, of_coil_player, of_device, of_controls}
 
 -- a switch that is given by its name alone, or a switch to which a row of the machine listens that came last
 abbrev pub IsHeard : Option Place → Contribution → Type 0
@@ -40,68 +45,67 @@ IsQuiet _ = Unit {0}
 abbrev pub AreQuiet : List Contribution → Type 0
 AreQuiet cs = All IsQuiet cs
 
-none_quiet : AreQuiet []
-none_quiet = All-nil IsQuiet
-
-quiet_then : (c : Contribution) (cs : List Contribution) → IsQuiet c → AreQuiet cs → AreQuiet (c ∷ cs)
-quiet_then c cs first rest = All-cons IsQuiet c cs first rest
-
-both : (cs ds : List Contribution) → AreQuiet cs → AreQuiet ds → AreQuiet (cs ++ ds)
-both cs ds a b = All-append IsQuiet cs ds a b
-
-each : {X : Type 0} (make : X → Contribution) → ((x : X) → IsQuiet (make x)) → (xs : List X) → AreQuiet (map make xs)
-each make one [] = none_quiet
-each make one (x ∷ xs) = quiet_then (make x) (map make xs) (one x) (each make one xs)
+-- so are the usual ones
+usual_quiet : IsUsual IsQuiet (λ e. Unit {0})
+usual_quiet = record {
+  given = λ n. refl;
+  read = λ kind. tt;
+  on = λ n. tt;
+  off = λ n. tt;
+  bindings = λ n place aim. tt;
+  conditions = λ c. tt;
+  mentioned = λ n. tt;
+  done = λ e h. tt;
+  done_in = λ k e h. tt;
+  posted = λ n. tt;
+  worked = λ n deed. tt;
+}
 
 pub quiet_switch : (machine : List SectionRows) (s : Switch) → AreQuiet (switch_contributions machine s)
-unfolding switch_contributions
-quiet_switch machine s =
-    let on = map active (active_posts s) in
-    let off = map inactive (inactive_posts s) in
-    quiet_then (gives Switches s.name.text) (reads (kind_of machine s) ∷ on ++ off) refl (quiet_then (reads (kind_of machine s)) (on ++ off) tt
-    (both on off (each active (λ n. tt) (active_posts s)) (each inactive (λ n. tt) (inactive_posts s))))
+quiet_switch machine s = of_switch IsQuiet (λ e. Unit {0}) usual_quiet machine s
 
-quiet_player : (place : Place) (p : EventPlayer) → AreQuiet (player_contributions place p)
-unfolding player_contributions
-quiet_player place p = quiet_then (binds p.event.text place Run) (map (λ e. does (posts e)) (texts p.posts)) tt (each (λ e. does (posts e)) (λ e. tt) (texts p.posts))
+quiet_item : (item : VariableItem) → AreQuiet (item_contributions item)
+quiet_item item =
+    let change = does (item_change item) in
+    All-cons IsQuiet (mentions (player_event item.variable.text)) (change ∷ []) tt (All-cons IsQuiet change [] tt (All-nil IsQuiet))
 
-quiet_coil_player : (machine : List SectionRows) (place : Place) (p : CoilPlayer) → AreQuiet (coil_player_contributions machine place p)
-unfolding coil_player_contributions
-quiet_coil_player machine place p =
-    quiet_then (binds p.event.text place Run) (map (λ item. does (item_effect machine item)) p.items) tt (each (λ item. does (item_effect machine item)) (λ item. tt) p.items)
+quiet_variable_player : (place : Place) (p : VariablePlayer) → AreQuiet (variable_player_contributions place p)
+unfolding variable_player_contributions
+quiet_variable_player place p =
+    All-append IsQuiet (bound p.event.event place Run) (flat_map item_contributions p.items) (of_bound IsQuiet (λ e. Unit {0}) usual_quiet p.event.event place Run) (All-each IsQuiet item_contributions quiet_item p.items)
 
 pub quiet_player_entry : (machine : List SectionRows) (place : Place) (section : List ℕ) (p : Player) → AreQuiet (player_entry_contributions machine place section p)
 unfolding player_entry_contributions
-quiet_player_entry machine place section p = by (bytes_eq section event_player_name) (bytes_eq section coil_player_name)
+quiet_player_entry machine place section p = by (bytes_eq section event_player_name) (bytes_eq section coil_player_name) (bytes_eq section variable_player_name)
   where
-    by : (b c : Bool) → AreQuiet (if b then player_contributions place (event_player_of p) else (if c then coil_player_contributions machine place (coil_player_of p) else []))
-    by true c = quiet_player place (event_player_of p)
-    by false true = quiet_coil_player machine place (coil_player_of p)
-    by false false = none_quiet
-
-quiet_effects : (k : ℕ) (lists : List (List Effect)) → AreQuiet (effects_from k lists)
-quiet_effects k [] = none_quiet
-quiet_effects k (es ∷ rest) = both (map (does_in k) es) (effects_from (suc k) rest) (each (does_in k) (λ e. tt) es) (quiet_effects (suc k) rest)
+    by : (b c v : Bool) → AreQuiet (if b then player_contributions place (event_player_of p) else (if c then coil_player_contributions machine place (coil_player_of p) else (if v then variable_player_contributions place (variable_player_of p) else [])))
+    by true c v = of_player IsQuiet (λ e. Unit {0}) usual_quiet place (event_player_of p)
+    by false true v = of_coil_player IsQuiet (λ e. Unit {0}) usual_quiet machine place (coil_player_of p)
+    by false false true = quiet_variable_player place (variable_player_of p)
+    by false false false = All-nil IsQuiet
 
 -- what comes of a device after the switches to which it listens
-pub quiet_device : (place : Place) (d : Device) → AreQuiet (map (act_binding place) d.handled ++ (map mentions d.mentioned ++ effects_from 0 d.lists))
-quiet_device place d =
-    both (map (act_binding place) d.handled) (map mentions d.mentioned ++ effects_from 0 d.lists) (each (act_binding place) (λ h. tt) d.handled)
-    (both (map mentions d.mentioned) (effects_from 0 d.lists) (each mentions (λ n. tt) d.mentioned) (quiet_effects 0 d.lists))
+pub quiet_device : (place : Place) (d : Device) → AreQuiet (flat_map (act_binding place) d.handled ++ (map mentions d.mentioned ++ effects_from 0 d.lists))
+quiet_device place d = of_device IsQuiet (λ e. Unit {0}) usual_quiet place d (λ i l within j e inside. tt)
 
-quiet_stopper : (holds : Bool) (event : List ℕ) → AreQuiet (stopper_where holds event)
-quiet_stopper true event = quiet_then (stopper event) [] tt none_quiet
-quiet_stopper false event = none_quiet
+quiet_game : (machine : List SectionRows) (g : GameSettings) → AreQuiet (game_contributions machine g)
+unfolding game_contributions
+quiet_game machine g =
+    let rules = plays (min_balls_of machine) g.balls_per_game g.max_players in
+    All-append IsQuiet (map mentions game_event_names) (rules ∷ []) (All-made IsQuiet mentions (λ n. tt) game_event_names) (All-cons IsQuiet rules [] tt (All-nil IsQuiet))
+
+pub quiet_alone : (machine : List SectionRows) (place : Place) (section : List ℕ) (e : Entry) → AreQuiet (alone_contributions machine place section e)
+unfolding alone_contributions
+quiet_alone machine Machine section e = by (bytes_eq section game_name)
+  where
+    by : (b : Bool) → AreQuiet (if b then game_contributions machine (game_of e) else [])
+    by true = quiet_game machine (game_of e)
+    by false = All-nil IsQuiet
+quiet_alone machine Control section e = All-nil IsQuiet
+quiet_alone machine Mode section e = All-nil IsQuiet
 
 pub quiet_controls : (s : ModeSettings) → AreQuiet (controls s)
-quiet_controls s =
-    let starts = map starter (texts s.starts) in
-    let stops = map stopper (texts s.stops) in
-    let ball = stopper_where s.stops_with_ball (codes "ball_ending") in
-    let game = stopper_where s.game (codes "game_ending") in
-    both (starts ++ stops ++ ball) game
-    (both (starts ++ stops) ball (both starts stops (each starter (λ n. tt) (texts s.starts)) (each stopper (λ n. tt) (texts s.stops))) (quiet_stopper s.stops_with_ball (codes "ball_ending")))
-    (quiet_stopper s.game (codes "game_ending"))
+quiet_controls s = of_controls IsQuiet (λ e. Unit {0}) usual_quiet s
 
 -- ---- contributions, one after the other
 
@@ -124,6 +128,8 @@ heard_any o (listens k n ∷ cs) h = absurd (none_some h.0)
     none_some e = cc
 heard_any o (mentions n ∷ cs) h = (tt, heard_any o cs h.1)
 heard_any o (coil n limits ∷ cs) h = (tt, heard_any o cs h.1)
+heard_any o (under c ∷ cs) h = (tt, heard_any o cs h.1)
+heard_any o (plays min_balls balls_per_game max_players ∷ cs) h = (tt, heard_any o cs h.1)
 
 heard_append : (cs ds : List Contribution) (o : Option Place) → AreHeard o cs → AreHeard None ds → AreHeard o (cs ++ ds)
 heard_append [] ds o a b = heard_any o ds b
@@ -145,14 +151,14 @@ heard_listens k (n ∷ ns) rest h = (refl, heard_listens (suc k) ns rest h)
 heard_device : (d : Device) → AreHeard None (device_contributions Machine d)
 unfolding device_contributions
 heard_device d =
-    let rest = map (act_binding Machine) d.handled ++ (map mentions d.mentioned ++ effects_from 0 d.lists) in
+    let rest = flat_map (act_binding Machine) d.handled ++ (map mentions d.mentioned ++ effects_from 0 d.lists) in
     (tt, heard_listens 0 d.listens rest (quiet_heard rest (Some Machine) (quiet_device Machine d)))
 
 -- a device that listens to no switch may stand anywhere
 silent_device : (place : Place) (d : Device) → d.listens ≡ [] → AreHeard None (device_contributions place d)
 unfolding device_contributions
 silent_device place d none =
-    let rest = map (act_binding place) d.handled ++ (map mentions d.mentioned ++ effects_from 0 d.lists) in
+    let rest = flat_map (act_binding place) d.handled ++ (map mentions d.mentioned ++ effects_from 0 d.lists) in
     (tt, subst (λ ns. AreHeard (Some place) (listens_from 0 ns ++ rest)) (sym none) (quiet_heard rest (Some place) (quiet_device place d)))
 
 abbrev ListensToNone : Option Device → Type 0
@@ -196,6 +202,7 @@ heard_entry machine Mode section e = silent_where Mode (device_of section e) (li
 heard_row : (machine : List SectionRows) (r : Row) → AreHeard None (row_contributions machine r)
 unfolding mode_contributions
 heard_row machine (entry place section e) = heard_entry machine place section e
+heard_row machine (alone place section e) = quiet_heard (alone_contributions machine place section e) None (quiet_alone machine place section e)
 heard_row machine (player place section p) = quiet_heard (player_entry_contributions machine place section p) None (quiet_player_entry machine place section p)
 heard_row machine (of_mode name s) = (tt, (tt, (tt, (tt, (tt, quiet_heard (controls s) None (quiet_controls s))))))
 

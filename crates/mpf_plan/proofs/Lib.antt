@@ -12,11 +12,16 @@ pub mod Among
 pub mod Lacking
 pub mod Numbers
 pub mod Done
+pub mod Usual
 pub mod Heard
+pub mod Ready
 pub mod Owned
+pub mod GameNames
+pub mod GameMade
 pub mod SoundDraft
 pub mod ModesMade
 pub mod ModeWorks
+pub mod GameWorks
 pub mod Apart
 pub mod DoneNames
 pub mod Limited

@@ -1,17 +1,25 @@
 -- The names of the modes of a plan that planning gives, and of their events.
-use Rattle.std.proofs.Common.{List, ℕ, ◌≢◌, refl, ap, ◌∙◌, ◌≡◌, ◌<◌, length, map, Ok, Contains, sym, subst}
+use Rattle.std.proofs.Common.{List, [], ℕ, ◌-◌, ◌≢◌, refl, ap, ◌∙◌, ◌≡◌, ◌<◌, length, map, get_or, Ok, Contains, sym, subst, arith}
+use Rattle.std.specs.List.{All}
 use Rattle.mpf_config.specs.Rows.{ModeRows, Rows}
 use Rattle.plan_tables.specs.declared.entries.EventId.{EventId}
 use Rattle.plan_tables.specs.declared.entries.ModeId.{ModeId}
 use Rattle.plan_tables.specs.declared.entries.ModeEvent.{ModeEvent}
+use Rattle.plan_tables.specs.declared.entries.GameEvent.{GameEvent}
+use Rattle.plan_tables.specs.declared.entries.GameEvent.TheVariants.{SwStart}
 use Rattle.plan_tables.specs.declared.entries.Work.{Work}
 use Rattle.plan_tables.specs.declared.entries.Work.TheVariants as works
-use Rattle.plan_tables.specs.PlanView.{PlanView, name_of_event, mode_at, mode_event, work_of}
-use Rattle.plan_tables.specs.Valid.{IsWorkAt}
-use Rattle.plan_contributions.specs.Contributions.{mode_event_name}
+use Rattle.plan_tables.specs.PlanView.{PlanView, name_of_event, mode_at, mode_event, game_event, work_of}
+use Rattle.plan_tables.specs.GameEvents.{order_of}
+use Rattle.plan_tables.specs.Valid.{HasGame, IsWorkAt}
+use Rattle.machine_definitions.specs.GameEvents.{reserved_game_events}
+use Rattle.plan_contributions.specs.Contributions.{mode_event_name, contributions_of}
 use Rattle.mpf_plan.specs.PlanOf.{plan_of, plan_at}
+use Rattle.mpf_plan.proofs.GameMade.{game_event_is}
+use Rattle.mpf_plan.proofs.GameNames.{game_name}
 use Rattle.mpf_plan.proofs.Judged.{plan_at-Ok}
 use Rattle.mpf_plan.proofs.ModeWorks.{event_name_is, name_there}
+use Rattle.mpf_plan.proofs.Ready.{rows_are_ready}
 use Rattle.plan_tables.proofs.Worked.{work_found}
 
 abbrev HasEventNames : PlanView → Type 0
@@ -19,6 +27,9 @@ HasEventNames plan = (m : ModeId) → m.0 < length plan.modes → (which : ModeE
 
 abbrev HasModesOf : Rows → PlanView → Type 0
 HasModesOf rows plan = (m : ModeId) → m.0 < length plan.modes → Contains (map (λ (x : ModeRows). x.name) rows.modes) (mode_at plan m).name
+
+abbrev pub HasGameNames : PlanView → Type 0
+HasGameNames plan = HasGame plan → (which : GameEvent) → name_of_event plan (game_event plan which) ≡ game_name which
 
 events_of_plan : (rows : Rows) → HasEventNames (plan_of rows)
 unfolding plan_of
@@ -37,12 +48,32 @@ module _ (rows : Rows) (plan : PlanView) (is : plan_at rows ≡ Ok plan) (m : Mo
   pub mode-named : Contains (map (λ (x : ModeRows). x.name) rows.modes) (mode_at plan m).name
   mode-named = subst (HasModesOf rows) (sym (plan_at-Ok rows plan is).0) (modes_of_plan rows) m within
 
--- An event that has none of the names of events of modes in the rows has no work.
+events_of_game : (rows : Rows) → HasGameNames (plan_of rows)
+unfolding plan_of
+events_of_game rows has which = game_event_is (contributions_of rows) (rows_are_ready rows) has which
+
+-- an event of the game has its name
+pub game_event-named : (rows : Rows) (plan : PlanView) → plan_at rows ≡ Ok plan → HasGameNames plan
+game_event-named rows plan is = subst HasGameNames (sym (plan_at-Ok rows plan is).0) (events_of_game rows)
+
+-- An event that has none of the names of events of modes in the rows, and none of those of the game that no row may post,
+-- has no work, or that of the start button.
 pub free-by_name : (rows : Rows) (plan : PlanView) → plan_at rows ≡ Ok plan → (e : EventId)
-    → ((name : List ℕ) → Contains (map (λ (x : ModeRows). x.name) rows.modes) name → (which : ModeEvent) → name_of_event plan e ≢ mode_event_name which name) → work_of plan e ≡ works.Nothing
-free-by_name rows plan is e other = by (work_of plan e) (work_found plan e)
+    → ((name : List ℕ) → Contains (map (λ (x : ModeRows). x.name) rows.modes) name → (which : ModeEvent) → name_of_event plan e ≢ mode_event_name which name)
+    → All (λ name. name_of_event plan e ≢ name) reserved_game_events
+    → (P : Work → Type 0) → P works.Nothing → P (works.Game SwStart) → P (work_of plan e)
+free-by_name rows plan is e other unreserved P nothing start = by (work_of plan e) (work_found plan e)
   where
-    by : (w : Work) → IsWorkAt plan e w → w ≡ works.Nothing
-    by works.Nothing at = refl
+    -- an event of the game that stands at this place among those that no row may post
+    reserved : (which : GameEvent) (place : ℕ) → place < length reserved_game_events → game_name which ≡ get_or reserved_game_events place [] → IsWorkAt plan e (works.Game which) → P (works.Game which)
+    reserved which place within same at = absurd (unreserved place [] within (ap (name_of_event plan) at.1 ∙ game_event-named rows plan is at.0 which ∙ same))
+
+    by_event : (which : GameEvent) → IsWorkAt plan e (works.Game which) → P (works.Game which)
+    by_event SwStart at = start
+    by_event which at = reserved which (order_of which - 1) (omega arith) refl at
+
+    by : (w : Work) → IsWorkAt plan e w → P w
+    by works.Nothing at = nothing
+    by (works.Game which) at = by_event which at
     by (works.Mode m which) at =
         absurd (other (mode_at plan m).name (mode-named rows plan is m at.0) which (ap (name_of_event plan) at.1 ∙ mode_event-named rows plan is m at.0 which))

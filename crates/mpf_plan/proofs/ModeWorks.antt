@@ -14,15 +14,18 @@ use Rattle.plan_tables.specs.declared.entries.ModeEvents.{ModeEvents}
 use Rattle.plan_tables.specs.declared.entries.Work.{Work}
 use Rattle.plan_tables.specs.declared.entries.Work.TheVariants as works
 use Rattle.plan_tables.specs.declared.table.Table.TheVariants.{Events}
-use Rattle.plan_tables.specs.PlanView.{PlanMode, PlanView, no_mode, name_of_event, event_among, mode_at, mode_event, which_event, work_or, work_from, work_of}
+use Rattle.plan_tables.specs.PlanView.{PlanMode, PlanView, no_mode, name_of_event, event_among, mode_at, mode_event, which_event, work_or, work_from, game_work, or_work, work_of}
 use Rattle.plan_tables.specs.Valid.{IsModeWithin, IsWorkAt}
 use Rattle.plan_contributions.specs.Contributions.{mode_event_name, contributions_of}
 use Rattle.mpf_plan.specs.Uses.{Names, names_from, number_among}
 use Rattle.mpf_plan.specs.PlanOf.{plan_from}
 use Rattle.mpf_plan.proofs.Drafted.{names-from}
+use Rattle.mpf_plan.proofs.GameMade.{game_event_is}
+use Rattle.mpf_plan.proofs.GameNames.{not_of_mode}
 use Rattle.mpf_plan.proofs.Heard.{rows_are_heard}
 use Rattle.mpf_plan.proofs.Numbers.{at_number}
 use Rattle.plan_contributions.proofs.RowFacts.{rows_are_open, rows_are_placed}
+use Rattle.mpf_plan.proofs.Ready.{rows_are_ready}
 use Rattle.mpf_plan.proofs.SoundDraft.{has_entries}
 use Rattle.plan_contributions.proofs.ModeNames.{same_which, same_mode}
 use Rattle.mpf_plan.proofs.ModesMade.{made, made-event, modes-made}
@@ -30,9 +33,15 @@ use Rattle.plan_tables.proofs.Worked.{work_found}
 
 -- ---- an event of a mode has work
 
-abbrev IsWork : Work → Type 0
+abbrev pub IsWork : Work → Type 0
 IsWork works.Nothing = ⊥
 IsWork (works.Mode m which) = Unit {0}
+IsWork (works.Game which) = Unit {0}
+
+first_work : (w rest : Work) → IsWork w → IsWork (or_work w rest)
+first_work works.Nothing rest is = absurd is
+first_work (works.Mode m which) rest is = tt
+first_work (works.Game which) rest is = tt
 
 later : (b : Bool) (w : ModeEvent) (o : Option ModeEvent) → (o ≡ None → ⊥) → cond b (Some w) o ≡ None → ⊥
 later true w o some is = none-some w (sym is)
@@ -106,7 +115,7 @@ module _ (rows : Rows) where
 
     known : (which : ModeEvent) → number_among (names Events) (mode_event_name which row.name) < length (names Events)
     known which =
-        let entries = has_entries (contributions_of rows) (rows_are_open rows) (rows_are_placed rows) (rows_are_heard rows) in
+        let entries = has_entries (contributions_of rows) (rows_are_open rows) (rows_are_placed rows) (rows_are_heard rows) (rows_are_ready rows) in
         let at = subst (IsModeWithin (length plan.events)) made_at (All-get_or (IsModeWithin (length plan.events)) plan.modes m.0 no_mode within entries.modes) in
         subst (λ es. number_among (names Events) (mode_event_name which row.name) < length es) (names-from (contributions_of rows) Events) (by which at)
       where
@@ -153,13 +162,16 @@ module _ (rows : Rows) where
 
     -- each event of a mode has the work of this event of this mode
     pub works_are : (m : ModeId) (which : ModeEvent) → m.0 < length plan.modes → work_of plan (mode_event plan m which) ≡ works.Mode m which
-    works_are m which within = by (work_of plan e) (some_work 0 plan.modes m.0 which within) (work_found plan e)
+    works_are m which within = by (work_of plan e) (first_work (work_from 0 plan.modes e) (game_work plan.game e) (some_work 0 plan.modes m.0 which within)) (work_found plan e)
       where
         e : EventId
         e = mode_event plan m which
 
         by : (w : Work) → IsWork w → IsWorkAt plan e w → w ≡ works.Mode m which
         by works.Nothing some at = absurd some
+        by (works.Game other) some at =
+            absurd (not_of_mode other which (mode_at plan m).name
+            (sym (event_name_is m within which) ∙ ap (name_of_event plan) at.1 ∙ game_event_is (contributions_of rows) (rows_are_ready rows) at.0 other))
         by (works.Mode n other) some at =
             let number : n.0 ≡ m.0 = sym (one_number m n which other within at.0 at.1) in
             let event : other ≡ which = sym (one_event m n which other within at.0 at.1) in

@@ -20,11 +20,11 @@ use Rattle.plan_tables.specs.declared.entries.ModeEvent.TheVariants.{WillStart, 
 use Rattle.plan_tables.specs.declared.table.Table.TheVariants.{Events}
 use Rattle.plan_tables.specs.PlanView.{PlanMode, no_mode, event_among}
 use Rattle.plan_contributions.specs.DeviceEntries.{Device, device_of}
-use Rattle.plan_contributions.specs.Contributions.{Contribution, gives, mode, mode_event, mode_event_name, mentions, switch_contributions, coil_contributions, later_events, controls, mode_contributions, act_binding, effects_from, listens_from, device_contributions, where_device, Row, entry, player, of_mode, rows_from, rows_in, mode_rows, rows_of, machine_device, machine_entry_contributions, entry_contributions, player_entry_contributions, row_contributions, given_by, contributions_of}
+use Rattle.plan_contributions.specs.Contributions.{Contribution, gives, mode, mode_event, mode_event_name, mentions, switch_contributions, coil_contributions, later_events, controls, mode_contributions, act_binding, effects_from, listens_from, device_contributions, where_device, Row, entry, alone, player, of_mode, rows_from, rows_in, mode_rows, rows_of, machine_device, machine_entry_contributions, entry_contributions, alone_contributions, player_entry_contributions, row_contributions, given_by, contributions_of}
 use Rattle.mpf_plan.specs.Uses.{Names, names_from, number_among}
 use Rattle.mpf_plan.specs.PlanOf.{DraftView, event_of, new_mode, with_event_in, last_with_event, with_contribution, blank, drafted, plan_from}
 use Rattle.mpf_plan.proofs.Drafted.{given_plan}
-use Rattle.mpf_plan.proofs.Heard.{IsQuiet, AreQuiet, quiet_switch, quiet_player_entry, quiet_device, quiet_controls}
+use Rattle.mpf_plan.proofs.Heard.{IsQuiet, AreQuiet, quiet_switch, quiet_player_entry, quiet_device, quiet_alone, quiet_controls}
 
 module _ (names : Names) where
   -- the event of this name of a mode
@@ -91,7 +91,7 @@ module _ (names : Names) where
   in_device : (place : Place) (d : Device) → Leaves (device_contributions place d)
   unfolding device_contributions
   in_device place d ms =
-      let rest = map (act_binding place) d.handled ++ (map mentions d.mentioned ++ effects_from 0 d.lists) in
+      let rest = flat_map (act_binding place) d.handled ++ (map mentions d.mentioned ++ effects_from 0 d.lists) in
       both (listens_from 0 d.listens) rest (in_listens 0 d.listens) (quiet_leaves rest (quiet_device place d)) ms
 
   in_where : (place : Place) (o : Option Device) → Leaves (where_device place o)
@@ -150,6 +150,7 @@ module _ (names : Names) where
 
   row_adds : (machine : List SectionRows) (r : Row) (ms : List PlanMode) → fold modes_with ms (row_contributions machine r) ≡ ms ++ modes_of r
   row_adds machine (entry place section e) ms = in_entry machine place section e ms ∙ sym (append-nil ms)
+  row_adds machine (alone place section e) ms = quiet_leaves (alone_contributions machine place section e) (quiet_alone machine place section e) ms ∙ sym (append-nil ms)
   row_adds machine (player place section p) ms = in_player_entry machine place section p ms ∙ sym (append-nil ms)
   row_adds machine (of_mode name s) ms = mode_adds name s ms
 

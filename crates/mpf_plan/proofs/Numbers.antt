@@ -4,9 +4,9 @@ use Rattle.std.specs.Str.{bytes_eq}
 use Rattle.std.specs.List.{position_or_len}
 use Rattle.std.proofs.lemmas.Slice.Eq.{bytes_eq-Decides}
 use Rattle.plan_tables.specs.declared.entries.Action.{Action}
-use Rattle.plan_tables.specs.declared.entries.Action.TheVariants.{Post, Pulse, Enable, Disable}
-use Rattle.plan_tables.specs.declared.table.Table.TheVariants.{Events, Coils}
-use Rattle.plan_contributions.specs.DeviceEntries.{pulse, enable, disable, Effect, posts, works}
+use Rattle.plan_tables.specs.declared.entries.Action.TheVariants.{Post, Pulse, Enable, Disable, Change}
+use Rattle.plan_tables.specs.declared.table.Table.TheVariants.{Events, Coils, Variables}
+use Rattle.plan_contributions.specs.DeviceEntries.{pulse, enable, disable, Effect, posts, works, changes}
 use Rattle.plan_contributions.specs.UsedNames.{used_by}
 use Rattle.mpf_plan.specs.Uses.{Names, number_among}
 use Rattle.mpf_plan.specs.PlanOf.{action_of}
@@ -29,6 +29,7 @@ named_effect names (Post e) = posts (slice_index_or (names Events) e.0 [])
 named_effect names (Pulse c ms power) = works (slice_index_or (names Coils) c.0 []) (pulse ms power)
 named_effect names (Enable c power) = works (slice_index_or (names Coils) c.0 []) (enable power)
 named_effect names (Disable c) = works (slice_index_or (names Coils) c.0 []) disable
+named_effect names (Change v action n e) = changes (slice_index_or (names Variables) v.0 []) action n
 
 -- an effect is what its action does, by names
 pub effect_named : (names : Names) (e : Effect) → IsAmong names (used_by e) → named_effect names (action_of names e) ≡ e
@@ -36,3 +37,4 @@ effect_named names (posts n) known = ap posts (at_number (names Events) n known)
 effect_named names (works n (pulse ms power)) known = ap (λ m. works m (pulse ms power)) (at_number (names Coils) n known)
 effect_named names (works n (enable power)) known = ap (λ m. works m (enable power)) (at_number (names Coils) n known)
 effect_named names (works n disable) known = ap (λ m. works m disable) (at_number (names Coils) n known)
+effect_named names (changes v action n) known = ap (λ m. changes m action n) (at_number (names Variables) v known)

@@ -17,10 +17,10 @@ use Rattle.plan_tables.specs.declared.entries.Owner.TheVariants as owners
 use Rattle.plan_tables.specs.declared.entries.Target.{Target}
 use Rattle.plan_tables.specs.declared.entries.Target.TheVariants.{Run, Start, Stop, Act}
 use Rattle.plan_tables.specs.declared.table.Table.TheVariants.{Events, Switches}
-use Rattle.plan_tables.specs.PlanView.{PlanSwitch, no_switch, PlanView, no_mode, no_row}
-use Rattle.plan_contributions.specs.Contributions.{Contribution, gives, reads, active, inactive, mode, mode_event, mode_event_name, binds, does, device, does_in, listens, mentions, coil}
+use Rattle.plan_tables.specs.PlanView.{PlanSwitch, no_switch, PlanView, no_binding, no_mode, no_row}
+use Rattle.plan_contributions.specs.Contributions.{Contribution, gives, reads, active, inactive, mode, mode_event, mode_event_name, binds, does, device, does_in, listens, mentions, coil, under, plays}
 use Rattle.mpf_plan.specs.Uses.{Names, number_among}
-use Rattle.mpf_plan.specs.PlanOf.{DraftView, event_of, with_event_in, last_mode, last_row, owner_at, target_at, next_binding, next_row, next_listener, heard_by, with_contribution, named_switch, blank}
+use Rattle.mpf_plan.specs.PlanOf.{DraftView, event_of, with_event_in, last_mode, last_row, owner_at, target_at, next_binding, next_row, next_listener, heard_by, condition_of, conditioned, with_contribution, named_switch, blank}
 use Rattle.mpf_plan.proofs.Drafted.{given_plan}
 use Rattle.mpf_plan.proofs.Steps.{All-changed}
 use Rattle.mpf_plan.proofs.Heard.{IsHeard, AreHeard}
@@ -138,6 +138,12 @@ module _ (names : Names) (d : DraftView) (o : Option Place) (own : IsOwn o d.pla
   }
   own_one (mentions n) is heard = own
   own_one (coil n limits) is heard = record { bindings = own.bindings; listeners = own.listeners; last = own.last }
+  own_one (under c) is heard = record {
+    bindings = All-changed (IsOwnBinding d.plan.rows) (conditioned (condition_of names c)) d.plan.bindings (length d.plan.bindings - 1) no_binding (λ b h. h) own.bindings;
+    listeners = own.listeners;
+    last = own.last;
+  }
+  own_one (plays min_balls balls_per_game max_players) is heard = record { bindings = own.bindings; listeners = own.listeners; last = own.last }
 
 module _ (names : Names) where
   pub own_blank : IsOwn None (blank names).plan

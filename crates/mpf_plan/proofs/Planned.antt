@@ -67,7 +67,7 @@ module _ (rows : Rows) (machine : List SectionRows) (text : machine ≡ rows.mac
     -- made of the same rows
     module _ (d : Draft) (made_of : List found.Row) (again : made_of ≡ rs) (made : draft_view names d ≡ drafted (name_sets_view names) (given_by machine (row_list_view made_of))) where
       abbrev tables : PlanView
-      tables = tables_view (record { names = names; modes = d.modes; switches = d.switches; coils = d.coils; lists = d.lists; bindings = d.bindings; rows = d.rows; row_lists = d.row_lists })
+      tables = tables_view (record { names = names; modes = d.modes; switches = d.switches; coils = d.coils; lists = d.lists; bindings = d.bindings; rows = d.rows; row_lists = d.row_lists; game = d.game })
 
       count : length d.coils.items ≡ length (name_sets_view names Coils)
       count = coils_count names d (given_by machine (row_list_view made_of)) made

@@ -1,6 +1,6 @@
 -- What contributions make has entries for all its numbers, where a mode came before what is of one.
 use Rattle.std.proofs.Common.{◌≡◌, ℕ, ◌+◌, ◌-◌, ◌<◌, ◌≤◌, ◌⊎◌, inl, inr, Bool, true, false, nat_lt, List, [], ◌∷◌, ◌++◌, length, fold, set, get_or, slice_index_or, refl, sym, ◌∙◌, ap, subst, arith}
-use Rattle.std.specs.Prelude.{Option, None}
+use Rattle.std.specs.Prelude.{Option, None, Some, IfSome}
 use Rattle.std.specs.List.{All}
 use Rattle.std.proofs.lemmas.Bool.{cases_lt, ltb-true, ltb-false}
 use Rattle.std.proofs.lemmas.List.{length_push, length-map, length-set, set_past, get_or_push, get_or_append_left}
@@ -10,7 +10,7 @@ use Rattle.plan_contributions.specs.declared.contribution.Aim.TheVariants as aim
 use Rattle.plan_contributions.specs.declared.contribution.Place.{Place}
 use Rattle.plan_contributions.specs.declared.contribution.Place.TheVariants as places
 use Rattle.plan_tables.specs.declared.entries.Action.{Action}
-use Rattle.plan_tables.specs.declared.entries.Action.TheVariants.{Post, Pulse, Enable, Disable}
+use Rattle.plan_tables.specs.declared.entries.Action.TheVariants.{Post, Pulse, Enable, Disable, Change}
 use Rattle.plan_tables.specs.declared.entries.EventId.{EventId}
 use Rattle.plan_tables.specs.declared.entries.ModeEvent.{ModeEvent}
 use Rattle.plan_tables.specs.declared.entries.ModeEvent.TheVariants.{WillStart, Starting, Started, Stopping, Stopped}
@@ -19,30 +19,36 @@ use Rattle.plan_tables.specs.declared.entries.Owner.TheVariants.{Machine, Mode}
 use Rattle.plan_tables.specs.declared.entries.Target.{Target}
 use Rattle.plan_tables.specs.declared.entries.Target.TheVariants as targets
 use Rattle.plan_tables.specs.declared.entries.Binding.{Binding}
-use Rattle.plan_tables.specs.declared.table.Table.TheVariants.{Events, Coils}
+use Rattle.plan_tables.specs.declared.entries.Condition.{Condition}
+use Rattle.plan_tables.specs.declared.entries.GameRules.{GameRules}
+use Rattle.plan_tables.specs.declared.table.Table.TheVariants.{Events, Coils, Variables}
 use Rattle.plan_tables.specs.declared.entries.ListId.{ListId}
 use Rattle.plan_tables.specs.declared.devices.DeviceRow.{DeviceRow}
 use Rattle.plan_tables.specs.declared.devices.RowId.{RowId}
 use Rattle.plan_tables.specs.declared.devices.Settings.{Settings}
 use Rattle.plan_tables.specs.Devices.{list_count}
-use Rattle.plan_tables.specs.PlanView.{PlanSwitch, PlanCoil, PlanMode, no_mode, no_row, row_at, list_of_row, PlanView}
-use Rattle.plan_tables.specs.Valid.{IsEventWithin, IsSwitchWithin, IsListenerWithin, IsModeWithin, IsActionWithin, IsOwnerWithin, IsTargetWithin, IsBindingWithin, IsRowWithin, HasEntries}
-use Rattle.plan_contributions.specs.DeviceEntries.{pulse, enable, disable, Effect, posts, works}
+use Rattle.plan_tables.specs.PlanView.{PlanSwitch, PlanCoil, PlanMode, no_binding, no_mode, no_row, row_at, list_of_row, PlanView}
+use Rattle.plan_tables.specs.Valid.{IsEventWithin, IsSwitchWithin, IsListenerWithin, IsModeWithin, IsActionWithin, IsOwnerWithin, IsTargetWithin, IsConditionWithin, IsBindingWithin, IsGameWithin, IsRowWithin, HasEntries}
+use Rattle.plan_contributions.specs.DeviceEntries.{pulse, enable, disable, Effect, posts, works, changes}
 use Rattle.plan_contributions.specs.UsedNames.{used_by}
-use Rattle.plan_contributions.specs.Contributions.{Contribution, gives, reads, active, inactive, mode, mode_event, mode_event_name, binds, does, device, does_in, listens, mentions, coil}
+use Rattle.plan_contributions.specs.Contributions.{Contribution, gives, reads, active, inactive, mode, mode_event, mode_event_name, binds, does, device, does_in, listens, mentions, coil, under, plays}
 use Rattle.mpf_plan.specs.Uses.{Names, names_from, number_among}
-use Rattle.mpf_plan.specs.PlanOf.{DraftView, event_of, action_of, new_mode, with_event_in, with_mode, with_mode_event, last_mode, owner_at, target_at, next_binding, lists_for, with_list_for, with_binding, next_row, next_list, with_device, first_of_last, with_one_more, with_contribution, blank, drafted}
+use Rattle.mpf_plan.specs.PlanOf.{DraftView, event_of, action_of, new_mode, with_event_in, with_mode, with_mode_event, last_mode, owner_at, target_at, next_binding, lists_for, with_list_for, with_binding, next_row, next_list, with_device, first_of_last, with_one_more, condition_of, conditioned, last_conditioned, with_condition, rules_of, with_game, with_contribution, blank, drafted}
 use Rattle.mpf_plan.proofs.Among.{IsAmong, IsKnown, all_known}
 use Rattle.mpf_plan.proofs.Drafted.{given_plan, names-from, modes_one, lists_begun}
 use Rattle.mpf_plan.proofs.Heard.{AreHeard}
 use Rattle.plan_contributions.specs.Facts.{row_after, IsPlacedAim, IsPlaced, ArePlaced, IsOpenPlace, IsOpenAim, IsOpen, modes_after, AreOpened}
 use Rattle.mpf_plan.proofs.Owned.{IsOwn, IsOwnListener, IsOwnSwitch, own_one, own_blank, own_fold}
 use Rattle.mpf_plan.proofs.Done.{IsMet, meet_drafted}
+use Rattle.mpf_plan.proofs.GameMade.{game_made, game_within}
+use Rattle.mpf_plan.proofs.Ready.{IsReadyEffect, IsReady, IsNumberedIn, AreNumbered}
+use Rattle.mpf_plan.proofs.Steps.{All-changed}
 
 -- ---- a plan with more lists, modes and rows
 
 record Grows (p q : PlanView) : Type 0 where
   events : length p.events ≡ length q.events
+  variables : length p.variables ≡ length q.variables
   modes : length p.modes ≤ length q.modes
   lists : length p.lists ≤ length q.lists
   rows : length p.rows ≤ length q.rows
@@ -58,8 +64,12 @@ module _ (p q : PlanView) (grows : Grows p q) where
   target_grows (targets.Stop m) within = omega (arith, within, grows.modes)
   target_grows (targets.Act r act) within = omega (arith, within, grows.rows)
 
+  condition_grows : (o : Option Condition) → IsConditionWithin p o → IsConditionWithin q o
+  condition_grows None within = tt
+  condition_grows (Some c) within = omega (arith, within, grows.variables)
+
   binding_grows : (b : Binding) → IsBindingWithin p b → IsBindingWithin q b
-  binding_grows b within = (let event = within.0 in omega (arith, event, grows.events), owner_grows b.owner within.1, target_grows b.target within.2)
+  binding_grows b within = (let event = within.0 in omega (arith, event, grows.events), owner_grows b.owner within.1, target_grows b.target within.2, condition_grows b.condition within.3)
 
   bindings_grow : (bs : List Binding) → All (IsBindingWithin p) bs → All (IsBindingWithin q) bs
   bindings_grow bs all = All-weaker (IsBindingWithin p) (IsBindingWithin q) binding_grows bs all
@@ -100,9 +110,10 @@ module _ (p q : PlanView) (grows : Grows p q) where
 
 -- ---- one contribution more
 
--- the events are the names, and every number in modes, bindings and rows is that of an entry
+-- the events and variables are the names, and every number in modes, bindings and rows is that of an entry
 pub record IsSound (names : Names) (plan : PlanView) : Type 0 where
   pub events : plan.events ≡ names Events
+  pub variables : plan.variables ≡ names Variables
   pub modes : All (IsModeWithin (length plan.events)) plan.modes
   pub bindings : All (IsBindingWithin plan) plan.bindings
   pub rows : (r : RowId) → r.0 < length plan.rows → IsRowWithin plan r
@@ -135,9 +146,39 @@ module _ (names : Names) (d : DraftView) (sound : IsSound names d.plan) where
   same_sound : (switches : List PlanSwitch) (coils : List PlanCoil) (lists : List (List Action)) → length d.plan.lists ≤ length lists → IsSound names (record d.plan { switches = switches; coils = coils; lists = lists })
   same_sound switches coils lists more =
       let new : PlanView = record d.plan { switches = switches; coils = coils; lists = lists } in
-      let grows : Grows d.plan new = record { events = refl; modes = omega arith; lists = more; rows = omega arith } in
+      let grows : Grows d.plan new = record { events = refl; variables = refl; modes = omega arith; lists = more; rows = omega arith } in
       record {
         events = sound.events;
+        variables = sound.variables;
+        modes = sound.modes;
+        bindings = bindings_grow d.plan new grows d.plan.bindings sound.bindings;
+        rows = rows_stay d.plan new grows refl refl sound.rows;
+        row_lists = sound.row_lists;
+      }
+
+  -- the binding that came last has a condition
+  condition_sound : (c : Condition) → c.variable.0 < length d.plan.variables → IsSound names (with_condition c d).plan
+  condition_sound c known =
+      let changed = last_conditioned c d.plan.bindings in
+      let new : PlanView = record d.plan { bindings = changed } in
+      let grows : Grows d.plan new = record { events = refl; variables = refl; modes = omega arith; lists = omega arith; rows = omega arith } in
+      record {
+        events = sound.events;
+        variables = sound.variables;
+        modes = sound.modes;
+        bindings = bindings_grow d.plan new grows changed
+            (All-changed (IsBindingWithin d.plan) (conditioned c) d.plan.bindings (length d.plan.bindings - 1) no_binding (λ b h. (h.0, h.1, h.2, known)) sound.bindings);
+        rows = rows_stay d.plan new grows refl refl sound.rows;
+        row_lists = sound.row_lists;
+      }
+
+  game_sound : (rules : GameRules) → IsSound names (with_game rules d).plan
+  game_sound rules =
+      let new : PlanView = record d.plan { game = Some rules } in
+      let grows : Grows d.plan new = record { events = refl; variables = refl; modes = omega arith; lists = omega arith; rows = omega arith } in
+      record {
+        events = sound.events;
+        variables = sound.variables;
         modes = sound.modes;
         bindings = bindings_grow d.plan new grows d.plan.bindings sound.bindings;
         rows = rows_stay d.plan new grows refl refl sound.rows;
@@ -147,9 +188,10 @@ module _ (names : Names) (d : DraftView) (sound : IsSound names d.plan) where
   mode_sound : (modes : List PlanMode) → length d.plan.modes ≤ length modes → All (IsModeWithin (length d.plan.events)) modes → IsSound names (record d.plan { modes = modes })
   mode_sound modes more within =
       let new : PlanView = record d.plan { modes = modes } in
-      let grows : Grows d.plan new = record { events = refl; modes = more; lists = omega arith; rows = omega arith } in
+      let grows : Grows d.plan new = record { events = refl; variables = refl; modes = more; lists = omega arith; rows = omega arith } in
       record {
         events = sound.events;
+        variables = sound.variables;
         modes = within;
         bindings = bindings_grow d.plan new grows d.plan.bindings sound.bindings;
         rows = rows_stay d.plan new grows refl refl sound.rows;
@@ -191,12 +233,13 @@ module _ (names : Names) (d : DraftView) (sound : IsSound names d.plan) where
     binding_sound e place aim known placed aimed some =
         let b = next_binding d.plan e place aim in
         let new : PlanView = record d.plan { lists = lists_for aim d.plan.lists; bindings = d.plan.bindings ++ b ∷ [] } in
-        let grows : Grows d.plan new = record { events = refl; modes = omega arith; lists = longer aim; rows = omega arith } in
+        let grows : Grows d.plan new = record { events = refl; variables = refl; modes = omega arith; lists = longer aim; rows = omega arith } in
         record {
           events = sound.events;
+          variables = sound.variables;
           modes = sound.modes;
           bindings = All-push (IsBindingWithin new) d.plan.bindings b (bindings_grow d.plan new grows d.plan.bindings sound.bindings)
-              (known, owner_grows d.plan new grows b.owner (owner_within d.plan n place few placed), target_within aim new aimed some refl refl refl);
+              (known, owner_grows d.plan new grows b.owner (owner_within d.plan n place few placed), target_within aim new aimed some refl refl refl, tt);
           rows = rows_stay d.plan new grows refl refl sound.rows;
           row_lists = sound.row_lists;
         }
@@ -207,10 +250,11 @@ module _ (names : Names) (d : DraftView) (sound : IsSound names d.plan) where
         let first = next_list d.plan in
         let new : PlanView = (with_device place settings d).plan in
         let begun = lists_begun d.plan.lists (list_count settings) in
-        let grows : Grows d.plan new = record { events = refl; modes = omega arith; lists = omega (arith, begun); rows = omega (arith, length_push d.plan.rows row) } in
+        let grows : Grows d.plan new = record { events = refl; variables = refl; modes = omega arith; lists = omega (arith, begun); rows = omega (arith, length_push d.plan.rows row) } in
         let owner : IsOwnerWithin new row.owner = owner_grows d.plan new grows row.owner (owner_within d.plan n place few placed) in
         record {
           events = sound.events;
+          variables = sound.variables;
           modes = sound.modes;
           bindings = bindings_grow d.plan new grows d.plan.bindings sound.bindings;
           rows = rows_more d.plan new grows row first refl refl sound.row_lists refl owner (omega (arith, begun)) sound.rows;
@@ -244,6 +288,8 @@ module _ (names : Names) (d : DraftView) (sound : IsSound names d.plan) where
     sound_one (listens k x) o own placed opened known = same_sound (with_contribution names d (listens k x)).plan.switches d.plan.coils d.plan.lists (omega arith)
     sound_one (mentions x) o own placed opened known = sound
     sound_one (coil x limits) o own placed opened known = same_sound d.plan.switches (with_contribution names d (coil x limits)).plan.coils d.plan.lists (omega arith)
+    sound_one (under c) o own placed opened known = condition_sound (condition_of names c) (subst (λ vs. number_among (names Variables) c.variable < length vs) (sym sound.variables) known)
+    sound_one (plays min_balls balls_per_game max_players) o own placed opened known = game_sound (rules_of (names Events) min_balls balls_per_game max_players)
 
 -- ---- all contributions
 
@@ -265,49 +311,57 @@ module _ (names : Names) where
   sound_blank : IsSound names (blank names).plan
   sound_blank = record {
     events = refl;
+    variables = refl;
     modes = All-nil (IsModeWithin (length (names Events)));
     bindings = All-nil (IsBindingWithin (blank names).plan);
     rows = λ r within. absurd (omega (arith, within));
     row_lists = refl;
   }
 
-  -- an event that is posted is one of the names, and so is a coil with which something is done
+  -- an event that is posted is one of the names, and so is a coil with which something is done, and a variable that is
+  -- changed
   abbrev IsNumbered : Action → Type 0
   IsNumbered (Post e) = e.0 < length (names Events)
   IsNumbered (Pulse c ms power) = c.0 < length (names Coils)
   IsNumbered (Enable c power) = c.0 < length (names Coils)
   IsNumbered (Disable c) = c.0 < length (names Coils)
+  IsNumbered (Change v action n e) = (v.0 < length (names Variables)) × (e.0 < length (names Events))
 
-  effect_known : (e : Effect) → IsAmong names (used_by e) → IsNumbered (action_of names e)
-  effect_known (posts x) known = known
-  effect_known (works x (pulse ms power)) known = known
-  effect_known (works x (enable power)) known = known
-  effect_known (works x disable) known = known
+  effect_known : (e : Effect) → IsAmong names (used_by e) → IsReadyEffect (IsNumberedIn (names Events)) e → IsNumbered (action_of names e)
+  effect_known (posts x) known ready = known
+  effect_known (works x (pulse ms power)) known ready = known
+  effect_known (works x (enable power)) known ready = known
+  effect_known (works x disable) known ready = known
+  effect_known (changes v action n) known ready = (known, ready)
 
-  done_known : (c : Contribution) → IsKnown names c → IsMet (IsEventWithin (length (names Events))) IsNumbered names c
-  done_known (active x) known = known
-  done_known (inactive x) known = known
-  done_known (does e) known = effect_known e known
-  done_known (does_in k e) known = effect_known e known
-  done_known _ known = tt
+  done_known : (c : Contribution) → IsKnown names c → IsReady (IsNumberedIn (names Events)) c → IsMet (IsEventWithin (length (names Events))) IsNumbered names c
+  done_known (active x) known ready = known
+  done_known (inactive x) known ready = known
+  done_known (does e) known ready = effect_known e known ready
+  done_known (does_in k e) known ready = effect_known e known ready
+  done_known _ known ready = tt
 
-  action_within : (plan : PlanView) → length plan.events ≡ length (names Events) → length plan.coils ≡ length (names Coils) → (a : Action) → IsNumbered a → IsActionWithin plan a
-  action_within plan events coils (Post e) within = omega (arith, within, events)
-  action_within plan events coils (Pulse c ms power) within = omega (arith, within, coils)
-  action_within plan events coils (Enable c power) within = omega (arith, within, coils)
-  action_within plan events coils (Disable c) within = omega (arith, within, coils)
+  action_within : (plan : PlanView) → length plan.events ≡ length (names Events) → length plan.coils ≡ length (names Coils) → length plan.variables ≡ length (names Variables) → (a : Action) → IsNumbered a → IsActionWithin plan a
+  action_within plan events coils variables (Post e) within = omega (arith, within, events)
+  action_within plan events coils variables (Pulse c ms power) within = omega (arith, within, coils)
+  action_within plan events coils variables (Enable c power) within = omega (arith, within, coils)
+  action_within plan events coils variables (Disable c) within = omega (arith, within, coils)
+  action_within plan events coils variables (Change v action n e) within =
+      let variable = within.0 in
+      let event = within.1 in
+      (omega (arith, variable, variables), omega (arith, event, events))
 
 -- what contributions make is sound, where a mode came before what is of one, and a row before what acts on it
 pub sound_drafted : (cs : List Contribution) → AreOpened 0 cs → ArePlaced None cs → AreHeard None cs → IsSound (names_from cs) (drafted (names_from cs) cs).plan
 sound_drafted cs opened placed heard = sound_fold (names_from cs) cs 0 None (blank (names_from cs)) (omega arith) opened placed heard (all_known cs) (own_blank (names_from cs)) (sound_blank (names_from cs))
 
-pub has_entries : (cs : List Contribution) → AreOpened 0 cs → ArePlaced None cs → AreHeard None cs → HasEntries (drafted (names_from cs) cs).plan
-has_entries cs opened placed heard =
+pub has_entries : (cs : List Contribution) → AreOpened 0 cs → ArePlaced None cs → AreHeard None cs → AreNumbered cs → HasEntries (drafted (names_from cs) cs).plan
+has_entries cs opened placed heard ready =
     let names = names_from cs in
     let plan = (drafted names cs).plan in
     let sound = sound_drafted cs opened placed heard in
     let posted : EventId → Type 0 = IsEventWithin (length (names Events)) in
-    let meet = meet_drafted posted (IsNumbered names) names cs (All-weaker (IsKnown names) (IsMet posted (IsNumbered names) names) (done_known names) cs (all_known cs)) in
+    let meet = meet_drafted posted (IsNumbered names) names cs (λ i d within. done_known names (get_or cs i d) (all_known cs i d within) (ready i d within)) in
     let events = ap length sound.events in
     let coils = sym (length-map plan.coils (λ (c : PlanCoil). c.name)) ∙ ap length (names-from cs Coils) in
     let own = own_fold names cs None (blank names) placed heard (own_blank names) in
@@ -315,7 +369,8 @@ has_entries cs opened placed heard =
       modes = sound.modes;
       switches = subst (λ n. All (IsSwitchWithin n) plan.switches) (sym events) meet.switches;
       listeners = All-weaker (IsOwnSwitch plan.rows) (λ s. All (IsListenerWithin (length plan.rows)) s.listeners) (λ s. All-weaker (IsOwnListener plan.rows) (IsListenerWithin (length plan.rows)) (λ l is. is.0) s.listeners) plan.switches own.1;
-      lists = All-weaker (All (IsNumbered names)) (All (IsActionWithin plan)) (All-weaker (IsNumbered names) (IsActionWithin plan) (action_within names plan events coils)) plan.lists meet.lists;
+      lists = All-weaker (All (IsNumbered names)) (All (IsActionWithin plan)) (All-weaker (IsNumbered names) (IsActionWithin plan) (action_within names plan events coils (ap length sound.variables))) plan.lists meet.lists;
       bindings = sound.bindings;
       rows = sound.rows;
+      game = subst (λ n. IfSome plan.game (IsGameWithin n)) (sym events) (game_within names plan.game (game_made cs ready));
     }

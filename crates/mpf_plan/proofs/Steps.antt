@@ -5,11 +5,13 @@ use Rattle.std.proofs.lemmas.List.{set_past, map-set, get_or-map, length-map}
 use Rattle.std.proofs.lemmas.List.Elements.{All-head, All-tail, All-set, All-get_or}
 use Rattle.std.proofs.lemmas.Bool.{cases_lt}
 use Rattle.plan_tables.specs.declared.entries.Action.{Action}
+use Rattle.plan_tables.specs.declared.entries.Binding.{Binding}
+use Rattle.plan_tables.specs.declared.entries.Condition.{Condition}
 use Rattle.plan_tables.specs.declared.entries.SwitchEntry.{SwitchEntry}
 use Rattle.plan_tables.specs.declared.entries.CoilLimits.{CoilLimits}
 use Rattle.plan_tables.specs.declared.entries.ModeEntry.{ModeEntry}
-use Rattle.plan_tables.specs.PlanView.{PlanSwitch, no_switch, no_coil, PlanMode, no_mode}
-use Rattle.mpf_plan.specs.PlanOf.{with_one_more, last_with, limited_to, named_switch, named_coil}
+use Rattle.plan_tables.specs.PlanView.{PlanSwitch, no_switch, no_coil, no_binding, PlanMode, no_mode}
+use Rattle.mpf_plan.specs.PlanOf.{with_one_more, last_with, conditioned, last_conditioned, limited_to, named_switch, named_coil}
 use Rattle.mpf_plan.specs.Inside.{limited_coils}
 use Rattle.plan_tables.specs.Inside.{mode_entry_view, switch_entry_view, switches_view, coils_view, action_lists}
 
@@ -53,6 +55,12 @@ pub same_default : {X : Type 0} (xs : List X) (n : ℕ) (d e : X) → n < length
 same_default [] n d e within = absurd (omega arith)
 same_default (x ∷ xs) zero d e within = refl
 same_default (x ∷ xs) (suc n) d e within = same_default xs n d e (omega arith)
+
+-- the binding that came last has this condition
+pub binding_conditioned : (c : Condition) (bs : List Binding) (n : ℕ) (old : Binding) → n ≡ length bs → 0 < n → old ≡ get_or bs (n - 1) old → set bs (n - 1) (conditioned c old) ≡ last_conditioned c bs
+binding_conditioned c bs n old count some is =
+    ap (λ b. set bs (n - 1) (conditioned c b)) (is ∙ same_default bs (n - 1) old no_binding (omega (arith, count, some)))
+    ∙ ap (λ k. set bs (k - 1) (conditioned c (get_or bs (k - 1) no_binding))) count
 
 -- ---- switches
 

@@ -20,12 +20,12 @@ use Rattle.plan_tables.specs.declared.devices.Act.{Act}
 use Rattle.plan_tables.specs.declared.devices.DeviceRow.{DeviceRow}
 use Rattle.plan_tables.specs.declared.devices.RowId.{RowId}
 use Rattle.plan_tables.specs.declared.table.Table.{Table}
-use Rattle.plan_tables.specs.declared.table.Table.TheVariants.{Events, Bindings, Switches, Coils}
+use Rattle.plan_tables.specs.declared.table.Table.TheVariants.{Events, Bindings, Switches, Coils, Variables}
 use Rattle.plan_tables.specs.declared.table.Table.TheVariants as tables
 use Rattle.plan_tables.specs.PlanView.{no_coil, PlanView, coil_at, row_at}
 use Rattle.plan_tables.specs.Devices.{IsWithinLimits, list_count}
 use Rattle.plan_tables.specs.Valid.{IsCoilWithin, IsValid, HasEntries}
-use Rattle.plan_contributions.specs.Contributions.{Contribution, gives, reads, active, inactive, mode, mode_event, binds, does, device, does_in, listens, mentions, coil, contributions_of}
+use Rattle.plan_contributions.specs.Contributions.{Contribution, gives, reads, active, inactive, mode, mode_event, binds, does, device, does_in, listens, mentions, coil, under, plays, contributions_of}
 use Rattle.mpf_plan.specs.Uses.{Names, names_from, number_among, lacks_name}
 use Rattle.mpf_plan.specs.ByName.{latest_limits, AreLimitsByName, ListenersAreOwn}
 use Rattle.plan_tables.specs.Limits.{entry_count, limit_of}
@@ -41,6 +41,8 @@ use Rattle.mpf_plan.proofs.Limited.{limits_by_name}
 use Rattle.mpf_plan.proofs.Owned.{IsOwnTarget, IsOwnBinding, IsOwnListener, IsOwnSwitch, own_fold, own_blank}
 use Rattle.mpf_plan.proofs.SoundDraft.{has_entries}
 use Rattle.mpf_plan.proofs.ModeWorks.{modes-count, works_are}
+use Rattle.mpf_plan.proofs.GameWorks.{game_works_are}
+use Rattle.mpf_plan.proofs.Ready.{rows_are_ready}
 
 -- ---- the lengths of effect lists
 
@@ -188,6 +190,8 @@ module _ (names : Names) where
   fit_one n f d (listens k e) room fit = record { lists = fit.lists; last = fit.last; in_row = fit.in_row }
   fit_one n f d (mentions e) room fit = fit
   fit_one n f d (coil e limits) room fit = record { lists = fit.lists; last = fit.last; in_row = fit.in_row }
+  fit_one n f d (under c) room fit = record { lists = fit.lists; last = fit.last; in_row = fit.in_row }
+  fit_one n f d (plays min_balls balls_per_game max_players) room fit = record { lists = fit.lists; last = fit.last; in_row = fit.in_row }
 
   fit_fold : (n : ℕ) (f : ℕ → ℕ) (cs : List Contribution) (d : DraftView) → AreShort n f cs → AreFit n f d.plan
       → All (λ actions. length actions ≤ 1024) (fold (with_contribution names) d cs).plan.lists
@@ -257,6 +261,7 @@ valid_from rows short few_modes none_lacks within =
       binding_limit = limit;
       switch_limit = within Switches;
       coil_limit = within Coils;
+      variable_limit = within Variables;
       list_limit = omega (arith, limit, few, count-bindings cs, count-rows cs, count-lists cs);
       row_limit = few;
       row_lists = count-row_lists cs;
@@ -264,8 +269,9 @@ valid_from rows short few_modes none_lacks within =
       settings = limited_fold names cs (blank names) (rows_are_limited rows short) (All-nil IsLimitedRow);
       action_limit = fit_fold names 1024 full cs (blank names) (rows_are_short rows short) none;
       names = λ t. subst (AllPairs (λ x y. x ≢ y)) (sym (names-from cs t)) (all_apart (named_of cs t) (named_apart cs t));
-      entries = has_entries cs (rows_are_open rows) (rows_are_placed rows) (rows_are_heard rows);
+      entries = has_entries cs (rows_are_open rows) (rows_are_placed rows) (rows_are_heard rows) (rows_are_ready rows);
       works = works_are rows few_modes.apart;
+      game_works = game_works_are rows;
     }
 
 pub IsValid-plan_of : (rows : Rows) → AreListsShort rows → AreFewModes rows.modes → lacks_name (contributions_of rows) ≡ false → ((t : Table) → entry_count (plan_of rows) t ≤ limit_of t) → IsValid (plan_of rows)
@@ -276,7 +282,7 @@ IsValid-plan_of rows short few none within = valid_from rows short few none with
 
 HasEntries-plan_of : (rows : Rows) → HasEntries (plan_of rows)
 unfolding plan_of
-HasEntries-plan_of rows = has_entries (contributions_of rows) (rows_are_open rows) (rows_are_placed rows) (rows_are_heard rows)
+HasEntries-plan_of rows = has_entries (contributions_of rows) (rows_are_open rows) (rows_are_placed rows) (rows_are_heard rows) (rows_are_ready rows)
 
 pub HasEntries-plan_at : (rows : Rows) (plan : PlanView) → plan_at rows ≡ Ok plan → HasEntries plan
 HasEntries-plan_at rows plan is = subst HasEntries (sym (plan_at-Ok rows plan is).0) (HasEntries-plan_of rows)

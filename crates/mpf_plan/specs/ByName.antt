@@ -5,11 +5,12 @@ use Rattle.std.specs.Str.{bytes_eq}
 use Rattle.plan_tables.specs.declared.entries.CoilId.{CoilId}
 use Rattle.plan_tables.specs.declared.entries.CoilLimits.{CoilLimits}
 use Rattle.plan_tables.specs.declared.entries.Action.{Action}
-use Rattle.plan_tables.specs.declared.entries.Action.TheVariants.{Post, Pulse, Enable, Disable}
+use Rattle.plan_tables.specs.declared.entries.Action.TheVariants.{Post, Pulse, Enable, Disable, Change}
+use Rattle.machine_definitions.specs.Players.{player_event}
 use Rattle.plan_tables.specs.declared.entries.Owner.TheVariants as owners
 use Rattle.plan_tables.specs.declared.table.Table.{Table}
-use Rattle.plan_tables.specs.PlanView.{PlanView, name_of_event, coil_at, row_at}
-use Rattle.plan_contributions.specs.DeviceEntries.{pulse, enable, disable, Effect, posts, works}
+use Rattle.plan_tables.specs.PlanView.{PlanView, name_of_event, name_of_variable, coil_at, row_at}
+use Rattle.plan_contributions.specs.DeviceEntries.{pulse, enable, disable, Effect, posts, works, changes}
 use Rattle.plan_contributions.specs.Contributions.{Contribution}
 use Rattle.plan_contributions.specs.UsedNames.{used, given_names}
 use Rattle.plan_contributions.specs.Facts.{given_coil}
@@ -23,11 +24,20 @@ effect_of plan (Post e) = posts (name_of_event plan e)
 effect_of plan (Pulse c ms power) = works (coil_at plan c).name (pulse ms power)
 effect_of plan (Enable c power) = works (coil_at plan c).name (enable power)
 effect_of plan (Disable c) = works (coil_at plan c).name disable
+effect_of plan (Change v action n e) = changes (name_of_variable plan v) action n
 
 -- P holds of all that effect lists do, and S of the name of each event that a switch posts
 pub record IsDone (P : Effect → Type 0) (S : List ℕ → Type 0) (plan : PlanView) : Type 0 where
   pub switches : All (λ s. All (λ e. S (name_of_event plan e)) s.active × All (λ e. S (name_of_event plan e)) s.inactive) plan.switches
   pub lists : All (All (λ a. P (effect_of plan a))) plan.lists
+
+-- the event of a change is that of its variable
+abbrev pub IsByVariable : PlanView → Action → Type 0
+IsByVariable plan (Change v action n e) = name_of_event plan e ≡ player_event (name_of_variable plan v)
+IsByVariable plan _ = Unit {0}
+
+abbrev pub AreByVariable : PlanView → Type 0
+AreByVariable plan = All (All (IsByVariable plan)) plan.lists
 
 -- ---- what coils may be sent
 

@@ -25,6 +25,7 @@ draft_view names d = record {
     bindings = d.bindings;
     rows = d.rows;
     row_lists = d.row_lists;
+    game = d.game;
   })) {
     coils = limited_coils (name_sets_view names Coils) d.coils.items;
   };

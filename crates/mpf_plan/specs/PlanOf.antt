@@ -13,7 +13,13 @@ use Rattle.plan_tables.specs.declared.entries.ModeEvents.{ModeEvents}
 use Rattle.plan_tables.specs.declared.entries.Owner.{Owner}
 use Rattle.plan_tables.specs.declared.entries.Owner.TheVariants as owners
 use Rattle.plan_tables.specs.declared.entries.Action.{Action}
-use Rattle.plan_tables.specs.declared.entries.Action.TheVariants.{Post, Pulse, Enable, Disable}
+use Rattle.plan_tables.specs.declared.entries.Action.TheVariants.{Post, Pulse, Enable, Disable, Change}
+use Rattle.mpf_values.specs.Events.{Condition}
+use Rattle.plan_tables.specs.declared.entries.Condition as numbered
+use Rattle.plan_tables.specs.declared.entries.VariableId.{VariableId}
+use Rattle.plan_tables.specs.declared.entries.GameRules.{GameRules}
+use Rattle.machine_definitions.specs.GameEvents.{game_event_names}
+use Rattle.machine_definitions.specs.Players.{player_event}
 use Rattle.plan_tables.specs.declared.entries.Target.{Target}
 use Rattle.plan_tables.specs.declared.entries.Target.TheVariants as targets
 use Rattle.plan_tables.specs.declared.entries.Binding.{Binding}
@@ -27,12 +33,12 @@ use Rattle.plan_contributions.specs.declared.contribution.Place.TheVariants.{Mac
 use Rattle.plan_contributions.specs.declared.contribution.Aim.{Aim}
 use Rattle.plan_contributions.specs.declared.contribution.Aim.TheVariants.{Run, Start, Stop, Do}
 use Rattle.plan_tables.specs.declared.table.Table.{Table}
-use Rattle.plan_tables.specs.declared.table.Table.TheVariants.{Events, Switches, Coils}
+use Rattle.plan_tables.specs.declared.table.Table.TheVariants.{Events, Switches, Coils, Variables}
 use Rattle.mpf_plan.specs.declared.fault.PlanFault.{PlanFault}
 use Rattle.mpf_plan.specs.declared.fault.PlanFault.TheVariants as faults
-use Rattle.plan_tables.specs.PlanView.{PlanSwitch, no_switch, PlanCoil, no_coil, PlanMode, no_event, no_mode, PlanView}
-use Rattle.plan_contributions.specs.DeviceEntries.{Deed, pulse, enable, disable, Effect, posts, works}
-use Rattle.plan_contributions.specs.Contributions.{Contribution, gives, reads, active, inactive, mode, mode_event, mode_event_name, binds, does, device, does_in, listens, mentions, coil, contributions_of}
+use Rattle.plan_tables.specs.PlanView.{PlanSwitch, no_switch, PlanCoil, no_binding, no_coil, PlanMode, no_event, no_mode, PlanView}
+use Rattle.plan_contributions.specs.DeviceEntries.{Deed, pulse, enable, disable, Effect, posts, works, changes}
+use Rattle.plan_contributions.specs.Contributions.{Contribution, gives, reads, active, inactive, mode, mode_event, mode_event_name, binds, does, device, does_in, listens, mentions, coil, under, plays, contributions_of}
 use Rattle.mpf_plan.specs.Uses.{Names, names_from, number_among, lacks_name}
 use Rattle.plan_tables.specs.Limits.{first_above, IsFirstAbove}
 
@@ -44,6 +50,10 @@ event_of names name = record { 0 = number_among names name }
 abbrev pub coil_of : List (List ℕ) → List ℕ → CoilId
 coil_of names name = record { 0 = number_among names name }
 
+-- and a variable
+abbrev pub variable_of : List (List ℕ) → List ℕ → VariableId
+variable_of names name = record { 0 = number_among names name }
+
 -- what is done with this coil, by number
 abbrev pub action_with : CoilId → Deed → Action
 action_with c (pulse ms power) = Pulse c ms power
@@ -54,6 +64,11 @@ action_with c disable = Disable c
 abbrev pub action_of : Names → Effect → Action
 action_of names (posts n) = Post (event_of (names Events) n)
 action_of names (works n deed) = action_with (coil_of (names Coils) n) deed
+action_of names (changes v action n) = Change (variable_of (names Variables) v) action n (event_of (names Events) (player_event v))
+
+-- a condition, by number
+abbrev pub condition_of : Names → Condition → numbered.Condition
+condition_of names c = record { variable = variable_of (names Variables) c.variable; comparison = c.comparison; number = c.number }
 
 -- ---- a plan that is being made
 
@@ -169,11 +184,23 @@ next_binding plan event place aim = record {
   event = event;
   owner = owner_at (last_mode plan) place;
   priority = priority_at (last_priority plan.modes) place;
+  condition = None;
   target = target_at plan aim;
 }
 
 abbrev pub with_binding : Binding → DraftView → DraftView
 with_binding b d = record d { plan = record d.plan { bindings = d.plan.bindings ++ b ∷ [] } }
+
+-- the binding that came last has this condition
+abbrev pub conditioned : numbered.Condition → Binding → Binding
+conditioned c b = record b { condition = Some c }
+
+abbrev pub last_conditioned : numbered.Condition → List Binding → List Binding
+last_conditioned c bindings =
+    slice_set bindings (length bindings - 1) (conditioned c (slice_index_or bindings (length bindings - 1) no_binding))
+
+abbrev pub with_condition : numbered.Condition → DraftView → DraftView
+with_condition c d = record d { plan = record d.plan { bindings = last_conditioned c d.plan.bindings } }
 
 -- the next effect list begins, where a binding is to run it
 abbrev pub lists_for : Aim → List (List Action) → List (List Action)
@@ -252,6 +279,20 @@ with_coil n limits d = record d {
   plan = record d.plan { coils = slice_set d.plan.coils n (limited_to limits (slice_index_or d.plan.coils n no_coil)) };
 }
 
+-- ---- the game
+
+-- its rules, with its events by number
+abbrev pub rules_of : List (List ℕ) → ℕ → ℕ → ℕ → GameRules
+rules_of names min_balls balls_per_game max_players = record {
+  min_balls = min_balls;
+  balls_per_game = balls_per_game;
+  max_players = max_players;
+  events = map (event_of names) game_event_names;
+}
+
+abbrev pub with_game : GameRules → DraftView → DraftView
+with_game rules d = record d { plan = record d.plan { game = Some rules } }
+
 -- ---- contributions
 
 -- what one contribution adds, where names have these numbers
@@ -272,6 +313,9 @@ with_contribution names d (does_in k e) = with_action_in k (action_of names e) d
 with_contribution names d (listens k n) = with_listener (number_among (names Switches) n) (next_listener d.plan k) d
 with_contribution names d (mentions n) = d
 with_contribution names d (coil n limits) = with_coil (number_among (names Coils) n) limits d
+with_contribution names d (under c) = with_condition (condition_of names c) d
+with_contribution names d (plays min_balls balls_per_game max_players) =
+    with_game (rules_of (names Events) min_balls balls_per_game max_players) d
 
 -- a switch of which the name alone is known
 abbrev pub named_switch : List ℕ → PlanSwitch
@@ -293,6 +337,8 @@ blank names = record {
     bindings = [];
     rows = [];
     row_lists = [];
+    variables = names Variables;
+    game = None;
   };
   defined = map (λ n. false) (names Switches);
   last = length (names Switches);

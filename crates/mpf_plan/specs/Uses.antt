@@ -3,7 +3,7 @@ use Rattle.std.specs.Prelude.{ℕ, Bool, true, false, not, ◌&&◌, List, [], �
 use Rattle.std.specs.List.{list_any, position_or_len}
 use Rattle.std.specs.Str.{bytes_eq}
 use Rattle.plan_tables.specs.declared.table.Table.{Table}
-use Rattle.plan_tables.specs.declared.table.Table.TheVariants.{Events}
+use Rattle.plan_tables.specs.declared.table.Table.TheVariants.{Events, Variables}
 use Rattle.plan_contributions.specs.Contributions.{Contribution}
 use Rattle.plan_contributions.specs.UsedNames.{used, uses, given_names}
 
@@ -33,9 +33,11 @@ number_among names name = position_or_len (bytes_eq name) names
 
 -- ---- names that nothing has
 
--- whether a name of the table means something only where a contribution gives it; an event exists by being used
+-- whether a name of the table means something only where a contribution gives it; an event exists by being used, and so
+-- does a variable
 abbrev pub is_to_be_given : Table → Bool
 is_to_be_given Events = false
+is_to_be_given Variables = false
 is_to_be_given _ = true
 
 -- whether a name is used that has to be given, and is not among those that are

@@ -18,15 +18,19 @@ use std::alloc::Global;
 /// The plan of the rows.
 ///
 /// The rows of the machine text come first, then those of one mode after the other, in the order of
-/// the modes. Bindings are in this order, and modes are numbered in it. Events, switches and coils
-/// are numbered in the order of their first uses, as sections and entries are written. A switch uses
-/// what it posts, first when it becomes active, then when it becomes inactive, whatever the order of
-/// its settings. An entry of `event_player` uses the event that it handles, then those that it
-/// posts; one of `coil_player` the event that it handles, then the coils of its items. A device uses
-/// the switch to which it listens, if there is one, then the events that it handles, then those that
-/// its settings name, then what its effect lists post and the coils with which they do something. A
-/// mode uses its five events in the order of [`plan_tables::ModeEvents`], then the events that start
-/// it, then those that stop it. The rows of its text come after these.
+/// the modes. Bindings are in this order, and modes are numbered in it. Events, switches, coils and
+/// variables are numbered in the order of their first uses, as sections and entries are written. A
+/// switch uses what it posts, first when it becomes active, then when it becomes inactive, whatever
+/// the order of its settings. An entry of `event_player` uses the event that it handles, then those
+/// that it posts; one of `coil_player` the event that it handles, then the coils of its items; one
+/// of `variable_player` the event that it handles, then for each of its items the event of the
+/// variable and the variable. A device uses the switch to which it listens, if there is one, then
+/// the events that it handles, then those that its settings name, then what its effect lists post
+/// and the coils with which they do something. The game uses its events in the order of
+/// [`plan_tables::GAME_EVENTS`]. A mode uses its five events in the order of
+/// [`plan_tables::ModeEvents`], then the events that start it, then those that stop it. The rows of
+/// its text come after these. Where an event is handled under a condition, the variable of the
+/// condition is used right after it.
 ///
 /// When a switch becomes active, it posts `NAME_active`, then `sw_TAG` for each of its tags, then
 /// its `events_when_activated`. When it becomes inactive, it posts `NAME_inactive`, then its
@@ -37,6 +41,9 @@ use std::alloc::Global;
 /// stop. So is `ball_ending` to its stop where `stop_on_ball_end` holds, and `game_ending` where
 /// `game_mode` holds. These bindings are the machine's, at the mode's priority. The entries of
 /// `event_player` and `coil_player` in the mode's text are bindings of the mode, at its priority.
+///
+/// Where an event is handled under a condition, its binding has the condition. When an item of
+/// `variable_player` changes its variable, it posts `player_NAME`.
 ///
 /// An entry of `coils` says what its coil may be sent. What an item of `coil_player` does not say is
 /// as the entry of its coil has it.
@@ -81,6 +88,7 @@ pub fn plan(alloc: Global, config: &Config) -> Result<Plan, PlanFault>
             bindings: draft.bindings,
             rows: draft.rows,
             row_lists: draft.row_lists,
+            game: draft.game,
         },
     )?;
     Ok(plan)

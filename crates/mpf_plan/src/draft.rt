@@ -3,7 +3,9 @@
 ghost use Rattle.std.specs.Prelude.{◌≡◌, length};
 
 use plan_tables::devices::DeviceRow;
-use plan_tables::entries::{Action, Binding, CoilLimits, ListId, ModeEntry, SwitchEntry};
+use plan_tables::entries::{
+    Action, Binding, CoilLimits, GameRules, ListId, ModeEntry, SwitchEntry,
+};
 
 /// The tables of a plan, as far as they are made.
 #[derive(Drop)]
@@ -15,6 +17,7 @@ pub(crate) struct Draft {
     pub(crate) bindings: Vec<Binding>,
     pub(crate) rows: Vec<DeviceRow>,
     pub(crate) row_lists: Vec<ListId>,
+    pub(crate) game: Option<GameRules>,
     /// Which switches are defined.
     pub(crate) defined: Vec<bool>,
     /// The switch that came last, where it was the first of its name; or else one past the last.

@@ -2,10 +2,11 @@
 
 ghost use Rattle.std.specs.Prelude.{◌≡◌, ◌<◌, ◌≤◌, ◌+◌, ◌*◌, ◌++◌, List, [], ℕ, false, length, map, fold, replicate, slice_index_or, slice_set, IfOk, OnOk};
 ghost use Rattle.plan_tables.specs.declared.names.NameSets.{NameSets as NameSetsValue};
-ghost use Rattle.plan_tables.specs.declared.table.Table.TheVariants.{Events, Switches, Coils};
-ghost use Rattle.plan_contributions.specs.Contributions.{gives, active, inactive, mode, mode_event, binds, does, does_in, listens, coil, given_by};
+ghost use Rattle.plan_tables.specs.declared.table.Table.TheVariants.{Events, Switches, Coils, Variables};
+ghost use Rattle.machine_definitions.specs.GameEvents.{game_event_names};
+ghost use Rattle.plan_contributions.specs.Contributions.{gives, active, inactive, mode, mode_event, binds, does, does_in, listens, coil, under, plays, given_by};
 ghost use Rattle.plan_tables.specs.Devices.{list_count};
-ghost use Rattle.mpf_plan.specs.PlanOf.{event_of, coil_of, action_with, action_of, owner_at, priority_at, with_switch, with_kind, with_active, with_inactive, first_event, with_event, last_with_event, last_mode, last_row, next_binding, last_priority, lists_for, with_one_more, last_with, next_row, with_device, first_of_last, with_contribution, next_listener, with_listener, limited_to, named_switch, named_coil, blank, drafted, next_list, with_action_in};
+ghost use Rattle.mpf_plan.specs.PlanOf.{event_of, coil_of, variable_of, last_conditioned, action_with, action_of, owner_at, priority_at, with_switch, with_kind, with_active, with_inactive, first_event, with_event, last_with_event, last_mode, last_row, next_binding, last_priority, lists_for, with_one_more, last_with, next_row, with_device, first_of_last, with_contribution, next_listener, with_listener, limited_to, named_switch, named_coil, blank, drafted, next_list, with_action_in};
 ghost use Rattle.plan_tables.specs.Inside.{name_sets_view, mode_entry_view, action_lists, switches_view};
 ghost use Rattle.plan_contributions.specs.View.{parts_text, deed_view, effect_view, contribution_view, contributions_view, row_list_view};
 ghost use Rattle.mpf_plan.specs.Inside.{limited_coils, draft_view};
@@ -15,14 +16,17 @@ ghost use Rattle.plan_tables.specs.NamesKept.{names_of};
 
 use crate::draft::Draft;
 use crate::numbering::number_among;
-use machine_definitions::Definitions;
+use machine_definitions::{Definitions, GAME_EVENT_NAMES};
 use plan_contributions::{
-    Aim, Contribution, Deed, Effect, Parts, Place, Row, collect_row, mode_event_name, whole,
+    Aim, Contribution, Deed, Effect, Parts, Place, Row, collect_row, mode_event_name, player_event,
+    whole,
 };
+use plan_tables::Comparison;
 use plan_tables::devices::{DeviceRow, RowId, Settings};
 use plan_tables::entries::{
-    Action, Binding, CoilId, CoilLimits, Contact, EventId, ListId, Listener, Mode, ModeEntry,
-    ModeEvent, ModeEvents, ModeId, Owner, SwitchEntry, SwitchKind, Target,
+    Action, Binding, CoilId, CoilLimits, Condition, Contact, EventId, GameRules, ListId, Listener,
+    Mode, ModeEntry, ModeEvent, ModeEvents, ModeId, Owner, SwitchEntry, SwitchKind, Target,
+    VariableId,
 };
 use plan_tables::names::NameSets;
 use plan_tables::table::Table;
@@ -101,6 +105,14 @@ fn add(
         Contribution::Listens(number, name) => add_listener(names, text, draft, number, name),
         Contribution::Coil(name, limits) => add_coil(names, text, draft, name, limits),
         Contribution::Mentions(_) => Ok(()),
+        Contribution::Under(name, comparison, number) => {
+            add_condition(names, text, draft, name, comparison, number)
+        }
+        Contribution::Plays {
+            min_balls,
+            balls_per_game,
+            max_players,
+        } => add_game(names, text, draft, min_balls, balls_per_game, max_players),
     }
 }
 
@@ -335,6 +347,7 @@ fn next_binding(draft: &Draft, event: EventId, place: Place, aim: Aim) -> Bindin
         event,
         owner: owner_at(last, place),
         priority: priority_at(priority, place),
+        condition: None,
         target,
     }
 }
@@ -387,6 +400,44 @@ fn last_priority(modes: &[ModeEntry]) -> u32
     }
 }
 
+/// The binding that came last has a condition: its variable compares so with the number.
+fn add_condition(
+    names: &NameSets,
+    text: &mut Vec<u8>,
+    draft: &mut Draft,
+    name: &[u8],
+    comparison: Comparison,
+    number: i64,
+) -> Result<(), AllocError>
+    ensures { OnOk result (draft_view names.now draft.new ≡ with_contribution (name_sets_view names.now) (draft_view names.now draft.old) (under (record { variable = name.now; comparison = comparison; number = number }))) }
+{
+    let variable = variable_of(names, text, name)?;
+    let condition = Condition {
+        variable,
+        comparison,
+        number,
+    };
+    put_condition(&mut draft.bindings, condition);
+    Ok(())
+}
+
+fn variable_of(names: &NameSets, text: &mut Vec<u8>, name: &[u8]) -> Result<VariableId, AllocError>
+    ensures { IfOk result (λ v. v ≡ variable_of (name_sets_view names.now Variables) name.now) }
+{
+    let number = number_among(names.of(Table::Variables), text, whole(name))?;
+    Ok(VariableId(number as u16))
+}
+
+/// The binding that came last has this condition.
+fn put_condition(bindings: &mut Vec<Binding>, condition: Condition)
+    ensures { bindings.new.items ≡ last_conditioned condition bindings.old.items }
+{
+    let count = bindings.len();
+    if count > 0 {
+        bindings[count - 1].condition = Some(condition);
+    }
+}
+
 /// The next effect list begins, where a binding is to run it.
 fn begin_list(alloc: Global, lists: &mut Vec<Vec<Action>>, aim: Aim) -> Result<(), AllocError>
     ensures { OnOk result (action_lists lists.new.items ≡ lists_for aim (action_lists lists.old.items)) }
@@ -424,6 +475,16 @@ fn action_of(names: &NameSets, text: &mut Vec<u8>, effect: Effect) -> Result<Act
         Effect::Coil(name, deed) => {
             let coil = coil_of(names, text, name)?;
             Ok(action_with(coil, deed))
+        }
+        Effect::Variable(name, action, number) => {
+            let variable = variable_of(names, text, name)?;
+            let event = event_of(names, text, player_event(name))?;
+            Ok(Action::Change {
+                variable,
+                action,
+                number,
+                event,
+            })
         }
     }
 }
@@ -619,6 +680,48 @@ fn limit_coil(coils: &mut Vec<CoilLimits>, n: usize, limits: CoilLimits)
     }
 }
 
+// ---- the game
+
+/// The rules of the game, with its events.
+fn add_game(
+    names: &NameSets,
+    text: &mut Vec<u8>,
+    draft: &mut Draft,
+    min_balls: u32,
+    balls_per_game: u32,
+    max_players: u32,
+) -> Result<(), AllocError>
+    ensures { OnOk result (draft_view names.now draft.new ≡ with_contribution (name_sets_view names.now) (draft_view names.now draft.old) (plays min_balls balls_per_game max_players)) }
+{
+    let events = game_events(names, text)?;
+    draft.game = Some(GameRules {
+        min_balls,
+        balls_per_game,
+        max_players,
+        events,
+    });
+    Ok(())
+}
+
+/// The events of the game, in their order.
+fn game_events(names: &NameSets, text: &mut Vec<u8>) -> Result<[EventId; 21], AllocError>
+    ensures { IfOk result (λ events. events ≡ map (event_of (name_sets_view names.now Events)) game_event_names) }
+{
+    let mut events = [EventId(0); 21];
+    for place in 0..GAME_EVENT_NAMES.len() {
+        events[place] = event_of(names, text, whole(game_event_name(place)))?;
+    }
+    Ok(events)
+}
+
+/// The name of the event of the game at this place.
+fn game_event_name(place: usize) -> &'static [u8]
+    requires { place < 21 }
+    ensures { result.now ≡ slice_index_or game_event_names place [] }
+{
+    GAME_EVENT_NAMES[place]
+}
+
 // ---- before anything is added
 
 /// The names alone.
@@ -637,6 +740,7 @@ fn blank(alloc: Global, names: &NameSets) -> Result<Draft, AllocError>
         bindings: Vec::new(alloc),
         rows: Vec::new(alloc),
         row_lists: Vec::new(alloc),
+        game: None,
         defined,
         last: count,
     })

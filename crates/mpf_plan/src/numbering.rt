@@ -345,12 +345,12 @@ fn is_other(
     Ok(!there)
 }
 
-/// Whether a name of the table has to be given: events are there by their use alone.
+/// Whether a name of the table has to be given: events and variables are there by their use alone.
 fn is_to_be_given(table: Table) -> bool
     ensures { result ≡ is_to_be_given table }
 {
     match table {
-        Table::Events => false,
+        Table::Events | Table::Variables => false,
         _ => true,
     }
 }

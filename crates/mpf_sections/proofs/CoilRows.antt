@@ -14,8 +14,8 @@ use Rattle.mpf_sections.specs.Inside.{needed_at}
 use Rattle.mpf_sections.specs.Named.{IsNamedCoil, IsNamedCoilPlayer, IsNamedFlipper, IsNamedAutofire, IsNamed}
 use Rattle.mpf_sections.specs.Short.{IsPulseInRange, IsPowerInRange, IsCoilInRange, IsItemInRange, IsShortCoilPlayer, IsCoilPlayerInRange, IsShortFlipper, IsShortAutofire, IsShortSection}
 use Rattle.mpf_sections.proofs.Each.{all_mapped}
-use Rattle.mpf_sections.proofs.RowNames.{IsNamedOption, value_at_named, names_named, event_named, entries_of_named, players_of_named}
-use Rattle.mpf_sections.proofs.ShortRows.{IsShortOption, none_short, value_at_short, names_short, entries_of_short, players_of_short}
+use Rattle.mpf_sections.proofs.RowNames.{IsNamedOption, value_at_named, events_named, event_named, entries_of_named, players_of_named}
+use Rattle.mpf_sections.proofs.ShortRows.{IsShortOption, none_short, value_at_short, events_short, entries_of_short, players_of_short}
 use Rattle.mpf_sections.proofs.DeviceRows.{IsNamedText, IsNamedWritten, name_in_named}
 
 -- ---- names
@@ -78,8 +78,8 @@ flipper_named e h = record {
   main_coil = needed_named e 0 h;
   hold_coil = some_named (name_in (text_of (slice_get e.values 1))) (written_named e 1 h);
   switch = needed_named e 2 h;
-  enables = names_named (slice_get e.values 3) (value_at_named e.values 3 h.values);
-  disables = names_named (slice_get e.values 4) (value_at_named e.values 4 h.values);
+  enables = events_named (slice_get e.values 3) (value_at_named e.values 3 h.values);
+  disables = events_named (slice_get e.values 4) (value_at_named e.values 4 h.values);
 }
 
 -- And those in an entry of `autofire_coils`.
@@ -89,8 +89,8 @@ autofire_named e h = record {
   name = h.name;
   coil = needed_named e 0 h;
   switch = needed_named e 1 h;
-  enables = names_named (slice_get e.values 2) (value_at_named e.values 2 h.values);
-  disables = names_named (slice_get e.values 3) (value_at_named e.values 3 h.values);
+  enables = events_named (slice_get e.values 2) (value_at_named e.values 2 h.values);
+  disables = events_named (slice_get e.values 3) (value_at_named e.values 3 h.values);
 }
 
 -- so they are in a section
@@ -206,7 +206,7 @@ unfolding coil_player_of
 coil_player_in_range p = all_mapped IsItemInRange coil_item_of item_in_range (listed_keyed (Some p.value))
 
 -- An entry of `coil_player` says of at most 1,024 coils what they do.
-keyed_short : (o : Option Value) → IsShortOption o → length (listed_keyed o) ≤ 1024
+pub keyed_short : (o : Option Value) → IsShortOption o → length (listed_keyed o) ≤ 1024
 keyed_short None h = none_short
 keyed_short (Some (one x)) h = none_short
 keyed_short (Some (names xs)) h = none_short
@@ -226,15 +226,15 @@ coil_player_short p h =
 pub flipper_short : (e : Entry) → IsShortEntry 1024 e → IsShortFlipper (flipper_of e)
 unfolding flipper_of
 flipper_short e h = record {
-  enables = names_short (slice_get e.values 3) (value_at_short e.values 3 h);
-  disables = names_short (slice_get e.values 4) (value_at_short e.values 4 h);
+  enables = events_short (slice_get e.values 3) (value_at_short e.values 3 h);
+  disables = events_short (slice_get e.values 4) (value_at_short e.values 4 h);
 }
 
 pub autofire_short : (e : Entry) → IsShortEntry 1024 e → IsShortAutofire (autofire_of e)
 unfolding autofire_of
 autofire_short e h = record {
-  enables = names_short (slice_get e.values 2) (value_at_short e.values 2 h);
-  disables = names_short (slice_get e.values 3) (value_at_short e.values 3 h);
+  enables = events_short (slice_get e.values 2) (value_at_short e.values 2 h);
+  disables = events_short (slice_get e.values 3) (value_at_short e.values 3 h);
 }
 
 -- so it is with those of a section

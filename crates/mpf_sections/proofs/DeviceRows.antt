@@ -6,27 +6,27 @@ use Rattle.std.proofs.lemmas.List.Elements.{All-nil, All-cons, All-map, All-weak
 use Rattle.mpf_values.specs.Names.{IsName}
 use Rattle.std.proofs.lemmas.Int.{ints}
 use Rattle.section_tables.specs.Rows.{Plain, nothing, flag, number, time, power, word, name, event, Fields, Value, one, names, posts, events, steps, maps, keyed, Entry}
-use Rattle.section_tables.specs.Named.{IsNamedPlain, AreNames, AreNamedPlains, IsNamedValue, IsNamedEntry, IsShortValue, IsShortEntry}
+use Rattle.section_tables.specs.Named.{IsNamedHandled, IsNamedPlain, AreNamedEvents, AreNamedPlains, IsNamedValue, IsNamedEntry, IsShortValue, IsShortEntry}
 use Rattle.section_tables.specs.EntryOf.{within}
 use Rattle.mpf_sections.specs.declared.words.Direction.{Direction}
 use Rattle.mpf_sections.specs.declared.words.Direction.TheVariants.{Up, Down}
-use Rattle.mpf_sections.specs.Rows.{Written, Control, SectionRows}
-use Rattle.mpf_sections.specs.Typed.{counters_name, accruals_name, sequences_name, timers_name, direction_of, word_of, limit_of, time_of, listed_steps, listed_maps, name_in, control_from, control_of, with_control, controls_of, end_from, interval_from, counter_of, step_block_of, timer_of, counters_in, accruals_in, sequences_in, timers_in, entries_of}
+use Rattle.mpf_sections.specs.Rows.{Written, Handled, Control, SectionRows}
+use Rattle.mpf_sections.specs.Typed.{counters_name, accruals_name, sequences_name, timers_name, direction_of, word_of, limit_of, time_of, listed_steps, listed_maps, name_in, event_in, control_from, control_of, with_control, controls_of, end_from, interval_from, counter_of, step_block_of, timer_of, counters_in, accruals_in, sequences_in, timers_in, entries_of}
 use Rattle.mpf_sections.specs.Inside.{block_at}
-use Rattle.mpf_sections.specs.Named.{AllNames, IsNamedBlock, IsNamedCounter, IsNamedStepBlock, IsNamedTimer, IsNamed}
+use Rattle.mpf_sections.specs.Named.{AllNamedEvents, IsNamedBlock, IsNamedCounter, IsNamedStepBlock, IsNamedTimer, IsNamed}
 use Rattle.mpf_sections.specs.Short.{IsEndInRange, IsShortBlock, IsShortCounter, IsShortStepBlock, IsShortTimer, IsShortSection}
 use Rattle.mpf_sections.proofs.Each.{all_where}
-use Rattle.mpf_sections.proofs.RowNames.{IsNamedOption, is_name, value_at_named, names_named, posts_named, entries_of_named}
+use Rattle.mpf_sections.proofs.RowNames.{IsNamedOption, value_at_named, events_named, posts_named, entries_of_named}
 use Rattle.mpf_sections.proofs.ShortRows.{value_at_short, posts_short, entries_of_short}
 
 -- ---- names
 
 block_named : (first : ℕ) (row : List Value) → AllByRecursion IsNamedValue row → IsNamedBlock (block_at first row)
 block_named first row h = record {
-  enables = names_named (slice_get row (first + 3)) (value_at_named row (first + 3) h);
-  disables = names_named (slice_get row (first + 4)) (value_at_named row (first + 4) h);
-  resets = names_named (slice_get row (first + 5)) (value_at_named row (first + 5) h);
-  restarts = names_named (slice_get row (first + 6)) (value_at_named row (first + 6) h);
+  enables = events_named (slice_get row (first + 3)) (value_at_named row (first + 3) h);
+  disables = events_named (slice_get row (first + 4)) (value_at_named row (first + 4) h);
+  resets = events_named (slice_get row (first + 5)) (value_at_named row (first + 5) h);
+  restarts = events_named (slice_get row (first + 6)) (value_at_named row (first + 6) h);
   hit = posts_named (slice_get row (first + 7)) (value_at_named row (first + 7) h);
   complete = posts_named (slice_get row (first + 8)) (value_at_named row (first + 8) h);
 }
@@ -36,22 +36,22 @@ pub counter_named : (e : Entry) → IsNamedEntry e → IsNamedCounter (counter_o
 unfolding counter_of
 counter_named e h = record {
   name = h.name;
-  counts = names_named (slice_get e.values 0) (value_at_named e.values 0 h.values);
+  counts = events_named (slice_get e.values 0) (value_at_named e.values 0 h.values);
   block = block_named 6 e.values h.values;
 }
 
-all_steps : (ss : List (List Written)) → AllByRecursion AreNames ss → All AllNames ss
-all_steps ss h = All-weaker AreNames AllNames (λ ws k. All-from_recursion is_name ws k) ss (All-from_recursion AreNames ss h)
+all_steps : (ss : List (List Handled)) → AllByRecursion AreNamedEvents ss → All AllNamedEvents ss
+all_steps ss h = All-weaker AreNamedEvents AllNamedEvents (λ hs k. All-from_recursion IsNamedHandled hs k) ss (All-from_recursion AreNamedEvents ss h)
 
-steps_named : (o : Option Value) → IsNamedOption o → All AllNames (listed_steps o)
-steps_named None h = All-nil AllNames
-steps_named (Some (one x)) h = All-nil AllNames
-steps_named (Some (names xs)) h = All-nil AllNames
-steps_named (Some (posts xs)) h = All-nil AllNames
-steps_named (Some (events xs)) h = All-nil AllNames
-steps_named (Some (steps ss)) h = all_where AllNames (nat_le (length ss) 16) ss (all_steps ss h)
-steps_named (Some (maps xs)) h = All-nil AllNames
-steps_named (Some (keyed xs)) h = All-nil AllNames
+steps_named : (o : Option Value) → IsNamedOption o → All AllNamedEvents (listed_steps o)
+steps_named None h = All-nil AllNamedEvents
+steps_named (Some (one x)) h = All-nil AllNamedEvents
+steps_named (Some (names xs)) h = All-nil AllNamedEvents
+steps_named (Some (posts xs)) h = All-nil AllNamedEvents
+steps_named (Some (events xs)) h = All-nil AllNamedEvents
+steps_named (Some (steps ss)) h = all_where AllNamedEvents (nat_le (length ss) 16) ss (all_steps ss h)
+steps_named (Some (maps xs)) h = All-nil AllNamedEvents
+steps_named (Some (keyed xs)) h = All-nil AllNamedEvents
 
 -- Those in an entry of `accruals` or `sequences` are, too.
 pub step_block_named : (e : Entry) → IsNamedEntry e → IsNamedStepBlock (step_block_of e)
@@ -62,8 +62,8 @@ step_block_named e h = record {
   block = block_named 1 e.values h.values;
 }
 
-abbrev HasName : Control → Type 0
-HasName c = IsName c.event.text
+abbrev HasNames : Control → Type 0
+HasNames c = IsNamedHandled c.event
 
 abbrev pub IsNamedText : Option Plain → Type 0
 IsNamedText None = Unit {0}
@@ -73,6 +73,21 @@ text_at_named : (values : List Plain) (i : ℕ) → AreNamedPlains values → Is
 text_at_named [] i h = tt
 text_at_named (x ∷ xs) zero h = h.0
 text_at_named (x ∷ xs) (suc i) h = text_at_named xs i h.1
+
+abbrev IsNamedFound : Option Handled → Type 0
+IsNamedFound None = Unit {0}
+IsNamedFound (Some h) = IsNamedHandled h
+
+event_in_named : (o : Option Plain) → IsNamedText o → IsNamedFound (event_in o)
+event_in_named None h = tt
+event_in_named (Some nothing) h = tt
+event_in_named (Some (flag b)) h = tt
+event_in_named (Some (number n)) h = tt
+event_in_named (Some (time ms)) h = tt
+event_in_named (Some (power n)) h = tt
+event_in_named (Some (word w)) h = tt
+event_in_named (Some (name w)) h = tt
+event_in_named (Some (event e)) h = h
 
 abbrev pub IsNamedWritten : Option Written → Type 0
 IsNamedWritten None = Unit {0}
@@ -89,25 +104,25 @@ name_in_named (Some (word w)) h = tt
 name_in_named (Some (name w)) h = h
 name_in_named (Some (event e)) h = tt
 
-one_control : (m : Fields) (o : Option Written) → IsNamedWritten o → (cs : List Control) → All HasName cs → All HasName (with_control (control_from m o) cs)
+one_control : (m : Fields) (o : Option Handled) → IsNamedFound o → (cs : List Control) → All HasNames cs → All HasNames (with_control (control_from m o) cs)
 one_control m None h cs rest = rest
-one_control m (Some w) h cs rest = All-cons HasName _ cs h rest
+one_control m (Some x) h cs rest = All-cons HasNames _ cs h rest
 
-controls_named : (ms : List Fields) → AllByRecursion (λ m. AreNamedPlains m.values) ms → All HasName (controls_of ms)
+controls_named : (ms : List Fields) → AllByRecursion (λ m. AreNamedPlains m.values) ms → All HasNames (controls_of ms)
 unfolding control_of
-controls_named [] h = All-nil HasName
+controls_named [] h = All-nil HasNames
 controls_named (m ∷ ms) h =
-    one_control m (name_in (slice_get m.values 0)) (name_in_named (slice_get m.values 0) (text_at_named m.values 0 h.0)) (controls_of ms) (controls_named ms h.1)
+    one_control m (event_in (slice_get m.values 0)) (event_in_named (slice_get m.values 0) (text_at_named m.values 0 h.0)) (controls_of ms) (controls_named ms h.1)
 
-maps_named : (o : Option Value) → IsNamedOption o → All HasName (controls_of (listed_maps o))
-maps_named None h = All-nil HasName
-maps_named (Some (one x)) h = All-nil HasName
-maps_named (Some (names xs)) h = All-nil HasName
-maps_named (Some (posts xs)) h = All-nil HasName
-maps_named (Some (events xs)) h = All-nil HasName
-maps_named (Some (steps ss)) h = All-nil HasName
+maps_named : (o : Option Value) → IsNamedOption o → All HasNames (controls_of (listed_maps o))
+maps_named None h = All-nil HasNames
+maps_named (Some (one x)) h = All-nil HasNames
+maps_named (Some (names xs)) h = All-nil HasNames
+maps_named (Some (posts xs)) h = All-nil HasNames
+maps_named (Some (events xs)) h = All-nil HasNames
+maps_named (Some (steps ss)) h = All-nil HasNames
 maps_named (Some (maps ms)) h = controls_named ms h
-maps_named (Some (keyed xs)) h = All-nil HasName
+maps_named (Some (keyed xs)) h = All-nil HasNames
 
 -- Those in an entry of `timers` are, too.
 pub timer_named : (e : Entry) → IsNamedEntry e → IsNamedTimer (timer_of e)
@@ -141,11 +156,11 @@ timers_named s h =
 
 -- ---- ranges
 
-both : (a b : Bool) → a && b ≡ true → (a ≡ true) × (b ≡ true)
+pub both : (a b : Bool) → a && b ≡ true → (a ≡ true) × (b ≡ true)
 both true b e = (refl, e)
 both false b e = absurd cc
 
-at_most : (a b : ℤ) → int_le a b ≡ true → a ≤ℤ b
+pub at_most : (a b : ℤ) → int_le a b ≡ true → a ≤ℤ b
 at_most a b h = grind (arith, ints, h)
 
 limit_by : (n : ℤ) (b : Bool) → within (negsuc 999999999) (pos 1000000000) n ≡ b → IsEndInRange (if b then Some n else None)
@@ -180,7 +195,7 @@ interval_in_range : (ms : ℕ) → 1 ≤ interval_from ms
 interval_in_range zero = omega arith
 interval_in_range (suc ms) = omega arith
 
-steps_by : (ss : List (List Written)) (b : Bool) → nat_le (length ss) 16 ≡ b → length (if b then ss else []) ≤ 16
+steps_by : (ss : List (List Handled)) (b : Bool) → nat_le (length ss) 16 ≡ b → length (if b then ss else []) ≤ 16
 steps_by ss true h = leb-true (length ss) 16 h
 steps_by ss false h = omega arith
 

@@ -4,3 +4,4 @@ pub mod RowNames
 pub mod ShortRows
 pub mod DeviceRows
 pub mod CoilRows
+pub mod GameRows

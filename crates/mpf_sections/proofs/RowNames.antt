@@ -6,13 +6,13 @@ use Rattle.std.proofs.lemmas.List.Elements.{All-nil, All-head, All-tail, All-map
 use Rattle.mpf_values.specs.Bytes.{is_name_byte}
 use Rattle.mpf_values.specs.Names.{IsName}
 use Rattle.section_tables.specs.Rows.{Plain, nothing, flag, number, time, power, word, name, event, Value, one, names, posts, events, steps, maps, keyed, Entry, Player}
-use Rattle.section_tables.specs.Named.{IsNamedValue, IsNamedEvent, IsNamedEntry, IsNamedPlayer}
+use Rattle.section_tables.specs.Named.{IsNamedHandled, IsNamedValue, IsNamedEvent, IsNamedEntry, IsNamedPlayer}
 use Rattle.section_tables.specs.Tables.{setting_default}
 use Rattle.mpf_sections.specs.Rows.{Written, Content, entries, players, entry, listed, SectionRows}
 use Rattle.mpf_sections.specs.SectionTables as tables
 use Rattle.mpf_sections.specs.SectionTables.{switches_name, event_player_name}
-use Rattle.mpf_sections.specs.Typed.{content_named, mode_row, mode_name, mode_settings_of, mode_settings, listed_names, listed_posts, event_name, switch_of, event_player_of, entries_in, players_in, entries_of, players_of, switches_in, event_players_in}
-use Rattle.mpf_sections.specs.Named.{AllNames, IsNamedSwitch, IsNamedEventPlayer, AreNamedSettings, IsNamedContent, IsNamed}
+use Rattle.mpf_sections.specs.Typed.{content_named, mode_row, mode_name, mode_settings_of, mode_settings, listed_names, listed_events, listed_posts, handled_in, switch_of, event_player_of, entries_in, players_in, entries_of, players_of, switches_in, event_players_in}
+use Rattle.mpf_sections.specs.Named.{AllNames, AllNamedEvents, IsNamedSwitch, IsNamedEventPlayer, AreNamedSettings, IsNamedContent, IsNamed}
 use Rattle.mpf_sections.proofs.Each.{all_where}
 
 abbrev pub IsNamedOption : Option Value → Type 0
@@ -47,14 +47,24 @@ posts_named (Some (steps xs)) h = All-nil is_name
 posts_named (Some (maps xs)) h = All-nil is_name
 posts_named (Some (keyed xs)) h = All-nil is_name
 
-pub event_named : (x : Plain) → IsNamedEvent x → IsName (event_name x).text
+pub events_named : (o : Option Value) → IsNamedOption o → AllNamedEvents (listed_events o)
+events_named None h = All-nil IsNamedHandled
+events_named (Some (one x)) h = All-nil IsNamedHandled
+events_named (Some (names xs)) h = All-nil IsNamedHandled
+events_named (Some (posts xs)) h = All-nil IsNamedHandled
+events_named (Some (events hs)) h = All-from_recursion IsNamedHandled hs h
+events_named (Some (steps xs)) h = All-nil IsNamedHandled
+events_named (Some (maps xs)) h = All-nil IsNamedHandled
+events_named (Some (keyed xs)) h = All-nil IsNamedHandled
+
+pub event_named : (x : Plain) → IsNamedEvent x → IsNamedHandled (handled_in x)
 event_named nothing h = absurd h
 event_named (flag b) h = absurd h
 event_named (number n) h = absurd h
 event_named (time ms) h = absurd h
 event_named (power n) h = absurd h
 event_named (word w) h = absurd h
-event_named (name w) h = h
+event_named (name w) h = record { name = h; variable = tt }
 event_named (event e) h = h
 
 -- The names in an entry of `switches` are names.
@@ -75,7 +85,7 @@ event_player_named p h = record { event = event_named p.event h.event; posts = p
 -- And those in what `mode` says.
 pub settings_named : (row : List Value) → AllByRecursion IsNamedValue row → AreNamedSettings (mode_settings_of row)
 unfolding mode_settings_of
-settings_named row h = record { starts = names_named (slice_get row 0) (value_at_named row 0 h); stops = names_named (slice_get row 1) (value_at_named row 1 h) }
+settings_named row h = record { starts = events_named (slice_get row 0) (value_at_named row 0 h); stops = events_named (slice_get row 1) (value_at_named row 1 h) }
 
 abbrev IsNamedFound : Option Content → Type 0
 IsNamedFound None = Unit {0}

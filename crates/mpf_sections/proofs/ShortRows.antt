@@ -7,7 +7,7 @@ use Rattle.section_tables.specs.Rows.{Value, one, names, posts, events, steps, m
 use Rattle.section_tables.specs.Named.{IsShortValue, IsShortEntry, IsShortPlayer}
 use Rattle.mpf_sections.specs.Rows.{SectionRows}
 use Rattle.mpf_sections.specs.SectionTables.{switches_name, event_player_name}
-use Rattle.mpf_sections.specs.Typed.{listed_names, listed_posts, switch_of, event_player_of, entries_in, players_in, entries_of, players_of, switches_in, event_players_in}
+use Rattle.mpf_sections.specs.Typed.{listed_names, listed_events, listed_posts, switch_of, event_player_of, entries_in, players_in, entries_of, players_of, switches_in, event_players_in}
 use Rattle.mpf_sections.specs.Short.{IsShortSection, IsShortSwitch, IsShortEventPlayer}
 use Rattle.mpf_sections.proofs.Each.{all_where}
 
@@ -35,6 +35,16 @@ names_short (Some (events xs)) h = none_short
 names_short (Some (steps xs)) h = none_short
 names_short (Some (maps xs)) h = none_short
 names_short (Some (keyed xs)) h = none_short
+
+pub events_short : (o : Option Value) → IsShortOption o → length (listed_events o) ≤ 1024
+events_short None h = none_short
+events_short (Some (one x)) h = none_short
+events_short (Some (names xs)) h = none_short
+events_short (Some (posts xs)) h = none_short
+events_short (Some (events hs)) h = h.0
+events_short (Some (steps xs)) h = none_short
+events_short (Some (maps xs)) h = none_short
+events_short (Some (keyed xs)) h = none_short
 
 pub posts_short : (o : Option Value) → IsShortOption o → length (listed_posts o) ≤ 1024
 posts_short None h = none_short

@@ -1,14 +1,16 @@
 -- What holds of the shape of each section: a term for each, in the order of `machine_shapes` and `mode_shapes`.
-use Rattle.std.proofs.Common.{◌≡◌, ℕ, ◌≤◌, Bool, true, false, cond, List, [], ◌∷◌, Option, Some, refl, sym, subst, codes}
+use Rattle.std.proofs.Common.{◌≡◌, ℕ, ◌≤◌, Bool, true, false, cond, List, [], ◌∷◌, Option, Some, None, refl, sym, subst, codes}
 use Rattle.std.specs.List.{AllByRecursion}
 use Rattle.std.specs.Str.{bytes_eq}
 use Rattle.std.proofs.lemmas.Option.{same_Some, none-some}
 use Rattle.mpf_sections.specs.declared.tables.TextKind.{TextKind}
 use Rattle.mpf_sections.specs.declared.tables.TextKind.TheVariants.{Machine, Mode}
 use Rattle.mpf_values.proofs.NameTexts.{IsName-from_is_name}
+use Rattle.section_tables.specs.Rows.{Handled}
 use Rattle.section_tables.specs.Kinds.{Shape}
-use Rattle.section_tables.specs.Named.{IsNamedKinds, IsNamedTable, IsNamedShape, IsShortTable, IsShortShape}
-use Rattle.mpf_sections.specs.SectionTables.{switches, coils, rule_events, flippers, autofire_coils, block, counters, step_blocks, timers, mode, event_player, coil_player, machine_shapes, mode_shapes, named_in, shape_of}
+use Rattle.section_tables.specs.Entries.{handled_at}
+use Rattle.section_tables.specs.Named.{IsNamedHandled, IsNamedKinds, IsNamedTable, IsNamedShape, IsShortTable, IsShortShape}
+use Rattle.mpf_sections.specs.SectionTables.{switches, coils, rule_events, flippers, autofire_coils, block, counters, step_blocks, timers, mode, machine, game, event_player, coil_player, variable_player, shared_shapes, machine_shapes, mode_shapes, named_in, shape_of}
 use Rattle.mpf_sections.specs.TableRules.{IsRight}
 use Rattle.section_tables.proofs.RowNames.{no_items, few_items}
 use Rattle.section_tables.proofs.Steps.{word_is}
@@ -42,10 +44,13 @@ coils_short longest = let none = no_items longest in (none, (none, (none, (none,
 
 -- ---- `flippers` and `autofire_coils`
 
+abbrev default_event : List ℕ → Handled
+default_event name = handled_at 0 (record { name = name; condition = None })
+
 rule_events_named : IsNamedTable rule_events
 rule_events_named =
-    let starts = IsName-from_is_name (codes "ball_started") refl in
-    let ends = IsName-from_is_name (codes "ball_will_end") refl in
+    let starts : IsNamedHandled (default_event (codes "ball_started")) = record { name = IsName-from_is_name (codes "ball_started") refl; variable = tt } in
+    let ends : IsNamedHandled (default_event (codes "ball_will_end")) = record { name = IsName-from_is_name (codes "ball_will_end") refl; variable = tt } in
     (((starts, tt), tt), (((ends, tt), tt), tt))
 
 flippers_named : IsNamedTable flippers
@@ -99,6 +104,20 @@ mode_named = ((tt, tt), ((tt, tt), ((tt, tt), ((tt, tt), ((tt, tt), ((tt, tt), t
 mode_short : (longest : ℕ) → IsShortTable longest mode
 mode_short longest = let none = no_items longest in (none, (none, (none, (none, (none, (none, tt))))))
 
+-- ---- `machine` and `game`
+
+machine_named : IsNamedTable machine
+machine_named = ((tt, tt), tt)
+
+machine_short : (longest : ℕ) → IsShortTable longest machine
+machine_short longest = (no_items longest, tt)
+
+game_named : IsNamedTable game
+game_named = ((tt, tt), ((tt, tt), tt))
+
+game_short : (longest : ℕ) → IsShortTable longest game
+game_short longest = let none = no_items longest in (none, (none, tt))
+
 -- ---- `event_player`
 
 player_named : IsNamedKinds event_player
@@ -109,21 +128,38 @@ player_named = record { key = tt; value = tt }
 coil_player_named : IsNamedKinds coil_player
 coil_player_named = record { key = tt; value = (tt, (tt, (tt, (tt, tt)))) }
 
+-- ---- `variable_player`
+
+variable_player_named : IsNamedKinds variable_player
+variable_player_named = record { key = tt; value = (tt, (tt, tt)) }
+
 -- ---- the shapes of sections
+
+abbrev AllShapes : (Shape → Type 0) → List (List ℕ × Shape) → Type 0
+AllShapes P = AllByRecursion (λ t. P t.1)
+
+shared_named : AllShapes IsNamedShape shared_shapes
+shared_named = (player_named, (variable_player_named, (coil_player_named, (counters_named, (step_blocks_named, (step_blocks_named, tt))))))
+
+shared_short : (longest : ℕ) → AllShapes (IsShortShape longest) shared_shapes
+shared_short longest = (tt, (tt, (tt, (counters_short longest, (step_blocks_short longest, (step_blocks_short longest, tt))))))
+
+shared_right : AllShapes IsRight shared_shapes
+shared_right = (refl, (refl, (refl, (refl, (refl, (refl, tt))))))
 
 pub shape_named : (text : TextKind) (section : List ℕ) (shape : Shape) → shape_of text section ≡ Some shape → IsNamedShape shape
 shape_named Machine section shape is = holds_at (λ name s. IsNamedShape s) section shape machine_shapes is
-    (tt, (switches_named, (coils_named, (flippers_named, (autofire_coils_named, (player_named, (coil_player_named, (counters_named, (step_blocks_named, (step_blocks_named, tt))))))))))
+    (tt, (machine_named, (game_named, (switches_named, (coils_named, (flippers_named, (autofire_coils_named, shared_named)))))))
 shape_named Mode section shape is = holds_at (λ name s. IsNamedShape s) section shape mode_shapes is
-    (mode_named, (player_named, (coil_player_named, (timers_named, (counters_named, (step_blocks_named, (step_blocks_named, tt)))))))
+    (mode_named, (timers_named, shared_named))
 
 pub shape_short : (longest : ℕ) → 1 ≤ longest → (text : TextKind) (section : List ℕ) (shape : Shape) → shape_of text section ≡ Some shape → IsShortShape longest shape
 shape_short longest one Machine section shape is = holds_at (λ name s. IsShortShape longest s) section shape machine_shapes is
-    (tt, (switches_short longest, (coils_short longest, (flippers_short longest one, (autofire_coils_short longest one, (tt, (tt, (counters_short longest, (step_blocks_short longest, (step_blocks_short longest, tt))))))))))
+    (tt, (machine_short longest, (game_short longest, (switches_short longest, (coils_short longest, (flippers_short longest one, (autofire_coils_short longest one, shared_short longest)))))))
 shape_short longest one Mode section shape is = holds_at (λ name s. IsShortShape longest s) section shape mode_shapes is
-    (mode_short longest, (tt, (tt, (timers_short longest, (counters_short longest, (step_blocks_short longest, (step_blocks_short longest, tt)))))))
+    (mode_short longest, (timers_short longest, shared_short longest))
 
 pub shape_right : (text : TextKind) (section : List ℕ) (shape : Shape) → shape_of text section ≡ Some shape → IsRight shape
 shape_right Machine section shape is = holds_at (λ name s. IsRight s) section shape machine_shapes is
-    (tt, (refl, (refl, (refl, (refl, (refl, (refl, (refl, (refl, (refl, tt))))))))))
-shape_right Mode section shape is = holds_at (λ name s. IsRight s) section shape mode_shapes is (refl, (refl, (refl, (refl, (refl, (refl, (refl, tt)))))))
+    (tt, (refl, (refl, (refl, (refl, (refl, (refl, shared_right)))))))
+shape_right Mode section shape is = holds_at (λ name s. IsRight s) section shape mode_shapes is (refl, (refl, shared_right))

@@ -3,6 +3,7 @@ pub mod TableRules
 pub mod Rows
 pub mod Typed
 pub mod TypedCoils
+pub mod TypedGame
 pub mod Named
 pub mod Short
 pub mod SectionView

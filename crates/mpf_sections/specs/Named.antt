@@ -1,13 +1,17 @@
 -- What it means that every name in the rows of a section is one: 1 to 64 letters, digits, `_`, `-` and `.`.
 use Rattle.std.specs.Prelude.{List, IfSome}
 use Rattle.std.specs.List.{All}
-pub use Rattle.section_tables.specs.Named.{IsNamedEntry, IsNamedPlayer}
-use Rattle.mpf_sections.specs.Rows.{Written, Switch, EventPlayer, Coil, CoilPlayer, Flipper, Autofire, Block, Counter, StepBlock, Timer, ModeSettings, Content, entries, players, entry, listed, SectionRows}
+pub use Rattle.section_tables.specs.Named.{IsNamedHandled, IsNamedEntry, IsNamedPlayer}
+use Rattle.mpf_sections.specs.Rows.{Written, Handled, Switch, EventPlayer, Coil, CoilPlayer, VariablePlayer, Flipper, Autofire, Block, Counter, StepBlock, Timer, ModeSettings, Content, entries, players, entry, listed, SectionRows}
 pub use Rattle.mpf_values.specs.Names.{IsName}
 
 -- each name in a list is one
 abbrev pub AllNames : List Written → Type 0
 AllNames names = All (λ w. IsName w.text) names
+
+-- the names of each handled event in a list are names
+abbrev pub AllNamedEvents : List Handled → Type 0
+AllNamedEvents events = All IsNamedHandled events
 
 -- the name of a switch is one, and so are those of its tags and of the events that its entry lists
 pub record IsNamedSwitch (s : Switch) : Type 0 where
@@ -16,19 +20,24 @@ pub record IsNamedSwitch (s : Switch) : Type 0 where
   pub activated : AllNames s.activated
   pub deactivated : AllNames s.deactivated
 
--- the name of the event that an entry handles is one, and so are those of the events that it posts
+-- the names of the event that an entry handles are names, and so are those of the events that it posts
 pub record IsNamedEventPlayer (p : EventPlayer) : Type 0 where
-  pub event : IsName p.event.text
+  pub event : IsNamedHandled p.event
   pub posts : AllNames p.posts
 
 -- the name of a coil is one
 pub record IsNamedCoil (c : Coil) : Type 0 where
   pub name : IsName c.name.text
 
--- the name of the event that an entry handles is one, and so are those of the coils of which it says what they do
+-- the names of the event that an entry handles are names, and so are those of the coils of which it says what they do
 pub record IsNamedCoilPlayer (p : CoilPlayer) : Type 0 where
-  pub event : IsName p.event.text
+  pub event : IsNamedHandled p.event
   pub items : All (λ i. IsName i.coil.text) p.items
+
+-- the names of the event that an entry handles are names, and so are those of the variables that it changes
+pub record IsNamedVariablePlayer (p : VariablePlayer) : Type 0 where
+  pub event : IsNamedHandled p.event
+  pub items : All (λ i. IsName i.variable.text) p.items
 
 -- the name of a flipper is one, and so are those of its coils, its switch and its events
 pub record IsNamedFlipper (f : Flipper) : Type 0 where
@@ -36,47 +45,47 @@ pub record IsNamedFlipper (f : Flipper) : Type 0 where
   pub main_coil : IsName f.main_coil.text
   pub hold_coil : IfSome f.hold_coil (λ w. IsName w.text)
   pub switch : IsName f.switch.text
-  pub enables : AllNames f.enables
-  pub disables : AllNames f.disables
+  pub enables : AllNamedEvents f.enables
+  pub disables : AllNamedEvents f.disables
 
 -- those of an autofire coil, too
 pub record IsNamedAutofire (a : Autofire) : Type 0 where
   pub name : IsName a.name.text
   pub coil : IsName a.coil.text
   pub switch : IsName a.switch.text
-  pub enables : AllNames a.enables
-  pub disables : AllNames a.disables
+  pub enables : AllNamedEvents a.enables
+  pub disables : AllNamedEvents a.disables
 
 -- the events of a logic block are names
 pub record IsNamedBlock (b : Block) : Type 0 where
-  pub enables : AllNames b.enables
-  pub disables : AllNames b.disables
-  pub resets : AllNames b.resets
-  pub restarts : AllNames b.restarts
+  pub enables : AllNamedEvents b.enables
+  pub disables : AllNamedEvents b.disables
+  pub resets : AllNamedEvents b.resets
+  pub restarts : AllNamedEvents b.restarts
   pub hit : AllNames b.hit
   pub complete : AllNames b.complete
 
 -- the name of a counter is one, and so are its events
 pub record IsNamedCounter (c : Counter) : Type 0 where
   pub name : IsName c.name.text
-  pub counts : AllNames c.counts
+  pub counts : AllNamedEvents c.counts
   pub block : IsNamedBlock c.block
 
 -- those of an accrual or a sequence, too
 pub record IsNamedStepBlock (b : StepBlock) : Type 0 where
   pub name : IsName b.name.text
-  pub steps : All AllNames b.steps
+  pub steps : All AllNamedEvents b.steps
   pub block : IsNamedBlock b.block
 
 -- those of a timer, too
 pub record IsNamedTimer (t : Timer) : Type 0 where
   pub name : IsName t.name.text
-  pub controls : All (λ c. IsName c.event.text) t.controls
+  pub controls : All (λ c. IsNamedHandled c.event) t.controls
 
 -- the events that start a mode are names, and so are those that stop it
 pub record AreNamedSettings (s : ModeSettings) : Type 0 where
-  pub starts : AllNames s.starts
-  pub stops : AllNames s.stops
+  pub starts : AllNamedEvents s.starts
+  pub stops : AllNamedEvents s.stops
 
 -- Each name in a section is one, whatever its settings are.
 abbrev pub IsNamedContent : Content → Type 0

@@ -5,7 +5,8 @@ use Rattle.mpf_sections.specs.declared.words.Debounce.{Debounce}
 use Rattle.mpf_sections.specs.declared.words.Direction.{Direction}
 use Rattle.mpf_sections.specs.declared.words.ControlAction.{ControlAction}
 use Rattle.mpf_sections.specs.declared.words.CoilAction.{CoilAction}
-pub use Rattle.section_tables.specs.Rows.{Written, Entry, Player}
+use Rattle.mpf_sections.specs.declared.words.VariableAction.{VariableAction}
+pub use Rattle.section_tables.specs.Rows.{Written, Handled, Entry, Player}
 
 -- an entry of `switches`
 pub record Switch : Type 0 where
@@ -18,7 +19,7 @@ pub record Switch : Type 0 where
 
 -- an entry of `event_player`
 pub record EventPlayer : Type 0 where
-  pub event : Written
+  pub event : Handled
   pub posts : List Written
 
 -- An entry of `coils`: the milliseconds and the power of a pulse of which nothing else is said, and the greatest ones;
@@ -44,8 +45,24 @@ pub record CoilItem : Type 0 where
 
 -- an entry of `coil_player`: what coils do, as it is written
 pub record CoilPlayer : Type 0 where
-  pub event : Written
+  pub event : Handled
   pub items : List CoilItem
+
+-- what is done with a variable where an event is handled, and with which number
+pub record VariableItem : Type 0 where
+  pub variable : Written
+  pub action : VariableAction
+  pub number : ℤ
+
+-- an entry of `variable_player`: what is done with variables, as it is written
+pub record VariablePlayer : Type 0 where
+  pub event : Handled
+  pub items : List VariableItem
+
+-- what `game` says: how many balls each player has, and how many players there may be
+pub record GameSettings : Type 0 where
+  pub balls_per_game : ℕ
+  pub max_players : ℕ
 
 -- an entry of `flippers`: its coil, the one that holds it if there is another for that, its switch, and the events that
 -- enable and disable it
@@ -54,22 +71,22 @@ pub record Flipper : Type 0 where
   pub main_coil : Written
   pub hold_coil : Option Written
   pub switch : Written
-  pub enables : List Written
-  pub disables : List Written
+  pub enables : List Handled
+  pub disables : List Handled
 
 -- an entry of `autofire_coils`: its coil, its switch, and the events that enable and disable it
 pub record Autofire : Type 0 where
   pub name : Written
   pub coil : Written
   pub switch : Written
-  pub enables : List Written
-  pub disables : List Written
+  pub enables : List Handled
+  pub disables : List Handled
 
 -- what `mode` says of a mode: the events that start and stop it, its priority, whether it runs only in a game, and
 -- whether it stops with the ball
 pub record ModeSettings : Type 0 where
-  pub starts : List Written
-  pub stops : List Written
+  pub starts : List Handled
+  pub stops : List Handled
   pub priority : ℕ
   pub game : Bool
   pub stops_with_ball : Bool
@@ -81,10 +98,10 @@ pub record Block : Type 0 where
   pub reset_on_complete : Bool
   pub disable_on_complete : Bool
   pub persist : Bool
-  pub enables : List Written
-  pub disables : List Written
-  pub resets : List Written
-  pub restarts : List Written
+  pub enables : List Handled
+  pub disables : List Handled
+  pub resets : List Handled
+  pub restarts : List Handled
   pub hit : List Written
   pub complete : List Written
 
@@ -92,7 +109,7 @@ pub record Block : Type 0 where
 -- at which it completes, if there is one, and for how many milliseconds after a hit no other counts
 pub record Counter : Type 0 where
   pub name : Written
-  pub counts : List Written
+  pub counts : List Handled
   pub start : ℤ
   pub interval : ℤ
   pub end : Option ℤ
@@ -103,12 +120,12 @@ pub record Counter : Type 0 where
 -- an entry of `accruals` or `sequences`: its steps, each with the events that do it
 pub record StepBlock : Type 0 where
   pub name : Written
-  pub steps : List (List Written)
+  pub steps : List (List Handled)
   pub block : Block
 
 -- an event that controls a timer: what it does, and with which value
 pub record Control : Type 0 where
-  pub event : Written
+  pub event : Handled
   pub action : ControlAction
   pub value : ℤ
 

@@ -1,11 +1,11 @@
 -- The tables of the sections: what settings each has. The order decides which of several missing settings is reported.
 use Rattle.std.specs.Prelude.{ℕ, pos, negsuc, true, false, if◌then◌else◌, List, [], ◌∷◌, Option, Some, None, codes}
 use Rattle.std.specs.Str.{bytes_eq}
-use Rattle.section_tables.specs.Rows.{nothing, flag, number, time, power, word, one, names, posts, maps}
-use Rattle.section_tables.specs.Entries.{written_at}
+use Rattle.section_tables.specs.Rows.{nothing, flag, number, time, power, word, one, names, posts, events, maps}
+use Rattle.section_tables.specs.Entries.{handled_at}
 use Rattle.mpf_sections.specs.declared.tables.TextKind.{TextKind}
 use Rattle.mpf_sections.specs.declared.tables.TextKind.TheVariants.{Machine, Mode}
-use Rattle.section_tables.specs.Kinds.{Scalar, a_flag, number_within, time_within, a_power, one_of, a_name, at_least, between, Absent, required, default, KeyRule, Field, single, name_list, post_list, step_list, map_list, keyed_maps, Setting, PlayerKinds, Shape, by_entries, by_players, by_entry, by_names}
+use Rattle.section_tables.specs.Kinds.{Scalar, a_flag, number_within, time_within, a_power, one_of, a_name, an_event, at_least, between, Absent, required, default, KeyRule, Field, single, name_list, post_list, event_list, step_list, map_list, keyed_maps, Setting, PlayerKinds, Shape, by_entries, by_players, by_entry, by_names}
 
 abbrev row : {K V : Type 0} → List ℕ → K → Absent V → KeyRule K V
 row key kind absent = record { key = key; kind = kind; absent = absent }
@@ -13,6 +13,10 @@ row key kind absent = record { key = key; kind = kind; absent = absent }
 -- names, none by default
 abbrev naming : List ℕ → Setting
 naming key = row key (name_list (at_least 0)) (default (names []))
+
+-- handled events, none by default
+abbrev handling : List ℕ → Setting
+handling key = row key (event_list (at_least 0)) (default (events []))
 
 -- posted events, none by default
 abbrev posting : List ℕ → Setting
@@ -40,8 +44,8 @@ yes key = row key (single a_flag) (default (one (flag true)))
 -- The settings of a mode itself. `use_wait_queue` can only be no.
 abbrev pub mode : List Setting
 mode =
-    naming (codes "start_events")
-    ∷ naming (codes "stop_events")
+    handling (codes "start_events")
+    ∷ handling (codes "stop_events")
     ∷ row (codes "priority") (single (number_within (pos 0) (pos 1000000))) (default (one (number (pos 100))))
     ∷ yes (codes "game_mode")
     ∷ yes (codes "stop_on_ball_end")
@@ -79,15 +83,15 @@ coils =
 abbrev needed_name : List ℕ → Setting
 needed_name key = row key (single a_name) required
 
--- names, this one by default
-abbrev naming_else : List ℕ → List ℕ → Setting
-naming_else key first = row key (name_list (at_least 0)) (default (names (written_at 0 first ∷ [])))
+-- handled events, this one by default, without a condition
+abbrev handling_else : List ℕ → List ℕ → Setting
+handling_else key first = row key (event_list (at_least 0)) (default (events (handled_at 0 (record { name = first; condition = None }) ∷ [])))
 
 -- the events that enable and disable a coil rule: by default when a ball starts, and when it ends
 abbrev pub rule_events : List Setting
 rule_events =
-    naming_else (codes "enable_events") (codes "ball_started")
-    ∷ naming_else (codes "disable_events") (codes "ball_will_end")
+    handling_else (codes "enable_events") (codes "ball_started")
+    ∷ handling_else (codes "disable_events") (codes "ball_will_end")
     ∷ []
 
 abbrev pub flippers : List Setting
@@ -118,17 +122,17 @@ block =
     yes (codes "reset_on_complete")
     ∷ yes (codes "disable_on_complete")
     ∷ no (codes "persist_state")
-    ∷ naming (codes "enable_events")
-    ∷ naming (codes "disable_events")
-    ∷ naming (codes "reset_events")
-    ∷ naming (codes "restart_events")
+    ∷ handling (codes "enable_events")
+    ∷ handling (codes "disable_events")
+    ∷ handling (codes "reset_events")
+    ∷ handling (codes "restart_events")
     ∷ posting (codes "events_when_hit")
     ∷ posting (codes "events_when_complete")
     ∷ []
 
 abbrev pub counters : List Setting
 counters =
-    row (codes "count_events") (name_list (at_least 0)) required
+    row (codes "count_events") (event_list (at_least 0)) required
     ∷ from_zero (codes "starting_count")
     ∷ row (codes "count_interval") (single (number_within (pos 1) (pos 1000000))) (default (one (number (pos 1))))
     ∷ optional (codes "count_complete_value") any_number
@@ -143,7 +147,7 @@ step_blocks = row (codes "events") (step_list (between 0 16)) required ∷ block
 -- an event that controls a timer
 abbrev pub control_events : List Field
 control_events =
-    row (codes "event") a_name required
+    row (codes "event") an_event required
     ∷ row (codes "action") (one_of (codes "start" ∷ codes "stop" ∷ codes "pause" ∷ codes "reset" ∷ codes "restart" ∷ codes "add" ∷ codes "subtract" ∷ codes "jump" ∷ [])) required
     ∷ row (codes "value") any_number (default (number (pos 0)))
     ∷ []
@@ -161,7 +165,7 @@ timers =
 
 -- an event, and what is posted where it is handled
 abbrev pub event_player : PlayerKinds
-event_player = record { key = a_name; value = post_list (at_least 0) }
+event_player = record { key = an_event; value = post_list (at_least 0) }
 
 -- what a coil does
 abbrev coil_action : Scalar
@@ -178,7 +182,30 @@ coil_item =
 
 -- an event, and what coils do where it is handled; an action may stand alone
 abbrev pub coil_player : PlayerKinds
-coil_player = record { key = a_name; value = keyed_maps coil_item 0 coil_action }
+coil_player = record { key = an_event; value = keyed_maps coil_item 0 coil_action }
+
+-- what belongs to a variable in an entry of `variable_player`
+abbrev pub variable_item : List Field
+variable_item =
+    row (codes "int") any_number required
+    ∷ row (codes "action") (one_of (codes "add" ∷ codes "set" ∷ [])) (default (word (codes "add")))
+    ∷ []
+
+-- an event, and what is done with variables where it is handled; a number may stand alone
+abbrev pub variable_player : PlayerKinds
+variable_player = record { key = an_event; value = keyed_maps variable_item 0 any_number }
+
+-- a whole number in this range, this one by default
+abbrev whole : List ℕ → ℕ → ℕ → ℕ → Setting
+whole key least greatest otherwise = row key (single (number_within (pos least) (pos greatest))) (default (one (number (pos otherwise))))
+
+-- what holds of the whole machine
+abbrev pub machine : List Setting
+machine = whole (codes "min_balls") 0 99 1 ∷ []
+
+-- the settings of the game
+abbrev pub game : List Setting
+game = whole (codes "balls_per_game") 1 99 3 ∷ whole (codes "max_players") 1 4 4 ∷ []
 
 -- ---- by name
 
@@ -200,6 +227,9 @@ autofire_coils_name = codes "autofire_coils"
 abbrev pub coil_player_name : List ℕ
 coil_player_name = codes "coil_player"
 
+abbrev pub variable_player_name : List ℕ
+variable_player_name = codes "variable_player"
+
 abbrev pub counters_name : List ℕ
 counters_name = codes "counters"
 
@@ -220,6 +250,14 @@ modes_name = codes "modes"
 abbrev pub mode_name : List ℕ
 mode_name = codes "mode"
 
+-- what holds of the whole machine
+abbrev pub machine_section_name : List ℕ
+machine_section_name = codes "machine"
+
+-- the settings of the game
+abbrev pub game_name : List ℕ
+game_name = codes "game"
+
 -- the name that no device has
 abbrev pub not_a_device : List (List ℕ)
 not_a_device = codes "playfield" ∷ []
@@ -232,26 +270,32 @@ block_shapes =
     ∷ (sequences_name, by_entries not_a_device step_blocks)
     ∷ []
 
+-- those of texts of both kinds
+abbrev pub shared_shapes : List (List ℕ × Shape)
+shared_shapes =
+    (event_player_name, by_players event_player)
+    ∷ (variable_player_name, by_players variable_player)
+    ∷ (coil_player_name, by_players coil_player)
+    ∷ block_shapes
+
 -- the sections of the machine text
 abbrev pub machine_shapes : List (List ℕ × Shape)
 machine_shapes =
     (modes_name, by_names)
+    ∷ (machine_section_name, by_entry machine)
+    ∷ (game_name, by_entry game)
     ∷ (switches_name, by_entries [] switches)
     ∷ (coils_name, by_entries [] coils)
     ∷ (flippers_name, by_entries not_a_device flippers)
     ∷ (autofire_coils_name, by_entries not_a_device autofire_coils)
-    ∷ (event_player_name, by_players event_player)
-    ∷ (coil_player_name, by_players coil_player)
-    ∷ block_shapes
+    ∷ shared_shapes
 
 -- those of the text of a mode
 abbrev pub mode_shapes : List (List ℕ × Shape)
 mode_shapes =
     (mode_name, by_entry mode)
-    ∷ (event_player_name, by_players event_player)
-    ∷ (coil_player_name, by_players coil_player)
     ∷ (timers_name, by_entries not_a_device timers)
-    ∷ block_shapes
+    ∷ shared_shapes
 
 abbrev pub shapes_in : TextKind → List (List ℕ × Shape)
 shapes_in Machine = machine_shapes

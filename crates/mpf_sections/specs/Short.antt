@@ -2,10 +2,11 @@
 use Rattle.std.specs.Prelude.{ℕ, ◌≤◌, ℤ, pos, neg_ℤ, ◌≤ℤ◌, Option, IfSome, length}
 use Rattle.std.specs.List.{All}
 pub use Rattle.section_tables.specs.Named.{IsShortEntry, IsShortPlayer}
-use Rattle.mpf_sections.specs.Rows.{Switch, EventPlayer, Coil, CoilItem, CoilPlayer, Flipper, Autofire, Block, Counter, StepBlock, Timer, Content, SectionRows}
+use Rattle.mpf_sections.specs.Rows.{Switch, EventPlayer, Coil, CoilItem, CoilPlayer, VariableItem, VariablePlayer, GameSettings, Flipper, Autofire, Block, Counter, StepBlock, Timer, Content, SectionRows}
 use Rattle.mpf_sections.specs.Typed.{entries_in, players_in, entry_in, names_in}
 
--- No list in a section is longer, whatever its settings are; the coils of an entry of `coil_player` are such a list.
+-- No list in a section is longer, whatever its settings are; the coils of an entry of `coil_player` are such a list, and
+-- so are the variables of one of `variable_player`.
 abbrev pub IsShortContent : Content → Type 0
 IsShortContent content =
     All (IsShortEntry 1024) (entries_in content) × All (IsShortPlayer 1024) (players_in content) × All (IsShortEntry 1024) (entry_in content) × (length (names_in content) ≤ 1024)
@@ -25,6 +26,23 @@ IsShortEventPlayer p = length p.posts ≤ 1024
 
 abbrev pub IsShortCoilPlayer : CoilPlayer → Type 0
 IsShortCoilPlayer p = length p.items ≤ 1024
+
+abbrev pub IsShortVariablePlayer : VariablePlayer → Type 0
+IsShortVariablePlayer p = length p.items ≤ 1024
+
+-- the number of a variable
+abbrev pub IsChangeInRange : VariableItem → Type 0
+IsChangeInRange i = (neg_ℤ (pos 1000000000) ≤ℤ i.number) × (i.number ≤ℤ pos 1000000000)
+
+abbrev pub IsVariablePlayerInRange : VariablePlayer → Type 0
+IsVariablePlayerInRange p = All IsChangeInRange p.items
+
+-- what is said of the game
+pub record IsGameInRange (g : GameSettings) : Type 0 where
+  pub some_balls : 1 ≤ g.balls_per_game
+  pub few_balls : g.balls_per_game ≤ 99
+  pub some_players : 1 ≤ g.max_players
+  pub few_players : g.max_players ≤ 4
 
 -- the milliseconds of a pulse
 abbrev pub IsPulseInRange : ℕ → Type 0

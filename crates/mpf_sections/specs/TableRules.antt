@@ -1,9 +1,10 @@
 -- What a table has to say so that it means what it says: no key twice, each default of the kind of its line, and the place of a short form within its table.
-use Rattle.std.specs.Prelude.{◌≡◌, ℕ, nat_le, nat_lt, Bool, true, false, not, ◌&&◌, List, [], ◌∷◌, length, map}
+use Rattle.std.specs.Prelude.{◌≡◌, ℕ, nat_le, nat_lt, Bool, true, false, not, ◌&&◌, List, [], ◌∷◌, length, map, Option, Some, None}
 use Rattle.std.specs.List.{list_any, list_all}
 use Rattle.std.specs.Str.{bytes_eq}
 use Rattle.mpf_values.specs.Reading.{is_name}
-use Rattle.section_tables.specs.Rows.{Plain, nothing, flag, number, time, power, word, name, event, Value, one, names, posts, events, maps}
+use Rattle.mpf_values.specs.Events.{Condition}
+use Rattle.section_tables.specs.Rows.{Handled, Plain, nothing, flag, number, time, power, word, name, event, Value, one, names, posts, events, maps}
 use Rattle.section_tables.specs.Kinds.{Scalar, a_flag, number_within, time_within, a_power, one_of, a_name, an_event, Absent, required, default, fits, Field, Kind, single, name_list, post_list, event_list, map_list, keyed_maps, Setting, PlayerKinds, Shape, by_entries, by_players, by_entry, by_names}
 use Rattle.section_tables.specs.Tables.{field_key, setting_key}
 use Rattle.section_tables.specs.EntryOf.{within}
@@ -15,6 +16,14 @@ are_apart (k ∷ ks) = not (list_any (λ other. bytes_eq other k) ks) && are_apa
 
 -- ---- defaults
 
+-- whether a handled event, and the variable of its condition, have a name
+abbrev pub is_named_condition : Option Condition → Bool
+is_named_condition None = true
+is_named_condition (Some c) = is_name c.variable
+
+abbrev pub is_named_handled : Handled → Bool
+is_named_handled h = is_name h.event.name && is_named_condition h.event.condition
+
 -- a text, or nothing
 abbrev pub is_plain_of : Scalar → Plain → Bool
 is_plain_of kind nothing = true
@@ -24,7 +33,7 @@ is_plain_of (time_within least greatest) (time ms) = nat_le least ms && nat_le m
 is_plain_of a_power (power n) = nat_le n 1000
 is_plain_of (one_of words) (word w) = list_any (λ x. bytes_eq x w) words
 is_plain_of a_name (name w) = is_name w.text
-is_plain_of an_event (event h) = is_name h.event.name
+is_plain_of an_event (event h) = is_named_handled h
 is_plain_of _ _ = false
 
 -- a text, no items, one name, or one event
@@ -34,7 +43,7 @@ is_value_of (name_list bounds) (names []) = fits bounds 0
 is_value_of (name_list bounds) (names (w ∷ [])) = fits bounds 1 && is_name w.text
 is_value_of (post_list bounds) (posts []) = fits bounds 0
 is_value_of (event_list bounds) (events []) = fits bounds 0
-is_value_of (event_list bounds) (events (h ∷ [])) = fits bounds 1 && is_name h.event.name
+is_value_of (event_list bounds) (events (h ∷ [])) = fits bounds 1 && is_named_handled h
 is_value_of (map_list table others bounds) (maps []) = fits bounds 0
 is_value_of _ _ = false
 

@@ -9,12 +9,12 @@ use Rattle.mpf_sections.specs.declared.words.Direction.{Direction}
 use Rattle.mpf_sections.specs.declared.words.Direction.TheVariants.{Up, Down}
 use Rattle.mpf_sections.specs.declared.words.ControlAction.{ControlAction}
 use Rattle.mpf_sections.specs.declared.words.ControlAction.TheVariants.{Start, Stop, Pause, Reset, Restart, Add, Subtract, Jump}
-use Rattle.section_tables.specs.Rows.{Written, Plain, flag, number, time, power, word, name, event, Fields, Keyed, Value, one, names, posts, steps, maps, keyed, Entry, Player}
+use Rattle.section_tables.specs.Rows.{Written, Handled, Plain, flag, number, time, power, word, name, event, Fields, Keyed, Value, one, names, posts, events, steps, maps, keyed, Entry, Player}
 use Rattle.section_tables.specs.Kinds.{Field, Setting}
 use Rattle.section_tables.specs.Tables.{found_in, field_key, setting_key, setting_default}
 use Rattle.mpf_sections.specs.SectionTables as tables
 pub use Rattle.mpf_sections.specs.SectionTables.{switches_name, event_player_name, counters_name, accruals_name, sequences_name, timers_name, modes_name, mode_name}
-use Rattle.section_tables.specs.Entries.{written_at}
+use Rattle.section_tables.specs.Entries.{handled_at}
 use Rattle.section_tables.specs.EntryOf.{within}
 use Rattle.mpf_sections.specs.Rows.{Switch, EventPlayer, Block, Counter, StepBlock, Control, Timer, ModeSettings, Content, entries, players, entry, listed, SectionRows}
 
@@ -42,6 +42,10 @@ abbrev pub listed_posts : Option Value → List Written
 listed_posts (Some (posts xs)) = xs
 listed_posts _ = []
 
+abbrev pub listed_events : Option Value → List Handled
+listed_events (Some (events hs)) = hs
+listed_events _ = []
+
 abbrev pub word_of : Option Value → List ℕ
 word_of (Some (one (word w))) = w
 word_of _ = []
@@ -54,6 +58,11 @@ flag_of _ = false
 abbrev pub natural_of : Option Value → ℕ
 natural_of (Some (one (number (pos n)))) = if nat_lt n (2 ^ 32) then n else 0
 natural_of _ = 0
+
+-- a number of this range; where there is none, this one
+abbrev pub natural_within : ℕ → ℕ → ℕ → Option Value → ℕ
+natural_within least greatest otherwise (Some (one (number (pos n)))) = if nat_le least n && nat_le n greatest then n else otherwise
+natural_within least greatest otherwise _ = otherwise
 
 -- a number
 abbrev pub number_of : Option Value → ℤ
@@ -71,7 +80,7 @@ time_of (Some (one (time ms))) = ms
 time_of _ = 0
 
 -- steps, 16 at most
-abbrev pub listed_steps : Option Value → List (List Written)
+abbrev pub listed_steps : Option Value → List (List Handled)
 listed_steps (Some (steps ss)) = if nat_le (length ss) 16 then ss else []
 listed_steps _ = []
 
@@ -113,11 +122,16 @@ abbrev pub power_in : Option Plain → Option ℕ
 power_in (Some (power n)) = if nat_le n 1000 then Some n else None
 power_in _ = None
 
--- the name of an event, with the line where it is written
-abbrev pub event_name : Plain → Written
-event_name (name w) = w
-event_name (event h) = written_at h.line h.event.name
-event_name _ = written_at 0 []
+-- the handled event that a text is; a name is one that is handled always
+abbrev pub handled_in : Plain → Handled
+handled_in (name w) = handled_at w.line (record { name = w.text; condition = None })
+handled_in (event h) = h
+handled_in _ = handled_at 0 (record { name = []; condition = None })
+
+-- the same, where a text is written as one
+abbrev pub event_in : Option Plain → Option Handled
+event_in (Some (event h)) = Some h
+event_in _ = None
 
 -- ---- `switches`
 
@@ -147,10 +161,10 @@ block_of table row = record {
   reset_on_complete = flag_of (setting_of table (codes "reset_on_complete") row);
   disable_on_complete = flag_of (setting_of table (codes "disable_on_complete") row);
   persist = flag_of (setting_of table (codes "persist_state") row);
-  enables = listed_names (setting_of table (codes "enable_events") row);
-  disables = listed_names (setting_of table (codes "disable_events") row);
-  resets = listed_names (setting_of table (codes "reset_events") row);
-  restarts = listed_names (setting_of table (codes "restart_events") row);
+  enables = listed_events (setting_of table (codes "enable_events") row);
+  disables = listed_events (setting_of table (codes "disable_events") row);
+  resets = listed_events (setting_of table (codes "reset_events") row);
+  restarts = listed_events (setting_of table (codes "restart_events") row);
   hit = listed_posts (setting_of table (codes "events_when_hit") row);
   complete = listed_posts (setting_of table (codes "events_when_complete") row);
 }
@@ -162,7 +176,7 @@ direction_of w = if bytes_eq w (codes "down") then Down else Up
 unfoldable pub counter_of : Entry → Counter
 counter_of e = record {
   name = e.name;
-  counts = listed_names (setting_of tables.counters (codes "count_events") e.values);
+  counts = listed_events (setting_of tables.counters (codes "count_events") e.values);
   start = number_of (setting_of tables.counters (codes "starting_count") e.values);
   interval = number_of (setting_of tables.counters (codes "count_interval") e.values);
   end = limit_of (setting_of tables.counters (codes "count_complete_value") e.values);
@@ -192,17 +206,17 @@ action_of w =
     else (if bytes_eq w (codes "subtract") then Subtract
     else (if bytes_eq w (codes "jump") then Jump else Start))))))
 
-abbrev pub control_from : Fields → Option Written → Option Control
+abbrev pub control_from : Fields → Option Handled → Option Control
 control_from m None = None
-control_from m (Some w) = Some (record {
-  event = w;
+control_from m (Some h) = Some (record {
+  event = h;
   action = action_of (word_in (field_of tables.control_events (codes "action") m.values));
   value = number_in (field_of tables.control_events (codes "value") m.values);
 })
 
 -- a control, or none if the map has no event
 unfoldable pub control_of : Fields → Option Control
-control_of m = control_from m (name_in (field_of tables.control_events (codes "event") m.values))
+control_of m = control_from m (event_in (field_of tables.control_events (codes "event") m.values))
 
 abbrev pub with_control : Option Control → List Control → List Control
 with_control None cs = cs
@@ -240,14 +254,14 @@ timer_of e =
 -- ---- `event_player`
 
 unfoldable pub event_player_of : Player → EventPlayer
-event_player_of p = record { event = event_name p.event; posts = listed_posts (Some p.value) }
+event_player_of p = record { event = handled_in p.event; posts = listed_posts (Some p.value) }
 
 -- ---- `mode`
 
 unfoldable pub mode_settings_of : List Value → ModeSettings
 mode_settings_of row = record {
-  starts = listed_names (setting_of tables.mode (codes "start_events") row);
-  stops = listed_names (setting_of tables.mode (codes "stop_events") row);
+  starts = listed_events (setting_of tables.mode (codes "start_events") row);
+  stops = listed_events (setting_of tables.mode (codes "stop_events") row);
   priority = natural_of (setting_of tables.mode (codes "priority") row);
   game = flag_of (setting_of tables.mode (codes "game_mode") row);
   stops_with_ball = flag_of (setting_of tables.mode (codes "stop_on_ball_end") row);
@@ -306,10 +320,14 @@ abbrev pub content_named : List ℕ → List SectionRows → Option Content
 content_named section [] = None
 content_named section (s ∷ ss) = if bytes_eq s.name section then Some s.content else content_named section ss
 
--- the row of `mode`, or the defaults if there is no such section
+-- the row of a section that is one entry with this table, or the defaults if there is no such section
+abbrev pub row_or : List Setting → Option Content → List Value
+row_or table (Some (entry e)) = e.values
+row_or table _ = map setting_default table
+
+-- the row of `mode`
 abbrev pub mode_row : Option Content → List Value
-mode_row (Some (entry e)) = e.values
-mode_row _ = map setting_default tables.mode
+mode_row = row_or tables.mode
 
 -- what the sections of a mode say of it
 abbrev pub mode_settings : List SectionRows → ModeSettings

@@ -7,7 +7,7 @@ use Rattle.section_tables.specs.Rows.{Written, Plain, Keyed, Entry, Player}
 use Rattle.section_tables.specs.Kinds.{Setting}
 use Rattle.mpf_sections.specs.SectionTables as tables
 pub use Rattle.mpf_sections.specs.SectionTables.{coils_name, coil_player_name, flippers_name, autofire_coils_name}
-use Rattle.mpf_sections.specs.Typed.{setting_of, field_of, text_of, flag_of, listed_names, listed_keyed, event_name, name_in, word_in, pulse_in, power_in, entries_of, players_of}
+use Rattle.mpf_sections.specs.Typed.{setting_of, field_of, text_of, flag_of, listed_events, listed_keyed, handled_in, name_in, word_in, pulse_in, power_in, entries_of, players_of}
 use Rattle.mpf_sections.specs.Rows.{Coil, CoilItem, CoilPlayer, Flipper, Autofire, SectionRows}
 
 -- ---- `coils`
@@ -62,7 +62,7 @@ coil_item_of k = record {
 }
 
 unfoldable pub coil_player_of : Player → CoilPlayer
-coil_player_of p = record { event = event_name p.event; items = map coil_item_of (listed_keyed (Some p.value)) }
+coil_player_of p = record { event = handled_in p.event; items = map coil_item_of (listed_keyed (Some p.value)) }
 
 -- ---- `flippers` and `autofire_coils`
 
@@ -76,8 +76,8 @@ flipper_of e = record {
   main_coil = needed_name tables.flippers (codes "main_coil") e;
   hold_coil = name_in (text_of (setting_of tables.flippers (codes "hold_coil") e.values));
   switch = needed_name tables.flippers (codes "activation_switch") e;
-  enables = listed_names (setting_of tables.flippers (codes "enable_events") e.values);
-  disables = listed_names (setting_of tables.flippers (codes "disable_events") e.values);
+  enables = listed_events (setting_of tables.flippers (codes "enable_events") e.values);
+  disables = listed_events (setting_of tables.flippers (codes "disable_events") e.values);
 }
 
 unfoldable pub autofire_of : Entry → Autofire
@@ -85,8 +85,8 @@ autofire_of e = record {
   name = e.name;
   coil = needed_name tables.autofire_coils (codes "coil") e;
   switch = needed_name tables.autofire_coils (codes "switch") e;
-  enables = listed_names (setting_of tables.autofire_coils (codes "enable_events") e.values);
-  disables = listed_names (setting_of tables.autofire_coils (codes "disable_events") e.values);
+  enables = listed_events (setting_of tables.autofire_coils (codes "enable_events") e.values);
+  disables = listed_events (setting_of tables.autofire_coils (codes "disable_events") e.values);
 }
 
 -- ---- sections

@@ -3,7 +3,9 @@ use Rattle.std.specs.Prelude.{map, option_map, Option}
 use Rattle.std.specs.Borrow.{Bor}
 use Rattle.section_tables.specs.declared.rows.Plain as plains
 use Rattle.section_tables.specs.Rows.{Plain}
+use Rattle.section_tables.specs.View.{guard_view}
 use Rattle.mpf_sections.specs.declared.typed.NameAt.{NameAt}
+use Rattle.mpf_sections.specs.declared.typed.HandledAt.{HandledAt}
 use Rattle.mpf_sections.specs.declared.typed.Switch as typed_switches
 use Rattle.mpf_sections.specs.declared.typed.EventPlayer as typed_players
 use Rattle.mpf_sections.specs.declared.typed.ModeSettings as typed_settings
@@ -15,16 +17,23 @@ use Rattle.mpf_sections.specs.declared.timers.Timer as typed_timers
 use Rattle.mpf_sections.specs.declared.coils.Coil as typed_coils
 use Rattle.mpf_sections.specs.declared.coils.CoilPlayer as typed_coil_players
 use Rattle.mpf_sections.specs.declared.coils.CoilItem as typed_coil_items
+use Rattle.mpf_sections.specs.declared.game.VariablePlayer as typed_variable_players
+use Rattle.mpf_sections.specs.declared.game.VariableItem as typed_variable_items
+use Rattle.mpf_sections.specs.declared.game.GameSettings as typed_games
 use Rattle.mpf_sections.specs.declared.coil_rules.Flipper as typed_flippers
 use Rattle.mpf_sections.specs.declared.coil_rules.Autofire as typed_autofires
-use Rattle.mpf_sections.specs.Rows.{Written, Switch, EventPlayer, Coil, CoilItem, CoilPlayer, Flipper, Autofire, Block, Counter, StepBlock, Control, Timer, ModeSettings}
+use Rattle.mpf_sections.specs.Rows.{Written, Handled, Switch, EventPlayer, Coil, CoilItem, CoilPlayer, VariableItem, VariablePlayer, GameSettings, Flipper, Autofire, Block, Counter, StepBlock, Control, Timer, ModeSettings}
 use Rattle.mpf_sections.specs.Typed.{controls_of}
 use Rattle.mpf_sections.specs.TypedCoils.{coil_item_of}
+use Rattle.mpf_sections.specs.TypedGame.{variable_item_of}
 pub use Rattle.mpf_sections.specs.SectionView.{content_view, section_view}
-pub use Rattle.section_tables.specs.View.{name_view, names_view, plain_view, fields_view, keyed_view, entry_view, player_view}
+pub use Rattle.section_tables.specs.View.{name_view, names_view, handler_view, handlers_view, plain_view, fields_view, keyed_view, entry_view, player_view}
 
 abbrev pub name_at_view : NameAt → Written
 name_at_view n = record { line = n.line; text = n.text.now }
+
+abbrev pub handled_at_view : HandledAt → Handled
+handled_at_view h = record { line = h.line; event = record { name = h.name.now; condition = option_map (λ g. guard_view g.now) h.condition } }
 
 -- a text, where there is one
 abbrev pub plain_option_view : Option (Bor plains.Plain) → Option Plain
@@ -41,12 +50,12 @@ switch_view s = record {
 }
 
 abbrev pub event_player_view : typed_players.EventPlayer → EventPlayer
-event_player_view p = record { event = name_at_view p.event; posts = map name_view p.posts.now }
+event_player_view p = record { event = handled_at_view p.event; posts = map name_view p.posts.now }
 
 abbrev pub mode_settings_view : typed_settings.ModeSettings → ModeSettings
 mode_settings_view s = record {
-  starts = map name_view s.starts.now;
-  stops = map name_view s.stops.now;
+  starts = map handler_view s.starts.now;
+  stops = map handler_view s.stops.now;
   priority = s.priority;
   game = s.game;
   stops_with_ball = s.stops_with_ball;
@@ -57,10 +66,10 @@ block_view b = record {
   reset_on_complete = b.reset_on_complete;
   disable_on_complete = b.disable_on_complete;
   persist = b.persist;
-  enables = map name_view b.enables.now;
-  disables = map name_view b.disables.now;
-  resets = map name_view b.resets.now;
-  restarts = map name_view b.restarts.now;
+  enables = map handler_view b.enables.now;
+  disables = map handler_view b.disables.now;
+  resets = map handler_view b.resets.now;
+  restarts = map handler_view b.restarts.now;
   hit = map name_view b.hit.now;
   complete = map name_view b.complete.now;
 }
@@ -68,7 +77,7 @@ block_view b = record {
 abbrev pub counter_view : typed_counters.Counter → Counter
 counter_view c = record {
   name = name_view c.name.now;
-  counts = map name_view c.counts.now;
+  counts = map handler_view c.counts.now;
   start = c.start;
   interval = c.interval;
   end = c.end;
@@ -78,10 +87,10 @@ counter_view c = record {
 }
 
 abbrev pub step_block_view : typed_steps.StepBlock → StepBlock
-step_block_view b = record { name = name_view b.name.now; steps = map names_view b.steps.now; block = block_view b.block }
+step_block_view b = record { name = name_view b.name.now; steps = map handlers_view b.steps.now; block = block_view b.block }
 
 abbrev pub control_view : typed_controls.Control → Control
-control_view c = record { event = name_at_view c.event; action = c.action; value = c.value }
+control_view c = record { event = handled_at_view c.event; action = c.action; value = c.value }
 
 abbrev pub timer_view : typed_timers.Timer → Timer
 timer_view t = record {
@@ -117,7 +126,16 @@ coil_item_view i = record {
 }
 
 abbrev pub coil_player_view : typed_coil_players.CoilPlayer → CoilPlayer
-coil_player_view p = record { event = name_at_view p.event; items = map coil_item_of (map keyed_view p.items.now) }
+coil_player_view p = record { event = handled_at_view p.event; items = map coil_item_of (map keyed_view p.items.now) }
+
+abbrev pub variable_item_view : typed_variable_items.VariableItem → VariableItem
+variable_item_view i = record { variable = name_view i.variable.now; action = i.action; number = i.number }
+
+abbrev pub variable_player_view : typed_variable_players.VariablePlayer → VariablePlayer
+variable_player_view p = record { event = handled_at_view p.event; items = map variable_item_of (map keyed_view p.items.now) }
+
+abbrev pub game_view : typed_games.GameSettings → GameSettings
+game_view g = record { balls_per_game = g.balls_per_game; max_players = g.max_players }
 
 abbrev pub flipper_view : typed_flippers.Flipper → Flipper
 flipper_view f = record {
@@ -125,8 +143,8 @@ flipper_view f = record {
   main_coil = name_at_view f.main_coil;
   hold_coil = option_map name_at_view f.hold_coil;
   switch = name_at_view f.switch;
-  enables = map name_view f.enables.now;
-  disables = map name_view f.disables.now;
+  enables = map handler_view f.enables.now;
+  disables = map handler_view f.disables.now;
 }
 
 abbrev pub autofire_view : typed_autofires.Autofire → Autofire
@@ -134,6 +152,6 @@ autofire_view a = record {
   name = name_view a.name.now;
   coil = name_at_view a.coil;
   switch = name_at_view a.switch;
-  enables = map name_view a.enables.now;
-  disables = map name_view a.disables.now;
+  enables = map handler_view a.enables.now;
+  disables = map handler_view a.disables.now;
 }

@@ -8,9 +8,9 @@ ghost use Rattle.mpf_sections.specs.Inside.{block_at};
 
 use crate::section::Section;
 use crate::tables::{ACCRUALS_NAME, COUNTERS_NAME, SEQUENCES_NAME};
-use crate::values::{direction, flag, limit, milliseconds, names, number, posts_at, steps};
+use crate::values::{direction, flag, handlers, limit, milliseconds, number, posts_at, steps};
 use crate::words::Direction;
-use section_tables::rows::{Entry, Name, Value};
+use section_tables::rows::{Entry, Handler, Name, Value};
 
 /// The settings that all logic blocks have.
 #[derive(Clone, Copy)]
@@ -22,13 +22,13 @@ pub struct Block<'a> {
     /// Whether each player has a state of their own: by default there is one state.
     pub persist: bool,
     /// The events that enable it. Without any it is enabled at first.
-    pub enables: &'a [Name],
+    pub enables: &'a [Handler],
     /// The events that disable it.
-    pub disables: &'a [Name],
+    pub disables: &'a [Handler],
     /// The events that reset it.
-    pub resets: &'a [Name],
+    pub resets: &'a [Handler],
     /// The events that reset and enable it.
-    pub restarts: &'a [Name],
+    pub restarts: &'a [Handler],
     /// Posted when the block is hit, in place of its own event; none: its own is.
     pub hit: &'a [Name],
     /// Posted when it completes, in place of its own event; none: its own is.
@@ -40,7 +40,7 @@ pub struct Block<'a> {
 pub struct Counter<'a> {
     pub name: &'a Name,
     /// The events that it counts.
-    pub counts: &'a [Name],
+    pub counts: &'a [Handler],
     /// Its value at first: 0 by default.
     pub start: i64,
     /// By how much a hit moves the value: 1 by default.
@@ -59,7 +59,7 @@ pub struct Counter<'a> {
 pub struct StepBlock<'a> {
     pub name: &'a Name,
     /// The steps, each with the events that do it: at most 16.
-    pub steps: &'a [Vec<Name>],
+    pub steps: &'a [Vec<Handler>],
     pub block: Block<'a>,
 }
 
@@ -92,10 +92,10 @@ fn as_block(row: &[Value], first: usize) -> Block<'_>
         reset_on_complete: flag(row, first),
         disable_on_complete: flag(row, first + 1),
         persist: flag(row, first + 2),
-        enables: names(row, first + 3),
-        disables: names(row, first + 4),
-        resets: names(row, first + 5),
-        restarts: names(row, first + 6),
+        enables: handlers(row, first + 3),
+        disables: handlers(row, first + 4),
+        resets: handlers(row, first + 5),
+        restarts: handlers(row, first + 6),
         hit: posts_at(row, first + 7),
         complete: posts_at(row, first + 8),
     }
@@ -109,7 +109,7 @@ pub fn as_counter(entry: &Entry) -> Counter<'_>
     let row = entry.values.as_slice();
     Counter {
         name: &entry.name,
-        counts: names(row, COUNT_EVENTS),
+        counts: handlers(row, COUNT_EVENTS),
         start: number(row, STARTING_COUNT),
         interval: number(row, COUNT_INTERVAL),
         end: limit(row, COUNT_COMPLETE_VALUE),

@@ -8,8 +8,8 @@ ghost use Rattle.mpf_sections.specs.View.{entry_view, section_view, name_at_view
 use crate::section::Section;
 use crate::tables::{AUTOFIRE_COILS_NAME, FLIPPERS_NAME};
 use crate::typed::NameAt;
-use crate::values::{name, names, text};
-use section_tables::rows::{Entry, Name};
+use crate::values::{handlers, name, text};
+use section_tables::rows::{Entry, Handler, Name};
 
 /// An entry of `flippers`.
 #[derive(Clone, Copy)]
@@ -22,9 +22,9 @@ pub struct Flipper<'a> {
     /// The setting `activation_switch`: the switch of its button.
     pub switch: NameAt<'a>,
     /// The events that enable it: by default `ball_started`, at line 0.
-    pub enables: &'a [Name],
+    pub enables: &'a [Handler],
     /// The events that disable it: by default `ball_will_end`, at line 0.
-    pub disables: &'a [Name],
+    pub disables: &'a [Handler],
 }
 
 /// An entry of `autofire_coils`.
@@ -35,9 +35,9 @@ pub struct Autofire<'a> {
     /// The switch that fires it.
     pub switch: NameAt<'a>,
     /// The events that enable it: by default `ball_started`, at line 0.
-    pub enables: &'a [Name],
+    pub enables: &'a [Handler],
     /// The events that disable it: by default `ball_will_end`, at line 0.
-    pub disables: &'a [Name],
+    pub disables: &'a [Handler],
 }
 
 // The places of the settings in the table of `flippers`.
@@ -85,8 +85,8 @@ pub fn as_flipper(entry: &Entry) -> Flipper<'_>
         main_coil: needed_name(entry, MAIN_COIL),
         hold_coil: name(text(row, HOLD_COIL)),
         switch: needed_name(entry, ACTIVATION_SWITCH),
-        enables: names(row, FLIPPER_ENABLES),
-        disables: names(row, FLIPPER_DISABLES),
+        enables: handlers(row, FLIPPER_ENABLES),
+        disables: handlers(row, FLIPPER_DISABLES),
     }
 }
 
@@ -100,8 +100,8 @@ pub fn as_autofire(entry: &Entry) -> Autofire<'_>
         name: &entry.name,
         coil: needed_name(entry, COIL),
         switch: needed_name(entry, SWITCH),
-        enables: names(row, AUTOFIRE_ENABLES),
-        disables: names(row, AUTOFIRE_DISABLES),
+        enables: handlers(row, AUTOFIRE_ENABLES),
+        disables: handlers(row, AUTOFIRE_DISABLES),
     }
 }
 

@@ -6,8 +6,8 @@ ghost use Rattle.mpf_sections.specs.View.{keyed_view, entry_view, player_view, s
 
 use crate::section::Section;
 use crate::tables::{COIL_PLAYER_NAME, COILS_NAME};
-use crate::typed::NameAt;
-use crate::values::{event_name, field, flag, keyed, power, pulse, text, word_field};
+use crate::typed::HandledAt;
+use crate::values::{field, flag, handled, keyed, power, pulse, text, word_field};
 use crate::words::CoilAction;
 use section_tables::rows::{Entry, Keyed, Name, Player};
 
@@ -49,7 +49,7 @@ pub struct CoilItem<'a> {
 /// An entry of `coil_player`: what coils do when the event is handled, in order.
 #[derive(Clone, Copy)]
 pub struct CoilPlayer<'a> {
-    pub event: NameAt<'a>,
+    pub event: HandledAt<'a>,
     /// Each to be read with [`as_coil_item`].
     pub items: &'a [Keyed],
 }
@@ -156,7 +156,7 @@ pub fn as_coil_player(player: &Player) -> CoilPlayer<'_>
     ensures { coil_player_view result ≡ coil_player_of (player_view player.now) }
 {
     CoilPlayer {
-        event: event_name(&player.event),
+        event: handled(&player.event),
         items: keyed(&player.value),
     }
 }

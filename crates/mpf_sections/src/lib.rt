@@ -3,14 +3,15 @@
 //!
 //! [`tables::shape_of`] gives the table of a section in a text of the machine or of a mode. A
 //! [`Section`] has the entries that were read by it. They are rows of values in the order of the
-//! table: [`as_switch`], [`as_event_player`], [`as_coil`], [`as_coil_player`], [`as_flipper`],
-//! [`as_autofire`], [`as_counter`], [`as_step_block`], [`as_timer`] and [`mode_settings`] give each
-//! setting by its name.
+//! table: [`as_switch`], [`as_event_player`], [`as_coil`], [`as_coil_player`],
+//! [`as_variable_player`], [`as_flipper`], [`as_autofire`], [`as_counter`], [`as_step_block`],
+//! [`as_timer`], [`as_game`], [`min_balls`] and [`mode_settings`] give each setting by its name.
 #![tactic(auto)]
 
 pub mod blocks;
 pub mod coil_rules;
 pub mod coils;
+pub mod game;
 pub mod section;
 pub mod tables;
 pub mod timers;
@@ -21,10 +22,14 @@ pub mod words;
 pub use blocks::{Block, Counter, StepBlock, as_counter, as_step_block};
 pub use coil_rules::{Autofire, Flipper, as_autofire, as_flipper};
 pub use coils::{Coil, CoilItem, CoilPlayer, as_coil, as_coil_item, as_coil_player};
+pub use game::{
+    GameSettings, VariableItem, VariablePlayer, as_game, as_variable_item, as_variable_player,
+    min_balls,
+};
 pub use section::{Content, Section};
 pub use timers::{Control, Timer, as_control, as_timer};
 pub use typed::{
-    EventPlayer, ModeSettings, NameAt, Switch, as_event_player, as_switch, listed_modes,
-    mode_settings,
+    EventPlayer, HandledAt, ModeSettings, NameAt, Switch, as_event_player, as_handled, as_switch,
+    listed_modes, mode_settings,
 };
-pub use words::{CoilAction, Contact, ControlAction, Debounce, Direction};
+pub use words::{CoilAction, Contact, ControlAction, Debounce, Direction, VariableAction};

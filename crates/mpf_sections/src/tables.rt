@@ -5,7 +5,7 @@ ghost use Rattle.std.specs.Prelude.{◌≡◌, ℕ, List, Some};
 ghost use Rattle.mpf_sections.specs.declared.tables.TextKind.{TextKind as Text};
 ghost use Rattle.mpf_sections.specs.declared.tables.TextKind.TheVariants.{Machine, Mode};
 ghost use Rattle.section_tables.specs.Kinds.{Shape as SectionShape};
-ghost use Rattle.mpf_sections.specs.SectionTables.{block_shapes, named_in, shape_of};
+ghost use Rattle.mpf_sections.specs.SectionTables.{block_shapes, shared_shapes, named_in, shape_of};
 ghost use Rattle.mpf_sections.specs.TableRules.{IsRight};
 ghost use Rattle.section_tables.specs.Reading.{give};
 ghost use Rattle.section_tables.specs.TableView.{shape_view};
@@ -31,10 +31,10 @@ macro_rules! block_settings {
             setting!(b"reset_on_complete", FLAG, YES),
             setting!(b"disable_on_complete", FLAG, YES),
             setting!(b"persist_state", FLAG, NO),
-            setting!(b"enable_events", Kind::Names(ANY), Without::NoNames),
-            setting!(b"disable_events", Kind::Names(ANY), Without::NoNames),
-            setting!(b"reset_events", Kind::Names(ANY), Without::NoNames),
-            setting!(b"restart_events", Kind::Names(ANY), Without::NoNames),
+            setting!(b"enable_events", EVENTS, Without::NoEvents),
+            setting!(b"disable_events", EVENTS, Without::NoEvents),
+            setting!(b"reset_events", EVENTS, Without::NoEvents),
+            setting!(b"restart_events", EVENTS, Without::NoEvents),
             setting!(b"events_when_hit", Kind::Posts(ANY), Without::NoPosts),
             setting!(b"events_when_complete", Kind::Posts(ANY), Without::NoPosts),
         ]
@@ -52,6 +52,9 @@ macro_rules! field {
 }
 
 const ANY: Bounds = Bounds::AtLeast(0);
+
+/// Handled events.
+const EVENTS: Kind = Kind::Events(ANY);
 
 const FLAG: Kind = Kind::One(Scalar::Flag);
 
@@ -121,16 +124,12 @@ pub const COILS: &[Setting] = &[
 ];
 
 /// The events that enable and disable a coil rule: by default when a ball starts, and when it ends.
-const RULE_ENABLES: Setting = setting!(
-    b"enable_events",
-    Kind::Names(ANY),
-    Without::Name(b"ball_started")
-);
+const RULE_ENABLES: Setting = setting!(b"enable_events", EVENTS, Without::Event(b"ball_started"));
 
 const RULE_DISABLES: Setting = setting!(
     b"disable_events",
-    Kind::Names(ANY),
-    Without::Name(b"ball_will_end")
+    EVENTS,
+    Without::Event(b"ball_will_end")
 );
 
 /// `flippers`.
@@ -152,7 +151,7 @@ pub const AUTOFIRE_COILS: &[Setting] = &[
 
 /// `counters`.
 pub const COUNTERS: &[Setting] = block_settings!(
-    setting!(b"count_events", Kind::Names(ANY), REQUIRED),
+    setting!(b"count_events", EVENTS, REQUIRED),
     setting!(b"starting_count", NUMBER, ZERO),
     setting!(
         b"count_interval",
@@ -177,7 +176,7 @@ pub const STEP_BLOCKS: &[Setting] = block_settings!(setting!(
 
 /// The maps of `control_events`.
 const CONTROL_EVENTS: &[Field] = &[
-    field!(b"event", Scalar::Name, Absent::Required),
+    field!(b"event", Scalar::Event, Absent::Required),
     field!(
         b"action",
         Scalar::Word(&[
@@ -216,8 +215,8 @@ pub const TIMERS: &[Setting] = &[
 
 /// `mode`: the settings of a mode itself. `use_wait_queue` can only be no.
 pub const MODE: &[Setting] = &[
-    setting!(b"start_events", Kind::Names(ANY), Without::NoNames),
-    setting!(b"stop_events", Kind::Names(ANY), Without::NoNames),
+    setting!(b"start_events", EVENTS, Without::NoEvents),
+    setting!(b"stop_events", EVENTS, Without::NoEvents),
     setting!(
         b"priority",
         Kind::One(Scalar::Number(0, 1_000_000)),
@@ -242,9 +241,30 @@ pub const MODE: &[Setting] = &[
     ),
 ];
 
+/// `machine`: what holds of the whole machine.
+pub const MACHINE: &[Setting] = &[setting!(
+    b"min_balls",
+    Kind::One(Scalar::Number(0, 99)),
+    Without::One(Absent::Number(1))
+)];
+
+/// `game`: the settings of the game.
+pub const GAME: &[Setting] = &[
+    setting!(
+        b"balls_per_game",
+        Kind::One(Scalar::Number(1, 99)),
+        Without::One(Absent::Number(3))
+    ),
+    setting!(
+        b"max_players",
+        Kind::One(Scalar::Number(1, 4)),
+        Without::One(Absent::Number(4))
+    ),
+];
+
 /// `event_player`: an event, and what is posted where it is handled.
 pub const EVENT_PLAYER: PlayerKinds = PlayerKinds {
-    key: Scalar::Name,
+    key: Scalar::Event,
     value: Kind::Posts(ANY),
 };
 
@@ -260,8 +280,23 @@ const COIL_ITEM: &[Field] = &[
 
 /// `coil_player`: an event, and what coils do where it is handled. An action may stand alone.
 pub const COIL_PLAYER: PlayerKinds = PlayerKinds {
-    key: Scalar::Name,
+    key: Scalar::Event,
     value: Kind::Keyed(COIL_ITEM, 0, COIL_ACTION),
+};
+
+const VARIABLE_ACTION: Scalar = Scalar::Word(&[b"add", b"set"]);
+
+/// What belongs to a variable in an entry of `variable_player`.
+const VARIABLE_ITEM: &[Field] = &[
+    field!(b"int", ANY_NUMBER, Absent::Required),
+    field!(b"action", VARIABLE_ACTION, Absent::Word(b"add")),
+];
+
+/// `variable_player`: an event, and what is done with variables where it is handled. A number may
+/// stand alone.
+pub const VARIABLE_PLAYER: PlayerKinds = PlayerKinds {
+    key: Scalar::Event,
+    value: Kind::Keyed(VARIABLE_ITEM, 0, ANY_NUMBER),
 };
 
 /// The name of the section [`SWITCHES`].
@@ -281,6 +316,9 @@ pub const AUTOFIRE_COILS_NAME: &[u8] = b"autofire_coils";
 
 /// The name of the section [`COIL_PLAYER`].
 pub const COIL_PLAYER_NAME: &[u8] = b"coil_player";
+
+/// The name of the section [`VARIABLE_PLAYER`].
+pub const VARIABLE_PLAYER_NAME: &[u8] = b"variable_player";
 
 /// The name of the section [`COUNTERS`].
 pub const COUNTERS_NAME: &[u8] = b"counters";
@@ -307,6 +345,12 @@ pub const MODES_NAME: &[u8] = b"modes";
 /// The name of the section [`MODE`].
 pub const MODE_NAME: &[u8] = b"mode";
 
+/// The name of the section [`MACHINE`].
+pub const MACHINE_SECTION_NAME: &[u8] = b"machine";
+
+/// The name of the section [`GAME`].
+pub const GAME_NAME: &[u8] = b"game";
+
 /// The two kinds of texts.
 #[derive(Clone, Copy, Debug)]
 pub enum TextKind {
@@ -332,12 +376,34 @@ fn block_shape(section: &[u8]) -> Option<Shape>
     None
 }
 
+// How a section is written that texts of both kinds have.
+fn shared_shape(section: &[u8]) -> Option<Shape>
+    ensures { give shape_view result ≡ named_in section.now shared_shapes }
+{
+    if section == EVENT_PLAYER_NAME {
+        return Some(Shape::Players(EVENT_PLAYER));
+    }
+    if section == VARIABLE_PLAYER_NAME {
+        return Some(Shape::Players(VARIABLE_PLAYER));
+    }
+    if section == COIL_PLAYER_NAME {
+        return Some(Shape::Players(COIL_PLAYER));
+    }
+    block_shape(section)
+}
+
 // How a section of the machine text is written.
 fn machine_shape(section: &[u8]) -> Option<Shape>
     ensures { give shape_view result ≡ shape_of Machine section.now }
 {
     if section == MODES_NAME {
         return Some(Shape::Names);
+    }
+    if section == MACHINE_SECTION_NAME {
+        return Some(Shape::Entry(MACHINE));
+    }
+    if section == GAME_NAME {
+        return Some(Shape::Entry(GAME));
     }
     if section == SWITCHES_NAME {
         return Some(Shape::Entries(ANY_NAME, SWITCHES));
@@ -351,13 +417,7 @@ fn machine_shape(section: &[u8]) -> Option<Shape>
     if section == AUTOFIRE_COILS_NAME {
         return Some(Shape::Entries(NOT_A_DEVICE, AUTOFIRE_COILS));
     }
-    if section == EVENT_PLAYER_NAME {
-        return Some(Shape::Players(EVENT_PLAYER));
-    }
-    if section == COIL_PLAYER_NAME {
-        return Some(Shape::Players(COIL_PLAYER));
-    }
-    block_shape(section)
+    shared_shape(section)
 }
 
 // How a section of the text of a mode is written.
@@ -367,16 +427,10 @@ fn mode_shape(section: &[u8]) -> Option<Shape>
     if section == MODE_NAME {
         return Some(Shape::Entry(MODE));
     }
-    if section == EVENT_PLAYER_NAME {
-        return Some(Shape::Players(EVENT_PLAYER));
-    }
-    if section == COIL_PLAYER_NAME {
-        return Some(Shape::Players(COIL_PLAYER));
-    }
     if section == TIMERS_NAME {
         return Some(Shape::Entries(NOT_A_DEVICE, TIMERS));
     }
-    block_shape(section)
+    shared_shape(section)
 }
 
 /// How a section of this name is written in a text of this kind; none where such a text has no such

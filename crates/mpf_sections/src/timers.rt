@@ -6,9 +6,9 @@ ghost use Rattle.mpf_sections.specs.View.{fields_view, entry_view, section_view,
 
 use crate::section::Section;
 use crate::tables::TIMERS_NAME;
-use crate::typed::NameAt;
+use crate::typed::HandledAt;
 use crate::values::{
-    direction, field, flag, limit, maps, milliseconds, name, number, number_field, word_field,
+    direction, event, field, flag, limit, maps, milliseconds, number, number_field, word_field,
 };
 use crate::words::{ControlAction, Direction};
 use section_tables::rows::{Entry, Fields, Name};
@@ -16,7 +16,7 @@ use section_tables::rows::{Entry, Fields, Name};
 /// An event that controls a timer.
 #[derive(Clone, Copy)]
 pub struct Control<'a> {
-    pub event: NameAt<'a>,
+    pub event: HandledAt<'a>,
     pub action: ControlAction,
     /// What `Add` adds, `Subtract` subtracts and `Jump` jumps to: 0 by default.
     pub value: i64,
@@ -135,7 +135,7 @@ pub fn as_control(map: &Fields) -> Option<Control<'_>>
     ensures { option_map control_view result ≡ control_of (fields_view map.now) }
 {
     let values = map.values.as_slice();
-    let event = name(field(values, EVENT))?;
+    let event = event(field(values, EVENT))?;
     Some(Control {
         event,
         action: action_of(word_field(values, ACTION)),

@@ -1,21 +1,29 @@
 //! The entries of sections, by the names of their settings.
 
 ghost use Rattle.std.specs.Prelude.{◌≡◌, None, map, option_map};
-ghost use Rattle.section_tables.specs.View.{name_view, values_view, entry_view, entries_view, player_view, players_view};
+ghost use Rattle.section_tables.specs.View.{name_view, handler_view, values_view, entry_view, entries_view, player_view, players_view};
 ghost use Rattle.mpf_sections.specs.Typed.{mode_settings_of, mode_row, mode_settings, listed_modes, content_named, contact_of, debounce_of, switch_of, event_player_of, entries_in, players_in, entries_of, players_of, switches_in, event_players_in};
-ghost use Rattle.mpf_sections.specs.View.{content_view, section_view, switch_view, event_player_view, mode_settings_view};
+ghost use Rattle.mpf_sections.specs.View.{content_view, section_view, handled_at_view, switch_view, event_player_view, mode_settings_view};
 
 use crate::section::{Content, Section};
 use crate::tables::{EVENT_PLAYER_NAME, MODE_NAME, MODES_NAME, SWITCHES_NAME};
-use crate::values::{event_name, flag, names, natural, posts, posts_at, word};
+use crate::values::{flag, handled, handlers, names, natural, posts, posts_at, word};
 use crate::words::{Contact, Debounce};
-use section_tables::rows::{Entry, Name, Player, Value};
+use section_tables::rows::{Entry, Guard, Handler, Name, Player, Value};
 
 /// A name where it is written.
 #[derive(Clone, Copy)]
 pub struct NameAt<'a> {
     pub line: u32,
     pub text: &'a [u8],
+}
+
+/// An event that is handled, where it is written, with its condition if it has one.
+#[derive(Clone, Copy)]
+pub struct HandledAt<'a> {
+    pub line: u32,
+    pub name: &'a [u8],
+    pub condition: Option<&'a Guard>,
 }
 
 /// An entry of `switches`.
@@ -37,7 +45,7 @@ pub struct Switch<'a> {
 /// An entry of `event_player`: when the event is handled, the others are posted, in order.
 #[derive(Clone, Copy)]
 pub struct EventPlayer<'a> {
-    pub event: NameAt<'a>,
+    pub event: HandledAt<'a>,
     pub posts: &'a [Name],
 }
 
@@ -45,15 +53,28 @@ pub struct EventPlayer<'a> {
 #[derive(Clone, Copy)]
 pub struct ModeSettings<'a> {
     /// The events that start it.
-    pub starts: &'a [Name],
+    pub starts: &'a [Handler],
     /// The events that stop it.
-    pub stops: &'a [Name],
+    pub stops: &'a [Handler],
     /// The priority of its handlers: in the rows of a bundle at most 1,000,000; 100 by default.
     pub priority: u32,
     /// Whether it runs only in a game: by default it does.
     pub game: bool,
     /// Whether it stops with the ball: by default it does.
     pub stops_with_ball: bool,
+}
+
+// ---- handled events
+
+/// An event of a list, where it is written.
+pub fn as_handled(handler: &Handler) -> HandledAt<'_>
+    ensures { handled_at_view result ≡ handler_view handler.now }
+{
+    HandledAt {
+        line: handler.line,
+        name: &handler.name,
+        condition: handler.condition.as_deref(),
+    }
 }
 
 // ---- `switches`
@@ -122,7 +143,7 @@ pub fn as_event_player(player: &Player) -> EventPlayer<'_>
     ensures { event_player_view result ≡ event_player_of (player_view player.now) }
 {
     EventPlayer {
-        event: event_name(&player.event),
+        event: handled(&player.event),
         posts: posts(&player.value),
     }
 }
@@ -160,8 +181,8 @@ fn as_settings(row: &[Value]) -> ModeSettings<'_>
     ensures { mode_settings_view result ≡ mode_settings_of (values_view row.now) }
 {
     ModeSettings {
-        starts: names(row, START_EVENTS),
-        stops: names(row, STOP_EVENTS),
+        starts: handlers(row, START_EVENTS),
+        stops: handlers(row, STOP_EVENTS),
         priority: natural(row, PRIORITY),
         game: flag(row, GAME_MODE),
         stops_with_ball: flag(row, STOP_ON_BALL_END),
@@ -194,8 +215,8 @@ pub fn listed_modes(sections: &[Section]) -> &[Name]
 
 // ---- sections
 
-// The content of the section of this name, if there is one.
-fn section_named<'a>(sections: &'a [Section], name: &[u8]) -> Option<&'a Content>
+/// The content of the section of this name, if there is one.
+pub fn section_named<'a>(sections: &'a [Section], name: &[u8]) -> Option<&'a Content>
     ensures { option_map (λ content. content_view content.now) result ≡ content_named name.now (map section_view sections.now) }
 {
     for section in sections {

@@ -2,13 +2,15 @@
 
 ghost use Rattle.std.specs.Prelude.{◌≡◌, ◌&&◌, nat_le, map, option_map, slice_get, pos, negsuc};
 ghost use Rattle.section_tables.specs.EntryOf.{within};
-ghost use Rattle.section_tables.specs.View.{name_view, names_view, fields_view, keyed_view, plain_view, plains_view, value_view, values_view};
-ghost use Rattle.mpf_sections.specs.Typed.{listed_names, listed_posts, listed_steps, listed_maps, listed_keyed, text_of, word_of, flag_of, natural_of, number_of, direction_of, limit_of, time_of, event_name, name_in, word_in, number_in, pulse_in, power_in};
-ghost use Rattle.mpf_sections.specs.View.{name_at_view, plain_option_view};
+ghost use Rattle.section_tables.specs.View.{name_view, handler_view, handlers_view, fields_view, keyed_view, plain_view, plains_view, value_view, values_view};
+ghost use Rattle.mpf_sections.specs.Typed.{listed_names, listed_events, listed_posts, listed_steps, listed_maps, listed_keyed, text_of, word_of, flag_of, natural_of, natural_within, number_of, direction_of, limit_of, time_of, handled_in, event_in, name_in, word_in, number_in, pulse_in, power_in};
+ghost use Rattle.section_tables.specs.Rows.{name as named};
+ghost use Rattle.mpf_sections.specs.TypedGame.{change_in};
+ghost use Rattle.mpf_sections.specs.View.{name_at_view, handled_at_view, plain_option_view};
 
-use crate::typed::NameAt;
+use crate::typed::{HandledAt, NameAt, as_handled};
 use crate::words::Direction;
-use section_tables::rows::{Fields, Keyed, Name, Plain, Value};
+use section_tables::rows::{Fields, Handler, Keyed, Name, Plain, Value};
 
 // ---- values of settings
 
@@ -20,6 +22,16 @@ pub fn names(row: &[Value], at: usize) -> &[Name]
 {
     match row.get(at) {
         Some(Value::Names(names)) => names,
+        _ => &[],
+    }
+}
+
+/// The handled events at a place of a row; none where there is no list of them.
+pub fn handlers(row: &[Value], at: usize) -> &[Handler]
+    ensures { map handler_view result.now ≡ listed_events (slice_get (values_view row.now) at) }
+{
+    match row.get(at) {
+        Some(Value::Events(handlers)) => handlers,
         _ => &[],
     }
 }
@@ -74,7 +86,20 @@ pub fn natural(row: &[Value], at: usize) -> u32
     }
 }
 
-// Whether a number is within the range of those that may be left out.
+/// The number at a place of a row, of this range; where there is none, another.
+pub fn natural_within(row: &[Value], at: usize, least: u32, greatest: u32, otherwise: u32) -> u32
+    ensures { result ≡ natural_within least greatest otherwise (slice_get (values_view row.now) at) }
+{
+    match row.get(at) {
+        Some(Value::One(Plain::Number(number))) => match u32::try_from(*number) {
+            Ok(n) if least <= n && n <= greatest => n,
+            _ => otherwise,
+        },
+        _ => otherwise,
+    }
+}
+
+/// Whether a number is from -1,000,000,000 to 1,000,000,000.
 fn is_limit(n: i64) -> bool
     ensures { result ≡ within (negsuc 999999999) (pos 1000000000) n }
 {
@@ -122,8 +147,8 @@ pub fn milliseconds(row: &[Value], at: usize) -> u32
 }
 
 /// The steps at a place of a row, 16 at most; none where there are no steps.
-pub fn steps(row: &[Value], at: usize) -> &[Vec<Name>]
-    ensures { map names_view result.now ≡ listed_steps (slice_get (values_view row.now) at) }
+pub fn steps(row: &[Value], at: usize) -> &[Vec<Handler>]
+    ensures { map handlers_view result.now ≡ listed_steps (slice_get (values_view row.now) at) }
 {
     match row.get(at) {
         Some(Value::Steps(steps)) if steps.len() <= 16 => steps,
@@ -161,32 +186,55 @@ pub fn text(row: &[Value], at: usize) -> Option<&Plain>
     }
 }
 
-/// The name of an event, where it is written.
-pub fn event_name(event: &Plain) -> NameAt<'_>
-    ensures { name_at_view result ≡ event_name (plain_view event.now) }
+// ---- texts
+
+// An event that is handled always.
+fn always(name: NameAt<'_>) -> HandledAt<'_>
+    ensures { handled_at_view result ≡ handled_in (named (name_at_view name.entry)) }
 {
-    match event {
-        Plain::Name(name) => NameAt {
-            line: name.line,
-            text: &name.text,
-        },
-        Plain::DefaultName(text) => NameAt { line: 0, text },
-        Plain::Event(handler) => NameAt {
-            line: handler.line,
-            text: &handler.name,
-        },
-        _ => NameAt { line: 0, text: b"" },
+    HandledAt {
+        line: name.line,
+        name: name.text,
+        condition: None,
     }
 }
 
-// ---- texts
+/// The handled event that a text is. A name is one that is handled always; what is neither has line
+/// 0 and no name.
+pub fn handled(event: &Plain) -> HandledAt<'_>
+    ensures { handled_at_view result ≡ handled_in (plain_view event.now) }
+{
+    match event {
+        Plain::Event(handler) => as_handled(handler),
+        Plain::Name(name) => always(NameAt {
+            line: name.line,
+            text: &name.text,
+        }),
+        Plain::DefaultName(text) => always(NameAt { line: 0, text }),
+        _ => always(NameAt { line: 0, text: b"" }),
+    }
+}
+
+/// The handled event that a text is, where it is written as one.
+pub fn event(text: Option<&Plain>) -> Option<HandledAt<'_>>
+    ensures { option_map handled_at_view result ≡ event_in (plain_option_view text.entry) }
+{
+    match text {
+        Some(Plain::Event(handler)) => Some(as_handled(handler)),
+        _ => None,
+    }
+}
 
 /// The name that a text is, where it is written; none where it is no name.
 pub fn name(text: Option<&Plain>) -> Option<NameAt<'_>>
     ensures { option_map name_at_view result ≡ name_in (plain_option_view text.entry) }
 {
     match text {
-        Some(name @ (Plain::Name(_) | Plain::DefaultName(_))) => Some(event_name(name)),
+        Some(Plain::Name(name)) => Some(NameAt {
+            line: name.line,
+            text: &name.text,
+        }),
+        Some(Plain::DefaultName(text)) => Some(NameAt { line: 0, text }),
         _ => None,
     }
 }
@@ -234,6 +282,16 @@ pub fn word_field(values: &[Plain], at: usize) -> &'static [u8]
     match values.get(at) {
         Some(Plain::Word(word)) => word,
         _ => b"",
+    }
+}
+
+/// The number at a place of a map, from -1,000,000,000 to 1,000,000,000; 0 where there is none.
+pub fn change(values: &[Plain], at: usize) -> i64
+    ensures { result ≡ change_in (slice_get (plains_view values.now) at) }
+{
+    match values.get(at) {
+        Some(Plain::Number(number)) if is_limit(*number) => *number,
+        _ => 0,
     }
 }
 

@@ -58,3 +58,12 @@ pub enum CoilAction {
     /// It is off.
     Disable,
 }
+
+/// What is done with a variable.
+#[derive(Clone, Copy, Debug)]
+pub enum VariableAction {
+    /// The number is added to it.
+    Add,
+    /// It becomes the number.
+    Set,
+}

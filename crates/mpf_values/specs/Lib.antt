@@ -6,6 +6,7 @@ pub mod Times
 pub mod Powers
 pub mod Names
 pub mod Events
+pub mod Comparing
 pub mod ListText
 pub mod Lists
 pub mod Reading

@@ -17,6 +17,25 @@ pub enum Comparison {
     GreaterOrEqual,
 }
 
+impl Comparison {
+    ghost use Rattle.std.specs.Prelude.{◌≡◌};
+    ghost use Rattle.mpf_values.specs.Comparing.{compares};
+
+    /// Whether a value compares so with a number.
+    pub fn holds(self, value: i64, number: i64) -> bool
+        ensures { result ≡ compares self value number }
+    {
+        match self {
+            Comparison::Equal => value == number,
+            Comparison::NotEqual => value != number,
+            Comparison::Less => value < number,
+            Comparison::LessOrEqual => value <= number,
+            Comparison::Greater => value > number,
+            Comparison::GreaterOrEqual => value >= number,
+        }
+    }
+}
+
 /// That a variable of the current player compares so with a number.
 #[derive(Clone, Copy)]
 pub struct Condition<'a> {

@@ -7,9 +7,9 @@ use Rattle.plan_tables.specs.declared.devices.DeviceRow.{DeviceRow}
 use Rattle.plan_tables.specs.declared.devices.RowId.{RowId}
 use Rattle.device_objects.specs.declared.device.Call.{Call}
 use Rattle.device_objects.specs.declared.state.DeviceState.{DeviceState}
+use Rattle.device_objects.specs.declared.state.World.{World}
 use Rattle.device_objects.specs.DeviceStep.{device_step, first_state}
 use Rattle.written_machine.specs.Machine.{device_state}
-use Rattle.pin_rig.specs.Core.{no_world}
 
 module _ {A : Type 0} (row : A → DeviceRow) (state : A → DeviceState) (plan : PlanView) (items : List A) (at : RowId) (old new : A)
     (rows : map row items ≡ plan.rows) (read : old ≡ get_or items at.0 old) (within : at.0 < length items) where
@@ -20,13 +20,13 @@ module _ {A : Type 0} (row : A → DeviceRow) (state : A → DeviceState) (plan 
   pub state-is : state old ≡ device_state (map state items) at
   state-is = ap state read ∙ sym (get_or-map state items at.0 old (first_state no_row.settings) within)
 
-  module _ (call : Call) (moment : ℕ) where
-    pub step-is : device_step (row old).settings call moment no_world (state old) ≡ device_step (row_at plan at).settings call moment no_world (device_state (map state items) at)
-    step-is = λ i. device_step (row-is i).settings call moment no_world (state-is i)
+  module _ (call : Call) (moment : ℕ) (world : World) where
+    pub step-is : device_step (row old).settings call moment world (state old) ≡ device_step (row_at plan at).settings call moment world (device_state (map state items) at)
+    step-is = λ i. device_step (row-is i).settings call moment world (state-is i)
 
     -- the states after the call
-    pub states-turned : state new ≡ (device_step (row old).settings call moment no_world (state old)).0
-        → map state (set items at.0 new) ≡ set (map state items) at.0 (device_step (row_at plan at).settings call moment no_world (device_state (map state items) at)).0
+    pub states-turned : state new ≡ (device_step (row old).settings call moment world (state old)).0
+        → map state (set items at.0 new) ≡ set (map state items) at.0 (device_step (row_at plan at).settings call moment world (device_state (map state items) at)).0
     states-turned is = map-set state items at.0 new ∙ ap (set (map state items) at.0) (is ∙ ap (λ p. p.0) step-is)
 
   -- rows stay

@@ -3,7 +3,7 @@ use Rattle.std.proofs.Common.{◌≡◌, ℕ, ◌<◌, Bool, Some, None, List, [
 use Rattle.std.specs.Prelude.{slice_get}
 use Rattle.std.proofs.lemmas.Option.{get_or_from_slice_get, slice_get_within}
 use Rattle.std.proofs.lemmas.List.Elements.{All-get_or}
-use Rattle.plan_tables.specs.Valid.{HasEntries, IsBindingWithin, IsTargetWithin}
+use Rattle.plan_tables.specs.Valid.{HasEntries, IsBindingWithin}
 use Rattle.plan_tables.specs.PlanView.{PlanView, no_binding, binding_at}
 use Rattle.plan_tables.specs.declared.entries.BindingId.{BindingId}
 use Rattle.plan_tables.specs.declared.entries.EventId.{EventId}
@@ -51,7 +51,7 @@ module _ (plan : PlanView) (running : List Bool) (start now : CoreView) (kept : 
       let no : handlers_from plan running event i ≡ [] = subst (λ (h : HandlersView). GoesOn h.plan h.running event i None) kept-now none in
       subst (λ (ps : List BindingId). after (all_do (do_handler plan) ps) now ≡ after (all_do (do_handler plan) (in_order plan running event)) start) no left
 
--- a binding of the plan has a target in it
-pub target-within : (plan : PlanView) → HasEntries plan → (place : BindingId) (b : Binding) → slice_get plan.bindings place.0 ≡ Some b → IsTargetWithin plan b.target
-target-within plan entries place b is =
-    (subst (IsBindingWithin plan) (get_or_from_slice_get plan.bindings place.0 b b is) (All-get_or (IsBindingWithin plan) plan.bindings place.0 b (slice_get_within plan.bindings place.0 b is) entries.bindings)).2
+-- what a binding of the plan names is in the plan
+pub binding-within : (plan : PlanView) → HasEntries plan → (place : BindingId) (b : Binding) → slice_get plan.bindings place.0 ≡ Some b → IsBindingWithin plan b
+binding-within plan entries place b is =
+    subst (IsBindingWithin plan) (get_or_from_slice_get plan.bindings place.0 b b is) (All-get_or (IsBindingWithin plan) plan.bindings place.0 b (slice_get_within plan.bindings place.0 b is) entries.bindings)

@@ -5,6 +5,7 @@ pub mod Calling
 pub mod Listing
 pub mod Fitting
 pub mod Handling
+pub mod Playing
 pub mod Stepping
 pub mod Settling
 pub mod Acting

@@ -1,14 +1,18 @@
 -- What leaves room in the end left room before.
-use Rattle.std.proofs.Common.{◌≡◌, ℕ, zero, suc, ◌+◌, ◌≤◌, ◌<◌, Option, Some, None, List, [], ◌∷◌, length, drop, length-append, refl, ap, sym, ◌∙◌, subst, arith}
+use Rattle.std.proofs.Common.{◌≡◌, ℕ, ℤ, zero, suc, ◌+◌, ◌≤◌, ◌<◌, Option, Some, None, List, [], ◌∷◌, length, drop, length-append, refl, ap, sym, ◌∙◌, subst, arith}
 use Rattle.std.specs.Prelude.{slice_get}
 use Rattle.plan_tables.specs.declared.entries.EventId.{EventId}
 use Rattle.plan_tables.specs.declared.entries.Owner.{Owner}
 use Rattle.plan_tables.specs.declared.entries.Owner.TheVariants as owners
 use Rattle.plan_tables.specs.declared.entries.Listener.{Listener}
-use Rattle.plan_tables.specs.PlanView.{PlanView, listeners_of, posts_of}
+use Rattle.plan_tables.specs.declared.entries.GameEvent.{GameEvent}
+use Rattle.plan_tables.specs.declared.entries.VariableId.{VariableId}
+use Rattle.plan_tables.specs.declared.entries.VariableAction.{VariableAction}
+use Rattle.plan_tables.specs.PlanView.{PlanView, game_event, listeners_of, posts_of}
+use Rattle.player_game.specs.Players.{changed_to, after_change as players_after_change, score_of}
 use Rattle.written_machine.specs.declared.line.Happening.TheVariants as lines
 use Rattle.switch_core.specs.declared.change.Change.{Change as Acceptance}
-use Rattle.written_machine.specs.Machine.{Machine, write, post, all_do, tell_listener, do_accepted}
+use Rattle.written_machine.specs.Machine.{Machine, write, post, set_players, all_do, tell_change, change_variable, tell_listener, do_accepted, post_game, write_final}
 use Rattle.written_machine.proofs.Growth.{all_do-grows, post-grows, accepted-grows}
 use Rattle.event_queue.specs.declared.queue.Posted.{Posted}
 use Rattle.event_queue.specs.Queue.{QueueView, IsTaken}
@@ -86,3 +90,49 @@ told-room plan a now written listeners h written_is listeners_are =
     subst (λ (v : CoreView). HasRoom v.room (all_do (tell_listener plan a.active) listeners v.machine)) (sym written_is)
     (subst (λ (ls : List Listener). HasRoom now.room (all_do (tell_listener plan a.active) ls begun)) (sym listeners_are)
     (room-before now.room told (do_accepted plan a now.machine) posted h))
+
+-- a score that is told adds a line
+pub final-grows : (plan : PlanView) (player : ℕ) (s : Machine) → Grows s (write_final plan player s)
+final-grows plan player s =
+    (omega (arith, length-append s.lines (record { moment = s.moment; owner = owners.Machine; happening = lines.Final player (score_of plan s.players player) } ∷ [])), omega arith)
+
+pub final-room : (plan : PlanView) (now all : CoreView) (player : ℕ) (players left : List ℕ) → left ≡ player ∷ players → after (all_do (write_final plan) left) now ≡ all → HasRoom all.room all.machine → length now.machine.lines < now.room
+final-room plan now all player players left is whole h =
+    let room = room-first (write_final plan) (final-grows plan) now all player players left is whole h in
+    let fits = room.lines in
+    let s = now.machine in
+    omega (arith, fits, length-append s.lines (record { moment = s.moment; owner = owners.Machine; happening = lines.Final player (score_of plan s.players player) } ∷ []))
+
+-- and an event of the game that is posted waits
+pub game-grows : (plan : PlanView) (e : GameEvent) (s : Machine) → Grows s (post_game plan e s)
+game-grows plan e s = post-grows owners.Machine (game_event plan e) s
+
+pub game-room : (plan : PlanView) (now all : CoreView) (e : GameEvent) (es left : List GameEvent) → left ≡ e ∷ es → after (all_do (post_game plan) left) now ≡ all → HasRoom all.room all.machine → length now.machine.waiting < now.room
+game-room plan now all e es left is whole h =
+    let room = room-first (post_game plan) (game-grows plan) now all e es left is whole h in
+    let fits = room.waiting in
+    omega (arith, fits, length-append now.machine.waiting (record { event = game_event plan e; owner = owners.Machine } ∷ []))
+
+-- where a change of a variable that is told leaves room, there is room for its line and its event
+told-fits : (owner : Owner) (player : ℕ) (v : VariableId) (e : EventId) (value : ℤ) (room : ℕ) (s : Machine) → HasRoom room (tell_change owner player v e (Some value) s) → (length s.lines < room) × (length s.waiting < room)
+told-fits owner player v e value room s h =
+    let written = h.lines in
+    let waits = h.waiting in (
+      omega (arith, written, length-append s.lines (record { moment = s.moment; owner = owner; happening = lines.Player player v value } ∷ [])),
+      omega (arith, waits, length-append s.waiting (record { event = e; owner = owner } ∷ [])),
+    )
+
+changed-fits : (plan : PlanView) (owner : Owner) (v : VariableId) (action : VariableAction) (n : ℤ) (e : EventId) (value : ℤ) (room : ℕ) (s : Machine) → Some value ≡ changed_to plan v action n s.players
+    → HasRoom room (change_variable plan owner v action n e s) → (length s.lines < room) × (length s.waiting < room)
+changed-fits plan owner v action n e value room s is h =
+    told-fits owner s.players.current v e value room (set_players (players_after_change plan v (Some value) s.players) s)
+    (subst (λ (o : Option ℤ). HasRoom room (tell_change owner s.players.current v e o (set_players (players_after_change plan v o s.players) s))) (sym is) h)
+
+-- so it is for the players that a core holds
+pub changed-room : (seen now : CoreView) → seen ≡ now → (held : PlanView) → held ≡ seen.handlers.plan → (owner : Owner) (v : VariableId) (action : VariableAction) (n : ℤ) (e : EventId) (value : ℤ)
+    → Some value ≡ changed_to held v action n seen.machine.players → HasRoom now.room (change_variable now.handlers.plan owner v action n e now.machine)
+    → (length seen.machine.lines < seen.room) × (length seen.machine.waiting < seen.room)
+changed-room seen now same held held_is owner v action n e value is room =
+    changed-fits seen.handlers.plan owner v action n e value seen.room seen.machine
+    (is ∙ ap (λ (p : PlanView). changed_to p v action n seen.machine.players) held_is)
+    (subst (λ (c : CoreView). HasRoom c.room (change_variable c.handlers.plan owner v action n e c.machine)) (sym same) room)

@@ -124,6 +124,8 @@ module _ (limits : List CoilLimits) where
   line-follows sent s owner now (lines.Event e) is h = quiet-follows sent s now h
   line-follows sent s owner now (lines.Coil command) is h = command-follows sent s owner now command is h
   line-follows sent s owner now (lines.Skip command) is h = quiet-follows sent s now h
+  line-follows sent s owner now (lines.Player player v value) is h = quiet-follows sent s now h
+  line-follows sent s owner now (lines.Final player score) is h = quiet-follows sent s now h
 
   -- the first of the lines that are sent
   part-follows : (moment : ℕ) (shown later : List Line) (sent : List Sending) (s : List CoilState) → AreSent moment s (shown ++ later) → Follows limits sent s moment

@@ -25,7 +25,7 @@ use Rattle.written_machine.specs.declared.line.Happening.TheVariants as lines
 use Rattle.written_machine.specs.Machine.{Machine, write, told, ask_coil}
 use Rattle.written_machine.specs.EventStep.{taken, EventStep, EventSteps}
 use Rattle.written_machine.specs.Run.{Stimulus, begin}
-use Rattle.written_machine.proofs.Does.{Move, Wrote, Sent, Switched, Began, Ended, Marked, Turned, Asked, do_move, start-by, stop-by, Licence, MayDo, Does, does-keeps, IsNoCommand}
+use Rattle.written_machine.proofs.Does.{Move, Wrote, Sent, Switched, Began, Ended, Marked, Turned, Asked, Varied, Stepped, do_move, start-by, stop-by, Licence, MayDo, Does, does-keeps, IsNoCommand}
 use Rattle.written_machine.proofs.Parts.{TakesPart, Begins, ordinary, working, does-before, does-after, does-begin}
 use Rattle.written_machine.proofs.Held.{asked-count}
 use Rattle.written_machine.proofs.Keeps.{step-keeps, steps-keep}
@@ -116,12 +116,16 @@ count-happening owner now (lines.Switch n active) s = refl
 count-happening owner now (lines.Event e) s = refl
 count-happening owner now (lines.Coil command) s = asked-count owner command now s
 count-happening owner now (lines.Skip command) s = refl
+count-happening owner now (lines.Player player v value) s = refl
+count-happening owner now (lines.Final player score) s = refl
 
 sendable-one : (s : List CoilState) (owner : Owner) (now : ℕ) (what : Happening) → IsSent s owner now what → IsToCoil (length s) what
 sendable-one s owner now (lines.Switch n active) h = tt
 sendable-one s owner now (lines.Event e) h = tt
 sendable-one s owner now (lines.Coil command) h = to-coil s owner now command h
 sendable-one s owner now (lines.Skip command) h = tt
+sendable-one s owner now (lines.Player player v value) h = tt
+sendable-one s owner now (lines.Final player score) h = tt
 
 pub sent-sendable : (moment : ℕ) (s : List CoilState) (count : ℕ) (ls : List Line) → moment < 2 ^ 40 → length s ≡ count → AreSent moment s ls → All (IsSendable count) ls
 sent-sendable moment s count [] early counted h = λ k d within. absurd (omega (arith, within))
@@ -151,12 +155,16 @@ module _ (plan : PlanView) (start : List CoilState) where
       same (lines.Event e) is cs = refl
       same (lines.Coil command) is cs = absurd is
       same (lines.Skip command) is cs = absurd is
+      same (lines.Player player v value) is cs = refl
+      same (lines.Final player score) is cs = refl
 
       quiet : (w : Happening) → IsNoCommand w → IsSent (after_lines s.lines start) owner s.moment w
       quiet (lines.Switch n active) is = tt
       quiet (lines.Event e) is = tt
       quiet (lines.Coil command) is = absurd is
       quiet (lines.Skip command) is = absurd is
+      quiet (lines.Player player v value) is = tt
+      quiet (lines.Final player score) is = tt
 
   asked-agrees : (owner : Owner) (command : Command) (s : Machine) → Agrees start s → Agrees start (ask_coil owner command s)
   asked-agrees owner command s h =
@@ -177,6 +185,8 @@ module _ (plan : PlanView) (start : List CoilState) where
   agrees-move licence (Marked m state) s may h = record { coils = h.coils; sent = h.sent }
   agrees-move licence (Turned call r) s may h = record { coils = h.coils; sent = h.sent }
   agrees-move licence (Asked owner command) s may h = asked-agrees owner command s h
+  agrees-move licence (Varied v value) s may h = record { coils = h.coils; sent = h.sent }
+  agrees-move licence (Stepped which) s may h = record { coils = h.coils; sent = h.sent }
 
   agrees-does : (licence : Licence) {c : Cost} {s t : Machine} → Does plan (MayDo plan licence) c s t → Agrees start s → Agrees start t
   agrees-does licence d h = does-keeps plan (MayDo plan licence) (Agrees start) (agrees-move licence) d h

@@ -3,7 +3,7 @@ use Rattle.std.proofs.Common.{◌≡◌, ℕ, ◌+◌, ◌-◌, ◌<◌, List, �
 use Rattle.plan_tables.specs.PlanView.{PlanView, work_of}
 use Rattle.plan_tables.specs.declared.entries.ModeEvent.TheVariants.{WillStart, Starting, Started, Stopping, Stopped}
 use Rattle.plan_tables.specs.declared.entries.Work.{Work}
-use Rattle.plan_tables.specs.declared.entries.Work.TheVariants.{Nothing, Mode}
+use Rattle.plan_tables.specs.declared.entries.Work.TheVariants.{Nothing, Mode, Game}
 use Rattle.mode_stack.specs.Modes.{running_of}
 use Rattle.event_queue.specs.declared.queue.Posted.{Posted}
 use Rattle.event_queue.specs.PlanOrder.{by_priority}
@@ -23,6 +23,7 @@ kept-same (Mode m Starting) first rest s = refl
 kept-same (Mode m Started) first rest s = refl
 kept-same (Mode m Stopping) first rest s = refl
 kept-same (Mode m Stopped) first rest s = refl
+kept-same (Game which) first rest s = refl
 
 -- an event that is taken, and what is done then, is an event step
 taken-step : (plan : PlanView) (first : Posted) (rest : List Posted) (s : Machine) → after_taken plan first.event (taken first rest s) ≡ plan_step_from plan (first ∷ rest) s

@@ -1,19 +1,25 @@
 -- What a board is sent, and what it takes of that.
-use Rattle.std.specs.Prelude.{◌≡◌, ℕ, Option, None, Some, Ok, List, [], ◌∷◌, ◌++◌}
+use Rattle.std.specs.Prelude.{◌≡◌, ℕ, true, false, Option, None, Some, Ok, List, [], ◌∷◌, ◌++◌}
 use Rattle.std.specs.List.{flat_map}
 use Rattle.plan_tables.specs.declared.entries.Owner.{Owner}
 use Rattle.coil_guard.specs.declared.command.Command.{Command}
 use Rattle.coil_guard.specs.declared.state.CoilState.{CoilState}
 use Rattle.coil_guard.specs.Asked.{after_asking}
-use Rattle.coil_guard.specs.Boards.{HasFaulted, IsToldAfter}
+use Rattle.coil_guard.specs.Boards.{HasFaulted, IsToldAfter, Answers, IsAnswered}
 use Rattle.written_machine.specs.declared.line.Line.{Line}
 use Rattle.written_machine.specs.declared.line.Happening.{Happening}
 use Rattle.written_machine.specs.declared.line.Happening.TheVariants as lines
 
--- what a board says of itself: the commands that it has taken, where it tells them, and the count of its faults
+-- what a board says of itself: the commands that it has taken, where it tells them; the count of its faults; and its answers
+-- to the commands to come, where it tells them
 pub record BoardView : Type 0 where
   pub told : Option (List Command)
   pub fault_count : ℕ
+  pub answers : Answers
+
+-- a board, by what it says of itself
+abbrev pub board_view : {B : Type 0} → (B → Option (List Command)) → (B → ℕ) → (B → Answers) → B → BoardView
+board_view told fault_count answers board = record { told = told board; fault_count = fault_count board; answers = answers board }
 
 -- ---- one command
 
@@ -21,11 +27,13 @@ pub record BoardView : Type 0 where
 pub record HasTaken (command : Command) (old new : BoardView) : Type 0 where
   pub count : new.fault_count ≡ old.fault_count
   pub list : IsToldAfter command (Ok tt) old.told new.told
+  pub answer : IsAnswered true old.answers new.answers
 
 -- The board has not taken a command, which is a fault.
 pub record HasNotTaken (old new : BoardView) : Type 0 where
   pub count : HasFaulted old.fault_count new.fault_count
   pub list : new.told ≡ old.told
+  pub answer : IsAnswered false old.answers new.answers
 
 -- ---- the commands of lines
 

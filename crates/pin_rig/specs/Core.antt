@@ -2,15 +2,18 @@
 use Rattle.std.specs.Prelude.{◌≡◌, ℕ, ◌<◌, ◌≤◌, ◌^◌, Option, Some, None, List, [], ◌∷◌, length}
 use Rattle.plan_tables.specs.PlanView.{PlanView}
 use Rattle.plan_tables.specs.declared.entries.Work.{Work}
-use Rattle.plan_tables.specs.declared.entries.Work.TheVariants.{Nothing, Mode}
-use Rattle.device_objects.specs.declared.state.World.{World}
+use Rattle.plan_tables.specs.declared.entries.Work.TheVariants.{Nothing, Mode, Game}
+use Rattle.plan_tables.specs.declared.entries.GameEvent.{GameEvent}
+use Rattle.plan_tables.specs.Valid.{HasGame}
+use Rattle.player_game.specs.declared.game.GameWork.{GameWork}
+use Rattle.player_game.specs.GameStep.{GameStep, game_step}
 use Rattle.switch_core.specs.Switches.{IsComplete}
 use Rattle.event_queue.specs.declared.queue.Posted.{Posted}
 use Rattle.event_queue.specs.Handlers.{HandlersView}
 use Rattle.mode_stack.specs.Modes.{running_of}
 use Rattle.plan_tables.specs.declared.entries.EventId.{EventId}
 use Rattle.event_queue.specs.PlanOrder.{by_priority}
-use Rattle.written_machine.specs.Machine.{Machine, all_do, do_handler}
+use Rattle.written_machine.specs.Machine.{Machine, all_do, do_handler, home_of, set_game, set_players}
 use Rattle.written_machine.specs.Devices.{HasDevices}
 use Rattle.written_machine.specs.EventStep.{work_before, work_after, handlers_in}
 use Rattle.written_machine.specs.Run.{Stimulus, Change, Alarm, Wait}
@@ -47,10 +50,11 @@ pub record CanCall (plan : PlanView) (c : CoreView) : Type 0 where
 abbrev pub HandlesFor : PlanView → CoreView → Type 0
 HandlesFor plan c = c.handlers ≡ record { plan = plan; running = running_of c.machine.modes }
 
--- the work is none, or that of a mode of the plan
+-- the work is none, that of a mode of the plan, or that of its game
 abbrev pub IsWorkOf : PlanView → Work → Type 0
 IsWorkOf plan Nothing = Unit {0}
 IsWorkOf plan (Mode m which) = m.0 < length plan.modes
+IsWorkOf plan (Game which) = HasGame plan
 
 -- what is done in plan order at an event that was taken
 abbrev pub after_taken : PlanView → EventId → Machine → Machine
@@ -58,9 +62,17 @@ after_taken plan e s =
     let ready = work_before plan e s in
     work_after plan e s (all_do (do_handler plan) (by_priority plan (handlers_in plan ready e)) ready)
 
--- devices know nothing of a game: there is none yet
-abbrev pub no_world : World
-no_world = record { games = 0; player = 0 }
+-- the game and its players go on as an event of the game says
+abbrev pub step_at : PlanView → GameEvent → Machine → GameStep
+step_at plan which s = game_step plan.game plan which (home_of s) s.game s.players
+
+abbrev pub played : PlanView → GameEvent → Machine → Machine
+played plan which s = set_players (step_at plan which s).players (set_game (step_at plan which s).game s)
+
+-- what else the event leads to
+pub record IsWorkOfGame (plan : PlanView) (which : GameEvent) (s : Machine) (work : GameWork) : Type 0 where
+  pub posts : work.posts.items ≡ (step_at plan which s).posts
+  pub finals : work.finals ≡ (step_at plan which s).finals
 
 -- the machine of the plan is kept: it has its modes, devices and coils, the handlers of the modes that run, and all its switches
 pub record IsCoreOf (plan : PlanView) (c : CoreView) : Type 0 where

@@ -9,13 +9,15 @@ ghost use Rattle.switch_core.specs.Switches.{after_change, reported_by_change, n
 ghost use Rattle.coil_guard.specs.Coils.{after_release, answer_release};
 ghost use Rattle.coil_guard.specs.SentCommands.{coil_of};
 ghost use Rattle.device_objects.specs.Laws.{MayCome};
-ghost use Rattle.written_machine.specs.Machine.{initial, write, post, set_switches, set_mode, set_device, set_coils, ask_coil, device_at, called, is_post};
+ghost use Rattle.written_machine.specs.Machine.{initial, write, post, set_switches, set_mode, set_device, set_coils, ask_coil, device_at, called, change_variable, has_game, is_post, write_final};
 ghost use Rattle.written_machine.specs.Run.{arrived};
 ghost use Rattle.device_objects.specs.DeviceStep.{device_step};
-ghost use Rattle.pin_rig.specs.Core.{no_world};
+ghost use Rattle.plan_tables.specs.Valid.{IsConditionWithin};
+ghost use Rattle.player_game.specs.Players.{is_met};
+ghost use Rattle.pin_rig.specs.Core.{played, IsWorkOfGame};
 ghost use Rattle.written_machine.specs.NextAlarm.{next_alarm, is_due_by, first_of};
 ghost use Rattle.written_machine.specs.Run.{switch as of_switch, device as of_device};
-ghost use Rattle.pin_rig.specs.Core.{IsCoreOf, TakesFirst, after};
+ghost use Rattle.pin_rig.specs.Core.{HasRoom, IsCoreOf, TakesFirst, after};
 ghost use Rattle.pin_rig.specs.Inside.{alarm_view};
 
 use crate::fit::first_wrong;
@@ -25,15 +27,19 @@ use coil_guard::{Answer, Coils, Command};
 use device_objects::{Call, Device, DeviceState, Outcome, World};
 use event_queue::{Alarms, Handlers, Posted, Queue};
 use mode_stack::{Modes, StopAnswer};
-use plan_tables::{BindingId, EventId, ModeId, Owner, Plan, RowId, SwitchId};
+use plan_tables::{
+    BindingId, Condition, EventId, GameEvent, ModeId, Owner, Plan, RowId, SwitchId, VariableAction,
+    VariableId,
+};
+use player_game::{Game, GamePhase, GameWork, Players};
 use std::alloc::Global;
 use std::marker::Model;
 use switch_core::{Change, Switches};
 use written_machine::{Happening, Line};
 
 /// The moment of the latest stimulus, the switches, the modes, the devices and their alarms, the
-/// coils, the events that wait and what handles them, and the lines of the latest stimulus. Only
-/// `new` takes memory.
+/// coils, the players and the game, the events that wait and what handles them, and the lines of the
+/// latest stimulus. Only `new` takes memory.
 #[derive(Drop)]
 pub(crate) struct Core<'p, D: Device> {
     moment: u64,
@@ -43,6 +49,8 @@ pub(crate) struct Core<'p, D: Device> {
     devices: Vec<D>,
     alarms: Alarms,
     coils: Coils,
+    players: Players<'p>,
+    game: Game,
     queue: Queue,
     handlers: Handlers<'p>,
     lines: Vec<Line>,
@@ -57,19 +65,19 @@ impl<'p, D: Device> Model for Core<'p, D> {
 
     ghost view = { λ c. record {
       handlers = c.handlers;
-      machine = record { moment = c.moment; switches = c.switches; modes = c.modes.modes; devices = map D.state_of c.devices.items; coils = c.coils; waiting = c.queue.waiting; lines = c.lines.items };
+      machine = record { moment = c.moment; switches = c.switches; modes = c.modes.modes; devices = map D.state_of c.devices.items; coils = c.coils; players = c.players.state; game = c.game.state; waiting = c.queue.waiting; lines = c.lines.items };
       room = c.queue.size;
     } };
 
-    ghost invariant = { λ c. (c.queue.size ≤ vec_capacity c.lines) × (c.modes.plan ≡ c.handlers.plan) × (map D.row_of c.devices.items ≡ c.handlers.plan.rows) × (c.alarms ≡ map (λ d. due_of (D.state_of d)) c.devices.items) };
+    ghost invariant = { λ c. (c.queue.size ≤ vec_capacity c.lines) × (c.modes.plan ≡ c.handlers.plan) × (c.players.plan ≡ c.handlers.plan) × (c.game.rules ≡ c.handlers.plan.game) × (map D.row_of c.devices.items ≡ c.handlers.plan.rows) × (c.alarms ≡ map (λ d. due_of (D.state_of d)) c.devices.items) };
 }
 
 impl<'p, D: Device> Core<'p, D> {
     ghost use Rattle.std.specs.Prelude.{map};
     ghost use Rattle.pin_rig.specs.Fit.{IsFit, IsFirstWrong};
 
-    /// The plan's machine at moment 0, with all switches inactive, all modes idle and all coils off,
-    /// with these devices, and with room for so many events that wait and so many lines.
+    /// The plan's machine at moment 0, with all switches inactive, all modes idle, all coils off and
+    /// no game, with these devices, and with room for so many events that wait and so many lines.
     ///
     /// # Errors
     ///
@@ -91,6 +99,8 @@ impl<'p, D: Device> Core<'p, D> {
         let modes = Modes::new(alloc, plan)?;
         let alarms = Alarms::new(alloc, plan.rows().len() as u16)?;
         let coils = Coils::new(alloc, plan)?;
+        let players = Players::new(alloc, plan)?;
+        let game = Game::new(plan);
         let queue = Queue::new(alloc, room)?;
         let handlers = Handlers::new(alloc, plan)?;
         let lines = Vec::with_capacity(alloc, room)?;
@@ -104,6 +114,8 @@ impl<'p, D: Device> Core<'p, D> {
             devices,
             alarms,
             coils,
+            players,
+            game,
             queue,
             handlers,
             lines,
@@ -193,10 +205,21 @@ impl<'p, D: Device> Core<'p, D> {
     /// A mode is told to start. Reports whether it starts.
     pub(crate) fn start(&mut self, mode: ModeId) -> bool
         requires { mode.0 < length self.old.handlers.plan.modes }
-        ensures started { self.new ≡ after (set_mode mode (started (needs_game self.old.handlers.plan mode) false (mode_state self.old.machine.modes mode))) self.old }
-        ensures starts { result ≡ starts (needs_game self.old.handlers.plan mode) false (mode_state self.old.machine.modes mode).phase }
+        ensures started { self.new ≡ after (set_mode mode (started (needs_game self.old.handlers.plan mode) (has_game self.old.machine) (mode_state self.old.machine.modes mode))) self.old }
+        ensures starts { result ≡ starts (needs_game self.old.handlers.plan mode) (has_game self.old.machine) (mode_state self.old.machine.modes mode).phase }
     {
-        self.modes.start(mode, false)
+        let game = self.has_game();
+        self.modes.start(mode, game)
+    }
+
+    /// Whether a game goes on.
+    fn has_game(&self) -> bool
+        ensures { result ≡ has_game self.now.machine }
+    {
+        match self.game.phase() {
+            GamePhase::None => false,
+            GamePhase::Between | GamePhase::Ball => true,
+        }
     }
 
     /// A mode is told to stop. Reports whether its event for that is to be posted.
@@ -247,11 +270,67 @@ impl<'p, D: Device> Core<'p, D> {
         ensures called { self.new ≡ after (set_device row (called self.old.handlers.plan call row self.old.machine).0) self.old }
         ensures lists { result.items ≡ (called self.old.handlers.plan call row self.old.machine).1 }
     {
+        let world = self.game.world(&self.players);
         let device = &mut self.devices[row.0 as usize];
-        let lists = call_one(device, call, self.moment);
+        let lists = call_one(device, call, self.moment, world);
         let due = device.due();
         self.alarms.set(row, due);
         lists
+    }
+
+    /// Whether the condition of a binding is met; it is where there is none.
+    pub(crate) fn meets(&self, condition: Option<Condition>) -> bool
+        requires { IsConditionWithin self.now.handlers.plan condition }
+        ensures { result ≡ is_met self.now.handlers.plan self.now.machine.players condition }
+    {
+        self.players.meets(condition)
+    }
+
+    /// An action on a variable of the current player. Where the variable changes, its line is
+    /// written, and its event posted.
+    pub(crate) fn change_variable(
+        &mut self,
+        owner: Owner,
+        variable: VariableId,
+        action: VariableAction,
+        number: i64,
+        event: EventId,
+    )
+        requires variable { variable.0 < length self.old.handlers.plan.variables }
+        requires room { HasRoom self.old.room (change_variable self.old.handlers.plan owner variable action number event self.old.machine) }
+        ensures { self.new ≡ after (change_variable self.old.handlers.plan owner variable action number event) self.old }
+    {
+        let player = self.players.current();
+        if let Some(value) = self.players.change(variable, action, number) {
+            self.write(owner, Happening::Player(player, variable, value));
+            self.post(owner, event);
+        }
+    }
+
+    /// The game and its players go on as an event of the game says. Reports what else it leads to.
+    pub(crate) fn play(&mut self, event: GameEvent) -> GameWork
+        ensures played { self.new ≡ after (played self.old.handlers.plan event) self.old }
+        ensures work { IsWorkOfGame self.old.handlers.plan event self.old.machine result }
+    {
+        self.game.work(event, &mut self.players, 0)
+    }
+
+    /// How many players there are.
+    pub(crate) fn player_count(&self) -> usize
+        ensures { result ≡ length self.now.machine.players.players }
+    {
+        self.players.count()
+    }
+
+    /// The score of a player is told.
+    pub(crate) fn tell_score(&mut self, player: usize)
+        requires first { 1 ≤ player }
+        requires last { player ≤ length self.old.machine.players.players }
+        requires room { length self.old.machine.lines < self.old.room }
+        ensures { self.new ≡ after (write_final self.old.handlers.plan player) self.old }
+    {
+        let score = self.players.score(player);
+        self.write(Owner::Machine, Happening::Final(player, score));
     }
 
     /// An owner asks for a command to a coil that there is. It is sent or skipped, and either way
@@ -298,12 +377,15 @@ impl<'p, D: Device> Core<'p, D> {
             mut devices,
             alarms: _,
             coils: _,
+            players,
+            game,
             queue: _,
             handlers: _,
             lines: _,
         } = self;
+        let world = game.world(&players);
         for device in &mut devices {
-            stop_one(device, moment);
+            stop_one(device, moment, world);
         }
     }
 
@@ -318,17 +400,13 @@ impl<'p, D: Device> Core<'p, D> {
 }
 
 /// One call of one device.
-fn call_one<D: Device>(device: &mut D, call: Call, now: u64) -> Outcome
+fn call_one<D: Device>(device: &mut D, call: Call, now: u64, world: World) -> Outcome
     requires moment { now < 2 ^ 40 }
     requires may { MayCome call (D.state_of device.old) }
     ensures row { D.row_of device.new ≡ D.row_of device.old }
-    ensures state { D.state_of device.new ≡ (device_step (D.row_of device.old).settings call now no_world (D.state_of device.old)).0 }
-    ensures lists { result.items ≡ (device_step (D.row_of device.old).settings call now no_world (D.state_of device.old)).1 }
+    ensures state { D.state_of device.new ≡ (device_step (D.row_of device.old).settings call now world (D.state_of device.old)).0 }
+    ensures lists { result.items ≡ (device_step (D.row_of device.old).settings call now world (D.state_of device.old)).1 }
 {
-    let world = World {
-        games: 0,
-        player: 0,
-    };
     match call {
         Call::ModeStart => device.start(now, world),
         Call::ModeStop => device.stop(now, world),
@@ -338,11 +416,11 @@ fn call_one<D: Device>(device: &mut D, call: Call, now: u64) -> Outcome
 }
 
 /// One device stops. What it answers is left out.
-fn stop_one<D: Device>(device: &mut D, now: u64)
+fn stop_one<D: Device>(device: &mut D, now: u64, world: World)
     requires { now < 2 ^ 40 }
     ensures { D.row_of device.new ≡ D.row_of device.old }
 {
-    let _ = call_one(device, Call::ModeStop, now);
+    let _ = call_one(device, Call::ModeStop, now, world);
 }
 
 /// Of an alarm of a switch and one of a device the one that comes first: the switch's, where they

@@ -5,6 +5,7 @@ ghost use Rattle.std.specs.List.{All};
 ghost use Rattle.plan_tables.specs.PlanView.{coil_numbers};
 ghost use Rattle.coil_guard.specs.Coils.{after_disable};
 ghost use Rattle.coil_guard.specs.SentCommands.{coil_of};
+ghost use Rattle.pin_rig.specs.Board.{board_view};
 ghost use Rattle.pin_rig.specs.ShutDown.{ArePutOff, is_faulted};
 ghost use Rattle.pin_rig.specs.Driver.{IsSendable, HasSent, HasSentAlone, HasFaultedAt, HasNotSent, IsServed, HasPutOff, is_due_off};
 
@@ -25,12 +26,13 @@ pub(crate) struct Driver<B: Board> {
 }
 
 impl<B: Board> Model for Driver<B> {
+    ghost use Rattle.pin_rig.specs.Board.{board_view};
     ghost use Rattle.pin_rig.specs.Driver.{DriverView};
 
     ghost Value = { DriverView };
 
     ghost view = { λ d. record {
-      board = record { told = B.told d.board; fault_count = B.fault_count d.board };
+      board = board_view B.told B.fault_count B.answers d.board;
       sent = d.sent;
       faulted = d.faulted;
     } };
@@ -41,7 +43,7 @@ impl<B: Board> Driver<B> {
 
     /// A board, with the guard of its coils. Nothing was sent to it.
     pub(crate) fn new(board: B, sent: Coils) -> Driver<B>
-        ensures { result ≡ record { board = record { told = B.told board; fault_count = B.fault_count board }; sent = sent; faulted = None } }
+        ensures { result ≡ record { board = board_view B.told B.fault_count B.answers board; sent = sent; faulted = None } }
     {
         Driver {
             board,
@@ -59,7 +61,7 @@ impl<B: Board> Driver<B> {
 
     /// The board is given back.
     pub(crate) fn into_board(self) -> B
-        ensures { record { told = B.told result; fault_count = B.fault_count result } ≡ self.board }
+        ensures { board_view B.told B.fault_count B.answers result ≡ self.board }
     {
         self.board
     }

@@ -2,16 +2,17 @@
 //! leaves, and so takes no memory.
 
 ghost use Rattle.std.specs.Prelude.{◌≡◌, ◌^◌, ◌<◌, Some, length, option_map};
-ghost use Rattle.plan_tables.specs.Valid.{IsActionWithin, IsListenerWithin, IsTargetWithin};
+ghost use Rattle.plan_tables.specs.Valid.{HasGame, IsActionWithin, IsBindingWithin, IsListenerWithin, IsTargetWithin};
+ghost use Rattle.plan_tables.specs.declared.entries.Work.TheVariants as works;
 ghost use Rattle.plan_tables.specs.declared.entries.Owner.TheVariants as owners;
-ghost use Rattle.plan_tables.specs.PlanView.{is_owner, row_at, work_of};
+ghost use Rattle.plan_tables.specs.PlanView.{game_event, is_owner, row_at, work_of};
 ghost use Rattle.mode_stack.specs.Modes.{running_of};
 ghost use Rattle.event_queue.specs.PlanOrder.{in_order};
 ghost use Rattle.std.specs.List.{All};
 ghost use Rattle.plan_tables.specs.Devices.{list_count};
 ghost use Rattle.device_objects.specs.declared.state.DeviceState.{DeviceState as DeviceStateValue};
 ghost use Rattle.device_objects.specs.Laws.{MayCome};
-ghost use Rattle.written_machine.specs.Machine.{all_do, post, post_if, start_mode, stop_mode, device_at, do_action, do_answer, call_device, call_devices, release_coils, tell_listener, do_target, do_handler, do_accepted, change_switch};
+ghost use Rattle.written_machine.specs.Machine.{all_do, post, post_if, start_mode, stop_mode, device_at, do_action, do_answer, call_device, call_devices, release_coils, tell_listener, do_target, do_binding, do_game, do_handler, post_game, write_finals, do_accepted, change_switch};
 ghost use Rattle.written_machine.specs.EventStep.{is_kept, do_before, do_after};
 ghost use Rattle.written_machine.specs.Run.{begin as begun, fire as fired};
 ghost use Rattle.written_machine.specs.NextAlarm.{next_alarm};
@@ -23,7 +24,8 @@ use crate::stimulus::{Source, Stimulus};
 use coil_guard::Command;
 use device_objects::{Call, Device};
 use plan_tables::{
-    Action, EventId, Listener, ModeEvent, ModeId, Owner, Plan, RowId, SwitchId, Target, Work,
+    Action, Binding, EventId, GameEvent, Listener, ModeEvent, ModeId, Owner, Plan, RowId, SwitchId,
+    Target, Work,
 };
 use switch_core::Change;
 use written_machine::Happening;
@@ -186,9 +188,27 @@ fn work_after<D: Device>(plan: &Plan, core: &mut Core<'_, D>, kept: bool, work: 
     requires room { HasRoom core.old.room (do_after plan.now kept work core.old.machine) }
     ensures { core.new ≡ follow (do_after plan.now kept work) core.old }
 {
-    let Work::Mode(mode, which) = work else {
-        return;
-    };
+    match work {
+        Work::Nothing => {}
+        Work::Mode(mode, which) => mode_after(plan, core, kept, mode, which),
+        Work::Game(event) => play(plan, core, event),
+    }
+}
+
+/// The next step in the life of a mode, after the handlers of its event.
+fn mode_after<D: Device>(
+    plan: &Plan,
+    core: &mut Core<'_, D>,
+    kept: bool,
+    mode: ModeId,
+    which: ModeEvent,
+)
+    requires mode { mode.0 < length plan.now.modes }
+    requires handlers { HandlesFor plan.now core.old }
+    requires calls { CanCall plan.now core.old }
+    requires room { HasRoom core.old.room (do_after plan.now kept (works.Mode mode which) core.old.machine) }
+    ensures { core.new ≡ follow (do_after plan.now kept (works.Mode mode which)) core.old }
+{
     let events = plan.mode(mode).events;
     match which {
         ModeEvent::WillStart => core.post(Owner::Machine, events.starting),
@@ -208,7 +228,52 @@ fn work_after<D: Device>(plan: &Plan, core: &mut Core<'_, D>, kept: bool, work: 
     }
 }
 
-/// Runs the handlers of an event, in plan order.
+/// What an event of the game leads to is done.
+fn play<D: Device>(plan: &Plan, core: &mut Core<'_, D>, event: GameEvent)
+    requires game { HasGame plan.now }
+    requires plan { core.old.handlers.plan ≡ plan.now }
+    requires room { HasRoom core.old.room (do_game plan.now event core.old.machine) }
+    ensures { core.new ≡ after (do_game plan.now event) core.old }
+{
+    let work = core.play(event);
+    tell_scores(core, work.finals);
+    post_game(plan, core, work.posts.as_slice());
+}
+
+/// The scores of all players are told, where that is so.
+fn tell_scores<D: Device>(core: &mut Core<'_, D>, tells: bool)
+    requires { HasRoom core.old.room (write_finals core.old.handlers.plan tells core.old.machine) }
+    ensures { core.new ≡ after (write_finals core.old.handlers.plan tells) core.old }
+{
+    if !tells {
+        return;
+    }
+    for place in 0..core.player_count() {
+        core.tell_score(place + 1);
+    }
+}
+
+/// The machine posts these events of the game.
+fn post_game<D: Device>(plan: &Plan, core: &mut Core<'_, D>, events: &[GameEvent])
+    requires game { HasGame plan.now }
+    requires room { HasRoom core.old.room (all_do (post_game plan.now) events.now core.old.machine) }
+    ensures { core.new ≡ after (all_do (post_game plan.now) events.now) core.old }
+{
+    for event in events {
+        core.post(Owner::Machine, game_event(plan, *event));
+    }
+}
+
+/// This one of the game's events.
+fn game_event(plan: &Plan, event: GameEvent) -> EventId
+    requires { HasGame plan.now }
+    ensures { result ≡ game_event plan.now event }
+{
+    plan.game().unwrap().events[event.index()]
+}
+
+/// Runs the handlers of an event, in plan order. The condition of each is judged when its turn
+/// comes.
 fn handle<D: Device>(plan: &Plan, core: &mut Core<'_, D>, event: EventId)
     requires handlers { HandlesFor plan.now core.old }
     requires calls { CanCall plan.now core.old }
@@ -217,9 +282,21 @@ fn handle<D: Device>(plan: &Plan, core: &mut Core<'_, D>, event: EventId)
 {
     let mut from = 0;
     while let Some((place, next)) = core.handler(event, from) {
-        let binding = plan.binding(place);
-        run_target(plan, core, binding.owner, binding.target);
+        run_binding(plan, core, plan.binding(place));
         from = next;
+    }
+}
+
+/// A binding does nothing where its condition is not met.
+fn run_binding<D: Device>(plan: &Plan, core: &mut Core<'_, D>, binding: Binding)
+    requires binding { IsBindingWithin plan.now binding }
+    requires plan { core.old.handlers.plan ≡ plan.now }
+    requires calls { CanCall plan.now core.old }
+    requires room { HasRoom core.old.room (do_binding plan.now binding core.old.machine) }
+    ensures { core.new ≡ after (do_binding plan.now binding) core.old }
+{
+    if core.meets(binding.condition) {
+        run_target(plan, core, binding.owner, binding.target);
     }
 }
 
@@ -271,6 +348,7 @@ fn call_device<D: Device>(plan: &Plan, core: &mut Core<'_, D>, row: RowId, call:
 fn run_lists<D: Device>(plan: &Plan, core: &mut Core<'_, D>, row: RowId, lists: &[u16])
     requires row { row.0 < length plan.now.rows }
     requires lists { All (λ list. list < list_count (row_at plan.now row).settings) lists.now }
+    requires plan { core.old.handlers.plan ≡ plan.now }
     requires calls { CanCall plan.now core.old }
     requires room { HasRoom core.old.room (do_answer plan.now row lists.now core.old.machine) }
     ensures { core.new ≡ after (do_answer plan.now row lists.now) core.old }
@@ -326,6 +404,7 @@ fn release_coils<D: Device>(plan: &Plan, core: &mut Core<'_, D>, owner: Owner)
 
 fn run_actions<D: Device>(plan: &Plan, core: &mut Core<'_, D>, owner: Owner, actions: &[Action])
     requires actions { All (IsActionWithin plan.now) actions.now }
+    requires plan { core.old.handlers.plan ≡ plan.now }
     requires calls { CanCall plan.now core.old }
     requires room { HasRoom core.old.room (all_do (do_action plan.now owner) actions.now core.old.machine) }
     ensures { core.new ≡ after (all_do (do_action plan.now owner) actions.now) core.old }
@@ -337,6 +416,7 @@ fn run_actions<D: Device>(plan: &Plan, core: &mut Core<'_, D>, owner: Owner, act
 
 fn run_action<D: Device>(plan: &Plan, core: &mut Core<'_, D>, owner: Owner, action: Action)
     requires action { IsActionWithin plan.now action }
+    requires plan { core.old.handlers.plan ≡ plan.now }
     requires calls { CanCall plan.now core.old }
     requires room { HasRoom core.old.room (do_action plan.now owner action core.old.machine) }
     ensures { core.new ≡ after (do_action plan.now owner action) core.old }
@@ -346,6 +426,12 @@ fn run_action<D: Device>(plan: &Plan, core: &mut Core<'_, D>, owner: Owner, acti
         Action::Pulse { coil, ms, power } => core.ask(owner, Command::Pulse { coil, ms, power }),
         Action::Enable { coil, power } => core.ask(owner, Command::Enable { coil, power }),
         Action::Disable { coil } => core.ask(owner, Command::Disable { coil }),
+        Action::Change {
+            variable,
+            action,
+            number,
+            event,
+        } => core.change_variable(owner, variable, action, number, event),
     }
 }
 

@@ -72,6 +72,7 @@ impl<'c, D: Device, B: Board> Rig<'c, D, B> {
     ghost use Rattle.written_machine.specs.Run.{IsReached};
     ghost use Rattle.written_machine.specs.NextAlarm.{next_alarm};
     ghost use Rattle.pin_rig.specs.Rig.{timely, alarm_at, stimulus_at, RigStep, HasFailed, IsWhy, RunsUnlessHalted, IsOfRun};
+    ghost use Rattle.pin_rig.specs.Board.{board_view};
     ghost use Rattle.pin_rig.specs.ShutDown.{ArePutOff, coils_to_put_off};
     ghost use Rattle.pin_rig.specs.Steps.{at_rest};
     ghost use Rattle.pin_rig.specs.Inside.{stimulus_view, GivesStimulus};
@@ -82,9 +83,10 @@ impl<'c, D: Device, B: Board> Rig<'c, D, B> {
     ghost use Rattle.pin_rig.specs.Lending.{IsStepped};
 
     /// The machine of an accepted configuration, as it begins: at moment 0, with all switches
-    /// inactive, all coils off and no event waiting. It has a device for each row of the plan, in
-    /// the order of the rows, and a board for its coils, to which nothing is sent yet. Only this
-    /// call takes memory: room for as many waiting events and lines as the bound says.
+    /// inactive, all coils off, no game and no event waiting. It has a device for each row of the
+    /// plan, in the order of the rows, and a board for its coils, to which nothing is sent yet. Only
+    /// this call takes memory: room for as many players as the game allows, and for as many waiting
+    /// events and lines as the bound says.
     ///
     /// # Errors
     ///
@@ -99,7 +101,7 @@ impl<'c, D: Device, B: Board> Rig<'c, D, B> {
         devices: Vec<D>,
         board: B,
     ) -> Result<Rig<'c, D, B>, RigFault>
-        ensures rest { IfOk result (λ rig. rig ≡ at_rest checked.now (record { told = B.told board; fault_count = B.fault_count board })) }
+        ensures rest { IfOk result (λ rig. rig ≡ at_rest checked.now (board_view B.told B.fault_count B.answers board)) }
         ensures reached { IfOk result (λ rig. IsReached checked.now.plan [] rig.machine) }
         ensures fit { IfOk result (λ rig. IsFit checked.now.plan (map D.row_of devices.items) (map D.state_of devices.items)) }
         ensures wrong { (row : ℕ) → result ≡ Err (RigFault.WrongDevice (record { 0 = row })) → IsFirstWrong checked.now.plan (map D.row_of devices.items) (map D.state_of devices.items) row }
@@ -187,7 +189,7 @@ impl<'c, D: Device, B: Board> Rig<'c, D, B> {
     /// their numbers, and also after a fault. The report says which coils are put off, and how many
     /// faults there were.
     pub fn shut_down(self) -> (B, ShutReport)
-        ensures off { ArePutOff (coils_to_put_off self.entry) self.entry.board result.1.off.items result.1.faults (record { told = B.told result.0; fault_count = B.fault_count result.0 }) }
+        ensures off { ArePutOff (coils_to_put_off self.entry) self.entry.board result.1.off.items result.1.faults (board_view B.told B.fault_count B.answers result.0) }
     {
         let Rig {
             checked,

@@ -12,3 +12,4 @@ pub mod Taking
 pub mod VerifiedAgain
 pub mod SamePlay
 pub mod OneRun
+pub mod FixedPlay

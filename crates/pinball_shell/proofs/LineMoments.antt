@@ -6,7 +6,7 @@ use Rattle.written_machine.specs.Machine.{Machine}
 use Rattle.written_machine.specs.EventStep.{taken, EventStep, EventSteps}
 use Rattle.written_machine.specs.Run.{Stimulus, moment_of, begin}
 use Rattle.written_machine.specs.PlanOrder.{settled}
-use Rattle.written_machine.proofs.Does.{Move, Wrote, Sent, Switched, Began, Ended, Marked, Turned, Asked, do_move, start-by, stop-by, Does, does-keeps, moment-move}
+use Rattle.written_machine.proofs.Does.{Move, Wrote, Sent, Switched, Began, Ended, Marked, Turned, Asked, Varied, Stepped, do_move, start-by, stop-by, Does, does-keeps, moment-move}
 use Rattle.written_machine.proofs.Parts.{does-begin, does-before, does-after}
 use Rattle.written_machine.proofs.Keeps.{step-keeps, steps-keep}
 use Rattle.written_machine.proofs.PlanSteps.{plan_steps-event_steps}
@@ -37,6 +37,8 @@ module _ (plan : PlanView) (m : ℕ) where
   lines-move (Marked k state) s h = h.1
   lines-move (Turned call r) s h = h.1
   lines-move (Asked owner command) s h = at-push m s.lines _ h.1 h.0
+  lines-move (Varied v value) s h = h.1
+  lines-move (Stepped which) s h = h.1
 
   at-does : {may : Move → Type 0} {c : _} {s t : Machine} → Does plan may c s t → IsAt m s → IsAt m t
   at-does {may} {c} {s} {t} d = does-keeps plan may (IsAt m) (λ x u allowed h. (moment-move plan x u ∙ h.0, lines-move x u h)) d

@@ -9,6 +9,7 @@ pub mod RunGiven
 pub mod SamePlay
 pub mod TraceText
 pub mod Ends
+pub mod FixedPlay
 -- what the contracts of private functions cite, and no public one
 pub mod ReplyView
 pub mod LogView

@@ -1,8 +1,8 @@
 -- What is printed for a log, as bytes.
-use Rattle.std.specs.Prelude.{ℕ, Bool, true, false, if◌then◌else◌, List, [], ◌∷◌, ◌++◌, codes}
+use Rattle.std.specs.Prelude.{ℕ, ℤ, Bool, true, false, if◌then◌else◌, List, [], ◌∷◌, ◌++◌, codes}
 use Rattle.std.specs.List.{flat_map, list_any}
-use Rattle.std.specs.Fmt.{decimal}
-use Rattle.plan_tables.specs.PlanView.{PlanView, mode_at, name_of_event, switch_at, coil_at}
+use Rattle.std.specs.Fmt.{decimal, signed_decimal}
+use Rattle.plan_tables.specs.PlanView.{PlanView, mode_at, name_of_event, name_of_variable, switch_at, coil_at}
 use Rattle.plan_tables.specs.declared.entries.CoilId.{CoilId}
 use Rattle.plan_tables.specs.declared.entries.Owner.{Owner}
 use Rattle.plan_tables.specs.declared.entries.Owner.TheVariants as owners
@@ -50,11 +50,21 @@ action_name (Disable coil) = codes "disable"
 abbrev pub skip_text : List ℕ → Command → List ℕ
 skip_text name command = codes "skip " ++ name ++ codes " " ++ action_name command ++ 10 ∷ []
 
+-- `player NUMBER NAME VALUE`, and LF
+abbrev pub player_text : ℕ → List ℕ → ℤ → List ℕ
+player_text player name value = codes "player " ++ decimal player ++ codes " " ++ name ++ codes " " ++ signed_decimal value ++ 10 ∷ []
+
+-- `final NUMBER SCORE`, and LF
+abbrev pub final_text : ℕ → ℤ → List ℕ
+final_text player score = codes "final " ++ decimal player ++ codes " " ++ signed_decimal score ++ 10 ∷ []
+
 abbrev pub happening_text : PlanView → Happening → List ℕ
 happening_text plan (happenings.Switch n active) = switch_text (switch_at plan n).name active
 happening_text plan (happenings.Event e) = event_text (name_of_event plan e)
 happening_text plan (happenings.Coil command) = sent_text (coil_at plan (coil_of command)).name command
 happening_text plan (happenings.Skip command) = skip_text (coil_at plan (coil_of command)).name command
+happening_text plan (happenings.Player player v value) = player_text player (name_of_variable plan v) value
+happening_text plan (happenings.Final player score) = final_text player score
 
 -- the moment, the owner, and what happened
 abbrev pub line_text : PlanView → Line → List ℕ

@@ -4,6 +4,7 @@ ghost use Rattle.std.specs.Prelude.{◌^◌};
 ghost use Rattle.pinball_shell.specs.CheckVerified.{AcceptedIsAcceptedAgain, AcceptedIsPrintedAgain, AcceptedIsShort};
 ghost use Rattle.pinball_shell.specs.RunGiven.{GivesChangesAndWaits, GivesOnePlay};
 ghost use Rattle.pinball_shell.specs.SamePlay.{PlaysTheSame};
+ghost use Rattle.pinball_shell.specs.FixedPlay.{TakenIsPlayedOut, AnswersFixThePlay};
 
 /// The law of printed certificates, for all bundles. If `check_text` says yes to a bundle, it
 /// prints the notes, `yes` and a certificate. With that certificate `verify_text` says yes to the
@@ -35,4 +36,15 @@ pub fn any_certificate_plays_the_same()
 pub fn log_gives_one_play()
     ensures given { GivesChangesAndWaits }
     ensures play { GivesOnePlay }
+{}
+
+/// The law of boards that tell their answers. On two boards that tell the same answers to all
+/// commands to come, `play_text` writes the same for a log, puts off the same coils, and gives the
+/// same verdict: all this follows from the plan, the log and the answers. On a board that takes all
+/// commands, as a `MemoryBoard` does, every log is played out.
+///
+/// It does nothing: its contract is the law, over the plays that `play_text` ensures.
+pub fn answers_fix_the_play()
+    ensures taken { TakenIsPlayedOut }
+    ensures same { AnswersFixThePlay }
 {}

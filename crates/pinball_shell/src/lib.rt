@@ -14,7 +14,8 @@ mod trace;
 pub use check::{BUNDLE_LIMIT, check_text, load_text, verify_text};
 pub use fault::{Failure, ShellFault, Verdict, status};
 pub use law::{
-    any_certificate_plays_the_same, log_gives_one_play, printed_certificate_is_verified,
+    answers_fix_the_play, any_certificate_plays_the_same, log_gives_one_play,
+    printed_certificate_is_verified,
 };
 pub use play::play_text;
 pub use text::{join, read_all};

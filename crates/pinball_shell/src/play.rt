@@ -4,7 +4,7 @@ ghost use Rattle.std.specs.Prelude.{◌≡◌, ◌≢◌, ◌^◌, ◌<◌, ◌�
 ghost use Rattle.std.specs.Io.KnownBytes.{Appends, Keeps};
 ghost use Rattle.written_machine.specs.Machine.{initial};
 ghost use Rattle.written_machine.specs.NextAlarm.{is_due_by};
-ghost use Rattle.pin_rig.specs.Board.{BoardView};
+ghost use Rattle.pin_rig.specs.Board.{BoardView, board_view};
 ghost use Rattle.pin_rig.specs.Fit.{IsFit};
 ghost use Rattle.pin_rig.specs.Refused.{admitted};
 ghost use Rattle.pin_rig.specs.Rig.{stimulus_at, IsOfRun, RigStep, RigHalt};
@@ -56,6 +56,9 @@ pub(crate) enum Stop {
 /// being played. The machine is shut down in this case too, and this coil is put off with those
 /// that are on.
 ///
+/// Where the board tells its answers to the commands to come, they say whether and where the log
+/// ends so. Then all that is written follows from the plan, the log and these answers.
+///
 /// # Errors
 ///
 /// - `TooLong`: the log has more than 16 MiB.
@@ -77,7 +80,7 @@ pub fn play_text<D: Device, B: Board, R: Read, W: Write>(
     writer: &mut W,
 ) -> Result<Verdict, ShellFault>
     ensures played { IfOk result (λ v. IfSome (R.remaining reader.old)
-        (λ log. (last : BoardView) × IsPlayOn checked.now log (record { told = B.told board; fault_count = B.fault_count board }) last (W.contents writer.old) (W.contents writer.new) v)) }
+        (λ log. (last : BoardView) × IsPlayOn checked.now log (board_view B.told B.fault_count B.answers board) last (W.contents writer.old) (W.contents writer.new) v)) }
     ensures run { OnOk result (IfSome (R.remaining reader.old)
         (λ log. IsPlayOfLog checked.now.plan log (traced (printed_for_log checked.now.plan checked.now.bound log)))) }
     ensures silent { IfErr result (λ e. e ≢ ShellFault.Write → Keeps (W.contents writer.old) (W.contents writer.new)) }
@@ -102,7 +105,7 @@ fn play_log<D: Device, B: Board, W: Write>(
     writer: &mut W,
 ) -> Result<(Verdict, B), ShellFault>
     requires { length log.now ≤ 2 ^ 24 }
-    ensures played { IfOk result (λ end. IsPlayOn checked.now log.now (record { told = B.told board; fault_count = B.fault_count board }) (record { told = B.told end.1; fault_count = B.fault_count end.1 }) (W.contents writer.old) (W.contents writer.new) end.0) }
+    ensures played { IfOk result (λ end. IsPlayOn checked.now log.now (board_view B.told B.fault_count B.answers board) (board_view B.told B.fault_count B.answers end.1) (W.contents writer.old) (W.contents writer.new) end.0) }
     ensures run { IsPlayOfLog checked.now.plan log.now (traced (printed_for_log checked.now.plan checked.now.bound log.now)) }
     ensures silent { IfErr result (λ e. e ≢ ShellFault.Write → Keeps (W.contents writer.old) (W.contents writer.new)) }
     ensures failed { IfErr result (λ e. (e ≡ ShellFault.NoMemory) ⊎ (e ≡ ShellFault.WrongDevice) ⊎ (e ≡ ShellFault.Write)) }
@@ -123,7 +126,7 @@ fn shut_down<D: Device, B: Board, W: Write>(
     rig: Rig<'_, D, B>,
     writer: &mut W,
 ) -> Result<B, ShellFault>
-    ensures done { IfOk result (λ b. IsShutDown plan.now rig.entry (record { told = B.told b; fault_count = B.fault_count b }) (W.contents writer.old) (W.contents writer.new)) }
+    ensures done { IfOk result (λ b. IsShutDown plan.now rig.entry (board_view B.told B.fault_count B.answers b) (W.contents writer.old) (W.contents writer.new)) }
     ensures failed { IfErr result (λ e. e ≡ ShellFault.Write) }
 {
     let now = rig.now();

@@ -3,13 +3,13 @@
 ghost use Rattle.std.specs.Prelude.{◌≡◌, OnOk, slice_index_or};
 ghost use Rattle.std.specs.List.{flat_map};
 ghost use Rattle.std.specs.Io.KnownBytes.{Appends};
-ghost use Rattle.plan_tables.specs.PlanView.{mode_at, name_of_event, switch_at, coil_at};
+ghost use Rattle.plan_tables.specs.PlanView.{mode_at, name_of_event, name_of_variable, switch_at, coil_at};
 ghost use Rattle.coil_guard.specs.SentCommands.{coil_of};
-ghost use Rattle.pinball_shell.specs.TraceText.{owner_text, level_text, switch_text, event_text, sent_text, action_name, skip_text, happening_text, line_text, off_text, off_texts, refused_text};
+ghost use Rattle.pinball_shell.specs.TraceText.{owner_text, level_text, switch_text, event_text, sent_text, action_name, skip_text, player_text, happening_text, line_text, off_text, off_texts, refused_text};
 
 use crate::refusal::Refusal;
 use coil_guard::Command;
-use plan_tables::{CoilId, EventId, ModeId, Owner, Plan, SwitchId};
+use plan_tables::{CoilId, EventId, ModeId, Owner, Plan, SwitchId, VariableId};
 use std::io::{self, Write};
 use written_machine::{Happening, Line};
 
@@ -82,6 +82,10 @@ fn write_happening<W: Write>(plan: &Plan, happening: Happening, writer: &mut W) 
         Happening::Event(event) => write_event(event_name(plan, event), writer),
         Happening::Coil(command) => write_sent(command_name(plan, command), command, writer),
         Happening::Skip(command) => write_skip(command_name(plan, command), command, writer),
+        Happening::Player(player, variable, value) => {
+            write_player(player, variable_name(plan, variable), value, writer)
+        }
+        Happening::Final(player, score) => writeln!(writer, "final {player} {score}"),
     }
 }
 
@@ -119,6 +123,14 @@ fn write_skip<W: Write>(name: &[u8], command: Command, writer: &mut W) -> io::Re
     writer.write_all(b"skip ")?;
     writer.write_all(name)?;
     writeln!(writer, " {}", action_word(command))
+}
+
+fn write_player<W: Write>(player: usize, name: &[u8], value: i64, writer: &mut W) -> io::Result<()>
+    ensures { OnOk result (Appends (W.contents writer.old) (W.contents writer.new) (player_text player name.now value)) }
+{
+    write!(writer, "player {player} ")?;
+    writer.write_all(name)?;
+    writeln!(writer, " {value}")
 }
 
 /// The action that was asked for.
@@ -197,6 +209,17 @@ fn coil_name(plan: &Plan, coil: CoilId) -> &[u8]
 {
     if (coil.0 as usize) < plan.coil_count() {
         plan.coil_name(coil)
+    } else {
+        &[]
+    }
+}
+
+/// The name of a variable: nothing where the plan lacks it.
+fn variable_name(plan: &Plan, variable: VariableId) -> &[u8]
+    ensures { result.now ≡ name_of_variable plan.now variable }
+{
+    if (variable.0 as usize) < plan.variable_count() {
+        plan.variable_name(variable)
     } else {
         &[]
     }

@@ -10,11 +10,12 @@ use Rattle.mpf_sections.specs.Typed.{mode_settings}
 use Rattle.mpf_sections.specs.TypedCoils.{coils_name, coil_of, coils_in}
 use Rattle.mpf_config.specs.Rows.{ModeRows, Rows}
 use Rattle.plan_tables.specs.declared.entries.CoilLimits.{CoilLimits}
+use Rattle.plan_contributions.specs.declared.contribution.Place.{Place}
 use Rattle.plan_contributions.specs.declared.contribution.Place.TheVariants.{Machine, Mode}
 use Rattle.plan_contributions.specs.CoilEntries.{limits_of_coil}
-use Rattle.plan_contributions.specs.Contributions.{Contribution, coil_contributions, device_of, entry_contributions, Row, entry, player, of_mode, rows_from, rows_in, mode_rows, row_contributions, given_by, contributions_of}
+use Rattle.plan_contributions.specs.Contributions.{Contribution, coil_contributions, device_of, entry_contributions, Row, entry, alone, player, of_mode, rows_from, rows_in, mode_rows, row_contributions, given_by, contributions_of}
 use Rattle.plan_contributions.specs.Facts.{given_coil, AreCoilsOf}
-use Rattle.plan_contributions.proofs.Silent.{IsSilent, in_where, in_machine_entry, in_player_entry, in_mode}
+use Rattle.plan_contributions.proofs.Silent.{IsSilent, in_where, in_alone, in_machine_entry, in_player_entry, in_mode}
 
 silent : IsSilent given_coil
 silent = record {
@@ -30,6 +31,8 @@ silent = record {
   done_in = λ k e. refl;
   listened = λ k n. refl;
   mentioned = λ n. refl;
+  met = λ c. refl;
+  played = λ min_balls balls_per_game max_players. refl;
 }
 
 -- a coil as it is given
@@ -63,13 +66,17 @@ module _ (machine : List SectionRows) where
   none_each make none [] = refl
   none_each make none (x ∷ xs) = coils-append (row_contributions machine (make x)) (given_by machine (map make xs)) ∙ (λ i. none x i ++ none_each make none xs i)
 
+  alone_none : (place : Place) (section : List ℕ) (e : Entry) → of_rows (alone place section e ∷ []) ≡ []
+  alone_none place section e =
+      coils-append (row_contributions machine (alone place section e)) [] ∙ (λ i. in_alone given_coil silent machine place section e i ++ [])
+
   none_both : (rs qs : List Row) → of_rows rs ≡ [] → of_rows qs ≡ [] → of_rows (rs ++ qs) ≡ []
   none_both rs qs a b = rows-append rs qs ∙ (λ i. a i ++ b i)
 
   mode_content_none : (name : List ℕ) (content : Content) → of_rows (rows_from Mode name content) ≡ []
   mode_content_none name (entries es) = none_each (entry Mode name) (entry_none name) es
   mode_content_none name (players ps) = none_each (player Mode name) (λ p. in_player_entry given_coil silent machine Mode name p) ps
-  mode_content_none name (sections.entry e) = refl
+  mode_content_none name (sections.entry e) = alone_none Mode name e
   mode_content_none name (sections.listed ws) = refl
 
   mode_sections_none : (ss : List SectionRows) → of_rows (rows_in Mode ss) ≡ []
@@ -113,7 +120,7 @@ module _ (machine : List SectionRows) where
   unfolding coils_in
   content_coils name (entries es) = entries_coils name es
   content_coils name (players ps) = none_each (player Machine name) (λ p. in_player_entry given_coil silent machine Machine name p) ps ∙ none_named (bytes_eq name coils_name)
-  content_coils name (sections.entry e) = none_named (bytes_eq name coils_name)
+  content_coils name (sections.entry e) = alone_none Machine name e ∙ none_named (bytes_eq name coils_name)
   content_coils name (sections.listed ws) = none_named (bytes_eq name coils_name)
 
   sections_coils : (ss : List SectionRows) → of_rows (rows_in Machine ss) ≡ map as_given (flat_map coils_in ss)

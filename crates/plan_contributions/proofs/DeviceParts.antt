@@ -2,8 +2,11 @@
 use Rattle.std.proofs.Common.{◌≡◌, true, false, ℕ, suc, ◌+◌, ◌<◌, List, [], ◌∷◌, ◌++◌, length, map, drop, get_or, refl, sym, ◌∙◌, ap, arith}
 use Rattle.std.specs.Prelude.{Option, None, Some}
 use Rattle.std.proofs.lemmas.List.{append-nil, append_assoc, map-append, drop_more}
+use Rattle.std.proofs.lemmas.Grind.{flat_map-append}
+use Rattle.std.specs.List.{flat_map}
+use Rattle.mpf_values.specs.Events.{Event}
 use Rattle.std.specs.Str.{bytes_eq}
-use Rattle.mpf_sections.specs.Rows.{Written, Entry, Control}
+use Rattle.mpf_sections.specs.Rows.{Handled, Entry, Control}
 use Rattle.mpf_sections.specs.Typed.{counters_name, accruals_name, sequences_name, timers_name, with_control, step_block_of, timer_of}
 use Rattle.plan_tables.specs.declared.devices.Settings.TheVariants as kinds
 use Rattle.plan_tables.specs.declared.devices.Act.{Act}
@@ -21,6 +24,10 @@ use Rattle.plan_contributions.specs.View.{parts_text, contribution_view, contrib
 -- what is made of some things, and then of others
 pub mapped_after : {X : Type 0} (f : X → Contribution) (old : List Contribution) (xs ys : List X) → (old ++ map f xs) ++ map f ys ≡ old ++ map f (xs ++ ys)
 mapped_after f old xs ys = append_assoc old (map f xs) (map f ys) ∙ ap (λ l. old ++ l) (sym (map-append f xs ys))
+
+-- and all that is made of them
+pub made_after : {X : Type 0} (f : X → List Contribution) (old : List Contribution) (xs ys : List X) → (old ++ flat_map f xs) ++ flat_map f ys ≡ old ++ flat_map f (xs ++ ys)
+made_after f old xs ys = append_assoc old (flat_map f xs) (flat_map f ys) ∙ ap (λ l. old ++ l) (sym (flat_map-append f xs ys))
 
 -- a row with these settings
 pub row_first : (old new : List contributions.Contribution) (place : Place) (s t : Settings) → new ≡ old ++ contribution.Device place s ∷ [] → s ≡ t → contributions_view new ≡ contributions_view old ++ device place t ∷ []
@@ -44,12 +51,12 @@ lists_collected old a b e u hit complete first then_ rest =
     ∙ ap (λ l. old ++ does_in 0 u ∷ (hits ++ l)) (sym (append-nil completes))
 
 -- then what acts on a row that listens to no switch, and the rest
-pub device_collected : (place : Place) (d : Device) (old a b e : List Contribution) → d.listens ≡ [] → a ≡ old ++ device place d.settings ∷ [] → b ≡ a ++ map (act_binding place) d.handled
+pub device_collected : (place : Place) (d : Device) (old a b e : List Contribution) → d.listens ≡ [] → a ≡ old ++ device place d.settings ∷ [] → b ≡ a ++ flat_map (act_binding place) d.handled
     → e ≡ b ++ (map mentions d.mentioned ++ effects_from 0 d.lists) → e ≡ old ++ device_contributions place d
 unfolding device_contributions
 device_collected place d old a b e silent first then_ rest =
     let row = device place d.settings in
-    let acting = map (act_binding place) d.handled in
+    let acting = flat_map (act_binding place) d.handled in
     let doing = map mentions d.mentioned ++ effects_from 0 d.lists in
     rest ∙ ap (λ l. l ++ doing) (then_ ∙ ap (λ l. l ++ acting) first)
     ∙ append_assoc (old ++ row ∷ []) acting doing
@@ -57,20 +64,20 @@ device_collected place d old a b e silent first then_ rest =
     ∙ ap (λ ns. old ++ row ∷ (listens_from 0 ns ++ (acting ++ doing))) (sym silent)
 
 -- one step, and then the others
-pub steps_next : {X : Type 0} (f : List ℕ × Act → Contribution) (view : X → List Written) (steps : List X) (i : ℕ) (d : X) → i < length steps
-    → map f (acts (Step i) (view (get_or steps i d))) ++ map f (step_acts (i + 1) (map view (drop (i + 1) steps))) ≡ map f (step_acts i (map view (drop i steps)))
+pub steps_next : {X : Type 0} (f : Event × Act → List Contribution) (view : X → List Handled) (steps : List X) (i : ℕ) (d : X) → i < length steps
+    → flat_map f (acts (Step i) (view (get_or steps i d))) ++ flat_map f (step_acts (i + 1) (map view (drop (i + 1) steps))) ≡ flat_map f (step_acts i (map view (drop i steps)))
 steps_next f view steps i d within =
     let here = acts (Step i) (view (get_or steps i d)) in
     let later = map view (drop (i + 1) steps) in
     let next : i + 1 ≡ suc i = omega arith in
-    ap (λ k. map f here ++ map f (step_acts k later)) next
-    ∙ sym (map-append f here (step_acts (suc i) later))
-    ∙ ap (λ l. map f (step_acts i (map view l))) (sym (drop_more steps i d within))
+    ap (λ k. flat_map f here ++ flat_map f (step_acts k later)) next
+    ∙ sym (flat_map-append f here (step_acts (suc i) later))
+    ∙ ap (λ l. flat_map f (step_acts i (map view l))) (sym (drop_more steps i d within))
 
 -- one control, and then the others
-pub control_next : (f : List ℕ × Act → Contribution) (o : Option Control) (cs : List Control) → map f (map controlled (with_control o [])) ++ map f (map controlled cs) ≡ map f (map controlled (with_control o cs))
+pub control_next : (f : Event × Act → List Contribution) (o : Option Control) (cs : List Control) → flat_map f (map controlled (with_control o [])) ++ flat_map f (map controlled cs) ≡ flat_map f (map controlled (with_control o cs))
 control_next f None cs = refl
-control_next f (Some c) cs = refl
+control_next f (Some c) cs = ap (λ l. l ++ flat_map f (map controlled cs)) (append-nil (f (controlled c)))
 
 -- the device of an entry whose section has this name
 module _ (section : List ℕ) (e : Entry) (others : bytes_eq section counters_name ≡ false) where

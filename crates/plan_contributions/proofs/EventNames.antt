@@ -7,9 +7,9 @@ use Rattle.mpf_config.specs.Rows.{Rows}
 use Rattle.mpf_sections.specs.Named.{IsName, IsNamed}
 use Rattle.mpf_config.specs.Named.{IsNamedMode}
 use Rattle.plan_tables.specs.declared.table.Table.{Table}
-use Rattle.plan_tables.specs.declared.table.Table.TheVariants.{Events, Switches, Coils}
-use Rattle.plan_contributions.specs.DeviceEntries.{Effect, posts, works}
-use Rattle.plan_contributions.specs.Contributions.{Contribution, gives, reads, active, inactive, mode, mode_event, binds, does, device, does_in, listens, mentions, coil, contributions_of}
+use Rattle.plan_tables.specs.declared.table.Table.TheVariants.{Events, Switches, Coils, Variables}
+use Rattle.plan_contributions.specs.DeviceEntries.{Effect, posts, works, changes}
+use Rattle.plan_contributions.specs.Contributions.{Contribution, gives, reads, active, inactive, mode, mode_event, binds, does, device, does_in, listens, mentions, coil, under, plays, contributions_of}
 use Rattle.plan_contributions.specs.UsedNames.{used_by, used, uses, name_in_table}
 use Rattle.plan_contributions.proofs.RowFacts.{IsFitName, IsFitEffect, IsFit, All-flat_map, any_name, rows_fit}
 use Rattle.plan_contributions.specs.Facts.{IsOfNames}
@@ -23,6 +23,7 @@ module _ (P : List ℕ → Type 0) where
   effect_fit : (e : Effect) → IsFitEffect P e → IsFitUse P (used_by e)
   effect_fit (posts n) h = h
   effect_fit (works n deed) h = h
+  effect_fit (changes v action n) h = h
 
   use_fit : (c : Contribution) → IsFit P c → IsFitUse P (used c)
   use_fit (gives t n) h = h
@@ -38,6 +39,8 @@ module _ (P : List ℕ → Type 0) where
   use_fit (listens k n) h = h
   use_fit (mentions n) h = h
   use_fit (coil n limits) h = h
+  use_fit (under c) h = h
+  use_fit (plays min_balls balls_per_game max_players) h = tt
 
   -- what holds of the names of a table that are used, where it holds of each that is fit for it
   module _ (table : Table) (Q : List ℕ → Type 0) (each : (o : Option (Table × List ℕ)) → IsFitUse P o → All Q (name_in_table table o)) where
@@ -68,13 +71,24 @@ module _ (P : List ℕ → Type 0) where
       by Coils n k = All-cons IsName n [] k (All-nil IsName)
       by _ n k = All-nil IsName
 
+  variable_fit : (o : Option (Table × List ℕ)) → IsFitUse P o → All IsName (name_in_table Variables o)
+  variable_fit None h = All-nil IsName
+  variable_fit (Some u) h = by u.0 u.1 h
+    where
+      by : (t : Table) (n : List ℕ) → IsFitName P t n → All IsName (name_in_table Variables (Some (t, n)))
+      by Variables n k = All-cons IsName n [] k (All-nil IsName)
+      by _ n k = All-nil IsName
+
   -- where the names in the rows are names, each used name of an event meets P
   pub used_names : IsOfNames P → (rows : Rows) → All IsNamed rows.machine → All IsNamedMode rows.modes → All P (uses Events (contributions_of rows))
   used_names of rows machine modes = uses_fit Events P event_fit (contributions_of rows) (rows_fit P of rows machine modes)
 
--- and those of switches and coils are names
+-- and those of switches, coils and variables are names
 pub used_switches : (rows : Rows) → All IsNamed rows.machine → All IsNamedMode rows.modes → All IsName (uses Switches (contributions_of rows))
 used_switches rows machine modes = let P : List ℕ → Type 0 = λ n. Unit {0} in uses_fit P Switches IsName (switch_fit P) (contributions_of rows) (rows_fit P any_name rows machine modes)
 
 pub used_coils : (rows : Rows) → All IsNamed rows.machine → All IsNamedMode rows.modes → All IsName (uses Coils (contributions_of rows))
 used_coils rows machine modes = let P : List ℕ → Type 0 = λ n. Unit {0} in uses_fit P Coils IsName (coil_fit P) (contributions_of rows) (rows_fit P any_name rows machine modes)
+
+pub used_variables : (rows : Rows) → All IsNamed rows.machine → All IsNamedMode rows.modes → All IsName (uses Variables (contributions_of rows))
+used_variables rows machine modes = let P : List ℕ → Type 0 = λ n. Unit {0} in uses_fit P Variables IsName (variable_fit P) (contributions_of rows) (rows_fit P any_name rows machine modes)

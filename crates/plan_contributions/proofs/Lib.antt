@@ -1,3 +1,4 @@
+pub mod Before
 pub mod DeviceParts
 pub mod Placed
 pub mod RowFacts

@@ -1,16 +1,18 @@
 -- Acts are on rows of devices whose place is that of the binding, and rows of the machine listen, as contributions come.
-use Rattle.std.proofs.Common.{◌≡◌, ℕ, suc, List, [], ◌∷◌, ◌++◌, map, ap}
+use Rattle.std.proofs.Common.{◌≡◌, ℕ, suc, List, [], ◌∷◌, ◌++◌, ap}
 use Rattle.std.specs.Prelude.{Option, None, Some}
 use Rattle.std.specs.List.{All}
 use Rattle.std.proofs.lemmas.List.Elements.{All-head, All-tail}
 use Rattle.std.proofs.lemmas.Option.{none-some}
+use Rattle.mpf_values.specs.Events.{Condition}
 use Rattle.plan_contributions.specs.declared.contribution.Aim.{Aim}
 use Rattle.plan_contributions.specs.declared.contribution.Aim.TheVariants.{Run, Start, Stop, Do}
 use Rattle.plan_contributions.specs.declared.contribution.Place.{Place}
 use Rattle.plan_contributions.specs.declared.contribution.Place.TheVariants.{Machine}
 use Rattle.plan_contributions.specs.DeviceEntries.{Effect}
-use Rattle.plan_contributions.specs.Contributions.{Contribution, mode, binds, device, does_in, effects_from, listens, listens_from}
+use Rattle.plan_contributions.specs.Contributions.{Contribution, mode, binds, device, does_in, effects_from, listens, listens_from, under_where}
 use Rattle.plan_contributions.specs.Facts.{row_after, IsPlacedAim, IsPlaced, ArePlaced}
+use Rattle.plan_contributions.proofs.Before.{each_before, under_before}
 
 -- whichever row came before, where none is needed
 pub ArePlaced-any : (o : Option Place) (cs : List Contribution) → ArePlaced None cs → ArePlaced o cs
@@ -37,15 +39,9 @@ pub ArePlaced-append : (cs ds : List Contribution) (o : Option Place) → ArePla
 ArePlaced-append [] ds o first then_ = ArePlaced-any o ds then_
 ArePlaced-append (c ∷ cs) ds o first then_ = (first.0, ArePlaced-append cs ds (row_after o c) first.1 then_)
 
--- what changes nothing, before others
-pub ArePlaced-before : {X : Type 0} (o : Option Place) (make : X → Contribution) → ((x : X) (cs : List Contribution) → ArePlaced o cs → ArePlaced o (make x ∷ cs)) → (xs : List X) (rest : List Contribution)
-    → ArePlaced o rest → ArePlaced o (map make xs ++ rest)
-ArePlaced-before o make more [] rest h = h
-ArePlaced-before o make more (x ∷ xs) rest h = more x (map make xs ++ rest) (ArePlaced-before o make more xs rest h)
-
-pub ArePlaced-each : {X : Type 0} (o : Option Place) (make : X → Contribution) → ((x : X) (cs : List Contribution) → ArePlaced o cs → ArePlaced o (make x ∷ cs)) → (xs : List X) → ArePlaced o (map make xs)
-ArePlaced-each o make more [] = tt
-ArePlaced-each o make more (x ∷ xs) = more x (map make xs) (ArePlaced-each o make more xs)
+-- a condition, if there is one, before others
+pub ArePlaced-under : (o : Option Place) (condition : Option Condition) (cs : List Contribution) → ArePlaced o cs → ArePlaced o (under_where condition ++ cs)
+ArePlaced-under o condition cs h = under_before (ArePlaced o) (λ c ds k. (tt, k)) condition cs h
 
 pub ArePlaced-listens : (place : Place) (k : ℕ) (ns : List (List ℕ)) (rest : List Contribution) → All (λ n. place ≡ Machine) ns → ArePlaced (Some place) rest → ArePlaced (Some place) (listens_from k ns ++ rest)
 ArePlaced-listens place k [] rest own h = h
@@ -54,4 +50,4 @@ ArePlaced-listens place k (n ∷ ns) rest own h =
 
 pub ArePlaced-effects : (o : Option Place) (k : ℕ) (lists : List (List Effect)) → ArePlaced o (effects_from k lists)
 ArePlaced-effects o k [] = tt
-ArePlaced-effects o k (es ∷ rest) = ArePlaced-before o (does_in k) (λ e cs h. (tt, h)) es (effects_from (suc k) rest) (ArePlaced-effects o (suc k) rest)
+ArePlaced-effects o k (es ∷ rest) = each_before (ArePlaced o) (does_in k) (λ e cs h. (tt, h)) es (effects_from (suc k) rest) (ArePlaced-effects o (suc k) rest)

@@ -9,19 +9,22 @@ use Rattle.std.proofs.lemmas.List.{length-map}
 use Rattle.std.proofs.lemmas.List.Elements.{All-nil, All-cons, All-head, All-tail, All-append, All-map, All-weaker}
 use Rattle.mpf_sections.specs.declared.words.CoilAction.{CoilAction}
 use Rattle.mpf_sections.specs.declared.words.CoilAction.TheVariants as actions
-use Rattle.mpf_sections.specs.Rows.{Written, Entry, Player, Switch, EventPlayer, Coil, CoilItem, CoilPlayer, Flipper, Autofire, Block, Counter, StepBlock, Control as TimerControl, Timer, ModeSettings, Content, entries, players, SectionRows}
+use Rattle.mpf_values.specs.Events.{Condition, Event}
+use Rattle.mpf_sections.specs.Rows.{Written, Handled, Entry, Player, Switch, EventPlayer, Coil, CoilItem, CoilPlayer, VariableItem, VariablePlayer, GameSettings, Flipper, Autofire, Block, Counter, StepBlock, Control as TimerControl, Timer, ModeSettings, Content, entries, players, SectionRows}
 use Rattle.mpf_config.specs.Rows.{ModeRows, Rows}
 use Rattle.mpf_sections.specs.Rows as sections
-use Rattle.mpf_sections.specs.Named.{IsName, AllNames, IsNamedEntry, IsNamedPlayer, IsNamedSwitch, IsNamedEventPlayer, IsNamedCoil, IsNamedCoilPlayer, IsNamedFlipper, IsNamedAutofire, IsNamedBlock, IsNamedCounter, IsNamedStepBlock, IsNamedTimer, AreNamedSettings, IsNamedContent, IsNamed}
+use Rattle.mpf_sections.specs.Named.{IsName, AllNames, IsNamedHandled, AllNamedEvents, IsNamedEntry, IsNamedPlayer, IsNamedSwitch, IsNamedEventPlayer, IsNamedCoil, IsNamedCoilPlayer, IsNamedVariablePlayer, IsNamedFlipper, IsNamedAutofire, IsNamedBlock, IsNamedCounter, IsNamedStepBlock, IsNamedTimer, AreNamedSettings, IsNamedContent, IsNamed}
 use Rattle.mpf_config.specs.Named.{IsNamedMode}
 use Rattle.mpf_sections.specs.Typed.{switches_name, event_player_name, counters_name, accruals_name, sequences_name, timers_name, switch_of, event_player_of, counter_of, step_block_of, timer_of, mode_settings}
 use Rattle.mpf_sections.specs.TypedCoils.{coils_name, coil_player_name, flippers_name, autofire_coils_name, coil_of, coil_player_of, flipper_of, autofire_of, coils_in}
-use Rattle.mpf_sections.specs.Short.{IsPulseInRange, IsPowerInRange, IsCoilInRange, IsItemInRange, IsCoilPlayerInRange, IsShortEntry, IsShortPlayer, IsShortBlock, IsShortCounter, IsShortStepBlock, IsShortTimer, IsShortContent, IsShortSection}
+use Rattle.mpf_sections.specs.TypedGame.{variable_player_name, game_name, variable_player_of, game_of, min_balls_of}
+use Rattle.mpf_sections.specs.Short.{IsGameInRange, IsPulseInRange, IsPowerInRange, IsCoilInRange, IsItemInRange, IsCoilPlayerInRange, IsShortEntry, IsShortPlayer, IsShortBlock, IsShortCounter, IsShortStepBlock, IsShortTimer, IsShortContent, IsShortSection}
 use Rattle.mpf_config.specs.Short.{IsShortMode, AreListsShort}
 use Rattle.mpf_sections.proofs.RowNames.{switch_named, event_player_named, mode_settings_named}
 use Rattle.mpf_sections.proofs.ShortRows.{event_player_short}
 use Rattle.mpf_sections.proofs.DeviceRows.{counter_named, step_block_named, timer_named, counter_short, step_block_short, timer_in_range}
 use Rattle.mpf_sections.proofs.CoilRows.{coil_named, coil_player_named, flipper_named, autofire_named, coil_in_range, coil_player_short, coil_player_in_range, coils_in_range}
+use Rattle.mpf_sections.proofs.GameRows.{variable_player_named, variable_player_short, game_in_range, min_balls_few}
 use Rattle.plan_contributions.specs.declared.contribution.Aim.{Aim}
 use Rattle.plan_contributions.specs.declared.contribution.Aim.TheVariants.{Run, Start, Stop, Do}
 use Rattle.plan_contributions.specs.declared.contribution.Place.{Place}
@@ -32,28 +35,34 @@ use Rattle.plan_tables.specs.declared.devices.Act.TheVariants.{Count, Step, Enab
 use Rattle.plan_tables.specs.declared.devices.Settings.{Settings}
 use Rattle.plan_tables.specs.declared.devices.Settings.TheVariants as kinds
 use Rattle.machine_definitions.specs.Definitions.{latest_coil, no_coil, coil_of_name}
+use Rattle.machine_definitions.specs.GameEvents.{game_event_names}
+use Rattle.machine_definitions.specs.Players.{player_event}
+use Rattle.plan_contributions.specs.VariableEntries.{item_change}
 use Rattle.plan_contributions.specs.CoilEntries.{limits_of_coil, defaults_called, own_pulse, own_hold, deed_by, item_effect, flipper_on, flipper_off, flipper_device, autofire_device}
-use Rattle.plan_contributions.specs.DeviceEntries.{Deed, disable, Effect, posts, works, device_of, acts, block_acts, block_mentions, block_event, or_own, block_lists, counter_device, step_acts, step_settings, step_device, controlled, timer_event, timer_endings, timer_device}
+use Rattle.plan_contributions.specs.DeviceEntries.{Deed, disable, Effect, posts, works, changes, events, device_of, acts, block_acts, block_mentions, block_event, or_own, block_lists, counter_device, step_acts, step_settings, step_device, controlled, timer_event, timer_endings, timer_device}
 use Rattle.plan_tables.specs.declared.entries.ModeEvent.{ModeEvent}
 use Rattle.plan_tables.specs.declared.entries.ModeEvent.TheVariants.{WillStart, Starting, Started, Stopping, Stopped}
 use Rattle.plan_tables.specs.declared.table.Table.{Table}
-use Rattle.plan_tables.specs.declared.table.Table.TheVariants.{Events, Switches, Coils}
-use Rattle.plan_contributions.specs.Contributions.{Contribution, gives, reads, active, inactive, mode, mode_event, mode_event_name, binds, does, device, does_in, listens, mentions, coil, texts, kind_of, tag_event, active_posts, inactive_posts, switch_contributions, player_contributions, coil_contributions, coil_player_contributions, starter, stopper, stopper_where, later_events, controls, mode_contributions, Device, act_binding, effects_from, listens_from, device_contributions, where_device, Row, entry, player, of_mode, rows_from, rows_in, mode_rows, rows_of, machine_device, machine_entry_contributions, entry_contributions, player_entry_contributions, row_contributions, given_by, contributions_of}
-use Rattle.plan_contributions.specs.Facts.{ArePlaced, IsOfNames, effects_after, effects_in_after, full, IsRoomy, AreShort, AreLimits, IsDeedInRange, IsEffectInRange, IsLimited, IsPlaceOf, IsOfMachine, IsOpenPlace, IsOpenAim, IsOpen, modes_after, AreOpened}
-use Rattle.plan_contributions.proofs.Placed.{ArePlaced-append, ArePlaced-before, ArePlaced-each, ArePlaced-listens, ArePlaced-effects}
+use Rattle.plan_tables.specs.declared.table.Table.TheVariants.{Events, Switches, Coils, Variables}
+use Rattle.plan_contributions.specs.Contributions.{Contribution, gives, reads, active, inactive, mode, mode_event, mode_event_name, binds, does, device, does_in, listens, mentions, coil, under, plays, under_where, bound, texts, kind_of, tag_event, active_posts, inactive_posts, switch_contributions, player_contributions, coil_contributions, coil_player_contributions, item_contributions, variable_player_contributions, game_contributions, starter, stopper, stopper_where, later_events, controls, mode_contributions, Device, act_binding, effects_from, listens_from, device_contributions, where_device, Row, entry, alone, player, of_mode, rows_from, rows_in, mode_rows, rows_of, machine_device, machine_entry_contributions, entry_contributions, alone_contributions, player_entry_contributions, row_contributions, given_by, contributions_of}
+use Rattle.plan_contributions.specs.Facts.{ArePlaced, IsOfNames, effects_after, effects_in_after, full, IsRoomy, AreShort, AreLimits, AreRules, IsDeedInRange, IsEffectInRange, IsLimited, IsPlaceOf, IsOfMachine, IsOpenPlace, IsOpenAim, IsOpen, modes_after, AreOpened}
+use Rattle.plan_contributions.proofs.Before.{each_before, each_alone, all_before, all_alone, under_before, All-bound, each_some}
+use Rattle.plan_contributions.proofs.Placed.{ArePlaced-append, ArePlaced-under, ArePlaced-listens, ArePlaced-effects}
 
 -- ---- what contributions are like
 
--- the name meets P where it is that of an event, and is a name where it is that of a switch or a coil
+-- the name meets P where it is that of an event, and is a name where it is that of a switch, a coil or a variable
 abbrev pub IsFitName : (List ℕ → Type 0) → Table → List ℕ → Type 0
 IsFitName P Events n = P n
 IsFitName P Switches n = IsName n
 IsFitName P Coils n = IsName n
+IsFitName P Variables n = IsName n
 IsFitName P _ n = Unit {0}
 
 abbrev pub IsFitEffect : (List ℕ → Type 0) → Effect → Type 0
 IsFitEffect P (posts n) = P n
 IsFitEffect P (works n deed) = IsName n
+IsFitEffect P (changes v action n) = IsName v
 
 -- so it is with the name that a contribution uses
 abbrev pub IsFit : (List ℕ → Type 0) → Contribution → Type 0
@@ -68,7 +77,12 @@ IsFit P (does_in k e) = IsFitEffect P e
 IsFit P (listens k n) = IsName n
 IsFit P (mentions n) = P n
 IsFit P (coil n limits) = IsName n
+IsFit P (under c) = IsName c.variable
 IsFit P _ = Unit {0}
+
+-- and with those of a handled event
+abbrev IsFitEvent : (List ℕ → Type 0) → Event → Type 0
+IsFitEvent P e = P e.name × IfSome e.condition (λ c. IsName c.variable)
 
 -- a contribution is within its limits, and of the machine where it has to be
 abbrev pub IsRight : Contribution → Type 0
@@ -87,16 +101,19 @@ pub record Facts (P : List ℕ → Type 0) (n : ℕ) (Named Short Open : Type 0)
 
 abbrev pub IsNamedRow : Row → Type 0
 IsNamedRow (entry place section e) = IsNamedEntry e
+IsNamedRow (alone place section e) = IsNamedEntry e
 IsNamedRow (player place section p) = IsNamedPlayer p
 IsNamedRow (of_mode name s) = IsName name × AreNamedSettings s
 
 abbrev pub IsShortRow : Row → Type 0
 IsShortRow (entry place section e) = IsShortEntry 1024 e
+IsShortRow (alone place section e) = IsShortEntry 1024 e
 IsShortRow (player place section p) = IsShortPlayer 1024 p
 IsShortRow (of_mode name s) = Unit {0}
 
 abbrev pub IsOpenRow : ℕ → Row → Type 0
 IsOpenRow n (entry place section e) = IsOpenPlace n place
+IsOpenRow n (alone place section e) = IsOpenPlace n place
 IsOpenRow n (player place section p) = IsOpenPlace n place
 IsOpenRow n _ = Unit {0}
 
@@ -105,6 +122,10 @@ pub All-flat_map : {X Y : Type 0} (P : Y → Type 0) (f : X → List Y) (xs : Li
 All-flat_map P f [] all = All-nil P
 All-flat_map P f (x ∷ xs) all =
     All-append P (f x) (flat_map f xs) (All-head (λ z. All P (f z)) x xs all) (All-flat_map P f xs (All-tail (λ z. All P (f z)) x xs all))
+
+-- and of all that each makes
+pub All-each : {X : Type 0} (P : Contribution → Type 0) (make : X → List Contribution) → ((x : X) → All P (make x)) → (xs : List X) → All P (flat_map make xs)
+All-each P make each xs = All-flat_map P make xs (λ i d within. each (get_or xs i d))
 
 -- ---- lists of contributions
 
@@ -158,24 +179,21 @@ AreShort-append (c ∷ cs) ds n f few some first then_ = (first.0, AreShort-appe
     in_after (does_in k e) is j = raised k j is (j == k) refl
     in_after _ is j = some j
 
--- what is no effect, before others
-AreShort-before : {X : Type 0} (n : ℕ) (f : ℕ → ℕ) (make : X → Contribution) → ((x : X) (cs : List Contribution) → AreShort n f cs → AreShort n f (make x ∷ cs)) → (xs : List X) (rest : List Contribution)
-    → AreShort n f rest → AreShort n f (map make xs ++ rest)
-AreShort-before n f make more [] rest h = h
-AreShort-before n f make more (x ∷ xs) rest h = more x (map make xs ++ rest) (AreShort-before n f make more xs rest h)
+-- a condition, if there is one, before others
+AreShort-under : (n : ℕ) (f : ℕ → ℕ) (condition : Option Condition) (cs : List Contribution) → AreShort n f cs → AreShort n f (under_where condition ++ cs)
+AreShort-under n f condition cs h = under_before (AreShort n f) (λ c ds k. (tt, k)) condition cs h
 
 AreShort-listens : (n : ℕ) (f : ℕ → ℕ) (k : ℕ) (ns : List (List ℕ)) (rest : List Contribution) → AreShort n f rest → AreShort n f (listens_from k ns ++ rest)
 AreShort-listens n f k [] rest h = h
 AreShort-listens n f k (s ∷ ss) rest h = (tt, AreShort-listens n f (suc k) ss rest h)
 
--- or alone
-AreShort-each : (make : List ℕ → Contribution) → ((n : List ℕ) (cs : List Contribution) → AreShort 1024 full cs → AreShort 1024 full (make n ∷ cs)) → (ns : List (List ℕ)) → AreShort 1024 full (map make ns)
-AreShort-each make more [] = tt
-AreShort-each make more (n ∷ ns) = more n (map make ns) (AreShort-each make more ns)
-
 AreShort-does : {X : Type 0} (effect : X → Effect) (n : ℕ) (f : ℕ → ℕ) (xs : List X) → n + length xs ≤ 1024 → AreShort n f (map (λ x. does (effect x)) xs)
 AreShort-does effect n f [] room = tt
 AreShort-does effect n f (x ∷ xs) room = (omega (arith, room), AreShort-does effect (suc n) full xs (omega (arith, room)))
+
+AreShort-changes : (n : ℕ) (f : ℕ → ℕ) (items : List VariableItem) → n + length items ≤ 1024 → AreShort n f (flat_map item_contributions items)
+AreShort-changes n f [] room = tt
+AreShort-changes n f (x ∷ xs) room = (tt, (omega (arith, room), AreShort-changes (suc n) full xs (omega (arith, room))))
 
 -- effects in one list of a row, where those after it are empty
 AreShort-in : (k c : ℕ) (es : List Effect) (rest : List Contribution) → ((n : ℕ) (g : ℕ → ℕ) → ((j : ℕ) → k < j → g j ≤ 0) → AreShort n g rest)
@@ -233,14 +251,8 @@ AreOpened-append (c ∷ cs) ds m n some first then_ = (first.0, AreOpened-append
     after (mode name priority game) = omega (arith, some)
     after _ = some
 
-AreOpened-each : {X : Type 0} (n : ℕ) (make : X → Contribution) → ((e : X) (cs : List Contribution) → AreOpened n cs → AreOpened n (make e ∷ cs)) → (es : List X) → AreOpened n (map make es)
-AreOpened-each n make more [] = tt
-AreOpened-each n make more (e ∷ es) = more e (map make es) (AreOpened-each n make more es)
-
-AreOpened-before : {X : Type 0} (n : ℕ) (make : X → Contribution) → ((x : X) (cs : List Contribution) → AreOpened n cs → AreOpened n (make x ∷ cs)) → (xs : List X) (rest : List Contribution)
-    → AreOpened n rest → AreOpened n (map make xs ++ rest)
-AreOpened-before n make more [] rest h = h
-AreOpened-before n make more (x ∷ xs) rest h = more x (map make xs ++ rest) (AreOpened-before n make more xs rest h)
+AreOpened-under : (n : ℕ) (condition : Option Condition) (cs : List Contribution) → AreOpened n cs → AreOpened n (under_where condition ++ cs)
+AreOpened-under n condition cs h = under_before (AreOpened n) (λ c ds k. (tt, k)) condition cs h
 
 AreOpened-listens : (n k : ℕ) (ns : List (List ℕ)) (rest : List Contribution) → AreOpened n rest → AreOpened n (listens_from k ns ++ rest)
 AreOpened-listens n k [] rest h = h
@@ -248,7 +260,7 @@ AreOpened-listens n k (s ∷ ss) rest h = (tt, AreOpened-listens n (suc k) ss re
 
 AreOpened-lists : (n k : ℕ) (lists : List (List Effect)) → AreOpened n (effects_from k lists)
 AreOpened-lists n k [] = tt
-AreOpened-lists n k (es ∷ rest) = AreOpened-before n (does_in k) (λ e cs h. (tt, h)) es (effects_from (suc k) rest) (AreOpened-lists n (suc k) rest)
+AreOpened-lists n k (es ∷ rest) = each_before (AreOpened n) (does_in k) (λ e cs h. (tt, h)) es (effects_from (suc k) rest) (AreOpened-lists n (suc k) rest)
 
 -- what holds of all that is made
 pub All-made : {X : Type 0} (Q : Contribution → Type 0) (make : X → Contribution) → ((x : X) → Q (make x)) → (xs : List X) → All Q (map make xs)
@@ -472,32 +484,45 @@ module _ (machine : List SectionRows) (P : List ℕ → Type 0) (of : IsOfNames 
       let kind = kind_of machine s in
       record {
         names = λ h. All-cons (IsFit P) _ (reads kind ∷ on ++ off) h.name (All-cons (IsFit P) _ (on ++ off) tt (fit_switch s h));
-        lists = λ h. (tt, (tt, AreShort-append on off 1024 full (omega arith) (λ k. omega arith) (AreShort-each active (λ e cs k. (tt, k)) (active_posts s)) (AreShort-each inactive (λ e cs k. (tt, k)) (inactive_posts s))));
-        modes = λ h. (tt, (tt, AreOpened-append on off n n (omega arith) (AreOpened-each n active (λ e cs k. (tt, k)) (active_posts s)) (AreOpened-each n inactive (λ e cs k. (tt, k)) (inactive_posts s))));
+        lists = λ h. (tt, (tt, AreShort-append on off 1024 full (omega arith) (λ k. omega arith) (each_alone (AreShort 1024 full) active (λ e cs k. (tt, k)) (active_posts s) tt) (each_alone (AreShort 1024 full) inactive (λ e cs k. (tt, k)) (inactive_posts s) tt)));
+        modes = λ h. (tt, (tt, AreOpened-append on off n n (omega arith) (each_alone (AreOpened n) active (λ e cs k. (tt, k)) (active_posts s) tt) (each_alone (AreOpened n) inactive (λ e cs k. (tt, k)) (inactive_posts s) tt)));
         limits = λ h. All-cons IsRight _ (reads kind ∷ on ++ off) (tt, tt) (All-cons IsRight _ (on ++ off) (tt, tt)
             (All-append IsRight on off (All-made IsRight active (λ e. (tt, tt)) (active_posts s)) (All-made IsRight inactive (λ e. (tt, tt)) (inactive_posts s))));
-        acts = (tt, (tt, ArePlaced-append on off None (ArePlaced-each None active (λ e cs k. (tt, k)) (active_posts s)) (ArePlaced-each None inactive (λ e cs k. (tt, k)) (inactive_posts s))));
+        acts = (tt, (tt, ArePlaced-append on off None (each_alone (ArePlaced None) active (λ e cs k. (tt, k)) (active_posts s) tt) (each_alone (ArePlaced None) inactive (λ e cs k. (tt, k)) (inactive_posts s) tt)));
       }
 
-  -- an entry of a player, by what it does
-  doing_facts : {X : Type 0} (Named Short : Type 0) (place : Place) (event : List ℕ) (effect : X → Effect) (xs : List X)
-      → (Named → P event × All (λ x. IsFitEffect P (effect x)) xs) → (Short → (length xs ≤ 1024) × All (λ x. IsEffectInRange (effect x)) xs)
-      → Facts P n Named Short (IsOpenPlace n place) (binds event place Run ∷ map (λ x. does (effect x)) xs)
-  doing_facts {X} Named Short place event effect xs named short =
+  -- the names of a handled event
+  fit_handled : (h : Handled) → IsNamedHandled h → IsFitEvent P h.event
+  fit_handled h k = (of.name h.event.name k.name, k.variable)
+
+  right_bound : (e : Event) (place : Place) (aim : Aim) → All IsRight (bound e place aim)
+  right_bound e place aim = All-bound IsRight e place aim (tt, tt) (each_some (λ c. IsRight (under c)) (λ c. (tt, tt)) e.condition)
+
+  -- an entry of a player: what its event gives, and what comes after that
+  bound_facts : (Named Short : Type 0) (place : Place) (e : Event) (cs : List Contribution) → (Named → IsFitEvent P e × All (IsFit P) cs) → (Short → AreShort 0 full cs × All IsRight cs) → AreOpened n cs → ArePlaced None cs
+      → Facts P n Named Short (IsOpenPlace n place) (bound e place Run ++ cs)
+  bound_facts Named Short place e cs named short opened placed = record {
+    names = λ h. All-append (IsFit P) (bound e place Run) cs (All-bound (IsFit P) e place Run (named h).0.0 (named h).0.1) (named h).1;
+    lists = λ h. (tt, AreShort-under 0 full e.condition cs (short h).0);
+    modes = λ h. ((h, tt), AreOpened-under n e.condition cs opened);
+    limits = λ h. All-append IsRight (bound e place Run) cs (right_bound e place Run) (short h).1;
+    acts = (tt, ArePlaced-under None e.condition cs placed);
+  }
+
+  -- by what it does
+  doing_facts : {X : Type 0} (Named Short : Type 0) (place : Place) (e : Event) (effect : X → Effect) (xs : List X)
+      → (Named → IsFitEvent P e × All (λ x. IsFitEffect P (effect x)) xs) → (Short → (length xs ≤ 1024) × All (λ x. IsEffectInRange (effect x)) xs)
+      → Facts P n Named Short (IsOpenPlace n place) (bound e place Run ++ map (λ x. does (effect x)) xs)
+  doing_facts {X} Named Short place e effect xs named short =
       let make : X → Contribution = λ x. does (effect x) in
-      record {
-        names = λ h. All-cons (IsFit P) (binds event place Run) (map make xs) (named h).0 (All-map (IsFit P) make xs (named h).1);
-        lists = λ h. (tt, AreShort-does effect 0 full xs (omega (arith, (short h).0)));
-        modes = λ h. ((h, tt), AreOpened-each n make (λ e cs k. (tt, k)) xs);
-        limits = λ h. All-cons IsRight (binds event place Run) (map make xs) (tt, tt)
-            (All-map IsRight make xs (All-weaker (λ x. IsEffectInRange (effect x)) (λ x. IsRight (make x)) (λ x k. (k, tt)) xs (short h).1));
-        acts = (tt, ArePlaced-each None make (λ e cs k. (tt, k)) xs);
-      }
+      bound_facts Named Short place e (map make xs) (λ h. ((named h).0, All-map (IsFit P) make xs (named h).1))
+      (λ h. (AreShort-does effect 0 full xs (omega (arith, (short h).0)), All-map IsRight make xs (All-weaker (λ x. IsEffectInRange (effect x)) (λ x. IsRight (make x)) (λ x k. (k, tt)) xs (short h).1)))
+      (each_alone (AreOpened n) make (λ e cs k. (tt, k)) xs tt) (each_alone (ArePlaced None) make (λ e cs k. (tt, k)) xs tt)
 
   player_facts : (place : Place) (p : EventPlayer) → Facts P n (IsNamedEventPlayer p) (length p.posts ≤ 1024) (IsOpenPlace n place) (player_contributions place p)
   unfolding player_contributions
   player_facts place p =
-      doing_facts (IsNamedEventPlayer p) (length p.posts ≤ 1024) place p.event.text posts (texts p.posts) (λ h. (of.name p.event.text h.event, all_names p.posts h.posts))
+      doing_facts (IsNamedEventPlayer p) (length p.posts ≤ 1024) place p.event.event posts (texts p.posts) (λ h. (fit_handled p.event h.event, all_names p.posts h.posts))
       (λ h. (omega (arith, h, length-map p.posts (λ (w : Written). w.text)), λ i d within. tt))
 
   abbrev IsShortItems : CoilPlayer → Type 0
@@ -506,8 +531,40 @@ module _ (machine : List SectionRows) (P : List ℕ → Type 0) (of : IsOfNames 
   coil_player_facts : (place : Place) (p : CoilPlayer) → Facts P n (IsNamedCoilPlayer p) (IsShortItems p) (IsOpenPlace n place) (coil_player_contributions machine place p)
   unfolding coil_player_contributions
   coil_player_facts place p =
-      doing_facts (IsNamedCoilPlayer p) (IsShortItems p) place p.event.text (item_effect machine) p.items (λ h. (of.name p.event.text h.event, h.items))
+      doing_facts (IsNamedCoilPlayer p) (IsShortItems p) place p.event.event (item_effect machine) p.items (λ h. (fit_handled p.event h.event, h.items))
       (λ h. (h.0, All-weaker IsItemInRange (λ item. IsEffectInRange (item_effect machine item)) (item_ranged machine) p.items h.1))
+
+  fit_changes : (items : List VariableItem) → All (λ i. IsName i.variable.text) items → All (IsFit P) (flat_map item_contributions items)
+  fit_changes items h = All-flat_map (IsFit P) item_contributions items (All-weaker (λ (i : VariableItem). IsName i.variable.text) (λ i. All (IsFit P) (item_contributions i)) fit items h)
+    where
+      fit : (i : VariableItem) → IsName i.variable.text → All (IsFit P) (item_contributions i)
+      fit i k = All-cons (IsFit P) (mentions (player_event i.variable.text)) (does (item_change i) ∷ []) (of.player i.variable.text k) (All-cons (IsFit P) (does (item_change i)) [] k (All-nil (IsFit P)))
+
+  variable_player_facts : (place : Place) (p : VariablePlayer) → Facts P n (IsNamedVariablePlayer p) (length p.items ≤ 1024) (IsOpenPlace n place) (variable_player_contributions place p)
+  unfolding variable_player_contributions
+  variable_player_facts place p =
+      bound_facts (IsNamedVariablePlayer p) (length p.items ≤ 1024) place p.event.event (flat_map item_contributions p.items) (λ h. (fit_handled p.event h.event, fit_changes p.items h.items))
+      (λ h. (AreShort-changes 0 full p.items (omega (arith, h)), All-each IsRight item_contributions right p.items))
+      (all_alone (AreOpened n) item_contributions (λ i cs k. (tt, (tt, k))) p.items tt) (all_alone (ArePlaced None) item_contributions (λ i cs k. (tt, (tt, k))) p.items tt)
+    where
+      right : (i : VariableItem) → All IsRight (item_contributions i)
+      right i = All-cons IsRight (mentions (player_event i.variable.text)) (does (item_change i) ∷ []) (tt, tt) (All-cons IsRight (does (item_change i)) [] (tt, tt) (All-nil IsRight))
+
+  game_facts : (g : GameSettings) → Facts P n (Unit {0}) (IsGameInRange g) (Unit {0}) (game_contributions machine g)
+  unfolding game_contributions
+  game_facts g =
+      let rules = plays (min_balls_of machine) g.balls_per_game g.max_players in
+      let named = map mentions game_event_names in
+      record {
+        names = λ h. All-append (IsFit P) named (rules ∷ []) (All-map (IsFit P) mentions game_event_names of.game_events) (All-cons (IsFit P) rules [] tt (All-nil (IsFit P)));
+        lists = λ h. each_before (AreShort 1024 full) mentions (λ e cs k. (tt, k)) game_event_names (rules ∷ []) (tt, tt);
+        modes = λ h. each_before (AreOpened n) mentions (λ e cs k. (tt, k)) game_event_names (rules ∷ []) (tt, tt);
+        limits = λ h. All-append IsRight named (rules ∷ []) (All-made IsRight mentions (λ e. (tt, tt)) game_event_names) (All-cons IsRight rules [] (limited h, tt) (All-nil IsRight));
+        acts = each_before (ArePlaced None) mentions (λ e cs k. (tt, k)) game_event_names (rules ∷ []) (tt, tt);
+      }
+    where
+      limited : IsGameInRange g → AreRules (min_balls_of machine) g.balls_per_game g.max_players
+      limited h = record { min_balls_within = min_balls_few machine; some_ball = h.some_balls; balls = h.few_balls; some_player = h.some_players; players = h.few_players }
 
   coil_facts : (c : Coil) → Facts P n (IsNamedCoil c) (IsCoilInRange c) (Unit {0}) (coil_contributions c)
   unfolding coil_contributions
@@ -524,56 +581,61 @@ module _ (machine : List SectionRows) (P : List ℕ → Type 0) (of : IsOfNames 
 
   -- ---- devices
 
-  -- P holds of each event that the entry of a device names, and switches and coils have names
+  -- P holds of each event that the entry of a device names, and switches, coils and variables have names
   record IsFitDevice (d : Device) : Type 0 where
     listens : All IsName d.listens
-    handled : All (λ h. P h.0) d.handled
+    handled : All (λ h. IsFitEvent P h.0) d.handled
     mentioned : All P d.mentioned
     lists : All (All (IsFitEffect P)) d.lists
+
+  fit_acting : (place : Place) (hs : List (Event × Act)) → All (λ h. IsFitEvent P h.0) hs → All (IsFit P) (flat_map (act_binding place) hs)
+  fit_acting place hs h =
+      All-flat_map (IsFit P) (act_binding place) hs
+      (All-weaker (λ (x : Event × Act). IsFitEvent P x.0) (λ x. All (IsFit P) (act_binding place x)) (λ x k. All-bound (IsFit P) x.0 place (Do x.1) k.0 k.1) hs h)
 
   device_facts : (place : Place) (d : Device) → All (λ s. place ≡ Machine) d.listens → Facts P n (IsFitDevice d) (IsRightDevice place d) (IsOpenPlace n place) (device_contributions place d)
   unfolding device_contributions
   device_facts place d own =
       let none = effects_in_after full (device place d.settings) in
       let listening = listens_from 0 d.listens in
-      let acting = map (act_binding place) d.handled in
+      let acting = flat_map (act_binding place) d.handled in
       let named = map mentions d.mentioned in
       let doing = effects_from 0 d.lists in
       record {
         names = λ h. All-cons (IsFit P) (device place d.settings) (listening ++ (acting ++ (named ++ doing))) tt
             (All-append (IsFit P) listening (acting ++ (named ++ doing)) (All-listens (IsFit P) IsName (λ k s m. m) 0 d.listens h.listens)
-            (All-append (IsFit P) acting (named ++ doing) (All-map (IsFit P) (act_binding place) d.handled h.handled)
+            (All-append (IsFit P) acting (named ++ doing) (fit_acting place d.handled h.handled)
             (All-append (IsFit P) named doing (All-map (IsFit P) mentions d.mentioned h.mentioned) (All-lists (IsFit P) (IsFitEffect P) (λ k e m. m) 0 d.lists h.lists))));
         lists = λ h. (
           tt,
           AreShort-listens 1024 none 0 d.listens (acting ++ (named ++ doing))
-              (AreShort-before 1024 none (act_binding place) (λ x cs k. (tt, k)) d.handled (named ++ doing)
-              (AreShort-before 1024 none mentions (λ x cs k. (tt, k)) d.mentioned doing (AreShort-lists 0 d.lists h.lists 1024 none (λ j from. omega arith)))),
+              (all_before (AreShort 1024 none) (act_binding place) (λ x cs k. (tt, AreShort-under 1024 none x.0.condition cs k)) d.handled (named ++ doing)
+              (each_before (AreShort 1024 none) mentions (λ x cs k. (tt, k)) d.mentioned doing (AreShort-lists 0 d.lists h.lists 1024 none (λ j from. omega arith)))),
         );
         modes = λ h. (
           h,
           AreOpened-listens n 0 d.listens (acting ++ (named ++ doing))
-              (AreOpened-before n (act_binding place) (λ x cs k. ((h, tt), k)) d.handled (named ++ doing)
-              (AreOpened-before n mentions (λ x cs k. (tt, k)) d.mentioned doing (AreOpened-lists n 0 d.lists))),
+              (all_before (AreOpened n) (act_binding place) (λ x cs k. ((h, tt), AreOpened-under n x.0.condition cs k)) d.handled (named ++ doing)
+              (each_before (AreOpened n) mentions (λ x cs k. (tt, k)) d.mentioned doing (AreOpened-lists n 0 d.lists))),
         );
         limits = λ h. All-cons IsRight (device place d.settings) (listening ++ (acting ++ (named ++ doing))) (h.limits, h.place_of)
             (All-append IsRight listening (acting ++ (named ++ doing)) (All-listens IsRight (λ s. Unit {0}) (λ k s m. (tt, tt)) 0 d.listens (λ i x within. tt))
-            (All-append IsRight acting (named ++ doing) (All-made IsRight (act_binding place) (λ x. (tt, tt)) d.handled)
+            (All-append IsRight acting (named ++ doing) (All-each IsRight (act_binding place) (λ x. right_bound x.0 place (Do x.1)) d.handled)
             (All-append IsRight named doing (All-made IsRight mentions (λ x. (tt, tt)) d.mentioned) (All-lists IsRight IsEffectInRange (λ k e m. (m, tt)) 0 d.lists h.effects))));
         acts = (
           tt,
           ArePlaced-listens place 0 d.listens (acting ++ (named ++ doing)) own
-              (ArePlaced-before (Some place) (act_binding place) (λ x cs k. (refl, k)) d.handled (named ++ doing)
-              (ArePlaced-before (Some place) mentions (λ x cs k. (tt, k)) d.mentioned doing (ArePlaced-effects (Some place) 0 d.lists))),
+              (all_before (ArePlaced (Some place)) (act_binding place) (λ x cs k. (refl, ArePlaced-under (Some place) x.0.condition cs k)) d.handled (named ++ doing)
+              (each_before (ArePlaced (Some place)) mentions (λ x cs k. (tt, k)) d.mentioned doing (ArePlaced-effects (Some place) 0 d.lists))),
         );
       }
 
-  all_acts : (act : Act) (ws : List Written) → AllNames ws → All (λ h. P h.0) (acts act ws)
-  all_acts act ws h = All-map (λ (x : List ℕ × Act). P x.0) (λ (w : Written). (w.text, act)) ws (All-weaker (λ (w : Written). IsName w.text) (λ w. P w.text) (λ w. of.name w.text) ws h)
+  all_acts : (act : Act) (hs : List Handled) → AllNamedEvents hs → All (λ h. IsFitEvent P h.0) (acts act hs)
+  all_acts act hs h = All-map (λ (x : Event × Act). IsFitEvent P x.0) (λ (w : Handled). (w.event, act)) hs (All-weaker IsNamedHandled (λ w. IsFitEvent P w.event) fit_handled hs h)
 
-  fit_acts : (b : Block) → IsNamedBlock b → All (λ h. P h.0) (block_acts b)
+  fit_acts : (b : Block) → IsNamedBlock b → All (λ h. IsFitEvent P h.0) (block_acts b)
   fit_acts b h =
-      let Q : List ℕ × Act → Type 0 = λ x. P x.0 in
+      let Q : Event × Act → Type 0 = λ x. IsFitEvent P x.0 in
       All-append Q (acts Enable b.enables ++ acts Disable b.disables ++ acts Reset b.resets) (acts Restart b.restarts)
       (All-append Q (acts Enable b.enables ++ acts Disable b.disables) (acts Reset b.resets)
       (All-append Q (acts Enable b.enables) (acts Disable b.disables) (all_acts Enable b.enables h.enables) (all_acts Disable b.disables h.disables)) (all_acts Reset b.resets h.resets)) (all_acts Restart b.restarts h.restarts)
@@ -602,20 +664,20 @@ module _ (machine : List SectionRows) (P : List ℕ → Type 0) (of : IsOfNames 
   fit_counter : (c : Counter) → IsNamedCounter c → IsFitDevice (counter_device c)
   fit_counter c h = record {
     listens = All-nil IsName;
-    handled = All-append (λ (x : List ℕ × Act). P x.0) (acts Count c.counts) (block_acts c.block) (all_acts Count c.counts h.counts) (fit_acts c.block h.block);
+    handled = All-append (λ (x : Event × Act). IsFitEvent P x.0) (acts Count c.counts) (block_acts c.block) (all_acts Count c.counts h.counts) (fit_acts c.block h.block);
     mentioned = fit_mentions c.block h.block;
     lists = fit_lists c.name.text c.block h.name h.block;
   }
 
-  fit_step_acts : (i : ℕ) (steps : List (List Written)) → All AllNames steps → All (λ h. P h.0) (step_acts i steps)
-  fit_step_acts i [] h = All-nil (λ (x : List ℕ × Act). P x.0)
-  fit_step_acts i (ws ∷ rest) h =
-      All-append (λ (x : List ℕ × Act). P x.0) (acts (Step i) ws) (step_acts (suc i) rest) (all_acts (Step i) ws (All-head AllNames ws rest h)) (fit_step_acts (suc i) rest (All-tail AllNames ws rest h))
+  fit_step_acts : (i : ℕ) (steps : List (List Handled)) → All AllNamedEvents steps → All (λ h. IsFitEvent P h.0) (step_acts i steps)
+  fit_step_acts i [] h = All-nil (λ (x : Event × Act). IsFitEvent P x.0)
+  fit_step_acts i (hs ∷ rest) h =
+      All-append (λ (x : Event × Act). IsFitEvent P x.0) (acts (Step i) hs) (step_acts (suc i) rest) (all_acts (Step i) hs (All-head AllNamedEvents hs rest h)) (fit_step_acts (suc i) rest (All-tail AllNamedEvents hs rest h))
 
   fit_steps : (settings : Settings) (b : StepBlock) → IsNamedStepBlock b → IsFitDevice (step_device settings b)
   fit_steps settings b h = record {
     listens = All-nil IsName;
-    handled = All-append (λ (x : List ℕ × Act). P x.0) (step_acts 0 b.steps) (block_acts b.block) (fit_step_acts 0 b.steps h.steps) (fit_acts b.block h.block);
+    handled = All-append (λ (x : Event × Act). IsFitEvent P x.0) (step_acts 0 b.steps) (block_acts b.block) (fit_step_acts 0 b.steps h.steps) (fit_acts b.block h.block);
     mentioned = fit_mentions b.block h.block;
     lists = fit_lists b.name.text b.block h.name h.block;
   }
@@ -623,7 +685,7 @@ module _ (machine : List SectionRows) (P : List ℕ → Type 0) (of : IsOfNames 
   fit_timer : (t : Timer) → IsNamedTimer t → IsFitDevice (timer_device t)
   fit_timer t h = record {
     listens = All-nil IsName;
-    handled = All-map (λ (x : List ℕ × Act). P x.0) controlled t.controls (All-weaker (λ (c : TimerControl). IsName c.event.text) (λ c. P c.event.text) (λ c. of.name c.event.text) t.controls h.controls);
+    handled = All-map (λ (x : Event × Act). IsFitEvent P x.0) controlled t.controls (All-weaker (λ (c : TimerControl). IsNamedHandled c.event) (λ c. IsFitEvent P c.event.event) (λ c. fit_handled c.event) t.controls h.controls);
     mentioned = All-nil P;
     lists = All-map (All (IsFitEffect P)) (λ ending. posts (timer_event t.name.text ending) ∷ []) timer_endings
         (All-weaker (λ ending. P (timer_event t.name.text ending)) (λ ending. All (IsFitEffect P) (posts (timer_event t.name.text ending) ∷ []))
@@ -631,8 +693,8 @@ module _ (machine : List SectionRows) (P : List ℕ → Type 0) (of : IsOfNames 
   }
 
   -- what enables and disables a flipper or an autofire coil
-  fit_rule : (enables disables : List Written) → AllNames enables → AllNames disables → All (λ h. P h.0) (acts Enable enables ++ acts Disable disables)
-  fit_rule enables disables h k = All-append (λ (x : List ℕ × Act). P x.0) (acts Enable enables) (acts Disable disables) (all_acts Enable enables h) (all_acts Disable disables k)
+  fit_rule : (enables disables : List Handled) → AllNamedEvents enables → AllNamedEvents disables → All (λ h. IsFitEvent P h.0) (acts Enable enables ++ acts Disable disables)
+  fit_rule enables disables h k = All-append (λ (x : Event × Act). IsFitEvent P x.0) (acts Enable enables) (acts Disable disables) (all_acts Enable enables h) (all_acts Disable disables k)
 
   fit_flipper : (f : Flipper) → IsNamedFlipper f → IsFitDevice (flipper_device machine f)
   fit_flipper f h =
@@ -665,7 +727,7 @@ module _ (machine : List SectionRows) (P : List ℕ → Type 0) (of : IsOfNames 
   short_controls false event = tt
 
   fit_where : (holds : Bool) (event : List ℕ) → P event → All (IsFit P) (stopper_where holds event)
-  fit_where true event h = All-cons (IsFit P) (stopper event) [] h (All-nil (IsFit P))
+  fit_where true event h = All-cons (IsFit P) (binds event Control Stop) [] h (All-nil (IsFit P))
   fit_where false event h = All-nil (IsFit P)
 
   open_where : (m : ℕ) → 0 < m → (holds : Bool) (event : List ℕ) → AreOpened m (stopper_where holds event)
@@ -673,27 +735,35 @@ module _ (machine : List SectionRows) (P : List ℕ → Type 0) (of : IsOfNames 
   open_where m some false event = tt
 
   limited_where : (holds : Bool) (event : List ℕ) → All IsRight (stopper_where holds event)
-  limited_where true event = All-cons IsRight (stopper event) [] (tt, tt) (All-nil IsRight)
+  limited_where true event = All-cons IsRight (binds event Control Stop) [] (tt, tt) (All-nil IsRight)
   limited_where false event = All-nil IsRight
 
   placed_where : (holds : Bool) (event : List ℕ) → ArePlaced None (stopper_where holds event)
   placed_where true event = (tt, tt)
   placed_where false event = tt
 
+  -- all events of a list
+  fit_bound : (place : Place) (aim : Aim) (hs : List Handled) → AllNamedEvents hs → All (IsFit P) (flat_map (λ e. bound e place aim) (events hs))
+  fit_bound place aim hs h =
+      let Q : Event → Type 0 = λ e. All (IsFit P) (bound e place aim) in
+      All-flat_map (IsFit P) (λ e. bound e place aim) (events hs)
+      (All-map Q (λ (w : Handled). w.event) hs
+      (All-weaker IsNamedHandled (λ w. Q w.event) (λ w k. let fit = fit_handled w k in All-bound (IsFit P) w.event place aim fit.0 fit.1) hs h))
+
   mode_facts : (name : List ℕ) (s : ModeSettings) → Facts P n (IsName name × AreNamedSettings s) (Unit {0}) (Unit {0}) (mode_contributions name s)
   unfolding mode_contributions
   mode_facts name s =
       let m = suc n in
       let some : 0 < m = omega arith in
-      let starts = map starter (texts s.starts) in
-      let stops = map stopper (texts s.stops) in
+      let starts = flat_map starter (events s.starts) in
+      let stops = flat_map stopper (events s.stops) in
       let ball = stopper_where s.stops_with_ball (codes "ball_ending") in
       let game = stopper_where s.game (codes "game_ending") in
       record {
         names = λ h.
             let event : (which : ModeEvent) → P (mode_event_name which name) = λ which. of.mode which name h.0 in
-            let fit_starts = All-map (IsFit P) starter (texts s.starts) (all_names s.starts h.1.starts) in
-            let fit_stops = All-map (IsFit P) stopper (texts s.stops) (all_names s.stops h.1.stops) in
+            let fit_starts = fit_bound Control Start s.starts h.1.starts in
+            let fit_stops = fit_bound Control Stop s.stops h.1.stops in
             let fit_ball = fit_where s.stops_with_ball (codes "ball_ending") of.ball in
             let fit_game = fit_where s.game (codes "game_ending") of.game in
             All-cons (IsFit P) (mode name s.priority s.game) (later_events name ++ controls s) (event WillStart)
@@ -704,8 +774,8 @@ module _ (machine : List SectionRows) (P : List ℕ → Type 0) (of : IsOfNames 
             (All-append (IsFit P) (starts ++ stops ++ ball) game (All-append (IsFit P) (starts ++ stops) ball (All-append (IsFit P) starts stops fit_starts fit_stops) fit_ball) fit_game)))));
         lists = λ h.
             let few : 1024 ≤ 1024 = omega arith in
-            let short_starts = AreShort-each starter (λ e cs k. (tt, k)) (texts s.starts) in
-            let short_stops = AreShort-each stopper (λ e cs k. (tt, k)) (texts s.stops) in
+            let short_starts = all_alone (AreShort 1024 full) starter (λ e cs k. (tt, AreShort-under 1024 full e.condition cs k)) (events s.starts) tt in
+            let short_stops = all_alone (AreShort 1024 full) stopper (λ e cs k. (tt, AreShort-under 1024 full e.condition cs k)) (events s.stops) tt in
             let all : (k : ℕ) → full k ≤ 1024 = λ k. omega arith in
             let short = AreShort-append (starts ++ stops ++ ball) game 1024 full few all
             (AreShort-append (starts ++ stops) ball 1024 full few all (AreShort-append starts stops 1024 full few all short_starts short_stops) (short_controls s.stops_with_ball (codes "ball_ending")))
@@ -713,15 +783,15 @@ module _ (machine : List SectionRows) (P : List ℕ → Type 0) (of : IsOfNames 
             (tt, (tt, (tt, (tt, (tt, short)))));
         modes = λ h.
             let same : m ≤ m = omega arith in
-            let open_starts = AreOpened-each m starter (λ e cs k. ((some, some), k)) (texts s.starts) in
-            let open_stops = AreOpened-each m stopper (λ e cs k. ((some, some), k)) (texts s.stops) in
+            let open_starts = all_alone (AreOpened m) starter (λ e cs k. ((some, some), AreOpened-under m e.condition cs k)) (events s.starts) tt in
+            let open_stops = all_alone (AreOpened m) stopper (λ e cs k. ((some, some), AreOpened-under m e.condition cs k)) (events s.stops) tt in
             let opened = AreOpened-append (starts ++ stops ++ ball) game m m same
             (AreOpened-append (starts ++ stops) ball m m same (AreOpened-append starts stops m m same open_starts open_stops) (open_where m some s.stops_with_ball (codes "ball_ending")))
             (open_where m some s.game (codes "game_ending")) in
             (tt, (tt, (tt, (tt, (tt, opened)))));
         limits = λ h.
             let limited = All-append IsRight (starts ++ stops ++ ball) game (All-append IsRight (starts ++ stops) ball
-            (All-append IsRight starts stops (All-made IsRight starter (λ e. (tt, tt)) (texts s.starts)) (All-made IsRight stopper (λ e. (tt, tt)) (texts s.stops)))
+            (All-append IsRight starts stops (All-each IsRight starter (λ e. right_bound e Control Start) (events s.starts)) (All-each IsRight stopper (λ e. right_bound e Control Stop) (events s.stops)))
             (limited_where s.stops_with_ball (codes "ball_ending"))) (limited_where s.game (codes "game_ending")) in
             All-cons IsRight (mode name s.priority s.game) (later_events name ++ controls s) (tt, tt)
             (All-cons IsRight (mode_event Starting name) (mode_event Started name ∷ mode_event Stopping name ∷ mode_event Stopped name ∷ controls s) (tt, tt)
@@ -730,7 +800,8 @@ module _ (machine : List SectionRows) (P : List ℕ → Type 0) (of : IsOfNames 
             (All-cons IsRight (mode_event Stopped name) (controls s) (tt, tt) limited))));
         acts =
             let placed = ArePlaced-append (starts ++ stops ++ ball) game None (ArePlaced-append (starts ++ stops) ball None
-            (ArePlaced-append starts stops None (ArePlaced-each None starter (λ e cs k. (tt, k)) (texts s.starts)) (ArePlaced-each None stopper (λ e cs k. (tt, k)) (texts s.stops)))
+            (ArePlaced-append starts stops None (all_alone (ArePlaced None) starter (λ e cs k. (tt, ArePlaced-under None e.condition cs k)) (events s.starts) tt)
+            (all_alone (ArePlaced None) stopper (λ e cs k. (tt, ArePlaced-under None e.condition cs k)) (events s.stops) tt))
             (placed_where s.stops_with_ball (codes "ball_ending"))) (placed_where s.game (codes "game_ending")) in
             (tt, (tt, (tt, (tt, (tt, placed)))));
       }
@@ -809,20 +880,35 @@ module _ (machine : List SectionRows) (P : List ℕ → Type 0) (of : IsOfNames 
   entry_facts Control section e = where_facts Control e (device_of section e) (good_device Control section e)
   entry_facts Mode section e = where_facts Mode e (device_of section e) (good_device Mode section e)
 
+  alone_facts : (place : Place) (section : List ℕ) (e : Entry) → Facts P n (IsNamedEntry e) (IsShortEntry 1024 e) (IsOpenPlace n place) (alone_contributions machine place section e)
+  unfolding alone_contributions
+  alone_facts Machine section e =
+      let game = game_facts (game_of e) in
+      either (bytes_eq section game_name) (game_contributions machine (game_of e)) []
+      (record { names = λ h. game.names tt; lists = λ h. game.lists (game_in_range e); modes = game.modes; limits = λ h. game.limits (game_in_range e); acts = game.acts })
+      (none_facts (IsNamedEntry e) (IsShortEntry 1024 e) (Unit {0}))
+  alone_facts Control section e = none_facts (IsNamedEntry e) (IsShortEntry 1024 e) (IsOpenPlace n Control)
+  alone_facts Mode section e = none_facts (IsNamedEntry e) (IsShortEntry 1024 e) (IsOpenPlace n Mode)
+
   player_entry_facts : (place : Place) (section : List ℕ) (p : Player) → Facts P n (IsNamedPlayer p) (IsShortPlayer 1024 p) (IsOpenPlace n place) (player_entry_contributions machine place section p)
   unfolding player_entry_contributions
   player_entry_facts place section p =
       let event = player_facts place (event_player_of p) in
       let item = coil_player_facts place (coil_player_of p) in
+      let change = variable_player_facts place (variable_player_of p) in
+      let changing = if bytes_eq section variable_player_name then variable_player_contributions place (variable_player_of p) else [] in
       let short : IsShortPlayer 1024 p → IsShortItems (coil_player_of p) = λ h. (coil_player_short p h, coil_player_in_range p) in
-      either (bytes_eq section event_player_name) (player_contributions place (event_player_of p)) (if bytes_eq section coil_player_name then coil_player_contributions machine place (coil_player_of p) else [])
+      either (bytes_eq section event_player_name) (player_contributions place (event_player_of p)) (if bytes_eq section coil_player_name then coil_player_contributions machine place (coil_player_of p) else changing)
       (record { names = λ h. event.names (event_player_named p h); lists = λ h. event.lists (event_player_short p h); modes = event.modes; limits = λ h. event.limits (event_player_short p h); acts = event.acts })
-      (either (bytes_eq section coil_player_name) (coil_player_contributions machine place (coil_player_of p)) []
+      (either (bytes_eq section coil_player_name) (coil_player_contributions machine place (coil_player_of p)) changing
       (record { names = λ h. item.names (coil_player_named p h); lists = λ h. item.lists (short h); modes = item.modes; limits = λ h. item.limits (short h); acts = item.acts })
-      (none_facts (IsNamedPlayer p) (IsShortPlayer 1024 p) (IsOpenPlace n place)))
+      (either (bytes_eq section variable_player_name) (variable_player_contributions place (variable_player_of p)) []
+      (record { names = λ h. change.names (variable_player_named p h); lists = λ h. change.lists (variable_player_short p h); modes = change.modes; limits = λ h. change.limits (variable_player_short p h); acts = change.acts })
+      (none_facts (IsNamedPlayer p) (IsShortPlayer 1024 p) (IsOpenPlace n place))))
 
   row_facts : (r : Row) → Facts P n (IsNamedRow r) (IsShortRow r) (IsOpenRow n r) (row_contributions machine r)
   row_facts (entry place section e) = entry_facts place section e
+  row_facts (alone place section e) = alone_facts place section e
   row_facts (player place section p) = player_entry_facts place section p
   row_facts (of_mode name s) = mode_facts name s
 
@@ -833,7 +919,19 @@ module _ (machine : List SectionRows) (P : List ℕ → Type 0) (of : IsOfNames 
 
 -- what holds whatever names are
 pub any_name : IsOfNames (λ n. Unit {0})
-any_name = record { name = λ n k. tt; active = λ n k. tt; inactive = λ n k. tt; tag = λ n k. tt; mode = λ which n k. tt; ball = tt; game = tt; block = λ n k i d within. tt; timer = λ n k i d within. tt }
+any_name = record {
+  name = λ n k. tt;
+  active = λ n k. tt;
+  inactive = λ n k. tt;
+  tag = λ n k. tt;
+  mode = λ which n k. tt;
+  ball = tt;
+  game = tt;
+  game_events = λ i d within. tt;
+  player = λ n k. tt;
+  block = λ n k i d within. tt;
+  timer = λ n k i d within. tt;
+}
 
 -- no effect list that rows give has more posts
 all_short : (machine : List SectionRows) (rs : List Row) → All IsShortRow rs → AreShort 1024 full (given_by machine rs)
@@ -875,7 +973,7 @@ rows_named place s h = by s.content h
     by : (content : Content) → IsNamedContent content → All IsNamedRow (rows_from place s.name content)
     by (entries es) k = All-map IsNamedRow (entry place s.name) es k
     by (players ps) k = All-map IsNamedRow (player place s.name) ps k
-    by (sections.entry e) k = All-nil IsNamedRow
+    by (sections.entry e) k = All-cons IsNamedRow (alone place s.name e) [] k (All-nil IsNamedRow)
     by (sections.listed ws) k = All-nil IsNamedRow
 
 rows_short : (place : Place) (s : SectionRows) → IsShortSection s → All IsShortRow (rows_from place s.name s.content)
@@ -884,14 +982,14 @@ rows_short place s h = by s.content h
     by : (content : Content) → IsShortContent content → All IsShortRow (rows_from place s.name content)
     by (entries es) k = All-map IsShortRow (entry place s.name) es k.0
     by (players ps) k = All-map IsShortRow (player place s.name) ps k.1
-    by (sections.entry e) k = All-nil IsShortRow
+    by (sections.entry e) k = All-map IsShortRow (alone place s.name) (e ∷ []) k.2
     by (sections.listed ws) k = All-nil IsShortRow
 
 -- each row of a place is open where the place is
 rows_open : (n : ℕ) (place : Place) → IsOpenPlace n place → (name : List ℕ) (content : Content) → All (IsOpenRow n) (rows_from place name content)
 rows_open n place opened name (entries es) = All-map (IsOpenRow n) (entry place name) es (λ i d within. opened)
 rows_open n place opened name (players ps) = All-map (IsOpenRow n) (player place name) ps (λ i d within. opened)
-rows_open n place opened name (sections.entry e) = All-nil (IsOpenRow n)
+rows_open n place opened name (sections.entry e) = All-cons (IsOpenRow n) (alone place name e) [] opened (All-nil (IsOpenRow n))
 rows_open n place opened name (sections.listed ws) = All-nil (IsOpenRow n)
 
 -- what rows of sections give

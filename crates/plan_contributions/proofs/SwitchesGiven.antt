@@ -1,7 +1,8 @@
 -- Each switch of the machine text is given by contributions.
-use Rattle.std.proofs.Common.{◌≡◌, ℕ, Bool, true, false, ◌||◌, if◌then◌else◌, List, [], ◌∷◌, ◌++◌, map, refl, sym, ◌∙◌, ap, subst, true≢false}
+use Rattle.std.proofs.Common.{◌≡◌, ℕ, Bool, true, false, ◌||◌, if◌then◌else◌, List, [], ◌∷◌, ◌++◌, map, refl, sym, ◌∙◌, ap, subst, inl, inr, true≢false}
 use Rattle.std.specs.Str.{bytes_eq}
 use Rattle.std.specs.List.{flat_map, list_any}
+use Rattle.std.proofs.lemmas.Bool.{or_cases, or_left, or_right}
 use Rattle.std.proofs.lemmas.Grind.{flat_map-append}
 use Rattle.std.proofs.lemmas.List.Folds.{list_any-append}
 use Rattle.std.proofs.lemmas.Slice.Eq.{bytes_eq-Decides}
@@ -15,18 +16,9 @@ use Rattle.machine_definitions.specs.Definitions.{has_switch}
 use Rattle.plan_contributions.specs.Contributions.{Contribution, switch_contributions, machine_entry_contributions, entry_contributions, Row, entry, rows_from, rows_in, mode_rows, row_contributions, given_by, contributions_of}
 use Rattle.plan_contributions.specs.UsedNames.{given_names}
 
-or_first : (a b : Bool) → a ≡ true → (a || b) ≡ true
-or_first true b is = refl
-or_first false b is = absurd (true≢false (sym is))
-
-or_second : (a b : Bool) → b ≡ true → (a || b) ≡ true
-or_second true b is = refl
-or_second false b is = is
-
 -- of two lists one has it
 or_weaker : (a b c d : Bool) → (a ≡ true → c ≡ true) → (b ≡ true → d ≡ true) → (a || b) ≡ true → (c || d) ≡ true
-or_weaker true b c d first second is = or_first c d (first refl)
-or_weaker false b c d first second is = or_second c d (second is)
+or_weaker a b c d first second is = elim (or_cases a b is) [ inl h ↦ or_left c d (first h) | inr h ↦ or_right c d (second h) ]
 
 module _ (n : List ℕ) (machine : List SectionRows) where
   -- whether a switch of this name is given
@@ -47,7 +39,7 @@ module _ (n : List ℕ) (machine : List SectionRows) where
 
   of_switch : (e : Entry) → is_it (switch_of e) ≡ true → gives_it (row_contributions machine (entry Machine switches_name e)) ≡ true
   unfolding entry_contributions machine_entry_contributions switch_contributions
-  of_switch e is = or_first (is_it (switch_of e)) _ is
+  of_switch e is = or_left (is_it (switch_of e)) _ is
 
   of_entries : (es : List Entry) → list_any is_it (map switch_of es) ≡ true → given_in (map (entry Machine switches_name) es) ≡ true
   of_entries [] is = absurd (true≢false (sym is))
@@ -81,4 +73,4 @@ pub switches_given : (rows : Rows) (n : List ℕ) → has_switch rows.machine n 
 switches_given rows n is =
     let all = rows_in Machine rows.machine in
     given-append n rows.machine all (flat_map mode_rows rows.modes)
-    ∙ or_first (given_in n rows.machine all) _ (of_sections n rows.machine rows.machine is)
+    ∙ or_left (given_in n rows.machine all) _ (of_sections n rows.machine rows.machine is)

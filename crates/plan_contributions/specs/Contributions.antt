@@ -6,7 +6,12 @@ use Rattle.mpf_sections.specs.declared.words.Contact.{Contact as WrittenContact}
 use Rattle.mpf_sections.specs.declared.words.Contact.TheVariants as written
 use Rattle.mpf_sections.specs.declared.words.Debounce.{Debounce}
 use Rattle.mpf_sections.specs.declared.words.Debounce.TheVariants.{Auto, Quick, Normal}
-use Rattle.mpf_sections.specs.Rows.{Written, Entry, Player, Switch, EventPlayer, ModeSettings, Content, entries, players, SectionRows}
+use Rattle.mpf_values.specs.Events.{Condition, Event}
+use Rattle.mpf_sections.specs.Rows.{Written, Entry, Player, Switch, EventPlayer, ModeSettings, VariablePlayer, VariableItem, GameSettings, Content, entries, players, entry as single, listed, SectionRows}
+use Rattle.mpf_sections.specs.TypedGame.{variable_player_name, game_name, variable_player_of, game_of, min_balls_of}
+use Rattle.machine_definitions.specs.GameEvents.{game_event_names}
+use Rattle.machine_definitions.specs.Players.{player_event}
+use Rattle.plan_contributions.specs.VariableEntries.{item_change}
 use Rattle.mpf_config.specs.Rows.{ModeRows, Rows}
 use Rattle.mpf_sections.specs.Typed.{switches_name, event_player_name, switch_of, event_player_of, mode_settings}
 use Rattle.plan_tables.specs.declared.entries.Contact.{Contact}
@@ -22,7 +27,7 @@ use Rattle.plan_tables.specs.declared.devices.Settings.{Settings}
 use Rattle.plan_tables.specs.declared.devices.Act.{Act}
 use Rattle.plan_tables.specs.declared.table.Table.{Table}
 use Rattle.plan_tables.specs.declared.table.Table.TheVariants.{Switches}
-pub use Rattle.plan_contributions.specs.DeviceEntries.{texts, Effect, posts, works, Device, device_of}
+pub use Rattle.plan_contributions.specs.DeviceEntries.{texts, events, Effect, posts, works, changes, Device, device_of}
 use Rattle.machine_definitions.specs.Definitions.{makes_quick}
 use Rattle.plan_contributions.specs.CoilEntries.{limits_of_coil, item_effect, flipper_device, autofire_device}
 use Rattle.mpf_sections.specs.Rows.{Coil, CoilPlayer}
@@ -35,7 +40,8 @@ use Rattle.plan_tables.specs.declared.entries.CoilLimits.{CoilLimits}
 -- begins where it is to run one; what the list does that began last; a row of a device with its settings, with which its
 -- effect lists begin; what this list of the last row does, by its number in the row; a switch to which the last row
 -- listens, by its number in the row; an event that a setting names, which gets its number here; a coil by its name, with
--- what it may be sent.
+-- what it may be sent; the condition of the binding that came last; the rules of the game: how many balls have to be at
+-- home for it to begin, how many each player has, and how many players there can be.
 pub data Contribution : Type 0 where
   gives : Table → List ℕ → Contribution
   reads : SwitchKind → Contribution
@@ -50,6 +56,23 @@ pub data Contribution : Type 0 where
   listens : ℕ → List ℕ → Contribution
   mentions : List ℕ → Contribution
   coil : List ℕ → CoilLimits → Contribution
+  under : Condition → Contribution
+  plays : (min_balls balls_per_game max_players : ℕ) → Contribution
+
+-- ---- bindings
+
+-- the binding that came last has this condition, if there is one
+abbrev pub under_where : Option Condition → List Contribution
+under_where None = []
+under_where (Some c) = under c ∷ []
+
+-- a handled event is bound, under its condition
+abbrev pub bound : Event → Place → Aim → List Contribution
+bound e place aim = binds e.name place aim ∷ under_where e.condition
+
+-- an event of this name, which is handled always
+abbrev pub always : List ℕ → Event
+always name = record { name = name; condition = None }
 
 -- ---- switches
 
@@ -90,7 +113,7 @@ switch_contributions machine s =
 
 -- an entry binds an effect list to the event that it handles; the list posts the entry's events in order
 unfoldable pub player_contributions : Place → EventPlayer → List Contribution
-player_contributions place p = binds p.event.text place Run ∷ map (λ e. does (posts e)) (texts p.posts)
+player_contributions place p = bound p.event.event place Run ++ map (λ e. does (posts e)) (texts p.posts)
 
 -- ---- coils
 
@@ -101,7 +124,24 @@ coil_contributions c = coil c.name.text (limits_of_coil c) ∷ []
 -- an entry binds an effect list to the event that it handles; the list does what the items say, in order
 unfoldable pub coil_player_contributions : List SectionRows → Place → CoilPlayer → List Contribution
 coil_player_contributions machine place p =
-    binds p.event.text place Run ∷ map (λ item. does (item_effect machine item)) p.items
+    bound p.event.event place Run ++ map (λ item. does (item_effect machine item)) p.items
+
+-- ---- variables
+
+-- a variable that is changed, after the event that its change posts
+abbrev pub item_contributions : VariableItem → List Contribution
+item_contributions item = mentions (player_event item.variable.text) ∷ does (item_change item) ∷ []
+
+-- an entry binds an effect list to the event that it handles; the list does what the items say, in order
+unfoldable pub variable_player_contributions : Place → VariablePlayer → List Contribution
+variable_player_contributions place p = bound p.event.event place Run ++ flat_map item_contributions p.items
+
+-- ---- the game
+
+-- the events of the game, and its rules
+unfoldable pub game_contributions : List SectionRows → GameSettings → List Contribution
+game_contributions machine g =
+    map mentions game_event_names ++ plays (min_balls_of machine) g.balls_per_game g.max_players ∷ []
 
 -- ---- modes
 
@@ -118,15 +158,15 @@ abbrev pub mode_event_name : ModeEvent → List ℕ → List ℕ
 mode_event_name which name = codes "mode_" ++ name ++ event_ending which
 
 -- what starts and what stops the mode that came last
-abbrev pub starter : List ℕ → Contribution
-starter event = binds event Control Start
+abbrev pub starter : Event → List Contribution
+starter event = bound event Control Start
 
-abbrev pub stopper : List ℕ → Contribution
-stopper event = binds event Control Stop
+abbrev pub stopper : Event → List Contribution
+stopper event = bound event Control Stop
 
--- the event stops the mode, where this holds
+-- the event of this name stops the mode, where this holds
 abbrev pub stopper_where : Bool → List ℕ → List Contribution
-stopper_where holds event = if holds then stopper event ∷ [] else []
+stopper_where holds name = if holds then stopper (always name) else []
 
 -- the other four events of a mode
 abbrev pub later_events : List ℕ → List Contribution
@@ -136,8 +176,8 @@ later_events name =
 -- what starts a mode and what stops it, as it is written; then the end of the ball, and of the game, where they stop it
 abbrev pub controls : ModeSettings → List Contribution
 controls s =
-    map starter (texts s.starts)
-    ++ map stopper (texts s.stops)
+    flat_map starter (events s.starts)
+    ++ flat_map stopper (events s.stops)
     ++ stopper_where s.stops_with_ball (codes "ball_ending")
     ++ stopper_where s.game (codes "game_ending")
 
@@ -148,8 +188,8 @@ mode_contributions name s = mode name s.priority s.game ∷ later_events name ++
 -- ---- devices
 
 -- an event acts on the row that came last
-abbrev pub act_binding : Place → List ℕ × Act → Contribution
-act_binding place h = binds h.0 place (Do h.1)
+abbrev pub act_binding : Place → Event × Act → List Contribution
+act_binding place h = bound h.0 place (Do h.1)
 
 -- what the effect lists do, from this one on
 abbrev pub effects_from : ℕ → List (List Effect) → List Contribution
@@ -167,7 +207,7 @@ unfoldable pub device_contributions : Place → Device → List Contribution
 device_contributions place d =
     device place d.settings
     ∷ listens_from 0 d.listens
-    ++ (map (act_binding place) d.handled ++ (map mentions d.mentioned ++ effects_from 0 d.lists))
+    ++ (flat_map (act_binding place) d.handled ++ (map mentions d.mentioned ++ effects_from 0 d.lists))
 
 -- what a device gives, where an entry is one
 abbrev pub where_device : Place → Option Device → List Contribution
@@ -176,17 +216,19 @@ where_device place (Some d) = device_contributions place d
 
 -- ---- rows
 
--- An entry in the section of this name, or an entry of a player, whose bindings have this place; or a mode by its name,
--- with what its text says of it.
+-- An entry in the section of this name, or the one that the section is; or an entry of a player, whose bindings have this
+-- place; or a mode by its name, with what its text says of it.
 pub data Row : Type 0 where
   entry : Place → List ℕ → Entry → Row
+  alone : Place → List ℕ → Entry → Row
   player : Place → List ℕ → Player → Row
   of_mode : List ℕ → ModeSettings → Row
 
 abbrev pub rows_from : Place → List ℕ → Content → List Row
 rows_from place name (entries es) = map (entry place name) es
 rows_from place name (players ps) = map (player place name) ps
-rows_from place name _ = []
+rows_from place name (single e) = alone place name e ∷ []
+rows_from place name (listed ws) = []
 
 -- the rows of sections, as written
 abbrev pub rows_in : Place → List SectionRows → List Row
@@ -221,14 +263,23 @@ entry_contributions machine Machine section e = machine_entry_contributions mach
 entry_contributions machine Control section e = where_device Control (device_of section e)
 entry_contributions machine Mode section e = where_device Mode (device_of section e)
 
+-- what the one entry of a section gives: the game stands in the machine text alone
+unfoldable pub alone_contributions : List SectionRows → Place → List ℕ → Entry → List Contribution
+alone_contributions machine Machine section e =
+    if bytes_eq section game_name then game_contributions machine (game_of e) else []
+alone_contributions machine Control section e = []
+alone_contributions machine Mode section e = []
+
 -- and an entry of a player
 unfoldable pub player_entry_contributions : List SectionRows → Place → List ℕ → Player → List Contribution
 player_entry_contributions machine place section p =
     if bytes_eq section event_player_name then player_contributions place (event_player_of p)
-    else (if bytes_eq section coil_player_name then coil_player_contributions machine place (coil_player_of p) else [])
+    else (if bytes_eq section coil_player_name then coil_player_contributions machine place (coil_player_of p)
+    else (if bytes_eq section variable_player_name then variable_player_contributions place (variable_player_of p) else []))
 
 abbrev pub row_contributions : List SectionRows → Row → List Contribution
 row_contributions machine (entry place section e) = entry_contributions machine place section e
+row_contributions machine (alone place section e) = alone_contributions machine place section e
 row_contributions machine (player place section p) = player_entry_contributions machine place section p
 row_contributions machine (of_mode name s) = mode_contributions name s
 

@@ -5,6 +5,9 @@ use Rattle.mpf_sections.specs.declared.words.Direction.{Direction as WrittenDire
 use Rattle.mpf_sections.specs.declared.words.Direction.TheVariants as written
 use Rattle.mpf_sections.specs.declared.words.ControlAction.{ControlAction}
 use Rattle.mpf_sections.specs.declared.words.ControlAction.TheVariants as actions
+use Rattle.mpf_values.specs.Events.{Event}
+use Rattle.section_tables.specs.Rows.{Handled}
+use Rattle.plan_tables.specs.declared.entries.VariableAction.{VariableAction}
 use Rattle.mpf_sections.specs.Rows.{Written, Entry, Block, Counter, StepBlock, Control, Timer}
 use Rattle.mpf_sections.specs.Typed.{counters_name, accruals_name, sequences_name, timers_name, counter_of, step_block_of, timer_of}
 use Rattle.plan_tables.specs.declared.devices.Direction.{Direction}
@@ -19,6 +22,9 @@ use Rattle.plan_tables.specs.declared.devices.Act.TheVariants.{Count, Step, Enab
 abbrev pub texts : List Written → List (List ℕ)
 texts ws = map (λ w. w.text) ws
 
+abbrev pub events : List Handled → List Event
+events hs = map (λ h. h.event) hs
+
 -- What is done with a coil: it is pulsed, for so many milliseconds and with this power in thousandths; or enabled with
 -- this power; or disabled.
 pub data Deed : Type 0 where
@@ -26,23 +32,25 @@ pub data Deed : Type 0 where
   enable : (power : ℕ) → Deed
   disable : Deed
 
--- One thing that an effect list does: it posts the event of this name, or does this with the coil of this name.
+-- One thing that an effect list does: it posts the event of this name, does this with the coil of this name, or does this
+-- with the variable of this name, with a number.
 pub data Effect : Type 0 where
   posts : (event : List ℕ) → Effect
   works : (coil : List ℕ) → Deed → Effect
+  changes : (variable : List ℕ) → VariableAction → (number : ℤ) → Effect
 
 -- What the entry of a device says: its settings; the switches to which it listens, by name; each event that it handles,
 -- and what the event does; other events that its settings name; and what each of its effect lists does.
 pub record Device : Type 0 where
   pub settings : Settings
   pub listens : List (List ℕ)
-  pub handled : List (List ℕ × Act)
+  pub handled : List (Event × Act)
   pub mentioned : List (List ℕ)
   pub lists : List (List Effect)
 
 -- each of the events does this
-abbrev pub acts : Act → List Written → List (List ℕ × Act)
-acts act ws = map (λ w. (w.text, act)) ws
+abbrev pub acts : Act → List Handled → List (Event × Act)
+acts act hs = map (λ h. (h.event, act)) hs
 
 -- which way a value goes, in the plan
 abbrev pub direction_in_plan : WrittenDirection → Direction
@@ -51,9 +59,9 @@ direction_in_plan written.Down = Down
 
 -- ---- logic blocks
 
-abbrev pub is_none : List Written → Bool
+abbrev pub is_none : {X : Type 0} → List X → Bool
 is_none [] = true
-is_none (w ∷ ws) = false
+is_none (x ∷ xs) = false
 
 -- a block is enabled at first where no event enables it
 abbrev pub block_settings : Block → BlockSettings
@@ -65,7 +73,7 @@ block_settings b = record {
 }
 
 -- what enables a block, disables, resets and restarts it
-abbrev pub block_acts : Block → List (List ℕ × Act)
+abbrev pub block_acts : Block → List (Event × Act)
 block_acts b = acts Enable b.enables ++ acts Disable b.disables ++ acts Reset b.resets ++ acts Restart b.restarts
 
 -- the events that are posted in place of its own
@@ -112,9 +120,9 @@ counter_device c = record {
 }
 
 -- the events of each step do it, from this one on
-abbrev pub step_acts : ℕ → List (List Written) → List (List ℕ × Act)
+abbrev pub step_acts : ℕ → List (List Handled) → List (Event × Act)
 step_acts i [] = []
-step_acts i (ws ∷ rest) = acts (Step i) ws ++ step_acts (suc i) rest
+step_acts i (hs ∷ rest) = acts (Step i) hs ++ step_acts (suc i) rest
 
 abbrev pub step_settings : StepBlock → StepSettings
 step_settings b = record { block = block_settings b.block; steps = length b.steps }
@@ -142,8 +150,8 @@ control_act actions.Add n = Add n
 control_act actions.Subtract n = Subtract n
 control_act actions.Jump n = Jump n
 
-abbrev pub controlled : Control → List ℕ × Act
-controlled c = (c.event.text, control_act c.action c.value)
+abbrev pub controlled : Control → Event × Act
+controlled c = (c.event.event, control_act c.action c.value)
 
 -- an event of the timer of this name
 abbrev pub timer_event : List ℕ → List ℕ → List ℕ

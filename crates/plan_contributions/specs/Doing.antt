@@ -2,7 +2,9 @@
 -- rows, and of those of contributions.
 use Rattle.std.specs.Prelude.{ℕ, List, Option, None, Some}
 use Rattle.std.specs.List.{All}
-use Rattle.mpf_sections.specs.Rows.{Switch, EventPlayer, CoilPlayer, SectionRows}
+use Rattle.mpf_sections.specs.Rows.{Switch, EventPlayer, CoilPlayer, VariablePlayer, SectionRows}
+use Rattle.mpf_sections.specs.TypedGame.{variable_players_in}
+use Rattle.plan_contributions.specs.VariableEntries.{item_change}
 use Rattle.mpf_config.specs.Rows.{ModeRows, Rows}
 use Rattle.mpf_sections.specs.Typed.{entries_in, switches_in, event_players_in}
 use Rattle.mpf_sections.specs.TypedCoils.{coil_players_in, flippers_in, autofires_in}
@@ -17,6 +19,10 @@ module _ (P : Effect → Type 0) (S L : List ℕ → Type 0) where
 
   abbrev pub IsPlayerDoing : EventPlayer → Type 0
   IsPlayerDoing p = All (λ n. P (posts n)) (texts p.posts)
+
+  -- and of each change of an entry of `variable_player`
+  abbrev pub IsVariablePlayerDoing : VariablePlayer → Type 0
+  IsVariablePlayerDoing p = All (λ item. P (item_change item)) p.items
 
   -- P holds of all that the effect lists of a device do, and L of the name of each switch to which it listens
   pub record IsDeviceDoing (d : Device) : Type 0 where
@@ -37,6 +43,7 @@ module _ (P : Effect → Type 0) (S L : List ℕ → Type 0) where
     -- and of all that a section does, of whichever text
     pub record IsDoing (s : SectionRows) : Type 0 where
       pub players : All IsPlayerDoing (event_players_in s)
+      pub variable_players : All IsVariablePlayerDoing (variable_players_in s)
       pub coil_players : All IsCoilPlayerDoing (coil_players_in s)
       pub devices : All (λ e. IsEntryDoing (device_of s.name e)) (entries_in s.content)
 

@@ -14,9 +14,11 @@ use Rattle.plan_tables.specs.declared.devices.Settings.{Settings}
 use Rattle.plan_tables.specs.declared.devices.Settings.TheVariants.{Flipper, Autofire}
 use Rattle.plan_tables.specs.declared.entries.CoilLimits.{CoilLimits}
 use Rattle.plan_tables.specs.declared.entries.ModeEvent.{ModeEvent}
-use Rattle.plan_contributions.specs.DeviceEntries.{Deed, pulse, enable, disable, Effect, posts, works, block_event, block_endings, timer_event, timer_endings}
+use Rattle.plan_contributions.specs.DeviceEntries.{Deed, pulse, enable, disable, Effect, posts, works, changes, block_event, block_endings, timer_event, timer_endings}
 use Rattle.plan_contributions.specs.CoilEntries.{limits_of_coil}
-use Rattle.plan_contributions.specs.Contributions.{Contribution, mode, mode_event_name, binds, does, device, does_in, listens, coil}
+use Rattle.plan_contributions.specs.Contributions.{Contribution, mode, mode_event_name, binds, does, device, does_in, listens, coil, plays}
+use Rattle.machine_definitions.specs.GameEvents.{game_event_names}
+use Rattle.machine_definitions.specs.Players.{player_event}
 
 -- ---- names
 
@@ -29,6 +31,8 @@ pub record IsOfNames (P : List ℕ → Type 0) : Type 0 where
   pub mode : (which : ModeEvent) (n : List ℕ) → IsName n → P (mode_event_name which n)
   pub ball : P (codes "ball_ending")
   pub game : P (codes "game_ending")
+  pub game_events : All P game_event_names
+  pub player : (n : List ℕ) → IsName n → P (player_event n)
   pub block : (n : List ℕ) → IsName n → All (λ ending. P (block_event n ending)) block_endings
   pub timer : (n : List ℕ) → IsName n → All (λ ending. P (timer_event n ending)) timer_endings
 
@@ -79,11 +83,21 @@ IsDeedInRange disable = Unit {0}
 abbrev pub IsEffectInRange : Effect → Type 0
 IsEffectInRange (posts n) = Unit {0}
 IsEffectInRange (works n deed) = IsDeedInRange deed
+IsEffectInRange (changes v action n) = Unit {0}
 
--- the settings of a row, and of a coil, are within their limits, and effects in their ranges
+-- at most 99 balls at home, from 1 to 99 balls a player, and from 1 to 4 players
+pub record AreRules (min_balls balls_per_game max_players : ℕ) : Type 0 where
+  pub min_balls_within : min_balls ≤ 99
+  pub some_ball : 1 ≤ balls_per_game
+  pub balls : balls_per_game ≤ 99
+  pub some_player : 1 ≤ max_players
+  pub players : max_players ≤ 4
+
+-- the settings of a row, of a coil and of the game are within their limits, and effects in their ranges
 abbrev pub IsLimited : Contribution → Type 0
 IsLimited (device place settings) = IsWithinLimits settings
 IsLimited (coil n limits) = AreLimits limits
+IsLimited (plays min_balls balls_per_game max_players) = AreRules min_balls balls_per_game max_players
 IsLimited (does e) = IsEffectInRange e
 IsLimited (does_in k e) = IsEffectInRange e
 IsLimited _ = Unit {0}

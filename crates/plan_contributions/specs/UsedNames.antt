@@ -3,16 +3,17 @@ use Rattle.std.specs.Prelude.{ℕ, ◌==◌, if◌then◌else◌, List, [], ◌�
 use Rattle.std.specs.List.{flat_map}
 use Rattle.plan_tables.specs.declared.entries.ModeEvent.TheVariants.{WillStart}
 use Rattle.plan_tables.specs.declared.table.Table.{Table}
-use Rattle.plan_tables.specs.declared.table.Table.TheVariants.{Events, Switches, Coils}
+use Rattle.plan_tables.specs.declared.table.Table.TheVariants.{Events, Switches, Coils, Variables}
 use Rattle.plan_tables.specs.Limits.{order_of}
-use Rattle.plan_contributions.specs.Contributions.{Contribution, gives, active, inactive, mode, mode_event, mode_event_name, binds, Effect, posts, works, does, does_in, listens, mentions, coil}
+use Rattle.plan_contributions.specs.Contributions.{Contribution, gives, active, inactive, mode, mode_event, mode_event_name, binds, Effect, posts, works, changes, does, does_in, listens, mentions, coil, under}
 
 -- ---- one contribution
 
--- what an effect list does uses the name of an event, or of a coil
+-- what an effect list does uses the name of an event, of a coil, or of a variable
 abbrev pub used_by : Effect → Option (Table × List ℕ)
 used_by (posts n) = Some (Events, n)
 used_by (works n deed) = Some (Coils, n)
+used_by (changes v action n) = Some (Variables, v)
 
 -- the name that a contribution uses, and its table; giving something under a name is a use of it
 abbrev pub used : Contribution → Option (Table × List ℕ)
@@ -27,6 +28,7 @@ used (does_in k e) = used_by e
 used (listens k n) = Some (Switches, n)
 used (coil n limits) = Some (Coils, n)
 used (mentions n) = Some (Events, n)
+used (under c) = Some (Variables, c.variable)
 used _ = None
 
 -- the name under which a contribution gives something

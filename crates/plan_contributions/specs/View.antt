@@ -11,10 +11,10 @@ use Rattle.plan_contributions.specs.declared.contribution.Effect as effects
 use Rattle.plan_contributions.specs.declared.contribution.Effect.TheVariants as effect
 use Rattle.plan_contributions.specs.declared.collect_coils.Defaults as defaults
 use Rattle.plan_contributions.specs.CoilEntries.{Defaults}
-use Rattle.plan_contributions.specs.DeviceEntries.{Deed, pulse, enable, disable, Effect, posts, works}
+use Rattle.plan_contributions.specs.DeviceEntries.{Deed, pulse, enable, disable, Effect, posts, works, changes}
 use Rattle.plan_contributions.specs.declared.contribution.Contribution as contributions
 use Rattle.plan_contributions.specs.declared.contribution.Contribution.TheVariants as contribution
-use Rattle.plan_contributions.specs.Contributions.{Contribution, gives, reads, active, inactive, mode, mode_event, binds, does, device, does_in, listens, mentions, coil, Row, entry, player, of_mode}
+use Rattle.plan_contributions.specs.Contributions.{Contribution, gives, reads, active, inactive, mode, mode_event, binds, does, device, does_in, listens, mentions, coil, under, plays, Row, entry, alone, player, of_mode}
 
 -- the name that the parts make
 abbrev pub parts_text : Parts → List ℕ
@@ -31,6 +31,7 @@ deed_view deed.Disable = disable
 abbrev pub effect_view : effects.Effect → Effect
 effect_view (effect.Post n) = posts (parts_text n)
 effect_view (effect.Coil n d) = works n.now (deed_view d)
+effect_view (effect.Variable n action number) = changes n.now action number
 
 abbrev pub contribution_view : contributions.Contribution → Contribution
 contribution_view (contribution.Gives table n) = gives table n.now
@@ -45,13 +46,16 @@ contribution_view (contribution.Device place settings) = device place settings
 contribution_view (contribution.DoesIn k e) = does_in k (effect_view e)
 contribution_view (contribution.Listens k n) = listens k n.now
 contribution_view (contribution.Coil n limits) = coil n.now limits
-contribution_view (contribution.Mentions n) = mentions n.now
+contribution_view (contribution.Mentions n) = mentions (parts_text n)
+contribution_view (contribution.Under n comparison number) = under (record { variable = n.now; comparison = comparison; number = number })
+contribution_view (contribution.Plays min_balls balls_per_game max_players) = plays min_balls balls_per_game max_players
 
 abbrev pub contributions_view : List contributions.Contribution → List Contribution
 contributions_view cs = map contribution_view cs
 
 abbrev pub row_view : rows.Row → Row
 row_view (row.Entry place section e) = entry place section.now (entry_view e.now)
+row_view (row.Alone place section e) = alone place section.now (entry_view e.now)
 row_view (row.Player place section p) = player place section.now (player_view p.now)
 row_view (row.Mode name s) = of_mode name.now (mode_settings_view s)
 

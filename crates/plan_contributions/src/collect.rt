@@ -3,19 +3,23 @@
 ghost use Rattle.std.specs.Prelude.{◌≡◌, ◌++◌, map, IfOk, OnOk, codes};
 ghost use Rattle.mpf_sections.specs.View.{switch_view as switch_row_view, event_player_view, mode_settings_view, section_view, entry_view, player_view, name_view};
 ghost use Rattle.mpf_config.specs.View.{mode_view, rows_view};
-ghost use Rattle.plan_contributions.specs.Contributions.{active, inactive, does, posts, texts, contact_of, is_quick, kind_of, tag_event, active_posts, inactive_posts, switch_contributions, player_contributions, starter, stopper, stopper_where, later_events, controls, mode_contributions, rows_in, rows_from, mode_rows, rows_of, entry, player, machine_entry_contributions, entry_contributions, player_entry_contributions, row_contributions};
+ghost use Rattle.plan_contributions.specs.Contributions.{active, inactive, does, posts, texts, contact_of, is_quick, kind_of, tag_event, active_posts, inactive_posts, switch_contributions, player_contributions, stopper_where, later_events, controls, mode_contributions, rows_in, rows_from, mode_rows, rows_of, entry, alone, player, machine_entry_contributions, entry_contributions, alone_contributions, player_entry_contributions, row_contributions};
 ghost use Rattle.plan_contributions.specs.View.{contributions_view, row_view, row_list_view};
 
+use crate::collect_bound::{collect_bound, collect_each};
 use crate::collect_coils::{collect_autofire, collect_coil, collect_coil_player, collect_flipper};
 use crate::collect_devices::collect_device;
+use crate::collect_game::collect_game;
+use crate::collect_variables::collect_variable_player;
 use crate::contribution::{Aim, Contribution, Effect, Parts, Place, whole};
 use machine_definitions::Definitions;
 use mpf_config::config::Contact as WrittenContact;
 use mpf_config::{
     AUTOFIRE_COILS_NAME, COIL_PLAYER_NAME, COILS_NAME, Config, Content, Debounce,
-    EVENT_PLAYER_NAME, Entry, EventPlayer, FLIPPERS_NAME, ModeSettings, ModeText, Name, Player,
-    SWITCHES_NAME, Section, Switch, as_autofire, as_coil, as_coil_player, as_event_player,
-    as_flipper, as_switch, mode_settings,
+    EVENT_PLAYER_NAME, Entry, EventPlayer, FLIPPERS_NAME, GAME_NAME, ModeSettings, ModeText, Name,
+    Player, SWITCHES_NAME, Section, Switch, VARIABLE_PLAYER_NAME, as_autofire, as_coil,
+    as_coil_player, as_event_player, as_flipper, as_game, as_switch, as_variable_player,
+    mode_settings,
 };
 use plan_tables::entries::{Contact, ModeEvent, SwitchKind};
 use plan_tables::table::Table;
@@ -26,6 +30,8 @@ use std::alloc::{AllocError, Global};
 pub enum Row<'a> {
     /// An entry in the section of this name, whose bindings have this place.
     Entry(Place, &'a [u8], &'a Entry),
+    /// The one entry that the section of this name is, in a text of this place.
+    Alone(Place, &'a [u8], &'a Entry),
     /// An entry of a player in the section of this name, whose bindings have this place.
     Player(Place, &'a [u8], &'a Player),
     /// A mode by its name, with what its text says of it.
@@ -87,7 +93,11 @@ fn add_rows<'a>(
     match &section.content {
         Content::Entries(entries) => add_entries(rows, place, &section.name, entries),
         Content::Players(players) => add_players(rows, place, &section.name, players),
-        _ => Ok(()),
+        Content::Entry(entry) => {
+            rows.push(Row::Alone(place, &section.name, entry))?;
+            Ok(())
+        }
+        Content::Names(_) => Ok(()),
     }
 }
 
@@ -139,6 +149,9 @@ pub fn collect_row<'a>(
         Row::Entry(place, section, entry) => {
             collect_entry(contributions, definitions, place, section, entry)
         }
+        Row::Alone(place, section, entry) => {
+            collect_alone(contributions, definitions, place, section, entry)
+        }
         Row::Player(place, section, player) => {
             collect_player(contributions, definitions, place, section, player)
         }
@@ -189,6 +202,26 @@ fn collect_machine_entry<'a>(
     collect_device(contributions, Place::Machine, section, entry)
 }
 
+/// What the one entry of a section gives, after what is there. The game stands in the machine text
+/// alone.
+#[tactic(auto, unfolding(crate::specs::Contributions::alone_contributions))]
+fn collect_alone(
+    contributions: &mut Vec<Contribution<'_>>,
+    definitions: &Definitions<'_>,
+    place: Place,
+    section: &[u8],
+    entry: &Entry,
+) -> Result<(), AllocError>
+    ensures { OnOk result (contributions_view contributions.new.items ≡ contributions_view contributions.old.items ++ alone_contributions definitions.now place section.now (entry_view entry.now)) }
+{
+    match place {
+        Place::Machine if section == GAME_NAME => {
+            collect_game(contributions, definitions, as_game(entry))
+        }
+        _ => Ok(()),
+    }
+}
+
 /// What an entry of a player gives, after what is there.
 #[tactic(auto, unfolding(crate::specs::Contributions::player_entry_contributions))]
 fn collect_player<'a>(
@@ -205,6 +238,9 @@ fn collect_player<'a>(
     }
     if section == COIL_PLAYER_NAME {
         return collect_coil_player(contributions, definitions, place, as_coil_player(player));
+    }
+    if section == VARIABLE_PLAYER_NAME {
+        return collect_variable_player(contributions, place, as_variable_player(player));
     }
     Ok(())
 }
@@ -320,7 +356,7 @@ fn collect_event_player<'a>(
 ) -> Result<(), AllocError>
     ensures { OnOk result (contributions_view contributions.new.items ≡ contributions_view contributions.old.items ++ player_contributions place (event_player_view row.entry)) }
 {
-    contributions.push(Contribution::Binds(row.event.text, place, Aim::Run))?;
+    collect_bound(contributions, row.event, place, Aim::Run)?;
     collect_posts(contributions, row.posts)
 }
 
@@ -375,40 +411,14 @@ fn collect_controls<'a>(
 ) -> Result<(), AllocError>
     ensures { OnOk result (contributions_view contributions.new.items ≡ contributions_view contributions.old.items ++ controls (mode_settings_view settings.entry)) }
 {
-    collect_starts(contributions, settings.starts)?;
-    collect_stops(contributions, settings.stops)?;
+    collect_each(contributions, settings.starts, Place::Control, Aim::Start)?;
+    collect_each(contributions, settings.stops, Place::Control, Aim::Stop)?;
     collect_stop_where(contributions, settings.stops_with_ball, b"ball_ending")?;
     collect_stop_where(contributions, settings.game, b"game_ending")?;
     Ok(())
 }
 
-/// The events start the mode that came last.
-fn collect_starts<'a>(
-    contributions: &mut Vec<Contribution<'a>>,
-    names: &'a [Name],
-) -> Result<(), AllocError>
-    ensures { OnOk result (contributions_view contributions.new.items ≡ contributions_view contributions.old.items ++ map starter (texts (map name_view names.now))) }
-{
-    for name in names {
-        contributions.push(Contribution::Binds(&name.text, Place::Control, Aim::Start))?;
-    }
-    Ok(())
-}
-
-/// The events stop it.
-fn collect_stops<'a>(
-    contributions: &mut Vec<Contribution<'a>>,
-    names: &'a [Name],
-) -> Result<(), AllocError>
-    ensures { OnOk result (contributions_view contributions.new.items ≡ contributions_view contributions.old.items ++ map stopper (texts (map name_view names.now))) }
-{
-    for name in names {
-        contributions.push(Contribution::Binds(&name.text, Place::Control, Aim::Stop))?;
-    }
-    Ok(())
-}
-
-/// The event stops it, where this holds.
+/// The event stops the mode that came last, where this holds.
 fn collect_stop_where<'a>(
     contributions: &mut Vec<Contribution<'a>>,
     holds: bool,

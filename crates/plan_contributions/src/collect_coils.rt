@@ -3,12 +3,13 @@
 ghost use Rattle.std.specs.Prelude.{◌≡◌, ◌++◌, [], ◌∷◌, map, OnOk};
 ghost use Rattle.mpf_sections.specs.Rows.{SectionRows};
 ghost use Rattle.mpf_sections.specs.TypedCoils.{coil_item_of};
-ghost use Rattle.mpf_sections.specs.View.{keyed_view, name_view, coil_view, coil_item_view, name_at_view, coil_player_view, flipper_view, autofire_view};
+ghost use Rattle.mpf_sections.specs.View.{keyed_view, coil_view, coil_item_view, name_at_view, coil_player_view, flipper_view, autofire_view};
 ghost use Rattle.plan_contributions.specs.CoilEntries.{limits_of_coil, defaults_called, own_pulse, own_hold, deed_by, item_effect, flipper_on, flipper_off, flipper_device, autofire_device};
 ghost use Rattle.plan_contributions.specs.Contributions.{does, does_in, effects_from, device_contributions, coil_contributions, coil_player_contributions};
 ghost use Rattle.plan_contributions.specs.declared.contribution.Place.TheVariants.{Machine};
 ghost use Rattle.plan_contributions.specs.View.{deed_view, defaults_view, contributions_view};
 
+use crate::collect_bound::collect_bound;
 use crate::collect_devices::collect_acts;
 use crate::contribution::{Aim, Contribution, Deed, Effect, Place};
 use machine_definitions::Definitions;
@@ -102,7 +103,7 @@ pub(crate) fn collect_coil_player<'a>(
 ) -> Result<(), AllocError>
     ensures { OnOk result (contributions_view contributions.new.items ≡ contributions_view contributions.old.items ++ coil_player_contributions definitions.now place (coil_player_view row.entry)) }
 {
-    contributions.push(Contribution::Binds(row.event.text, place, Aim::Run))?;
+    collect_bound(contributions, row.event, place, Aim::Run)?;
     collect_items(contributions, definitions, row.items)
 }
 

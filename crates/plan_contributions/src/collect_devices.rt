@@ -1,17 +1,19 @@
 //! What the entries of devices give to a plan: counters, accruals, sequences and timers.
 
 ghost use Rattle.std.specs.Prelude.{◌≡◌, ◌++◌, [], map, OnOk};
+ghost use Rattle.std.specs.List.{flat_map};
 ghost use Rattle.mpf_sections.specs.Typed.{control_of, controls_of, with_control};
-ghost use Rattle.mpf_sections.specs.View.{name_view, names_view, fields_view, entry_view, block_view, counter_view, step_block_view, timer_view};
+ghost use Rattle.mpf_sections.specs.View.{name_view, handler_view, handlers_view, fields_view, entry_view, block_view, counter_view, step_block_view, timer_view};
 ghost use Rattle.plan_contributions.specs.DeviceEntries.{acts, direction_in_plan, is_none, block_settings, block_acts, block_mentions, block_event, or_own, block_lists, counter_settings, counter_device, step_acts, step_settings, step_device, control_act, controlled, timer_event, timer_lists, timer_settings, timer_device, device_of};
 ghost use Rattle.plan_contributions.specs.Contributions.{mentions, does_in, effects_from, posts, texts, act_binding, device_contributions, where_device};
 ghost use Rattle.plan_contributions.specs.View.{parts_text, contributions_view};
 
+use crate::collect_bound::{collect_bound, collect_each};
 use crate::contribution::{Aim, Contribution, Effect, Parts, Place, whole};
 use mpf_config::config::{ControlAction, Direction as WrittenDirection};
 use mpf_config::{
-    ACCRUALS_NAME, Block, COUNTERS_NAME, Counter, Entry, Fields, Name, SEQUENCES_NAME, StepBlock,
-    TIMERS_NAME, Timer, as_control, as_counter, as_step_block, as_timer,
+    ACCRUALS_NAME, Block, COUNTERS_NAME, Counter, Entry, Fields, Handler, Name, SEQUENCES_NAME,
+    StepBlock, TIMERS_NAME, Timer, as_control, as_counter, as_step_block, as_timer,
 };
 use plan_tables::devices::{
     Act, BlockSettings, CounterSettings, Direction, Settings, StepSettings, TimerSettings,
@@ -70,22 +72,19 @@ pub(crate) fn collect_acts<'a>(
     contributions: &mut Vec<Contribution<'a>>,
     place: Place,
     act: Act,
-    names: &'a [Name],
+    handlers: &'a [Handler],
 ) -> Result<(), AllocError>
-    ensures { OnOk result (contributions_view contributions.new.items ≡ contributions_view contributions.old.items ++ map (act_binding place) (acts act (map name_view names.now))) }
+    ensures { OnOk result (contributions_view contributions.new.items ≡ contributions_view contributions.old.items ++ flat_map (act_binding place) (acts act (map handler_view handlers.now))) }
 {
-    for name in names {
-        contributions.push(Contribution::Binds(&name.text, place, Aim::Do(act)))?;
-    }
-    Ok(())
+    collect_each(contributions, handlers, place, Aim::Do(act))
 }
 
 // ---- logic blocks
 
-fn is_none(names: &[Name]) -> bool
-    ensures { result ≡ is_none (map name_view names.now) }
+fn is_none<T>(items: &[T]) -> bool
+    ensures { result ≡ is_none items.now }
 {
-    match names {
+    match items {
         [] => true,
         _ => false,
     }
@@ -108,7 +107,7 @@ fn collect_block_acts<'a>(
     place: Place,
     block: Block<'a>,
 ) -> Result<(), AllocError>
-    ensures { OnOk result (contributions_view contributions.new.items ≡ contributions_view contributions.old.items ++ map (act_binding place) (block_acts (block_view block.entry))) }
+    ensures { OnOk result (contributions_view contributions.new.items ≡ contributions_view contributions.old.items ++ flat_map (act_binding place) (block_acts (block_view block.entry))) }
 {
     collect_acts(contributions, place, Act::Enable, block.enables)?;
     collect_acts(contributions, place, Act::Disable, block.disables)?;
@@ -139,7 +138,7 @@ fn collect_mentions<'a>(
     ensures { OnOk result (contributions_view contributions.new.items ≡ contributions_view contributions.old.items ++ map mentions (texts (map name_view names.now))) }
 {
     for name in names {
-        contributions.push(Contribution::Mentions(&name.text))?;
+        contributions.push(Contribution::Mentions(whole(&name.text)))?;
     }
     Ok(())
 }
@@ -265,9 +264,9 @@ fn collect_step_block<'a>(
 fn collect_steps<'a>(
     contributions: &mut Vec<Contribution<'a>>,
     place: Place,
-    steps: &'a [Vec<Name>],
+    steps: &'a [Vec<Handler>],
 ) -> Result<(), AllocError>
-    ensures { OnOk result (contributions_view contributions.new.items ≡ contributions_view contributions.old.items ++ map (act_binding place) (step_acts 0 (map names_view steps.now))) }
+    ensures { OnOk result (contributions_view contributions.new.items ≡ contributions_view contributions.old.items ++ flat_map (act_binding place) (step_acts 0 (map handlers_view steps.now))) }
 {
     for number in 0..steps.len() {
         collect_acts(contributions, place, Act::Step(number), &steps[number])?;
@@ -310,7 +309,7 @@ fn collect_timer_acts<'a>(
     place: Place,
     maps: &'a [Fields],
 ) -> Result<(), AllocError>
-    ensures { OnOk result (contributions_view contributions.new.items ≡ contributions_view contributions.old.items ++ map (act_binding place) (map controlled (controls_of (map fields_view maps.now)))) }
+    ensures { OnOk result (contributions_view contributions.new.items ≡ contributions_view contributions.old.items ++ flat_map (act_binding place) (map controlled (controls_of (map fields_view maps.now)))) }
 {
     for fields in maps {
         collect_control(contributions, place, fields)?;
@@ -323,14 +322,13 @@ fn collect_control<'a>(
     place: Place,
     fields: &'a Fields,
 ) -> Result<(), AllocError>
-    ensures { OnOk result (contributions_view contributions.new.items ≡ contributions_view contributions.old.items ++ map (act_binding place) (map controlled (with_control (control_of (fields_view fields.now)) []))) }
+    ensures { OnOk result (contributions_view contributions.new.items ≡ contributions_view contributions.old.items ++ flat_map (act_binding place) (map controlled (with_control (control_of (fields_view fields.now)) []))) }
 {
     let Some(control) = as_control(fields) else {
         return Ok(());
     };
     let act = control_act(control.action, control.value);
-    contributions.push(Contribution::Binds(control.event.text, place, Aim::Do(act)))?;
-    Ok(())
+    collect_bound(contributions, control.event, place, Aim::Do(act))
 }
 
 /// What a control does, with its value.

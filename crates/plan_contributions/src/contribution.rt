@@ -3,10 +3,12 @@
 ghost use Rattle.std.specs.Prelude.{◌≡◌, Some, option_map, OnOk, ◌++◌};
 ghost use Rattle.plan_contributions.specs.UsedNames.{used_by, used, given};
 ghost use Rattle.plan_contributions.specs.Contributions.{event_ending, mode_event_name};
+ghost use Rattle.machine_definitions.specs.Players.{player_event};
 ghost use Rattle.plan_contributions.specs.View.{parts_text, named_view, effect_view, contribution_view};
 
+use plan_tables::Comparison;
 use plan_tables::devices::{Act, Settings};
-use plan_tables::entries::{CoilLimits, ModeEvent, SwitchKind};
+use plan_tables::entries::{CoilLimits, ModeEvent, SwitchKind, VariableAction};
 use plan_tables::table::Table;
 use std::alloc::AllocError;
 
@@ -63,6 +65,8 @@ pub enum Effect<'a> {
     Post(Parts<'a>),
     /// It does this with the coil of this name.
     Coil(&'a [u8], Deed),
+    /// It does this with the variable of this name, with a number.
+    Variable(&'a [u8], VariableAction, i64),
 }
 
 /// One thing that a row gives to a plan. What comes last depends on the order: it is the last that
@@ -92,9 +96,19 @@ pub enum Contribution<'a> {
     /// The row that came last listens to the switch of this name, as its switch of this number.
     Listens(usize, &'a [u8]),
     /// A setting names the event.
-    Mentions(&'a [u8]),
+    Mentions(Parts<'a>),
     /// A coil: its name, and what it may be sent.
     Coil(&'a [u8], CoilLimits),
+    /// The binding that came last is under a condition: the variable of this name compares so with
+    /// the number.
+    Under(&'a [u8], Comparison, i64),
+    /// The rules of the game: how many balls have to be at home for it to begin, how many each
+    /// player has, and how many players there can be.
+    Plays {
+        min_balls: u32,
+        balls_per_game: u32,
+        max_players: u32,
+    },
 }
 
 /// A name as it is written.
@@ -132,6 +146,17 @@ pub fn mode_event_name(which: ModeEvent, name: &[u8]) -> Parts<'_>
     }
 }
 
+/// The name of the event that is posted when the variable of this name changes.
+pub fn player_event(variable: &[u8]) -> Parts<'_>
+    ensures { parts_text result ≡ player_event variable.now }
+{
+    Parts {
+        front: b"player_",
+        middle: b"",
+        end: variable,
+    }
+}
+
 /// Writes the name in place of what the text was.
 pub fn write_name(text: &mut Vec<u8>, name: Parts) -> Result<(), AllocError>
     ensures { OnOk result (text.new.items ≡ parts_text name.entry) }
@@ -149,6 +174,7 @@ fn used_by(effect: Effect<'_>) -> (Table, Parts<'_>)
     match effect {
         Effect::Post(name) => (Table::Events, name),
         Effect::Coil(name, _) => (Table::Coils, whole(name)),
+        Effect::Variable(name, _, _) => (Table::Variables, whole(name)),
     }
 }
 
@@ -169,7 +195,8 @@ pub fn used<'a>(contribution: &Contribution<'a>) -> Option<(Table, Parts<'a>)>
         Contribution::DoesIn(_, effect) => Some(used_by(effect)),
         Contribution::Listens(_, name) => Some((Table::Switches, whole(name))),
         Contribution::Coil(name, _) => Some((Table::Coils, whole(name))),
-        Contribution::Mentions(name) => Some((Table::Events, whole(name))),
+        Contribution::Mentions(name) => Some((Table::Events, name)),
+        Contribution::Under(name, _, _) => Some((Table::Variables, whole(name))),
         _ => None,
     }
 }

@@ -7,12 +7,16 @@
 #![tactic(auto)]
 
 pub mod collect;
+mod collect_bound;
 mod collect_coils;
 mod collect_devices;
+mod collect_game;
+mod collect_variables;
 pub mod contribution;
 
 pub use collect::{Row, collect_row, rows_of};
 pub use collect_devices::direction_in_plan;
 pub use contribution::{
-    Aim, Contribution, Deed, Effect, Parts, Place, given, mode_event_name, used, whole, write_name,
+    Aim, Contribution, Deed, Effect, Parts, Place, given, mode_event_name, player_event, used,
+    whole, write_name,
 };

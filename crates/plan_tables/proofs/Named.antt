@@ -1,13 +1,14 @@
--- What the events, switches and coils of a name are.
+-- What the events, variables, switches and coils of a name are.
 use Rattle.std.proofs.Common.{◌≡◌, ℕ, ◌<◌, ◌≢◌, List, [], length, slice_get, slice_index_or, Option, Some, None, Contains, refl, sym, ◌∙◌, ap}
 use Rattle.std.specs.Str.{bytes_eq}
 use Rattle.std.specs.List.{position}
 use Rattle.std.specs.Option.{option_map}
 use Rattle.std.proofs.lemmas.Option.{none-some, same_Some, slice_get-get_or}
 use Rattle.plan_tables.specs.declared.entries.EventId.{EventId}
+use Rattle.plan_tables.specs.declared.entries.VariableId.{VariableId}
 use Rattle.plan_tables.specs.declared.entries.SwitchId.{SwitchId}
 use Rattle.plan_tables.specs.declared.entries.CoilId.{CoilId}
-use Rattle.plan_tables.specs.PlanView.{PlanView, PlanSwitch, PlanCoil, event_named, no_switch, switch_at, switch_named, no_coil, coil_at, coil_named}
+use Rattle.plan_tables.specs.PlanView.{PlanView, PlanSwitch, PlanCoil, event_named, variable_named, no_switch, switch_at, switch_named, no_coil, coil_at, coil_named}
 use Rattle.plan_tables.proofs.Places.{found_at, found_within, absent}
 
 module _ {X : Type 0} (number : ℕ → X) (place : X → ℕ) (back : (n : ℕ) → place (number n) ≡ n) where
@@ -19,21 +20,33 @@ module _ {X : Type 0} (number : ℕ → X) (place : X → ℕ) (back : (n : ℕ)
   unnumbered None e = refl
   unnumbered (Some n) e = absurd (none-some (number n) (sym e))
 
-module _ (plan : PlanView) (name : List ℕ) where
-  event_place : (e : EventId) → event_named plan name ≡ Some e → position (bytes_eq name) plan.events ≡ Some e.0
-  event_place e = numbered (λ n. record { 0 = n }) (λ (x : EventId). x.0) (λ n. refl) (position (bytes_eq name) plan.events) e
+  -- among names at their numbers, what is found has the name
+  found : (names : List (List ℕ)) (name : List ℕ) (x : X) → option_map number (position (bytes_eq name) names) ≡ Some x → slice_get names (place x) ≡ Some name
+  found names name x named =
+      let at = numbered (position (bytes_eq name) names) x named in
+      let within = found_within (λ y. y) name names (place x) at in
+      slice_get-get_or names (place x) [] within ∙ ap Some (found_at (λ y. y) name names (place x) [] at)
 
+  -- and where nothing is found, nothing has it
+  not_found : (names : List (List ℕ)) (name : List ℕ) → option_map number (position (bytes_eq name) names) ≡ None → ¬ (Contains names name)
+  not_found names name none (i, within, is) = absent (λ y. y) name names (unnumbered (position (bytes_eq name) names) none) i name within is
+
+module _ (plan : PlanView) (name : List ℕ) where
   -- the event of a name has it
   pub event_found : (e : EventId) → event_named plan name ≡ Some e → slice_get plan.events e.0 ≡ Some name
-  event_found e named =
-      let at = event_place e named in
-      let within = found_within (λ x. x) name plan.events e.0 at in
-      slice_get-get_or plan.events e.0 [] within ∙ ap Some (found_at (λ x. x) name plan.events e.0 [] at)
+  event_found = found (λ n. record { 0 = n }) (λ (x : EventId). x.0) (λ n. refl) plan.events name
 
   -- where a name has no event, no event has the name
   pub event_absent : event_named plan name ≡ None → ¬ (Contains plan.events name)
-  event_absent none (i, within, is) =
-      absent (λ x. x) name plan.events (unnumbered (λ n. record { 0 = n }) (λ (x : EventId). x.0) (λ n. refl) (position (bytes_eq name) plan.events) none) i name within is
+  event_absent = not_found (λ n. record { 0 = n }) (λ (x : EventId). x.0) (λ n. refl) plan.events name
+
+  -- the variable of a name has it
+  pub variable_found : (v : VariableId) → variable_named plan name ≡ Some v → slice_get plan.variables v.0 ≡ Some name
+  variable_found = found (λ n. record { 0 = n }) (λ (x : VariableId). x.0) (λ n. refl) plan.variables name
+
+  -- where a name has no variable, no variable has the name
+  pub variable_absent : variable_named plan name ≡ None → ¬ (Contains plan.variables name)
+  variable_absent = not_found (λ n. record { 0 = n }) (λ (x : VariableId). x.0) (λ n. refl) plan.variables name
 
   switch_place : (s : SwitchId) → switch_named plan name ≡ Some s → position (λ s. bytes_eq name s.name) plan.switches ≡ Some s.0
   switch_place s = numbered (λ n. record { 0 = n }) (λ (x : SwitchId). x.0) (λ n. refl) (position (λ s. bytes_eq name s.name) plan.switches) s

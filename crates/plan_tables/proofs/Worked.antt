@@ -1,6 +1,9 @@
 -- The work of each event, one event after the other.
-use Rattle.std.proofs.Common.{◌≡◌, ℕ, suc, ◌+◌, ◌<◌, ◌-◌, ◌≤◌, ◌==◌, Bool, true, false, cond, List, [], ◌∷◌, length, get_or, Option, Some, None, unwrap_or, rules, refl, ◌∙◌, ap, arith}
-use Rattle.std.proofs.lemmas.Bool.{eqb-true}
+use Rattle.std.proofs.Common.{◌≡◌, ℕ, zero, suc, ◌+◌, ◌<◌, ◌-◌, ◌≤◌, ◌==◌, Bool, true, false, cond, ◌&&◌, List, [], ◌∷◌, length, get_or, slice_get, Option, Some, None, is_some, unwrap_or, rules, refl, sym, ◌∙◌, ap, arith}
+use Rattle.std.specs.List.{position}
+use Rattle.std.proofs.lemmas.Bool.{eqb-true, and_parts}
+use Rattle.std.proofs.lemmas.Option.{none-some}
+use Rattle.std.proofs.lemmas.List.Quantifiers.{position-Some}
 use Rattle.std.proofs.lemmas.List.FromFn.{length-map-range_with_len, get_or-map-range_with_len}
 use Rattle.plan_tables.specs.declared.entries.EventId.{EventId}
 use Rattle.plan_tables.specs.declared.entries.ModeId.{ModeId}
@@ -9,8 +12,11 @@ use Rattle.plan_tables.specs.declared.entries.ModeEvent.TheVariants.{WillStart, 
 use Rattle.plan_tables.specs.declared.entries.ModeEvents.{ModeEvents}
 use Rattle.plan_tables.specs.declared.entries.Work.{Work}
 use Rattle.plan_tables.specs.declared.entries.Work.TheVariants as works
-use Rattle.plan_tables.specs.PlanView.{PlanMode, PlanView, no_mode, event_among, which_event, work_or, work_from, work_of}
-use Rattle.plan_tables.specs.Valid.{IsWorkAt}
+use Rattle.plan_tables.specs.declared.entries.GameEvent.{GameEvent}
+use Rattle.plan_tables.specs.declared.entries.GameRules.{GameRules}
+use Rattle.plan_tables.specs.GameEvents.{game_events, order_of}
+use Rattle.plan_tables.specs.PlanView.{PlanMode, PlanView, no_event, no_mode, event_among, which_event, work_or, work_from, work_in_game, placed_in_game, game_work, or_work, work_of, event_of_game, game_event}
+use Rattle.plan_tables.specs.Valid.{HasGame, IsWorkAt}
 use Rattle.plan_tables.specs.Inside.{HasWorks}
 
 module _ (plan : PlanView) (works : List Work) (has : HasWorks plan works) where
@@ -55,10 +61,12 @@ mode_from n modes m = get_or modes (m.0 - n) no_mode
 -- what work says, where these are the modes from number n on
 abbrev IsFoundFrom : ℕ → List PlanMode → EventId → Work → Type 0
 IsFoundFrom n modes e works.Nothing = Unit {0}
+IsFoundFrom n modes e (works.Game which) = ⊥
 IsFoundFrom n modes e (works.Mode m which) = (n ≤ m.0) × (m.0 < n + length modes) × (e ≡ event_among (mode_from n modes m).mode.events which)
 
 found-later : (n : ℕ) (x : PlanMode) (modes : List PlanMode) (e : EventId) (w : Work) → IsFoundFrom (suc n) modes e w → IsFoundFrom n (x ∷ modes) e w
 found-later n x modes e works.Nothing h = tt
+found-later n x modes e (works.Game which) h = h
 found-later n x modes e (works.Mode m which) h =
     let least = h.0 in
     let most = h.1 in
@@ -81,12 +89,51 @@ found_from n [] e = tt
 found_from n (x ∷ modes) e =
     found-first n x modes e (which_event x.mode.events e) (work_from (suc n) modes e) (which-is x.mode.events e) (found-later n x modes e (work_from (suc n) modes e) (found_from (suc n) modes e))
 
+-- ---- where an event has work in the game, it is an event of the game
+
+-- whether each event stands at its place in the order of the game's events, from number n on
+abbrev are_ordered_from : ℕ → List GameEvent → Bool
+are_ordered_from n [] = true
+are_ordered_from n (x ∷ xs) = (order_of x == n) && are_ordered_from (suc n) xs
+
+ordered_from : (n : ℕ) (events : List GameEvent) → are_ordered_from n events ≡ true → (i : ℕ) (which : GameEvent) → slice_get events i ≡ Some which → order_of which ≡ n + i
+ordered_from n [] ordered i which at = absurd (none-some which at)
+ordered_from n (x ∷ xs) ordered zero which at = ap order_of (sym (same_some x which at)) ∙ eqb-true (order_of x) n (and_parts (order_of x == n) (are_ordered_from (suc n) xs) ordered).0 ∙ omega arith
+ordered_from n (x ∷ xs) ordered (suc i) which at =
+    let later = ordered_from (suc n) xs (and_parts (order_of x == n) (are_ordered_from (suc n) xs) ordered).1 i which at in
+    omega (arith, later)
+
+game_event_at : (i : ℕ) (which : GameEvent) → slice_get game_events i ≡ Some which → order_of which ≡ i
+game_event_at i which at = let same = ordered_from 0 game_events refl i which at in omega (arith, same)
+
+module _ (plan : PlanView) (e : EventId) where
+  game_found-at : (rules : GameRules) → plan.game ≡ Some rules → (i : ℕ) → position (λ f. f.0 == e.0) rules.events ≡ Some i
+      → (which : GameEvent) → slice_get game_events i ≡ Some which → HasGame plan × (e ≡ game_event plan which)
+  game_found-at rules has i at which is =
+      let stands = (position-Some (λ (f : EventId). f.0 == e.0) rules.events i no_event at).1 in
+      let here = sym (number_same (get_or rules.events i no_event) e stands) ∙ ap (λ k. get_or rules.events k no_event) (sym (game_event_at i which is)) in
+      (ap is_some has, here ∙ ap (λ game. event_of_game game which) (sym has))
+
+  game_found-where : (rules : GameRules) → plan.game ≡ Some rules → (i : ℕ) → position (λ f. f.0 == e.0) rules.events ≡ Some i
+      → (o : Option GameEvent) → slice_get game_events i ≡ o → IsWorkAt plan e (work_in_game o)
+  game_found-where rules has i at None is = tt
+  game_found-where rules has i at (Some which) is = game_found-at rules has i at which is
+
+  game_found-placed : (rules : GameRules) → plan.game ≡ Some rules → (o : Option ℕ) → position (λ f. f.0 == e.0) rules.events ≡ o → IsWorkAt plan e (work_in_game (placed_in_game o))
+  game_found-placed rules has None at = tt
+  game_found-placed rules has (Some i) at = game_found-where rules has i at (slice_get game_events i) refl
+
+  game_found : (game : Option GameRules) → plan.game ≡ game → IsWorkAt plan e (game_work game e)
+  game_found None has = tt
+  game_found (Some rules) has = game_found-placed rules has (position (λ f. f.0 == e.0) rules.events) refl
+
 -- work is found at the event that it names
 pub work_found : (plan : PlanView) (e : EventId) → IsWorkAt plan e (work_of plan e)
-work_found plan e = by (work_of plan e) (found_from 0 plan.modes e)
+work_found plan e = by (work_from 0 plan.modes e) (found_from 0 plan.modes e)
   where
-    by : (w : Work) → IsFoundFrom 0 plan.modes e w → IsWorkAt plan e w
-    by works.Nothing h = tt
+    by : (w : Work) → IsFoundFrom 0 plan.modes e w → IsWorkAt plan e (or_work w (game_work plan.game e))
+    by works.Nothing h = game_found plan e plan.game refl
+    by (works.Game which) h = absurd h
     by (works.Mode m which) h = let most = h.1 in (omega (arith, most), h.2 ∙ ap (λ k. event_among (get_or plan.modes k no_mode).mode.events which) (whole m.0))
       where
         whole : (k : ℕ) → k - 0 ≡ k

@@ -10,7 +10,7 @@ use Rattle.plan_tables.specs.declared.entries.Action.{Action}
 use Rattle.plan_tables.specs.declared.entries.BindingId.{BindingId}
 use Rattle.plan_tables.specs.declared.entries.Work.{Work}
 use Rattle.plan_tables.specs.declared.table.Table.{Table}
-use Rattle.plan_tables.specs.declared.table.Table.TheVariants.{Events, Switches, Coils}
+use Rattle.plan_tables.specs.declared.table.Table.TheVariants.{Events, Switches, Coils, Variables}
 use Rattle.plan_tables.specs.declared.tables.Tables.{Tables}
 use Rattle.plan_tables.specs.declared.tables.Plan.TheInside.{Inside}
 use Rattle.plan_tables.specs.Limits.{order_of}
@@ -61,6 +61,8 @@ tables_view t = record {
   bindings = t.bindings.items;
   rows = t.rows.items;
   row_lists = t.row_lists.items;
+  variables = name_sets_view t.names Variables;
+  game = t.game;
 }
 
 abbrev pub plan_view : Inside → PlanView

@@ -1,4 +1,5 @@
 pub mod Devices
+pub mod GameEvents
 pub mod PlanView
 pub mod Limits
 pub mod Valid

@@ -1,5 +1,5 @@
 -- A plan, apart from where it lies in memory.
-use Rattle.std.specs.Prelude.{ℕ, suc, ◌+◌, ◌==◌, List, [], ◌∷◌, ◌++◌, Bool, true, false, Option, Some, None, if◌then◌else◌, length, map, filter, slice_index_or, position, option_map}
+use Rattle.std.specs.Prelude.{ℕ, suc, ◌+◌, ◌==◌, List, [], ◌∷◌, ◌++◌, Bool, true, false, Option, Some, None, if◌then◌else◌, length, map, filter, slice_get, slice_index_or, position, option_map}
 use Rattle.std.specs.List.{range_with_len, flat_map, list_any}
 use Rattle.std.specs.Str.{bytes_eq}
 use Rattle.plan_tables.specs.declared.entries.Contact.TheVariants.{NormallyOpen}
@@ -14,6 +14,10 @@ use Rattle.plan_tables.specs.declared.entries.ModeId.{ModeId}
 use Rattle.plan_tables.specs.declared.entries.ModeEvent.{ModeEvent}
 use Rattle.plan_tables.specs.declared.entries.ModeEvent.TheVariants.{WillStart, Starting, Started, Stopping, Stopped}
 use Rattle.plan_tables.specs.declared.entries.ModeEvents.{ModeEvents}
+use Rattle.plan_tables.specs.declared.entries.VariableId.{VariableId}
+use Rattle.plan_tables.specs.declared.entries.GameEvent.{GameEvent}
+use Rattle.plan_tables.specs.declared.entries.GameRules.{GameRules}
+use Rattle.plan_tables.specs.GameEvents.{game_events, order_of}
 use Rattle.plan_tables.specs.declared.entries.Work.{Work}
 use Rattle.plan_tables.specs.declared.entries.Work.TheVariants as works
 use Rattle.plan_tables.specs.declared.entries.ListId.{ListId}
@@ -94,6 +98,10 @@ pub record PlanView : Type 0 where
   pub rows : List DeviceRow
   -- for each row the first of its effect lists; the others follow it
   pub row_lists : List ListId
+  -- the names of the variables, at their numbers
+  pub variables : List (List ℕ)
+  -- the rules of the game, where there is one
+  pub game : Option GameRules
 
 -- the name of an event
 abbrev pub name_of_event : PlanView → EventId → List ℕ
@@ -102,6 +110,14 @@ name_of_event plan e = slice_index_or plan.events e.0 []
 -- the event of a name, if there is one
 abbrev pub event_named : PlanView → List ℕ → Option EventId
 event_named plan name = option_map (λ n. record { 0 = n }) (position (bytes_eq name) plan.events)
+
+-- the name of a variable
+abbrev pub name_of_variable : PlanView → VariableId → List ℕ
+name_of_variable plan v = slice_index_or plan.variables v.0 []
+
+-- the variable of a name, if there is one
+abbrev pub variable_named : PlanView → List ℕ → Option VariableId
+variable_named plan name = option_map (λ n. record { 0 = n }) (position (bytes_eq name) plan.variables)
 
 -- a mode by its number
 abbrev pub mode_at : PlanView → ModeId → PlanMode
@@ -137,9 +153,47 @@ abbrev pub work_from : ℕ → List PlanMode → EventId → Work
 work_from n [] e = works.Nothing
 work_from n (m ∷ ms) e = work_or n (which_event m.mode.events e) (work_from (suc n) ms e)
 
+-- ---- the game
+
+-- this one of the game's events
+abbrev pub event_in_game : GameRules → GameEvent → EventId
+event_in_game rules which = slice_index_or rules.events (order_of which) no_event
+
+-- the work of an event at a place of the game's events; or none
+abbrev pub work_in_game : Option GameEvent → Work
+work_in_game None = works.Nothing
+work_in_game (Some which) = works.Game which
+
+abbrev pub placed_in_game : Option ℕ → Option GameEvent
+placed_in_game None = None
+placed_in_game (Some place) = slice_get game_events place
+
+-- the work of an event in the game
+abbrev pub game_work : Option GameRules → EventId → Work
+game_work None e = works.Nothing
+game_work (Some rules) e = work_in_game (placed_in_game (position (λ f. f.0 == e.0) rules.events))
+
+-- the first of two works that is one
+abbrev pub or_work : Work → Work → Work
+or_work works.Nothing rest = rest
+or_work (works.Mode m which) rest = works.Mode m which
+or_work (works.Game which) rest = works.Game which
+
+-- what the machine itself does at an event, where these are the modes and the rules of the game
+abbrev pub work_among : List PlanMode → Option GameRules → EventId → Work
+work_among modes game e = or_work (work_from 0 modes e) (game_work game e)
+
 -- what the machine itself does when it takes an event
 abbrev pub work_of : PlanView → EventId → Work
-work_of plan e = work_from 0 plan.modes e
+work_of plan e = work_among plan.modes plan.game e
+
+-- this one of the game's events, where there is a game
+abbrev pub event_of_game : Option GameRules → GameEvent → EventId
+event_of_game None which = no_event
+event_of_game (Some rules) which = event_in_game rules which
+
+abbrev pub game_event : PlanView → GameEvent → EventId
+game_event plan which = event_of_game plan.game which
 
 -- a switch by its number
 abbrev pub switch_at : PlanView → SwitchId → PlanSwitch
@@ -171,7 +225,7 @@ actions_at plan l = slice_index_or plan.lists l.0 []
 
 -- in place of a binding where there is none
 abbrev pub no_binding : Binding
-no_binding = record { event = record { 0 = 0 }; owner = Machine; priority = 0; target = Run (record { 0 = 0 }) }
+no_binding = record { event = record { 0 = 0 }; owner = Machine; priority = 0; condition = None; target = Run (record { 0 = 0 }) }
 
 -- a binding by its place
 abbrev pub binding_at : PlanView → BindingId → Binding

@@ -1,24 +1,27 @@
 -- What holds of every plan: each number in it is that of an entry, no two entries of a table have one name, and no table is above its limit.
-use Rattle.std.specs.Prelude.{ℕ, ◌+◌, ◌≡◌, ◌<◌, ◌≤◌, ◌≢◌, length}
+use Rattle.std.specs.Prelude.{ℕ, ◌+◌, ◌≡◌, ◌<◌, ◌≤◌, ◌≢◌, Option, IsSome, IfSome, length}
 use Rattle.std.specs.List.{All, AllPairs}
 use Rattle.plan_tables.specs.declared.entries.EventId.{EventId}
 use Rattle.plan_tables.specs.declared.entries.Owner.{Owner}
 use Rattle.plan_tables.specs.declared.entries.Owner.TheVariants.{Machine, Mode}
 use Rattle.plan_tables.specs.declared.entries.Action.{Action}
-use Rattle.plan_tables.specs.declared.entries.Action.TheVariants.{Post, Pulse, Enable, Disable}
+use Rattle.plan_tables.specs.declared.entries.Action.TheVariants.{Post, Pulse, Enable, Disable, Change}
+use Rattle.plan_tables.specs.declared.entries.Condition.{Condition}
+use Rattle.plan_tables.specs.declared.entries.GameEvent.{GameEvent}
+use Rattle.plan_tables.specs.declared.entries.GameRules.{GameRules}
 use Rattle.plan_tables.specs.declared.entries.Listener.{Listener}
 use Rattle.plan_tables.specs.declared.entries.Target.{Target}
 use Rattle.plan_tables.specs.declared.entries.Target.TheVariants.{Run, Start, Stop, Act}
 use Rattle.plan_tables.specs.declared.entries.ModeId.{ModeId}
 use Rattle.plan_tables.specs.declared.entries.ModeEvent.{ModeEvent}
 use Rattle.plan_tables.specs.declared.entries.Work.{Work}
-use Rattle.plan_tables.specs.declared.entries.Work.TheVariants as works
+use Rattle.plan_tables.specs.declared.entries.Work.TheVariants as work_kinds
 use Rattle.plan_tables.specs.declared.entries.Binding.{Binding}
 use Rattle.plan_tables.specs.declared.devices.RowId.{RowId}
 use Rattle.plan_tables.specs.declared.table.Table.{Table}
 use Rattle.plan_tables.specs.Devices.{IsWithinLimits, list_count}
 use Rattle.plan_tables.specs.Limits.{entry_names}
-use Rattle.plan_tables.specs.PlanView.{PlanMode, PlanSwitch, PlanCoil, PlanView, list_of_row, mode_event, row_at, work_of}
+use Rattle.plan_tables.specs.PlanView.{PlanMode, PlanSwitch, PlanCoil, PlanView, game_event, list_of_row, mode_event, row_at, work_of}
 
 abbrev pub IsEventWithin : ℕ → EventId → Type 0
 IsEventWithin events e = e.0 < events
@@ -31,11 +34,16 @@ pub record IsModeWithin (events : ℕ) (m : PlanMode) : Type 0 where
   pub stopping : IsEventWithin events m.mode.events.stopping
   pub stopped : IsEventWithin events m.mode.events.stopped
 
+-- the plan has a game
+abbrev pub HasGame : PlanView → Type 0
+HasGame plan = IsSome plan.game
+
 abbrev pub IsActionWithin : PlanView → Action → Type 0
 IsActionWithin plan (Post e) = e.0 < length plan.events
 IsActionWithin plan (Pulse coil ms power) = coil.0 < length plan.coils
 IsActionWithin plan (Enable coil power) = coil.0 < length plan.coils
 IsActionWithin plan (Disable coil) = coil.0 < length plan.coils
+IsActionWithin plan (Change v action n e) = (v.0 < length plan.variables) × (e.0 < length plan.events)
 
 abbrev pub IsTargetWithin : PlanView → Target → Type 0
 IsTargetWithin plan (Run l) = l.0 < length plan.lists
@@ -47,8 +55,12 @@ abbrev pub IsOwnerWithin : PlanView → Owner → Type 0
 IsOwnerWithin plan Machine = Unit {0}
 IsOwnerWithin plan (Mode m) = m.0 < length plan.modes
 
+-- the variable of a condition
+abbrev pub IsConditionWithin : PlanView → Option Condition → Type 0
+IsConditionWithin plan condition = IfSome condition (λ c. c.variable.0 < length plan.variables)
+
 abbrev pub IsBindingWithin : PlanView → Binding → Type 0
-IsBindingWithin plan b = (b.event.0 < length plan.events) × IsOwnerWithin plan b.owner × IsTargetWithin plan b.target
+IsBindingWithin plan b = (b.event.0 < length plan.events) × IsOwnerWithin plan b.owner × IsTargetWithin plan b.target × IsConditionWithin plan b.condition
 
 abbrev pub IsSwitchWithin : ℕ → PlanSwitch → Type 0
 IsSwitchWithin events s = All (IsEventWithin events) s.active × All (IsEventWithin events) s.inactive
@@ -63,16 +75,26 @@ pub record IsCoilWithin (c : PlanCoil) : Type 0 where
   pub pulse_power : c.limits.max_pulse_power ≤ 1000
   pub hold_power : c.limits.max_hold_power ≤ 1000
 
+-- the events of the game, and its rules
+pub record IsGameWithin (events : ℕ) (rules : GameRules) : Type 0 where
+  pub within : All (IsEventWithin events) rules.events
+  pub min_balls : rules.min_balls ≤ 99
+  pub some_ball : 1 ≤ rules.balls_per_game
+  pub balls : rules.balls_per_game ≤ 99
+  pub some_player : 1 ≤ rules.max_players
+  pub players : rules.max_players ≤ 4
+
 -- a row is at its number, its owner is there, and it has its effect lists
 pub record IsRowWithin (plan : PlanView) (r : RowId) : Type 0 where
   pub number : (row_at plan r).number ≡ r
   pub owner : IsOwnerWithin plan (row_at plan r).owner
   pub lists : (list_of_row plan r 0).0 + list_count (row_at plan r).settings ≤ length plan.lists
 
--- where an event has work, it is this event of a mode of the plan
+-- where an event has work, it is this event of a mode of the plan, or of its game
 abbrev pub IsWorkAt : PlanView → EventId → Work → Type 0
-IsWorkAt plan e works.Nothing = Unit {0}
-IsWorkAt plan e (works.Mode m which) = (m.0 < length plan.modes) × (e ≡ mode_event plan m which)
+IsWorkAt plan e work_kinds.Nothing = Unit {0}
+IsWorkAt plan e (work_kinds.Mode m which) = (m.0 < length plan.modes) × (e ≡ mode_event plan m which)
+IsWorkAt plan e (work_kinds.Game which) = HasGame plan × (e ≡ game_event plan which)
 
 -- every number in the plan is that of an entry, whether the tables are within their limits or not
 pub record HasEntries (plan : PlanView) : Type 0 where
@@ -83,6 +105,7 @@ pub record HasEntries (plan : PlanView) : Type 0 where
   pub lists : All (All (IsActionWithin plan)) plan.lists
   pub bindings : All (IsBindingWithin plan) plan.bindings
   pub rows : (r : RowId) → r.0 < length plan.rows → IsRowWithin plan r
+  pub game : IfSome plan.game (IsGameWithin (length plan.events))
 
 pub record IsValid (plan : PlanView) : Type 0 where
   pub mode_limit : length plan.modes ≤ 64
@@ -90,6 +113,7 @@ pub record IsValid (plan : PlanView) : Type 0 where
   pub binding_limit : length plan.bindings ≤ 16384
   pub switch_limit : length plan.switches ≤ 256
   pub coil_limit : length plan.coils ≤ 256
+  pub variable_limit : length plan.variables ≤ 256
   -- one of each binding, and at most five of each row
   pub list_limit : length plan.lists ≤ 21504
   pub row_limit : length plan.rows ≤ 1024
@@ -102,4 +126,6 @@ pub record IsValid (plan : PlanView) : Type 0 where
   pub names : (t : Table) → AllPairs (λ x y. x ≢ y) (entry_names plan t)
   pub entries : HasEntries plan
   -- each mode has five events of its own
-  pub works : (m : ModeId) (which : ModeEvent) → m.0 < length plan.modes → work_of plan (mode_event plan m which) ≡ works.Mode m which
+  pub works : (m : ModeId) (which : ModeEvent) → m.0 < length plan.modes → work_of plan (mode_event plan m which) ≡ work_kinds.Mode m which
+  -- and the game has 21 events of its own
+  pub game_works : (which : GameEvent) → HasGame plan → work_of plan (game_event plan which) ≡ work_kinds.Game which

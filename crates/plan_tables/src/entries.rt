@@ -1,6 +1,7 @@
 //! The entries of a plan's tables.
 
 use crate::devices::{Act, RowId};
+use mpf_values::Comparison;
 
 /// An event, by its number in order of first use: below 4,096.
 #[derive(Clone, Copy, Debug, PartialEq, Eq)]
@@ -43,6 +44,27 @@ pub struct CoilLimits {
     pub max_hold_power: u16,
     /// Whether the coil may be held at all: enabled until it is disabled.
     pub may_hold: bool,
+}
+
+/// A variable of the players, by its number in order of first use: below 256.
+#[derive(Clone, Copy, Debug, PartialEq, Eq)]
+pub struct VariableId(pub u16);
+
+/// What is done with a variable.
+#[derive(Clone, Copy, Debug)]
+pub enum VariableAction {
+    /// The number is added to it.
+    Add,
+    /// It becomes the number.
+    Set,
+}
+
+/// That a variable of the current player compares so with a number.
+#[derive(Clone, Copy, Debug)]
+pub struct Condition {
+    pub variable: VariableId,
+    pub comparison: Comparison,
+    pub number: i64,
 }
 
 /// An effect list, by its number: below 21,504.
@@ -93,6 +115,84 @@ pub struct Mode {
     pub events: ModeEvents,
 }
 
+/// Which of the events of the game.
+#[derive(Clone, Copy, Debug, Default, PartialEq, Eq)]
+pub enum GameEvent {
+    /// `sw_start`: a switch with the tag `start` becomes active.
+    #[default]
+    SwStart,
+    GameWillStart,
+    GameStarting,
+    PlayerAdded,
+    GameStarted,
+    PlayerTurnWillStart,
+    PlayerTurnStarting,
+    PlayerTurnStarted,
+    BallWillStart,
+    BallStarting,
+    BallStarted,
+    BallDrain,
+    BallWillEnd,
+    BallEnding,
+    BallEnded,
+    PlayerTurnWillEnd,
+    PlayerTurnEnding,
+    PlayerTurnEnded,
+    GameWillEnd,
+    GameEnding,
+    GameEnded,
+}
+
+/// The events of the game, in the order of [`GameEvent::index`].
+pub const GAME_EVENTS: [GameEvent; 21] = [
+    GameEvent::SwStart,
+    GameEvent::GameWillStart,
+    GameEvent::GameStarting,
+    GameEvent::PlayerAdded,
+    GameEvent::GameStarted,
+    GameEvent::PlayerTurnWillStart,
+    GameEvent::PlayerTurnStarting,
+    GameEvent::PlayerTurnStarted,
+    GameEvent::BallWillStart,
+    GameEvent::BallStarting,
+    GameEvent::BallStarted,
+    GameEvent::BallDrain,
+    GameEvent::BallWillEnd,
+    GameEvent::BallEnding,
+    GameEvent::BallEnded,
+    GameEvent::PlayerTurnWillEnd,
+    GameEvent::PlayerTurnEnding,
+    GameEvent::PlayerTurnEnded,
+    GameEvent::GameWillEnd,
+    GameEvent::GameEnding,
+    GameEvent::GameEnded,
+];
+
+impl GameEvent {
+    ghost use Rattle.std.specs.Prelude.{◌≡◌};
+    ghost use Rattle.plan_tables.specs.GameEvents.{order_of};
+
+    /// The place in [`GAME_EVENTS`].
+    pub fn index(self) -> usize
+        ensures { result ≡ order_of self }
+    {
+        self as usize
+    }
+}
+
+/// What a plan says of the game.
+#[derive(Clone, Copy)]
+pub struct GameRules {
+    /// So many balls have to be in devices tagged `trough` or `home` for a game to begin: at most 99.
+    pub min_balls: u32,
+    /// How many balls each player has: from 1 to 99.
+    pub balls_per_game: u32,
+    /// At most so many players: from 1 to 4.
+    pub max_players: u32,
+    /// Each at its place in [`GAME_EVENTS`].
+    pub events: [EventId; 21],
+}
+
 /// What the machine itself does when it takes an event.
 #[derive(Clone, Copy, Debug)]
 pub enum Work {
@@ -100,6 +200,8 @@ pub enum Work {
     Nothing,
     /// The next step in the life of the mode, of which it is this event.
     Mode(ModeId, ModeEvent),
+    /// The next step of the game, of which it is this event.
+    Game(GameEvent),
 }
 
 /// Who acts.
@@ -133,11 +235,28 @@ pub enum Action {
     /// The event goes to the end of the queue.
     Post(EventId),
     /// The coil is pulsed, for so many milliseconds and with this power in thousandths.
-    Pulse { coil: CoilId, ms: u32, power: u16 },
+    Pulse {
+        coil: CoilId,
+        ms: u32,
+        power: u16,
+    },
     /// The coil is enabled with this power in thousandths, until it is disabled.
-    Enable { coil: CoilId, power: u16 },
+    Enable {
+        coil: CoilId,
+        power: u16,
+    },
     /// The coil is disabled.
-    Disable { coil: CoilId },
+    Disable {
+        coil: CoilId,
+    },
+    /// This is done with a variable of the current player. Where that changes the variable, the
+    /// event goes to the end of the queue.
+    Change {
+        variable: VariableId,
+        action: VariableAction,
+        number: i64,
+        event: EventId,
+    },
 }
 
 /// What a binding does when its turn comes.
@@ -162,6 +281,8 @@ pub struct Binding {
     pub owner: Owner,
     /// Handlers of an event with a higher priority run first: at most 1,000,000.
     pub priority: u32,
+    /// It is done only where this is met; none: always.
+    pub condition: Option<Condition>,
     /// What is done.
     pub target: Target,
 }

@@ -1,4 +1,5 @@
-//! The tables of a plan: names by number, what is bound to each event, and the rows of devices.
+//! The tables of a plan: names by number, what is bound to each event, the rows of devices, and the rules of
+//! the game.
 #![tactic(auto)]
 
 pub mod devices;
@@ -14,10 +15,11 @@ pub use devices::{
     TimerSettings,
 };
 pub use entries::{
-    Action, Binding, BindingId, CoilId, CoilLimits, Contact, EventId, ListId, Listener, Mode,
-    ModeEntry, ModeEvent, ModeEvents, ModeId, Owner, SwitchEntry, SwitchId, SwitchKind, Target,
-    Work,
+    Action, Binding, BindingId, CoilId, CoilLimits, Condition, Contact, EventId, GAME_EVENTS,
+    GameEvent, GameRules, ListId, Listener, Mode, ModeEntry, ModeEvent, ModeEvents, ModeId, Owner,
+    SwitchEntry, SwitchId, SwitchKind, Target, VariableAction, VariableId, Work,
 };
+pub use mpf_values::Comparison;
 pub use names::{NameHashing, NameSet, NameSets, NameTable};
 pub use table::{TABLES, Table};
 pub use tables::{Plan, Tables};

@@ -14,16 +14,19 @@ pub enum Table {
     Switches,
     /// At most 256 coils.
     Coils,
+    /// At most 256 variables.
+    Variables,
     /// At most 1,024 rows of devices.
     Rows,
 }
 
 /// The tables, in the order in which they are judged.
-pub const TABLES: [Table; 5] = [
+pub const TABLES: [Table; 6] = [
     Table::Events,
     Table::Bindings,
     Table::Switches,
     Table::Coils,
+    Table::Variables,
     Table::Rows,
 ];
 
@@ -37,6 +40,7 @@ impl Table {
             Table::Bindings => "bindings",
             Table::Switches => "switches",
             Table::Coils => "coils",
+            Table::Variables => "variables",
             Table::Rows => "rows",
         }
     }
@@ -50,6 +54,7 @@ impl Table {
             Table::Bindings => 16_384,
             Table::Switches => 256,
             Table::Coils => 256,
+            Table::Variables => 256,
             Table::Rows => 1_024,
         }
     }

@@ -2,8 +2,8 @@
 
 use crate::devices::{DeviceRow, RowId};
 use crate::entries::{
-    Action, Binding, BindingId, CoilId, CoilLimits, EventId, ListId, Listener, Mode, ModeEntry,
-    ModeId, SwitchEntry, SwitchId, SwitchKind, Work,
+    Action, Binding, BindingId, CoilId, CoilLimits, EventId, GameRules, ListId, Listener, Mode,
+    ModeEntry, ModeId, SwitchEntry, SwitchId, SwitchKind, VariableId, Work,
 };
 use crate::names::NameSets;
 use crate::placing::places_by_event;
@@ -15,7 +15,7 @@ use std::marker::Model;
 /// What a plan is made of.
 #[derive(Drop)]
 pub struct Tables {
-    /// The names of the events, of the switches and of the coils.
+    /// The names of the events, of the switches, of the coils and of the variables.
     pub names: NameSets,
     /// In the order of the machine's list.
     pub modes: Vec<ModeEntry>,
@@ -31,10 +31,12 @@ pub struct Tables {
     pub rows: Vec<DeviceRow>,
     /// For each row the first of its effect lists; the others follow it.
     pub row_lists: Vec<ListId>,
+    /// The rules of the game; none where there is no game.
+    pub game: Option<GameRules>,
 }
 
-/// The plan of a configuration. Each number in it is that of an entry of its table, no two
-/// events, no two switches and no two coils have one name, and each table is within its limit.
+/// The plan of a configuration. Each number in it is that of an entry of its table, no two events,
+/// switches, coils or variables have one name, and each table is within its limit.
 #[derive(Drop)]
 pub struct Plan {
     tables: Tables,
@@ -61,7 +63,7 @@ impl Model for Plan {
 
 impl Plan {
     ghost use Rattle.std.specs.Prelude.{◌≡◌, ◌<◌, length, slice_get, Contains, IfSome, IfNone, IfOk};
-    ghost use Rattle.plan_tables.specs.PlanView.{name_of_event, event_named, mode_at, switch_at, switch_named, listeners_of, posts_of, coil_at, coil_named, actions_at, places_of, row_at, list_of_row, work_of};
+    ghost use Rattle.plan_tables.specs.PlanView.{name_of_event, event_named, name_of_variable, variable_named, mode_at, switch_at, switch_named, listeners_of, posts_of, coil_at, coil_named, actions_at, places_of, row_at, list_of_row, work_of};
     ghost use Rattle.plan_tables.specs.declared.table.Table.TheVariants.{Switches, Coils};
     ghost use Rattle.plan_tables.specs.Inside.{name_sets_view, tables_view};
     ghost use Rattle.plan_tables.specs.Valid.{IsRowWithin, IsValid, IsWorkAt};
@@ -80,7 +82,7 @@ impl Plan {
     {
         let events = tables.names.of(Table::Events).len();
         let places = places_by_event(alloc, events, &tables.bindings)?;
-        let works = works_by_event(alloc, events, &tables.modes)?;
+        let works = works_by_event(alloc, events, &tables.modes, tables.game)?;
         Ok(Plan {
             tables,
             places,
@@ -250,6 +252,43 @@ impl Plan {
         ensures valid { IsValid self.now }
     {
         self.tables.coils[coil.0 as usize]
+    }
+
+    /// How many variables there are. They are numbered from 0.
+    pub fn variable_count(&self) -> usize
+        ensures count { result ≡ length self.now.variables }
+        ensures valid { IsValid self.now }
+    {
+        self.tables.names.of(Table::Variables).len()
+    }
+
+    /// The name of a variable of the plan.
+    pub fn variable_name(&self, variable: VariableId) -> &[u8]
+        requires { variable.0 < length self.now.variables }
+        ensures name { result.now ≡ name_of_variable self.now variable }
+        ensures valid { IsValid self.now }
+    {
+        let names = self.tables.names.of(Table::Variables).as_slice();
+        names[variable.0 as usize].as_slice()
+    }
+
+    /// The variable of this name; none if no variable has it.
+    pub fn find_variable(&self, name: &[u8]) -> Option<VariableId>
+        ensures variable { result ≡ variable_named self.now name.now }
+        ensures found { IfSome result (λ v. slice_get self.now.variables v.0 ≡ Some name.now) }
+        ensures absent { IfNone result (¬ (Contains self.now.variables name.now)) }
+        ensures valid { IsValid self.now }
+    {
+        let place = self.tables.names.of(Table::Variables).get_index_of(name)?;
+        Some(VariableId(place as u16))
+    }
+
+    /// The rules of the game; none where the plan has no game.
+    pub fn game(&self) -> Option<GameRules>
+        ensures game { result ≡ self.now.game }
+        ensures valid { IsValid self.now }
+    {
+        self.tables.game
     }
 
     /// How many effect lists there are. They are numbered from 0.

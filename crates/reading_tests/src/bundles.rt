@@ -3,7 +3,8 @@
 use crate::cases::{Subject, assert_rows, utf8};
 use crate::coils::show_coils;
 use crate::devices::show_devices;
-use crate::tables::show_names;
+use crate::game::{show_game, show_variables};
+use crate::tables::{show_handled, show_handlers, show_names};
 use mpf_config::{
     Config, ConfigFault, EventPlayer, MODES_NAME, ModeText, Section, Switch, as_event_player,
     as_switch, listed_modes, mode_names, mode_settings, read_bundle, write_fault, write_note,
@@ -30,6 +31,7 @@ switches:¶  a:¶    x: 1¶    coil: b¶ => error 5 UnknownSetting config/config
 switches:¶  a:¶    type: no¶    tags: b/¶ => error 6 BadValue config/config.yaml 4 type¶
 switches:¶  a:¶    tags:¶      b/¶    debounce:¶ => error 6 BadValue config/config.yaml 4 tags¶
 switches:¶  a:¶    debounce:¶      b: c¶ => error 6 BadValue config/config.yaml 4 debounce¶
+event_player:¶  a{current_player.b==1}: c¶  a{ current_player.b != 1 }:¶ => event_player¶ a{b Equal 1}@3; c@3;¶ a{b NotEqual 1}@4;;¶
 event_player:¶  a{b==1}: c¶ => error 6 BadValue config/config.yaml 3 a{b==1}¶
 event_player:¶  a:¶    b/c¶ => error 6 BadValue config/config.yaml 3 a¶
 event_player:¶  a:¶    b: c¶ => error 6 BadValue config/config.yaml 3 a¶
@@ -102,7 +104,8 @@ const MODES: &str = "\
 @¶modes: a¶@a¶mode:¶  use_wait_queue: yes¶ => error 6 BadValue modes/a/config/a.yaml 3 use_wait_queue¶
 @¶modes: a¶@a¶mode:¶  use_wait_queue: True¶ => error 6 BadValue modes/a/config/a.yaml 3 use_wait_queue¶
 @¶modes: a¶@a¶mode:¶  use_wait_queue: oFf¶ => error 6 BadValue modes/a/config/a.yaml 3 use_wait_queue¶
-@¶modes: a¶@a¶mode:¶  start_events: x, y{current_player.score>1}¶ => error 6 BadValue modes/a/config/a.yaml 3 start_events¶
+@¶modes: a¶@a¶mode:¶  start_events: x, y{current_player.score>1}¶  stop_events: z{ current_player.ball == 2 }¶ => modes¶ a@2¶a: 100 true true; x@3 y{score Greater 1}@3; z{ball Equal 2}@4;¶mode¶
+@¶modes: a¶@a¶mode:¶  start_events: x, y{score>1}¶ => error 6 BadValue modes/a/config/a.yaml 3 start_events¶
 @¶modes: a¶@a¶mode:¶  stop_events:¶    - x¶    - y/¶ => error 6 BadValue modes/a/config/a.yaml 3 stop_events¶
 @¶modes: a¶@a¶mode:¶  stop_events: [«1025 x, »]¶ => error 9 Limit modes/a/config/a.yaml 3 stop_events¶
 @¶modes: a¶@a¶mode:¶  code: x¶ => error 5 UnknownSetting modes/a/config/a.yaml 3 code¶
@@ -177,7 +180,9 @@ fn show_switch(out: &mut String, row: Switch<'_>) -> Result<(), AllocError> {
 }
 
 fn show_player(out: &mut String, row: EventPlayer<'_>) -> Result<(), AllocError> {
-    write!(out, " {}@{};", utf8(row.event.text), row.event.line)?;
+    out.push_str(" ")?;
+    show_handled(out, row.event)?;
+    out.push_str(";")?;
     show_names(out, row.posts)?;
     out.push_str(";\n")
 }
@@ -191,12 +196,14 @@ fn show_section(out: &mut String, section: &Section) -> Result<(), AllocError> {
         show_player(out, as_event_player(player))?;
     }
     show_coils(out, section)?;
+    show_variables(out, section)?;
     show_devices(out, section)
 }
 
 fn show_machine(out: &mut String, sections: &[Section]) -> Result<(), AllocError> {
     for section in sections {
         show_section(out, section)?;
+        show_game(out, section, sections)?;
         if section.name.as_slice() == MODES_NAME {
             show_names(out, listed_modes(sections))?;
             out.push_str("\n")?;
@@ -215,8 +222,8 @@ fn show_mode(out: &mut String, mode: &ModeText) -> Result<(), AllocError> {
         settings.game,
         settings.stops_with_ball
     )?;
-    for names in [settings.starts, settings.stops] {
-        show_names(out, names)?;
+    for handlers in [settings.starts, settings.stops] {
+        show_handlers(out, handlers)?;
         out.push_str(";")?;
     }
     out.push_str("\n")?;

@@ -2,7 +2,7 @@
 
 use crate::cases::{Subject, assert_rows, utf8};
 use crate::devices::show_name;
-use crate::tables::show_names;
+use crate::tables::{show_handled, show_handlers};
 use mpf_config::{
     Autofire, Coil, CoilItem, CoilPlayer, Flipper, NameAt, Section, as_autofire, as_coil,
     as_coil_item, as_coil_player, as_flipper,
@@ -20,6 +20,7 @@ const COILS: &str = "\
 @¶coils:¶  g:¶    default_pulse_power: 0.5¶    max_pulse_power: 25%¶    max_pulse_ms: 1s¶    default_hold_power: 100%¶    max_hold_power: 0¶ => coils¶ g@3; 10 1000 500 250 true 1000 0;¶
 @¶modes: m¶coil_player:¶  go:¶    a: pulse¶    b: {action: enable, hold_power: 0.5}¶  halt: {b: {action: disable, pulse_ms: 7, pulse_power: 0}}¶@m¶coil_player:¶  go: {a: enable}¶ => modes¶ m@2¶coil_player¶ go@4; a@5 Pulse None None None; b@6 Enable None None Some(500);¶ halt@7; b@7 Disable Some(7) Some(0) None;¶m: 100 true true;;;¶coil_player¶ go@3; a@3 Enable None None None;¶
 @¶flippers:¶  f:¶    activation_switch: s¶    main_coil: m¶  g:¶    main_coil: m¶    hold_coil: h¶    activation_switch: t¶    enable_events: a b¶    disable_events:¶autofire_coils:¶  p:¶    coil: c¶    switch: s¶    disable_events: d¶ => flippers¶ f@3; m@5 - s@4; ball_started@0; ball_will_end@0;¶ g@6; m@7 h@8 t@9; a@10 b@10;;¶autofire_coils¶ p@13; c@14 s@15; ball_started@0; d@16;¶
+@¶coil_player:¶  go{current_player.x>1}: {a: pulse}¶flippers:¶  f:¶    activation_switch: s¶    main_coil: m¶    disable_events: b{ current_player.x < 2 }¶ => coil_player¶ go{x Greater 1}@3; a@3 Pulse None None None;¶flippers¶ f@5; m@7 - s@6; ball_started@0; b{x Less 2}@8;¶
 @¶flippers:¶  f:¶    main_coil: m¶ => error 7 Missing config/config.yaml 3 activation_switch¶
 @¶modes: m¶@m¶flippers:¶ => error 4 UnknownSection modes/m/config/m.yaml 2 flippers¶
 ";
@@ -53,7 +54,9 @@ fn show_item(out: &mut String, item: CoilItem<'_>) -> Result<(), AllocError> {
 }
 
 fn show_coil_player(out: &mut String, player: CoilPlayer<'_>) -> Result<(), AllocError> {
-    write!(out, " {}@{};", utf8(player.event.text), player.event.line)?;
+    out.push_str(" ")?;
+    show_handled(out, player.event)?;
+    out.push_str(";")?;
     for keyed in player.items {
         show_item(out, as_coil_item(keyed))?;
     }
@@ -72,9 +75,9 @@ fn show_flipper(out: &mut String, flipper: Flipper<'_>) -> Result<(), AllocError
         None => out.push_str(" -")?,
     }
     show_at(out, flipper.switch)?;
-    for names in [flipper.enables, flipper.disables] {
+    for handlers in [flipper.enables, flipper.disables] {
         out.push_str(";")?;
-        show_names(out, names)?;
+        show_handlers(out, handlers)?;
     }
     out.push_str(";\n")
 }
@@ -83,9 +86,9 @@ fn show_autofire(out: &mut String, autofire: Autofire<'_>) -> Result<(), AllocEr
     show_name(out, autofire.name)?;
     show_at(out, autofire.coil)?;
     show_at(out, autofire.switch)?;
-    for names in [autofire.enables, autofire.disables] {
+    for handlers in [autofire.enables, autofire.disables] {
         out.push_str(";")?;
-        show_names(out, names)?;
+        show_handlers(out, handlers)?;
     }
     out.push_str(";\n")
 }

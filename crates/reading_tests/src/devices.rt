@@ -1,7 +1,7 @@
 //! Logic blocks and timers of bundles, by the names of their settings.
 
 use crate::cases::{Subject, assert_rows, utf8};
-use crate::tables::show_names;
+use crate::tables::{show_handled, show_handlers, show_names, show_steps};
 use mpf_config::{
     Block, Control, Counter, Name, Section, StepBlock, Timer, as_control, as_counter,
     as_step_block, as_timer,
@@ -19,6 +19,8 @@ const DEVICES: &str = "\
 @¶accruals:¶  q:¶    reset_on_complete: no¶    events:¶      - a, b¶      - c¶sequences:¶  r:¶    events:¶    disable_on_complete: no¶    persist_state: yes¶ => accruals¶ q@3; [ a@6 b@6][ c@7]; false true false;;;;;;;¶sequences¶ r@9;; true false true;;;;;;;¶
 @¶modes: m¶@m¶timers:¶  t:¶  u:¶    direction: down¶  v:¶    direction: down¶    start_value: 3¶    end_value: -2¶    tick_interval: 5¶    start_running: yes¶    restart_on_complete: yes¶ => modes¶ m@2¶m: 100 true true;;;¶timers¶ t@3; 0 None Up 1000 false false;¶ u@4; 0 Some(0) Down 1000 false false;¶ v@6; 3 Some(-2) Down 5 true true;¶
 @¶modes: m¶@m¶timers:¶  t:¶    control_events:¶      - {event: a, action: start}¶      - {event: b, action: stop}¶      - {event: c, action: pause}¶      - {event: d, action: reset}¶      - {event: e, action: restart}¶      - {event: f, action: add, value: 1}¶      - {event: g, action: subtract, value: 2}¶      - {event: h, action: jump, value: -3}¶ => modes¶ m@2¶m: 100 true true;;;¶timers¶ t@3; 0 None Up 1000 false false; a@5 Start 0; b@6 Stop 0; c@7 Pause 0; d@8 Reset 0; e@9 Restart 0; f@10 Add 1; g@11 Subtract 2; h@12 Jump -3;¶
+@¶counters:¶  c:¶    count_events: a{current_player.x==1}, b¶    enable_events: c{current_player.x!=2}¶    disable_events: d{current_player.x<3}¶    reset_events: e{current_player.x<=-4}¶    restart_events: f{ current_player.x > 5 }, g¶sequences:¶  s:¶    events:¶      - a{current_player.y>=6}, b¶      - c¶ => counters¶ c@3; a{x Equal 1}@4 b@4; 0 1 None Up 0; true true false; c{x NotEqual 2}@5; d{x Less 3}@6; e{x LessOrEqual -4}@7; f{x Greater 5}@8 g@8;;;¶sequences¶ s@10; [ a{y GreaterOrEqual 6}@12 b@12][ c@13]; true true false;;;;;;;¶
+@¶modes: m¶@m¶timers:¶  t:¶    control_events:¶      - {action: add, value: 7, event: \"a{current_player.x==1}\"}¶      - event: b{ current_player.x != 1 }¶        action: jump¶ => modes¶ m@2¶m: 100 true true;;;¶timers¶ t@3; 0 None Up 1000 false false; a{x Equal 1}@5 Add 7; b{x NotEqual 1}@6 Jump 0;¶
 @¶timers:¶ => error 4 UnknownSection config/config.yaml 2 timers¶
 @¶counters:¶  c:¶ => error 7 Missing config/config.yaml 3 count_events¶
 @¶modes: m¶@m¶timers:¶  t:¶    control_events:¶      - event: a¶ => error 7 Missing modes/m/config/m.yaml 5 action¶
@@ -49,10 +51,14 @@ fn show_block(out: &mut String, block: Block<'_>) -> Result<(), AllocError> {
         " {} {} {};",
         block.reset_on_complete, block.disable_on_complete, block.persist
     )?;
-    let first = [block.enables, block.disables, block.resets];
-    let second = [block.restarts, block.hit, block.complete];
-    for names in first.into_iter().chain(second) {
-        show_names(out, names)?;
+    let first = [block.enables, block.disables];
+    let second = [block.resets, block.restarts];
+    for handlers in first.into_iter().chain(second) {
+        show_handlers(out, handlers)?;
+        out.push_str(";")?;
+    }
+    for posts in [block.hit, block.complete] {
+        show_names(out, posts)?;
         out.push_str(";")?;
     }
     out.push_str("\n")
@@ -60,7 +66,7 @@ fn show_block(out: &mut String, block: Block<'_>) -> Result<(), AllocError> {
 
 fn show_counter(out: &mut String, counter: Counter<'_>) -> Result<(), AllocError> {
     show_name(out, counter.name)?;
-    show_names(out, counter.counts)?;
+    show_handlers(out, counter.counts)?;
     write!(
         out,
         "; {} {} {:?} {:?} {};",
@@ -71,26 +77,18 @@ fn show_counter(out: &mut String, counter: Counter<'_>) -> Result<(), AllocError
 
 fn show_step_block(out: &mut String, block: StepBlock<'_>) -> Result<(), AllocError> {
     show_name(out, block.name)?;
-    let mut before = " ";
-    for step in block.steps {
-        write!(out, "{before}[")?;
-        show_names(out, step)?;
-        out.push_str("]")?;
-        before = "";
+    if !block.steps.is_empty() {
+        out.push_str(" ")?;
     }
+    show_steps(out, block.steps)?;
     out.push_str(";")?;
     show_block(out, block.block)
 }
 
 fn show_control(out: &mut String, control: Control<'_>) -> Result<(), AllocError> {
-    write!(
-        out,
-        " {}@{} {:?} {};",
-        utf8(control.event.text),
-        control.event.line,
-        control.action,
-        control.value
-    )
+    out.push_str(" ")?;
+    show_handled(out, control.event)?;
+    write!(out, " {:?} {};", control.action, control.value)
 }
 
 fn show_timer(out: &mut String, timer: Timer<'_>) -> Result<(), AllocError> {

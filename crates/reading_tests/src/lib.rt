@@ -10,6 +10,8 @@ mod coils;
 #[cfg(test)]
 mod devices;
 #[cfg(test)]
+mod game;
+#[cfg(test)]
 mod tables;
 #[cfg(test)]
 mod values;

@@ -2,6 +2,7 @@
 
 use crate::cases::{Subject, assert_rows, utf8};
 use mpf_sections::tables::{TextKind, shape_of};
+use mpf_sections::{HandledAt, as_handled};
 use section_tables::fault::ConfigFault;
 use section_tables::rows::{Entry, Fields, Handler, Keyed, Name, Plain, Player, Value};
 use section_tables::table::{
@@ -163,7 +164,12 @@ e:¶  steps: => BadValue 2 steps
 e:¶  steps: a => BadValue 2 steps
 e:¶  steps:¶    - a¶    - => BadValue 2 steps
 e:¶  steps:¶    - a¶    - {b: c} => BadValue 2 steps
-e:¶  steps:¶    - a¶    - c{current_player.x!=0} => BadValue 2 steps
+e:¶  steps:¶    - a¶    - c{current_player.x!=0} => e@1: true | 3 | 10ms | 1000 | up | default@0 | - |  |  |  ball_started@0 | [ a@3][ c{x NotEqual 0}@4] |  | - | -
+e:¶  steps:¶    - a{ current_player.x < 1 }, b c{current_player.y>=-2}¶    - [\"d{current_player.z == 3}\"] => e@1: true | 3 | 10ms | 1000 | up | default@0 | - |  |  |  ball_started@0 | [ a{x Less 1}@3 b@3 c{y GreaterOrEqual -2}@3][ d{z Equal 3}@4] |  | - | -
+e:¶  steps:¶    - a¶    - c{x!=0} => BadValue 2 steps
+e:¶  steps:¶    - a¶    - c {current_player.x!=0} => BadValue 2 steps
+e:¶  steps:¶    - a{current_player.x!=0 => BadValue 2 steps
+e:¶  steps:¶    - [a, «1024 b, »] => Limit 2 steps
 e:¶  steps: [1, 2, 3, 4, 5, 6, 7, 8, 9, 10, 11, 12, 13, 14, 15, 16, 17] => BadValue 2 steps
 e:¶  maps: => BadValue 2 maps
 e:¶  maps: a => BadValue 2 maps
@@ -224,7 +230,10 @@ switches:¶  a:¶    coil: b¶ => UnknownSetting 3 coil
 switches:¶  a b:¶ => BadValue 2 a b
 switches:¶  a: b¶ => BadValue 2 a
 event_player:¶  a: b, c¶  d:¶ => a@2:  b@2 c@2; d@3: ;
-event_player:¶  a{current_player.x==1}: b¶ => BadValue 2 a{current_player.x==1}
+event_player:¶  a{current_player.x==1}: b¶  a{ current_player.x != -1 }: c¶  a:¶ => a{x Equal 1}@2:  b@2; a{x NotEqual -1}@3:  c@3; a@4: ;
+event_player:¶  a{x==1}: b¶ => BadValue 2 a{x==1}
+event_player:¶  a {current_player.x==1}: b¶ => BadValue 2 a {current_player.x==1}
+event_player:¶  a, b: c¶ => BadValue 2 a, b
 event_player:¶  a: b{current_player.x==1}¶ => BadValue 2 a
 modes:¶ =>\u{20}
 modes: b, a a¶ =>  b@1 a@1 a@1
@@ -240,7 +249,10 @@ counters:¶  c:¶    count_events:¶    tags: d¶    starting_count: -1000000000
 counters:¶  c:¶    reset_on_complete: no¶    disable_on_complete: no¶    persist_state: yes¶    enable_events: a¶    disable_events: b¶    reset_events: c¶    restart_events: d, e¶    events_when_hit: f¶    events_when_complete: g h¶    count_events: i¶ => c@2:  i@12 | 0 | 1 | - | up | 0ms | false | false | true |  a@6 |  b@7 |  c@8 |  d@9 e@9 |  f@10 |  g@11 h@11;
 counters:¶  c:¶ => Missing 2 count_events
 counters:¶  c:¶    direction: up¶  d:¶    count_events: a¶ => Missing 2 count_events
-counters:¶  c:¶    count_events: a{current_player.x==1}¶ => BadValue 3 count_events
+counters:¶  c:¶    count_events: a{current_player.x==1}, a¶ => c@2:  a{x Equal 1}@3 a@3 | 0 | 1 | - | up | 0ms | true | true | false |  |  |  |  |  | ;
+counters:¶  c:¶    count_events:¶      - a{current_player.x!=1}¶      - b{ current_player.y-2 < -1000000000 } ¶    enable_events: c{current_player.x<=1}¶    disable_events: d{current_player.x>1}¶    reset_events: e{current_player.x>=1}¶    restart_events: f{current_player.x==0}, g¶ => c@2:  a{x NotEqual 1}@4 b{y-2 Less -1000000000}@5 | 0 | 1 | - | up | 0ms | true | true | false |  c{x LessOrEqual 1}@6 |  d{x Greater 1}@7 |  e{x GreaterOrEqual 1}@8 |  f{x Equal 0}@9 g@9 |  | ;
+counters:¶  c:¶    count_events: a{current_player.x==1000000001}¶ => BadValue 3 count_events
+counters:¶  c:¶    count_events: a{current_player.x=1}¶ => BadValue 3 count_events
 counters:¶  c:¶    count_interval: 0¶ => BadValue 3 count_interval
 counters:¶  c:¶    count_interval: 1000001¶ => BadValue 3 count_interval
 counters:¶  c:¶    starting_count: 1000000001¶ => BadValue 3 starting_count
@@ -260,7 +272,8 @@ accruals:¶  q:¶    events: [1, 2, 3, 4, 5, 6, 7, 8, 9, 10, 11, 12, 13, 14, 15,
 accruals:¶  q:¶    events: [1, 2, 3, 4, 5, 6, 7, 8, 9, 10, 11, 12, 13, 14, 15, 16, 17]¶ => BadValue 3 events
 accruals:¶  q:¶    events: a¶ => BadValue 3 events
 accruals:¶  q:¶    events:¶      - a¶      -¶ => BadValue 3 events
-accruals:¶  q:¶    events:¶      - a{current_player.x==1}¶ => BadValue 3 events
+accruals:¶  q:¶    events:¶      - a{current_player.x==1}, b¶      - b{ current_player.y <= 2 }¶ => q@2: [ a{x Equal 1}@4 b@4][ b{y LessOrEqual 2}@5] | true | true | false |  |  |  |  |  | ;
+accruals:¶  q:¶    events:¶      - a¶      - b{player.y==2}¶ => BadValue 3 events
 accruals:¶  q:¶ => Missing 2 events
 accruals:¶  q:¶    count_events: a¶ => UnknownSetting 3 count_events
 accruals:¶  playfield:¶    events:¶ => BadValue 2 playfield
@@ -290,7 +303,8 @@ flippers:¶  f:¶    activation_switch: s¶  g:¶    main_coil: m¶    activatio
 flippers:¶  f:¶    main_coil: [m]¶ => BadValue 3 main_coil
 flippers:¶  f:¶    hold_coil:¶ => BadValue 3 hold_coil
 flippers:¶  f:¶    activation_switch: s, t¶ => BadValue 3 activation_switch
-flippers:¶  f:¶    enable_events: a{current_player.x==1}¶ => BadValue 3 enable_events
+flippers:¶  f:¶    enable_events: a{current_player.x==1}¶    main_coil: m¶    activation_switch: s¶ => f@2: m@4 | - | s@5 |  a{x Equal 1}@3 |  ball_will_end@0;
+flippers:¶  f:¶    enable_events: a{current_player.x}¶ => BadValue 3 enable_events
 flippers:¶  f:¶    disable_events: [«1025 a, »]¶ => Limit 3 disable_events
 flippers:¶  f:¶    switch: s¶ => UnknownSetting 3 switch
 flippers:¶  playfield:¶    main_coil: m¶    activation_switch: s¶ => BadValue 2 playfield
@@ -300,7 +314,8 @@ autofire_coils:¶  a:¶    switch: s¶ => Missing 2 coil
 autofire_coils:¶  a:¶    coil: c¶    debug: yes¶ => Missing 2 switch
 autofire_coils:¶  a:¶    coil: c/¶ => BadValue 3 coil
 autofire_coils:¶  a:¶    enable_events: {b: c}¶ => BadValue 3 enable_events
-autofire_coils:¶  a:¶    disable_events: b{current_player.x==1}¶ => BadValue 3 disable_events
+autofire_coils:¶  a:¶    disable_events: b{current_player.x==1}¶    coil: c¶    switch: s¶ => a@2: c@4 | s@5 |  ball_started@0 |  b{x Equal 1}@3;
+autofire_coils:¶  a:¶    disable_events: b{}¶ => BadValue 3 disable_events
 autofire_coils:¶  a:¶    enable_events: [«1025 b, »]¶ => Limit 3 enable_events
 autofire_coils:¶  a:¶    hold_coil: c¶ => UnknownSetting 3 hold_coil
 autofire_coils:¶  playfield:¶ => BadValue 2 playfield
@@ -312,7 +327,46 @@ coil_player:¶  go: {«1025 c№: pulse, »}¶ => Limit 2 go
 coil_player:¶  go: {«1025 c№/: hold, »}¶ => Limit 2 go
 coil_player:¶  go: c¶ => BadValue 2 go
 coil_player:¶  go: [c]¶ => BadValue 2 go
-coil_player:¶  go{current_player.x==1}:¶    c: pulse¶ => BadValue 2 go{current_player.x==1}
+coil_player:¶  go{current_player.x==1}:¶    c: pulse¶ => go{x Equal 1}@2: c@3{pulse, -, -, -};
+coil_player:¶  go{current_player.x==1:¶    c: pulse¶ => BadValue 2 go{current_player.x==1
+variable_player:¶  go:¶    score: 500¶    bonus: {action: set, int: -3}¶  halt:¶ => go@2: score@3{500, add}bonus@4{-3, set}; halt@5: ;
+variable_player:¶  go{current_player.ball==1}:¶    a: 1000000000¶    b: -1000000000¶    number:¶      int: 0¶      action: add¶ => go{ball Equal 1}@2: a@3{1000000000, add}b@4{-1000000000, add}number@5{0, add};
+variable_player:¶  go: {«1024 v№: 1, »}¶ => go@2: «1024 v№@2{1, add}»;
+variable_player:¶  go: {«1025 v№/: x, »}¶ => Limit 2 go
+variable_player:¶ =>\u{20}
+variable_player: a¶ => BadValue 1 variable_player
+variable_player:¶  go: 1¶ => BadValue 2 go
+variable_player:¶  go{x}: {a: 1}¶ => BadValue 2 go{x}
+variable_player:¶  go:¶    a:¶ => BadValue 3 a
+variable_player:¶  go:¶    a: set¶ => BadValue 3 a
+variable_player:¶  go:¶    a: 1.5¶ => BadValue 3 a
+variable_player:¶  go:¶    a: 1000000001¶ => BadValue 3 a
+variable_player:¶  go:¶    a: [1]¶ => BadValue 3 a
+variable_player:¶  go:¶    a b: 1¶ => BadValue 3 a b
+variable_player:¶  go:¶    a: {action: set}¶ => Missing 3 int
+variable_player:¶  go:¶    a: {}¶ => Missing 3 int
+variable_player:¶  go:¶    a:¶      int: 1¶      action: reset¶ => BadValue 5 action
+variable_player:¶  go:¶    a: {int: -1000000001}¶ => BadValue 3 int
+variable_player:¶  go:¶    a:¶      int:¶ => BadValue 4 int
+variable_player:¶  go:¶    a: {int: 1, number: 2}¶ => UnknownSetting 3 number
+machine:¶ => machine@1: 1
+machine:¶  number: a/¶  min_balls: 0¶ => machine@1: 0
+machine:¶  min_balls: 99¶ => machine@1: 99
+machine:¶  min_balls: 100¶ => BadValue 2 min_balls
+machine:¶  min_balls: -1¶ => BadValue 2 min_balls
+machine:¶  min_balls:¶ => BadValue 2 min_balls
+machine:¶  max_balls: 1¶ => UnknownSetting 2 max_balls
+machine: 1¶ => BadValue 1 machine
+game:¶ => game@1: 3 | 4
+game:¶  max_players: 1¶  balls_per_game: 99¶ => game@1: 99 | 1
+game: {balls_per_game: 1, max_players: 4}¶ => game@1: 1 | 4
+game:¶  balls_per_game: 0¶ => BadValue 2 balls_per_game
+game:¶  balls_per_game: 100¶ => BadValue 2 balls_per_game
+game:¶  max_players: 0¶ => BadValue 2 max_players
+game:¶  max_players: 5¶ => BadValue 2 max_players
+game:¶  max_players: 2.5¶ => BadValue 2 max_players
+game:¶  players: 2¶ => UnknownSetting 2 players
+game: [a]¶ => BadValue 1 game
 coil_player:¶  go:¶    c:¶ => BadValue 3 c
 coil_player:¶  go:¶    c: hold¶ => BadValue 3 c
 coil_player:¶  go:¶    number: 1¶ => BadValue 3 number
@@ -344,7 +398,8 @@ mode:¶  priority: 1000001¶ => BadValue 2 priority
 mode:¶  priority:¶ => BadValue 2 priority
 mode:¶  game_mode: 1¶ => BadValue 2 game_mode
 mode:¶  use_wait_queue: yes¶ => BadValue 2 use_wait_queue
-mode:¶  start_events: a, b{current_player.x==1}¶ => BadValue 2 start_events
+mode:¶  start_events: a, b{current_player.x==1}¶  stop_events:¶    - c{ current_player.y > 2 }¶ => mode@1:  a@2 b{x Equal 1}@2 |  c{y Greater 2}@4 | 100 | true | true | no
+mode:¶  start_events: a, b{current_player.x==1¶ => BadValue 2 start_events
 mode:¶  stop_events: {a: b}¶ => BadValue 2 stop_events
 mode:¶  start_events: [«1025 a, »]¶ => Limit 2 start_events
 mode:¶  events_when_started: a¶ => UnknownSetting 2 events_when_started
@@ -360,7 +415,9 @@ timers:¶  t:¶    control_events:¶    tick_interval: 4294967295¶ => t@2: 0 | 
 timers:¶  t:¶    control_events:¶      - event: go¶ => Missing 4 action
 timers:¶  t:¶    control_events:¶      - value: 1¶ => Missing 4 event
 timers:¶  t:¶    control_events:¶      - event: go¶        number: 1¶ => UnknownSetting 5 number
-timers:¶  t:¶    control_events:¶      - event: go{current_player.x>1}¶ => BadValue 4 event
+timers:¶  t:¶    control_events:¶      - event: go{ current_player.x > 1 }¶        action: pause¶ => t@2: 0 | - | up | 1000ms | false | false | {go{x Greater 1}@4, pause, 0}@4;
+timers:¶  t:¶    control_events:¶      - event: go{x>1}¶ => BadValue 4 event
+timers:¶  t:¶    control_events:¶      - event: go, halt¶ => BadValue 4 event
 timers:¶  t:¶    control_events:¶      - action: begin¶ => BadValue 4 action
 timers:¶  t:¶    control_events:¶      - value: 1000000001¶ => BadValue 4 value
 timers:¶  t:¶    control_events: [a]¶ => BadValue 3 control_events
@@ -374,6 +431,9 @@ coil_player:¶  go:¶    c: {action: enable, hold_power: 1}¶    d: pulse¶ => g
 coil_player:¶  go:¶    c: {hold_power: 1}¶ => Missing 3 action
 coil_player:¶  go: {c: on}¶ => BadValue 2 c
 coil_player:¶  go: {«1025 c№: enable, »}¶ => Limit 2 go
+variable_player:¶  go{current_player.a<0}:¶    a: {int: 0, action: set}¶ => go{a Less 0}@2: a@3{0, set};
+machine:¶ => no section
+game:¶ => no section
 modes: a¶ => no section
 switches:¶ => no section
 coils:¶ => no section
@@ -387,9 +447,10 @@ fn show_name(out: &mut String, name: &Name) -> Result<(), AllocError> {
     write!(out, "{}@{}", utf8(&name.text), name.line)
 }
 
-fn show_handler(out: &mut String, handler: &Handler) -> Result<(), AllocError> {
-    out.push_str(utf8(&handler.name))?;
-    if let Some(guard) = &handler.condition {
+/// Adds a handled event.
+pub(crate) fn show_handled(out: &mut String, event: HandledAt<'_>) -> Result<(), AllocError> {
+    out.push_str(utf8(event.name))?;
+    if let Some(guard) = event.condition {
         write!(
             out,
             "{{{} {:?} {}}}",
@@ -398,7 +459,7 @@ fn show_handler(out: &mut String, handler: &Handler) -> Result<(), AllocError> {
             guard.number
         )?;
     }
-    write!(out, "@{}", handler.line)
+    write!(out, "@{}", event.line)
 }
 
 fn show_plain(out: &mut String, value: &Plain) -> Result<(), AllocError> {
@@ -411,7 +472,7 @@ fn show_plain(out: &mut String, value: &Plain) -> Result<(), AllocError> {
         Plain::Word(word) => out.push_str(utf8(word)),
         Plain::Name(name) => show_name(out, name),
         Plain::DefaultName(text) => write!(out, "{}@0", utf8(text)),
-        Plain::Event(handler) => show_handler(out, handler),
+        Plain::Event(handler) => show_handled(out, as_handled(handler)),
     }
 }
 
@@ -423,18 +484,18 @@ pub(crate) fn show_names(out: &mut String, names: &[Name]) -> Result<(), AllocEr
     Ok(())
 }
 
-fn show_handlers(out: &mut String, handlers: &[Handler]) -> Result<(), AllocError> {
+pub(crate) fn show_handlers(out: &mut String, handlers: &[Handler]) -> Result<(), AllocError> {
     for handler in handlers {
         out.push_str(" ")?;
-        show_handler(out, handler)?;
+        show_handled(out, as_handled(handler))?;
     }
     Ok(())
 }
 
-fn show_steps(out: &mut String, steps: &[Vec<Name>]) -> Result<(), AllocError> {
+pub(crate) fn show_steps(out: &mut String, steps: &[Vec<Handler>]) -> Result<(), AllocError> {
     for step in steps {
         out.push_str("[")?;
-        show_names(out, step)?;
+        show_handlers(out, step)?;
         out.push_str("]")?;
     }
     Ok(())

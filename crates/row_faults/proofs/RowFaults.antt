@@ -19,7 +19,13 @@ use Rattle.mpf_sections.specs.Rows.{SectionRows}
 use Rattle.mpf_config.specs.Rows.{ModeRows, Rows}
 use Rattle.mpf_config.specs.BundleText.{machine_name, mode_text_name}
 use Rattle.mpf_sections.specs.Typed.{timers_in}
-use Rattle.row_faults.specs.Reserved.{game_events, mode_events, events_of_modes, posts_in}
+use Rattle.mpf_sections.specs.Rows.{VariableItem, VariablePlayer}
+use Rattle.mpf_sections.specs.TypedGame.{variable_players_in}
+use Rattle.machine_definitions.specs.GameEvents.{reserved_game_events}
+use Rattle.machine_definitions.specs.Players.{player_event, is_set_by_game}
+use Rattle.row_faults.specs.declared.fault.RowFaultKind.TheVariants.{Name}
+use Rattle.row_faults.specs.CoilFaults.{fault_if}
+use Rattle.row_faults.specs.Reserved.{mode_events, events_of_modes, posts_in}
 use Rattle.row_faults.specs.RowFaults.{fault_line, fault_number, ordered_by, reserved_fault, starts_at_end, timer_fault, coil_faults_in, faults_by, listed_once}
 use Rattle.row_faults.specs.View.{row_fault_view, row_faults_view}
 
@@ -105,10 +111,17 @@ module _ (lines known : List (List ℕ)) (fault : RowFault) (old new before : Li
 
 -- ---- the faults of all texts, by a test of names
 
+-- the names of variables that may not be changed
+abbrev barred_by : (List ℕ → Bool) → List ℕ → Bool
+barred_by test v = is_set_by_game v || (is_among reserved_game_events (player_event v) || test (player_event v))
+
+abbrev variables_by : (List ℕ → Bool) → List ℕ → SectionRows → List RowFaultView
+variables_by test text s = flat_map (λ (p : VariablePlayer). flat_map (λ (i : VariableItem). fault_if (barred_by test i.variable.text) Name text i.variable) p.items) (variable_players_in s)
+
 abbrev texts_by : (List ℕ → Bool) → List SectionRows → List ℕ → List SectionRows → List RowFaultView
 texts_by test machine text sections =
-    ordered_by fault_line (ordered_by fault_number (flat_map (λ (s : SectionRows). map (reserved_fault text) (filter (λ w. is_among game_events w.text || test w.text) (posts_in s))
-    ++ coil_faults_in machine text s ++ map (timer_fault text) (filter starts_at_end (timers_in s))) sections))
+    ordered_by fault_line (ordered_by fault_number (flat_map (λ (s : SectionRows). map (reserved_fault text) (filter (λ w. is_among reserved_game_events w.text || test w.text) (posts_in s))
+    ++ variables_by test text s ++ coil_faults_in machine text s ++ map (timer_fault text) (filter starts_at_end (timers_in s))) sections))
 
 abbrev all_by : (List ℕ → Bool) → Rows → List RowFaultView
 all_by test rows = texts_by test rows.machine machine_name rows.machine ++ flat_map (λ (m : ModeRows). texts_by test rows.machine (mode_text_name m.name) m.sections) rows.modes

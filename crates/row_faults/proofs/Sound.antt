@@ -6,9 +6,11 @@ use Rattle.std.proofs.lemmas.Bool.{ltb-false, not-false}
 use Rattle.std.proofs.lemmas.List.Elements.{All-weaker}
 use Rattle.mpf_sections.specs.declared.words.CoilAction.{CoilAction}
 use Rattle.mpf_sections.specs.declared.words.CoilAction.TheVariants.{Pulse, Enable, Disable}
-use Rattle.mpf_sections.specs.Rows.{Written, Coil, CoilItem, CoilPlayer, Flipper, Autofire, SectionRows}
+use Rattle.mpf_sections.specs.Rows.{Written, Coil, CoilItem, CoilPlayer, Flipper, Autofire, VariableItem, VariablePlayer, SectionRows}
 use Rattle.mpf_sections.specs.Typed.{timers_in}
 use Rattle.mpf_sections.specs.TypedCoils.{coils_in, coil_players_in, flippers_in, autofires_in}
+use Rattle.mpf_sections.specs.TypedGame.{variable_players_in}
+use Rattle.row_faults.specs.VariableFaults.{is_barred, variable_item_faults, variable_player_faults, variable_faults}
 use Rattle.mpf_sections.specs.Short.{IsPulseInRange, IsCoilInRange, IsItemInRange, IsCoilPlayerInRange}
 use Rattle.mpf_sections.proofs.CoilRows.{coils_in_range, coil_players_in_range}
 use Rattle.mpf_config.specs.Rows.{ModeRows, Rows}
@@ -20,7 +22,7 @@ use Rattle.row_faults.specs.declared.fault.RowFaultKind.TheVariants.{Name, Pulse
 use Rattle.row_faults.specs.Reserved.{events_of_modes, mode_names, is_reserved_by, posts_in, posts_of, reserved_among}
 use Rattle.row_faults.specs.CoilFaults.{fault_at, fault_if, is_above, is_enable, coil_name_faults, switch_name_faults, coil_faults, item_faults_by, item_faults, coil_player_faults, hold_faults_by, hold_faults, flipper_faults, autofire_faults}
 use Rattle.row_faults.specs.RowFaults.{fault_line, fault_number, ordered_by, reserved_fault, starts_at_end, timer_fault, coil_faults_in, section_faults, text_faults, mode_faults, faults_by, row_faults}
-use Rattle.row_faults.specs.Sound.{IsHoldWithin, IsCoilSound, IsCoilSuch, IsActionWithin, IsItemSound, IsCoilPlayerSound, IsFlipperSound, IsAutofireSound, IsSectionSound, IsSound}
+use Rattle.row_faults.specs.Sound.{ChangesNothingBarred, IsHoldWithin, IsCoilSound, IsCoilSuch, IsActionWithin, IsItemSound, IsCoilPlayerSound, IsFlipperSound, IsAutofireSound, IsSectionSound, IsSound}
 use Rattle.row_faults.proofs.None.{filled, map-none, append-none, flat_map-none, filter-none, ordered-none, once-none, All-each}
 
 -- ---- tests that find nothing
@@ -144,6 +146,7 @@ module _ (modes : List (List ℕ)) (machine : List SectionRows) (text : List ℕ
   -- of a section without faults the parts are none
   record HasNone (s : SectionRows) : Type 0 where
     pub posts : reserved_among modes (posts_in s) ≡ []
+    pub variables : All (λ p. variable_player_faults modes text p ≡ []) (variable_players_in s)
     pub coils : All (λ c. coil_faults text c ≡ []) (coils_in s)
     pub players : All (λ p. coil_player_faults machine text p ≡ []) (coil_players_in s)
     pub flippers : All (λ f. flipper_faults machine text f ≡ []) (flippers_in s)
@@ -156,13 +159,16 @@ module _ (modes : List (List ℕ)) (machine : List SectionRows) (text : List ℕ
       let players = flat_map (coil_player_faults machine text) (coil_players_in s) in
       let flippers = flat_map (flipper_faults machine text) (flippers_in s) in
       let autofires = flat_map (autofire_faults machine text) (autofires_in s) in
-      let all = append-none (posts ++ coil_faults_in machine text s) (map (timer_fault text) (filter starts_at_end (timers_in s))) e in
-      let front = append-none posts (coil_faults_in machine text s) all.0 in
+      let variables = variable_faults modes text s in
+      let all = append-none ((posts ++ variables) ++ coil_faults_in machine text s) (map (timer_fault text) (filter starts_at_end (timers_in s))) e in
+      let front = append-none (posts ++ variables) (coil_faults_in machine text s) all.0 in
+      let events = append-none posts variables front.0 in
       let last = append-none ((coils ++ players) ++ flippers) autofires front.1 in
       let third = append-none (coils ++ players) flippers last.0 in
       let first = append-none coils players third.0 in
       record {
-        posts = map-none (reserved_fault text) (reserved_among modes (posts_in s)) front.0;
+        posts = map-none (reserved_fault text) (reserved_among modes (posts_in s)) events.0;
+        variables = flat_map-none (variable_player_faults modes text) (variable_players_in s) events.1;
         coils = flat_map-none (coil_faults text) (coils_in s) first.0;
         players = flat_map-none (coil_player_faults machine text) (coil_players_in s) first.1;
         flippers = flat_map-none (flipper_faults machine text) (flippers_in s) third.1;
@@ -179,6 +185,19 @@ module _ (modes : List (List ℕ)) (machine : List SectionRows) (text : List ℕ
     flippers = λ i d within. flipper-sound machine all text (get_or (flippers_in s) i d) (h.flippers i d within);
     autofires = λ i d within. autofire-sound machine all text (get_or (autofires_in s) i d) (h.autofires i d within);
   }
+
+  -- no variable is changed that no row may change
+  item-free : (item : VariableItem) → variable_item_faults modes text item ≡ [] → is_barred modes item.variable.text ≡ false
+  item-free item e = fault_if-none _ Name text item.variable e
+
+  player-free : (p : VariablePlayer) → variable_player_faults modes text p ≡ [] → All (λ item. is_barred modes item.variable.text ≡ false) p.items
+  player-free p e =
+      All-weaker (λ item. variable_item_faults modes text item ≡ []) (λ item. is_barred modes item.variable.text ≡ false) item-free p.items
+      (flat_map-none (variable_item_faults modes text) p.items e)
+
+  section-free : (s : SectionRows) → HasNone s → All (λ p. All (λ item. is_barred modes item.variable.text ≡ false) p.items) (variable_players_in s)
+  section-free s h =
+      All-weaker (λ p. variable_player_faults modes text p ≡ []) (λ p. All (λ item. is_barred modes item.variable.text ≡ false) p.items) player-free (variable_players_in s) h.variables
 
   text-none : (sections : List SectionRows) → text_faults modes machine text sections ≡ [] → All HasNone sections
   text-none sections e =
@@ -210,6 +229,9 @@ no_faults_sound rows none =
         modes = All-weaker (λ m. mode_faults modes machine m ≡ []) (λ m. All (λ w. is_reserved_by modes w.text ≡ false) (posts_of m.sections))
             (λ m e. text-free modes machine (text_of m) m.sections (text-none modes machine (text_of m) m.sections e)) rows.modes each;
       };
+      changes = All-weaker (HasNone modes machine machine_name) (ChangesNothingBarred rows) (section-free modes machine machine_name) machine own;
+      mode_changes = All-weaker (λ m. mode_faults modes machine m ≡ []) (λ m. All (ChangesNothingBarred rows) m.sections)
+          (λ m e. All-weaker (HasNone modes machine (text_of m)) (ChangesNothingBarred rows) (section-free modes machine (text_of m)) m.sections (text-none modes machine (text_of m) m.sections e)) rows.modes each;
       machine = All-weaker (HasNone modes machine machine_name) (IsSectionSound machine) (section-sound modes machine machine_name all) machine own;
       modes = All-weaker (λ m. mode_faults modes machine m ≡ []) (λ m. All (IsSectionSound machine) m.sections)
           (λ m e. All-weaker (HasNone modes machine (text_of m)) (IsSectionSound machine) (section-sound modes machine (text_of m) all) m.sections (text-none modes machine (text_of m) m.sections e)) rows.modes each;

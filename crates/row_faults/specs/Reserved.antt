@@ -4,16 +4,10 @@ use Rattle.std.specs.List.{flat_map}
 use Rattle.yaml_subset.specs.Keys.{is_among}
 use Rattle.mpf_sections.specs.Rows.{Written, Switch, EventPlayer, Block, Counter, StepBlock, SectionRows}
 use Rattle.mpf_config.specs.Rows.{Rows}
+use Rattle.machine_definitions.specs.GameEvents.{reserved_game_events}
 use Rattle.mpf_sections.specs.Typed.{switches_in, event_players_in, counters_in, accruals_in, sequences_in, listed_modes}
 
 -- ---- reserved events
-
--- the events of a game, whether there is one or not
-abbrev pub game_events : List (List ℕ)
-game_events =
-    codes "game_will_start" ∷ codes "game_starting" ∷ codes "game_started" ∷ codes "player_added" ∷ codes "player_turn_will_start" ∷ codes "player_turn_starting" ∷ codes "player_turn_started" ∷ codes "ball_will_start"
-    ∷ codes "ball_starting" ∷ codes "ball_started" ∷ codes "ball_drain" ∷ codes "ball_will_end" ∷ codes "ball_ending" ∷ codes "ball_ended" ∷ codes "player_turn_will_end" ∷ codes "player_turn_ending"
-    ∷ codes "player_turn_ended" ∷ codes "game_will_end" ∷ codes "game_ending" ∷ codes "game_ended" ∷ []
 
 -- the five events of a mode of this name
 abbrev pub mode_events : List ℕ → List (List ℕ)
@@ -32,7 +26,7 @@ mode_names rows = map (λ w. w.text) (listed_modes rows.machine) ++ map (λ m. m
 
 -- whether a name is one of an event of a game, or one of these events of modes
 abbrev pub is_reserved_by : List (List ℕ) → List ℕ → Bool
-is_reserved_by modes name = is_among game_events name || is_among modes name
+is_reserved_by modes name = is_among reserved_game_events name || is_among modes name
 
 -- The events of each mode are reserved.
 abbrev pub is_reserved : Rows → List ℕ → Bool

@@ -13,6 +13,7 @@ use Rattle.row_faults.specs.declared.fault.RowFaultKind.TheVariants.{Name, Timer
 use Rattle.row_faults.specs.FaultView.{RowFaultView}
 use Rattle.row_faults.specs.FaultText.{row_fault_number, row_fault_line}
 use Rattle.row_faults.specs.Reserved.{events_of_modes, mode_names, posts_in, reserved_among}
+use Rattle.row_faults.specs.VariableFaults.{variable_faults}
 use Rattle.row_faults.specs.CoilFaults.{fault_at, coil_faults, coil_player_faults, flipper_faults, autofire_faults}
 
 -- ---- one section
@@ -42,11 +43,12 @@ coil_faults_in machine text s =
     ++ flat_map (flipper_faults machine text) (flippers_in s)
     ++ flat_map (autofire_faults machine text) (autofires_in s)
 
--- The faults of a section of a text, as written: its posts of reserved events, those of what it says of coils, and its
--- timers that start at their end. A section is of one kind, so at most one of these lists has any.
+-- The faults of a section of a text, as written: its posts of reserved events, those of what it says of variables and of
+-- coils, and its timers that start at their end. A section is of one kind, so at most one of these lists has any.
 abbrev pub section_faults : List (List ℕ) → List SectionRows → List ℕ → SectionRows → List RowFaultView
 section_faults modes machine text s =
     map (reserved_fault text) (reserved_among modes (posts_in s))
+    ++ variable_faults modes text s
     ++ coil_faults_in machine text s
     ++ map (timer_fault text) (filter starts_at_end (timers_in s))
 

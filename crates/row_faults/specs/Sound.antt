@@ -4,11 +4,13 @@ use Rattle.std.specs.Prelude.{◌≡◌, ℕ, ◌≤◌, true, false, Some, IfSo
 use Rattle.std.specs.List.{All}
 use Rattle.mpf_sections.specs.declared.words.CoilAction.{CoilAction}
 use Rattle.mpf_sections.specs.declared.words.CoilAction.TheVariants.{Pulse, Enable, Disable}
-use Rattle.mpf_sections.specs.Rows.{Coil, CoilItem, CoilPlayer, Flipper, Autofire, SectionRows}
+use Rattle.mpf_sections.specs.Rows.{Coil, CoilItem, CoilPlayer, Flipper, Autofire, VariableItem, SectionRows}
 use Rattle.mpf_sections.specs.TypedCoils.{coils_in, coil_players_in, flippers_in, autofires_in}
 use Rattle.mpf_config.specs.Rows.{Rows}
 use Rattle.machine_definitions.specs.Definitions.{coil_called, has_switch}
-use Rattle.row_faults.specs.Reserved.{is_reserved, posts_of}
+use Rattle.row_faults.specs.Reserved.{events_of_modes, is_reserved, mode_names, posts_of}
+use Rattle.mpf_sections.specs.TypedGame.{variable_players_in}
+use Rattle.row_faults.specs.VariableFaults.{is_barred}
 
 -- ---- what a coil is sent
 
@@ -72,7 +74,16 @@ pub record PostNothingReserved (rows : Rows) : Type 0 where
   pub machine : All (λ w. is_reserved rows w.text ≡ false) (posts_of rows.machine)
   pub modes : All (λ m. All (λ w. is_reserved rows w.text ≡ false) (posts_of m.sections)) rows.modes
 
+-- rows change no variable that no row may change
+abbrev pub IsChangeFree : Rows → VariableItem → Type 0
+IsChangeFree rows item = is_barred (events_of_modes (mode_names rows)) item.variable.text ≡ false
+
+abbrev pub ChangesNothingBarred : Rows → SectionRows → Type 0
+ChangesNothingBarred rows s = All (λ p. All (IsChangeFree rows) p.items) (variable_players_in s)
+
 pub record IsSound (rows : Rows) : Type 0 where
   pub posts : PostNothingReserved rows
+  pub changes : All (ChangesNothingBarred rows) rows.machine
+  pub mode_changes : All (λ m. All (ChangesNothingBarred rows) m.sections) rows.modes
   pub machine : All (IsSectionSound rows.machine) rows.machine
   pub modes : All (λ m. All (IsSectionSound rows.machine) m.sections) rows.modes

@@ -6,7 +6,8 @@ ghost use Rattle.row_faults.specs.FaultText.{row_fault_number, row_fault_name};
 /// What can be wrong with the rows of a text.
 #[derive(Clone, Copy, Debug, PartialEq, Eq)]
 pub enum RowFaultKind {
-    /// A reserved event is posted: one of a game, or of a mode that the machine text lists. Or no
+    /// A reserved event is posted: one of a game, or of a mode that the machine text lists. Or a
+    /// variable is changed that the game alone sets, or whose change posts a reserved event. Or no
     /// entry defines the coil or the switch of this name.
     Name,
     /// A pulse is longer than the longest one of its coil.

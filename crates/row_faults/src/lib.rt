@@ -10,6 +10,7 @@ pub mod fault_text;
 mod once;
 mod reserved;
 pub mod rows;
+mod variable_faults;
 
 pub use fault::{RowFault, RowFaultKind};
 pub use fault_text::write_row_fault;

@@ -6,39 +6,15 @@ ghost use Rattle.yaml_subset.specs.Keys.{is_among};
 ghost use Rattle.mpf_sections.specs.View.{name_view, entry_view, player_view, section_view};
 ghost use Rattle.mpf_config.specs.View.{mode_view};
 ghost use Rattle.mpf_sections.specs.Typed.{switch_of, event_player_of, counter_of, step_block_of};
-ghost use Rattle.row_faults.specs.Reserved.{game_events, mode_events, events_of_modes, is_reserved_by, switch_posts, player_posts, counter_posts, step_posts, posts_in, reserved_among};
+ghost use Rattle.row_faults.specs.Reserved.{mode_events, events_of_modes, is_reserved_by, switch_posts, player_posts, counter_posts, step_posts, posts_in, reserved_among};
 ghost use Rattle.row_faults.specs.View.{keys_view, written_view};
 
+use machine_definitions::is_reserved_game_event;
 use mpf_config::{
     Entry, ModeText, Name, Player, Section, as_counter, as_event_player, as_step_block, as_switch,
 };
-use section_tables::is_one_of;
 use std::alloc::{AllocError, Global};
 use std::collections::BTreeSet;
-
-/// The events of a game.
-const GAME_EVENTS: [&[u8]; 20] = [
-    b"game_will_start",
-    b"game_starting",
-    b"game_started",
-    b"player_added",
-    b"player_turn_will_start",
-    b"player_turn_starting",
-    b"player_turn_started",
-    b"ball_will_start",
-    b"ball_starting",
-    b"ball_started",
-    b"ball_drain",
-    b"ball_will_end",
-    b"ball_ending",
-    b"ball_ended",
-    b"player_turn_will_end",
-    b"player_turn_ending",
-    b"player_turn_ended",
-    b"game_will_end",
-    b"game_ending",
-    b"game_ended",
-];
 
 /// The names of the events of modes.
 pub(crate) type ModeEvents = BTreeSet<Vec<u8>>;
@@ -98,10 +74,10 @@ fn add_event(
 }
 
 /// Whether a name is one of an event of a game, or one of these events of modes.
-fn is_reserved(modes: &ModeEvents, name: &[u8]) -> bool
+pub(crate) fn is_reserved(modes: &ModeEvents, name: &[u8]) -> bool
     ensures { result ≡ is_reserved_by (keys_view modes.now) name.now }
 {
-    is_one_of(&GAME_EVENTS, name) || modes.contains(name)
+    is_reserved_game_event(name) || modes.contains(name)
 }
 
 // ---- posts

@@ -14,6 +14,7 @@ use crate::coil_faults::add_coil_faults;
 use crate::fault::{RowFault, RowFaultKind};
 use crate::once::listed_once;
 use crate::reserved::{ModeEvents, add_texts, events_of_modes, reserved_posts};
+use crate::variable_faults::add_variable_faults;
 use machine_definitions::Definitions;
 use mpf_config::{
     Config, Direction, Entry, MACHINE_NAME, ModeText, Name, Section, Timer, as_timer, listed_modes,
@@ -151,6 +152,7 @@ fn add_section(
 {
     let posts = reserved_posts(alloc, modes, section)?;
     add_posts(alloc, faults, text, &posts)?;
+    add_variable_faults(alloc, faults, modes, text, section)?;
     add_coil_faults(alloc, faults, definitions, text, section)?;
     add_timers(alloc, faults, text, section.timers())
 }

@@ -1,18 +1,19 @@
 -- Every name in a row is one, and no list in it is longer than its limit.
-use Rattle.std.proofs.Common.{◌≡◌, ℕ, zero, suc, ◌≤◌, Bool, true, false, List, [], ◌∷◌, length, map, set, Option, Some, None, refl, sym, ap, subst, arith}
+use Rattle.std.proofs.Common.{◌≡◌, ℕ, zero, suc, ◌≤◌, Bool, true, false, List, [], ◌∷◌, length, map, set, Option, Some, None, IfSome, refl, sym, ap, subst, arith}
 use Rattle.std.specs.List.{All, AllByRecursion, AllZip}
 use Rattle.std.proofs.lemmas.List.Elements.{All-nil, All-from_recursion}
 use Rattle.std.specs.Str.{bytes_eq}
 use Rattle.yaml_subset.specs.Node.{Node, Pair}
 use Rattle.yaml_subset.specs.View.{line_of, text_in}
 use Rattle.mpf_values.specs.Names.{IsName}
+use Rattle.mpf_values.specs.Events.{Condition, Event, IsUnder, IsEvent}
 use Rattle.mpf_values.specs.Lists.{Item}
 use Rattle.section_tables.specs.Rows.{Written, Handled, Plain, Keyed, Value, Entry, Player}
 use Rattle.section_tables.specs.Kinds.{Scalar, a_flag, number_within, time_within, a_power, one_of, a_name, an_event, Bounds, at_least, Field, Kind, single, name_list, post_list, event_list, step_list, map_list, keyed_maps, Setting, PlayerKinds}
-use Rattle.section_tables.specs.Entries.{is_ignored}
+use Rattle.section_tables.specs.Entries.{is_ignored, handled_at}
 use Rattle.section_tables.specs.Tables.{behind_one, found_in, field_key, field_default, setting_key, setting_default}
 use Rattle.section_tables.specs.EntryOf.{IsScalar, IsPlain, AreListed, AreNodes, AreNamesListed, IsWritten, IsHandled, OverwritesAt, IsOverwritten, IsField, pass, AreFields, IsKeyedRow, IsKeyed, AreKeyed, IsStep, IsValue, IsSetting, IsEntry, IsOtherEntry, AreEntries, IsPlayer, ArePlayers}
-use Rattle.section_tables.specs.Named.{IsNamedPlain, IsNamedEvent, AreNames, AreNamedEvents, AreNamedPlains, IsNamedKeyed, IsNamedValue, IsNamedEntry, IsNamedPlayer, AreNamedFields, IsNamedKind, IsNamedTable, IsEventKind, IsNamedKinds, IsShortValue, IsShortEntry, IsShortPlayer, IsShortTable}
+use Rattle.section_tables.specs.Named.{IsNamedHandled, IsNamedPlain, IsNamedEvent, AreNames, AreNamedEvents, AreNamedPlains, IsNamedKeyed, IsNamedValue, IsNamedEntry, IsNamedPlayer, AreNamedFields, IsNamedKind, IsNamedTable, IsEventKind, IsNamedKinds, IsShortValue, IsShortEntry, IsShortPlayer, IsShortTable}
 
 -- ---- lists
 
@@ -70,6 +71,13 @@ module _ {T V : Type 0} (key_of : T → List ℕ) (IsOf : T → Node → V → T
 
 -- ---- names in values
 
+variable_named : (text : List ℕ) (o : Option Condition) → IsUnder text o → IfSome o (λ c. IsName c.variable)
+variable_named text None h = tt
+variable_named text (Some c) h = h.is_variable
+
+read_named : (line : ℕ) (text : List ℕ) (e : Event) → IsEvent text e → IsNamedHandled (handled_at line e)
+read_named line text e h = record { name = h.is_name; variable = variable_named h.rest e.condition h.is_under }
+
 scalar_named : (kind : Scalar) (line : ℕ) (text : List ℕ) (v : Plain) → IsScalar kind line text v → IsNamedPlain v
 scalar_named a_flag line text v h = subst IsNamedPlain (sym h.2) tt
 scalar_named (number_within least greatest) line text v h = subst IsNamedPlain (sym h.3) tt
@@ -77,7 +85,7 @@ scalar_named (time_within least greatest) line text v h = subst IsNamedPlain (sy
 scalar_named a_power line text v h = subst IsNamedPlain (sym h.2) tt
 scalar_named (one_of words) line text v h = subst IsNamedPlain (sym h.1) tt
 scalar_named a_name line text v h = subst IsNamedPlain (sym h.1) h.0
-scalar_named an_event line text v h = subst IsNamedPlain (sym h.2) h.1.is_name
+scalar_named an_event line text v h = subst IsNamedPlain (sym h.2) (read_named line text h.0 h.1)
 
 plain_named : (kind : Scalar) (node : Node) (v : Plain) → IsPlain kind node v → IsNamedPlain v
 plain_named kind node v h = scalar_named kind (line_of node) h.0 v h.2
@@ -88,7 +96,7 @@ written_named bounds longest node xs h =
 
 handled_named : (bounds : Bounds) (longest : ℕ) (node : Node) (xs : List Handled) → AreListed IsHandled bounds longest node xs → AreNamedEvents xs
 handled_named bounds longest node xs h =
-    all_zip IsHandled (λ x. IsName x.event.name) (λ item x k. subst (λ (y : Handled). IsName y.event.name) (sym k.2) k.1.is_name) h.items xs h.each
+    all_zip IsHandled IsNamedHandled (λ item x k. subst IsNamedHandled (sym k.2) (read_named item.line item.text k.0 k.1)) h.items xs h.each
 
 row_named : (table : List Field) (others : Bool) (ps : List Pair) (row : List Plain) → AreNamedFields table → IsOverwritten field_key IsField (pass others) table ps (map field_default table) row → AreNamedPlains row
 row_named table others ps row q h =
@@ -110,7 +118,7 @@ value_named longest (name_list bounds) node v q h = subst IsNamedValue (sym h.2)
 value_named longest (post_list bounds) node v q h = subst IsNamedValue (sym h.2) (written_named bounds longest node h.0 h.1)
 value_named longest (event_list bounds) node v q h = subst IsNamedValue (sym h.2) (handled_named bounds longest node h.0 h.1)
 value_named longest (step_list bounds) node v q h =
-    subst IsNamedValue (sym h.2) (all_zip (IsStep longest) AreNames (written_named _ longest) h.1.nodes h.0 h.1.each)
+    subst IsNamedValue (sym h.2) (all_zip (IsStep longest) AreNamedEvents (handled_named _ longest) h.1.nodes h.0 h.1.each)
 value_named longest (map_list table others bounds) node v q h =
     subst IsNamedValue (sym h.2) (all_zip (AreFields table others) (λ m. AreNamedPlains m.values) (λ n m k. row_named table others k.row.pairs m.values q k.row.overwritten) h.1.nodes h.0 h.1.each)
 value_named longest (keyed_maps table place short) node v q h =
@@ -129,12 +137,12 @@ keyed_short table place short longest node ks h = rw (sym (same_length (IsKeyed 
 
 -- a list that has no lists in it
 abbrev Few : ℕ → ℕ → Type 0
-Few longest n = (n ≤ longest) × All (λ (ws : List Written). length ws ≤ longest) []
+Few longest n = (n ≤ longest) × All (λ (hs : List Handled). length hs ≤ longest) []
 
 pub few_items : (longest : ℕ) {n : ℕ} → n ≤ longest → Few longest n
-few_items longest few = (few, All-nil (λ (ws : List Written). length ws ≤ longest))
+few_items longest few = (few, All-nil (λ (hs : List Handled). length hs ≤ longest))
 
-pub no_items : (longest : ℕ) → (0 ≤ longest) × All (λ (ws : List Written). length ws ≤ longest) []
+pub no_items : (longest : ℕ) → (0 ≤ longest) × All (λ (hs : List Handled). length hs ≤ longest) []
 no_items longest = let none : 0 ≤ longest = omega arith in few_items longest none
 
 value_short : (longest : ℕ) (kind : Kind) (node : Node) (v : Value) → IsValue longest kind node v → IsShortValue longest v
@@ -143,8 +151,8 @@ value_short longest (name_list bounds) node v h = subst (IsShortValue longest) (
 value_short longest (post_list bounds) node v h = subst (IsShortValue longest) (sym h.2) (few_items longest (listed_short IsWritten bounds longest node h.0 h.1))
 value_short longest (event_list bounds) node v h = subst (IsShortValue longest) (sym h.2) (few_items longest (listed_short IsHandled bounds longest node h.0 h.1))
 value_short longest (step_list bounds) node v h =
-    let few : (ws : List Written) → Type 0 = λ ws. length ws ≤ longest in
-    let each = all_zip (IsStep longest) few (listed_short IsWritten _ longest) h.1.nodes h.0 h.1.each in
+    let few : (hs : List Handled) → Type 0 = λ hs. length hs ≤ longest in
+    let each = all_zip (IsStep longest) few (listed_short IsHandled _ longest) h.1.nodes h.0 h.1.each in
     subst (IsShortValue longest) (sym h.2) (nodes_short (IsStep longest) bounds longest node h.0 h.1, All-from_recursion few h.0 each)
 value_short longest (map_list table others bounds) node v h = subst (IsShortValue longest) (sym h.2) (few_items longest (nodes_short (AreFields table others) bounds longest node h.0 h.1))
 value_short longest (keyed_maps table place short) node v h = subst (IsShortValue longest) (sym h.2) (few_items longest (keyed_short table place short longest node h.0 h.1))
@@ -188,7 +196,7 @@ event_named (time_within least greatest) line text v q h = absurd q
 event_named a_power line text v q h = absurd q
 event_named (one_of words) line text v q h = absurd q
 event_named a_name line text v q h = subst IsNamedEvent (sym h.1) h.0
-event_named an_event line text v q h = subst IsNamedEvent (sym h.2) h.1.is_name
+event_named an_event line text v q h = subst IsNamedEvent (sym h.2) (read_named line text h.0 h.1)
 
 player_named : (longest : ℕ) (kinds : PlayerKinds) → IsNamedKinds kinds → (p : Pair) (row : Player) → IsPlayer longest kinds p row → IsNamedPlayer row
 player_named longest kinds q p row h = record { event = event_named kinds.key p.line p.key row.event q.key h.key; value = value_named longest kinds.value p.value row.value q.value h.value }

@@ -6,7 +6,7 @@ use Rattle.yaml_subset.specs.View.{line_of, text_in}
 use Rattle.mpf_values.specs.Reading.{is_name}
 use Rattle.mpf_values.proofs.NameTexts.{IsName-from_is_name, is_name-from_IsName}
 use Rattle.section_tables.specs.declared.fault.FaultKind.TheVariants.{BadValue}
-use Rattle.section_tables.specs.Rows.{Written, Plain, Fields, Keyed, Value, one, names, posts, events, steps, maps, keyed, RowsFault}
+use Rattle.section_tables.specs.Rows.{Written, Handled, Plain, Fields, Keyed, Value, one, names, posts, events, steps, maps, keyed, RowsFault}
 use Rattle.section_tables.specs.Kinds.{Scalar, at_least, fits, Field, Kind, single, name_list, post_list, event_list, step_list, map_list, keyed_maps}
 use Rattle.section_tables.specs.Entries.{pairs_below, written_at}
 use Rattle.section_tables.specs.Tables.{field_key, field_default, field_lacks}
@@ -106,11 +106,11 @@ keyed_list_complete longest table place short spot node ks h =
 
 -- ---- steps
 
-step_sound : (spot : Spot) (node : Node) (step : List Written) → listed_at written_in most_items (at_least 1) spot node ≡ Ok step → IsStep 1024 node step
-step_sound spot node step e = listed_sound written_in IsWritten name_sound most_items (at_least 1) spot node step e
+step_sound : (spot : Spot) (node : Node) (step : List Handled) → listed_at handled_in most_items (at_least 1) spot node ≡ Ok step → IsStep 1024 node step
+step_sound spot node step e = listed_sound handled_in IsHandled handled_sound most_items (at_least 1) spot node step e
 
-step_complete : (longest : ℕ) (spot : Spot) (node : Node) (step : List Written) → IsStep longest node step → IsReadOrLong longest (listed_at written_in most_items (at_least 1) spot node) step
-step_complete longest spot node step h = listed_complete written_in IsWritten most_items longest (name_complete (most_items < longest)) (at_least 1) spot node step h
+step_complete : (longest : ℕ) (spot : Spot) (node : Node) (step : List Handled) → IsStep longest node step → IsReadOrLong longest (listed_at handled_in most_items (at_least 1) spot node) step
+step_complete longest spot node step h = listed_complete handled_in IsHandled most_items longest (handled_complete (most_items < longest)) (at_least 1) spot node step h
 
 -- ---- settings
 
@@ -130,8 +130,8 @@ value_sound (post_list bounds) spot node v e =
 value_sound (event_list bounds) spot node v e =
     let a = put_in (listed_at handled_in most_items bounds spot node) events v e in (a.0, listed_sound handled_in IsHandled handled_sound most_items bounds spot node a.0 a.1, a.2)
 value_sound (step_list bounds) spot node v e =
-    let a = put_in (nodes_at (listed_at written_in most_items (at_least 1)) bounds spot node) steps v e in
-    (a.0, nodes_sound (listed_at written_in most_items (at_least 1)) (IsStep 1024) step_sound bounds spot node a.0 a.1, a.2)
+    let a = put_in (nodes_at (listed_at handled_in most_items (at_least 1)) bounds spot node) steps v e in
+    (a.0, nodes_sound (listed_at handled_in most_items (at_least 1)) (IsStep 1024) step_sound bounds spot node a.0 a.1, a.2)
 value_sound (map_list table others bounds) spot node v e =
     let a = put_in (nodes_at (fields_at table others) bounds spot node) maps v e in
     (a.0, nodes_sound (fields_at table others) (AreFields table others) (fields_sound table others) bounds spot node a.0 a.1, a.2)
@@ -151,8 +151,8 @@ value_complete longest (post_list bounds) spot node v h =
 value_complete longest (event_list bounds) spot node v h =
     then_put longest (listed_at handled_in most_items bounds spot node) events h.0 v (listed_complete handled_in IsHandled most_items longest (handled_complete (most_items < longest)) bounds spot node h.0 h.1) h.2
 value_complete longest (step_list bounds) spot node v h =
-    then_put longest (nodes_at (listed_at written_in most_items (at_least 1)) bounds spot node) steps h.0 v
-    (nodes_complete (listed_at written_in most_items (at_least 1)) (IsStep longest) longest (step_complete longest) bounds spot node h.0 h.1) h.2
+    then_put longest (nodes_at (listed_at handled_in most_items (at_least 1)) bounds spot node) steps h.0 v
+    (nodes_complete (listed_at handled_in most_items (at_least 1)) (IsStep longest) longest (step_complete longest) bounds spot node h.0 h.1) h.2
 value_complete longest (map_list table others bounds) spot node v h =
     then_put longest (nodes_at (fields_at table others) bounds spot node) maps h.0 v
     (nodes_complete (fields_at table others) (AreFields table others) longest (fields_complete longest table others) bounds spot node h.0 h.1) h.2

@@ -126,9 +126,9 @@ pub record AreKeyed (table : List Field) (place : ℕ) (short : Scalar) (longest
 
 -- ---- settings
 
--- a step: a list of names that is not empty
-abbrev pub IsStep : ℕ → Node → List Written → Type 0
-IsStep longest = AreListed IsWritten (at_least 1) longest
+-- a step: a list of handled events that is not empty
+abbrev pub IsStep : ℕ → Node → List Handled → Type 0
+IsStep longest = AreListed IsHandled (at_least 1) longest
 
 -- what a node says as the value of a setting of a kind, with at most so many items in a list; a map of names counts as one
 abbrev pub IsValue : ℕ → Kind → Node → Value → Type 0
@@ -136,7 +136,7 @@ IsValue longest (single kind) node v = (x : Plain) × IsPlain kind node x × (v 
 IsValue longest (name_list bounds) node v = (xs : List Written) × AreListed IsWritten bounds longest node xs × (v ≡ names xs)
 IsValue longest (post_list bounds) node v = (xs : List Written) × AreListed IsWritten bounds longest node xs × (v ≡ posts xs)
 IsValue longest (event_list bounds) node v = (xs : List Handled) × AreListed IsHandled bounds longest node xs × (v ≡ events xs)
-IsValue longest (step_list bounds) node v = (xs : List (List Written)) × AreNodes (IsStep longest) bounds longest node xs × (v ≡ steps xs)
+IsValue longest (step_list bounds) node v = (xs : List (List Handled)) × AreNodes (IsStep longest) bounds longest node xs × (v ≡ steps xs)
 IsValue longest (map_list table others bounds) node v = (xs : List Fields) × AreNodes (AreFields table others) bounds longest node xs × (v ≡ maps xs)
 IsValue longest (keyed_maps table place short) node v = (xs : List Keyed) × AreKeyed table place short longest node xs × (v ≡ keyed xs)
 

@@ -36,7 +36,7 @@ pub record KeyRule (K V : Type 0) : Type 0 where
 abbrev pub Field : Type 0
 Field = KeyRule Scalar Plain
 
--- What the value of a setting is to be: a text; a list of names, of posted events or of handled events; steps, each a list of names; a list of maps, in which other keys are ignored or not;
+-- What the value of a setting is to be: a text; a list of names, of posted events or of handled events; steps, each a list of handled events; a list of maps, in which other keys are ignored or not;
 -- or a map of names, each with a map, or with one text that stands for the value of the field at this place.
 pub data Kind : Type 0 where
   single : Scalar → Kind

@@ -1,5 +1,5 @@
 -- What it means that every name in a row is one, and that no list in it is longer than its limit.
-use Rattle.std.specs.Prelude.{ℕ, ◌≤◌, List, [], length}
+use Rattle.std.specs.Prelude.{ℕ, ◌≤◌, List, [], length, IfSome}
 use Rattle.std.specs.List.{All, AllByRecursion}
 use Rattle.mpf_values.specs.Names.{IsName}
 use Rattle.section_tables.specs.Rows.{Written, Handled, Plain, name, event, Keyed, Value, one, names, posts, events, steps, maps, keyed, Entry, Player}
@@ -8,16 +8,21 @@ use Rattle.section_tables.specs.Tables.{field_default, setting_default}
 
 -- ---- names
 
+-- the name of a handled event is one, and so is that of the variable in its condition
+pub record IsNamedHandled (h : Handled) : Type 0 where
+  pub name : IsName h.event.name
+  pub variable : IfSome h.event.condition (λ c. IsName c.variable)
+
 abbrev pub IsNamedPlain : Plain → Type 0
 IsNamedPlain (name w) = IsName w.text
-IsNamedPlain (event h) = IsName h.event.name
+IsNamedPlain (event h) = IsNamedHandled h
 IsNamedPlain _ = Unit {0}
 
 abbrev pub AreNames : List Written → Type 0
 AreNames = AllByRecursion (λ w. IsName w.text)
 
 abbrev pub AreNamedEvents : List Handled → Type 0
-AreNamedEvents = AllByRecursion (λ h. IsName h.event.name)
+AreNamedEvents = AllByRecursion IsNamedHandled
 
 abbrev pub AreNamedPlains : List Plain → Type 0
 AreNamedPlains = AllByRecursion IsNamedPlain
@@ -30,7 +35,7 @@ IsNamedValue (one x) = IsNamedPlain x
 IsNamedValue (names xs) = AreNames xs
 IsNamedValue (posts xs) = AreNames xs
 IsNamedValue (events hs) = AreNamedEvents hs
-IsNamedValue (steps ss) = AllByRecursion AreNames ss
+IsNamedValue (steps ss) = AllByRecursion AreNamedEvents ss
 IsNamedValue (maps ms) = AllByRecursion (λ m. AreNamedPlains m.values) ms
 IsNamedValue (keyed ks) = AllByRecursion IsNamedKeyed ks
 
@@ -39,10 +44,10 @@ pub record IsNamedEntry (e : Entry) : Type 0 where
   pub name : IsName e.name.text
   pub values : AllByRecursion IsNamedValue e.values
 
--- an event whose name is one
+-- an event whose names are names
 abbrev pub IsNamedEvent : Plain → Type 0
 IsNamedEvent (name w) = IsName w.text
-IsNamedEvent (event h) = IsName h.event.name
+IsNamedEvent (event h) = IsNamedHandled h
 IsNamedEvent _ = ⊥
 
 -- each name in an entry of a player is one
@@ -91,13 +96,13 @@ item_count (keyed ks) = length ks
 item_count _ = 0
 
 -- the lists in that list
-abbrev pub steps_in : Value → List (List Written)
+abbrev pub steps_in : Value → List (List Handled)
 steps_in (steps ss) = ss
 steps_in _ = []
 
 -- no list in a value has more items than this
 abbrev pub IsShortValue : ℕ → Value → Type 0
-IsShortValue longest v = (item_count v ≤ longest) × All (λ ws. length ws ≤ longest) (steps_in v)
+IsShortValue longest v = (item_count v ≤ longest) × All (λ hs. length hs ≤ longest) (steps_in v)
 
 -- no list in an entry, or in one of a player
 abbrev pub IsShortEntry : ℕ → Entry → Type 0

@@ -180,7 +180,7 @@ value_at (single kind) spot node = plain_at kind spot node >>= λ x. Ok (one x)
 value_at (name_list bounds) spot node = listed_at written_in most_items bounds spot node >>= λ xs. Ok (names xs)
 value_at (post_list bounds) spot node = listed_at written_in most_items bounds spot node >>= λ xs. Ok (posts xs)
 value_at (event_list bounds) spot node = listed_at handled_in most_items bounds spot node >>= λ xs. Ok (events xs)
-value_at (step_list bounds) spot node = nodes_at (listed_at written_in most_items (at_least 1)) bounds spot node >>= λ xs. Ok (steps xs)
+value_at (step_list bounds) spot node = nodes_at (listed_at handled_in most_items (at_least 1)) bounds spot node >>= λ xs. Ok (steps xs)
 value_at (map_list table others bounds) spot node = nodes_at (fields_at table others) bounds spot node >>= λ xs. Ok (maps xs)
 value_at (keyed_maps table place short) spot node = keyed_list_at table place short spot node >>= λ xs. Ok (keyed xs)
 

@@ -34,13 +34,13 @@ pub record Keyed : Type 0 where
   pub name : Written
   pub values : List Plain
 
--- the value of a setting: what one text says, names, names of events that are posted, handled events, steps of names of events, maps, or names with values
+-- the value of a setting: what one text says, names, names of events that are posted, handled events, steps of handled events, maps, or names with values
 pub data Value : Type 0 where
   one : Plain → Value
   names : List Written → Value
   posts : List Written → Value
   events : List Handled → Value
-  steps : List (List Written) → Value
+  steps : List (List Handled) → Value
   maps : List Fields → Value
   keyed : List Keyed → Value
 

@@ -61,8 +61,8 @@ names_view xs = map name_view xs.items
 abbrev pub handlers_view : Vec Handler → List Handled
 handlers_view xs = map handler_view xs.items
 
-abbrev pub steps_view : Vec (Vec Name) → List (List Written)
-steps_view xs = map names_view xs.items
+abbrev pub steps_view : Vec (Vec Handler) → List (List Handled)
+steps_view xs = map handlers_view xs.items
 
 abbrev pub fields_view : fields.Fields → Fields
 fields_view m = record { line = m.line; values = plains_view m.values.items }

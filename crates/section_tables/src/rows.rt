@@ -65,12 +65,13 @@ pub struct Keyed {
 #[derive(Drop)]
 pub enum Value {
     One(Plain),
-    /// Names: tags, or the events that start or stop a mode.
+    /// Names, as tags are.
     Names(Vec<Name>),
     /// Names of events that are posted.
     Posts(Vec<Name>),
     Events(Vec<Handler>),
-    Steps(Vec<Vec<Name>>),
+    /// Steps, each the handled events that do it.
+    Steps(Vec<Vec<Handler>>),
     Maps(Vec<Fields>),
     Keyed(Vec<Keyed>),
 }

@@ -7,7 +7,7 @@ ghost use Rattle.yaml_subset.specs.View.{node_view, option_slice};
 ghost use Rattle.section_tables.specs.Entries.{is_ignored, written_at, handled_at};
 ghost use Rattle.section_tables.specs.Kinds.{at_least};
 ghost use Rattle.section_tables.specs.Tables.{found_in, value_default, setting_key, setting_default, value_lacks, setting_lacks};
-ghost use Rattle.section_tables.specs.Reading.{most_items, put_at, overwritten_at, lacking, written_in, listed_at, nodes_at, value_at, setting_at, values_at};
+ghost use Rattle.section_tables.specs.Reading.{most_items, put_at, overwritten_at, lacking, handled_in, listed_at, nodes_at, value_at, setting_at, values_at};
 ghost use Rattle.section_tables.specs.TableView.{bounds_view, kind_view, without_view, setting_view, table_view};
 ghost use Rattle.section_tables.specs.View.{names_view, handlers_view, steps_view, value_view, values_view, spot_view, pairs_view, found_view, GivesRows};
 
@@ -154,22 +154,22 @@ fn first_lacking(table: &[Setting], row: &[Value]) -> Option<&'static [u8]>
 
 // ---- what is written
 
-// The steps in a list, each a list of names that is not empty; or the first fault.
+// The steps in a list, each a list of handled events that is not empty; or the first fault.
 fn steps(
     alloc: Global,
     spot: Spot<'_>,
     bounds: Bounds,
     tree: &Tree,
-) -> Result<Vec<Vec<Name>>, ConfigFault>
-    ensures { GivesRows steps_view result (nodes_at (listed_at written_in most_items (at_least 1)) (bounds_view bounds) (spot_view spot.entry) (node_view tree.now)) }
+) -> Result<Vec<Vec<Handler>>, ConfigFault>
+    ensures { GivesRows steps_view result (nodes_at (listed_at handled_in most_items (at_least 1)) (bounds_view bounds) (spot_view spot.entry) (node_view tree.now)) }
 {
     let nodes = nodes(alloc, spot, bounds, tree)?;
     each(
         alloc,
         nodes,
         |node|
-            ensures { GivesRows names_view result (listed_at written_in most_items (at_least 1) (spot_view spot.entry) (node_view node.now)) }
-        { names(alloc, spot, MAX_ITEMS, Bounds::AtLeast(1), node) },
+            ensures { GivesRows handlers_view result (listed_at handled_in most_items (at_least 1) (spot_view spot.entry) (node_view node.now)) }
+        { handlers(alloc, spot, Bounds::AtLeast(1), node) },
     )
 }
 

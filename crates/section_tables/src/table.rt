@@ -71,7 +71,7 @@ pub enum Kind {
     Posts(Bounds),
     /// A list of handled events.
     Events(Bounds),
-    /// A YAML list of steps, each a list of names that is not empty.
+    /// A YAML list of steps, each a list of handled events that is not empty.
     Steps(Bounds),
     /// A YAML list of maps with these keys.
     Maps(&'static [Field], Others, Bounds),

@@ -1,5 +1,5 @@
 -- What is due: only a stimulus alters that, and no alarm comes late.
-use Rattle.std.proofs.Common.{◌≡◌, ℕ, ◌≤◌, ◌<◌, ◌⊎◌, None, Some, List, [], ◌∷◌, length, slice_set, refl, ap, sym, subst, ◌∙◌, inl, inr, arith}
+use Rattle.std.proofs.Common.{◌≡◌, ℕ, ℤ, ◌≤◌, ◌<◌, ◌⊎◌, Option, None, Some, List, [], ◌∷◌, length, slice_set, refl, ap, sym, subst, ◌∙◌, inl, inr, arith}
 use Rattle.std.proofs.lemmas.Bool.{cases_eq, cases_lt}
 use Rattle.std.proofs.lemmas.Option.{none-some}
 use Rattle.std.proofs.lemmas.List.{get_or_past, get_or-map, get_or-set_same, get_or-set_other, length-map, length-replicate, length-set}
@@ -10,7 +10,10 @@ use Rattle.plan_tables.specs.PlanView.{PlanView, actions_at, list_of_row, no_row
 use Rattle.plan_tables.specs.Valid.{IsValid}
 use Rattle.plan_tables.specs.Devices.{IsWithinLimits}
 use Rattle.plan_tables.specs.declared.entries.Action.{Action}
-use Rattle.plan_tables.specs.declared.entries.Action.TheVariants.{Post, Pulse, Enable, Disable}
+use Rattle.plan_tables.specs.declared.entries.Action.TheVariants.{Post, Pulse, Enable, Disable, Change as ChangeVariable}
+use Rattle.plan_tables.specs.declared.entries.EventId.{EventId}
+use Rattle.plan_tables.specs.declared.entries.VariableId.{VariableId}
+use Rattle.player_game.specs.Players.{changed_to, after_change as players_after_change}
 use Rattle.plan_tables.specs.declared.entries.Owner.{Owner}
 use Rattle.plan_tables.specs.declared.entries.SwitchId.{SwitchId}
 use Rattle.plan_tables.specs.declared.devices.RowId.{RowId}
@@ -26,13 +29,13 @@ use Rattle.switch_core.specs.SwitchStep.{idle}
 use Rattle.switch_core.specs.Switches.{SwitchesView, IsComplete, due_of, after_change, reported_by_change, accept, reported}
 use Rattle.switch_core.proofs.DueMoments.{changes_arm_later, accept-due, accept-done, idle-nothing_due}
 use Rattle.written_machine.specs.declared.line.Line.{Line}
-use Rattle.written_machine.specs.Machine.{Machine, set_switches, set_device, all_do, do_action, do_list, world_of, device_state, device_at, called, do_answer, initial}
+use Rattle.written_machine.specs.Machine.{Machine, set_switches, set_device, set_players, all_do, tell_change, do_action, do_list, world_of, device_state, device_at, called, do_answer, initial}
 use Rattle.written_machine.specs.Devices.{HasDevices}
 use Rattle.written_machine.specs.EventStep.{taken, EventStep, EventSteps}
 use Rattle.written_machine.specs.PlanOrder.{settled}
 use Rattle.written_machine.specs.Run.{Source, switch, device, source_due, IsNothingLate, IsNextAlarm, Stimulus, Change, Alarm, Wait, moment_of, IsAllowed, arrived, begin, IsRun}
 use Rattle.cascade_rank.specs.Cost.{Cost}
-use Rattle.written_machine.proofs.Does.{Move, Wrote, Sent, Switched, Began, Ended, Marked, Turned, Asked, do_move, start-by, stop-by, Does, does-keeps, off-has_coils, HasStates, moment-move, moment-does, has_states-does, switches-does}
+use Rattle.written_machine.proofs.Does.{Move, Wrote, Sent, Switched, Began, Ended, Marked, Turned, Asked, Varied, Stepped, do_move, start-by, stop-by, Does, does-keeps, off-has_coils, HasStates, moment-move, moment-does, has_states-does, switches-does}
 use Rattle.written_machine.proofs.Parts.{TakesPart, Begins, IsMachine, ordinary, working, MayWork, does-call, does-accepted, does-if_accepted, does-begin, does-before, does-after}
 use Rattle.written_machine.proofs.Keeps.{step-keeps, steps-keep, run-keeps}
 use Rattle.written_machine.proofs.PlanSteps.{plan_steps-event_steps}
@@ -47,12 +50,19 @@ same-devices : {X : Type 0} (f : X → Machine → Machine) → ((x : X) (s : Ma
 same-devices f each [] s = refl
 same-devices f each (x ∷ xs) s = same-devices f each xs (f x s) ∙ each x s
 
+told-devices : (owner : Owner) (player : ℕ) (v : VariableId) (e : EventId) (value : Option ℤ) (s : Machine) → (tell_change owner player v e value s).devices ≡ s.devices
+told-devices owner player v e None s = refl
+told-devices owner player v e (Some value) s = refl
+
 module _ (plan : PlanView) where
   action-devices : (owner : Owner) (a : Action) (s : Machine) → (do_action plan owner a s).devices ≡ s.devices
   action-devices owner (Post e) s = refl
   action-devices owner (Pulse coil ms power) s = refl
   action-devices owner (Enable coil power) s = refl
   action-devices owner (Disable coil) s = refl
+  action-devices owner (ChangeVariable v action n e) s =
+      let value = changed_to plan v action n s.players in
+      told-devices owner s.players.current v e value (set_players (players_after_change plan v value s.players) s)
 
   -- what a device answers changes no device
   answer-devices : (r : RowId) (lists : List ℕ) (s : Machine) → (do_answer plan r lists s).devices ≡ s.devices
@@ -106,6 +116,8 @@ module _ (plan : PlanView) where
     later-move (Marked m state) s = λ r due is. inl is
     later-move (Turned call r) s = later-turned call r s
     later-move (Asked owner command) s = λ r due is. inl is
+    later-move (Varied v value) s = λ r due is. inl is
+    later-move (Stepped which) s = λ r due is. inl is
 
     later-then : (s m t : Machine) → m.moment ≡ s.moment → IsLater s m → IsLater m t → IsLater s t
     later-then s m t here one next r due is =
@@ -325,11 +337,11 @@ module _ (plan : PlanView) (valid : IsValid plan) where
 module _ (plan : PlanView) where
   pub has_states-step : (s t : Machine) → EventStep plan s t → HasStates plan s → HasStates plan t
   has_states-step =
-      step-keeps plan (λ before. HasStates plan) (λ first before. HasStates plan) (λ before first rest s is h. has_states-does plan working (does-before plan (work_of plan first.event) (taken first rest s)) (record { kinds = h.kinds; switches = h.switches; modes = h.modes; devices = h.devices; coils = h.coils }))
+      step-keeps plan (λ before. HasStates plan) (λ first before. HasStates plan) (λ before first rest s is h. has_states-does plan working (does-before plan (work_of plan first.event) (taken first rest s)) (record { kinds = h.kinds; switches = h.switches; modes = h.modes; devices = h.devices; coils = h.coils; players = h.players }))
       (λ before first c s t d h. has_states-does plan (ordinary plan (TakesPart s) ⊥) d h) (λ before first kept s h. has_states-does plan working (does-after plan kept first.event s) h) []
 
   pub has_states-begin : (stimulus : Stimulus) (s : Machine) → HasStates plan s → HasStates plan (begin plan stimulus s)
-  has_states-begin stimulus s h = has_states-does plan (ordinary plan (Begins plan stimulus) (Unit {0})) (does-begin plan stimulus s) (record { kinds = h.kinds; switches = h.switches; modes = h.modes; devices = h.devices; coils = h.coils })
+  has_states-begin stimulus s h = has_states-does plan (ordinary plan (Begins plan stimulus) (Unit {0})) (does-begin plan stimulus s) (record { kinds = h.kinds; switches = h.switches; modes = h.modes; devices = h.devices; coils = h.coils; players = h.players })
 
   pub has_states-after : (stimulus : Stimulus) (s : Machine) (n : ℕ) (t : Machine) → EventSteps plan n (begin plan stimulus s) t → HasStates plan s → HasStates plan t
   has_states-after stimulus s n t steps h = steps-keep plan (λ before. HasStates plan) (λ before. has_states-step) [] n (begin plan stimulus s) t steps (has_states-begin stimulus s h)
@@ -339,7 +351,7 @@ module _ (plan : PlanView) where
       (run-keeps plan (λ before. HasStates plan) (λ before. has_states-step) (λ before stimulus m allowed empty k. has_states-begin stimulus m k) [] stimuli s trace t run h).1
 
   pub has_states-initial : HasStates plan (initial plan)
-  has_states-initial = record { kinds = refl; switches = length-map plan.switches (λ s. idle s.kind); modes = length-replicate (length plan.modes) (in_phase Idle); devices = initial-devices plan; coils = off-has_coils plan }
+  has_states-initial = record { kinds = refl; switches = length-map plan.switches (λ s. idle s.kind); modes = length-replicate (length plan.modes) (in_phase Idle); devices = initial-devices plan; coils = off-has_coils plan; players = record { few = omega arith; current = omega arith } }
 
   pub complete : (s : Machine) → IsValid plan → HasStates plan s → IsComplete s.switches
   complete s valid h =

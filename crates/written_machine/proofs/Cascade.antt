@@ -23,7 +23,6 @@ use Rattle.written_machine.specs.GoodRun.{cost_if_accepted, cost_of_stimulus, we
 use Rattle.written_machine.specs.CheckedView.{CheckedView}
 use Rattle.cascade_rank.specs.Verified.{IsVerified}
 use Rattle.written_machine.proofs.Does.{potential, potential-does, AreOfPlan, WaitsInPlan, waits-does, HasStates, has_states-does, due-row, has_devices-does}
-use Rattle.written_machine.specs.Devices.{HasDevices}
 use Rattle.written_machine.proofs.Parts.{TakesPart, Begins, ordinary, working, does-order, does-begin, does-before, does-after}
 use Rattle.written_machine.proofs.Pricing.{handlers-priced, before-priced, after-priced, IsFired, stimulus-priced, fire-within_bound}
 use Rattle.written_machine.proofs.Growth.{event-grows}
@@ -92,9 +91,9 @@ module _ (plan : PlanView) (valid : IsValid plan) (w : EventId → ℕ) (fits : 
       let starts = before-priced plan valid.entries w work (taken st.first st.rest s) has in
       let done = all_do (do_handler plan) st.order ready in
       let after = potential-does plan w (does-after plan (is_kept work s) st.first.event done) in
-      let begun : HasStates plan (taken st.first st.rest s) = record { kinds = states.kinds; switches = states.switches; modes = states.modes; devices = states.devices; coils = states.coils } in
+      let begun : HasStates plan (taken st.first st.rest s) = record { kinds = states.kinds; switches = states.switches; modes = states.modes; devices = states.devices; coils = states.coils; players = states.players } in
       let handled = has_states-does plan (ordinary plan (TakesPart ready) ⊥) (does-order plan ready st.first.event st.order st.in_order) (has_states-does plan working opens begun) in
-      let led = after-priced plan valid.entries w work done handled.coils in
+      let led = after-priced plan valid.entries w work done handled.coils handled.players in
       let paid = order_cost plan w ready st.first.event st.order st.in_order in
       let line = length-append s.lines (record { moment = s.moment; owner = st.first.owner; happening = lines.Event st.first.event } ∷ []) in
       let weighs = ap (weigh w) st.waiting in

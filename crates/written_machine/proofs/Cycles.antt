@@ -6,7 +6,7 @@ use Rattle.plan_tables.specs.declared.entries.ModeId.{ModeId}
 use Rattle.plan_tables.specs.declared.entries.ModeEvent.{ModeEvent}
 use Rattle.plan_tables.specs.declared.entries.ModeEvent.TheVariants.{WillStart, Starting, Started, Stopping, Stopped}
 use Rattle.plan_tables.specs.declared.entries.Work.{Work}
-use Rattle.plan_tables.specs.declared.entries.Work.TheVariants.{Nothing, Mode}
+use Rattle.plan_tables.specs.declared.entries.Work.TheVariants.{Nothing, Mode, Game}
 use Rattle.mode_stack.specs.declared.phase.Phase.{Phase}
 use Rattle.mode_stack.specs.declared.phase.Phase.TheVariants as phases
 use Rattle.mode_stack.specs.ModeStep.{is_running}
@@ -15,6 +15,7 @@ use Rattle.event_queue.specs.declared.queue.Posted.{Posted}
 -- those of the mode: of one event, and of the events that wait
 abbrev pub mine : ModeId → Work → List ModeEvent → List ModeEvent
 mine m Nothing rest = rest
+mine m (Game which) rest = rest
 mine m (Mode k which) rest = cond (k.0 == m.0) (which ∷ rest) rest
 
 abbrev pub waiting_of : PlanView → ModeId → List Posted → List ModeEvent
@@ -34,6 +35,7 @@ pub data IsTurn : Phase → List ModeEvent → Type 0 where
 
 mine-push : (m : ModeId) (w : Work) (xs ys : List ModeEvent) → mine m w (xs ++ ys) ≡ mine m w xs ++ ys
 mine-push m Nothing xs ys = refl
+mine-push m (Game which) xs ys = refl
 mine-push m (Mode k which) xs ys = pick (k.0 == m.0) which xs ys
   where
     pick : (b : Bool) (which : ModeEvent) (xs ys : List ModeEvent) → cond b (which ∷ xs ++ ys) (xs ++ ys) ≡ cond b (which ∷ xs) xs ++ ys

@@ -1,5 +1,5 @@
 -- What one cost pays for: single changes of the machine, one after another, each by a licence.
-use Rattle.std.proofs.Common.{◌≡◌, ℕ, zero, suc, ◌+◌, ◌≤◌, ◌<◌, inl, inr, Some, Bool, true, false, List, [], ◌∷◌, ◌++◌, length, length-append, slice_index_or, slice_set, if◌then◌else◌, map, Contains, refl, ap, sym, subst, ◌∙◌, arith}
+use Rattle.std.proofs.Common.{◌≡◌, ℕ, ℤ, zero, suc, ◌+◌, ◌-◌, ◌≤◌, ◌<◌, inl, inr, Option, None, Some, Bool, true, false, List, [], ◌∷◌, ◌++◌, length, length-append, slice_index_or, slice_set, if◌then◌else◌, map, Contains, refl, ap, sym, subst, ◌∙◌, arith}
 use Rattle.std.proofs.lemmas.Bool.{cases_eq, cases_lt, false≢true}
 use Rattle.std.proofs.lemmas.Option.{none-some}
 use Rattle.std.specs.List.{All, AllByRecursion, list_any}
@@ -12,6 +12,8 @@ use Rattle.plan_tables.specs.declared.entries.Owner.{Owner}
 use Rattle.plan_tables.specs.declared.entries.CoilId.{CoilId}
 use Rattle.plan_tables.specs.declared.entries.SwitchId.{SwitchId}
 use Rattle.plan_tables.specs.declared.entries.ModeId.{ModeId}
+use Rattle.plan_tables.specs.declared.entries.VariableId.{VariableId}
+use Rattle.plan_tables.specs.declared.entries.GameEvent.{GameEvent}
 use Rattle.plan_tables.specs.declared.entries.ModeEvent.TheVariants.{WillStart, Stopping}
 use Rattle.plan_tables.specs.declared.entries.Owner.TheVariants as owners
 use Rattle.plan_tables.specs.declared.devices.RowId.{RowId}
@@ -23,6 +25,10 @@ use Rattle.device_objects.proofs.Shapes.{states_keep_their_shape}
 use Rattle.mode_stack.specs.declared.phase.ModeState.{ModeState}
 use Rattle.mode_stack.specs.ModeStep.{starts, started, stopped, stop_answer}
 use Rattle.mode_stack.specs.Modes.{needs_game, mode_state}
+use Rattle.player_game.specs.Players.{PlayersState, player_at, with_value, after_change}
+use Rattle.player_game.specs.GameStep.{GameStep, game_step}
+use Rattle.player_game.specs.Choices.{AreFew}
+use Rattle.player_game.proofs.StayFew.{players_stay_few}
 use Rattle.cascade_rank.proofs.Within.{mode_event-within}
 use Rattle.switch_core.specs.SwitchStep.{SwitchState}
 use Rattle.switch_core.specs.Switches.{all_idle, set_state}
@@ -39,7 +45,7 @@ use Rattle.coil_guard.specs.Limits.{IsWithin, no_limits}
 use Rattle.plan_tables.proofs.Owners.{is_owner-same}
 use Rattle.coil_guard.specs.Asked.{limits_of, after_asking, answer_asking}
 use Rattle.written_machine.specs.Allowed.{ActionsAreAllowed}
-use Rattle.written_machine.specs.Machine.{ask_coil, told, Machine, write, post, set_switches, set_mode, set_device, has_game, is_post, post_if, start_mode, stop_mode, all_do, world_of, device_state, device_at, called}
+use Rattle.written_machine.specs.Machine.{ask_coil, told, Machine, write, post, set_switches, set_mode, set_device, set_players, set_game, home_of, has_game, is_post, post_if, start_mode, stop_mode, all_do, world_of, device_state, device_at, called}
 use Rattle.written_machine.specs.Devices.{HasDevices, ActsAreOwn}
 use Rattle.written_machine.specs.FreePosts.{PostsAreFree, IsFree}
 use Rattle.written_machine.specs.GoodRun.{weigh}
@@ -60,6 +66,14 @@ pub data Move : Type 0 where
   Turned : (call : Call) (r : RowId) → Move
   -- an owner asks for a command to a coil
   Asked : (owner : Owner) (command : Command) → Move
+  -- a variable of the current player has this value from now on, where there is one
+  Varied : (v : VariableId) (value : Option ℤ) → Move
+  -- the game goes on by one of its events
+  Stepped : (which : GameEvent) → Move
+
+-- what an event of the game leads to
+abbrev pub step_now : PlanView → GameEvent → Machine → GameStep
+step_now plan which s = game_step plan.game plan which (home_of s) s.game s.players
 
 abbrev pub do_move : PlanView → Move → Machine → Machine
 do_move plan (Wrote owner what) s = write owner what s
@@ -70,6 +84,8 @@ do_move plan (Ended m) s = stop_mode plan m s
 do_move plan (Marked m state) s = set_mode m state s
 do_move plan (Turned call r) s = set_device r (called plan call r s).0 s
 do_move plan (Asked owner command) s = ask_coil owner command s
+do_move plan (Varied v value) s = set_players (after_change plan v value s.players) s
+do_move plan (Stepped which) s = set_players (step_now plan which s).players (set_game (step_now plan which s).game s)
 
 abbrev pub cost_of_move : PlanView → Move → Cost
 cost_of_move plan (Wrote owner what) = Lines 1
@@ -80,6 +96,8 @@ cost_of_move plan (Ended m) = cost_of_post (mode_event plan m Stopping)
 cost_of_move plan (Marked m state) = Lines 0
 cost_of_move plan (Turned call r) = Lines 0
 cost_of_move plan (Asked owner command) = Lines 1
+cost_of_move plan (Varied v value) = Lines 0
+cost_of_move plan (Stepped which) = Lines 0
 
 -- the line is not that of an event: those come only as events are taken
 abbrev pub IsNoEvent : Happening → Type 0
@@ -87,6 +105,8 @@ IsNoEvent (lines.Switch n active) = Unit {0}
 IsNoEvent (lines.Event e) = ⊥
 IsNoEvent (lines.Coil command) = Unit {0}
 IsNoEvent (lines.Skip command) = Unit {0}
+IsNoEvent (lines.Player player v value) = Unit {0}
+IsNoEvent (lines.Final player score) = Unit {0}
 
 -- nor that of a command: those come only as coils are asked
 abbrev pub IsNoCommand : Happening → Type 0
@@ -94,6 +114,8 @@ IsNoCommand (lines.Switch n active) = Unit {0}
 IsNoCommand (lines.Event e) = Unit {0}
 IsNoCommand (lines.Coil command) = ⊥
 IsNoCommand (lines.Skip command) = ⊥
+IsNoCommand (lines.Player player v value) = Unit {0}
+IsNoCommand (lines.Final player score) = Unit {0}
 
 -- where it is a mode, an action of it enables the coil
 abbrev pub MayHold : PlanView → CoilId → Owner → Type 0
@@ -117,7 +139,7 @@ pub record Licence : Type 1 where
 -- What a licence allows. Where the plan's numbers are those of entries, only events and modes of the plan are touched.
 -- Owners are looked at where bindings act on devices of their own owner alone.
 abbrev pub MayDo : PlanView → Licence → Move → Type 0
-MayDo plan l (Wrote owner what) = l.by owner × IsNoEvent what × IsNoCommand what
+MayDo plan l (Wrote owner what) = (ActsAreOwn plan → l.by owner) × IsNoEvent what × IsNoCommand what
 MayDo plan l (Sent owner e) = (ActsAreOwn plan → l.by owner) × (HasEntries plan → e.0 < length plan.events) × l.posts e
 MayDo plan l (Switched n switch) = l.switches
 MayDo plan l (Began m) = HasEntries plan → m.0 < length plan.modes
@@ -125,8 +147,10 @@ MayDo plan l (Ended m) = HasEntries plan → m.0 < length plan.modes
 MayDo plan l (Marked m state) = l.marks
 MayDo plan l (Turned call r) = ActsAreOwn plan → l.by (row_at plan r).owner
 MayDo plan l (Asked owner command) = (ActsAreOwn plan → l.by owner) × (ActionsAreAllowed plan → IsWithin (limits_of plan) command) × IsListed plan owner command
+MayDo plan l (Varied v value) = Unit {0}
+MayDo plan l (Stepped which) = Unit {0}
 
--- where nothing in the plan posts an event at which the machine itself does something, the event is none
+-- where nothing in the plan posts an event at which the machine itself does something, but the start button's, nor does this
 abbrev pub IsFreeThere : PlanView → EventId → Type 0
 IsFreeThere plan e = PostsAreFree plan → IsFree plan e
 
@@ -221,6 +245,8 @@ module _ (plan : PlanView) where
       stop-by plan m s (λ t. potential w t ≤ potential w s + w (mode_event plan m Stopping)) (potential-post w owners.Machine (mode_event plan m Stopping) (ended_mode plan m s)) (omega arith)
   potential-move w (Marked m state) s = omega arith
   potential-move w (Turned call r) s = omega arith
+  potential-move w (Varied v value) s = omega arith
+  potential-move w (Stepped which) s = omega arith
   potential-move w (Asked owner command) s = omega (arith, length-append s.lines (record { moment = s.moment; owner = owner; happening = told command (answer_asking command owner s.moment s.coils) } ∷ []))
 
   pub potential-does : {may : Move → Type 0} (w : EventId → ℕ) {c : Cost} {s t : Machine} → Does plan may c s t → potential w t ≤ potential w s + price w c
@@ -250,6 +276,8 @@ module _ (plan : PlanView) where
   grows-move (Ended m) s = stop-by plan m s (Grows s) (omega arith, omega (arith, length-append s.waiting (record { event = mode_event plan m Stopping; owner = owners.Machine } ∷ []))) (omega arith, omega arith)
   grows-move (Marked m state) s = (omega arith, omega arith)
   grows-move (Turned call r) s = (omega arith, omega arith)
+  grows-move (Varied v value) s = (omega arith, omega arith)
+  grows-move (Stepped which) s = (omega arith, omega arith)
   grows-move (Asked owner command) s = (omega (arith, length-append s.lines (record { moment = s.moment; owner = owner; happening = told command (answer_asking command owner s.moment s.coils) } ∷ [])), omega arith)
 
   pub moment-move : (x : Move) (s : Machine) → (do_move plan x s).moment ≡ s.moment
@@ -261,6 +289,8 @@ module _ (plan : PlanView) where
   moment-move (Marked m state) s = refl
   moment-move (Turned call r) s = refl
   moment-move (Asked owner command) s = refl
+  moment-move (Varied v value) s = refl
+  moment-move (Stepped which) s = refl
 
   -- each coil of the plan has a state, and a mode holds only what its actions enable
   pub record HasCoils (coils : List CoilState) : Type 0 where
@@ -311,13 +341,24 @@ module _ (plan : PlanView) where
         ];
   }
 
-  -- the switches are read as the plan says, and each has a state, as each mode, each device and each coil has
+  -- there are as many players as before where a variable changes
+  varied-few : (v : VariableId) (value : Option ℤ) (p : PlayersState) → AreFew plan p → AreFew plan (after_change plan v value p)
+  varied-few v None p h = h
+  varied-few v (Some value) p h =
+      let same = length-set p.players (p.current - 1) (with_value v value (player_at plan p p.current)) in
+      let few = h.few in
+      let current = h.current in
+      record { few = omega (arith, same, few); current = omega (arith, same, current) }
+
+  -- the switches are read as the plan says, and each has a state, as each mode, each device and each coil has, and there are
+  -- no more players than there can be
   pub record HasStates (s : Machine) : Type 0 where
     pub kinds : s.switches.kinds ≡ (all_idle plan).kinds
     pub switches : length s.switches.states ≡ length plan.switches
     pub modes : length s.modes ≡ length plan.modes
     pub devices : HasDevices plan s.devices
     pub coils : HasCoils s.coils
+    pub players : AreFew plan s.players
 
   turned-has_devices : (call : Call) (r : RowId) (s : Machine) → HasDevices plan s.devices → HasDevices plan (slice_set s.devices r.0 (called plan call r s).0)
   turned-has_devices call r s h = record { count = length-set s.devices r.0 new ∙ h.count; shapes = shapes }
@@ -338,15 +379,15 @@ module _ (plan : PlanView) where
           ]
 
   marked-has_states : (m : ModeId) (state : ModeState) (s : Machine) → HasStates s → HasStates (set_mode m state s)
-  marked-has_states m state s h = record { kinds = h.kinds; switches = h.switches; modes = length-set s.modes m.0 state ∙ h.modes; devices = h.devices; coils = h.coils }
+  marked-has_states m state s h = record { kinds = h.kinds; switches = h.switches; modes = length-set s.modes m.0 state ∙ h.modes; devices = h.devices; coils = h.coils; players = h.players }
 
   posted-has_states : (owner : Owner) (e : EventId) (s : Machine) → HasStates s → HasStates (post owner e s)
-  posted-has_states owner e s h = record { kinds = h.kinds; switches = h.switches; modes = h.modes; devices = h.devices; coils = h.coils }
+  posted-has_states owner e s h = record { kinds = h.kinds; switches = h.switches; modes = h.modes; devices = h.devices; coils = h.coils; players = h.players }
 
   has_states-move : (l : Licence) (x : Move) (s : Machine) → MayDo plan l x → HasStates s → HasStates (do_move plan x s)
-  has_states-move l (Wrote owner what) s may h = record { kinds = h.kinds; switches = h.switches; modes = h.modes; devices = h.devices; coils = h.coils }
+  has_states-move l (Wrote owner what) s may h = record { kinds = h.kinds; switches = h.switches; modes = h.modes; devices = h.devices; coils = h.coils; players = h.players }
   has_states-move l (Sent owner e) s may h = posted-has_states owner e s h
-  has_states-move l (Switched n switch) s may h = record { kinds = h.kinds; switches = length-set s.switches.states n.0 switch ∙ h.switches; modes = h.modes; devices = h.devices; coils = h.coils }
+  has_states-move l (Switched n switch) s may h = record { kinds = h.kinds; switches = length-set s.switches.states n.0 switch ∙ h.switches; modes = h.modes; devices = h.devices; coils = h.coils; players = h.players }
   has_states-move l (Began m) s may h =
       let marked = marked-has_states m _ s h in
       start-by plan m s HasStates (posted-has_states owners.Machine (mode_event plan m WillStart) (begun_mode plan m s) marked) marked
@@ -354,8 +395,11 @@ module _ (plan : PlanView) where
       let marked = marked-has_states m _ s h in
       stop-by plan m s HasStates (posted-has_states owners.Machine (mode_event plan m Stopping) (ended_mode plan m s) marked) marked
   has_states-move l (Marked m state) s may h = marked-has_states m state s h
-  has_states-move l (Turned call r) s may h = record { kinds = h.kinds; switches = h.switches; modes = h.modes; devices = turned-has_devices call r s h.devices; coils = h.coils }
-  has_states-move l (Asked owner command) s may h = record { kinds = h.kinds; switches = h.switches; modes = h.modes; devices = h.devices; coils = asked-has_coils owner command s.moment s.coils may.2 h.coils }
+  has_states-move l (Turned call r) s may h = record { kinds = h.kinds; switches = h.switches; modes = h.modes; devices = turned-has_devices call r s h.devices; coils = h.coils; players = h.players }
+  has_states-move l (Asked owner command) s may h = record { kinds = h.kinds; switches = h.switches; modes = h.modes; devices = h.devices; coils = asked-has_coils owner command s.moment s.coils may.2 h.coils; players = h.players }
+  has_states-move l (Varied v value) s may h = record { kinds = h.kinds; switches = h.switches; modes = h.modes; devices = h.devices; coils = h.coils; players = varied-few v value s.players h.players }
+  has_states-move l (Stepped which) s may h =
+      record { kinds = h.kinds; switches = h.switches; modes = h.modes; devices = h.devices; coils = h.coils; players = players_stay_few plan which (home_of s) s.game s.players h.players }
 
   -- a device that is due is one of the plan
   pub due-row : (s : Machine) (r : RowId) (due : ℕ) → HasDevices plan s.devices → due_of (device_at s r) ≡ Some due → r.0 < length plan.rows
@@ -374,6 +418,8 @@ module _ (plan : PlanView) where
   has_devices-move (Marked m state) s h = h
   has_devices-move (Turned call r) s h = turned-has_devices call r s h
   has_devices-move (Asked owner command) s h = h
+  has_devices-move (Varied v value) s h = h
+  has_devices-move (Stepped which) s h = h
 
   module _ {may : Move → Type 0} {c : Cost} {s t : Machine} where
     pub has_devices-does : Does plan may c s t → HasDevices plan s.devices → HasDevices plan t.devices
@@ -401,6 +447,8 @@ module _ (plan : PlanView) where
     waits-move entries (Marked m state) s may h = h
     waits-move entries (Turned call r) s may h = h
     waits-move entries (Asked owner command) s may h = h
+    waits-move entries (Varied v value) s may h = h
+    waits-move entries (Stepped which) s may h = h
 
     pub waits-does : HasEntries plan → {c : Cost} {s t : Machine} → Does plan (MayDo plan l) c s t → WaitsInPlan s → WaitsInPlan t
     waits-does entries d h = does-keeps plan (MayDo plan l) WaitsInPlan (waits-move entries) d h
@@ -415,6 +463,8 @@ module _ (plan : PlanView) where
     switches-move none (Marked m state) s may = refl
     switches-move none (Turned call r) s may = refl
     switches-move none (Asked owner command) s may = refl
+    switches-move none (Varied v value) s may = refl
+    switches-move none (Stepped which) s may = refl
 
     pub switches-does : (l.switches → ⊥) → {c : Cost} {s t : Machine} → Does plan (MayDo plan l) c s t → t.switches ≡ s.switches
     switches-does none {c} {s} {t} d = does-keeps plan (MayDo plan l) (λ u. u.switches ≡ s.switches) (λ x u may h. switches-move none x u may ∙ h) d refl

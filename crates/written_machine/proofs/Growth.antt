@@ -1,12 +1,14 @@
 -- What the machine does only adds to its lines and waiting events.
-use Rattle.std.proofs.Common.{◌≤◌, ◌<◌, List, [], ◌∷◌, length, length-append, arith}
+use Rattle.std.proofs.Common.{ℕ, ℤ, ◌≤◌, ◌<◌, Option, None, Some, List, [], ◌∷◌, length, length-append, arith}
 use Rattle.plan_tables.specs.PlanView.{PlanView, act_of_listener, listeners_of, posts_of, work_of}
 use Rattle.plan_tables.specs.declared.entries.EventId.{EventId}
 use Rattle.plan_tables.specs.declared.entries.BindingId.{BindingId}
 use Rattle.plan_tables.specs.declared.entries.Owner.{Owner}
 use Rattle.plan_tables.specs.declared.entries.Owner.TheVariants as owners
 use Rattle.plan_tables.specs.declared.entries.Action.{Action}
-use Rattle.plan_tables.specs.declared.entries.Action.TheVariants.{Post, Pulse, Enable, Disable}
+use Rattle.plan_tables.specs.declared.entries.Action.TheVariants.{Post, Pulse, Enable, Disable, Change}
+use Rattle.plan_tables.specs.declared.entries.VariableId.{VariableId}
+use Rattle.player_game.specs.Players.{changed_to, after_change}
 use Rattle.plan_tables.specs.declared.devices.RowId.{RowId}
 use Rattle.device_objects.specs.declared.device.Call.{Call}
 use Rattle.device_objects.specs.declared.device.Call.TheVariants as calls
@@ -17,7 +19,7 @@ use Rattle.switch_core.specs.declared.change.Change.{Change as Acceptance}
 use Rattle.written_machine.specs.declared.line.Line.{Line}
 use Rattle.written_machine.specs.declared.line.Happening.TheVariants as lines
 use Rattle.event_queue.specs.declared.queue.Posted.{Posted}
-use Rattle.written_machine.specs.Machine.{Machine, write, post, ask_coil, told, all_do, do_action, call_device, tell_listener, tell_listeners, do_handler, do_accepted}
+use Rattle.written_machine.specs.Machine.{Machine, write, post, ask_coil, told, all_do, set_players, tell_change, do_action, call_device, tell_listener, tell_listeners, do_handler, do_accepted}
 use Rattle.written_machine.specs.EventStep.{taken, is_kept, before_handlers, after_event}
 use Rattle.written_machine.proofs.Does.{Grows, grows-does}
 use Rattle.written_machine.proofs.Parts.{does-call, does-handler, does-before, does-after}
@@ -37,12 +39,22 @@ pub asked-grows : (owner : Owner) (command : Command) (s : Machine) → Grows s 
 asked-grows owner command s =
     (omega (arith, length-append s.lines (record { moment = s.moment; owner = owner; happening = told command (answer_asking command owner s.moment s.coils) } ∷ [])), omega arith)
 
+pub told-grows : (owner : Owner) (player : ℕ) (v : VariableId) (e : EventId) (value : Option ℤ) (s : Machine) → Grows s (tell_change owner player v e value s)
+told-grows owner player v e None s = (omega arith, omega arith)
+told-grows owner player v e (Some value) s = (
+  omega (arith, length-append s.lines (record { moment = s.moment; owner = owner; happening = lines.Player player v value } ∷ [])),
+  omega (arith, length-append s.waiting (record { event = e; owner = owner } ∷ [])),
+)
+
 module _ (plan : PlanView) where
   pub action-grows : (owner : Owner) (a : Action) (s : Machine) → Grows s (do_action plan owner a s)
   action-grows owner (Post e) s = post-grows owner e s
   action-grows owner (Pulse coil ms power) s = asked-grows owner (commands.Pulse coil ms power) s
   action-grows owner (Enable coil power) s = asked-grows owner (commands.Enable coil power) s
   action-grows owner (Disable coil) s = asked-grows owner (commands.Disable coil) s
+  action-grows owner (Change v action n e) s =
+      let value = changed_to plan v action n s.players in
+      told-grows owner s.players.current v e value (set_players (after_change plan v value s.players) s)
 
   -- whoever takes part
   pub handler-grows : (place : BindingId) (s : Machine) → Grows s (do_handler plan place s)

@@ -1,7 +1,6 @@
 -- What is sent to coils is within their limits, and nothing is skipped for a limit, in every run.
-use Rattle.std.proofs.Common.{◌≡◌, ℕ, ◌+◌, ◌<◌, ◌≤◌, ◌⊎◌, inl, inr, Bool, true, false, not, if◌then◌else◌, Option, None, Some, List, [], ◌∷◌, ◌++◌, length, refl, sym, ap, ◌∙◌, subst, append_assoc, arith}
+use Rattle.std.proofs.Common.{◌≡◌, ℕ, ◌≤◌, ◌⊎◌, inl, inr, Bool, true, false, not, if◌then◌else◌, None, Some, List, [], ◌∷◌, ◌++◌, length, refl, sym, ap, ◌∙◌, subst, append_assoc, arith}
 use Rattle.std.specs.Prelude.{◌&&◌, nat_le}
-use Rattle.std.specs.List.{All, flat_map}
 use Rattle.std.proofs.lemmas.Bool.{false≢true, le-leb}
 use Rattle.std.proofs.lemmas.Grind.{flat_map-append}
 use Rattle.std.proofs.lemmas.List.{append-nil}
@@ -9,8 +8,6 @@ use Rattle.plan_tables.specs.PlanView.{PlanView, work_of}
 use Rattle.plan_tables.specs.Valid.{IsValid}
 use Rattle.plan_tables.specs.declared.entries.CoilId.{CoilId}
 use Rattle.plan_tables.specs.declared.entries.Owner.{Owner}
-use Rattle.plan_tables.specs.declared.entries.Owner.TheVariants as owners
-use Rattle.plan_tables.specs.declared.entries.ModeEvent.TheVariants.{WillStart, Stopping}
 use Rattle.coil_guard.specs.declared.command.Command.{Command}
 use Rattle.coil_guard.specs.declared.command.Command.TheVariants as commands
 use Rattle.coil_guard.specs.declared.command.Answer.{Answer}
@@ -19,7 +16,7 @@ use Rattle.coil_guard.specs.declared.state.CoilState.{CoilState}
 use Rattle.plan_tables.specs.declared.entries.CoilLimits.{CoilLimits}
 use Rattle.coil_guard.specs.Limits.{limits_at, is_pulse_within, is_hold_within, IsWithin}
 use Rattle.coil_guard.specs.CoilStep.{is_on_at, takes_pulse, takes_enable}
-use Rattle.coil_guard.specs.Coils.{coil_at, all_off}
+use Rattle.coil_guard.specs.Coils.{coil_at}
 use Rattle.coil_guard.specs.SentCommands.{Sending, is_on, is_held, is_held_for, is_resting, IsOnThroughout}
 use Rattle.coil_guard.specs.Calls.{CoilCall, after_call, sent_by, sent_as, sent_if, is_pulse_due, is_enable_due, due_by, pulse_sent, enable_sent, disable_sent}
 use Rattle.coil_guard.specs.Calls as calls_of
@@ -27,17 +24,16 @@ use Rattle.coil_guard.specs.Follows.{Follows}
 use Rattle.coil_guard.specs.Asked.{limits_of, after_asking, answer_asking}
 use Rattle.coil_guard.proofs.Following.{new_follows, calls_follow, later_follows, followers_send_what_is_due}
 use Rattle.cascade_rank.specs.Cost.{Cost}
-use Rattle.event_queue.specs.declared.queue.Posted.{Posted}
 use Rattle.written_machine.specs.declared.line.Line.{Line}
 use Rattle.written_machine.specs.declared.line.Happening.{Happening}
 use Rattle.written_machine.specs.declared.line.Happening.TheVariants as lines
 use Rattle.written_machine.specs.Machine.{Machine, initial, write, told, ask_coil}
-use Rattle.written_machine.specs.EventStep.{taken, before_handlers, do_after, EventStep}
+use Rattle.written_machine.specs.EventStep.{taken, EventStep}
 use Rattle.written_machine.specs.Run.{Stimulus, moment_of, IsAllowed, IsNothingLate, arrived, begin, IsRun}
 use Rattle.written_machine.specs.Allowed.{ActionsAreAllowed}
 use Rattle.written_machine.specs.Sent.{sent_at, sent_in, sendings, IsIdle, AreSkippedIdle}
-use Rattle.written_machine.proofs.Does.{Move, Wrote, Sent, Switched, Began, Ended, Marked, Turned, Asked, do_move, start-by, stop-by, Licence, MayDo, Does, does-keeps, IsNoCommand}
-use Rattle.written_machine.proofs.Parts.{TakesPart, Begins, ordinary, working, MayHandle, does-before, does-after, does-begin}
+use Rattle.written_machine.proofs.Does.{Move, Wrote, Sent, Switched, Began, Ended, Marked, Turned, Asked, Varied, Stepped, do_move, start-by, stop-by, Licence, MayDo, Does, does-keeps, IsNoCommand}
+use Rattle.written_machine.proofs.Parts.{TakesPart, Begins, ordinary, working, does-before, does-after, does-begin}
 use Rattle.written_machine.proofs.Held.{IsHolding}
 use Rattle.written_machine.proofs.Keeps.{step-keeps, run-keeps}
 use Rattle.written_machine.proofs.Alarms.{not_late-steps, not_late-begin, not_late-initial, allowed-first, forward}
@@ -167,6 +163,8 @@ no-sending moment owner (lines.Switch n active) is = refl
 no-sending moment owner (lines.Event e) is = refl
 no-sending moment owner (lines.Coil command) is = absurd is
 no-sending moment owner (lines.Skip command) is = absurd is
+no-sending moment owner (lines.Player player v value) is = refl
+no-sending moment owner (lines.Final player score) is = refl
 
 -- ---- every move
 
@@ -226,6 +224,8 @@ module _ (plan : PlanView) (allowed : ActionsAreAllowed plan) where
       stop-by plan m s (IsGuarded before) (record { follows = h.follows; idle = h.idle }) (record { follows = h.follows; idle = h.idle })
   guarded-move licence before (Marked m state) s may h = record { follows = h.follows; idle = h.idle }
   guarded-move licence before (Turned call r) s may h = record { follows = h.follows; idle = h.idle }
+  guarded-move licence before (Varied v value) s may h = record { follows = h.follows; idle = h.idle }
+  guarded-move licence before (Stepped which) s may h = record { follows = h.follows; idle = h.idle }
   guarded-move licence before (Asked owner command) s may h = asked-guarded before owner command s (may.1 allowed) h
 
   guarded-does : (licence : Licence) (before : List Line) {c : Cost} {s t : Machine} → Does plan (MayDo plan licence) c s t → IsGuarded before s → IsGuarded before t

@@ -11,7 +11,7 @@ use Rattle.plan_tables.specs.declared.entries.ModeEvent.TheVariants.{WillStart, 
 use Rattle.plan_tables.specs.declared.entries.Owner.{Owner}
 use Rattle.plan_tables.specs.declared.entries.Owner.TheVariants as owners
 use Rattle.plan_tables.specs.declared.entries.Work.{Work}
-use Rattle.plan_tables.specs.declared.entries.Work.TheVariants.{Nothing, Mode}
+use Rattle.plan_tables.specs.declared.entries.Work.TheVariants.{Nothing, Mode, Game}
 use Rattle.plan_tables.proofs.Worked.{work_found}
 use Rattle.event_queue.specs.declared.queue.Posted.{Posted}
 use Rattle.written_machine.specs.declared.line.Line.{Line}
@@ -31,6 +31,8 @@ work_written plan (lines.Event e) = work_of plan e
 work_written plan (lines.Switch n active) = Nothing
 work_written plan (lines.Coil command) = Nothing
 work_written plan (lines.Skip command) = Nothing
+work_written plan (lines.Player player v value) = Nothing
+work_written plan (lines.Final player score) = Nothing
 
 abbrev pub written : PlanView → Line → Said
 written plan l = record { owner = l.owner; work = work_written plan l.happening }
@@ -57,6 +59,7 @@ heard_at Stopped on = false
 
 abbrev pub heard_after : ModeId → Bool → Work → Bool
 heard_after m on Nothing = on
+heard_after m on (Game which) = on
 heard_after m on (Mode k which) = cond (k.0 == m.0) (heard_at which on) on
 
 abbrev pub heard : ModeId → Bool → List Said → Bool
@@ -104,14 +107,17 @@ module _ (plan : PlanView) (valid : IsValid plan) (m : ModeId) (within : m.0 < l
 
   abbrev event_in : Work → ModeEvent
   event_in Nothing = WillStart
+  event_in (Game which) = WillStart
   event_in (Mode k which) = which
 
   abbrev number_in : Work → ℕ
   number_in Nothing = 0
+  number_in (Game which) = 0
   number_in (Mode k which) = k.0
 
   work-heard : (on : Bool) (w : Work) → heard_after m on w ≡ true → (w ≡ Mode m Started) ⊎ ((on ≡ true) × (w ≡ Mode m Stopped → ⊥))
   work-heard on Nothing h = inr (h, λ is. search rules)
+  work-heard on (Game which) h = inr (h, λ is. search rules)
   work-heard on (Mode k which) h =
       elim (cases_eq k.0 m.0) [
         | inl is ↦
@@ -127,6 +133,8 @@ module _ (plan : PlanView) (valid : IsValid plan) (m : ModeId) (within : m.0 < l
   started_line (lines.Switch n active) is = absurd (search rules)
   started_line (lines.Coil command) is = absurd (search rules)
   started_line (lines.Skip command) is = absurd (search rules)
+  started_line (lines.Player player v value) is = absurd (search rules)
+  started_line (lines.Final player score) is = absurd (search rules)
 
   stopped_work : (h : Happening) → h ≡ lines.Event (mode_event plan m Stopped) → work_written plan h ≡ Mode m Stopped
   stopped_work h is = subst (λ (g : Happening). work_written plan g ≡ Mode m Stopped) (sym is) (valid.works m Stopped within)

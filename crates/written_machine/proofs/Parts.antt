@@ -1,12 +1,12 @@
 -- What each part of the machine does, and by which licence.
-use Rattle.std.proofs.Common.{◌≡◌, ℕ, ◌<◌, ◌≤◌, get_or, if◌then◌else◌, Bool, true, false, Option, Some, None, List, [], length, refl, sym, ap, subst, inl, inr, arith}
-use Rattle.std.specs.List.{All}
+use Rattle.std.proofs.Common.{◌≡◌, ℕ, ℤ, ◌<◌, ◌≤◌, get_or, if◌then◌else◌, Bool, true, false, Option, Some, None, List, [], length, refl, sym, ap, subst, inl, inr, arith}
+use Rattle.std.specs.List.{All, range_with_len}
 use Rattle.std.specs.Prelude.{Contains}
 use Rattle.std.proofs.lemmas.Bool.{cases_lt}
 use Rattle.std.proofs.lemmas.List.{get_or_past}
 use Rattle.std.proofs.lemmas.List.Elements.{All-get_or, All-nil, filter_passes}
 use Rattle.std.proofs.lemmas.List.Sorted.{All-permutation}
-use Rattle.plan_tables.specs.PlanView.{PlanView, act_of_listener, actions_of, coil_numbers, listeners_of, no_row, no_switch, no_binding, switch_at, posts_of, actions_at, binding_at, is_owner, list_of_row, places_of, mode_event, row_at, row_numbers, rows_of, work_of}
+use Rattle.plan_tables.specs.PlanView.{PlanView, act_of_listener, actions_of, coil_numbers, listeners_of, no_row, no_switch, no_binding, switch_at, posts_of, actions_at, binding_at, is_owner, list_of_row, places_of, game_event, mode_event, row_at, row_numbers, rows_of, work_of}
 use Rattle.plan_tables.specs.Valid.{HasEntries, IsEventWithin, IsActionWithin, IsBindingWithin, IsTargetWithin, IsWorkAt}
 use Rattle.plan_tables.specs.declared.entries.EventId.{EventId}
 use Rattle.plan_tables.specs.declared.entries.ListId.{ListId}
@@ -15,11 +15,14 @@ use Rattle.plan_tables.specs.declared.entries.SwitchId.{SwitchId}
 use Rattle.plan_tables.specs.declared.entries.ModeEvent.TheVariants.{WillStart, Starting, Started, Stopping, Stopped}
 use Rattle.plan_tables.specs.declared.entries.ModeId.{ModeId}
 use Rattle.plan_tables.specs.declared.entries.Work.{Work}
-use Rattle.plan_tables.specs.declared.entries.Work.TheVariants.{Nothing, Mode}
+use Rattle.plan_tables.specs.declared.entries.Work.TheVariants.{Nothing, Mode, Game}
+use Rattle.plan_tables.specs.declared.entries.GameEvent.{GameEvent}
+use Rattle.plan_tables.specs.declared.entries.VariableId.{VariableId}
+use Rattle.player_game.specs.Players.{is_met, changed_to, after_change as players_after_change, score_of}
 use Rattle.plan_tables.specs.declared.entries.Owner.{Owner}
 use Rattle.plan_tables.specs.declared.entries.Owner.TheVariants as owners
 use Rattle.plan_tables.specs.declared.entries.Action.{Action}
-use Rattle.plan_tables.specs.declared.entries.Action.TheVariants.{Post, Pulse, Enable, Disable}
+use Rattle.plan_tables.specs.declared.entries.Action.TheVariants.{Post, Pulse, Enable, Disable, Change as ChangeVariable}
 use Rattle.plan_tables.specs.declared.entries.Target.{Target}
 use Rattle.plan_tables.specs.declared.entries.Target.TheVariants.{Run, Start, Stop, Act}
 use Rattle.plan_tables.specs.Devices.{list_count}
@@ -40,18 +43,19 @@ use Rattle.switch_core.specs.Switches.{kind_at, state_at, after_change, reported
 use Rattle.mode_stack.specs.ModeStep.{entered, ended}
 use Rattle.mode_stack.specs.Modes.{mode_state, running_of}
 use Rattle.written_machine.specs.declared.line.Happening.TheVariants as lines
-use Rattle.cascade_rank.specs.Cost.{Cost, Lines, Both, each_of, cost_of_post, cost_of_action, cost_of_list, cost_of_answer, cost_of_target, cost_of_binding, led_by, cost_if_led, cost_of_acceptance}
+use Rattle.cascade_rank.specs.Cost.{Cost, Lines, Both, each_of, cost_of_post, cost_of_action, cost_of_list, cost_of_answer, cost_of_target, cost_of_binding, led_by, cost_if_led, cost_of_choice}
+use Rattle.cascade_rank.proofs.Games.{game_event-below, game_has-event}
 use Rattle.cascade_rank.proofs.Within.{posts-below, mode_event-within}
 use Rattle.event_queue.specs.Handlers.{takes_part, runs_at, handlers, IsHandlerOrder}
-use Rattle.written_machine.specs.Machine.{Machine, write, post, ask_coil, release_coil, release_coils, set_switches, set_mode, set_device, all_do, do_action, do_list, world_of, device_at, called, call_device, call_devices, tell_listener, tell_listeners, do_target, do_handler, do_accepted, do_if_accepted}
+use Rattle.written_machine.specs.Machine.{Machine, write, post, ask_coil, release_coil, release_coils, set_switches, set_mode, set_device, set_players, all_do, tell_change, post_game, write_final, write_finals, do_game, do_action, do_list, world_of, device_at, called, call_device, call_devices, tell_listener, tell_listeners, do_target, do_handler, do_accepted, do_if_accepted}
 use Rattle.written_machine.specs.EventStep.{do_before, do_after, handlers_in}
 use Rattle.written_machine.specs.Run.{switch, device, Stimulus, Change, Alarm, Wait, moment_of, arrived, begin}
-use Rattle.written_machine.specs.GoodRun.{cost_if_accepted, cost_of_stimulus}
+use Rattle.written_machine.specs.GoodRun.{cost_of_stimulus}
 use Rattle.written_machine.specs.Devices.{ActsAreOwn, IsOwnAct, IsOwnListener}
 use Rattle.written_machine.specs.Allowed.{IsAllowed, ActionsAreAllowed}
 use Rattle.written_machine.specs.FreePosts.{IsFree, IsFreeAction, IsFreeSwitch, PostsAreFree}
 use Rattle.written_machine.proofs.Listed.{binding-among, row-among, contains-at, enable-listed}
-use Rattle.written_machine.proofs.Does.{Move, Wrote, Sent, Switched, Began, Ended, Marked, Turned, Asked, Licence, MayDo, MayHold, IsFreeThere, Does, quiet, moved, both, less, each_now, all_do-does, all_do-does_now, does-weaker}
+use Rattle.written_machine.proofs.Does.{Move, Wrote, Sent, Switched, Began, Ended, Marked, Turned, Asked, Varied, Stepped, step_now, do_move, Licence, MayDo, MayHold, IsFreeThere, Does, quiet, moved, both, less, each_now, all_do-does, all_do-does_now, does-weaker}
 
 -- ---- licences
 
@@ -193,8 +197,9 @@ module _ (plan : PlanView) where
   target_now (Stop m) s = cost_of_target plan (Stop m)
   target_now (Act r act) s = call_now (calls.Act act) r s
 
+  -- where its condition is not met, a handler costs nothing
   abbrev pub handler_now : BindingId → Machine → Cost
-  handler_now place s = target_now (binding_at plan place).target s
+  handler_now place s = if is_met plan s.players (binding_at plan place).condition then target_now (binding_at plan place).target s else Lines 0
 
   -- all devices of a mode
   abbrev pub calls_now : Call → ModeId → Machine → Cost
@@ -237,6 +242,17 @@ module _ (plan : PlanView) where
   before_now (Mode m Started) s = Both (Lines 0) (calls_now calls.ModeStart m (set_mode m (entered (mode_state s.modes m)) s))
   before_now (Mode m Stopping) s = Lines 0
   before_now (Mode m Stopped) s = Lines 0
+  before_now (Game which) s = Lines 0
+
+  -- a line for each player, where scores are told
+  abbrev pub finals_now : Bool → Machine → Cost
+  finals_now true s = each_of (λ player. Lines 1) (range_with_len 1 (length s.players.players))
+  finals_now false s = Lines 0
+
+  -- what an event of the game leads to
+  abbrev pub game_now : GameEvent → Machine → Cost
+  game_now which s =
+      Both (Lines 0) (Both (finals_now (step_now plan which s).finals (do_move plan (Stepped which) s)) (cost_of_choice plan (step_now plan which s).posts))
 
   abbrev pub after_now : Work → Machine → Cost
   after_now Nothing s = cost_if_led (led_by plan Nothing)
@@ -246,6 +262,7 @@ module _ (plan : PlanView) where
   after_now (Mode m Stopping) s =
       Both (calls_now calls.ModeStop m s) (Both (releases_now m (call_devices plan calls.ModeStop m s)) (Both (Lines 0) (cost_if_led (led_by plan (Mode m Stopping)))))
   after_now (Mode m Stopped) s = cost_if_led (led_by plan (Mode m Stopped))
+  after_now (Game which) s = game_now which s
 
   module _ (by : Owner → Type 0) (switches : Type 0) where
     abbrev May : Move → Type 0
@@ -263,11 +280,22 @@ module _ (plan : PlanView) where
     may-hold owners.Machine coil power is = tt
     may-hold (owners.Mode m) coil power is = enable-listed plan (owners.Mode m) coil power is
 
+    -- a variable that has changed is told
+    does-told : (owner : Owner) → (ActsAreOwn plan → by owner) → (player : ℕ) (v : VariableId) (e : EventId) → (HasEntries plan → e.0 < length plan.events) → IsFreeThere plan e → (value : Option ℤ) (s : Machine)
+        → Does plan May (Both (Lines 1) (cost_of_post e)) s (tell_change owner player v e value s)
+    does-told owner may player v e within free None s = less quiet (λ w. omega arith)
+    does-told owner may player v e within free (Some value) s =
+        both (moved (Wrote owner (lines.Player player v value)) s (may, tt, tt)) (moved (Sent owner e) (write owner (lines.Player player v value) s) (may, within, free))
+
     does-action : (owner : Owner) → (ActsAreOwn plan → by owner) → (a : Action) (s : Machine) → IsFit owner a → Does plan May (cost_of_action plan a) s (do_action plan owner a s)
     does-action owner may (Post e) s h = moved (Sent owner e) s (may, h.within, h.free)
     does-action owner may (Pulse coil ms power) s h = moved (Asked owner (commands.Pulse coil ms power)) s (may, h.allowed, tt)
     does-action owner may (Enable coil power) s h = moved (Asked owner (commands.Enable coil power)) s (may, h.allowed, may-hold owner coil power h.own)
     does-action owner may (Disable coil) s h = moved (Asked owner (commands.Disable coil)) s (may, h.allowed, tt)
+    does-action owner may (ChangeVariable v action n e) s h =
+        let value = changed_to plan v action n s.players in
+        less (both (moved (Varied v value) s tt)
+        (does-told owner may s.players.current v e (λ entries. (h.within entries).1) h.free value (set_players (players_after_change plan v value s.players) s))) (λ w. omega arith)
 
     does-list : (owner : Owner) → (ActsAreOwn plan → by owner) → (l : ListId) → All (IsItsOwn owner) (actions_at plan l) → (s : Machine) → Does plan May (cost_of_list plan l) s (do_list plan owner l s)
     does-list owner may l own s =
@@ -295,7 +323,14 @@ module _ (plan : PlanView) where
     does-target owner may (Act r act) there own ran s = does-call (calls.Act act) r (λ acts. subst by (sym (own acts)) (may acts)) s
 
     pub does-handler : (place : BindingId) (s : Machine) → by (binding_at plan place).owner → Does plan May (handler_now place s) s (do_handler plan place s)
-    does-handler place s may = does-target (binding_at plan place).owner (λ own. may) (binding_at plan place).target (λ entries. target-there entries place) (λ own. target-own own place) (binding-own place) s
+    does-handler place s may = if_met (is_met plan s.players (binding_at plan place).condition)
+      where
+        met : Does plan May (target_now (binding_at plan place).target s) s (do_target plan (binding_at plan place).owner (binding_at plan place).target s)
+        met = does-target (binding_at plan place).owner (λ own. may) (binding_at plan place).target (λ entries. target-there entries place) (λ own. target-own own place) (binding-own place) s
+
+        if_met : (b : Bool) → Does plan May (if b then target_now (binding_at plan place).target s else Lines 0) s (if b then do_target plan (binding_at plan place).owner (binding_at plan place).target s else s)
+        if_met true = met
+        if_met false = quiet
 
     pub does-handlers : (order : List BindingId) → All (λ p. by (binding_at plan p).owner) order → (s : Machine) → Does plan May (each_now (do_handler plan) handler_now order s) s (all_do (do_handler plan) order s)
     does-handlers order may s = all_do-does_now plan May (do_handler plan) handler_now (λ p. by (binding_at plan p).owner) does-handler order may s
@@ -319,7 +354,7 @@ module _ (plan : PlanView) where
     pub does-accepted : by owners.Machine → (a : Acceptance) (s : Machine) → Does plan May (accepted_now a s) s (do_accepted plan a s)
     does-accepted may a s =
         let begun = write owners.Machine (lines.Switch a.switch a.active) s in
-        both (moved (Wrote owners.Machine (lines.Switch a.switch a.active)) s (may, tt, tt))
+        both (moved (Wrote owners.Machine (lines.Switch a.switch a.active)) s (λ own. may, tt, tt))
         (both (does-listeners may a begun)
         (does-posts owners.Machine (λ own. may) (posts_of plan a.switch a.active) (λ entries. posts-below plan entries a.switch a.active) (λ free. posts-free free a.switch a.active)
         (tell_listeners plan a begun)))
@@ -377,6 +412,8 @@ module _ (plan : PlanView) where
       works (Marked k state) may = absurd may
       works (Turned turn r) may = may
       works (Asked owner command) may = may
+      works (Varied v value) may = may
+      works (Stepped which) may = may
 
   pub does-before : (w : Work) (s : Machine) → Does plan (MayWork plan) (before_now w s) s (do_before plan w s)
   does-before Nothing s = quiet
@@ -385,31 +422,53 @@ module _ (plan : PlanView) where
   does-before (Mode m Started) s = both (moved (Marked m (entered (mode_state s.modes m))) s tt) (works-calls calls.ModeStart m (set_mode m (entered (mode_state s.modes m)) s))
   does-before (Mode m Stopping) s = quiet
   does-before (Mode m Stopped) s = quiet
+  does-before (Game which) s = quiet
 
-  does-after_work : (kept : Bool) (w : Work) (e : EventId) → IsWorkAt plan e w → (s : Machine) → Does plan (MayWork plan) (after_now w s) s (do_after plan kept w s)
-  does-after_work kept Nothing e at s = quiet
-  does-after_work kept (Mode m WillStart) e at s = moved (Sent owners.Machine (mode_event plan m Starting)) s (λ own. tt, λ entries. mode_event-within plan entries m Starting at.0, tt)
-  does-after_work kept (Mode m Starting) e at s = moved (Sent owners.Machine (mode_event plan m Started)) s (λ own. tt, λ entries. mode_event-within plan entries m Started at.0, tt)
-  does-after_work true (Mode m Started) e at s = moved (Ended m) s (λ entries. at.0)
-  does-after_work false (Mode m Started) e at s = less quiet (λ w. omega arith)
-  does-after_work kept (Mode m Stopping) e at s =
+  -- the scores of all players are told, where this holds
+  does-finals : (told : Bool) (s : Machine) → Does plan (MayWork plan) (finals_now told s) s (write_finals plan told s)
+  does-finals true s =
+      all_do-does plan (MayWork plan) (write_final plan) (λ player. Lines 1) (λ player. Unit {0}) (λ player t h. moved (Wrote owners.Machine (lines.Final player (score_of plan t.players player))) t (λ own. tt, tt, tt))
+      (range_with_len 1 (length s.players.players)) (λ k d there. tt) s
+  does-finals false s = quiet
+
+  -- the game goes on by an event that has this work
+  does-game : (which : GameEvent) (e : EventId) → work_of plan e ≡ Game which → (s : Machine) → Does plan (MayWork plan) (game_now which s) s (do_game plan which s)
+  does-game which e is s =
+      let step = step_now plan which s in
+      let stepped = do_move plan (Stepped which) s in
+      both (moved (Stepped which) s tt) (both (does-finals step.finals stepped)
+      (all_do-does plan (MayWork plan) (post_game plan) (λ other. cost_of_post (game_event plan other)) (λ other. Unit {0})
+      (λ other t h. moved (Sent owners.Machine (game_event plan other)) t (λ own. tt, λ entries. game_event-below plan entries (game_has-event plan entries e which is) other, tt)) step.posts (λ k d there. tt) (write_finals plan step.finals stepped)))
+
+  does-after_work : (kept : Bool) (w : Work) (e : EventId) → work_of plan e ≡ w → IsWorkAt plan e w → (s : Machine) → Does plan (MayWork plan) (after_now w s) s (do_after plan kept w s)
+  does-after_work kept Nothing e is at s = quiet
+  does-after_work kept (Mode m WillStart) e is at s = moved (Sent owners.Machine (mode_event plan m Starting)) s (λ own. tt, λ entries. mode_event-within plan entries m Starting at.0, tt)
+  does-after_work kept (Mode m Starting) e is at s = moved (Sent owners.Machine (mode_event plan m Started)) s (λ own. tt, λ entries. mode_event-within plan entries m Started at.0, tt)
+  does-after_work true (Mode m Started) e is at s = moved (Ended m) s (λ entries. at.0)
+  does-after_work false (Mode m Started) e is at s = less quiet (λ w. omega arith)
+  does-after_work kept (Mode m Stopping) e is at s =
       let stopped = call_devices plan calls.ModeStop m s in
       let released = release_coils plan (owners.Mode m) stopped in
       both (works-calls calls.ModeStop m s) (both (does-releases working m (λ own. tt) stopped) (both (moved (Marked m (ended (mode_state s.modes m))) released tt)
       (moved (Sent owners.Machine (mode_event plan m Stopped)) (set_mode m (ended (mode_state s.modes m)) released) (λ own. tt, λ entries. mode_event-within plan entries m Stopped at.0, tt))))
-  does-after_work kept (Mode m Stopped) e at s = quiet
+  does-after_work kept (Mode m Stopped) e is at s = quiet
+  does-after_work kept (Game which) e is at s = does-game which e is s
 
   -- whether a stop was kept or not
   pub does-after : (kept : Bool) (e : EventId) (s : Machine) → Does plan (MayWork plan) (after_now (work_of plan e) s) s (do_after plan kept (work_of plan e) s)
-  does-after kept e s = does-after_work kept (work_of plan e) e (work_found plan e) s
+  does-after kept e s = does-after_work kept (work_of plan e) e refl (work_found plan e) s
 
   -- there is no work beyond the events of the plan
   pub no_work-past : HasEntries plan → (e : EventId) → length plan.events ≤ e.0 → Nothing ≡ work_of plan e
-  no_work-past entries e past = by (work_of plan e) (work_found plan e)
+  no_work-past entries e past = by (work_of plan e) refl (work_found plan e)
     where
-      by : (w : Work) → IsWorkAt plan e w → Nothing ≡ w
-      by Nothing h = refl
-      by (Mode m which) h =
+      by : (w : Work) → work_of plan e ≡ w → IsWorkAt plan e w → Nothing ≡ w
+      by Nothing is h = refl
+      by (Game which) is h =
+          let within = game_event-below plan entries (game_has-event plan entries e which is) which in
+          let same = ap (λ (x : EventId). x.0) h.1 in
+          absurd (omega (arith, within, same, past))
+      by (Mode m which) is h =
           let within = mode_event-within plan entries m which h.0 in
           let same = ap (λ (x : EventId). x.0) h.1 in
           absurd (omega (arith, within, same, past))

@@ -1,9 +1,10 @@
 -- What things cost in a state is within what they cost in any, where each device has a state of its shape.
 use Rattle.std.proofs.Common.{◌≡◌, ℕ, ◌+◌, ◌<◌, ◌≤◌, Bool, true, false, if◌then◌else◌, cond, filter, inl, inr, Option, None, Some, List, [], ◌∷◌, length, refl, ap, sym, subst, arith}
 use Rattle.std.specs.Prelude.{IsSome, Contains}
-use Rattle.std.specs.List.{All, list_any}
+use Rattle.std.specs.List.{All, list_any, range_with_len}
 use Rattle.std.proofs.lemmas.Bool.{cases_lt}
 use Rattle.std.proofs.lemmas.List.{get_or_past}
+use Rattle.std.proofs.lemmas.List.FromFn.{length-range_with_len}
 use Rattle.std.proofs.lemmas.List.Elements.{All-get_or, All-head, All-nil, All-tail}
 use Rattle.plan_tables.specs.PlanView.{PlanView, act_of_listener, actions_of, coil_numbers, is_enable_of, listeners_of, no_switch, binding_at, row_at, row_numbers, rows_of}
 use Rattle.plan_tables.specs.Valid.{HasEntries, IsListenerWithin}
@@ -24,7 +25,14 @@ use Rattle.plan_tables.specs.declared.entries.Owner.TheVariants as owners
 use Rattle.plan_tables.specs.declared.entries.Target.{Target}
 use Rattle.plan_tables.specs.declared.entries.Target.TheVariants.{Run, Start, Stop, Act}
 use Rattle.plan_tables.specs.declared.entries.Work.{Work}
-use Rattle.plan_tables.specs.declared.entries.Work.TheVariants.{Nothing, Mode}
+use Rattle.plan_tables.specs.declared.entries.Work.TheVariants.{Nothing, Mode, Game}
+use Rattle.plan_tables.specs.declared.entries.GameEvent.{GameEvent}
+use Rattle.plan_tables.specs.declared.entries.GameRules.{GameRules}
+use Rattle.player_game.specs.Players.{is_met, most_players}
+use Rattle.player_game.specs.GameStep.{GameStep, game_step}
+use Rattle.player_game.specs.Choices.{choices, tells_scores, AreFew}
+use Rattle.player_game.proofs.Chosen.{steps_are_choices}
+use Rattle.player_game.proofs.StayFew.{players_stay_few}
 use Rattle.plan_tables.specs.declared.devices.RowId.{RowId}
 use Rattle.plan_tables.proofs.Owners.{rows_of-within}
 use Rattle.device_objects.specs.declared.device.Call.{Call}
@@ -35,17 +43,17 @@ use Rattle.device_objects.proofs.Answered.{answers_are_outcomes}
 use Rattle.device_objects.proofs.Moments.{stopped-silent}
 use Rattle.mode_stack.specs.ModeStep.{entered}
 use Rattle.mode_stack.specs.Modes.{mode_state}
-use Rattle.cascade_rank.specs.Cost.{Cost, Lines, price, each_of, dearest_of, cost_of_acceptance, cost_of_answer, cost_of_call, cost_of_listener, cost_of_releases, cost_of_target, cost_of_starts, led_by, cost_if_led}
+use Rattle.cascade_rank.specs.Cost.{Cost, Lines, price, each_of, dearest_of, cost_of_acceptance, cost_of_answer, cost_of_call, cost_of_choice, cost_of_game, cost_of_listener, cost_of_releases, cost_of_target, cost_of_starts, led_by, cost_if_led}
 use Rattle.cascade_rank.specs.Weights.{bound_of}
 use Rattle.cascade_rank.proofs.Prices.{price-dearest}
 use Rattle.cascade_rank.proofs.Rows.{length-rows, row_of}
-use Rattle.written_machine.specs.Machine.{Machine, write, set_switches, set_mode, ask_coil, release_coil, world_of, device_at, called, call_device, call_devices, tell_listener, do_handler}
+use Rattle.written_machine.specs.Machine.{Machine, write, set_switches, set_mode, ask_coil, release_coil, world_of, device_at, called, call_device, call_devices, tell_listener, home_of, do_handler}
 use Rattle.written_machine.specs.Devices.{HasDevices}
 use Rattle.written_machine.specs.Run.{switch, device, source_due, Stimulus, Change, Alarm, Wait, arrived}
 use Rattle.written_machine.specs.GoodRun.{cost_if_accepted, cost_of_stimulus}
-use Rattle.written_machine.proofs.Does.{each_now, has_devices-does, HasCoils, asked-has_coils}
+use Rattle.written_machine.proofs.Does.{Stepped, step_now, do_move, each_now, has_devices-does, HasCoils, asked-has_coils}
 use Rattle.written_machine.proofs.Resting.{stops-turn}
-use Rattle.written_machine.proofs.Parts.{IsThere, target-there, cost_of_handler, call_now, target_now, handler_now, listener_now, accepted_now, if_accepted_now, release_now, stimulus_now, before_now, after_now, does-call, does-handler}
+use Rattle.written_machine.proofs.Parts.{IsThere, target-there, cost_of_handler, call_now, target_now, handler_now, listener_now, accepted_now, if_accepted_now, release_now, stimulus_now, before_now, finals_now, after_now, does-call, does-handler}
 
 module _ (plan : PlanView) (entries : HasEntries plan) (w : EventId → ℕ) where
   dearest-of : {X : Type 0} (f : X → Cost) (xs : List X) (x : X) → Contains xs x → price w (f x) ≤ price w (dearest_of f xs)
@@ -92,10 +100,23 @@ module _ (plan : PlanView) (entries : HasEntries plan) (w : EventId → ℕ) whe
   target-priced (Stop m) s there has = omega arith
   target-priced (Act r act) s there has = call-priced (calls.Act act) r s there has tt
 
+  handler-priced : (place : BindingId) (s : Machine) → HasDevices plan s.devices → price w (handler_now plan place s) ≤ price w (cost_of_handler plan place)
+  handler-priced place s has = by (is_met plan s.players (binding_at plan place).condition)
+    where
+      target : Target
+      target = (binding_at plan place).target
+
+      met : price w (target_now plan target s) ≤ price w (cost_of_target plan target)
+      met = target-priced target s (target-there plan entries place) has
+
+      by : (b : Bool) → price w (if b then target_now plan target s else Lines 0) ≤ price w (cost_of_target plan target)
+      by true = met
+      by false = omega arith
+
   pub handlers-priced : (order : List BindingId) (s : Machine) → HasDevices plan s.devices → price w (each_now (do_handler plan) (handler_now plan) order s) ≤ price w (each_of (cost_of_handler plan) order)
   handlers-priced order s has =
       each-priced (do_handler plan) (handler_now plan) (cost_of_handler plan) (λ p. Unit {0})
-      (λ p t h k. (target-priced (binding_at plan p).target t (target-there plan entries p) k, has_devices-does plan (does-handler plan (λ owner. Unit {0}) ⊥ p t tt) k)) order (λ i d there. tt) s has
+      (λ p t h k. (handler-priced p t k, has_devices-does plan (does-handler plan (λ owner. Unit {0}) ⊥ p t tt) k)) order (λ i d there. tt) s has
 
   -- ---- the machine's work
 
@@ -110,6 +131,7 @@ module _ (plan : PlanView) (entries : HasEntries plan) (w : EventId → ℕ) whe
       omega (arith, starts)
   before-priced (Mode m Stopping) s has = omega arith
   before-priced (Mode m Stopped) s has = omega arith
+  before-priced (Game which) s has = omega arith
 
   -- the coils that a mode holds are some of those that it may hold
   releases-priced : (m : ModeId) (cs : List CoilId) (s : Machine) → HasCoils plan s.coils
@@ -136,17 +158,55 @@ module _ (plan : PlanView) (entries : HasEntries plan) (w : EventId → ℕ) whe
           omega (arith, rest, found)
       by later false is = omega (arith, later s has, fewer (enabled c))
 
-  pub after-priced : (work : Work) (s : Machine) → HasCoils plan s.coils → price w (after_now plan work s) ≤ price w (cost_of_releases plan work) + price w (cost_if_led (led_by plan work))
-  after-priced Nothing s has = omega arith
-  after-priced (Mode m WillStart) s has = omega arith
-  after-priced (Mode m Starting) s has = omega arith
-  after-priced (Mode m Started) s has = omega arith
-  after-priced (Mode m Stopping) s has =
+  -- ---- the game
+
+  lines-each : (players : List ℕ) → price w (each_of (λ player. Lines 1) players) ≡ length players
+  lines-each [] = refl
+  lines-each (x ∷ players) = omega (arith, lines-each players)
+
+  -- a line for each player is within a line for each that there can be
+  finals-priced : (told : Bool) (s : Machine) → AreFew plan s.players → price w (finals_now plan told s) ≤ price w (Lines (if told then most_players plan.game else 0))
+  finals-priced true s few =
+      let most = few.few in
+      omega (arith, lines-each (range_with_len 1 (length s.players.players)), length-range_with_len 1 (length s.players.players), most)
+  finals-priced false s few = omega arith
+
+  -- the scores are told at most where the event tells them, and the posts are one of its choices, or none
+  record IsChosen (which : GameEvent) (step : GameStep) : Type 0 where
+    told : (k : ℕ) → (if step.finals then k else 0) ≤ (if tells_scores which then k else 0)
+    posts : price w (cost_of_choice plan step.posts) ≤ price w (dearest_of (cost_of_choice plan) (choices which))
+
+  chosen : (game : Option GameRules) (which : GameEvent) (s : Machine) → IsChosen which (game_step game plan which (home_of s) s.game s.players)
+  unfolding game_step
+  chosen None which s = record { told = λ k. omega arith; posts = omega arith }
+  chosen (Some rules) which s =
+      let tells = steps_are_choices.finals rules plan which (home_of s) s.game s.players in
+      record {
+        told = λ k. subst (λ (b : Bool). (if b then k else 0) ≤ (if tells_scores which then k else 0)) (sym tells) (omega arith);
+        posts = dearest-of (cost_of_choice plan) (choices which) (game_step (Some rules) plan which (home_of s) s.game s.players).posts (steps_are_choices.posts rules plan which (home_of s) s.game s.players);
+      }
+
+  game-priced : (which : GameEvent) (s : Machine) → AreFew plan s.players → price w (after_now plan (Game which) s) ≤ price w (cost_of_game plan (Game which))
+  game-priced which s few =
+      let is = chosen plan.game which s in
+      let told = is.told (most_players plan.game) in
+      let posts = is.posts in
+      let finals = finals-priced (step_now plan which s).finals (do_move plan (Stepped which) s) (players_stay_few plan which (home_of s) s.game s.players few) in
+      omega (arith, told, posts, finals)
+
+  pub after-priced : (work : Work) (s : Machine) → HasCoils plan s.coils → AreFew plan s.players
+      → price w (after_now plan work s) ≤ price w (cost_of_releases plan work) + (price w (cost_if_led (led_by plan work)) + price w (cost_of_game plan work))
+  after-priced Nothing s has few = omega arith
+  after-priced (Mode m WillStart) s has few = omega arith
+  after-priced (Mode m Starting) s has few = omega arith
+  after-priced (Mode m Started) s has few = omega arith
+  after-priced (Mode m Stopping) s has few =
       let turned = stops-turn plan (rows_of plan (owners.Mode m)) s in
       let same : (call_devices plan calls.ModeStop m s).coils ≡ s.coils = ap (λ (t : Machine). t.coils) turned.1 in
       let released = releases-priced m (coil_numbers plan) (call_devices plan calls.ModeStop m s) (subst (HasCoils plan) (sym same) has) in
       omega (arith, stops-free (rows_of plan (owners.Mode m)) s, released)
-  after-priced (Mode m Stopped) s has = omega arith
+  after-priced (Mode m Stopped) s has few = omega arith
+  after-priced (Game which) s has few = let priced = game-priced which s few in omega (arith, priced)
 
   -- ---- stimuli
 

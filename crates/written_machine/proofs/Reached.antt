@@ -3,6 +3,7 @@ use Rattle.std.proofs.Common.{◌≡◌, ℕ, ◌+◌, ◌≤◌, List, [], ◌�
 use Rattle.plan_tables.specs.PlanView.{PlanView}
 use Rattle.plan_tables.specs.Valid.{IsValid}
 use Rattle.switch_core.specs.Switches.{IsComplete, all_idle}
+use Rattle.player_game.specs.Choices.{AreFew}
 use Rattle.written_machine.specs.declared.line.Line.{Line}
 use Rattle.written_machine.specs.Machine.{Machine, initial}
 use Rattle.written_machine.specs.Devices.{HasDevices}
@@ -41,6 +42,10 @@ module _ (plan : PlanView) where
     -- each device has a state of its shape
     pub reached-devices : HasDevices plan s.devices
     reached-devices = reached-has_states.devices
+
+    -- there are no more players than there can be
+    pub reached-players : AreFew plan s.players
+    reached-players = reached-has_states.players
 
     -- and no alarm is late
     pub reached-not_late : IsValid plan → IsNothingLate s

@@ -23,7 +23,7 @@ use Rattle.mode_stack.proofs.WhoRuns.{starting_keeps_who_runs}
 use Rattle.event_queue.specs.Handlers.{takes_part}
 use Rattle.written_machine.specs.Devices.{HasDevices, ActsAreOwn}
 use Rattle.written_machine.specs.Machine.{Machine, set_device, has_game, all_do, world_of, device_state, device_at, called, do_answer, call_device}
-use Rattle.written_machine.proofs.Does.{Move, Wrote, Sent, Switched, Began, Ended, Marked, Turned, Asked, do_move, start-by, stop-by, MayDo, due-row, has_devices-move}
+use Rattle.written_machine.proofs.Does.{Move, Wrote, Sent, Switched, Began, Ended, Marked, Turned, Asked, Varied, Stepped, do_move, start-by, stop-by, MayDo, due-row, has_devices-move}
 use Rattle.written_machine.proofs.Held.{IsHolding, IsNotHolding, asked-count, asked-held}
 use Rattle.written_machine.proofs.Parts.{ordinary}
 
@@ -152,6 +152,8 @@ module _ (plan : PlanView) (valid : IsValid plan) (own : ActsAreOwn plan) (m : M
         stop-by plan k s (Rests plan m) (running-rests s _ same refl refl h) (running-rests s _ same refl refl h)
     move-rests (Marked k state) s may runs h = absurd may
     move-rests (Turned call r) s may runs h = turned-rests call r s runs (may own) h
+    move-rests (Varied v value) s may runs h = same-rests s (do_move plan (Varied v value) s) refl refl refl h
+    move-rests (Stepped which) s may runs h = same-rests s (do_move plan (Stepped which) s) refl refl refl h
     move-rests (Asked owner command) s may runs h = record {
       devices = h.devices;
       rests = h.rests;

@@ -1,10 +1,11 @@
 -- A mode that is stopped is silent, in every run: what the moves of handlers, the machine's works and the beginning of a
 -- stimulus keep.
 use Rattle.std.proofs.Common.{◌≡◌, ℕ, ◌<◌, if◌then◌else◌, inl, inr, Some, Bool, true, false, ◌==◌, cond, List, [], ◌∷◌, ◌++◌, length, refl, ap, sym, subst, ◌∙◌, rules}
+use Rattle.std.specs.List.{range_with_len}
 use Rattle.std.proofs.lemmas.Bool.{cases_eq, eq-eqb, ne_eqb}
 use Rattle.std.proofs.lemmas.List.{append-nil, get_or-replicate, length-replicate, length-set}
-use Rattle.plan_tables.specs.PlanView.{PlanView, coil_numbers, is_owner, mode_event, row_at, rows_of, work_of}
-use Rattle.plan_tables.specs.Valid.{IsOwnerWithin, IsValid, IsWorkAt}
+use Rattle.plan_tables.specs.PlanView.{PlanView, coil_numbers, game_event, is_owner, mode_event, row_at, rows_of, work_of}
+use Rattle.plan_tables.specs.Valid.{HasGame, IsOwnerWithin, IsValid, IsWorkAt}
 use Rattle.plan_tables.specs.declared.entries.EventId.{EventId}
 use Rattle.plan_tables.specs.declared.entries.ModeId.{ModeId}
 use Rattle.plan_tables.specs.declared.entries.ModeEvent.{ModeEvent}
@@ -12,7 +13,9 @@ use Rattle.plan_tables.specs.declared.entries.ModeEvent.TheVariants.{WillStart, 
 use Rattle.plan_tables.specs.declared.entries.Owner.{Owner}
 use Rattle.plan_tables.specs.declared.entries.Owner.TheVariants as owners
 use Rattle.plan_tables.specs.declared.entries.Work.{Work}
-use Rattle.plan_tables.specs.declared.entries.Work.TheVariants.{Nothing, Mode}
+use Rattle.plan_tables.specs.declared.entries.Work.TheVariants.{Nothing, Mode, Game}
+use Rattle.plan_tables.specs.declared.entries.GameEvent.{GameEvent}
+use Rattle.player_game.specs.Players.{score_of}
 use Rattle.plan_tables.specs.declared.devices.RowId.{RowId}
 use Rattle.plan_tables.proofs.Owners.{rows_of-there}
 use Rattle.plan_tables.proofs.Worked.{work_found}
@@ -38,12 +41,12 @@ use Rattle.event_queue.proofs.Sort.{by_priority-is_order}
 use Rattle.written_machine.specs.declared.line.Line.{Line}
 use Rattle.written_machine.specs.declared.line.Happening.TheVariants as lines
 use Rattle.written_machine.specs.Devices.{ActsAreOwn}
-use Rattle.written_machine.specs.FreePosts.{PostsAreFree}
-use Rattle.written_machine.specs.Machine.{Machine, initial, post, set_mode, has_game, ask_coil, release_coil, release_coils, stop_mode, all_do, device_state, call_devices, do_handler}
+use Rattle.written_machine.specs.FreePosts.{IsFreeWork, PostsAreFree}
+use Rattle.written_machine.specs.Machine.{Machine, initial, post, set_mode, has_game, post_game, write_final, write_finals, ask_coil, release_coil, release_coils, stop_mode, all_do, do_game, device_state, call_devices, do_handler}
 use Rattle.written_machine.specs.EventStep.{taken, before_handlers, handlers_in, do_before, do_after}
 use Rattle.written_machine.specs.Run.{switch, device, source_due, Stimulus, Change, Alarm, Wait, moment_of, IsAllowed, arrived, begin, IsRun}
 use Rattle.written_machine.specs.Silent.{HasStarted, IsSilent}
-use Rattle.written_machine.proofs.Does.{Move, Wrote, Sent, Switched, Began, Ended, Marked, Turned, Asked, do_move, start-by, stop-by, MayDo, Does, does-keeps, has_devices-does, off-has_coils}
+use Rattle.written_machine.proofs.Does.{Move, Wrote, Sent, Switched, Began, Ended, Marked, Turned, Asked, Varied, Stepped, step_now, do_move, start-by, stop-by, MayDo, Does, does-keeps, off-has_coils}
 use Rattle.written_machine.proofs.Parts.{TakesPart, Begins, ordinary, MayHandle, does-calls, does-releases, does-order, does-begin}
 use Rattle.written_machine.proofs.Keeps.{step-keeps, run-keeps}
 use Rattle.written_machine.proofs.Cycles.{mine, waiting_of, IsTurn, idle, turn-will_start, turn-starting, turn-started, turn-stopping, turn-stopped, stopping-runs, stopped-quiet}
@@ -86,6 +89,8 @@ module _ (plan : PlanView) (by : Owner → Type 0) (switches : Type 0) where
   still-move (Marked k state) s may = absurd may
   still-move (Turned call r) s may = refl
   still-move (Asked owner command) s may = refl
+  still-move (Varied v value) s may = refl
+  still-move (Stepped which) s may = refl
 
   pub still-does : {c : Cost} {s t : Machine} → Does plan (MayDo plan (ordinary plan by switches)) c s t → running_of t.modes ≡ running_of s.modes
   still-does {c} {s} {t} d =
@@ -109,7 +114,14 @@ still_due Stopped = Stopped ∷ []
 
 abbrev pub handled : ModeId → Work → List ModeEvent
 handled m Nothing = []
+handled m (Game which) = []
 handled m (Mode k which) = cond (k.0 == m.0) (still_due which) []
+
+-- an event that may be posted is none of a mode's
+free-mine : (m : ModeId) (w : Work) → IsFreeWork w → mine m w [] ≡ []
+free-mine m Nothing is = refl
+free-mine m (Mode k which) is = absurd is
+free-mine m (Game which) is = refl
 
 module _ (plan : PlanView) (valid : IsValid plan) (free : PostsAreFree plan) (own : ActsAreOwn plan) (m : ModeId) (within : m.0 < length plan.modes) where
   -- the mode is heard only where it may be, and no device of it is due unless it runs
@@ -134,13 +146,15 @@ module _ (plan : PlanView) (valid : IsValid plan) (free : PostsAreFree plan) (ow
     own_runs front s h may = takes-runs m s (length plan.modes) h.kept.count within (takes front s h may)
 
     move-holds : (front : List ModeEvent) (x : Move) (s : Machine) → MayDo plan (ordinary plan by switches) x → IsKept front s → HoldsIn plan m before front (do_move plan x s)
-    move-holds front (Wrote owner what) s may h = wrote-holds plan valid m within before front owner what s may.1 (λ is. own_runs front s h (subst by is may.0)) h.kept
-    move-holds front (Sent owner e) s may h = posted-holds plan valid m within before front owner e s (ap (λ (w : Work). mine m w []) (may.2 free)) (λ is. own_runs front s h (subst by is (may.0 own))) h.kept
+    move-holds front (Wrote owner what) s may h = wrote-holds plan valid m within before front owner what s may.1 (λ is. own_runs front s h (subst by is (may.0 own))) h.kept
+    move-holds front (Sent owner e) s may h = posted-holds plan valid m within before front owner e s (free-mine m (work_of plan e) (may.2 free)) (λ is. own_runs front s h (subst by is (may.0 own))) h.kept
     move-holds front (Switched n state) s may h = record { count = h.kept.count; fine = h.kept.fine; holds = h.kept.holds }
     move-holds front (Began k) s may h = start-holds plan valid m within before front k s (may valid.entries) h.kept
     move-holds front (Ended k) s may h = stop-holds plan valid m within before front k s (may valid.entries) h.kept
     move-holds front (Marked k state) s may h = absurd may
     move-holds front (Turned call r) s may h = record { count = h.kept.count; fine = h.kept.fine; holds = h.kept.holds }
+    move-holds front (Varied v value) s may h = record { count = h.kept.count; fine = h.kept.fine; holds = h.kept.holds }
+    move-holds front (Stepped which) s may h = record { count = h.kept.count; fine = h.kept.fine; holds = h.kept.holds }
     move-holds front (Asked owner command) s may h = asked-holds plan valid m within before front owner command s (λ is. own_runs front s h (subst by is (may.0 own))) h.kept
 
     moves-hold : (front : List ModeEvent) (c : Cost) (s t : Machine) → Does plan (MayDo plan (ordinary plan by switches)) c s t → running_of s.modes ≡ running → Stays before front s → Stays before front t
@@ -270,11 +284,45 @@ module _ (plan : PlanView) (valid : IsValid plan) (free : PostsAreFree plan) (ow
   other_after before kept k Stopping s there other h = other_ended before k s there other h
   other_after before kept k Stopped s there other h = h
 
+  -- ---- the game
+
+  -- scores are told
+  final-stays : (before : List Line) (player : ℕ) (s : Machine) → Stays before [] s → Stays before [] (write_final plan player s)
+  final-stays before player s h = (
+    wrote-holds plan valid m within before [] owners.Machine (lines.Final player (score_of plan s.players player)) s tt (λ is. absurd (search (rules, is))) h.0,
+    running-rests plan valid own m s (write_final plan player s) refl refl refl h.1,
+  )
+
+  finals-stay : (before : List Line) (told : Bool) (s : Machine) → Stays before [] s → Stays before [] (write_finals plan told s)
+  finals-stay before true s h = all_stay (range_with_len 1 (length s.players.players)) s h
+    where
+      all_stay : (players : List ℕ) (t : Machine) → Stays before [] t → Stays before [] (all_do (write_final plan) players t)
+      all_stay [] t k = k
+      all_stay (player ∷ players) t k = all_stay players (write_final plan player t) (final-stays before player t k)
+  finals-stay before false s h = h
+
+  -- the game's events are posted, none of which is the mode's
+  posts-stay : (before : List Line) → HasGame plan → (posts : List GameEvent) (s : Machine) → Stays before [] s → Stays before [] (all_do (post_game plan) posts s)
+  posts-stay before has [] s h = h
+  posts-stay before has (which ∷ posts) s h =
+      posts-stay before has posts (post_game plan which s) (
+        posted-holds plan valid m within before [] owners.Machine (game_event plan which) s (ap (λ (w : Work). mine m w []) (valid.game_works which has)) (λ is. absurd (search (rules, is))) h.0,
+        post-rests (game_event plan which) s h.1,
+      )
+
+  game-stays : (before : List Line) (which : GameEvent) (s : Machine) → HasGame plan → Stays before [] s → Stays before [] (do_game plan which s)
+  game-stays before which s has h =
+      let step = step_now plan which s in
+      let stepped = do_move plan (Stepped which) s in
+      posts-stay before has step.posts (write_finals plan step.finals stepped)
+      (finals-stay before step.finals stepped (record { count = h.0.count; fine = h.0.fine; holds = h.0.holds }, running-rests plan valid own m s stepped refl refl refl h.1))
+
   abbrev numbered : ℕ → ModeId
   numbered n = record { 0 = n }
 
   after_work : (before : List Line) (kept : Bool) (e : EventId) (w : Work) (s : Machine) → IsWorkAt plan e w → Stays before (handled m w) s → Stays before [] (do_after plan kept w s)
   after_work before kept e Nothing s at h = h
+  after_work before kept e (Game which) s at h = game-stays before which s at.0 h
   after_work before kept e (Mode k which) s at h =
       elim (cases_eq k.0 m.0) [
         | inl same ↦
@@ -320,6 +368,8 @@ module _ (plan : PlanView) (valid : IsValid plan) (free : PostsAreFree plan) (ow
   before_work : (before : List Line) (w : Work) (s : Machine) (on : Bool) → length s.modes ≡ length plan.modes → Rests plan m s → IsFine m false (all_written plan (before ++ s.lines)) → heard_in plan m before s ≡ heard_after m on w
       → IsFine m (heard_after m on w) (all_awaited plan s.waiting) → IsTurn (phase_in m s) (mine m w (waiting_of plan m s.waiting)) → (IsRunning m s → on ≡ true) → Stays before (handled m w) (do_before plan w s)
   before_work before Nothing s on count rests fine is waits turns speaks =
+      (record { count = count; fine = fine; holds = subst (λ (b : Bool). Holds plan m b [] s.waiting (phase_in m s)) (sym is) (record { waits = waits; turns = turns; speaks = speaks }) }, rests)
+  before_work before (Game which) s on count rests fine is waits turns speaks =
       (record { count = count; fine = fine; holds = subst (λ (b : Bool). Holds plan m b [] s.waiting (phase_in m s)) (sym is) (record { waits = waits; turns = turns; speaks = speaks }) }, rests)
   before_work before (Mode k which) s on count rests fine is waits turns speaks =
       elim (cases_eq k.0 m.0) [
@@ -427,7 +477,7 @@ module _ (plan : PlanView) (valid : IsValid plan) (free : PostsAreFree plan) (ow
       let runs = takes-runs m s (length plan.modes) end.1.0.count within (end.1.1.holds coil is) in
       heard-started plan valid m within trace (subst (λ (ls : List Line). heard m false (all_written plan ls) ≡ true) end.2 (end.1.0.holds.speaks runs))
 
--- in every run of a valid plan that posts no event with work, a stopped mode is silent
+-- in every run of a valid plan that posts no event with work, but that of the start button, a stopped mode is silent
 pub stopped_is_silent : (plan : PlanView) → IsValid plan → PostsAreFree plan → ActsAreOwn plan → (stimuli : List (Stimulus × ℕ)) (trace : List Line) (s : Machine) → IsRun plan stimuli (initial plan) trace s → IsSilent plan trace
 stopped_is_silent plan valid free own stimuli trace s run m within = silent-run plan valid free own m within stimuli trace s run
 

@@ -13,7 +13,7 @@ use Rattle.plan_tables.specs.declared.entries.ModeEvent.TheVariants.{WillStart, 
 use Rattle.plan_tables.specs.declared.entries.Owner.{Owner}
 use Rattle.plan_tables.specs.declared.entries.Owner.TheVariants as owners
 use Rattle.plan_tables.specs.declared.entries.Work.{Work}
-use Rattle.plan_tables.specs.declared.entries.Work.TheVariants.{Nothing, Mode}
+use Rattle.plan_tables.specs.declared.entries.Work.TheVariants.{Nothing, Mode, Game}
 use Rattle.mode_stack.specs.declared.phase.Phase.{Phase}
 use Rattle.mode_stack.specs.declared.phase.Phase.TheVariants as phases
 use Rattle.mode_stack.specs.declared.phase.ModeState.{ModeState}
@@ -49,6 +49,7 @@ module _ (plan : PlanView) (m : ModeId) where
 
   goes_on : (w : Work) (c : List ModeEvent) (xs : List Said) → (AllByRecursion IsNoEnd c → heard m true xs ≡ true) → AllByRecursion IsNoEnd (mine m w c) → heard m (heard_after m true w) xs ≡ true
   goes_on Nothing c xs next h = next h
+  goes_on (Game which) c xs next h = next h
   goes_on (Mode k which) c xs next h =
       elim (cases_eq k.0 m.0) [
         | inl is ↦
@@ -136,6 +137,8 @@ module _ (plan : PlanView) (valid : IsValid plan) (m : ModeId) (within : m.0 < l
   wrote-holds front owner (lines.Switch n active) s quiet runs h = quiet-holds front owner (lines.Switch n active) s refl runs h
   wrote-holds front owner (lines.Coil command) s quiet runs h = quiet-holds front owner (lines.Coil command) s refl runs h
   wrote-holds front owner (lines.Skip command) s quiet runs h = quiet-holds front owner (lines.Skip command) s refl runs h
+  wrote-holds front owner (lines.Player player v value) s quiet runs h = quiet-holds front owner (lines.Player player v value) s refl runs h
+  wrote-holds front owner (lines.Final player score) s quiet runs h = quiet-holds front owner (lines.Final player score) s refl runs h
   wrote-holds front owner (lines.Event e) s quiet runs h = absurd quiet
 
   -- an owner asks for a command to a coil

@@ -5,7 +5,7 @@ use Rattle.plan_tables.specs.declared.entries.EventId.{EventId}
 use Rattle.plan_tables.specs.declared.entries.BindingId.{BindingId}
 use Rattle.plan_tables.specs.declared.entries.ModeEvent.TheVariants.{WillStart, Starting, Started, Stopping, Stopped}
 use Rattle.plan_tables.specs.declared.entries.Work.{Work}
-use Rattle.plan_tables.specs.declared.entries.Work.TheVariants.{Nothing, Mode}
+use Rattle.plan_tables.specs.declared.entries.Work.TheVariants.{Nothing, Mode, Game}
 use Rattle.plan_tables.specs.declared.entries.Owner.TheVariants as owners
 use Rattle.device_objects.specs.declared.device.Call.TheVariants as calls
 use Rattle.mode_stack.specs.ModeStep.{entered, ended}
@@ -13,7 +13,7 @@ use Rattle.mode_stack.specs.Modes.{mode_state, running_of}
 use Rattle.written_machine.specs.declared.line.Happening.TheVariants as lines
 use Rattle.event_queue.specs.declared.queue.Posted.{Posted}
 use Rattle.event_queue.specs.Handlers.{handlers, IsHandlerOrder}
-use Rattle.written_machine.specs.Machine.{Machine, write, post, set_mode, all_do, stop_mode, call_devices, release_coils, do_handler}
+use Rattle.written_machine.specs.Machine.{Machine, write, post, set_mode, all_do, stop_mode, call_devices, release_coils, do_game, do_handler}
 
 -- the first waiting event is taken, and its line is written
 abbrev pub taken : Posted → List Posted → Machine → Machine
@@ -30,6 +30,7 @@ do_before plan (Mode m Starting) s = s
 do_before plan (Mode m Started) s = call_devices plan calls.ModeStart m (set_mode m (entered (mode_state s.modes m)) s)
 do_before plan (Mode m Stopping) s = s
 do_before plan (Mode m Stopped) s = s
+do_before plan (Game which) s = s
 
 -- whether a stop is kept for the mode that becomes active
 abbrev pub is_kept : Work → Machine → Bool
@@ -39,9 +40,11 @@ is_kept (Mode m Starting) s = false
 is_kept (Mode m Started) s = (mode_state s.modes m).kept
 is_kept (Mode m Stopping) s = false
 is_kept (Mode m Stopped) s = false
+is_kept (Game which) s = false
 
 -- After the handlers: a mode goes on from one of its events to the next. At `stopping`, after its own handlers of that
--- event, its devices stop, the coils that it holds are disabled, and then it ends. At `started` it is told to stop, where a stop was kept.
+-- event, its devices stop, the coils that it holds are disabled, and then it ends. At `started` it is told to stop, where
+-- a stop was kept. The game goes on as its event says.
 abbrev pub do_after : PlanView → Bool → Work → Machine → Machine
 do_after plan kept Nothing s = s
 do_after plan kept (Mode m WillStart) s = post owners.Machine (mode_event plan m Starting) s
@@ -49,6 +52,7 @@ do_after plan kept (Mode m Starting) s = post owners.Machine (mode_event plan m 
 do_after plan kept (Mode m Started) s = if kept then stop_mode plan m s else s
 do_after plan kept (Mode m Stopping) s = post owners.Machine (mode_event plan m Stopped) (set_mode m (ended (mode_state s.modes m)) (release_coils plan (owners.Mode m) (call_devices plan calls.ModeStop m s)))
 do_after plan kept (Mode m Stopped) s = s
+do_after plan kept (Game which) s = do_game plan which s
 
 abbrev pub work_before : PlanView → EventId → Machine → Machine
 work_before plan e s = do_before plan (work_of plan e) s

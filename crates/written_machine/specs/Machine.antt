@@ -1,6 +1,7 @@
 -- The machine's state, and what each thing does to it.
-use Rattle.std.specs.Prelude.{ℕ, Bool, true, false, if◌then◌else◌, Option, Some, None, List, [], ◌∷◌, ◌++◌, length, map, slice_index_or, slice_set}
-use Rattle.plan_tables.specs.PlanView.{PlanView, act_of_listener, actions_at, binding_at, coil_numbers, list_of_row, listeners_of, mode_event, no_row, posts_of, row_at, rows_of}
+use Rattle.std.specs.Prelude.{ℕ, ℤ, Bool, true, false, not, if◌then◌else◌, Option, Some, None, List, [], ◌∷◌, ◌++◌, length, map, slice_index_or, slice_set}
+use Rattle.std.specs.List.{range_with_len}
+use Rattle.plan_tables.specs.PlanView.{PlanView, act_of_listener, actions_at, binding_at, coil_numbers, game_event, list_of_row, listeners_of, mode_event, no_row, posts_of, row_at, rows_of}
 use Rattle.plan_tables.specs.declared.entries.EventId.{EventId}
 use Rattle.plan_tables.specs.declared.entries.SwitchId.{SwitchId}
 use Rattle.plan_tables.specs.declared.entries.ListId.{ListId}
@@ -8,7 +9,12 @@ use Rattle.plan_tables.specs.declared.entries.BindingId.{BindingId}
 use Rattle.plan_tables.specs.declared.entries.Owner.{Owner}
 use Rattle.plan_tables.specs.declared.entries.Owner.TheVariants as owners
 use Rattle.plan_tables.specs.declared.entries.Action.{Action}
-use Rattle.plan_tables.specs.declared.entries.Action.TheVariants.{Post, Pulse, Enable, Disable}
+use Rattle.plan_tables.specs.declared.entries.Action.TheVariants.{Post, Pulse, Enable, Disable, Change}
+use Rattle.plan_tables.specs.declared.entries.VariableId.{VariableId}
+use Rattle.plan_tables.specs.declared.entries.VariableAction.{VariableAction}
+use Rattle.plan_tables.specs.declared.entries.GameEvent.{GameEvent}
+use Rattle.player_game.specs.Players.{PlayersState, no_players, is_met, changed_to, after_change as players_after_change, score_of}
+use Rattle.player_game.specs.GameStep.{GameState, GameStep, no_game, game_step, is_none}
 use Rattle.plan_tables.specs.declared.entries.CoilId.{CoilId}
 use Rattle.plan_tables.specs.declared.entries.Listener.{Listener}
 use Rattle.plan_tables.specs.declared.entries.Target.{Target}
@@ -54,13 +60,16 @@ pub record Machine : Type 0 where
   pub devices : List DeviceState
   -- what the guard of the coils remembers of each coil, by number
   pub coils : List CoilState
+  -- the players of the game, and the game
+  pub players : PlayersState
+  pub game : GameState
   -- the events that wait, first posted first
   pub waiting : List Posted
   -- the lines since the latest stimulus began
   pub lines : List Line
 
 -- At the beginning it is moment 0, all switches are inactive, all modes idle, all devices in their first states, all
--- coils off, and nothing waits.
+-- coils off, there is no game, and nothing waits.
 abbrev pub initial : PlanView → Machine
 initial plan = record {
   moment = 0;
@@ -68,6 +77,8 @@ initial plan = record {
   modes = modes.all_idle (length plan.modes);
   devices = map (λ row. first_state row.settings) plan.rows;
   coils = all_off (limits_of plan);
+  players = no_players;
+  game = no_game;
   waiting = [];
   lines = [];
 }
@@ -92,6 +103,12 @@ set_device r state s = record s { devices = slice_set s.devices r.0 state }
 abbrev pub set_coils : List CoilState → Machine → Machine
 set_coils coils s = record s { coils = coils }
 
+abbrev pub set_players : PlayersState → Machine → Machine
+set_players players s = record s { players = players }
+
+abbrev pub set_game : GameState → Machine → Machine
+set_game game s = record s { game = game }
+
 -- one after another
 abbrev pub all_do : {X : Type 0} → (X → Machine → Machine) → List X → Machine → Machine
 all_do does [] s = s
@@ -99,9 +116,9 @@ all_do does (x ∷ xs) s = all_do does xs (does x s)
 
 -- ---- modes
 
--- whether a game goes on: there is none yet
+-- whether a game goes on
 abbrev pub has_game : Machine → Bool
-has_game s = false
+has_game s = not (is_none s.game.phase)
 
 -- the machine posts the event where this holds
 abbrev pub post_if : Bool → EventId → Machine → Machine
@@ -148,6 +165,19 @@ release_coil owner coil s =
 abbrev pub release_coils : PlanView → Owner → Machine → Machine
 release_coils plan owner s = all_do (release_coil owner) (coil_numbers plan) s
 
+-- ---- variables
+
+-- A variable of the current player has changed to this value: its line is written, and its event posted.
+abbrev pub tell_change : Owner → ℕ → VariableId → EventId → Option ℤ → Machine → Machine
+tell_change owner player v e None s = s
+tell_change owner player v e (Some value) s = post owner e (write owner (lines.Player player v value) s)
+
+-- An action on a variable of the current player. Where the variable does not change, nothing happens.
+abbrev pub change_variable : PlanView → Owner → VariableId → VariableAction → ℤ → EventId → Machine → Machine
+change_variable plan owner v action n e s =
+    let value = changed_to plan v action n s.players in
+    tell_change owner s.players.current v e value (set_players (players_after_change plan v value s.players) s)
+
 -- ---- effect lists
 
 abbrev pub do_action : PlanView → Owner → Action → Machine → Machine
@@ -155,15 +185,16 @@ do_action plan owner (Post e) s = post owner e s
 do_action plan owner (Pulse coil ms power) s = ask_coil owner (commands.Pulse coil ms power) s
 do_action plan owner (Enable coil power) s = ask_coil owner (commands.Enable coil power) s
 do_action plan owner (Disable coil) s = ask_coil owner (commands.Disable coil) s
+do_action plan owner (Change v action n e) s = change_variable plan owner v action n e s
 
 abbrev pub do_list : PlanView → Owner → ListId → Machine → Machine
 do_list plan owner l s = all_do (do_action plan owner) (actions_at plan l) s
 
 -- ---- devices
 
--- what devices know of the game: there is none yet
+-- what devices know of the game
 abbrev pub world_of : Machine → World
-world_of s = record { games = 0; player = 0 }
+world_of s = record { games = s.game.begun; player = s.players.current }
 
 -- the state of a device by the number of its row
 abbrev pub device_state : List DeviceState → RowId → DeviceState
@@ -196,12 +227,39 @@ do_target plan owner (Start m) s = start_mode plan m s
 do_target plan owner (Stop m) s = stop_mode plan m s
 do_target plan owner (Act r act) s = call_device plan (calls.Act act) r s
 
+-- a binding does nothing where its condition is not met
 abbrev pub do_binding : PlanView → Binding → Machine → Machine
-do_binding plan b s = do_target plan b.owner b.target s
+do_binding plan b s = if is_met plan s.players b.condition then do_target plan b.owner b.target s else s
 
--- the handler at a place runs
+-- the handler at a place runs; its condition is judged when its turn comes
 abbrev pub do_handler : PlanView → BindingId → Machine → Machine
 do_handler plan place s = do_binding plan (binding_at plan place) s
+
+-- ---- the game
+
+-- how many balls are at home: none are counted yet
+abbrev pub home_of : Machine → ℕ
+home_of s = 0
+
+-- an event of the game is posted
+abbrev pub post_game : PlanView → GameEvent → Machine → Machine
+post_game plan which s = post owners.Machine (game_event plan which) s
+
+-- the score of a player is told
+abbrev pub write_final : PlanView → ℕ → Machine → Machine
+write_final plan player s = write owners.Machine (lines.Final player (score_of plan s.players player)) s
+
+-- so is that of each player, where this holds
+abbrev pub write_finals : PlanView → Bool → Machine → Machine
+write_finals plan true s = all_do (write_final plan) (range_with_len 1 (length s.players.players)) s
+write_finals plan false s = s
+
+-- what an event of the game leads to is done
+abbrev pub do_step : PlanView → GameStep → Machine → Machine
+do_step plan step s = all_do (post_game plan) step.posts (write_finals plan step.finals (set_players step.players (set_game step.game s)))
+
+abbrev pub do_game : PlanView → GameEvent → Machine → Machine
+do_game plan which s = do_step plan (game_step plan.game plan which (home_of s) s.game s.players) s
 
 -- ---- switches
 

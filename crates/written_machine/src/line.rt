@@ -1,7 +1,7 @@
 //! The lines of a trace.
 
 use coil_guard::Command;
-use plan_tables::entries::{EventId, Owner, SwitchId};
+use plan_tables::entries::{EventId, Owner, SwitchId, VariableId};
 
 /// What a line says.
 #[derive(Clone, Copy, Debug)]
@@ -14,6 +14,10 @@ pub enum Happening {
     Coil(Command),
     /// The command was asked for, and not sent.
     Skip(Command),
+    /// A variable of the player of this number has changed to this value.
+    Player(usize, VariableId, i64),
+    /// The game has ended, and this is the score of the player of this number.
+    Final(usize, i64),
 }
 
 /// A line of a trace: the moment in milliseconds, who acted, and what happened.

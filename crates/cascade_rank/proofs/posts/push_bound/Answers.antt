@@ -9,15 +9,14 @@ pub binding-requires : goal.binding-requires
 binding-requires c =
     place-within c.args.plan.now c.args.event c.bindings_of-place-items.result.now c.bindings_of-place-items.ensures.places c.loop-place.place-index c.loop-place-test.true
 
-pub push_target-requires : goal.push_target-requires
-push_target-requires c =
-    (binding-within c.args.plan.now c.binding.ensures.valid.entries _ c.binding.result c.binding.ensures.binding).2
+pub push_binding-requires : goal.push_binding-requires
+push_binding-requires c = binding-within c.args.plan.now c.binding.ensures.valid.entries _ c.binding.result c.binding.ensures.binding
 
 pub loop-place-preserved : goal.loop-place-preserved
 loop-place-preserved c =
     let here = place-cost c.args.plan.now c.bindings_of-place-items.result.now c.loop-place.place-index c.binding.result c.binding.ensures.binding in
-    pushes-more (cost_at_place c.args.plan.now) c.bindings_of-place-items.result.now c.loop-place.place-index (record { 0 = 0 }) c.args.posts.now.items c.loop-place.posts.items c.push_target.new.posts.items c.loop-place-test.true
-    c.loop-place.invariant (c.in_ok-push_target.ensures ∙ ap (λ (k : Cost). c.loop-place.posts.items ++ weights_in k) (sym here))
+    pushes-more (cost_at_place c.args.plan.now) c.bindings_of-place-items.result.now c.loop-place.place-index (record { 0 = 0 }) c.args.posts.now.items c.loop-place.posts.items c.push_binding.new.posts.items c.loop-place-test.true
+    c.loop-place.invariant (c.in_ok-push_binding.ensures ∙ ap (λ (k : Cost). c.loop-place.posts.items ++ weights_in k) (sym here))
 
 pub returns-clause-posts : goal.returns-clause-posts
 returns-clause-posts c =

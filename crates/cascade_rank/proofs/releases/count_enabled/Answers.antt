@@ -1,4 +1,4 @@
-use Rattle.std.proofs.Common.{◌≡◌, ◌++◌, length, ap, sym, ◌∙◌, subst, replicate, false}
+use Rattle.std.proofs.Common.{length, ap, ◌∙◌, replicate, false}
 use Rattle.std.specs.List.{filter, flat_map}
 use Rattle.plan_tables.specs.PlanView.{actions_of_binding, actions_of_row, row_numbers}
 use Rattle.cascade_rank.specs.Marks.{mark_of, numbered}

@@ -1,4 +1,4 @@
-use Rattle.std.proofs.Common.{◌≡◌, ◌<◌, List, length, take, sym, ap, ◌∙◌, subst, arith, take_all}
+use Rattle.std.proofs.Common.{◌<◌, List, length, sym, ap, subst, arith, take_all}
 use Rattle.std.specs.List.{flat_map}
 use Rattle.plan_tables.specs.PlanView.{actions_of_row, row_numbers}
 use Rattle.plan_tables.specs.declared.devices.RowId.{RowId}

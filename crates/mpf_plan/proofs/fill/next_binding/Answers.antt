@@ -1,4 +1,4 @@
-use Rattle.std.proofs.Common.{◌≡◌, length, map, Vec, Global, sym, ◌∙◌, ap, arith}
+use Rattle.std.proofs.Common.{◌≡◌, length, map, None, Vec, Global, sym, ◌∙◌, ap, arith}
 use Rattle.std.proofs.lemmas.List.{length-map}
 use Rattle.plan_tables.specs.declared.entries.Action.{Action}
 use Rattle.plan_tables.specs.declared.entries.Target.TheVariants as targets
@@ -23,4 +23,4 @@ returns c names =
     ] in
     let owner = c.owner_at.ensures ∙ ap (λ m. owner_at m c.args.place) last in
     let priority = c.priority_at.ensures ∙ ap (λ p. priority_at p c.args.place) (c.last_priority-priority.ensures ∙ ap (λ ms. last_priority (map mode_entry_view ms)) c.deref.ensures.value) in
-    λ i. record { event = c.args.event; owner = owner i; priority = priority i; target = target i }
+    λ i. record { event = c.args.event; owner = owner i; priority = priority i; condition = None; target = target i }

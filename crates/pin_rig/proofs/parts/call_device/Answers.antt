@@ -1,9 +1,9 @@
-use Rattle.std.proofs.Common.{◌<◌, sym, ◌∙◌, subst}
+use Rattle.std.proofs.Common.{◌<◌, ap, sym, ◌∙◌, subst}
 use Rattle.std.specs.List.{All}
 use Rattle.plan_tables.specs.PlanView.{row_at}
 use Rattle.plan_tables.specs.Devices.{list_count}
 use Rattle.written_machine.specs.Machine.{called, set_device}
-use Rattle.pin_rig.specs.Core.{after}
+use Rattle.pin_rig.specs.Core.{CoreView, after}
 use Rattle.pin_rig.proofs.Callable.{can-turn}
 use Rattle.pin_rig.proofs.Listing.{answer-lists}
 use Rattle.pin_rig.proofs.parts.call_device.Goals as goal
@@ -21,3 +21,6 @@ run_lists-requires-clause-calls g c =
     let r = c.args.row in
     can-turn plan c.args.call r c.args.core.now c.call-lists.new.self
     (c.call-lists.ensures.called ∙ (λ i. after (set_device r (called (c.requires.plan i) c.args.call r c.args.core.now.machine).0) c.args.core.now)) c.requires.calls
+
+pub run_lists-requires-clause-plan : goal.run_lists-requires-clause-plan
+run_lists-requires-clause-plan g c = ap (λ (v : CoreView). v.handlers.plan) c.call-lists.ensures.called ∙ c.requires.plan

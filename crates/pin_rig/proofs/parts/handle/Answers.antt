@@ -7,7 +7,7 @@ use Rattle.mode_stack.specs.Modes.{running_of}
 use Rattle.event_queue.proofs.PlanOrder.{handlers_are_in_plan_order}
 use Rattle.written_machine.specs.Machine.{all_do, do_binding, do_handler}
 use Rattle.pin_rig.specs.Core.{after}
-use Rattle.pin_rig.proofs.Handling.{handler-place, handler-room, handler-run, handlers-end, kept-now, target-within}
+use Rattle.pin_rig.proofs.Handling.{handler-place, handler-room, handler-run, handlers-end, kept-now, binding-within}
 use Rattle.pin_rig.proofs.Stepping.{handled-calls}
 use Rattle.pin_rig.proofs.parts.handle.Goals as goal
 
@@ -17,34 +17,34 @@ loop-place-init g c = (
   c.requires.calls,
 )
 
-pub binding-binding-requires : goal.binding-binding-requires
-binding-binding-requires g c =
+pub binding-requires : goal.binding-requires
+binding-requires g c =
     handler-place c.args.plan.now (running_of c.args.core.now.machine.modes) c.args.core.now c.loop-place.core c.requires.handlers c.args.event c.loop-place.from c.loop-place.invariant.0
     c.in-Some.place c.in-Some.next c.in-Some.ensures.walk c.in-Some.ensures.within
 
-pub run_target-requires-clause-target : goal.run_target-requires-clause-target
-run_target-requires-clause-target g c = target-within c.args.plan.now c.binding-binding.ensures.valid.entries c.in-Some.place c.binding-binding.result c.binding-binding.ensures.binding
+pub run_binding-requires-clause-binding : goal.run_binding-requires-clause-binding
+run_binding-requires-clause-binding g c = binding-within c.args.plan.now c.binding.ensures.valid.entries c.in-Some.place c.binding.result c.binding.ensures.binding
 
-pub run_target-requires-clause-plan : goal.run_target-requires-clause-plan
-run_target-requires-clause-plan g c =
+pub run_binding-requires-clause-plan : goal.run_binding-requires-clause-plan
+run_binding-requires-clause-plan g c =
     ap (λ h. h.plan) (kept-now c.args.plan.now (running_of c.args.core.now.machine.modes) c.args.core.now c.loop-place.core c.requires.handlers c.args.event c.loop-place.from c.loop-place.invariant.0)
 
-pub run_target-requires-clause-room : goal.run_target-requires-clause-room
-run_target-requires-clause-room g c =
+pub run_binding-requires-clause-room : goal.run_binding-requires-clause-room
+run_binding-requires-clause-room g c =
     handler-room c.args.plan.now (running_of c.args.core.now.machine.modes) c.args.core.now c.loop-place.core c.requires.handlers c.args.event c.loop-place.from c.loop-place.invariant.0
-    c.in-Some.place c.in-Some.next c.in-Some.ensures.walk c.binding-binding.result c.binding-binding.ensures.binding c.requires.room
+    c.in-Some.place c.in-Some.next c.in-Some.ensures.walk c.binding.result c.binding.ensures.binding c.requires.room
 
 pub loop-place-preserved : goal.loop-place-preserved
 loop-place-preserved g c = (
   handler-run c.args.plan.now (running_of c.args.core.now.machine.modes) c.args.core.now c.loop-place.core c.requires.handlers c.args.event c.loop-place.from c.loop-place.invariant.0
-      c.in-Some.place c.in-Some.next c.in-Some.ensures.walk c.binding-binding.result c.binding-binding.ensures.binding c.run_target.new.core c.run_target.ensures,
-  handled-calls c.args.plan.now (c.in-Some.place ∷ []) c.loop-place.core c.run_target.new.core
-      (c.run_target.ensures ∙ ap (λ (b : Binding). after (do_binding c.args.plan.now b) c.loop-place.core) (sym (get_or_from_slice_get c.args.plan.now.bindings c.in-Some.place.0 c.binding-binding.result no_binding c.binding-binding.ensures.binding)))
+      c.in-Some.place c.in-Some.next c.in-Some.ensures.walk c.binding.result c.binding.ensures.binding c.run_binding.new.core c.run_binding.ensures,
+  handled-calls c.args.plan.now (c.in-Some.place ∷ []) c.loop-place.core c.run_binding.new.core
+      (c.run_binding.ensures ∙ ap (λ (b : Binding). after (do_binding c.args.plan.now b) c.loop-place.core) (sym (get_or_from_slice_get c.args.plan.now.bindings c.in-Some.place.0 c.binding.result no_binding c.binding.ensures.binding)))
       c.loop-place.invariant.1,
 )
 
-pub run_target-requires-clause-calls : goal.run_target-requires-clause-calls
-run_target-requires-clause-calls g c = c.loop-place.invariant.1
+pub run_binding-requires-clause-calls : goal.run_binding-requires-clause-calls
+run_binding-requires-clause-calls g c = c.loop-place.invariant.1
 
 pub returns : goal.returns
 returns g c =

@@ -1,10 +1,10 @@
-use Rattle.std.proofs.Common.{◌+◌, drop, get_or, sym, subst}
+use Rattle.std.proofs.Common.{◌+◌, drop, get_or, ap, sym, ◌∙◌, subst}
 use Rattle.std.proofs.lemmas.List.{drop_more}
 use Rattle.plan_tables.specs.declared.entries.Action.{Action}
 use Rattle.plan_tables.specs.declared.entries.Action.TheVariants.{Post}
 use Rattle.written_machine.specs.Machine.{all_do, do_action}
 use Rattle.written_machine.proofs.Growth.{action-grows}
-use Rattle.pin_rig.specs.Core.{CanCall, after}
+use Rattle.pin_rig.specs.Core.{CoreView, CanCall, after}
 use Rattle.pin_rig.proofs.Callable.{can-act}
 use Rattle.pin_rig.proofs.Room.{room-first, all_do-first}
 use Rattle.pin_rig.proofs.parts.run_actions.Goals as goal
@@ -33,3 +33,6 @@ loop-action-preserved g c =
           (drop_more actions i none c.loop-action-test.true) c.loop-action.invariant.0 c.run_action.ensures,
       subst (CanCall plan) (sym c.run_action.ensures) (can-act plan owner (get_or actions i none) c.loop-action.core c.loop-action.invariant.1),
     )
+
+pub run_action-requires-clause-plan : goal.run_action-requires-clause-plan
+run_action-requires-clause-plan g c = ap (λ (v : CoreView). v.handlers.plan) c.loop-action.invariant.0 ∙ c.requires.plan

@@ -7,7 +7,7 @@ use Rattle.plan_tables.specs.declared.devices.DeviceRow.{DeviceRow}
 use Rattle.written_machine.specs.Machine.{all_do, do_action, do_answer, do_list}
 use Rattle.std.specs.List.{All}
 use Rattle.plan_tables.specs.Valid.{IsActionWithin}
-use Rattle.pin_rig.specs.Core.{CanCall, HasRoom, after}
+use Rattle.pin_rig.specs.Core.{CoreView, CanCall, HasRoom, after}
 use Rattle.pin_rig.proofs.Callable.{actions-within, can-act_all}
 use Rattle.pin_rig.proofs.Room.{room-first, all_do-first}
 use Rattle.pin_rig.proofs.Listing.{list-grows}
@@ -48,3 +48,6 @@ loop-list-preserved g c =
           k (drop (i + 1) lists) (drop i lists) (drop_more lists i 0 c.loop-list-test.true) c.loop-list.invariant.0 done,
       subst (CanCall plan) (sym done) (can-act_all plan (row_at plan r).owner (actions_at plan (list_of_row plan r k)) core c.loop-list.invariant.1),
     )
+
+pub run_actions-requires-clause-plan : goal.run_actions-requires-clause-plan
+run_actions-requires-clause-plan g c = ap (λ (v : CoreView). v.handlers.plan) c.loop-list.invariant.0 ∙ c.requires.plan

@@ -1,36 +1,15 @@
 use Rattle.std.proofs.Common.{◌∙◌, ap, sym}
-use Rattle.plan_tables.specs.declared.entries.EventId.{EventId}
-use Rattle.plan_tables.specs.declared.entries.Mode.{Mode as ModeValue}
-use Rattle.plan_tables.specs.declared.entries.Owner.TheVariants.{Machine}
 use Rattle.plan_tables.specs.declared.entries.Work.{Work}
-use Rattle.plan_tables.specs.declared.entries.Work.TheVariants.{Mode}
-use Rattle.written_machine.specs.Machine.{post, stop_mode}
+use Rattle.written_machine.specs.Machine.{do_game}
 use Rattle.written_machine.specs.EventStep.{do_after}
-use Rattle.pin_rig.specs.Core.{after, follow}
-use Rattle.pin_rig.proofs.Following.{follow-still, stop-still, ended-follows}
-use Rattle.pin_rig.proofs.Releasing.{stopped-room, stopped-coils}
+use Rattle.pin_rig.specs.Core.{follow}
+use Rattle.pin_rig.proofs.Following.{follow-still}
+use Rattle.pin_rig.proofs.Playing.{game-still}
 use Rattle.pin_rig.proofs.parts.work_after.Goals as goal
 
-pub returns-then-kept : goal.returns-then-kept
-returns-then-kept g c =
-    let m = c.in-Mode.mode in
+pub returns-in-Game : goal.returns-in-Game
+returns-in-Game g c =
     let plan = c.args.plan.now in
-    c.stop.ensures
-    ∙ follow-still (stop_mode plan m) c.args.core.now (ap (λ h. h.running) c.requires.handlers) (stop-still plan m c.args.core.now.machine)
-    ∙ (λ i. follow (do_after c.args.plan.now (sym c.if-kept.true i) (sym (c.in-Mode.is ∙ ap (Mode c.in-Mode.mode) c.in-Started.is) i)) c.args.core.now)
-
-pub returns-in-Stopping : goal.returns-in-Stopping
-returns-in-Stopping g c =
-    let m = c.in-Mode.mode in
-    let plan = c.args.plan.now in
-    c.post-in-Stopping.ensures
-    ∙ ap (λ (e : EventId). after (post Machine e) c.end.new.self) (ap (λ (x : ModeValue). x.events.stopped) c.mode.ensures.mode)
-    ∙ ended-follows plan c.args.kept c.args.core.now c.call_devices.new.core c.release_coils.new.core c.end.new.self m (ap (λ h. h.running) c.requires.handlers) c.call_devices.ensures c.release_coils.ensures c.end.ensures
-    ∙ ap (λ (w : Work). follow (do_after c.args.plan.now c.args.kept w) c.args.core.now) (sym (c.in-Mode.is ∙ ap (Mode c.in-Mode.mode) c.in-Stopping.is))
-
-pub call_devices-requires-clause-room : goal.call_devices-requires-clause-room
-call_devices-requires-clause-room g c =
-    stopped-room c.args.plan.now c.args.kept c.in-Mode.mode c.args.work c.args.core.now.room c.args.core.now.machine (c.in-Mode.is ∙ ap (Mode c.in-Mode.mode) c.in-Stopping.is) c.requires.room
-
-pub release_coils-requires-clause-coils : goal.release_coils-requires-clause-coils
-release_coils-requires-clause-coils g c = stopped-coils c.args.plan.now c.in-Mode.mode c.args.core.now c.call_devices.new.core c.call_devices.ensures c.requires.calls
+    c.play.ensures
+    ∙ follow-still (do_game plan c.in-Game.event) c.args.core.now (ap (λ h. h.running) c.requires.handlers) (game-still plan c.in-Game.event c.args.core.now.machine)
+    ∙ ap (λ (w : Work). follow (do_after plan c.args.kept w) c.args.core.now) (sym c.in-Game.is)

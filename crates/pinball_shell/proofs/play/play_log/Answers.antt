@@ -1,6 +1,6 @@
 use Rattle.std.proofs.Common.{Err, IsErrOf, ap, sym, ◌∙◌, map, subst}
 use Rattle.std.proofs.lemmas.Result.{err_from_is_err_and}
-use Rattle.pin_rig.specs.Board.{BoardView}
+use Rattle.pin_rig.specs.Board.{BoardView, board_view}
 use Rattle.pin_rig.specs.Fit.{IsFit}
 use Rattle.pinball_shell.specs.declared.fault.ShellFault.TheVariants as faults
 use Rattle.pinball_shell.proofs.LogRuns.{log_is_run}
@@ -28,8 +28,8 @@ returns-in_err-rig-clause-wrong g c =
 
 pub returns-clause-played : goal.returns-clause-played
 returns-clause-played g c =
-    let first : BoardView = record { told = g.B.Board.told c.args.board; fault_count = g.B.Board.fault_count c.args.board } in
-    let last : BoardView = record { told = g.B.Board.told c.in_ok-board.board; fault_count = g.B.Board.fault_count c.in_ok-board.board } in
+    let first : BoardView = board_view g.B.Board.told g.B.Board.fault_count g.B.Board.answers c.args.board in
+    let last : BoardView = board_view g.B.Board.told g.B.Board.fault_count g.B.Board.answers c.in_ok-board.board in
     log-played c.plan-plan.result.now c.args.checked.now c.in_ok-rig.rig c.play_lines.new.rig first last c.args.log.now
     (g.W.Write.contents c.args.writer.now) (g.W.Write.contents c.play_lines.new.writer) (g.W.Write.contents c.shut_down.new.writer) c.in_ok-verdict.verdict
     c.plan-plan.ensures.plan c.in_ok-rig.ensures.rest c.in_ok-verdict.ensures.played c.in_ok-board.ensures.done

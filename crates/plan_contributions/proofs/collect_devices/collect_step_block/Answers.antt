@@ -1,9 +1,10 @@
 use Rattle.std.proofs.Common.{◌++◌, map, refl, ap, ◌∙◌}
-use Rattle.mpf_sections.specs.View.{names_view, block_view, step_block_view}
+use Rattle.std.specs.List.{flat_map}
+use Rattle.mpf_sections.specs.View.{handlers_view, block_view, step_block_view}
 use Rattle.plan_contributions.specs.DeviceEntries.{block_acts, block_mentions, block_lists, step_acts, step_device}
 use Rattle.plan_contributions.specs.Contributions.{act_binding, mentions, effects_from}
 use Rattle.plan_contributions.specs.View.{contributions_view}
-use Rattle.plan_contributions.proofs.DeviceParts.{mapped_after, row_first, device_collected}
+use Rattle.plan_contributions.proofs.DeviceParts.{made_after, row_first, device_collected}
 use Rattle.plan_contributions.proofs.collect_devices.collect_step_block.Goals as goal
 
 pub returns : goal.returns
@@ -14,10 +15,10 @@ returns c =
     let row = step_block_view c.args.row in
     let old = c.args.contributions.now.items in
     let one = contributions_view c.push.new.self.items in
-    let steps = step_acts 0 (map names_view c.args.row.steps.now) in
+    let steps = step_acts 0 (map handlers_view c.args.row.steps.now) in
     let others = block_acts (block_view c.args.row.block) in
     let first = row_first old c.push.new.self.items place settings settings c.in_ok-push.ensures.items refl in
-    let acting = c.in_ok-collect_block_acts.ensures ∙ ap (λ l. l ++ map f others) c.in_ok-collect_steps.ensures ∙ mapped_after f one steps others in
+    let acting = c.in_ok-collect_block_acts.ensures ∙ ap (λ l. l ++ flat_map f others) c.in_ok-collect_steps.ensures ∙ made_after f one steps others in
     let acted = contributions_view c.collect_block_acts.new.contributions.items in
     let block = block_view c.args.row.block in
     let posting = c.in_ok-collect_block_posts.ensures ∙ ap (λ n. acted ++ (map mentions (block_mentions block) ++ effects_from 0 (block_lists n block))) c.deref.ensures.value in

@@ -1,6 +1,7 @@
 use Rattle.std.proofs.Common.{◌+◌, ◌++◌, map, drop, get_or, ap, ◌∙◌}
 use Rattle.std.proofs.lemmas.List.{append_assoc}
-use Rattle.mpf_sections.specs.View.{name_view, names_view}
+use Rattle.std.specs.List.{flat_map}
+use Rattle.mpf_sections.specs.View.{handler_view, handlers_view}
 use Rattle.plan_tables.specs.declared.devices.Act.TheVariants.{Step}
 use Rattle.plan_contributions.specs.DeviceEntries.{acts, step_acts}
 use Rattle.plan_contributions.specs.Contributions.{act_binding}
@@ -15,7 +16,7 @@ loop-number-preserved c =
     let i = c.loop-number.number in
     let v = c.index-steps-number.result in
     let now = contributions_view c.loop-number.contributions.items in
-    let acting = map f (acts (Step i) (names_view (get_or steps i v))) in
-    let later = map f (step_acts (i + 1) (map names_view (drop (i + 1) steps))) in
-    let here = c.in_ok-collect_acts.ensures ∙ ap (λ ns. now ++ map f (acts (Step i) (map name_view ns))) c.deref.ensures.value ∙ ap (λ x. now ++ map f (acts (Step i) (names_view x))) c.index-steps-number.is in
-    ap (λ l. l ++ later) here ∙ append_assoc now acting later ∙ ap (λ l. now ++ l) (steps_next f names_view steps i v c.loop-number-test.true) ∙ c.loop-number.invariant
+    let acting = flat_map f (acts (Step i) (handlers_view (get_or steps i v))) in
+    let later = flat_map f (step_acts (i + 1) (map handlers_view (drop (i + 1) steps))) in
+    let here = c.in_ok-collect_acts.ensures ∙ ap (λ ns. now ++ flat_map f (acts (Step i) (map handler_view ns))) c.deref.ensures.value ∙ ap (λ x. now ++ flat_map f (acts (Step i) (handlers_view x))) c.index-steps-number.is in
+    ap (λ l. l ++ later) here ∙ append_assoc now acting later ∙ ap (λ l. now ++ l) (steps_next f handlers_view steps i v c.loop-number-test.true) ∙ c.loop-number.invariant

@@ -1,12 +1,12 @@
 use Rattle.yaml_subset.specs.View.{node_view}
 use Rattle.section_tables.specs.Kinds.{at_least}
-use Rattle.section_tables.specs.Reading.{most_items, written_in, listed_at}
-use Rattle.section_tables.specs.View.{names_view, spot_view}
+use Rattle.section_tables.specs.Reading.{most_items, handled_in, listed_at}
+use Rattle.section_tables.specs.View.{handlers_view, spot_view}
 use Rattle.section_tables.proofs.EachGiven.{gives_each}
 use Rattle.section_tables.proofs.settings.steps.Goals as goal
 
 pub returns : goal.returns
 returns c =
-    let read = listed_at written_in most_items (at_least 1) (spot_view c.args.spot) in
-    let given = gives_each node_view names_view read c.in_ok-nodes.nodes.now c.each.result c.each.ensures (λ p s m. m) in
+    let read = listed_at handled_in most_items (at_least 1) (spot_view c.args.spot) in
+    let given = gives_each node_view handlers_view read c.in_ok-nodes.nodes.now c.each.result c.each.ensures (λ p s m. m) in
     rw c.in_ok-nodes.ensures given

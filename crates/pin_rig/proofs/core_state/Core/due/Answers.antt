@@ -10,4 +10,4 @@ returns g c =
     rw (← c.self.view_is)
     (c.first_of.ensures
     ∙ (λ i. first_of (option_map (λ d. (d.0, switch d.1)) (c.due.ensures.next i))
-    (option_map (λ d. (d.0, device d.1)) ((c.least.ensures.least ∙ ap least_of (c.self.invariant.3 ∙ dues-are g.D.Device.state_of c.self.inside.devices.items)) i))))
+    (option_map (λ d. (d.0, device d.1)) ((c.least.ensures.least ∙ ap least_of (c.self.invariant.5 ∙ dues-are g.D.Device.state_of c.self.inside.devices.items)) i))))

@@ -31,6 +31,8 @@ invariant_of-result g c =
     let states = ap (map g.D.Device.state_of) (sym c.deref.ensures.value) ∙ fit.states_are in (
       search rules,
       search rules,
+      search rules,
+      search rules,
       ap (map g.D.Device.row_of) (sym c.deref.ensures.value) ∙ fit.rows_are ∙ sym (ap (λ h. h.plan.rows) c.in_ok-handlers.ensures),
       c.in_ok-alarms.ensures ∙ ap (λ (rs : List DeviceRow). replicate (length rs) None) c.rows.ensures.rows ∙ sym (dues-are g.D.Device.state_of c.args.devices.items ∙ ap (map due_of) states ∙ first-dues rows),
     )

@@ -1,4 +1,4 @@
-use Rattle.std.proofs.Common.{◌≡◌, ◌<◌, length, map, ap, sym, subst, ◌∙◌}
+use Rattle.std.proofs.Common.{◌≡◌, ◌<◌, length, map, refl, ap, sym, subst, ◌∙◌}
 use Rattle.std.specs.List.{All}
 use Rattle.std.proofs.lemmas.List.{length-map}
 use Rattle.std.proofs.lemmas.List.Elements.{All-weaker}
@@ -18,4 +18,4 @@ pub invariant_of-result : goal.invariant_of-result
 invariant_of-result c =
     let plan = tables_view c.args.tables in
     let count : length plan.events ≡ c.len-events.result = sym (ap length c.of.ensures.names) ∙ length-map c.of.result.now.keys (λ v. v.items) ∙ sym c.len-events.ensures.len in
-    (c.requires.valid, c.in_ok-places.ensures plan count (sym c.deref.ensures.value), c.in_ok-works.ensures plan count (ap (map mode_entry_view) (sym c.deref-2.ensures.value)), c.requires.switches, c.requires.coils)
+    (c.requires.valid, c.in_ok-places.ensures plan count (sym c.deref.ensures.value), c.in_ok-works.ensures plan count (ap (map mode_entry_view) (sym c.deref-2.ensures.value)) refl, c.requires.switches, c.requires.coils)

@@ -1,0 +1,117 @@
+-- The events of a plan's game, and what they can post.
+use Rattle.std.proofs.Common.{◌≡◌, ◌∙◌, ap, ℕ, suc, ◌<◌, ◌≤◌, ◌==◌, nat_le, Bool, true, List, [], ◌∷◌, length, map, get_or, Option, Some, None, refl, inl, inr, arith, rules}
+use Rattle.std.specs.Prelude.{IfSome}
+use Rattle.std.specs.List.{All, list_all, position}
+use Rattle.std.proofs.lemmas.Bool.{cases_lt, leb-true}
+use Rattle.std.proofs.lemmas.List.Sums.{AllPass-from_list_all}
+use Rattle.std.proofs.lemmas.List.{get_or_past, get_or-map, length-map}
+use Rattle.std.proofs.lemmas.List.Elements.{All-get_or, All-head}
+use Rattle.plan_tables.specs.PlanView.{PlanMode, PlanView, no_event, event_in_game, event_of_game, game_event, game_work, or_work, placed_in_game, which_event, work_from, work_in_game, work_of, work_or}
+use Rattle.plan_tables.specs.Valid.{HasEntries, IsEventWithin, IsGameWithin}
+use Rattle.plan_tables.specs.GameEvents.{order_of}
+use Rattle.plan_tables.specs.declared.entries.EventId.{EventId}
+use Rattle.plan_tables.specs.declared.entries.GameEvent.{GameEvent}
+use Rattle.plan_tables.specs.declared.entries.GameEvent.TheVariants.{SwStart, GameWillStart, GameStarting, PlayerAdded, GameStarted, PlayerTurnWillStart, PlayerTurnStarting, PlayerTurnStarted, BallWillStart, BallStarting, BallStarted, BallDrain, BallWillEnd, BallEnding, BallEnded, PlayerTurnWillEnd, PlayerTurnEnding, PlayerTurnEnded, GameWillEnd, GameEnding, GameEnded}
+use Rattle.plan_tables.specs.declared.entries.GameRules.{GameRules}
+use Rattle.plan_tables.specs.declared.entries.ModeEvent.{ModeEvent}
+use Rattle.plan_tables.specs.declared.entries.Work.{Work}
+use Rattle.plan_tables.specs.declared.entries.Work.TheVariants as works
+use Rattle.player_game.specs.Choices.{choices}
+
+-- ---- events of the game are events of the plan
+
+event_in_game-below : (n : ℕ) (rules : GameRules) → IsGameWithin n rules → 0 < n → (which : GameEvent) → (event_in_game rules which).0 < n
+event_in_game-below n rules within some which = elim (cases_lt (order_of which) (length rules.events)) [
+  | inl there ↦ All-get_or (IsEventWithin n) rules.events (order_of which) no_event there within.within
+  | inr past ↦ rw (get_or_past rules.events (order_of which) no_event past) some
+]
+
+event_of_game-below : (n : ℕ) (game : Option GameRules) → IfSome game (IsGameWithin n) → 0 < n → (which : GameEvent) → (event_of_game game which).0 < n
+event_of_game-below n None within some which = some
+event_of_game-below n (Some rules) within some which = event_in_game-below n rules within some which
+
+-- ---- where there is work in the game, the plan has an event
+
+-- whether the work is not in the game
+abbrev IsOfMode : Work → Type 0
+IsOfMode works.Nothing = Unit {0}
+IsOfMode (works.Mode m which) = Unit {0}
+IsOfMode (works.Game which) = ⊥
+
+mode_or : (n : ℕ) (o : Option ModeEvent) (rest : Work) → IsOfMode rest → IsOfMode (work_or n o rest)
+mode_or n None rest h = h
+mode_or n (Some which) rest h = tt
+
+of_mode : (n : ℕ) (modes : List PlanMode) (e : EventId) → IsOfMode (work_from n modes e)
+of_mode n [] e = tt
+of_mode n (m ∷ ms) e = mode_or n (which_event m.mode.events e) (work_from (suc n) ms e) (of_mode (suc n) ms e)
+
+-- whether there is an event, where the work is in the game
+abbrev IsSomeEvent : ℕ → Work → Type 0
+IsSomeEvent n works.Nothing = Unit {0}
+IsSomeEvent n (works.Mode m which) = Unit {0}
+IsSomeEvent n (works.Game which) = 0 < n
+
+some_event-or : (n : ℕ) (w v : Work) → IsOfMode w → IsSomeEvent n v → IsSomeEvent n (or_work w v)
+some_event-or n works.Nothing v h some = some
+some_event-or n (works.Mode m which) v h some = tt
+some_event-or n (works.Game which) v h some = absurd h
+
+some_event-in : (n : ℕ) (o : Option GameEvent) → 0 < n → IsSomeEvent n (work_in_game o)
+some_event-in n None some = tt
+some_event-in n (Some which) some = some
+
+some_event-among : (n : ℕ) (events : List EventId) (e : EventId) → All (IsEventWithin n) events → IsSomeEvent n (work_in_game (placed_in_game (position (λ f. f.0 == e.0) events)))
+some_event-among n [] e within = tt
+some_event-among n (f ∷ fs) e within =
+    some_event-in n (placed_in_game (position (λ g. g.0 == e.0) (f ∷ fs))) (omega (arith, All-head (IsEventWithin n) f fs within))
+
+some_event-game : (n : ℕ) (game : Option GameRules) (e : EventId) → IfSome game (IsGameWithin n) → IsSomeEvent n (game_work game e)
+some_event-game n None e within = tt
+some_event-game n (Some rules) e within = some_event-among n rules.events e within.within
+
+module _ (plan : PlanView) (valid : HasEntries plan) where
+  pub game_event-below : 0 < length plan.events → (which : GameEvent) → (game_event plan which).0 < length plan.events
+  game_event-below some which = event_of_game-below (length plan.events) plan.game valid.game some which
+
+  pub game_has-event : (e : EventId) (which : GameEvent) → work_of plan e ≡ works.Game which → 0 < length plan.events
+  game_has-event e which is =
+      let some = some_event-or (length plan.events) (work_from 0 plan.modes e) (game_work plan.game e) (of_mode 0 plan.modes e) (some_event-game (length plan.events) plan.game e valid.game) in
+      rw is at some
+
+-- ---- what an event of the game can post
+
+-- whether none of these has more than two events
+abbrev are_few : List (List GameEvent) → Bool
+are_few ways = list_all (λ posts. nat_le (length posts) 2) ways
+
+choices_are_few : (which : GameEvent) → are_few (choices which) ≡ true
+choices_are_few SwStart = refl
+choices_are_few GameWillStart = refl
+choices_are_few GameStarting = refl
+choices_are_few PlayerAdded = refl
+choices_are_few GameStarted = refl
+choices_are_few PlayerTurnWillStart = refl
+choices_are_few PlayerTurnStarting = refl
+choices_are_few PlayerTurnStarted = refl
+choices_are_few BallWillStart = refl
+choices_are_few BallStarting = refl
+choices_are_few BallStarted = refl
+choices_are_few BallDrain = refl
+choices_are_few BallWillEnd = refl
+choices_are_few BallEnding = refl
+choices_are_few BallEnded = refl
+choices_are_few PlayerTurnWillEnd = refl
+choices_are_few PlayerTurnEnding = refl
+choices_are_few PlayerTurnEnded = refl
+choices_are_few GameWillEnd = refl
+choices_are_few GameEnding = refl
+choices_are_few GameEnded = refl
+
+-- the ways as they are given: by none does it post more than two events
+pub choice-few : {X : Type 0} (items : X → List GameEvent) (which : GameEvent) (ways : List X) (i : ℕ) (d : X) → map items ways ≡ choices which → i < length ways → length (items (get_or ways i d)) ≤ 2
+choice-few items which ways i d are within =
+    let listed : i < length (map items ways) = omega (arith, within, length-map ways items) in
+    let all = AllPass-from_list_all (λ (posts : List GameEvent). nat_le (length posts) 2) (map items ways) (ap are_few are ∙ choices_are_few which) in
+    let few = leb-true (length (get_or (map items ways) i (items d))) 2 (all i (items d) listed) in
+    omega (arith, few, ap length (get_or-map items ways i d (items d) within))

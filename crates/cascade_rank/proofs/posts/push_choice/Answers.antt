@@ -1,0 +1,16 @@
+use Rattle.std.proofs.Common.{[], ◌∷◌, ◌++◌, ap, ◌∙◌}
+use Rattle.plan_tables.specs.PlanView.{game_event}
+use Rattle.plan_tables.specs.declared.entries.EventId.{EventId}
+use Rattle.plan_tables.specs.declared.entries.GameEvent.TheVariants.{SwStart}
+use Rattle.cascade_rank.specs.Cost.{cost_of_post}
+use Rattle.cascade_rank.proofs.Posted.{pushes-more, pushes-all}
+use Rattle.cascade_rank.proofs.posts.push_choice.Goals as goal
+
+pub loop-which-preserved : goal.loop-which-preserved
+loop-which-preserved c =
+    pushes-more (λ which. cost_of_post (game_event c.args.plan.now which)) c.args.choice.now c.loop-which.which-index SwStart c.args.posts.now.items c.loop-which.posts.items c.push.new.self.items c.loop-which-test.true
+    c.loop-which.invariant (c.in_ok-push.ensures.items ∙ ap (λ (e : EventId). c.loop-which.posts.items ++ e ∷ []) c.game_event.ensures.event)
+
+pub returns : goal.returns
+returns c =
+    pushes-all (λ which. cost_of_post (game_event c.args.plan.now which)) c.args.choice.now c.loop-which.which-index c.args.posts.now.items c.loop-which.posts.items c.loop-which-test.false c.loop-which.invariant

@@ -1,0 +1,24 @@
+use Rattle.std.proofs.Common.{◌<◌, ◌≤◌, ◌++◌, List, [], length, map, ap, sym, ◌∙◌, arith, Bor}
+use Rattle.std.proofs.lemmas.List.{get_or-map, length-map}
+use Rattle.plan_tables.specs.declared.entries.EventId.{EventId}
+use Rattle.plan_tables.specs.declared.entries.GameEvent.{GameEvent}
+use Rattle.cascade_rank.specs.Cost.{dearest_of, cost_of_choice}
+use Rattle.cascade_rank.specs.Mentions.{weights_in}
+use Rattle.cascade_rank.proofs.Posted.{pushes-more, pushes-all, weights-dearest}
+use Rattle.cascade_rank.proofs.posts.push_choices.Goals as goal
+
+pub loop-choice-preserved : goal.loop-choice-preserved
+loop-choice-preserved c =
+    let ways = map (λ (posts : Bor (List GameEvent)). posts.now) c.choices-choice-items.result.now in
+    let listed : c.loop-choice.choice-index < length ways = omega (arith, c.loop-choice-test.true, length-map c.choices-choice-items.result.now (λ (posts : Bor (List GameEvent)). posts.now)) in
+    let here = get_or-map (λ (posts : Bor (List GameEvent)). posts.now) c.choices-choice-items.result.now c.loop-choice.choice-index (record { ref_ptr = (0, 0); now = [] }) [] c.loop-choice-test.true in
+    pushes-more (cost_of_choice c.args.plan.now) ways c.loop-choice.choice-index [] c.args.posts.now.items c.loop-choice.posts.items c.push_choice.new.posts.items listed c.loop-choice.invariant
+    (c.in_ok-push_choice.ensures ∙ ap (λ posts. c.loop-choice.posts.items ++ weights_in (cost_of_choice c.args.plan.now posts)) (sym here))
+
+pub returns : goal.returns
+returns c =
+    let ways = map (λ (posts : Bor (List GameEvent)). posts.now) c.choices-choice-items.result.now in
+    let whole : length ways ≤ c.loop-choice.choice-index = omega (arith, c.loop-choice-test.false, length-map c.choices-choice-items.result.now (λ (posts : Bor (List GameEvent)). posts.now)) in
+    pushes-all (cost_of_choice c.args.plan.now) ways c.loop-choice.choice-index c.args.posts.now.items c.loop-choice.posts.items whole c.loop-choice.invariant
+    ∙ ap (λ (es : List EventId). c.args.posts.now.items ++ es) (weights-dearest (cost_of_choice c.args.plan.now) ways)
+    ∙ ap (λ (all : List (List GameEvent)). c.args.posts.now.items ++ weights_in (dearest_of (cost_of_choice c.args.plan.now) all)) c.choices-choice-items.ensures

@@ -1,0 +1,11 @@
+use Rattle.std.proofs.Common.{ap, arith}
+use Rattle.plan_tables.specs.declared.entries.Work.{Work}
+use Rattle.cascade_rank.specs.Events.{weight_of}
+use Rattle.cascade_rank.specs.Cost.{price, cost_of_game}
+use Rattle.cascade_rank.proofs.price.price_of_game.Goals as goal
+
+pub returns-in-Game-clause-price : goal.returns-in-Game-clause-price
+returns-in-Game-clause-price c =
+    let here = ap (λ (w : Work). price (weight_of c.args.weights.now) (cost_of_game c.args.plan.now w)) c.in-Game.ensures.work in
+    let scores = c.price_of_scores.ensures.price (weight_of c.args.weights.now) in
+    omega (arith, here, scores, c.dearest_choice.ensures.price)

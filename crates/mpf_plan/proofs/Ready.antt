@@ -1,0 +1,355 @@
+-- Where a contribution speaks of an event whose name it does not use, another contribution uses that name; and what is said
+-- of the game is within its limits.
+use Rattle.std.proofs.Common.{◌≡◌, ℕ, zero, suc, ◌<◌, ◌≤◌, Bool, true, false, if◌then◌else◌, ◌||◌, ◌&&◌, nat_le, List, [], ◌∷◌, ◌++◌, length, map, get_or, codes, refl, ◌∙◌, ap, arith}
+use Rattle.std.specs.Prelude.{pos, Option, None, Some}
+use Rattle.std.specs.Str.{bytes_eq}
+use Rattle.std.specs.List.{All, flat_map, list_any}
+use Rattle.std.proofs.lemmas.Bool.{and_parts, leb-true, or_left, or_right}
+use Rattle.std.proofs.lemmas.Grind.{flat_map-append}
+use Rattle.std.proofs.lemmas.List.Elements.{All-nil, All-cons, All-append, All-weaker, All-from_get_or}
+use Rattle.std.proofs.lemmas.List.Folds.{list_any-append, list_any_at}
+use Rattle.std.proofs.lemmas.Slice.Eq.{bytes_eq-Decides}
+use Rattle.section_tables.specs.Rows.{number, Value, one}
+use Rattle.mpf_sections.specs.Rows.{Entry, Player, Block, Flipper, VariableItem, VariablePlayer, ModeSettings, SectionRows, Written}
+use Rattle.mpf_config.specs.Rows.{Rows}
+use Rattle.mpf_sections.specs.Typed.{switches_name, event_player_name, counters_name, accruals_name, sequences_name, timers_name, switch_of, event_player_of, counter_of, step_block_of, timer_of, setting_of, row_or, content_named, natural_within}
+use Rattle.mpf_sections.specs.TypedCoils.{coils_name, coil_player_name, flippers_name, autofire_coils_name, coil_of, coil_player_of, flipper_of}
+use Rattle.mpf_sections.specs.SectionTables as tables
+use Rattle.mpf_sections.specs.TypedGame.{variable_player_name, machine_section_name, game_name, variable_player_of, game_of, min_balls_of}
+use Rattle.machine_definitions.specs.GameEvents.{game_event_names}
+use Rattle.machine_definitions.specs.Players.{player_event}
+use Rattle.plan_contributions.specs.declared.contribution.Place.{Place}
+use Rattle.plan_contributions.specs.declared.contribution.Place.TheVariants.{Machine, Control, Mode}
+use Rattle.plan_contributions.specs.declared.contribution.Aim.TheVariants.{Run}
+use Rattle.plan_tables.specs.declared.table.Table.TheVariants.{Events}
+use Rattle.plan_contributions.specs.VariableEntries.{item_change}
+use Rattle.plan_contributions.specs.DeviceEntries.{disable, Effect, posts, works, changes, Device, device_of, block_event, block_lists, or_own, timer_event, timer_endings}
+use Rattle.plan_contributions.specs.CoilEntries.{flipper_on, flipper_off, flipper_device}
+use Rattle.plan_contributions.specs.Contributions.{Contribution, device, does, does_in, mentions, coil, plays, bound, switch_contributions, player_contributions, coil_contributions, coil_player_contributions, item_contributions, variable_player_contributions, game_contributions, mode, later_events, controls, mode_contributions, act_binding, effects_from, listens_from, device_contributions, where_device, Row, entry, alone, player, of_mode, rows_of, machine_device, machine_entry_contributions, entry_contributions, alone_contributions, player_entry_contributions, row_contributions, given_by, contributions_of}
+use Rattle.plan_contributions.specs.UsedNames.{used, name_in_table, uses}
+use Rattle.plan_contributions.specs.Facts.{AreRules}
+use Rattle.plan_contributions.proofs.RowFacts.{All-listens, All-made}
+use Rattle.mpf_plan.specs.Uses.{names_from, number_among}
+use Rattle.mpf_plan.proofs.Among.{place_within}
+use Rattle.mpf_plan.proofs.Lacking.{any_first}
+use Rattle.mpf_plan.proofs.Usual.{IsUsual, of_switch, of_bound, of_player, of_coil_player, of_device, of_controls}
+
+-- Q holds of each name of an event of which a contribution speaks, where it does not use that name
+module _ (Q : List ℕ → Type 0) where
+  abbrev pub IsReadyEffect : Effect → Type 0
+  IsReadyEffect (changes v action n) = Q (player_event v)
+  IsReadyEffect _ = Unit {0}
+
+  abbrev pub IsReady : Contribution → Type 0
+  IsReady (does e) = IsReadyEffect e
+  IsReady (does_in k e) = IsReadyEffect e
+  IsReady (plays min_balls balls_per_game max_players) = All Q game_event_names × AreRules min_balls balls_per_game max_players
+  IsReady _ = Unit {0}
+
+module _ (Q R : List ℕ → Type 0) (weaker : (n : List ℕ) → Q n → R n) where
+  effect_weaker : (e : Effect) → IsReadyEffect Q e → IsReadyEffect R e
+  effect_weaker (changes v action n) is = weaker (player_event v) is
+  effect_weaker (posts n) is = tt
+  effect_weaker (works n deed) is = tt
+
+  pub ready_weaker : (c : Contribution) → IsReady Q c → IsReady R c
+  ready_weaker (does e) is = effect_weaker e is
+  ready_weaker (does_in k e) is = effect_weaker e is
+  ready_weaker (plays min_balls balls_per_game max_players) is = (All-weaker Q R weaker game_event_names is.0, is.1)
+  ready_weaker _ is = tt
+
+-- ---- contributions that use all such names among themselves
+
+abbrev IsAmong : List (List ℕ) → List ℕ → Type 0
+IsAmong ns n = list_any (bytes_eq n) ns ≡ true
+
+abbrev IsUsed : List Contribution → List ℕ → Type 0
+IsUsed cs n = IsAmong (uses Events cs) n
+
+abbrev AreReady : List Contribution → Type 0
+AreReady cs = All (IsReady (IsUsed cs)) cs
+
+uses_append : (cs ds : List Contribution) → uses Events (cs ++ ds) ≡ uses Events cs ++ uses Events ds
+uses_append cs ds = flat_map-append (λ c. name_in_table Events (used c)) cs ds
+
+used_left : (cs ds : List Contribution) (n : List ℕ) → IsUsed cs n → IsUsed (cs ++ ds) n
+used_left cs ds n is =
+    ap (list_any (bytes_eq n)) (uses_append cs ds)
+    ∙ list_any-append (bytes_eq n) (uses Events cs) (uses Events ds)
+    ∙ or_left (list_any (bytes_eq n) (uses Events cs)) (list_any (bytes_eq n) (uses Events ds)) is
+
+used_right : (cs ds : List Contribution) (n : List ℕ) → IsUsed ds n → IsUsed (cs ++ ds) n
+used_right cs ds n is =
+    ap (list_any (bytes_eq n)) (uses_append cs ds)
+    ∙ list_any-append (bytes_eq n) (uses Events cs) (uses Events ds)
+    ∙ or_right (list_any (bytes_eq n) (uses Events cs)) (list_any (bytes_eq n) (uses Events ds)) is
+
+both : (cs ds : List Contribution) → AreReady cs → AreReady ds → AreReady (cs ++ ds)
+both cs ds a b =
+    let all = IsUsed (cs ++ ds) in
+    All-append (IsReady all) cs ds
+    (All-weaker (IsReady (IsUsed cs)) (IsReady all) (ready_weaker (IsUsed cs) all (used_left cs ds)) cs a)
+    (All-weaker (IsReady (IsUsed ds)) (IsReady all) (ready_weaker (IsUsed ds) all (used_right cs ds)) ds b)
+
+-- ---- contributions that speak of no such event
+
+abbrev IsPlainEffect : Effect → Type 0
+IsPlainEffect (changes v action n) = ⊥
+IsPlainEffect _ = Unit {0}
+
+abbrev IsPlain : Contribution → Type 0
+IsPlain (does e) = IsPlainEffect e
+IsPlain (does_in k e) = IsPlainEffect e
+IsPlain (plays min_balls balls_per_game max_players) = ⊥
+IsPlain _ = Unit {0}
+
+plain_ready : (cs : List Contribution) → All IsPlain cs → AreReady cs
+plain_ready cs plain = All-weaker IsPlain (IsReady (IsUsed cs)) by cs plain
+  where
+    effect : (e : Effect) → IsPlainEffect e → IsReadyEffect (IsUsed cs) e
+    effect (changes v action n) is = absurd is
+    effect (posts n) is = tt
+    effect (works n deed) is = tt
+
+    by : (c : Contribution) → IsPlain c → IsReady (IsUsed cs) c
+    by (does e) is = effect e is
+    by (does_in k e) is = effect e is
+    by (plays min_balls balls_per_game max_players) is = absurd is
+    by _ is = tt
+
+usual_plain : IsUsual IsPlain IsPlainEffect
+usual_plain = record {
+  given = λ n. tt;
+  read = λ kind. tt;
+  on = λ n. tt;
+  off = λ n. tt;
+  bindings = λ n place aim. tt;
+  conditions = λ c. tt;
+  mentioned = λ n. tt;
+  done = λ e h. h;
+  done_in = λ k e h. h;
+  posted = λ n. tt;
+  worked = λ n deed. tt;
+}
+
+-- ---- devices change no variables
+
+abbrev ArePlain : List (List Effect) → Type 0
+ArePlain lists = All (All IsPlainEffect) lists
+
+no_effects : All IsPlainEffect []
+no_effects = All-nil IsPlainEffect
+
+one_effect : (e : Effect) → IsPlainEffect e → All IsPlainEffect (e ∷ [])
+one_effect e is = All-cons IsPlainEffect e [] is no_effects
+
+one_list : (l : List Effect) → All IsPlainEffect l → ArePlain (l ∷ [])
+one_list l is = All-cons (All IsPlainEffect) l [] is (All-nil (All IsPlainEffect))
+
+list_then : (l : List Effect) (ls : List (List Effect)) → All IsPlainEffect l → ArePlain ls → ArePlain (l ∷ ls)
+list_then l ls is rest = All-cons (All IsPlainEffect) l ls is rest
+
+all_posts : (ns : List (List ℕ)) → All IsPlainEffect (map posts ns)
+all_posts [] = no_effects
+all_posts (n ∷ ns) = All-cons IsPlainEffect (posts n) (map posts ns) tt (all_posts ns)
+
+of_block : (name : List ℕ) (b : Block) → ArePlain (block_lists name b)
+of_block name b =
+    let own = posts (block_event name (codes "_updated")) in
+    let hit = or_own b.hit (block_event name (codes "_hit")) in
+    let complete = or_own b.complete (block_event name (codes "_complete")) in
+    list_then (own ∷ []) (map posts hit ∷ map posts complete ∷ []) (one_effect own tt)
+    (list_then (map posts hit) (map posts complete ∷ []) (all_posts hit) (one_list (map posts complete) (all_posts complete)))
+
+of_timer : (name : List ℕ) (endings : List (List ℕ)) → ArePlain (map (λ ending. posts (timer_event name ending) ∷ []) endings)
+of_timer name [] = All-nil (All IsPlainEffect)
+of_timer name (n ∷ ns) = list_then (posts (timer_event name n) ∷ []) (map (λ ending. posts (timer_event name ending) ∷ []) ns) (one_effect (posts (timer_event name n)) tt) (of_timer name ns)
+
+abbrev IsPlainDevice : Option Device → Type 0
+IsPlainDevice None = Unit {0}
+IsPlainDevice (Some d) = ArePlain d.lists
+
+when : (b : Bool) (o p : Option Device) → IsPlainDevice o → IsPlainDevice p → IsPlainDevice (if b then o else p)
+when true o p h k = h
+when false o p h k = k
+
+plain_device : (section : List ℕ) (e : Entry) → IsPlainDevice (device_of section e)
+unfolding device_of
+plain_device section e =
+    let steps = of_block (step_block_of e).name.text (step_block_of e).block in
+    when (bytes_eq section counters_name) _ _ (of_block (counter_of e).name.text (counter_of e).block)
+    (when (bytes_eq section accruals_name) _ _ steps
+    (when (bytes_eq section sequences_name) _ _ steps (when (bytes_eq section timers_name) _ None (of_timer (timer_of e).name.text timer_endings) tt)))
+
+plain_on : (machine : List SectionRows) (main : Written) (hold : Option Written) → All IsPlainEffect (flipper_on machine main hold)
+plain_on machine main None = one_effect (works _ _) tt
+plain_on machine main (Some hold) = All-cons IsPlainEffect (works _ _) (works _ _ ∷ []) tt (one_effect (works _ _) tt)
+
+plain_off : (machine : List SectionRows) (main : Written) (hold : Option Written) → All IsPlainEffect (flipper_off machine main hold)
+plain_off machine main None = by _
+  where
+    by : (b : Bool) → All IsPlainEffect (if b then works main.text disable ∷ [] else [])
+    by true = one_effect (works main.text disable) tt
+    by false = no_effects
+plain_off machine main (Some hold) = one_effect (works _ _) tt
+
+plain_machine_device : (machine : List SectionRows) (section : List ℕ) (e : Entry) → IsPlainDevice (machine_device machine section e)
+plain_machine_device machine section e =
+    when (bytes_eq section flippers_name) _ _ (flipper (flipper_of e)) (when (bytes_eq section autofire_coils_name) _ _ (one_list _ (one_effect (works _ _) tt)) (plain_device section e))
+  where
+    flipper : (f : Flipper) → ArePlain (flipper_device machine f).lists
+    flipper f =
+        list_then (flipper_on machine f.main_coil f.hold_coil) (flipper_off machine f.main_coil f.hold_coil ∷ []) (plain_on machine f.main_coil f.hold_coil)
+        (one_list (flipper_off machine f.main_coil f.hold_coil) (plain_off machine f.main_coil f.hold_coil))
+
+ready_device : (place : Place) (d : Device) → ArePlain d.lists → AreReady (device_contributions place d)
+unfolding device_contributions
+ready_device place d each =
+    let rest = flat_map (act_binding place) d.handled ++ (map mentions d.mentioned ++ effects_from 0 d.lists) in
+    plain_ready (device place d.settings ∷ listens_from 0 d.listens ++ rest)
+    (All-cons IsPlain (device place d.settings) (listens_from 0 d.listens ++ rest) tt
+    (All-append IsPlain (listens_from 0 d.listens) rest (All-listens IsPlain (λ n. Unit {0}) (λ k n h. tt) 0 d.listens (λ i n within. tt)) (of_device IsPlain IsPlainEffect usual_plain place d each)))
+
+ready_where : (place : Place) (o : Option Device) → IsPlainDevice o → AreReady (where_device place o)
+ready_where place None plain = All-nil (IsReady (IsUsed []))
+ready_where place (Some d) plain = ready_device place d plain
+
+-- ---- the game
+
+within_range : (least greatest otherwise : ℕ) → least ≤ otherwise → otherwise ≤ greatest → (o : Option Value) → (least ≤ natural_within least greatest otherwise o) × (natural_within least greatest otherwise o ≤ greatest)
+within_range least greatest otherwise low high (Some (one (number (pos n)))) = by (nat_le least n && nat_le n greatest) refl
+  where
+    by : (b : Bool) → (nat_le least n && nat_le n greatest) ≡ b → (least ≤ (if b then n else otherwise)) × ((if b then n else otherwise) ≤ greatest)
+    by true is = let parts = and_parts (nat_le least n) (nat_le n greatest) is in (leb-true least n parts.0, leb-true n greatest parts.1)
+    by false is = (low, high)
+within_range least greatest otherwise low high _ = (low, high)
+
+rules_within : (machine : List SectionRows) (e : Entry) → AreRules (min_balls_of machine) (game_of e).balls_per_game (game_of e).max_players
+unfolding game_of
+rules_within machine e =
+    let balls = within_range 1 99 3 (omega arith) (omega arith) (setting_of tables.game (codes "balls_per_game") e.values) in
+    let players = within_range 1 4 4 (omega arith) (omega arith) (setting_of tables.game (codes "max_players") e.values) in
+    let home = setting_of tables.machine (codes "min_balls") (row_or tables.machine (content_named machine_section_name machine)) in
+    record {
+      min_balls_within = (within_range 0 99 1 (omega arith) (omega arith) home).1;
+      some_ball = balls.0;
+      balls = balls.1;
+      some_player = players.0;
+      players = players.1;
+    }
+
+mentioned_uses : (ns : List (List ℕ)) → uses Events (map mentions ns) ≡ ns
+mentioned_uses [] = refl
+mentioned_uses (n ∷ ns) = ap (λ l. n ∷ l) (mentioned_uses ns)
+
+same_bytes : (n : List ℕ) → bytes_eq n n ≡ true
+same_bytes n = (bytes_eq-Decides n n).1 refl
+
+-- names are used where they are mentioned
+all_used : (ns : List (List ℕ)) (rest : List Contribution) → All (IsUsed (map mentions ns ++ rest)) ns
+all_used ns rest =
+    All-from_get_or (IsUsed (map mentions ns ++ rest)) ns [] (λ i inside.
+    let n = get_or ns i [] in
+    used_left (map mentions ns) rest n (ap (list_any (bytes_eq n)) (mentioned_uses ns) ∙ list_any_at (bytes_eq n) ns i [] inside (same_bytes n)))
+
+ready_game : (machine : List SectionRows) (e : Entry) → AreReady (game_contributions machine (game_of e))
+unfolding game_contributions
+ready_game machine e =
+    let rules = plays (min_balls_of machine) (game_of e).balls_per_game (game_of e).max_players in
+    let named = map mentions game_event_names in
+    let all = IsReady (IsUsed (named ++ rules ∷ [])) in
+    All-append all named (rules ∷ []) (All-made all mentions (λ n. tt) game_event_names) (All-cons all rules [] (all_used game_event_names (rules ∷ []), rules_within machine e) (All-nil all))
+
+-- ---- variables
+
+ready_item : (item : VariableItem) → AreReady (item_contributions item)
+ready_item item =
+    let name = player_event item.variable.text in
+    let change = does (item_change item) in
+    let all = IsReady (IsUsed (mentions name ∷ change ∷ [])) in
+    All-cons all (mentions name) (change ∷ []) tt (All-cons all change [] (used_left (mentions name ∷ []) (change ∷ []) name (ap (λ b. b || false) (same_bytes name))) (All-nil all))
+
+ready_items : (items : List VariableItem) → AreReady (flat_map item_contributions items)
+ready_items [] = All-nil (IsReady (IsUsed []))
+ready_items (i ∷ is) = both (item_contributions i) (flat_map item_contributions is) (ready_item i) (ready_items is)
+
+ready_variable_player : (place : Place) (p : VariablePlayer) → AreReady (variable_player_contributions place p)
+unfolding variable_player_contributions
+ready_variable_player place p =
+    let binding = bound p.event.event place Run in
+    both binding (flat_map item_contributions p.items) (plain_ready binding (of_bound IsPlain IsPlainEffect usual_plain p.event.event place Run)) (ready_items p.items)
+
+-- ---- rows
+
+ready_machine_entry : (machine : List SectionRows) (section : List ℕ) (e : Entry) → AreReady (machine_entry_contributions machine section e)
+unfolding machine_entry_contributions coil_contributions
+ready_machine_entry machine section e = by (bytes_eq section coils_name) (bytes_eq section switches_name)
+  where
+    by : (c s : Bool) → AreReady (if c then coil_contributions (coil_of e) else (if s then switch_contributions machine (switch_of e) else where_device Machine (machine_device machine section e)))
+    by true s = plain_ready (coil_contributions (coil_of e)) (All-cons IsPlain (coil _ _) [] tt (All-nil IsPlain))
+    by false true = plain_ready (switch_contributions machine (switch_of e)) (of_switch IsPlain IsPlainEffect usual_plain machine (switch_of e))
+    by false false = ready_where Machine (machine_device machine section e) (plain_machine_device machine section e)
+
+ready_entry : (machine : List SectionRows) (place : Place) (section : List ℕ) (e : Entry) → AreReady (entry_contributions machine place section e)
+unfolding entry_contributions
+ready_entry machine Machine section e = ready_machine_entry machine section e
+ready_entry machine Control section e = ready_where Control (device_of section e) (plain_device section e)
+ready_entry machine Mode section e = ready_where Mode (device_of section e) (plain_device section e)
+
+ready_alone : (machine : List SectionRows) (place : Place) (section : List ℕ) (e : Entry) → AreReady (alone_contributions machine place section e)
+unfolding alone_contributions
+ready_alone machine Machine section e = by (bytes_eq section game_name)
+  where
+    by : (b : Bool) → AreReady (if b then game_contributions machine (game_of e) else [])
+    by true = ready_game machine e
+    by false = All-nil (IsReady (IsUsed []))
+ready_alone machine Control section e = All-nil (IsReady (IsUsed []))
+ready_alone machine Mode section e = All-nil (IsReady (IsUsed []))
+
+ready_player_entry : (machine : List SectionRows) (place : Place) (section : List ℕ) (p : Player) → AreReady (player_entry_contributions machine place section p)
+unfolding player_entry_contributions
+ready_player_entry machine place section p = by (bytes_eq section event_player_name) (bytes_eq section coil_player_name) (bytes_eq section variable_player_name)
+  where
+    by : (b c v : Bool) → AreReady (if b then player_contributions place (event_player_of p) else (if c then coil_player_contributions machine place (coil_player_of p) else (if v then variable_player_contributions place (variable_player_of p) else [])))
+    by true c v = plain_ready (player_contributions place (event_player_of p)) (of_player IsPlain IsPlainEffect usual_plain place (event_player_of p))
+    by false true v = plain_ready (coil_player_contributions machine place (coil_player_of p)) (of_coil_player IsPlain IsPlainEffect usual_plain machine place (coil_player_of p))
+    by false false true = ready_variable_player place (variable_player_of p)
+    by false false false = All-nil (IsReady (IsUsed []))
+
+events_plain : (name : List ℕ) (s : ModeSettings) → All IsPlain (mode name s.priority s.game ∷ later_events name)
+events_plain name s zero d within = tt
+events_plain name s (suc zero) d within = tt
+events_plain name s (suc (suc zero)) d within = tt
+events_plain name s (suc (suc (suc zero))) d within = tt
+events_plain name s (suc (suc (suc (suc zero)))) d within = tt
+events_plain name s (suc (suc (suc (suc (suc i))))) d within = absurd (omega (arith, within))
+
+ready_row : (machine : List SectionRows) (r : Row) → AreReady (row_contributions machine r)
+unfolding mode_contributions
+ready_row machine (entry place section e) = ready_entry machine place section e
+ready_row machine (alone place section e) = ready_alone machine place section e
+ready_row machine (player place section p) = ready_player_entry machine place section p
+ready_row machine (of_mode name s) =
+    let first = mode name s.priority s.game ∷ later_events name in
+    both first (controls s) (plain_ready first (events_plain name s)) (plain_ready (controls s) (of_controls IsPlain IsPlainEffect usual_plain s))
+
+rows_ready : (machine : List SectionRows) (rs : List Row) → AreReady (given_by machine rs)
+rows_ready machine [] = All-nil (IsReady (IsUsed []))
+rows_ready machine (r ∷ rs) = both (row_contributions machine r) (given_by machine rs) (ready_row machine r) (rows_ready machine rs)
+
+-- ---- by number
+
+-- each such name has a number
+abbrev pub IsNumberedIn : List (List ℕ) → List ℕ → Type 0
+IsNumberedIn names n = number_among names n < length names
+
+abbrev pub AreNumbered : List Contribution → Type 0
+AreNumbered cs = All (IsReady (IsNumberedIn (names_from cs Events))) cs
+
+pub rows_are_ready : (rows : Rows) → AreNumbered (contributions_of rows)
+rows_are_ready rows =
+    let cs = contributions_of rows in
+    let numbered = IsNumberedIn (names_from cs Events) in
+    All-weaker (IsReady (IsUsed cs)) (IsReady numbered)
+    (ready_weaker (IsUsed cs) numbered (λ n is. place_within (bytes_eq n) (names_from cs Events) (any_first n (uses Events cs) ∙ is)))
+    cs (rows_ready rows.machine (rows_of rows))

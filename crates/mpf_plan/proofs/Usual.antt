@@ -1,0 +1,84 @@
+-- What holds of each usual contribution holds of those of switches, players, devices and modes.
+use Rattle.std.proofs.Common.{ℕ, Bool, true, false, List, [], ◌∷◌, ◌++◌, map, codes}
+use Rattle.std.specs.Prelude.{Option, None, Some}
+use Rattle.std.specs.List.{All, flat_map}
+use Rattle.std.proofs.lemmas.List.Elements.{All-nil, All-cons, All-append}
+use Rattle.mpf_values.specs.Events.{Condition, Event}
+use Rattle.mpf_sections.specs.Rows.{Switch, EventPlayer, CoilPlayer, ModeSettings, SectionRows}
+use Rattle.plan_contributions.specs.declared.contribution.Place.{Place}
+use Rattle.plan_contributions.specs.declared.contribution.Place.TheVariants.{Control}
+use Rattle.plan_contributions.specs.declared.contribution.Aim.{Aim}
+use Rattle.plan_contributions.specs.declared.contribution.Aim.TheVariants.{Run, Start, Stop, Do}
+use Rattle.plan_tables.specs.declared.entries.SwitchKind.{SwitchKind}
+use Rattle.plan_tables.specs.declared.table.Table.TheVariants.{Switches}
+use Rattle.plan_contributions.specs.DeviceEntries.{texts, events, Deed, Effect, posts, works, Device}
+use Rattle.plan_contributions.specs.CoilEntries.{item_effect}
+use Rattle.plan_contributions.specs.Contributions.{Contribution, gives, reads, active, inactive, binds, does, does_in, mentions, under, under_where, bound, always, active_posts, inactive_posts, kind_of, switch_contributions, player_contributions, coil_player_contributions, starter, stopper, stopper_where, controls, act_binding, effects_from}
+use Rattle.plan_contributions.proofs.RowFacts.{All-each, All-made, All-lists}
+
+-- P holds of contributions that are usual, and of those that do such an effect as devices do and players of events and coils
+pub record IsUsual (P : Contribution → Type 0) (R : Effect → Type 0) : Type 0 where
+  pub given : (n : List ℕ) → P (gives Switches n)
+  pub read : (kind : SwitchKind) → P (reads kind)
+  pub on : (n : List ℕ) → P (active n)
+  pub off : (n : List ℕ) → P (inactive n)
+  pub bindings : (n : List ℕ) (place : Place) (aim : Aim) → P (binds n place aim)
+  pub conditions : (c : Condition) → P (under c)
+  pub mentioned : (n : List ℕ) → P (mentions n)
+  pub done : (e : Effect) → R e → P (does e)
+  pub done_in : (k : ℕ) (e : Effect) → R e → P (does_in k e)
+  pub posted : (n : List ℕ) → R (posts n)
+  pub worked : (n : List ℕ) (deed : Deed) → R (works n deed)
+
+module _ (P : Contribution → Type 0) (R : Effect → Type 0) (usual : IsUsual P R) where
+  pub of_switch : (machine : List SectionRows) (s : Switch) → All P (switch_contributions machine s)
+  unfolding switch_contributions
+  of_switch machine s =
+      let on = map active (active_posts s) in
+      let off = map inactive (inactive_posts s) in
+      All-cons P (gives Switches s.name.text) (reads (kind_of machine s) ∷ on ++ off) (usual.given s.name.text) (All-cons P (reads (kind_of machine s)) (on ++ off) (usual.read (kind_of machine s))
+      (All-append P on off (All-made P active usual.on (active_posts s)) (All-made P inactive usual.off (inactive_posts s))))
+
+  of_condition : (o : Option Condition) → All P (under_where o)
+  of_condition None = All-nil P
+  of_condition (Some c) = All-cons P (under c) [] (usual.conditions c) (All-nil P)
+
+  pub of_bound : (e : Event) (place : Place) (aim : Aim) → All P (bound e place aim)
+  of_bound e place aim = All-cons P (binds e.name place aim) (under_where e.condition) (usual.bindings e.name place aim) (of_condition e.condition)
+
+  pub of_player : (place : Place) (p : EventPlayer) → All P (player_contributions place p)
+  unfolding player_contributions
+  of_player place p =
+      All-append P (bound p.event.event place Run) (map (λ e. does (posts e)) (texts p.posts)) (of_bound p.event.event place Run)
+      (All-made P (λ e. does (posts e)) (λ e. usual.done (posts e) (usual.posted e)) (texts p.posts))
+
+  pub of_coil_player : (machine : List SectionRows) (place : Place) (p : CoilPlayer) → All P (coil_player_contributions machine place p)
+  unfolding coil_player_contributions
+  of_coil_player machine place p =
+      All-append P (bound p.event.event place Run) (map (λ item. does (item_effect machine item)) p.items) (of_bound p.event.event place Run)
+      (All-made P (λ item. does (item_effect machine item)) (λ item. usual.done (item_effect machine item) (usual.worked _ _)) p.items)
+
+  -- what comes of a device after the switches to which it listens
+  pub of_device : (place : Place) (d : Device) → All (All R) d.lists → All P (flat_map (act_binding place) d.handled ++ (map mentions d.mentioned ++ effects_from 0 d.lists))
+  of_device place d each =
+      let acting = flat_map (act_binding place) d.handled in
+      let named = map mentions d.mentioned in
+      let doing = effects_from 0 d.lists in
+      All-append P acting (named ++ doing) (All-each P (act_binding place) (λ h. of_bound h.0 place (Do h.1)) d.handled)
+      (All-append P named doing (All-made P mentions usual.mentioned d.mentioned) (All-lists P R usual.done_in 0 d.lists each))
+
+  of_stopper : (holds : Bool) (event : List ℕ) → All P (stopper_where holds event)
+  of_stopper true event = of_bound (always event) Control Stop
+  of_stopper false event = All-nil P
+
+  pub of_controls : (s : ModeSettings) → All P (controls s)
+  of_controls s =
+      let starts = flat_map starter (events s.starts) in
+      let stops = flat_map stopper (events s.stops) in
+      let ball = stopper_where s.stops_with_ball (codes "ball_ending") in
+      let game = stopper_where s.game (codes "game_ending") in
+      All-append P (starts ++ stops ++ ball) game
+      (All-append P (starts ++ stops) ball
+      (All-append P starts stops (All-each P starter (λ e. of_bound e Control Start) (events s.starts)) (All-each P stopper (λ e. of_bound e Control Stop) (events s.stops)))
+      (of_stopper s.stops_with_ball (codes "ball_ending")))
+      (of_stopper s.game (codes "game_ending"))

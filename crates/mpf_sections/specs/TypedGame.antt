@@ -1,0 +1,51 @@
+-- The entries of `machine`, `game` and `variable_player`, by the names of their settings.
+use Rattle.std.specs.Prelude.{ℕ, ℤ, pos, negsuc, if◌then◌else◌, List, map, Option, Some, codes}
+use Rattle.std.specs.Str.{bytes_eq}
+use Rattle.mpf_sections.specs.declared.words.VariableAction.{VariableAction}
+use Rattle.mpf_sections.specs.declared.words.VariableAction.TheVariants.{Add, Set}
+use Rattle.section_tables.specs.Rows.{Plain, number, Keyed, Entry, Player}
+use Rattle.section_tables.specs.EntryOf.{within}
+use Rattle.mpf_sections.specs.SectionTables as tables
+pub use Rattle.mpf_sections.specs.SectionTables.{variable_player_name, machine_section_name, game_name}
+use Rattle.mpf_sections.specs.Typed.{setting_of, field_of, natural_within, listed_keyed, handled_in, word_in, players_of, content_named, row_or}
+use Rattle.mpf_sections.specs.Rows.{VariableItem, VariablePlayer, GameSettings, SectionRows}
+
+-- ---- `variable_player`
+
+-- what a word does with a variable: add or set
+abbrev pub variable_action_of : List ℕ → VariableAction
+variable_action_of w = if bytes_eq w (codes "set") then Set else Add
+
+-- a number from -1,000,000,000 to 1,000,000,000; 0 where there is none
+abbrev pub change_in : Option Plain → ℤ
+change_in (Some (number n)) = if within (negsuc 999999999) (pos 1000000000) n then n else pos 0
+change_in _ = pos 0
+
+unfoldable pub variable_item_of : Keyed → VariableItem
+variable_item_of k = record {
+  variable = k.name;
+  action = variable_action_of (word_in (field_of tables.variable_item (codes "action") k.values));
+  number = change_in (field_of tables.variable_item (codes "int") k.values);
+}
+
+unfoldable pub variable_player_of : Player → VariablePlayer
+variable_player_of p = record { event = handled_in p.event; items = map variable_item_of (listed_keyed (Some p.value)) }
+
+-- the entries of a section: of `variable_player` its own, of any other none
+unfoldable pub variable_players_in : SectionRows → List VariablePlayer
+variable_players_in s = map variable_player_of (players_of variable_player_name s)
+
+-- ---- `game`
+
+unfoldable pub game_of : Entry → GameSettings
+game_of e = record {
+  balls_per_game = natural_within 1 99 3 (setting_of tables.game (codes "balls_per_game") e.values);
+  max_players = natural_within 1 4 4 (setting_of tables.game (codes "max_players") e.values);
+}
+
+-- ---- `machine`
+
+-- how many balls a game needs: what the section says, or its default if there is no such section
+abbrev pub min_balls_of : List SectionRows → ℕ
+min_balls_of sections =
+    natural_within 0 99 1 (setting_of tables.machine (codes "min_balls") (row_or tables.machine (content_named machine_section_name sections)))

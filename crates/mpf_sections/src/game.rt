@@ -1,0 +1,122 @@
+//! The entries of `machine`, `game` and `variable_player`, by the names of their settings.
+
+ghost use Rattle.std.specs.Prelude.{◌≡◌, map};
+ghost use Rattle.mpf_sections.specs.TypedGame.{variable_action_of, variable_item_of, variable_player_of, variable_players_in, game_of, min_balls_of};
+ghost use Rattle.mpf_sections.specs.View.{keyed_view, entry_view, player_view, section_view, variable_item_view, variable_player_view, game_view};
+
+use crate::section::{Content, Section};
+use crate::tables::{MACHINE_SECTION_NAME, VARIABLE_PLAYER_NAME};
+use crate::typed::{HandledAt, section_named};
+use crate::values::{change, handled, keyed, natural_within, word_field};
+use crate::words::VariableAction;
+use section_tables::rows::{Entry, Keyed, Name, Player};
+
+/// What is done with a variable where an event is handled.
+#[derive(Clone, Copy)]
+pub struct VariableItem<'a> {
+    pub variable: &'a Name,
+    /// `Add` by default.
+    pub action: VariableAction,
+    /// The setting `int`: from -1,000,000,000 to 1,000,000,000.
+    pub number: i64,
+}
+
+/// An entry of `variable_player`: what is done with variables when the event is handled, in order.
+#[derive(Clone, Copy)]
+pub struct VariablePlayer<'a> {
+    pub event: HandledAt<'a>,
+    /// Each to be read with [`as_variable_item`].
+    pub items: &'a [Keyed],
+}
+
+/// What the section `game` says.
+#[derive(Clone, Copy)]
+pub struct GameSettings {
+    /// How many balls each player has: from 1 to 99, and 3 by default.
+    pub balls_per_game: u32,
+    /// How many players there may be: from 1 to 4, and 4 by default.
+    pub max_players: u32,
+}
+
+// The places of the fields that belong to a variable in an entry of `variable_player`.
+const INT: usize = 0;
+
+const ACTION: usize = 1;
+
+// Those of the settings in the table of `game`.
+const BALLS_PER_GAME: usize = 0;
+
+const MAX_PLAYERS: usize = 1;
+
+// That of the setting in the table of `machine`.
+const MIN_BALLS: usize = 0;
+
+const SET: &[u8] = b"set";
+
+// What a word does with a variable.
+fn action_of(word: &[u8]) -> VariableAction
+    ensures { result ≡ variable_action_of word.now }
+{
+    if word == SET {
+        return VariableAction::Set;
+    }
+    VariableAction::Add
+}
+
+/// What belongs to a variable in an entry of `variable_player`, by the names of its fields.
+#[tactic(auto, unfolding(crate::specs::TypedGame::variable_item_of))]
+pub fn as_variable_item(keyed: &Keyed) -> VariableItem<'_>
+    ensures { variable_item_view result ≡ variable_item_of (keyed_view keyed.now) }
+{
+    let values = keyed.values.as_slice();
+    VariableItem {
+        variable: &keyed.name,
+        action: action_of(word_field(values, ACTION)),
+        number: change(values, INT),
+    }
+}
+
+/// An entry of `variable_player`, by the names of what it has.
+#[tactic(auto, unfolding(crate::specs::TypedGame::variable_player_of))]
+pub fn as_variable_player(player: &Player) -> VariablePlayer<'_>
+    ensures { variable_player_view result ≡ variable_player_of (player_view player.now) }
+{
+    VariablePlayer {
+        event: handled(&player.event),
+        items: keyed(&player.value),
+    }
+}
+
+/// The entry that the section `game` is, by the names of its settings.
+#[tactic(auto, unfolding(crate::specs::TypedGame::game_of))]
+pub fn as_game(entry: &Entry) -> GameSettings
+    ensures { game_view result ≡ game_of (entry_view entry.now) }
+{
+    let row = entry.values.as_slice();
+    GameSettings {
+        balls_per_game: natural_within(row, BALLS_PER_GAME, 1, 99, 3),
+        max_players: natural_within(row, MAX_PLAYERS, 1, 4, 4),
+    }
+}
+
+/// How many balls have to be there for a game to begin: what the section `machine` says, up to 99;
+/// 1 where it says nothing, and where there is no such section.
+pub fn min_balls(sections: &[Section]) -> u32
+    ensures { result ≡ min_balls_of (map section_view sections.now) }
+{
+    match section_named(sections, MACHINE_SECTION_NAME) {
+        Some(Content::Entry(entry)) => natural_within(&entry.values, MIN_BALLS, 0, 99, 1),
+        _ => 1,
+    }
+}
+
+impl Section {
+    /// The entries of `variable_player`, each to be read with [`as_variable_player`]; none of any
+    /// other section.
+    #[tactic(auto, unfolding(crate::specs::TypedGame::variable_players_in))]
+    pub fn variable_players(&self) -> &[Player]
+        ensures { map variable_player_of (map player_view result.now) ≡ variable_players_in (section_view self.now) }
+    {
+        self.players_of(VARIABLE_PLAYER_NAME)
+    }
+}

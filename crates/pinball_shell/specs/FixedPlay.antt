@@ -1,0 +1,33 @@
+-- What the answers of a board fix.
+use Rattle.std.specs.Prelude.{◌≡◌, ℕ, Option, IsSome, List}
+use Rattle.std.specs.Io.KnownBytes.{Appends}
+use Rattle.coil_guard.specs.Boards.{takes_all}
+use Rattle.written_machine.specs.CheckedView.{CheckedView}
+use Rattle.pin_rig.specs.Board.{BoardView}
+use Rattle.pin_rig.specs.ShutDown.{coils_to_put_off}
+use Rattle.pin_rig.specs.Steps.{at_rest}
+use Rattle.pinball_shell.specs.declared.fault.Verdict.{Verdict}
+use Rattle.pinball_shell.specs.RunOfLog.{printed_for_log}
+use Rattle.pinball_shell.specs.TraceText.{log_verdict}
+use Rattle.pinball_shell.specs.Ends.{IsPlayedOut, IsPlayOn}
+
+-- the board tells its answers to all commands to come
+abbrev pub TellsAll : BoardView → Type 0
+TellsAll board = IsSome board.answers.later
+
+-- On a board that takes all commands to come, a log is played out: what is printed, and the verdict, are those of the log. And
+-- all coils are put off that are to be put off.
+abbrev pub TakenIsPlayedOut : Type 0
+TakenIsPlayedOut =
+    (c : CheckedView) (log : List ℕ) (board last : BoardView) (before after : Option (List ℕ)) (verdict : Verdict) → board.answers ≡ takes_all
+    → (play : IsPlayOn c log board last before after verdict)
+    → IsPlayedOut c.plan c.bound log (at_rest c board) play.printed play.rig × (verdict ≡ log_verdict (printed_for_log c.plan c.bound log))
+    × (play.off ≡ coils_to_put_off play.rig)
+
+-- On two boards that tell the same answers to all commands to come, a log is played the same: the same is printed, the same
+-- coils are put off, the verdict is the same, and so is the text that is written.
+abbrev pub AnswersFixThePlay : Type 0
+AnswersFixThePlay =
+    (c : CheckedView) (log : List ℕ) (board twin last twin_last : BoardView) (before after start end : Option (List ℕ)) (verdict found : Verdict)
+    → TellsAll board → board.answers ≡ twin.answers → (play : IsPlayOn c log board last before after verdict) (again : IsPlayOn c log twin twin_last start end found)
+    → (play.printed ≡ again.printed) × (play.off ≡ again.off) × (verdict ≡ found) × ((text : List ℕ) × Appends before after text × Appends start end text)

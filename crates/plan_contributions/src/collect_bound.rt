@@ -1,0 +1,42 @@
+//! What a handled event gives to a plan: a binding, and its condition where it has one.
+
+ghost use Rattle.std.specs.Prelude.{◌≡◌, ◌++◌, map, OnOk};
+ghost use Rattle.std.specs.List.{flat_map};
+ghost use Rattle.mpf_sections.specs.View.{handler_view, handled_at_view};
+ghost use Rattle.plan_contributions.specs.Contributions.{events, bound};
+ghost use Rattle.plan_contributions.specs.View.{contributions_view};
+
+use crate::contribution::{Aim, Contribution, Place};
+use mpf_config::{HandledAt, Handler, as_handled};
+use std::alloc::AllocError;
+
+/// The event is bound, under its condition.
+pub(crate) fn collect_bound<'a>(
+    contributions: &mut Vec<Contribution<'a>>,
+    handled: HandledAt<'a>,
+    place: Place,
+    aim: Aim,
+) -> Result<(), AllocError>
+    ensures { OnOk result (contributions_view contributions.new.items ≡ contributions_view contributions.old.items ++ bound (handled_at_view handled.entry).event place aim) }
+{
+    contributions.push(Contribution::Binds(handled.name, place, aim))?;
+    if let Some(guard) = handled.condition {
+        contributions.push(Contribution::Under(&guard.variable, guard.comparison, guard.number))?;
+    }
+    Ok(())
+}
+
+/// Each of the events is bound so, under its condition.
+pub(crate) fn collect_each<'a>(
+    contributions: &mut Vec<Contribution<'a>>,
+    handlers: &'a [Handler],
+    place: Place,
+    aim: Aim,
+) -> Result<(), AllocError>
+    ensures { OnOk result (contributions_view contributions.new.items ≡ contributions_view contributions.old.items ++ flat_map (λ e. bound e place aim) (events (map handler_view handlers.now))) }
+{
+    for handler in handlers {
+        collect_bound(contributions, as_handled(handler), place, aim)?;
+    }
+    Ok(())
+}

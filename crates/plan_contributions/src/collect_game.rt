@@ -1,0 +1,42 @@
+//! What the section of the game gives to a plan.
+
+ghost use Rattle.std.specs.Prelude.{◌≡◌, ◌++◌, map, OnOk};
+ghost use Rattle.mpf_sections.specs.View.{game_view};
+ghost use Rattle.machine_definitions.specs.GameEvents.{game_event_names};
+ghost use Rattle.plan_contributions.specs.Contributions.{mentions, game_contributions};
+ghost use Rattle.plan_contributions.specs.View.{contributions_view};
+
+use crate::contribution::{Contribution, whole};
+use machine_definitions::{Definitions, GAME_EVENT_NAMES};
+use mpf_config::GameSettings;
+use std::alloc::AllocError;
+
+/// The events of the game, and its rules.
+pub(crate) fn collect_game(
+    contributions: &mut Vec<Contribution<'_>>,
+    definitions: &Definitions<'_>,
+    row: GameSettings,
+) -> Result<(), AllocError>
+    ensures { OnOk result (contributions_view contributions.new.items ≡ contributions_view contributions.old.items ++ game_contributions definitions.now (game_view row)) }
+{
+    collect_events(contributions, &GAME_EVENT_NAMES)?;
+    contributions.push(Contribution::Plays {
+        min_balls: definitions.min_balls(),
+        balls_per_game: row.balls_per_game,
+        max_players: row.max_players,
+    })?;
+    Ok(())
+}
+
+/// The events get numbers.
+fn collect_events<'a>(
+    contributions: &mut Vec<Contribution<'a>>,
+    names: &[&'a [u8]],
+) -> Result<(), AllocError>
+    ensures { OnOk result (contributions_view contributions.new.items ≡ contributions_view contributions.old.items ++ map mentions (map (λ n. n.now) names.now)) }
+{
+    for name in names {
+        contributions.push(Contribution::Mentions(whole(name)))?;
+    }
+    Ok(())
+}

@@ -1,0 +1,66 @@
+//! What the entries of variable players give to a plan.
+
+ghost use Rattle.std.specs.Prelude.{◌≡◌, ◌++◌, map, OnOk};
+ghost use Rattle.std.specs.List.{flat_map};
+ghost use Rattle.mpf_sections.specs.TypedGame.{variable_item_of};
+ghost use Rattle.mpf_sections.specs.View.{keyed_view, variable_item_view, variable_player_view};
+ghost use Rattle.plan_contributions.specs.VariableEntries.{variable_action, item_change};
+ghost use Rattle.plan_contributions.specs.Contributions.{item_contributions, variable_player_contributions};
+ghost use Rattle.plan_contributions.specs.View.{contributions_view, effect_view};
+
+use crate::collect_bound::collect_bound;
+use crate::contribution::{Aim, Contribution, Effect, Place, player_event};
+use mpf_config::config::VariableAction as WrittenAction;
+use mpf_config::{Keyed, VariableItem, VariablePlayer, as_variable_item};
+use plan_tables::entries::VariableAction;
+use std::alloc::AllocError;
+
+/// What is done with a variable, in the plan.
+fn action_in_plan(action: WrittenAction) -> VariableAction
+    ensures { result ≡ variable_action action }
+{
+    match action {
+        WrittenAction::Add => VariableAction::Add,
+        WrittenAction::Set => VariableAction::Set,
+    }
+}
+
+/// What an item does.
+fn change_of(item: VariableItem<'_>) -> Effect<'_>
+    ensures { effect_view result ≡ item_change (variable_item_view item.entry) }
+{
+    Effect::Variable(
+        &item.variable.text,
+        action_in_plan(item.action),
+        item.number,
+    )
+}
+
+/// An entry binds an effect list to the event that it handles; the list does what the items say.
+#[tactic(auto, unfolding(crate::specs::Contributions::variable_player_contributions))]
+pub(crate) fn collect_variable_player<'a>(
+    contributions: &mut Vec<Contribution<'a>>,
+    place: Place,
+    row: VariablePlayer<'a>,
+) -> Result<(), AllocError>
+    ensures { OnOk result (contributions_view contributions.new.items ≡ contributions_view contributions.old.items ++ variable_player_contributions place (variable_player_view row.entry)) }
+{
+    collect_bound(contributions, row.event, place, Aim::Run)?;
+    collect_changes(contributions, row.items)
+}
+
+/// The effect list that began last does what the items say. Each change posts an event, which comes
+/// before it.
+fn collect_changes<'a>(
+    contributions: &mut Vec<Contribution<'a>>,
+    items: &'a [Keyed],
+) -> Result<(), AllocError>
+    ensures { OnOk result (contributions_view contributions.new.items ≡ contributions_view contributions.old.items ++ flat_map item_contributions (map variable_item_of (map keyed_view items.now))) }
+{
+    for keyed in items {
+        let item = as_variable_item(keyed);
+        contributions.push(Contribution::Mentions(player_event(&item.variable.text)))?;
+        contributions.push(Contribution::Does(change_of(item)))?;
+    }
+    Ok(())
+}

@@ -1,0 +1,97 @@
+-- What the events of the game post is among their choices.
+use Rattle.std.proofs.Common.{◌≡◌, ℕ, Bool, true, false, if◌then◌else◌, List, [], ◌∷◌, ◌==◌, ◌-◌, Contains, Some, refl, zero-le, suc-le-suc}
+use Rattle.plan_tables.specs.PlanView.{PlanView}
+use Rattle.plan_tables.specs.declared.entries.GameEvent.{GameEvent}
+use Rattle.plan_tables.specs.declared.entries.GameEvent.TheVariants.{SwStart, GameWillStart, GameStarting, PlayerAdded, GameStarted, PlayerTurnWillStart, PlayerTurnStarting, PlayerTurnStarted, BallWillStart, BallStarting, BallStarted, BallDrain, BallWillEnd, BallEnding, BallEnded, PlayerTurnWillEnd, PlayerTurnEnding, PlayerTurnEnded, GameWillEnd, GameEnding, GameEnded}
+use Rattle.plan_tables.specs.declared.entries.GameRules.{GameRules}
+use Rattle.player_game.specs.Players.{PlayersState}
+use Rattle.player_game.specs.GameStep.{GameState, GameStep, can_begin, can_join, game_step, is_ball_on, is_over, leads_to}
+use Rattle.player_game.specs.Choices.{StepsAreChoices, choices, tells_scores}
+
+-- ---- places in a list
+
+first : {X : Type 0} (x : X) (xs : List X) → Contains (x ∷ xs) x
+first x xs = (0, suc-le-suc zero-le, refl)
+
+second : {X : Type 0} (y x : X) (xs : List X) → Contains (y ∷ x ∷ xs) x
+second y x xs = (1, suc-le-suc (suc-le-suc zero-le), refl)
+
+third : {X : Type 0} (z y x : X) (xs : List X) → Contains (z ∷ y ∷ x ∷ xs) x
+third z y x xs = (2, suc-le-suc (suc-le-suc (suc-le-suc zero-le)), refl)
+
+-- ---- the ways that an event can go
+
+starts : (begins joins : Bool) (g h : GameState) (p q : PlayersState)
+    → Contains (choices SwStart) (if begins then leads_to (GameWillStart ∷ []) h q else leads_to (if joins then PlayerAdded ∷ [] else []) g p).posts
+starts true joins g h p q = first (GameWillStart ∷ []) ((PlayerAdded ∷ []) ∷ [] ∷ [])
+starts false true g h p q = second (GameWillStart ∷ []) (PlayerAdded ∷ []) ([] ∷ [])
+starts false false g h p q = third (GameWillStart ∷ []) (PlayerAdded ∷ []) [] []
+
+drains : (is_on is_last : Bool) (g h k : GameState) (p : PlayersState)
+    → Contains (choices BallDrain) (if is_on then (if is_last then leads_to (BallWillEnd ∷ []) h p else leads_to [] k p) else leads_to [] g p).posts
+drains true true g h k p = first (BallWillEnd ∷ []) ([] ∷ [])
+drains true false g h k p = second (BallWillEnd ∷ []) [] []
+drains false is_last g h k p = second (BallWillEnd ∷ []) [] []
+
+ends : (over : Bool) (g : GameState) (p q : PlayersState)
+    → Contains (choices PlayerTurnEnded) (if over then leads_to (GameWillEnd ∷ []) g p else leads_to (PlayerTurnWillStart ∷ []) g q).posts
+ends true g p q = first (GameWillEnd ∷ []) ((PlayerTurnWillStart ∷ []) ∷ [])
+ends false g p q = second (GameWillEnd ∷ []) (PlayerTurnWillStart ∷ []) []
+
+-- either way the scores are not told
+tells_none : (test : Bool) (x y : GameStep) → x.finals ≡ false → y.finals ≡ false → (if test then x else y).finals ≡ false
+tells_none true x y is is' = is
+tells_none false x y is is' = is'
+
+posted : (rules : GameRules) (plan : PlanView) (which : GameEvent) (home : ℕ) (g : GameState) (p : PlayersState)
+    → Contains (choices which) (game_step (Some rules) plan which home g p).posts
+unfolding game_step
+posted rules plan SwStart home g p = starts (can_begin rules home g) (can_join rules plan g p) _ _ _ _
+posted rules plan GameWillStart home g p = first _ []
+posted rules plan GameStarting home g p = first _ []
+posted rules plan PlayerAdded home g p = first _ []
+posted rules plan GameStarted home g p = first _ []
+posted rules plan PlayerTurnWillStart home g p = first _ []
+posted rules plan PlayerTurnStarting home g p = first _ []
+posted rules plan PlayerTurnStarted home g p = first _ []
+posted rules plan BallWillStart home g p = first _ []
+posted rules plan BallStarting home g p = first _ []
+posted rules plan BallStarted home g p = first _ []
+posted rules plan BallDrain home g p = drains (is_ball_on g.phase) (g.balls - 1 == 0) _ _ _ _
+posted rules plan BallWillEnd home g p = first _ []
+posted rules plan BallEnding home g p = first _ []
+posted rules plan BallEnded home g p = first _ []
+posted rules plan PlayerTurnWillEnd home g p = first _ []
+posted rules plan PlayerTurnEnding home g p = first _ []
+posted rules plan PlayerTurnEnded home g p = ends (is_over rules plan p) _ _ _
+posted rules plan GameWillEnd home g p = first _ []
+posted rules plan GameEnding home g p = first _ []
+posted rules plan GameEnded home g p = first _ []
+
+told : (rules : GameRules) (plan : PlanView) (which : GameEvent) (home : ℕ) (g : GameState) (p : PlayersState)
+    → (game_step (Some rules) plan which home g p).finals ≡ tells_scores which
+unfolding game_step
+told rules plan SwStart home g p = tells_none (can_begin rules home g) _ _ refl refl
+told rules plan GameWillStart home g p = refl
+told rules plan GameStarting home g p = refl
+told rules plan PlayerAdded home g p = refl
+told rules plan GameStarted home g p = refl
+told rules plan PlayerTurnWillStart home g p = refl
+told rules plan PlayerTurnStarting home g p = refl
+told rules plan PlayerTurnStarted home g p = refl
+told rules plan BallWillStart home g p = refl
+told rules plan BallStarting home g p = refl
+told rules plan BallStarted home g p = refl
+told rules plan BallDrain home g p = tells_none (is_ball_on g.phase) _ _ (tells_none (g.balls - 1 == 0) _ _ refl refl) refl
+told rules plan BallWillEnd home g p = refl
+told rules plan BallEnding home g p = refl
+told rules plan BallEnded home g p = refl
+told rules plan PlayerTurnWillEnd home g p = refl
+told rules plan PlayerTurnEnding home g p = refl
+told rules plan PlayerTurnEnded home g p = tells_none (is_over rules plan p) _ _ refl refl
+told rules plan GameWillEnd home g p = refl
+told rules plan GameEnding home g p = refl
+told rules plan GameEnded home g p = refl
+
+pub steps_are_choices : StepsAreChoices
+steps_are_choices = record { posts = posted; finals = told }

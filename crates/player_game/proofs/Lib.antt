@@ -1,0 +1,3 @@
+pub mod Chosen
+pub mod StayFew
+pub mod Slots

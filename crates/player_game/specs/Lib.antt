@@ -1,0 +1,5 @@
+pub mod Players
+pub mod Special
+pub mod Kept
+pub mod GameStep
+pub mod Choices

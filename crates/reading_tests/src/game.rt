@@ -1,0 +1,77 @@
+//! The sections `machine`, `game` and `variable_player` of bundles, by the names of their settings.
+
+use crate::cases::{Subject, assert_rows};
+use crate::devices::show_name;
+use crate::tables::show_handled;
+use mpf_config::{
+    Content, GAME_NAME, MACHINE_SECTION_NAME, Section, VariableItem, VariablePlayer, as_game,
+    as_variable_item, as_variable_player, min_balls,
+};
+use std::alloc::AllocError;
+use std::test::Fail;
+
+// Texts, and what is read of them. The section `machine` is shown by how many balls a game needs, and `game` by
+// how many balls each player has and how many players there may be; an entry of `variable_player` by its event,
+// and then what is done with each variable.
+const GAMES: &str = "\
+@¶machine:¶  min_balls: 3¶game:¶  balls_per_game: 5¶  max_players: 2¶ => machine¶ 3¶game¶ 5 2¶
+@¶game:¶machine:¶ => game¶ 3 4¶machine¶ 1¶
+@¶machine: {min_balls: 0}¶game: {max_players: 1, balls_per_game: 99}¶ => machine¶ 0¶game¶ 99 1¶
+@¶game: {max_players: 4, balls_per_game: 1}¶machine: {min_balls: 99}¶ => game¶ 1 4¶machine¶ 99¶
+@¶variable_player:¶  go:¶    score: 500¶    bonus: {int: -3, action: set}¶  halt{current_player.ball>=2}: {score: {int: 1000000000}, a: {action: add, int: 0}}¶  x:¶ => variable_player¶ go@3; score@4; Add 500; bonus@5; Set -3;¶ halt{ball GreaterOrEqual 2}@6; score@6; Add 1000000000; a@6; Add 0;¶ x@7;¶
+@¶modes: m, n¶variable_player:¶  x: {a: 1}¶@m¶variable_player:¶  x: {a: 2}¶@n¶variable_player:¶  x: {a: {int: 3, action: set}}¶ => modes¶ m@2 n@2¶variable_player¶ x@4; a@4; Add 1;¶m: 100 true true;;;¶variable_player¶ x@3; a@3; Add 2;¶n: 100 true true;;;¶variable_player¶ x@3; a@3; Set 3;¶
+@¶modes: m¶@m¶game:¶ => error 4 UnknownSection modes/m/config/m.yaml 2 game¶
+@¶modes: m¶@m¶machine:¶ => error 4 UnknownSection modes/m/config/m.yaml 2 machine¶
+@¶game:¶  max_players: 5¶ => error 6 BadValue config/config.yaml 3 max_players¶
+@¶machine:¶  min_balls: 100¶ => error 6 BadValue config/config.yaml 3 min_balls¶
+@¶variable_player:¶  x:¶    a: {action: set}¶ => error 7 Missing config/config.yaml 4 int¶
+@¶variable_player:¶  x:¶    a: {int: 1, action: reset}¶ => error 6 BadValue config/config.yaml 4 action¶
+@¶modes: m¶@m¶variable_player:¶  x: {«1025 a№: 1, »}¶ => error 9 Limit modes/m/config/m.yaml 3 x¶
+";
+
+fn show_item(out: &mut String, item: VariableItem<'_>) -> Result<(), AllocError> {
+    show_name(out, item.variable)?;
+    write!(out, " {:?} {};", item.action, item.number)
+}
+
+fn show_player(out: &mut String, player: VariablePlayer<'_>) -> Result<(), AllocError> {
+    out.push_str(" ")?;
+    show_handled(out, player.event)?;
+    out.push_str(";")?;
+    for keyed in player.items {
+        show_item(out, as_variable_item(keyed))?;
+    }
+    out.push_str("\n")
+}
+
+/// Adds the variable players of a section.
+pub(crate) fn show_variables(out: &mut String, section: &Section) -> Result<(), AllocError> {
+    for player in section.variable_players() {
+        show_player(out, as_variable_player(player))?;
+    }
+    Ok(())
+}
+
+/// Adds what a section of the machine text says of the game, or of the machine.
+pub(crate) fn show_game(
+    out: &mut String,
+    section: &Section,
+    sections: &[Section],
+) -> Result<(), AllocError> {
+    if section.name.as_slice() == MACHINE_SECTION_NAME {
+        return writeln!(out, " {}", min_balls(sections));
+    }
+    let Content::Entry(entry) = &section.content else {
+        return Ok(());
+    };
+    if section.name.as_slice() != GAME_NAME {
+        return Ok(());
+    }
+    let game = as_game(entry);
+    writeln!(out, " {} {}", game.balls_per_game, game.max_players)
+}
+
+#[test]
+fn games_and_variables(rt: HostRuntime) -> Result<(), Fail> {
+    assert_rows(&rt, Subject::Texts, GAMES)
+}

@@ -1,0 +1,12 @@
+use Rattle.std.proofs.Common.{◌≡◌, ◌++◌, map, drop}
+use Rattle.std.specs.List.{flat_map}
+use Rattle.mpf_sections.specs.TypedGame.{variable_player_of}
+use Rattle.mpf_sections.specs.View.{player_view}
+use Rattle.row_faults.specs.VariableFaults.{variable_player_faults}
+use Rattle.row_faults.specs.View.{keys_view, row_faults_view}
+use Rattle.row_faults.proofs.variable_faults.add_players.Given as goal
+
+abbrev pub invariant-loop-player : goal.invariant-loop-player
+invariant-loop-player l =
+    row_faults_view l.faults.items ++ flat_map (variable_player_faults (keys_view l.modes) l.text) (map variable_player_of (map player_view (drop l.player-index l.players)))
+    ≡ row_faults_view l.initial.faults.items ++ flat_map (variable_player_faults (keys_view l.modes) l.text) (map variable_player_of (map player_view l.players))
