@@ -8,6 +8,7 @@ use Rattle.device_objects.specs.declared.state.TimerState.{TimerState}
 use Rattle.device_objects.specs.declared.state.CounterSlot.{CounterSlot}
 use Rattle.device_objects.specs.declared.state.AccrualSlot.{AccrualSlot}
 use Rattle.device_objects.specs.declared.state.SequenceSlot.{SequenceSlot}
+use Rattle.device_objects.specs.declared.state.BankSlot.{BankSlot}
 use Rattle.device_objects.specs.declared.state.FlipperState.{FlipperState}
 use Rattle.device_objects.specs.declared.state.AutofireState.{AutofireState}
 use Rattle.device_objects.specs.declared.state.DeviceState.{DeviceState}
@@ -16,6 +17,7 @@ use Rattle.device_objects.specs.Counter as counter
 use Rattle.device_objects.specs.Accrual as accrual
 use Rattle.device_objects.specs.Sequence as sequence
 use Rattle.device_objects.specs.Timer as timer
+use Rattle.device_objects.specs.Bank as bank
 use Rattle.device_objects.specs.Flipper as flipper
 use Rattle.device_objects.specs.Autofire as autofire
 
@@ -25,6 +27,7 @@ first_state (kinds.Counter c) = states.Counter (counter.first_slots c)
 first_state (kinds.Accrual a) = states.Accrual (accrual.first_slots a)
 first_state (kinds.Sequence q) = states.Sequence (sequence.first_slots q)
 first_state (kinds.Timer t) = states.Timer (timer.first_state t)
+first_state (kinds.Bank b) = states.Bank (bank.first_slots b)
 first_state kinds.Flipper = states.Flipper flipper.first_state
 first_state kinds.Autofire = states.Autofire autofire.first_state
 
@@ -45,6 +48,9 @@ sequence_answer a = (states.Sequence a.0, a.1)
 abbrev pub timer_answer : TimerState × List ℕ → DeviceState × List ℕ
 timer_answer a = (states.Timer a.0, a.1)
 
+abbrev pub bank_answer : List BankSlot × List ℕ → DeviceState × List ℕ
+bank_answer a = (states.Bank a.0, a.1)
+
 abbrev pub flipper_answer : FlipperState × List ℕ → DeviceState × List ℕ
 flipper_answer a = (states.Flipper a.0, a.1)
 
@@ -57,6 +63,7 @@ device_step (kinds.Counter c) call now world (states.Counter slots) = counter_an
 device_step (kinds.Accrual a) call now world (states.Accrual slots) = accrual_answer (accrual.accrual_step a call world slots)
 device_step (kinds.Sequence q) call now world (states.Sequence slots) = sequence_answer (sequence.sequence_step q call world slots)
 device_step (kinds.Timer t) call now world (states.Timer s) = timer_answer (timer.timer_step t call now s)
+device_step (kinds.Bank b) call now world (states.Bank slots) = bank_answer (bank.bank_step b call world slots)
 device_step kinds.Flipper call now world (states.Flipper s) = flipper_answer (flipper.flipper_step call s)
 device_step kinds.Autofire call now world (states.Autofire s) = autofire_answer (autofire.autofire_step call s)
 device_step _ call now world state = (state, [])

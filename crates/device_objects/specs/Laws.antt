@@ -1,16 +1,23 @@
 -- What holds of every step of a device.
-use Rattle.std.specs.Prelude.{◌≡◌, ℕ, ◌<◌, ◌⊎◌, None, Some, IsSome, IfSome, List, length, Contains}
+use Rattle.std.specs.Prelude.{◌≡◌, ℕ, ◌<◌, ◌≤◌, ◌⊎◌, None, Some, IsSome, IfSome, List, length, Contains}
 use Rattle.std.specs.List.{All}
+use Rattle.plan_tables.specs.declared.devices.BankSettings.{BankSettings}
 use Rattle.plan_tables.specs.declared.devices.Settings.{Settings}
 use Rattle.plan_tables.specs.declared.devices.Settings.TheVariants as kinds
 use Rattle.plan_tables.specs.Devices.{IsWithinLimits, list_count}
 use Rattle.device_objects.specs.declared.device.Call.{Call}
 use Rattle.device_objects.specs.declared.device.Call.TheVariants as calls
 use Rattle.device_objects.specs.declared.state.World.{World}
+use Rattle.device_objects.specs.declared.state.BankSlot.{BankSlot}
 use Rattle.device_objects.specs.declared.state.DeviceState.{DeviceState}
 use Rattle.device_objects.specs.declared.state.DeviceState.TheVariants as states
 use Rattle.device_objects.specs.DeviceStep.{first_state, due_of, device_step}
 use Rattle.device_objects.specs.Outcomes.{outcomes, silent}
+
+-- a slot of a bank: with as many flags as its settings have, and 16 states, each one of the profile
+abbrev pub HasBankShape : BankSettings → BankSlot → Type 0
+HasBankShape b slot =
+    (length slot.enabled ≡ length b.enabled) × (length slot.states ≡ 16) × All (λ s. s ≤ b.last_state) slot.states
 
 -- a state of the shape that the settings ask for: of their kind, with four slots, and 16 marks in each of an accrual
 abbrev pub HasShape : Settings → DeviceState → Type 0
@@ -18,6 +25,7 @@ HasShape (kinds.Counter c) (states.Counter slots) = length slots ≡ 4
 HasShape (kinds.Accrual a) (states.Accrual slots) = (length slots ≡ 4) × All (λ s. length s.done ≡ 16) slots
 HasShape (kinds.Sequence q) (states.Sequence slots) = length slots ≡ 4
 HasShape (kinds.Timer t) (states.Timer s) = Unit {0}
+HasShape (kinds.Bank b) (states.Bank slots) = (length slots ≡ 4) × All (HasBankShape b) slots
 HasShape kinds.Flipper (states.Flipper s) = Unit {0}
 HasShape kinds.Autofire (states.Autofire s) = Unit {0}
 HasShape _ _ = ⊥

@@ -4,6 +4,7 @@ pub mod Counter
 pub mod Accrual
 pub mod Sequence
 pub mod Timer
+pub mod Bank
 pub mod Flipper
 pub mod Autofire
 pub mod DeviceStep

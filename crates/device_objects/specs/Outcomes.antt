@@ -1,13 +1,16 @@
 -- The lists that a call of a device can answer, whatever its state.
-use Rattle.std.specs.Prelude.{ℕ, suc, ◌==◌, nat_lt, Bool, is_some, if◌then◌else◌, List, [], ◌∷◌, ◌++◌}
+use Rattle.std.specs.Prelude.{ℕ, suc, ◌==◌, nat_lt, Bool, not, ◌&&◌, is_some, if◌then◌else◌, List, [], ◌∷◌, ◌++◌}
+use Rattle.std.specs.List.{flat_map, range_with_len}
 use Rattle.plan_tables.specs.declared.devices.Act.{Act}
 use Rattle.plan_tables.specs.declared.devices.Act.TheVariants as acts
 use Rattle.plan_tables.specs.declared.devices.BlockSettings.{BlockSettings}
 use Rattle.plan_tables.specs.declared.devices.CounterSettings.{CounterSettings}
 use Rattle.plan_tables.specs.declared.devices.StepSettings.{StepSettings}
 use Rattle.plan_tables.specs.declared.devices.TimerSettings.{TimerSettings}
+use Rattle.plan_tables.specs.declared.devices.BankSettings.{BankSettings}
 use Rattle.plan_tables.specs.declared.devices.Settings.{Settings}
 use Rattle.plan_tables.specs.declared.devices.Settings.TheVariants as kinds
+use Rattle.plan_tables.specs.Devices.{state_count}
 use Rattle.device_objects.specs.declared.device.Call.{Call}
 use Rattle.device_objects.specs.declared.device.Call.TheVariants as calls
 use Rattle.device_objects.specs.Values.{clamped, is_at_end}
@@ -15,6 +18,7 @@ use Rattle.device_objects.specs.Slots.{updated, hit}
 use Rattle.device_objects.specs.Slots as block
 use Rattle.device_objects.specs.Timer.{started, stopped, paused, tick}
 use Rattle.device_objects.specs.Timer as timer
+use Rattle.device_objects.specs.Bank.{next_state, hit_lists, group_complete}
 use Rattle.device_objects.specs.Flipper.{on, off}
 use Rattle.device_objects.specs.Autofire.{fires}
 
@@ -81,6 +85,29 @@ of_timer t calls.ModeStop = silent
 of_timer t calls.Fire = (tick ∷ []) ∷ only_if (is_some t.end) ((tick ∷ timer_completing t) ∷ [])
 of_timer t (calls.Act act) = of_timer_act t act
 
+-- whether a hit of a shot in this state moves it, and so can complete its group
+abbrev pub can_complete : BankSettings → ℕ → Bool
+can_complete b state = b.group && (b.advance_on_hit && not (next_state b state == state))
+
+-- a hit that completes the group
+abbrev pub hit_completing : BankSettings → ℕ → ℕ → List ℕ
+hit_completing b i state = hit_lists b i state ++ group_complete b (next_state b state) ∷ []
+
+-- a shot that is hit in this state; the only shot of a group always completes it when it moves
+abbrev pub of_hit_in : BankSettings → ℕ → ℕ → List (List ℕ)
+of_hit_in b i state =
+    if can_complete b state
+    then only_if (nat_lt 1 b.shots) (hit_lists b i state ∷ []) ++ hit_completing b i state ∷ []
+    else hit_lists b i state ∷ []
+
+-- a shot of this number that is hit, in whatever state
+abbrev pub of_hit : BankSettings → ℕ → List (List ℕ)
+of_hit b i = flat_map (of_hit_in b i) (range_with_len 0 (state_count b))
+
+abbrev pub of_bank : BankSettings → Act → List (List ℕ)
+of_bank b (acts.Hit i) = [] ∷ only_if (nat_lt i b.shots) (of_hit b i)
+of_bank b _ = silent
+
 -- the list of a device whose only switch, which is switch 0, changes
 abbrev pub of_switch : ℕ → ℕ → List (List ℕ)
 of_switch i list = [] ∷ only_if (i == 0) ((list ∷ []) ∷ [])
@@ -108,5 +135,6 @@ outcomes (kinds.Counter c) call = by_act (of_counter c) call
 outcomes (kinds.Accrual a) call = by_act (of_accrual a) call
 outcomes (kinds.Sequence q) call = by_act (of_sequence q) call
 outcomes (kinds.Timer t) call = of_timer t call
+outcomes (kinds.Bank b) call = by_act (of_bank b) call
 outcomes kinds.Flipper call = by_act of_flipper call
 outcomes kinds.Autofire call = by_act of_autofire call

@@ -4,7 +4,8 @@ ghost use Rattle.std.specs.Prelude.{◌≡◌};
 ghost use Rattle.device_objects.specs.DeviceStep.{first_state};
 
 use crate::state::{
-    AccrualSlot, AutofireState, CounterSlot, DeviceState, FlipperState, SequenceSlot, TimerState,
+    AccrualSlot, AutofireState, BankSlot, CounterSlot, DeviceState, FlipperState, SequenceSlot,
+    TimerState,
 };
 use plan_tables::Settings;
 
@@ -33,6 +34,11 @@ pub fn first_state(settings: &Settings) -> DeviceState
             value: timer.start,
             due: None,
         }),
+        Settings::Bank(bank) => DeviceState::Bank([BankSlot {
+            game: 0,
+            enabled: bank.enabled,
+            states: [0; 16],
+        }; 4]),
         Settings::Flipper => DeviceState::Flipper(FlipperState {
             enabled: false,
             on: false,

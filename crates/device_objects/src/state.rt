@@ -53,6 +53,17 @@ pub struct TimerState {
     pub due: Option<u64>,
 }
 
+/// What a bank of shots remembers for one player.
+#[derive(Clone, Copy)]
+pub struct BankSlot {
+    /// The game to which it belongs, as [`World::games`] counts it.
+    pub game: u64,
+    /// Which shots are enabled, by their numbers.
+    pub enabled: [bool; 16],
+    /// The state of each shot: the number of a state of the profile.
+    pub states: [u8; 16],
+}
+
 /// What a flipper remembers.
 #[derive(Clone, Copy)]
 pub struct FlipperState {
@@ -69,14 +80,15 @@ pub struct AutofireState {
     pub enabled: bool,
 }
 
-/// What a device remembers. A persistent block has a slot for each player; another block uses only
-/// the first.
+/// What a device remembers. A persistent block and a bank of shots have a slot for each player;
+/// another block uses only the first.
 #[derive(Clone, Copy)]
 pub enum DeviceState {
     Counter([CounterSlot; 4]),
     Accrual([AccrualSlot; 4]),
     Sequence([SequenceSlot; 4]),
     Timer(TimerState),
+    Bank([BankSlot; 4]),
     Flipper(FlipperState),
     Autofire(AutofireState),
 }

@@ -1,7 +1,8 @@
 -- The limits of a device's settings, and how many effect lists it has.
-use Rattle.std.specs.Prelude.{ℕ, ◌≤◌, ℤ, pos, neg_ℤ, ◌≤ℤ◌, Option, IfSome}
+use Rattle.std.specs.Prelude.{ℕ, suc, ◌+◌, ◌*◌, ◌≤◌, ℤ, pos, neg_ℤ, ◌≤ℤ◌, if◌then◌else◌, Option, IfSome}
+use Rattle.plan_tables.specs.declared.devices.BankSettings.{BankSettings}
 use Rattle.plan_tables.specs.declared.devices.Settings.{Settings}
-use Rattle.plan_tables.specs.declared.devices.Settings.TheVariants.{Counter, Accrual, Sequence, Timer, Flipper, Autofire}
+use Rattle.plan_tables.specs.declared.devices.Settings.TheVariants.{Counter, Accrual, Sequence, Timer, Bank, Flipper, Autofire}
 
 -- a number of a setting
 abbrev pub IsNumberWithin : ℤ → Type 0
@@ -11,14 +12,23 @@ IsNumberWithin n = (neg_ℤ (pos 1000000000) ≤ℤ n) × (n ≤ℤ pos 10000000
 abbrev pub IsEndWithin : Option ℤ → Type 0
 IsEndWithin end = IfSome end IsNumberWithin
 
--- At most 16 steps, at least a millisecond between the ticks of a timer, and ends that a value can pass.
+-- At most 16 steps, shots and states, at least a millisecond between the ticks of a timer, and ends that a value can pass.
 abbrev pub IsWithinLimits : Settings → Type 0
 IsWithinLimits (Counter c) = IsEndWithin c.complete
 IsWithinLimits (Accrual a) = a.steps ≤ 16
 IsWithinLimits (Sequence q) = q.steps ≤ 16
 IsWithinLimits (Timer t) = (1 ≤ t.interval) × IsEndWithin t.end
+IsWithinLimits (Bank b) = (b.shots ≤ 16) × (b.last_state ≤ 15)
 IsWithinLimits Flipper = Unit {0}
 IsWithinLimits Autofire = Unit {0}
+
+-- how many states the profile of a bank has
+abbrev pub state_count : BankSettings → ℕ
+state_count b = suc b.last_state
+
+-- one effect list for each shot in each state, and of a group two more for each state
+abbrev pub bank_list_count : BankSettings → ℕ
+bank_list_count b = state_count b * (b.shots + (if b.group then 2 else 0))
 
 -- how many effect lists a row has: three of a block, five of a timer, two of a flipper, one of an autofire coil
 abbrev pub list_count : Settings → ℕ
@@ -26,5 +36,6 @@ list_count (Counter c) = 3
 list_count (Accrual a) = 3
 list_count (Sequence q) = 3
 list_count (Timer t) = 5
+list_count (Bank b) = bank_list_count b
 list_count Flipper = 2
 list_count Autofire = 1

@@ -65,6 +65,23 @@ pub struct TimerSettings {
     pub restart: bool,
 }
 
+/// A bank of shots: a group, or a lone shot. All its shots have the same profile.
+#[derive(Clone, Copy)]
+pub struct BankSettings {
+    /// How many shots it has: at most 16.
+    pub shots: u8,
+    /// Which of its shots are enabled at first, by their numbers: those that have no `enable_events`.
+    pub enabled: [bool; 16],
+    /// The number of its profile's last state, from 0: at most 15.
+    pub last_state: u8,
+    /// Whether a hit moves a shot to its next state.
+    pub advance_on_hit: bool,
+    /// Whether the first state comes after the last one.
+    pub loops: bool,
+    /// Whether it is a group, which has effect lists of its own.
+    pub group: bool,
+}
+
 /// Of which kind a device is, and its settings.
 #[derive(Clone, Copy)]
 pub enum Settings {
@@ -72,6 +89,7 @@ pub enum Settings {
     Accrual(StepSettings),
     Sequence(StepSettings),
     Timer(TimerSettings),
+    Bank(BankSettings),
     /// A flipper. What one flipper does, and another does not, is in their effect lists.
     Flipper,
     /// An autofire coil. Which coil it is stands in its effect list.
@@ -82,19 +100,33 @@ impl Settings {
     ghost use Rattle.std.specs.Prelude.{◌≡◌, ◌≤◌};
     ghost use Rattle.plan_tables.specs.Devices.{list_count};
 
-    /// How many effect lists a row with these settings has: at most 5.
-    pub fn list_count(self) -> u16
-        ensures count { result ≡ list_count self }
-        ensures few { result ≤ 5 }
+    /// How many effect lists a row with these settings has: of a row of a plan at most 288.
+    pub fn list_count(self) -> u32
+        ensures { result ≡ list_count self }
     {
         match self {
             Settings::Counter(_) => 3,
             Settings::Accrual(_) => 3,
             Settings::Sequence(_) => 3,
             Settings::Timer(_) => 5,
+            Settings::Bank(bank) => bank.list_count(),
             Settings::Flipper => 2,
             Settings::Autofire => 1,
         }
+    }
+}
+
+impl BankSettings {
+    ghost use Rattle.std.specs.Prelude.{◌≡◌};
+    ghost use Rattle.plan_tables.specs.Devices.{bank_list_count};
+
+    /// How many effect lists the bank has: one for each shot in each state, and, of a group, two more
+    /// for each state.
+    fn list_count(self) -> u32
+        ensures { result ≡ bank_list_count self }
+    {
+        let of_group = if self.group { 2 } else { 0 };
+        (u32::from(self.last_state) + 1) * (u32::from(self.shots) + of_group)
     }
 }
 

@@ -1,0 +1,103 @@
+-- A bank of shots: a group, or a lone shot. Each player has a slot of their own.
+use Rattle.std.specs.Prelude.{ℕ, suc, ◌+◌, ◌-◌, ◌*◌, ◌==◌, nat_lt, Bool, true, false, not, ◌&&◌, if◌then◌else◌, Option, None, Some, List, [], ◌∷◌, ◌++◌, replicate, take, drop, slice_get, slice_set}
+use Rattle.std.specs.List.{list_all}
+use Rattle.plan_tables.specs.declared.devices.Act.{Act}
+use Rattle.plan_tables.specs.declared.devices.Act.TheVariants as acts
+use Rattle.plan_tables.specs.declared.devices.BankSettings.{BankSettings}
+use Rattle.plan_tables.specs.Devices.{state_count}
+use Rattle.device_objects.specs.declared.device.Call.{Call}
+use Rattle.device_objects.specs.declared.device.Call.TheVariants as calls
+use Rattle.device_objects.specs.declared.state.BankSlot.{BankSlot}
+use Rattle.device_objects.specs.declared.state.World.{World}
+use Rattle.device_objects.specs.Slots.{slot_in_use, is_of_other_game, step_in_use}
+
+-- The lists of a bank: for each shot one in each state, by the shot's number and then the state's; then those of the group
+-- when one of its shots is hit in a state; then those of the group when all its shots have come to a state.
+abbrev pub shot_hit : BankSettings → ℕ → ℕ → ℕ
+shot_hit b i state = i * state_count b + state
+
+abbrev pub group_hit : BankSettings → ℕ → ℕ
+group_hit b state = b.shots * state_count b + state
+
+abbrev pub group_complete : BankSettings → ℕ → ℕ
+group_complete b state = suc b.shots * state_count b + state
+
+-- a slot at first, for this game: all shots are in their first state
+abbrev pub first_slot : BankSettings → ℕ → BankSlot
+first_slot b game = record { game = game; enabled = b.enabled; states = replicate 16 0 }
+
+abbrev pub first_slots : BankSettings → List BankSlot
+first_slots b = replicate 4 (first_slot b 0)
+
+-- the state after this one: after the last comes the first where the profile loops, and else none
+abbrev pub next_state : BankSettings → ℕ → ℕ
+next_state b state = if nat_lt state b.last_state then suc state else (if b.loops then 0 else state)
+
+-- the states of the shots, where this one goes on from this state
+abbrev pub gone_on : BankSettings → ℕ → ℕ → List ℕ → List ℕ
+gone_on b i state states = slice_set states i (next_state b state)
+
+-- whether all shots are in this state
+abbrev pub are_all_in : BankSettings → ℕ → List ℕ → Bool
+are_all_in b state states = list_all (λ s. s == state) (take b.shots states)
+
+-- what a hit runs: the list of the shot, and that of the group, for the state before it
+abbrev pub hit_lists : BankSettings → ℕ → ℕ → List ℕ
+hit_lists b i state = shot_hit b i state ∷ (if b.group then group_hit b state ∷ [] else [])
+
+-- a group is complete when a hit has moved its shot to another state, in which all its shots are then
+abbrev pub is_complete : BankSettings → ℕ → List ℕ → Bool
+is_complete b state states =
+    b.group && (not (next_state b state == state) && are_all_in b (next_state b state) states)
+
+-- where a hit has left the states so: the list of the group that is complete
+abbrev pub complete_lists : BankSettings → ℕ → List ℕ → List ℕ
+complete_lists b state states = if is_complete b state states then group_complete b (next_state b state) ∷ [] else []
+
+-- a shot is hit in this state
+abbrev pub hit : BankSettings → ℕ → ℕ → BankSlot → BankSlot × List ℕ
+hit b i state slot =
+    if b.advance_on_hit then
+      (record slot { states = gone_on b i state slot.states },
+       hit_lists b i state ++ complete_lists b state (gone_on b i state slot.states))
+    else (slot, hit_lists b i state)
+
+-- a shot of this number in this state is hit; without such a shot, or where it is disabled, nothing is done
+abbrev pub hit_where : BankSettings → ℕ → Option Bool → Option ℕ → BankSlot → BankSlot × List ℕ
+hit_where b i (Some true) (Some state) slot = hit b i state slot
+hit_where b i _ _ slot = (slot, [])
+
+-- a shot goes on, whether it is enabled or not
+abbrev pub advance_where : BankSettings → ℕ → Option ℕ → BankSlot → BankSlot
+advance_where b i None slot = slot
+advance_where b i (Some state) slot = record slot { states = gone_on b i state slot.states }
+
+-- the states of so many shots, turned by k places towards the first; the others stay
+abbrev pub turned : ℕ → ℕ → List ℕ → List ℕ
+turned shots k states = drop k (take shots states) ++ take k (take shots states) ++ drop shots states
+
+-- a slot that a shot's act has changed so, where the bank has the shot
+abbrev pub of_shot : BankSettings → ℕ → BankSlot → BankSlot → BankSlot
+of_shot b i changed slot = if nat_lt i b.shots then changed else slot
+
+abbrev pub slot_step : BankSettings → Act → BankSlot → BankSlot × List ℕ
+slot_step b (acts.Hit i) slot =
+    if nat_lt i b.shots then hit_where b i (slice_get slot.enabled i) (slice_get slot.states i) slot else (slot, [])
+slot_step b (acts.Advance i) slot = (of_shot b i (advance_where b i (slice_get slot.states i) slot) slot, [])
+slot_step b (acts.ResetShot i) slot = (of_shot b i (record slot { states = slice_set slot.states i 0 }) slot, [])
+slot_step b (acts.EnableShot i) slot = (of_shot b i (record slot { enabled = slice_set slot.enabled i true }) slot, [])
+slot_step b (acts.DisableShot i) slot = (of_shot b i (record slot { enabled = slice_set slot.enabled i false }) slot, [])
+slot_step b acts.Reset slot = (record slot { states = replicate 16 0 }, [])
+slot_step b acts.RotateRight slot = (record slot { states = turned b.shots (b.shots - 1) slot.states }, [])
+slot_step b acts.RotateLeft slot = (record slot { states = turned b.shots 1 slot.states }, [])
+slot_step b _ slot = (slot, [])
+
+-- a slot as it counts in this world
+abbrev pub current : BankSettings → World → BankSlot → BankSlot
+current b world slot = if is_of_other_game true world slot.game then first_slot b world.games else slot
+
+-- the start and the stop of its mode change nothing, and it is never due
+abbrev pub bank_step : BankSettings → Call → World → List BankSlot → List BankSlot × List ℕ
+bank_step b (calls.Act act) world slots =
+    step_in_use (λ slot. slot_step b act (current b world slot)) slots (slot_in_use true world)
+bank_step b _ world slots = (slots, [])
