@@ -1,5 +1,5 @@
 -- The limits of a device's settings, and how many effect lists it has.
-use Rattle.std.specs.Prelude.{ℕ, suc, ◌+◌, ◌*◌, ◌≤◌, ℤ, pos, neg_ℤ, ◌≤ℤ◌, if◌then◌else◌, Option, IfSome}
+use Rattle.std.specs.Prelude.{◌≡◌, ℕ, suc, ◌+◌, ◌*◌, ◌≤◌, ℤ, pos, neg_ℤ, ◌≤ℤ◌, if◌then◌else◌, Option, IfSome, length}
 use Rattle.plan_tables.specs.declared.devices.BankSettings.{BankSettings}
 use Rattle.plan_tables.specs.declared.devices.Settings.{Settings}
 use Rattle.plan_tables.specs.declared.devices.Settings.TheVariants.{Counter, Accrual, Sequence, Timer, Bank, Flipper, Autofire}
@@ -12,13 +12,14 @@ IsNumberWithin n = (neg_ℤ (pos 1000000000) ≤ℤ n) × (n ≤ℤ pos 10000000
 abbrev pub IsEndWithin : Option ℤ → Type 0
 IsEndWithin end = IfSome end IsNumberWithin
 
--- At most 16 steps, shots and states, at least a millisecond between the ticks of a timer, and ends that a value can pass.
+-- At most 16 steps, shots and states, a flag for each of 16 shots, at least a millisecond between the ticks of a timer, and
+-- ends that a value can pass.
 abbrev pub IsWithinLimits : Settings → Type 0
 IsWithinLimits (Counter c) = IsEndWithin c.complete
 IsWithinLimits (Accrual a) = a.steps ≤ 16
 IsWithinLimits (Sequence q) = q.steps ≤ 16
 IsWithinLimits (Timer t) = (1 ≤ t.interval) × IsEndWithin t.end
-IsWithinLimits (Bank b) = (b.shots ≤ 16) × (b.last_state ≤ 15)
+IsWithinLimits (Bank b) = (b.shots ≤ 16) × (b.last_state ≤ 15) × (length b.enabled ≡ 16)
 IsWithinLimits Flipper = Unit {0}
 IsWithinLimits Autofire = Unit {0}
 
@@ -30,7 +31,8 @@ state_count b = suc b.last_state
 abbrev pub bank_list_count : BankSettings → ℕ
 bank_list_count b = state_count b * (b.shots + (if b.group then 2 else 0))
 
--- how many effect lists a row has: three of a block, five of a timer, two of a flipper, one of an autofire coil
+-- how many effect lists a row has: three of a block, five of a timer, those of a bank, two of a flipper, one of an autofire
+-- coil
 abbrev pub list_count : Settings → ℕ
 list_count (Counter c) = 3
 list_count (Accrual a) = 3
