@@ -1,7 +1,10 @@
 -- What devices answer is among their outcomes.
-use Rattle.std.proofs.Common.{◌≡◌, ℕ, zero, ◌==◌, suc, nat_lt, ◌<◌, Bool, true, false, Option, None, Some, List, [], ◌∷◌, ◌++◌, length, take, slice_get, slice_set, if◌then◌else◌, is_some, refl, sym, ap, ◌∙◌, ◌&&◌, not, zero-le, suc-le-suc, ℤ, pos, ◌+ℤ◌, ◌-ℤ◌, arith}
-use Rattle.std.specs.List.{Contains, list_all}
-use Rattle.std.proofs.lemmas.Bool.{and_parts, ltb-true, lt-ltb, false≢true, true≢false}
+use Rattle.std.proofs.Common.{◌≡◌, ℕ, zero, ◌==◌, suc, ◌+◌, nat_lt, ◌<◌, ◌≤◌, Bool, true, false, Option, None, Some, List, [], ◌∷◌, ◌++◌, length, take, slice_get, slice_set, if◌then◌else◌, is_some, refl, sym, ap, subst, ◌⊎◌, inl, inr, ◌∙◌, ◌&&◌, not, zero-le, suc-le-suc, ℤ, pos, ◌+ℤ◌, ◌-ℤ◌, arith}
+use Rattle.std.specs.List.{All, Contains, flat_map, list_all, range_with_len}
+use Rattle.std.proofs.lemmas.List.{append-nil}
+use Rattle.std.proofs.lemmas.Option.{none-some}
+use Rattle.std.proofs.lemmas.Bool.{and_from, and_parts, cases_eq, eq-eqb, ltb-true, lt-ltb, false≢true, true≢false}
+use Rattle.plan_tables.specs.declared.devices.BankSettings.{BankSettings}
 use Rattle.plan_tables.specs.declared.devices.BlockSettings.{BlockSettings}
 use Rattle.plan_tables.specs.declared.devices.CounterSettings.{CounterSettings}
 use Rattle.plan_tables.specs.declared.devices.StepSettings.{StepSettings}
@@ -10,27 +13,31 @@ use Rattle.plan_tables.specs.declared.devices.Settings.TheVariants as kinds
 use Rattle.plan_tables.specs.declared.devices.Direction.{Direction}
 use Rattle.plan_tables.specs.declared.devices.Act.{Act}
 use Rattle.plan_tables.specs.declared.devices.Act.TheVariants as acts
+use Rattle.plan_tables.specs.Devices.{state_count}
 use Rattle.device_objects.specs.declared.device.Call.{Call}
 use Rattle.device_objects.specs.declared.device.Call.TheVariants as calls
 use Rattle.device_objects.specs.declared.state.CounterSlot.{CounterSlot}
 use Rattle.device_objects.specs.declared.state.AccrualSlot.{AccrualSlot}
 use Rattle.device_objects.specs.declared.state.SequenceSlot.{SequenceSlot}
 use Rattle.device_objects.specs.declared.state.TimerState.{TimerState}
+use Rattle.device_objects.specs.declared.state.BankSlot.{BankSlot}
 use Rattle.device_objects.specs.declared.state.FlipperState.{FlipperState}
 use Rattle.device_objects.specs.declared.state.AutofireState.{AutofireState}
 use Rattle.device_objects.specs.declared.state.DeviceState.TheVariants as states
 use Rattle.device_objects.specs.declared.state.World.{World}
 use Rattle.device_objects.specs.Values.{clamped, is_at_end, moved}
-use Rattle.device_objects.specs.Slots.{updated}
+use Rattle.device_objects.specs.Slots.{slot_in_use, updated}
 use Rattle.device_objects.specs.Counter as counter
 use Rattle.device_objects.specs.Accrual as accrual
 use Rattle.device_objects.specs.Sequence as sequence
 use Rattle.device_objects.specs.Timer as timer
+use Rattle.device_objects.specs.Bank as bank
 use Rattle.device_objects.specs.Flipper as flipper
 use Rattle.device_objects.specs.Autofire as autofire
-use Rattle.device_objects.specs.Laws.{MayCome, AnswersAreOutcomes}
-use Rattle.device_objects.specs.Outcomes.{silent, only_if, completing, going_on, resetting, of_counter, of_accrual, of_sequence, of_timer, of_timer_act, of_switch, of_flipper, of_autofire, timer_completing, outcomes}
-use Rattle.device_objects.proofs.Slots.{in_use-answers}
+use Rattle.device_objects.specs.Laws.{HasBankShape, MayCome, AnswersAreOutcomes}
+use Rattle.device_objects.specs.Outcomes.{silent, only_if, completing, going_on, resetting, of_counter, of_accrual, of_sequence, of_timer, of_timer_act, can_complete, hit_completing, of_hit_in, of_hit, of_bank, of_switch, of_flipper, of_autofire, timer_completing, outcomes}
+use Rattle.device_objects.proofs.Slots.{All-at, in_use-answers, step_in_use-answers}
+use Rattle.device_objects.proofs.Shapes.{current-shape}
 
 -- ---- lists of answers
 
@@ -45,6 +52,27 @@ contains (there at) = let rest = contains at in (suc rest.0, suc-le-suc rest.1, 
 at_last : {X : Type 0} {y : X} (xs : List X) → In y (xs ++ y ∷ [])
 at_last [] = here
 at_last (x ∷ xs) = there (at_last xs)
+
+at_left : {X : Type 0} {x : X} {xs : List X} (ys : List X) → In x xs → In x (xs ++ ys)
+at_left ys here = here
+at_left ys (there at) = there (at_left ys at)
+
+at_right : {X : Type 0} {x : X} (xs : List X) {ys : List X} → In x ys → In x (xs ++ ys)
+at_right [] at = at
+at_right (x ∷ xs) at = there (at_right xs at)
+
+in_range : (a n k : ℕ) → a ≤ k → k < a + n → In k (range_with_len a n)
+in_range a zero k low high = absurd (omega (arith, low, high))
+in_range a (suc n) k low high =
+    elim (cases_eq a k) [
+      | inl same ↦ subst (λ j. In k (j ∷ range_with_len (a + 1) n)) (sym same) here
+      | inr other ↦ there (in_range (a + 1) n k (omega (arith, low, other)) (omega (arith, high)))
+    ]
+
+in_flat_map : {A X : Type 0} (f : A → List X) {a : A} {x : X} {among : List A} → In a among → In x (f a) → In x (flat_map f among)
+in_flat_map f {among = []} never at = elim never [ ]
+in_flat_map f {among = b ∷ bs} here at = at_left (flat_map f bs) at
+in_flat_map f {among = b ∷ bs} (there found) at = at_right (f b) (in_flat_map f found at)
 
 if_holds : {x : List ℕ} {xs : List (List ℕ)} (holds : Bool) → holds ≡ true → In x xs → In x (only_if holds xs)
 if_holds true is at = at
@@ -252,6 +280,68 @@ timer-in t calls.Fire now s =
     ticked-in t (is_at_end t.direction t.end next.value) (timer.completed t now next) (timer.run t now next, []) (at_end-some t.direction t.end next.value) (completed-is t now next) refl
 timer-in t (calls.Act act) now s = timer_act-in t act now s
 
+-- ---- banks
+
+-- the only shot of a group, when it has moved
+only_shot : (shots i s next : ℕ) (states : List ℕ) → nat_lt i shots ≡ true → nat_lt 1 shots ≡ false → slice_get states i ≡ Some s
+    → list_all (λ n. n == next) (take shots (slice_set states i next)) ≡ true
+only_shot zero i s next states within one is = absurd (nat_lt-not_zero i within)
+only_shot (suc zero) zero s next [] within one is = absurd (none-some s is)
+only_shot (suc zero) zero s next (n ∷ states) within one is = and_from (next == next) true (eq-eqb next next refl) refl
+only_shot (suc zero) (suc i) s next states within one is = absurd (not_below_one i within)
+only_shot (suc (suc n)) i s next states within one is = absurd (one_below n one)
+
+-- what a hit answers, by whether the shots are a group, advance, move and are then all in one state, and are several
+hit-comes : {S : Type 0} (x y : S) (group advance moves all several : Bool) (hits : List ℕ) (done : ℕ)
+    → (several ≡ false → all ≡ true)
+    → In (if◌then◌else◌ {A = S × List ℕ} advance (x, hits ++ (if group && (moves && all) then done ∷ [] else [])) (y, hits)).1
+    (if group && (advance && moves) then only_if several (hits ∷ []) ++ (hits ++ done ∷ []) ∷ [] else hits ∷ [])
+hit-comes x y false false moves all several hits done only = here
+hit-comes x y true false moves all several hits done only = here
+hit-comes x y false true moves all several hits done only = by (append-nil hits) here
+hit-comes x y true true false all several hits done only = by (append-nil hits) here
+hit-comes x y true true true true several hits done only = at_last (only_if several (hits ∷ []))
+hit-comes x y true true true false true hits done only = by (append-nil hits) here
+hit-comes x y true true true false false hits done only = absurd (false≢true (only refl))
+
+hit_now-in : (b : BankSettings) (i s : ℕ) (slot : BankSlot) → nat_lt i b.shots ≡ true → slice_get slot.states i ≡ Some s
+    → In (bank.hit b i s slot).1 (of_hit_in b i s)
+hit_now-in b i s slot within is =
+    let next = bank.next_state b s in
+    hit-comes (record slot { states = bank.gone_on b i s slot.states }) slot b.group b.advance_on_hit (not (next == s))
+    (bank.are_all_in b next (bank.gone_on b i s slot.states)) (nat_lt 1 b.shots) (bank.hit_lists b i s)
+    (bank.group_complete b next) (λ one. only_shot b.shots i s next slot.states within one is)
+
+hit_where-in : (b : BankSettings) (i : ℕ) (slot : BankSlot) (enabled : Option Bool) (state : Option ℕ) → nat_lt i b.shots ≡ true
+    → slice_get slot.states i ≡ state → ((s : ℕ) → state ≡ Some s → s ≤ b.last_state)
+    → In (bank.hit_where b i enabled state slot).1 ([] ∷ only_if (nat_lt i b.shots) (of_hit b i))
+hit_where-in b i slot (Some true) (Some s) within is low =
+    let at : In s (range_with_len 0 (state_count b)) = in_range 0 (state_count b) s (omega arith) (omega (arith, low s refl)) in
+    there (if_holds (nat_lt i b.shots) within (in_flat_map (of_hit_in b i) at (hit_now-in b i s slot within is)))
+hit_where-in b i slot _ _ within is low = here
+
+bank_slot-in : (b : BankSettings) (act : Act) (slot : BankSlot) → HasBankShape b slot → In (bank.slot_step b act slot).1 (of_bank b act)
+bank_slot-in b (acts.Hit i) slot shape =
+    let state = slice_get slot.states i in
+    either (nat_lt i b.shots) (bank.hit_where b i (slice_get slot.enabled i) state slot) (slot, [])
+    (λ within. hit_where-in b i slot (slice_get slot.enabled i) state within refl (λ s is. All-at (λ n. n ≤ b.last_state) slot.states i s is shape.2))
+    (λ not. here)
+bank_slot-in b _ slot shape = here
+
+bank_none-in : (b : BankSettings) (act : Act) → In [] (of_bank b act)
+bank_none-in b (acts.Hit i) = here
+bank_none-in b _ = here
+
+bank-in : (b : BankSettings) (call : Call) (world : World) (slots : List BankSlot) → All (HasBankShape b) slots → MayCome call (states.Bank slots)
+    → In (bank.bank_step b call world slots).1 (outcomes (kinds.Bank b) call)
+bank-in b calls.ModeStart world slots shape may = here
+bank-in b calls.ModeStop world slots shape may = here
+bank-in b calls.Fire world slots shape may = absurd (false≢true may)
+bank-in b (calls.Act act) world slots shape may =
+    step_in_use-answers (HasBankShape b) (λ answer. In answer (of_bank b act)) (λ slot. bank.slot_step b act (bank.current b world slot))
+    (λ slot has. bank_slot-in b act (bank.current b world slot) (current-shape b world slot has)) slots (slot_in_use true world) shape
+    (bank_none-in b act)
+
 -- ---- flippers and autofire coils
 
 switch-in : {S : Type 0} (ready : Bool) (i list : ℕ) (new old : S) → In (if◌then◌else◌ {A = S × List ℕ} (ready && (i == 0)) (new, list ∷ []) (old, [])).1 (of_switch i list)
@@ -286,6 +376,7 @@ answers_are_outcomes (kinds.Counter c) call now world (states.Counter slots) sha
 answers_are_outcomes (kinds.Accrual a) call now world (states.Accrual slots) shape may = contains (accrual-in a call world slots shape.0 may)
 answers_are_outcomes (kinds.Sequence q) call now world (states.Sequence slots) shape may = contains (sequence-in q call world slots shape may)
 answers_are_outcomes (kinds.Timer t) call now world (states.Timer s) shape may = contains (timer-in t call now s)
+answers_are_outcomes (kinds.Bank b) call now world (states.Bank slots) shape may = contains (bank-in b call world slots shape.1 may)
 answers_are_outcomes kinds.Flipper call now world (states.Flipper s) shape may = contains (flipper-in call s may)
 answers_are_outcomes kinds.Autofire call now world (states.Autofire s) shape may = contains (autofire-in call s may)
 answers_are_outcomes _ call now world _ shape may = elim shape [ ]

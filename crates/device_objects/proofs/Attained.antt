@@ -1,12 +1,15 @@
 -- Each outcome is the answer of some state.
-use Rattle.std.proofs.Common.{◌≡◌, ℕ, zero, ◌==◌, suc, nat_lt, ◌<◌, ◌≤◌, Bool, true, false, Option, None, Some, List, [], ◌∷◌, ◌++◌, length, replicate, take, slice_get, slice_set, if◌then◌else◌, is_some, refl, ap, ◌∙◌, ◌&&◌, ℤ, pos, neg_ℤ, ◌+ℤ◌, ◌-ℤ◌, arith}
+use Rattle.std.proofs.Common.{◌≡◌, ◌≢◌, ◌⊎◌, inl, inr, ℕ, zero, ◌==◌, suc, ◌+◌, nat_lt, ◌<◌, ◌≤◌, Bool, true, false, Option, None, Some, List, [], ◌∷◌, ◌++◌, length, replicate, take, get_or, slice_get, slice_set, if◌then◌else◌, is_some, refl, sym, ap, not, ◌∙◌, ◌&&◌, ℤ, pos, neg_ℤ, ◌+ℤ◌, ◌-ℤ◌, arith}
 use Rattle.std.specs.List.{All, list_all}
 use Rattle.std.specs.Prelude.{int_le}
 use Rattle.std.specs.Prelude.{◌≤ℤ◌}
 use Rattle.std.proofs.lemmas.Int.{ints}
-use Rattle.std.proofs.lemmas.List.Elements.{All-cons, All-append, All-replicate}
-use Rattle.std.proofs.lemmas.List.{length-set, take-replicate}
-use Rattle.std.proofs.lemmas.Bool.{and_from, eq-eqb, ltb-true, false≢true, true≢false}
+use Rattle.std.proofs.lemmas.List.Elements.{All-cons, All-append, All-replicate, All-set}
+use Rattle.std.proofs.lemmas.List.Folds.{list_all_at}
+use Rattle.std.proofs.lemmas.List.{append-nil, get_or-replicate, get_or-set_other, get_or-set_same, get_or-take, length-replicate, length-set, length-take, set-set, take-replicate}
+use Rattle.std.proofs.lemmas.Option.{slice_get-get_or}
+use Rattle.std.proofs.lemmas.Bool.{and_from, and_parts, cases_Bool, eq-eqb, eqb-false, ltb-true, ne_eqb, false≢true, true≢false}
+use Rattle.plan_tables.specs.declared.devices.BankSettings.{BankSettings}
 use Rattle.plan_tables.specs.declared.devices.CounterSettings.{CounterSettings}
 use Rattle.plan_tables.specs.declared.devices.StepSettings.{StepSettings}
 use Rattle.plan_tables.specs.declared.devices.TimerSettings.{TimerSettings}
@@ -16,13 +19,14 @@ use Rattle.plan_tables.specs.declared.devices.Direction.{Direction}
 use Rattle.plan_tables.specs.declared.devices.Direction.TheVariants.{Up, Down}
 use Rattle.plan_tables.specs.declared.devices.Act.{Act}
 use Rattle.plan_tables.specs.declared.devices.Act.TheVariants as acts
-use Rattle.plan_tables.specs.Devices.{IsEndWithin}
+use Rattle.plan_tables.specs.Devices.{IsEndWithin, IsWithinLimits, state_count}
 use Rattle.device_objects.specs.declared.device.Call.{Call}
 use Rattle.device_objects.specs.declared.device.Call.TheVariants as calls
 use Rattle.device_objects.specs.declared.state.CounterSlot.{CounterSlot}
 use Rattle.device_objects.specs.declared.state.AccrualSlot.{AccrualSlot}
 use Rattle.device_objects.specs.declared.state.SequenceSlot.{SequenceSlot}
 use Rattle.device_objects.specs.declared.state.TimerState.{TimerState}
+use Rattle.device_objects.specs.declared.state.BankSlot.{BankSlot}
 use Rattle.device_objects.specs.declared.state.FlipperState.{FlipperState}
 use Rattle.device_objects.specs.declared.state.DeviceState.TheVariants as states
 use Rattle.device_objects.specs.declared.state.World.{World}
@@ -32,13 +36,15 @@ use Rattle.device_objects.specs.Counter as counter
 use Rattle.device_objects.specs.Accrual as accrual
 use Rattle.device_objects.specs.Sequence as sequence
 use Rattle.device_objects.specs.Timer as timer
+use Rattle.device_objects.specs.Bank as bank
 use Rattle.device_objects.specs.Flipper as flipper
 use Rattle.device_objects.specs.Autofire as autofire
 use Rattle.device_objects.specs.DeviceStep.{first_state, device_step}
-use Rattle.device_objects.proofs.Shapes.{first-shape}
+use Rattle.device_objects.proofs.Flat.{All-flat_map_range}
+use Rattle.device_objects.proofs.Shapes.{first-shape, next-within}
 use Rattle.device_objects.proofs.Answered.{completed-is}
-use Rattle.device_objects.specs.Laws.{IsAnswer, MayCome, OutcomesComeAbout}
-use Rattle.device_objects.specs.Outcomes.{silent, only_if, completing, going_on, resetting, of_counter, of_accrual, of_sequence, of_timer, of_timer_act, of_change, of_switch, of_flipper, of_autofire, timer_completing}
+use Rattle.device_objects.specs.Laws.{HasBankShape, IsAnswer, MayCome, OutcomesComeAbout}
+use Rattle.device_objects.specs.Outcomes.{silent, only_if, completing, going_on, resetting, of_counter, of_accrual, of_sequence, of_timer, of_timer_act, of_change, can_complete, hit_completing, of_hit_in, of_hit, of_bank, of_switch, of_flipper, of_autofire, timer_completing}
 
 -- ---- values
 
@@ -83,6 +89,11 @@ one P x holds = All-cons P x [] holds (none P)
 all_if : (P : List ℕ → Type 0) (holds : Bool) (xs : List (List ℕ)) → (holds ≡ true → All P xs) → All P (only_if holds xs)
 all_if P true xs all = all refl
 all_if P false xs all = none P
+
+by_test : (P : List ℕ → Type 0) (test : Bool) (xs ys : List (List ℕ)) → (test ≡ true → All P xs) → (test ≡ false → All P ys)
+    → All P (if test then xs else ys)
+by_test P true xs ys first second = first refl
+by_test P false xs ys first second = second refl
 
 if_true : {S : Type 0} (test : Bool) (x y : S × List ℕ) → test ≡ true → (if test then x else y).1 ≡ x.1
 if_true true x y is = refl
@@ -377,6 +388,178 @@ timer_come_about t calls.ModeStop within = one (IsAnswer (kinds.Timer t) calls.M
 timer_come_about t calls.Fire within = timer_ticks t within
 timer_come_about t (calls.Act act) within = timer_acts t act within
 
+-- ---- banks
+
+-- a bank of whose shots all are enabled
+abbrev bank_slot : List ℕ → BankSlot
+bank_slot shots = record { game = 0; enabled = replicate 16 true; states = shots }
+
+bank_answer : (b : BankSettings) (act : Act) (lists : List ℕ) (shots : List ℕ) → HasBankShape b (bank_slot shots)
+    → (bank.slot_step b act (bank_slot shots)).1 ≡ lists → IsAnswer (kinds.Bank b) (calls.Act act) lists
+bank_answer b act lists shots shape answers = record {
+  now = 0;
+  world = alone;
+  state = states.Bank (replicate 4 (bank_slot shots));
+  shape = (refl, All-replicate (HasBankShape b) 4 (bank_slot shots) shape);
+  may_come = tt;
+  answer = in_use (λ slot. bank.slot_step b act (bank.current b alone slot)) (bank_slot shots) true ∙ answers;
+}
+
+bank_by_nobody : (b : BankSettings) (act : Act) → IsAnswer (kinds.Bank b) (calls.Act act) []
+bank_by_nobody b act = record {
+  now = 0;
+  world = nobody;
+  state = states.Bank (bank.first_slots b);
+  shape = first-shape (kinds.Bank b);
+  may_come = tt;
+  answer = by_nobody (λ slot. bank.slot_step b act (bank.current b nobody slot)) (bank.first_slots b) true refl;
+}
+
+-- what a hit answers where it completes no group, and where it completes one
+not_complete : (group advance moves all : Bool) → (group && (advance && moves)) ≡ false → advance ≡ true → (group && (moves && all)) ≡ false
+not_complete false advance moves all is on = refl
+not_complete true false moves all is on = absurd (false≢true on)
+not_complete true true false all is on = refl
+not_complete true true true all is on = absurd (true≢false is)
+
+none_differs : (group moves all : Bool) → all ≡ false → (group && (moves && all)) ≡ false
+none_differs false moves all is = refl
+none_differs true false all is = refl
+none_differs true true all is = is
+
+quiet_hit : {S : Type 0} (x y : S) (advance complete : Bool) (hits done : List ℕ) → (advance ≡ true → complete ≡ false)
+    → (if◌then◌else◌ {A = S × List ℕ} advance (x, hits ++ (if complete then done else [])) (y, hits)).1 ≡ hits
+quiet_hit x y false complete hits done is = refl
+quiet_hit x y true false hits done is = append-nil hits
+quiet_hit x y true true hits done is = absurd (true≢false (is refl))
+
+full_hit : {S : Type 0} (x y : S) (advance complete : Bool) (hits done : List ℕ) → advance ≡ true → complete ≡ true
+    → (if◌then◌else◌ {A = S × List ℕ} advance (x, hits ++ (if complete then done else [])) (y, hits)).1 ≡ hits ++ done
+full_hit x y true true hits done on is = refl
+full_hit x y false complete hits done on is = absurd (false≢true on)
+full_hit x y true false hits done on is = absurd (false≢true is)
+
+-- some shot, of several, but this one
+another : ℕ → ℕ
+another zero = 1
+another (suc i) = 0
+
+another-is : (i : ℕ) → (another i ≢ i) × (another i < 2)
+unfolding another
+another-is zero = (omega arith, omega arith)
+another-is (suc i) = (omega arith, omega arith)
+
+all_same : (n s : ℕ) → list_all (λ x. x == s) (replicate n s) ≡ true
+all_same zero s = refl
+all_same (suc n) s = and_from (s == s) (list_all (λ x. x == s) (replicate n s)) (eq-eqb s s refl) (all_same n s)
+
+set-replicate : (n i s : ℕ) → slice_set (replicate n s) i s ≡ replicate n s
+set-replicate zero i s = refl
+set-replicate (suc n) zero s = refl
+set-replicate (suc n) (suc i) s = ap (λ xs. s ∷ xs) (set-replicate n i s)
+
+slice_get-replicate : {X : Type 0} (n i : ℕ) (x : X) → i < n → slice_get (replicate n x) i ≡ Some x
+slice_get-replicate n i x l =
+    slice_get-get_or (replicate n x) i x (omega (arith, l, length-replicate n x)) ∙ ap Some (get_or-replicate n i x x l)
+
+none_moves : (group all same : Bool) → same ≡ true → (group && (not same && all)) ≡ false
+none_moves false all same is = refl
+none_moves true all true is = refl
+none_moves true all false is = absurd (false≢true is)
+
+-- of several shots that were in one state, one has moved
+one_moved : (n i s next : ℕ) → nat_lt 1 n ≡ true → n ≤ 16 → (next ≡ s → ⊥) → list_all (λ x. x == next) (take n (slice_set (replicate 16 s) i next)) ≡ false
+one_moved n i s next several few differ =
+    let moved_one : List ℕ = slice_set (replicate 16 s) i next in
+    let j : ℕ = another i in
+    let two : 1 < n = ltb-true 1 n several in
+    let low : j < 2 = (another-is i).1 in
+    let long : length (take n moved_one) ≡ n = omega (arith, few, length-take n moved_one, length-set (replicate 16 s) i next, length-replicate 16 s) in
+    let stays : get_or (take n moved_one) j 0 ≡ s =
+    (get_or-take n moved_one j 0 (omega (arith, two, low)) ∙ get_or-set_other (replicate 16 s) i j next 0 (another-is i).0 ∙ get_or-replicate 16 j s 0 (omega (arith, low))) in
+    list_all_at (λ x. x == next) (take n moved_one) j 0 (omega (arith, two, low, long))
+    (ap (λ x. x == next) stays ∙ ne_eqb s next (λ same. differ (sym same)))
+
+module _ (b : BankSettings) (limits : IsWithinLimits (kinds.Bank b)) where
+  bank_shape : (shots : List ℕ) → length shots ≡ 16 → All (λ s. s ≤ b.last_state) shots → HasBankShape b (bank_slot shots)
+  bank_shape shots long within = (sym limits.2, long, within)
+
+  -- a hit of a shot in this state
+  bank_hit : (i s : ℕ) (shots : List ℕ) → nat_lt i b.shots ≡ true → slice_get shots i ≡ Some s
+      → (bank.slot_step b (acts.Hit i) (bank_slot shots)).1 ≡ (bank.hit b i s (bank_slot shots)).1
+  bank_hit i s shots within is =
+      let i-low : i < b.shots = ltb-true i b.shots within in
+      let on : slice_get (replicate 16 true) i ≡ Some true = slice_get-replicate 16 i true (omega (arith, limits.0, i-low)) in
+      if_true (nat_lt i b.shots) (bank.hit_where b i (slice_get (replicate 16 true) i) (slice_get shots i) (bank_slot shots)) (bank_slot shots, []) within
+      ∙ ap (λ enabled. (bank.hit_where b i enabled (slice_get shots i) (bank_slot shots)).1) on
+      ∙ ap (λ state. (bank.hit_where b i (Some true) state (bank_slot shots)).1) is
+
+  -- a shot is hit in this state, as all others are in
+  stays-incomplete : (i s : ℕ) → (can_complete b s ≡ false) ⊎ (nat_lt 1 b.shots ≡ true) → b.advance_on_hit ≡ true
+      → bank.is_complete b s (bank.gone_on b i s (replicate 16 s)) ≡ false
+  stays-incomplete i s (inl cannot) on =
+      let next = bank.next_state b s in
+      not_complete b.group b.advance_on_hit (not (next == s)) (bank.are_all_in b next (bank.gone_on b i s (replicate 16 s))) cannot on
+  stays-incomplete i s (inr several) on =
+      let next = bank.next_state b s in
+      let all = bank.are_all_in b next (bank.gone_on b i s (replicate 16 s)) in
+      elim (cases_Bool (next == s)) [
+        | inl same ↦ none_moves b.group all (next == s) same
+        | inr other ↦ none_differs b.group (not (next == s)) all (one_moved b.shots i s next several limits.0 (eqb-false next s other))
+      ]
+
+  going_on-comes : (i s : ℕ) → nat_lt i b.shots ≡ true → s ≤ b.last_state → (can_complete b s ≡ false) ⊎ (nat_lt 1 b.shots ≡ true)
+      → IsAnswer (kinds.Bank b) (calls.Act (acts.Hit i)) (bank.hit_lists b i s)
+  going_on-comes i s within low how =
+      let i-low : i < b.shots = ltb-true i b.shots within in
+      let shots : List ℕ = replicate 16 s in
+      let gone : List ℕ = bank.gone_on b i s shots in
+      bank_answer b (acts.Hit i) (bank.hit_lists b i s) shots (bank_shape shots refl (All-replicate (λ x. x ≤ b.last_state) 16 s low))
+      (bank_hit i s shots within (slice_get-replicate 16 i s (omega (arith, limits.0, i-low)))
+      ∙ quiet_hit (record (bank_slot shots) { states = gone }) (bank_slot shots) b.advance_on_hit (bank.is_complete b s gone) (bank.hit_lists b i s)
+      (bank.group_complete b (bank.next_state b s) ∷ []) (stays-incomplete i s how))
+
+  completing-comes : (i s : ℕ) → nat_lt i b.shots ≡ true → s ≤ b.last_state → can_complete b s ≡ true
+      → IsAnswer (kinds.Bank b) (calls.Act (acts.Hit i)) (hit_completing b i s)
+  completing-comes i s within low can =
+      let i-low : i < b.shots = ltb-true i b.shots within in
+      let next : ℕ = bank.next_state b s in
+      let others : List ℕ = replicate 16 next in
+      let shots : List ℕ = slice_set others i s in
+      let there : i < length others = omega (arith, limits.0, i-low, length-replicate 16 next) in
+      let is : slice_get shots i ≡ Some s =
+      (slice_get-get_or shots i s (omega (arith, there, length-set others i s)) ∙ ap Some (get_or-set_same others i s s there)) in
+      let gone : bank.gone_on b i s shots ≡ others = set-set others i s next ∙ set-replicate 16 i next in
+      let all : bank.are_all_in b next (bank.gone_on b i s shots) ≡ true =
+      (ap (λ xs. list_all (λ x. x == next) (take b.shots xs)) gone ∙ ap (list_all (λ x. x == next)) (take-replicate b.shots 16 next limits.0)
+      ∙ all_same b.shots next) in
+      let of_group = and_parts b.group (b.advance_on_hit && not (next == s)) can in
+      let moves = and_parts b.advance_on_hit (not (next == s)) of_group.1 in
+      bank_answer b (acts.Hit i) (hit_completing b i s) shots
+      (bank_shape shots (length-set others i s) (All-set (λ x. x ≤ b.last_state) others i s low (All-replicate (λ x. x ≤ b.last_state) 16 next (next-within b s low))))
+      (bank_hit i s shots within is
+      ∙ full_hit (record (bank_slot shots) { states = bank.gone_on b i s shots }) (bank_slot shots) b.advance_on_hit
+      (bank.is_complete b s (bank.gone_on b i s shots)) (bank.hit_lists b i s) (bank.group_complete b next ∷ []) moves.0
+      (and_from b.group (not (next == s) && bank.are_all_in b next (bank.gone_on b i s shots)) of_group.0
+      (and_from (not (next == s)) (bank.are_all_in b next (bank.gone_on b i s shots)) moves.1 all)))
+
+  hit_in-comes : (i s : ℕ) → nat_lt i b.shots ≡ true → s ≤ b.last_state → All (IsAnswer (kinds.Bank b) (calls.Act (acts.Hit i))) (of_hit_in b i s)
+  hit_in-comes i s within low =
+      let Answer : List ℕ → Type 0 = IsAnswer (kinds.Bank b) (calls.Act (acts.Hit i)) in
+      by_test Answer (can_complete b s) (only_if (nat_lt 1 b.shots) (bank.hit_lists b i s ∷ []) ++ hit_completing b i s ∷ []) (bank.hit_lists b i s ∷ [])
+      (λ can. All-append Answer (only_if (nat_lt 1 b.shots) (bank.hit_lists b i s ∷ [])) (hit_completing b i s ∷ [])
+      (all_if Answer (nat_lt 1 b.shots) (bank.hit_lists b i s ∷ []) (λ several. one Answer (bank.hit_lists b i s) (going_on-comes i s within low (inr several))))
+      (one Answer (hit_completing b i s) (completing-comes i s within low can)))
+      (λ cannot. one Answer (bank.hit_lists b i s) (going_on-comes i s within low (inl cannot)))
+
+  bank_acts : (act : Act) → All (IsAnswer (kinds.Bank b) (calls.Act act)) (of_bank b act)
+  bank_acts (acts.Hit i) =
+      let Answer : List ℕ → Type 0 = IsAnswer (kinds.Bank b) (calls.Act (acts.Hit i)) in
+      All-cons Answer [] (only_if (nat_lt i b.shots) (of_hit b i)) (bank_by_nobody b (acts.Hit i))
+      (all_if Answer (nat_lt i b.shots) (of_hit b i)
+      (λ within. All-flat_map_range Answer (of_hit_in b i) 0 (state_count b) (λ s l. hit_in-comes i s within (omega (arith, l)))))
+  bank_acts act = one (IsAnswer (kinds.Bank b) (calls.Act act)) [] (bank_by_nobody b act)
+
 -- ---- flippers and autofire coils
 
 switch_comes : (settings : Settings) (act : Act) (i list : ℕ) → IsAnswer settings (calls.Act act) [] → ((i == 0) ≡ true → IsAnswer settings (calls.Act act) (list ∷ [])) → All (IsAnswer settings (calls.Act act)) (of_switch i list)
@@ -423,6 +606,10 @@ outcomes_come_about (kinds.Sequence q) calls.ModeStart limits = one (IsAnswer (k
 outcomes_come_about (kinds.Sequence q) calls.ModeStop limits = one (IsAnswer (kinds.Sequence q) calls.ModeStop) [] (first_answer (kinds.Sequence q) calls.ModeStop [] tt refl)
 outcomes_come_about (kinds.Sequence q) calls.Fire limits = none (IsAnswer (kinds.Sequence q) calls.Fire)
 outcomes_come_about (kinds.Timer t) call limits = timer_come_about t call limits.1
+outcomes_come_about (kinds.Bank b) (calls.Act act) limits = bank_acts b limits act
+outcomes_come_about (kinds.Bank b) calls.ModeStart limits = one (IsAnswer (kinds.Bank b) calls.ModeStart) [] (first_answer (kinds.Bank b) calls.ModeStart [] tt refl)
+outcomes_come_about (kinds.Bank b) calls.ModeStop limits = one (IsAnswer (kinds.Bank b) calls.ModeStop) [] (first_answer (kinds.Bank b) calls.ModeStop [] tt refl)
+outcomes_come_about (kinds.Bank b) calls.Fire limits = none (IsAnswer (kinds.Bank b) calls.Fire)
 outcomes_come_about kinds.Flipper (calls.Act act) limits = flipper_acts act
 outcomes_come_about kinds.Flipper calls.ModeStart limits = one (IsAnswer kinds.Flipper calls.ModeStart) [] (first_answer kinds.Flipper calls.ModeStart [] tt refl)
 outcomes_come_about kinds.Flipper calls.ModeStop limits = one (IsAnswer kinds.Flipper calls.ModeStop) [] (first_answer kinds.Flipper calls.ModeStop [] tt refl)

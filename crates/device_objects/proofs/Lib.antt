@@ -1,5 +1,6 @@
 pub mod Marks
 pub mod Slots
+pub mod Flat
 pub mod Shapes
 pub mod Answered
 pub mod Attained

@@ -1,10 +1,13 @@
--- Each effect list that a device answers is one of its row, whatever its state is.
-use Rattle.std.proofs.Common.{ℕ, suc, nat_lt, ◌==◌, ◌<◌, ◌&&◌, Bool, true, false, Option, None, Some, List, [], ◌∷◌, if◌then◌else◌, slice_get, slice_set, pos, ◌+ℤ◌, ◌-ℤ◌, not, arith}
+-- Each effect list that a device answers is one of its row.
+use Rattle.std.proofs.Common.{rules, ◌≡◌, ℕ, suc, ◌+◌, ◌*◌, nat_lt, ◌==◌, ◌<◌, ◌≤◌, ◌&&◌, Bool, true, false, Option, None, Some, List, [], ◌∷◌, ◌++◌, if◌then◌else◌, slice_get, slice_set, refl, pos, ◌+ℤ◌, ◌-ℤ◌, not, arith}
 use Rattle.std.specs.List.{All}
-use Rattle.std.proofs.lemmas.List.Elements.{All-nil, All-cons}
-use Rattle.plan_tables.specs.Devices.{list_count}
+use Rattle.std.proofs.Math.Nat.{mul-le-mul_left}
+use Rattle.std.proofs.lemmas.Bool.{and_parts, ltb-true, false≢true}
+use Rattle.std.proofs.lemmas.List.Elements.{All-nil, All-cons, All-append, All-contains}
+use Rattle.plan_tables.specs.Devices.{state_count, list_count}
 use Rattle.plan_tables.specs.declared.devices.Act.{Act}
 use Rattle.plan_tables.specs.declared.devices.Act.TheVariants as acts
+use Rattle.plan_tables.specs.declared.devices.BankSettings.{BankSettings}
 use Rattle.plan_tables.specs.declared.devices.CounterSettings.{CounterSettings}
 use Rattle.plan_tables.specs.declared.devices.StepSettings.{StepSettings}
 use Rattle.plan_tables.specs.declared.devices.TimerSettings.{TimerSettings}
@@ -16,6 +19,7 @@ use Rattle.device_objects.specs.declared.state.CounterSlot.{CounterSlot}
 use Rattle.device_objects.specs.declared.state.AccrualSlot.{AccrualSlot}
 use Rattle.device_objects.specs.declared.state.SequenceSlot.{SequenceSlot}
 use Rattle.device_objects.specs.declared.state.TimerState.{TimerState}
+use Rattle.device_objects.specs.declared.state.BankSlot.{BankSlot}
 use Rattle.device_objects.specs.declared.state.FlipperState.{FlipperState}
 use Rattle.device_objects.specs.declared.state.AutofireState.{AutofireState}
 use Rattle.device_objects.specs.declared.state.DeviceState.{DeviceState}
@@ -29,7 +33,13 @@ use Rattle.device_objects.specs.Sequence as sequence
 use Rattle.device_objects.specs.Timer as timer
 use Rattle.device_objects.specs.Flipper as flipper
 use Rattle.device_objects.specs.Autofire as autofire
+use Rattle.device_objects.specs.Bank.{next_state, shot_hit, group_hit, group_complete, hit_lists, slot_step, bank_step}
 use Rattle.device_objects.specs.DeviceStep.{device_step}
+use Rattle.device_objects.specs.Laws.{HasShape, OutcomesAreOfTheRow}
+use Rattle.device_objects.specs.Outcomes.{silent, only_if, can_complete, hit_completing, of_hit_in, of_hit, of_bank, outcomes}
+use Rattle.device_objects.proofs.Answered.{answers_are_outcomes}
+use Rattle.device_objects.proofs.Flat.{All-flat_map_range}
+use Rattle.device_objects.proofs.Shapes.{next-within}
 
 -- ---- lists
 
@@ -180,13 +190,112 @@ autofire-below : (call : Call) (s : AutofireState) → AreBelow 1 (autofire.auto
 autofire-below (calls.Act act) s = autofire-act act s
 autofire-below _ s = none 1
 
+-- ---- banks
+
+-- one of the lists of the shots, of the hits and of the completions of a group, of n shots with c states
+shot-below : (i n c m s : ℕ) → i < n → s < c → i * c + s < c * (n + m)
+shot-below i n c m s l low = let more : c * suc i ≤ c * n = mul-le-mul_left c l in omega (arith, more, low)
+
+group-below : (n c s : ℕ) → s < c → n * c + s < c * (n + 2)
+group-below n c s low = omega (arith, low)
+
+complete-below : (n c s : ℕ) → s < c → suc n * c + s < c * (n + 2)
+complete-below n c s low = omega (arith, low)
+
+-- answers of so many lists, each one of n
+abbrev AreAllBelow : ℕ → List (List ℕ) → Type 0
+AreAllBelow n answers = All (AreBelow n) answers
+
+only : (n : ℕ) (lists : List ℕ) → AreBelow n lists → AreAllBelow n (lists ∷ [])
+only n lists h = All-cons (AreBelow n) lists [] h (All-nil (AreBelow n))
+
+below_if : (n : ℕ) (holds : Bool) (answers : List (List ℕ)) → (holds ≡ true → AreAllBelow n answers) → AreAllBelow n (only_if holds answers)
+below_if n true answers all = all refl
+below_if n false answers all = All-nil (AreBelow n)
+
+all_one_of : (n : ℕ) (test : Bool) (xs ys : List (List ℕ)) → (test ≡ true → AreAllBelow n xs) → AreAllBelow n ys
+    → AreAllBelow n (if test then xs else ys)
+all_one_of n true xs ys first second = first refl
+all_one_of n false xs ys first second = second
+
+-- the lists of a group, where the bank is one
+group_if : (group : Bool) (n c s : ℕ) → s < c → AreBelow (c * (n + (if group then 2 else 0))) (if group then (n * c + s) ∷ [] else [])
+group_if true n c s low = one (c * (n + 2)) (n * c + s) (group-below n c s low)
+group_if false n c s low = none (c * (n + 0))
+
+complete_if : (group : Bool) (n c s : ℕ) → group ≡ true → s < c → AreBelow (c * (n + (if group then 2 else 0))) ((suc n * c + s) ∷ [])
+complete_if true n c s is low = one (c * (n + 2)) (suc n * c + s) (complete-below n c s low)
+complete_if false n c s is low = absurd (false≢true is)
+
+module _ (b : BankSettings) where
+  abbrev count : ℕ
+  count = list_count (kinds.Bank b)
+
+  abbrev of_group : ℕ
+  of_group = if b.group then 2 else 0
+
+  hits-below : (i s : ℕ) → i < b.shots → s ≤ b.last_state → AreBelow count (hit_lists b i s)
+  hits-below i s within low =
+      more count (shot_hit b i s) (if b.group then group_hit b s ∷ [] else [])
+      (shot-below i b.shots (state_count b) of_group s within (omega (arith, low)))
+      (group_if b.group b.shots (state_count b) s (omega (arith, low)))
+
+  completing-below : (i s : ℕ) → i < b.shots → s ≤ b.last_state → b.group ≡ true → AreBelow count (hit_completing b i s)
+  completing-below i s within low is =
+      let next-low : next_state b s ≤ b.last_state = next-within b s low in
+      All-append (λ k. k < count) (hit_lists b i s) (group_complete b (next_state b s) ∷ []) (hits-below i s within low)
+      (complete_if b.group b.shots (state_count b) (next_state b s) is (omega (arith, next-low)))
+
+  hit_in-below : (i s : ℕ) → i < b.shots → s ≤ b.last_state → AreAllBelow count (of_hit_in b i s)
+  hit_in-below i s within low =
+      let hits : AreAllBelow count (hit_lists b i s ∷ []) = only count (hit_lists b i s) (hits-below i s within low) in
+      all_one_of count (can_complete b s) (only_if (nat_lt 1 b.shots) (hit_lists b i s ∷ []) ++ hit_completing b i s ∷ []) (hit_lists b i s ∷ [])
+      (λ can. All-append (AreBelow count) (only_if (nat_lt 1 b.shots) (hit_lists b i s ∷ [])) (hit_completing b i s ∷ [])
+      (below_if count (nat_lt 1 b.shots) (hit_lists b i s ∷ []) (λ several. hits))
+      (only count (hit_completing b i s) (completing-below i s within low (and_parts b.group _ can).0)))
+      hits
+
+  bank-below : (act : Act) → AreAllBelow count (of_bank b act)
+  bank-below (acts.Hit i) =
+      All-cons (AreBelow count) [] (only_if (nat_lt i b.shots) (of_hit b i)) (none count)
+      (below_if count (nat_lt i b.shots) (of_hit b i)
+      (λ is. All-flat_map_range (AreBelow count) (of_hit_in b i) 0 (state_count b)
+      (λ s low. hit_in-below i s (ltb-true i b.shots is) (omega (arith, low)))))
+  bank-below _ = only count [] (none count)
+
+  bank-all_below : (call : Call) → AreAllBelow count (outcomes (kinds.Bank b) call)
+  bank-all_below calls.ModeStart = only count [] (none count)
+  bank-all_below calls.ModeStop = only count [] (none count)
+  bank-all_below calls.Fire = All-nil (AreBelow count)
+  bank-all_below (calls.Act act) = bank-below act
+
+  bank-lists : (call : Call) (now : ℕ) (world : World) (slots : List BankSlot) → HasShape (kinds.Bank b) (states.Bank slots)
+      → AreBelow count (bank_step b call world slots).1
+  bank-lists (calls.Act act) now world slots shape =
+      All-contains (AreBelow count) (of_bank b act) (bank_step b (calls.Act act) world slots).1 (bank-below act)
+      (answers_are_outcomes (kinds.Bank b) (calls.Act act) now world (states.Bank slots) shape tt)
+  bank-lists _ now world slots shape = none count
+
 -- ---- every kind
 
-pub lists_are_of_the_row : (settings : Settings) (call : Call) (now : ℕ) (world : World) (state : DeviceState) → All (λ k. k < list_count settings) (device_step settings call now world state).1
-lists_are_of_the_row (kinds.Counter c) call now world (states.Counter slots) = counter-below c call now world slots
-lists_are_of_the_row (kinds.Accrual a) call now world (states.Accrual slots) = accrual-below a call world slots
-lists_are_of_the_row (kinds.Sequence q) call now world (states.Sequence slots) = sequence-below q call world slots
-lists_are_of_the_row (kinds.Timer t) call now world (states.Timer s) = timer-below t call now s
-lists_are_of_the_row kinds.Flipper call now world (states.Flipper s) = flipper-below call s
-lists_are_of_the_row kinds.Autofire call now world (states.Autofire s) = autofire-below call s
-lists_are_of_the_row settings call now world state = none (list_count settings)
+-- each outcome of a call
+pub outcomes_of_row : OutcomesAreOfTheRow
+outcomes_of_row (kinds.Counter c) call = search rules
+outcomes_of_row (kinds.Accrual a) call = search rules
+outcomes_of_row (kinds.Sequence q) call = search rules
+outcomes_of_row (kinds.Timer t) call = search rules
+outcomes_of_row (kinds.Bank b) call = bank-all_below b call
+outcomes_of_row kinds.Flipper call = search rules
+outcomes_of_row kinds.Autofire call = search rules
+
+-- and what a device of the row's shape answers
+pub lists_are_of_the_row : (settings : Settings) (call : Call) (now : ℕ) (world : World) (state : DeviceState) → HasShape settings state
+    → All (λ k. k < list_count settings) (device_step settings call now world state).1
+lists_are_of_the_row (kinds.Counter c) call now world (states.Counter slots) shape = counter-below c call now world slots
+lists_are_of_the_row (kinds.Accrual a) call now world (states.Accrual slots) shape = accrual-below a call world slots
+lists_are_of_the_row (kinds.Sequence q) call now world (states.Sequence slots) shape = sequence-below q call world slots
+lists_are_of_the_row (kinds.Timer t) call now world (states.Timer s) shape = timer-below t call now s
+lists_are_of_the_row (kinds.Bank b) call now world (states.Bank slots) shape = bank-lists b call now world slots shape
+lists_are_of_the_row kinds.Flipper call now world (states.Flipper s) shape = flipper-below call s
+lists_are_of_the_row kinds.Autofire call now world (states.Autofire s) shape = autofire-below call s
+lists_are_of_the_row settings call now world state shape = none (list_count settings)

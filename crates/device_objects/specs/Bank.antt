@@ -11,8 +11,8 @@ use Rattle.device_objects.specs.declared.state.BankSlot.{BankSlot}
 use Rattle.device_objects.specs.declared.state.World.{World}
 use Rattle.device_objects.specs.Slots.{slot_in_use, is_of_other_game, step_in_use}
 
--- The lists of a bank: for each shot one in each state, by the shot's number and then the state's; then those of the group
--- when one of its shots is hit in a state; then those of the group when all its shots have come to a state.
+-- The lists of a bank: for each shot one in each state, by the shot's number and then the state's; then those of the
+-- group when one of its shots is hit in a state; then those of the group when all its shots have come to a state.
 abbrev pub shot_hit : BankSettings → ℕ → ℕ → ℕ
 shot_hit b i state = i * state_count b + state
 
@@ -57,9 +57,10 @@ complete_lists b state states = if is_complete b state states then group_complet
 -- a shot is hit in this state
 abbrev pub hit : BankSettings → ℕ → ℕ → BankSlot → BankSlot × List ℕ
 hit b i state slot =
-    if b.advance_on_hit then
-      (record slot { states = gone_on b i state slot.states },
-       hit_lists b i state ++ complete_lists b state (gone_on b i state slot.states))
+    if b.advance_on_hit then (
+      record slot { states = gone_on b i state slot.states },
+      hit_lists b i state ++ complete_lists b state (gone_on b i state slot.states),
+    )
     else (slot, hit_lists b i state)
 
 -- a shot of this number in this state is hit; without such a shot, or where it is disabled, nothing is done
@@ -86,7 +87,8 @@ slot_step b (acts.Hit i) slot =
 slot_step b (acts.Advance i) slot = (of_shot b i (advance_where b i (slice_get slot.states i) slot) slot, [])
 slot_step b (acts.ResetShot i) slot = (of_shot b i (record slot { states = slice_set slot.states i 0 }) slot, [])
 slot_step b (acts.EnableShot i) slot = (of_shot b i (record slot { enabled = slice_set slot.enabled i true }) slot, [])
-slot_step b (acts.DisableShot i) slot = (of_shot b i (record slot { enabled = slice_set slot.enabled i false }) slot, [])
+slot_step b (acts.DisableShot i) slot =
+    (of_shot b i (record slot { enabled = slice_set slot.enabled i false }) slot, [])
 slot_step b acts.Reset slot = (record slot { states = replicate 16 0 }, [])
 slot_step b acts.RotateRight slot = (record slot { states = turned b.shots (b.shots - 1) slot.states }, [])
 slot_step b acts.RotateLeft slot = (record slot { states = turned b.shots 1 slot.states }, [])

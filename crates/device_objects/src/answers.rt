@@ -1,20 +1,27 @@
 //! The lists that a call of a device can answer, whatever its state.
 
 ghost use Rattle.std.specs.Prelude.{◌≡◌, ◌+◌, ◌<◌, ◌≤◌, [], ◌∷◌, ◌++◌, length, map, is_some};
+ghost use Rattle.plan_tables.specs.Devices.{IsWithinLimits};
+ghost use Rattle.plan_tables.specs.declared.devices.Settings.TheVariants as kinds;
 ghost use Rattle.arrayvec.specs.ArrayVec.{array_vec_len};
 ghost use Rattle.device_objects.specs.declared.device.Call.TheVariants as calls;
-ghost use Rattle.device_objects.specs.Outcomes.{of_accrual, of_autofire, of_block, of_change, of_counter, of_flipper, of_sequence, of_switch, of_timer, of_timer_act, only_if, outcomes, resetting, silent, timer_completing};
+ghost use Rattle.device_objects.specs.Outcomes.{can_complete, hit_completing, of_accrual, of_autofire, of_bank, of_block, of_change, of_counter, of_flipper, of_hit, of_hit_in, of_sequence, of_switch, of_timer, of_timer_act, only_if, outcomes, resetting, silent, timer_completing};
 
+use crate::bank::{group_complete, hit_lists, next_state};
 use crate::device::{Call, Outcome};
 use crate::values::{clamped, is_at_end};
 use arrayvec::ArrayVec;
-use plan_tables::{Act, BlockSettings, CounterSettings, Settings, StepSettings, TimerSettings};
+use plan_tables::{
+    Act, BankSettings, BlockSettings, CounterSettings, Settings, StepSettings, TimerSettings,
+};
 
-/// What a call of a device can answer, whatever the device's state.
-pub type Outcomes = ArrayVec<Outcome, 4>;
+/// What a call of a device can answer, whatever the device's state: most of a shot that is hit, which
+/// answers nothing or, in each of 16 states, completes its group or not.
+pub type Outcomes = ArrayVec<Outcome, 33>;
 
 /// What a call of a device of these settings can answer.
 pub fn outcomes(settings: &Settings, call: Call) -> Outcomes
+    requires { IsWithinLimits settings.now }
     ensures { map (λ o. o.items) result.items ≡ outcomes settings.now call }
 {
     match (settings, call) {
@@ -22,6 +29,7 @@ pub fn outcomes(settings: &Settings, call: Call) -> Outcomes
         (Settings::Accrual(accrual), Call::Act(act)) => of_accrual(accrual, act),
         (Settings::Sequence(sequence), Call::Act(act)) => of_sequence(sequence, act),
         (Settings::Timer(timer), call) => of_timer(timer, call),
+        (Settings::Bank(bank), Call::Act(act)) => of_bank(bank, act),
         (Settings::Flipper, Call::Act(act)) => of_flipper(act),
         (Settings::Autofire, Call::Act(act)) => of_autofire(act),
         (_, Call::Fire) => none(),
@@ -38,7 +46,7 @@ fn none() -> Outcomes
 
 /// One answer more.
 fn with(all: Outcomes, lists: &[u16]) -> Outcomes
-    requires room { array_vec_len all < 4 }
+    requires room { array_vec_len all < 33 }
     requires short { length lists.now ≤ 4 }
     ensures answers { map (λ o. o.items) result.items ≡ map (λ o. o.items) all.items ++ lists.now ∷ [] }
     ensures count { array_vec_len result ≡ array_vec_len all + 1 }
@@ -52,7 +60,7 @@ fn with(all: Outcomes, lists: &[u16]) -> Outcomes
 
 /// One answer more, if this holds.
 fn with_if(all: Outcomes, holds: bool, lists: &[u16]) -> Outcomes
-    requires room { array_vec_len all < 4 }
+    requires room { array_vec_len all < 33 }
     requires short { length lists.now ≤ 4 }
     ensures answers { map (λ o. o.items) result.items ≡ map (λ o. o.items) all.items ++ only_if holds (lists.now ∷ []) }
     ensures count { array_vec_len result ≤ array_vec_len all + 1 }
@@ -170,6 +178,64 @@ fn of_timer(timer: &TimerSettings, call: Call) -> Outcomes
         Call::ModeStart | Call::ModeStop => silent(),
         Call::Fire => of_tick(timer),
         Call::Act(act) => of_timer_act(timer, act),
+    }
+}
+
+/// Whether a hit of a shot in this state moves it, and so can complete its group.
+fn can_complete(bank: &BankSettings, state: u8) -> bool
+    ensures { result ≡ can_complete bank.now state }
+{
+    bank.group && bank.advance_on_hit && next_state(bank, state) != state
+}
+
+/// The lists of a hit that completes the group.
+fn hit_completing(bank: &BankSettings, shot: usize, state: u8) -> Outcome
+    requires limits { IsWithinLimits (kinds.Bank bank.now) }
+    requires shot { shot < bank.now.shots }
+    ensures lists { result.items ≡ hit_completing bank.now shot state }
+    ensures count { array_vec_len result ≤ 3 }
+{
+    let mut lists = hit_lists(bank, shot, state);
+    lists.push(group_complete(bank, next_state(bank, state)));
+    lists
+}
+
+/// A shot that is hit in this state. The only shot of a group always completes it when it moves.
+fn with_hit_in(all: Outcomes, bank: &BankSettings, shot: usize, state: u8) -> Outcomes
+    requires room { array_vec_len all + 2 ≤ 33 }
+    requires limits { IsWithinLimits (kinds.Bank bank.now) }
+    requires shot { shot < bank.now.shots }
+    ensures answers { map (λ o. o.items) result.items ≡ map (λ o. o.items) all.items ++ of_hit_in bank.now shot state }
+    ensures count { array_vec_len result ≤ array_vec_len all + 2 }
+{
+    let hit = hit_lists(bank, shot, state);
+    if !can_complete(bank, state) {
+        return with(all, &hit);
+    }
+    let all = with_if(all, 1 < bank.shots, &hit);
+    with(all, &hit_completing(bank, shot, state))
+}
+
+/// A shot that is hit, in whatever state; or nothing, where it is disabled.
+fn of_hit(bank: &BankSettings, shot: usize) -> Outcomes
+    requires limits { IsWithinLimits (kinds.Bank bank.now) }
+    requires shot { shot < bank.now.shots }
+    ensures { map (λ o. o.items) result.items ≡ [] ∷ of_hit bank.now shot }
+{
+    let mut all = silent();
+    for state in 0..bank.last_state + 1 {
+        all = with_hit_in(all, bank, shot, state);
+    }
+    all
+}
+
+fn of_bank(bank: &BankSettings, act: Act) -> Outcomes
+    requires { IsWithinLimits (kinds.Bank bank.now) }
+    ensures { map (λ o. o.items) result.items ≡ of_bank bank.now act }
+{
+    match act {
+        Act::Hit(shot) if shot < usize::from(bank.shots) => of_hit(bank, shot),
+        _ => silent(),
     }
 }
 

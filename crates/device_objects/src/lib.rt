@@ -2,6 +2,7 @@
 #![tactic(auto)]
 
 pub mod answers;
+pub mod bank;
 pub mod boxed;
 pub mod device;
 pub mod first;
@@ -15,6 +16,6 @@ pub use device::{Call, Device, Outcome};
 pub use first::first_state;
 pub use same::{is_same_row, is_same_state};
 pub use state::{
-    AccrualSlot, AutofireState, CounterSlot, DeviceState, FlipperState, SequenceSlot, TimerState,
-    World,
+    AccrualSlot, AutofireState, BankSlot, CounterSlot, DeviceState, FlipperState, SequenceSlot,
+    TimerState, World,
 };

@@ -3,11 +3,12 @@
 ghost use Rattle.std.specs.Prelude.{◌≡◌, ◌↔◌, IsTrue};
 
 use crate::state::{
-    AccrualSlot, AutofireState, CounterSlot, DeviceState, FlipperState, SequenceSlot, TimerState,
+    AccrualSlot, AutofireState, BankSlot, CounterSlot, DeviceState, FlipperState, SequenceSlot,
+    TimerState,
 };
 use plan_tables::{
-    BlockSettings, CounterSettings, DeviceRow, Direction, Owner, Settings, StepSettings,
-    TimerSettings,
+    BankSettings, BlockSettings, CounterSettings, DeviceRow, Direction, Owner, Settings,
+    StepSettings, TimerSettings,
 };
 
 /// Whether two rows are the same.
@@ -28,6 +29,7 @@ pub fn is_same_state(a: &DeviceState, b: &DeviceState) -> bool
         (DeviceState::Accrual(a), DeviceState::Accrual(b)) => are_same_accruals(a, b),
         (DeviceState::Sequence(a), DeviceState::Sequence(b)) => are_same_sequences(a, b),
         (DeviceState::Timer(a), DeviceState::Timer(b)) => is_same_timer(a, b),
+        (DeviceState::Bank(a), DeviceState::Bank(b)) => are_same_banks(a, b),
         (DeviceState::Flipper(a), DeviceState::Flipper(b)) => is_same_flipper(a, b),
         (DeviceState::Autofire(a), DeviceState::Autofire(b)) => is_same_autofire(a, b),
         _ => false,
@@ -91,6 +93,17 @@ fn is_same_timer_kind(a: &TimerSettings, b: &TimerSettings) -> bool
         && a.restart == b.restart
 }
 
+fn is_same_bank_kind(a: &BankSettings, b: &BankSettings) -> bool
+    ensures { IsTrue result ↔ (a.now ≡ b.now) }
+{
+    a.shots == b.shots
+        && are_same_marks(&a.enabled, &b.enabled)
+        && a.last_state == b.last_state
+        && a.advance_on_hit == b.advance_on_hit
+        && a.loops == b.loops
+        && a.group == b.group
+}
+
 fn is_same_settings(a: &Settings, b: &Settings) -> bool
     ensures { IsTrue result ↔ (a.now ≡ b.now) }
 {
@@ -99,6 +112,7 @@ fn is_same_settings(a: &Settings, b: &Settings) -> bool
         (Settings::Accrual(a), Settings::Accrual(b)) => is_same_step_kind(a, b),
         (Settings::Sequence(a), Settings::Sequence(b)) => is_same_step_kind(a, b),
         (Settings::Timer(a), Settings::Timer(b)) => is_same_timer_kind(a, b),
+        (Settings::Bank(a), Settings::Bank(b)) => is_same_bank_kind(a, b),
         (Settings::Flipper, Settings::Flipper) => true,
         (Settings::Autofire, Settings::Autofire) => true,
         _ => false,
@@ -133,6 +147,20 @@ fn is_same_timer(a: &TimerState, b: &TimerState) -> bool
     ensures { IsTrue result ↔ (a.now ≡ b.now) }
 {
     a.value == b.value && a.due == b.due
+}
+
+fn is_same_bank(a: &BankSlot, b: &BankSlot) -> bool
+    ensures { IsTrue result ↔ (a.now ≡ b.now) }
+{
+    a.game == b.game
+        && are_same_marks(&a.enabled, &b.enabled)
+        && are_same_shots(&a.states, &b.states)
+}
+
+fn are_same_shots(a: &[u8; 16], b: &[u8; 16]) -> bool
+    ensures { IsTrue result ↔ (a.now ≡ b.now) }
+{
+    *a == *b
 }
 
 fn is_same_flipper(a: &FlipperState, b: &FlipperState) -> bool
@@ -172,4 +200,13 @@ fn are_same_sequences(a: &[SequenceSlot; 4], b: &[SequenceSlot; 4]) -> bool
         && is_same_sequence(&a[1], &b[1])
         && is_same_sequence(&a[2], &b[2])
         && is_same_sequence(&a[3], &b[3])
+}
+
+fn are_same_banks(a: &[BankSlot; 4], b: &[BankSlot; 4]) -> bool
+    ensures { IsTrue result ↔ (a.now ≡ b.now) }
+{
+    is_same_bank(&a[0], &b[0])
+        && is_same_bank(&a[1], &b[1])
+        && is_same_bank(&a[2], &b[2])
+        && is_same_bank(&a[3], &b[3])
 }

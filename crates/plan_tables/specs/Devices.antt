@@ -12,8 +12,8 @@ IsNumberWithin n = (neg_ℤ (pos 1000000000) ≤ℤ n) × (n ≤ℤ pos 10000000
 abbrev pub IsEndWithin : Option ℤ → Type 0
 IsEndWithin end = IfSome end IsNumberWithin
 
--- At most 16 steps, shots and states, a flag for each of 16 shots, at least a millisecond between the ticks of a timer, and
--- ends that a value can pass.
+-- At most 16 steps, shots and states, a flag for each of 16 shots, at least a millisecond between the ticks of a timer,
+-- and ends that a value can pass.
 abbrev pub IsWithinLimits : Settings → Type 0
 IsWithinLimits (Counter c) = IsEndWithin c.complete
 IsWithinLimits (Accrual a) = a.steps ≤ 16
@@ -31,8 +31,8 @@ state_count b = suc b.last_state
 abbrev pub bank_list_count : BankSettings → ℕ
 bank_list_count b = state_count b * (b.shots + (if b.group then 2 else 0))
 
--- how many effect lists a row has: three of a block, five of a timer, those of a bank, two of a flipper, one of an autofire
--- coil
+-- how many effect lists a row has: three of a block, five of a timer, those of a bank, two of a flipper, and one of an
+-- autofire coil
 abbrev pub list_count : Settings → ℕ
 list_count (Counter c) = 3
 list_count (Accrual a) = 3

@@ -1,0 +1,7 @@
+//! Banks of shots as devices: groups of shots, and lone shots.
+#![tactic(auto)]
+
+pub mod bank;
+mod shots;
+
+pub use bank::ShotBank;
