@@ -187,12 +187,7 @@ fn step(settings: &BankSettings, slot: &mut BankSlot, act: Act) -> Outcome
 }
 
 /// What an act does to the slot in use.
-fn step_slots(
-    settings: &BankSettings,
-    slots: &mut [BankSlot; 4],
-    act: Act,
-    world: World,
-) -> Outcome
+fn step_slots(settings: &BankSettings, slots: &mut [BankSlot; 4], act: Act, world: World) -> Outcome
     requires { IsWithinLimits (kinds.Bank settings.now) }
     ensures slots { slots.new ≡ (bank_step settings.now (calls.Act act) world slots.old).0 }
     ensures outcome { result.items ≡ (bank_step settings.now (calls.Act act) world slots.old).1 }
