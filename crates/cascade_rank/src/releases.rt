@@ -76,7 +76,8 @@ fn mark_lists(plan: &Plan, row: RowId, marks: &mut [bool])
     requires marks { length marks.old ≡ 256 }
     ensures { AreMarked marks.old (flat_map (λ k. actions_at plan.now (list_of_row plan.now row k)) (range_with_len 0 (list_count (row_at plan.now row).settings))) marks.new }
 {
-    for list in 0..plan.row(row).settings.list_count() {
+    let count = plan.row(row).settings.list_count() as u16;
+    for list in 0..count {
         mark_actions(plan.list(plan.list_of_row(row, list)), marks);
     }
 }

@@ -5,3 +5,4 @@ pub mod BoundTo
 pub mod Placed
 pub mod Worked
 pub mod Owners
+pub mod RowLists

@@ -114,8 +114,8 @@ pub record IsValid (plan : PlanView) : Type 0 where
   pub switch_limit : length plan.switches ≤ 256
   pub coil_limit : length plan.coils ≤ 256
   pub variable_limit : length plan.variables ≤ 256
-  -- one of each binding, and at most five of each row
-  pub list_limit : length plan.lists ≤ 21504
+  -- one of each binding, and at most 288 of each row
+  pub list_limit : length plan.lists ≤ 311296
   pub row_limit : length plan.rows ≤ 1024
   pub row_lists : length plan.row_lists ≡ length plan.rows
   -- the limits of each coil are within bounds of their own

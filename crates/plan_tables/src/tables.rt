@@ -67,7 +67,7 @@ impl Plan {
     ghost use Rattle.plan_tables.specs.declared.table.Table.TheVariants.{Switches, Coils};
     ghost use Rattle.plan_tables.specs.Inside.{name_sets_view, tables_view};
     ghost use Rattle.plan_tables.specs.Valid.{IsRowWithin, IsValid, IsWorkAt};
-    ghost use Rattle.plan_tables.specs.Devices.{list_count};
+    ghost use Rattle.plan_tables.specs.Devices.{IsWithinLimits, list_count};
 
     /// The plan of these tables.
     ///
@@ -355,6 +355,7 @@ impl Plan {
         requires { row.0 < length self.now.rows }
         ensures row { result ≡ row_at self.now row }
         ensures within { IsRowWithin self.now row }
+        ensures limits { IsWithinLimits result.settings }
         ensures valid { IsValid self.now }
     {
         self.tables.rows[row.0 as usize]
