@@ -1,5 +1,5 @@
 -- What a call of a device can answer, answer by answer.
-use Rattle.std.proofs.Common.{◌≡◌, ℕ, ◌<◌, List, [], ◌∷◌, length, map, get_or, refl, sym, ap, ◌∙◌, subst, arith, rules}
+use Rattle.std.proofs.Common.{◌≡◌, ℕ, ◌<◌, List, [], ◌∷◌, length, map, get_or, refl, sym, ap, ◌∙◌, subst, arith}
 use Rattle.std.specs.List.{All}
 use Rattle.std.proofs.lemmas.List.{length-map, get_or-map}
 use Rattle.std.proofs.lemmas.List.Elements.{All-get_or}
@@ -9,16 +9,12 @@ use Rattle.plan_tables.specs.declared.entries.EventId.{EventId}
 use Rattle.plan_tables.specs.declared.devices.RowId.{RowId}
 use Rattle.plan_tables.specs.declared.devices.DeviceRow.{DeviceRow}
 use Rattle.device_objects.specs.declared.device.Call.{Call}
-use Rattle.device_objects.specs.Laws.{OutcomesAreOfTheRow}
+use Rattle.device_objects.proofs.Lists.{outcomes_of_row}
 use Rattle.device_objects.specs.Outcomes.{outcomes}
 use Rattle.cascade_rank.specs.Cost.{Cost, Greater, price, each_of, dearest_of, cost_of_answer, cost_of_call}
 use Rattle.cascade_rank.specs.Mentions.{weights_in}
 use Rattle.cascade_rank.proofs.Places.{each_of-map}
 use Rattle.cascade_rank.proofs.Posted.{weights-dearest}
-
--- each list of an answer is one of the row
-pub outcomes_of_row : OutcomesAreOfTheRow
-outcomes_of_row = search rules
 
 dearest_of-map : {X Y : Type 0} (f : Y → Cost) (g : X → Y) (xs : List X) → dearest_of (λ x. f (g x)) xs ≡ dearest_of f (map g xs)
 dearest_of-map f g [] = refl

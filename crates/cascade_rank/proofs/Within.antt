@@ -32,7 +32,7 @@ use Rattle.plan_tables.specs.declared.entries.Binding.{Binding}
 use Rattle.cascade_rank.specs.Cost.{Cost, Lines, Weight, Both, Greater, mentions, each_of, dearest_of, cost_of_post, cost_of_action, cost_of_list, cost_of_answer, cost_of_call, cost_of_target, cost_of_binding, led_by, cost_if_led, cost_of_starts, cost_of_releases, cost_of_choice, cost_of_game, cost_of_work, cost_of_event, cost_of_listener, cost_of_acceptance, cost_of_switch, switches_of, cost_of_stimuli}
 use Rattle.cascade_rank.specs.Below.{IsBelow}
 use Rattle.cascade_rank.specs.Mentions.{weights_in}
-use Rattle.cascade_rank.proofs.Outcomes.{outcomes_of_row}
+use Rattle.device_objects.proofs.Lists.{outcomes_of_row}
 use Rattle.cascade_rank.proofs.Games.{game_event-below, game_has-event}
 use Rattle.cascade_rank.proofs.Rows.{rows-within}
 

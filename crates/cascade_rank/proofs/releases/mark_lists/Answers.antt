@@ -3,6 +3,7 @@ use Rattle.std.specs.List.{flat_map, range_with_len}
 use Rattle.std.proofs.lemmas.List.FromFn.{length-range_with_len, get_or-range_with_len}
 use Rattle.plan_tables.specs.Devices.{list_count}
 use Rattle.plan_tables.specs.PlanView.{actions_at, list_of_row, row_at}
+use Rattle.plan_tables.proofs.RowLists.{few_lists}
 use Rattle.cascade_rank.specs.Marks.{AreMarked}
 use Rattle.cascade_rank.proofs.Marked.{marked-more}
 use Rattle.cascade_rank.proofs.releases.mark_lists.Goals as goal
@@ -14,7 +15,8 @@ loop-list-preserved c =
     let count = list_count (row_at plan row).settings in
     let list = c.loop-list.list in
     let rows = ap (λ r. list_count r.settings) c.row.ensures.row in
-    let within : list < count = omega (arith, c.loop-list-test.true, c.list_count-list-end.ensures.count, rows) in
+    let few = few_lists c.row.result.settings c.row.ensures.limits in
+    let within : list < count = omega (arith, c.loop-list-test.true, c.list_count-count.ensures, rows, few) in
     let here : get_or (range_with_len 0 count) list 0 ≡ list = omega (arith, get_or-range_with_len 0 count list 0 within) in
     marked-more (λ k. actions_at plan (list_of_row plan row k)) (range_with_len 0 count) list 0 c.args.marks.now c.loop-list.marks c.mark_actions.new.marks
     (omega (arith, within, length-range_with_len 0 count)) c.loop-list.invariant
@@ -27,5 +29,6 @@ returns c =
     let row = c.args.row in
     let count = list_count (row_at plan row).settings in
     let rows = ap (λ r. list_count r.settings) c.row.ensures.row in
+    let few = few_lists c.row.result.settings c.row.ensures.limits in
     subst (λ ks. AreMarked c.args.marks.now (flat_map (λ k. actions_at plan (list_of_row plan row k)) ks) c.loop-list.marks)
-    (take_all c.loop-list.list (range_with_len 0 count) (omega (arith, c.loop-list-test.false, c.list_count-list-end.ensures.count, rows, length-range_with_len 0 count))) c.loop-list.invariant
+    (take_all c.loop-list.list (range_with_len 0 count) (omega (arith, c.loop-list-test.false, c.list_count-count.ensures, rows, few, length-range_with_len 0 count))) c.loop-list.invariant
