@@ -16,7 +16,8 @@ use Rattle.device_objects.specs.declared.device.Call.{Call}
 use Rattle.player_game.specs.Players.{PlayersState, changed_to, after_change}
 use Rattle.cascade_rank.specs.Cost.{Cost}
 use Rattle.written_machine.specs.Machine.{Machine, all_do, do_action, set_device, set_players, tell_change, called}
-use Rattle.written_machine.proofs.Does.{Move, Wrote, Sent, Switched, Began, Ended, Marked, Turned, Asked, Varied, Stepped, do_move, start-by, stop-by, Does, moved, does-keeps, has_devices-does, moment-does}
+use Rattle.written_machine.specs.Moves.{Move, Wrote, Sent, Switched, Began, Ended, Marked, Turned, Asked, Varied, Stepped, do_move, Does, moved}
+use Rattle.written_machine.proofs.Does.{start-by, stop-by, does-keeps, has_devices-does, moment-does}
 use Rattle.written_machine.proofs.Held.{asked-count}
 use Rattle.pin_rig.specs.Core.{CoreView, CanCall, after}
 

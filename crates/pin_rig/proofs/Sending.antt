@@ -25,8 +25,9 @@ use Rattle.written_machine.specs.declared.line.Happening.TheVariants as lines
 use Rattle.written_machine.specs.Machine.{Machine, write, told, ask_coil}
 use Rattle.written_machine.specs.EventStep.{taken, EventStep, EventSteps}
 use Rattle.written_machine.specs.Run.{Stimulus, begin}
-use Rattle.written_machine.proofs.Does.{Move, Wrote, Sent, Switched, Began, Ended, Marked, Turned, Asked, Varied, Stepped, do_move, start-by, stop-by, Licence, MayDo, Does, does-keeps, IsNoCommand}
-use Rattle.written_machine.proofs.Parts.{TakesPart, Begins, ordinary, working, does-before, does-after, does-begin}
+use Rattle.written_machine.specs.Moves.{Move, Wrote, Sent, Switched, Began, Ended, Marked, Turned, Asked, Varied, Stepped, do_move, Licence, MayDo, Does, IsNoCommand, TakesPart, Begins, ordinary, working}
+use Rattle.written_machine.proofs.Does.{start-by, stop-by, does-keeps}
+use Rattle.written_machine.proofs.Parts.{does-before, does-after, does-begin}
 use Rattle.written_machine.proofs.Held.{asked-count}
 use Rattle.written_machine.proofs.Keeps.{step-keeps, steps-keep}
 use Rattle.pin_rig.specs.Board.{after_happening, after_line, after_lines}

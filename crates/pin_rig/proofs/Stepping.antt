@@ -8,7 +8,8 @@ use Rattle.mode_stack.specs.Modes.{running_of}
 use Rattle.event_queue.specs.PlanOrder.{in_order}
 use Rattle.written_machine.specs.Machine.{Machine, all_do, do_handler}
 use Rattle.written_machine.specs.EventStep.{is_kept, do_before, do_after}
-use Rattle.written_machine.proofs.Does.{Grows, grows-does}
+use Rattle.written_machine.specs.Moves.{Grows}
+use Rattle.written_machine.proofs.Does.{grows-does}
 use Rattle.written_machine.proofs.Growth.{all_do-grows, handler-grows}
 use Rattle.written_machine.proofs.Parts.{does-handlers, does-before, does-after}
 use Rattle.written_machine.proofs.Silence.{handlers-still}

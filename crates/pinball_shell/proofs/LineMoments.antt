@@ -6,7 +6,8 @@ use Rattle.written_machine.specs.Machine.{Machine}
 use Rattle.written_machine.specs.EventStep.{taken, EventStep, EventSteps}
 use Rattle.written_machine.specs.Run.{Stimulus, moment_of, begin}
 use Rattle.written_machine.specs.PlanOrder.{settled}
-use Rattle.written_machine.proofs.Does.{Move, Wrote, Sent, Switched, Began, Ended, Marked, Turned, Asked, Varied, Stepped, do_move, start-by, stop-by, Does, does-keeps, moment-move}
+use Rattle.written_machine.specs.Moves.{Move, Wrote, Sent, Switched, Began, Ended, Marked, Turned, Asked, Varied, Stepped, do_move, Does}
+use Rattle.written_machine.proofs.Does.{start-by, stop-by, does-keeps, moment-move}
 use Rattle.written_machine.proofs.Parts.{does-begin, does-before, does-after}
 use Rattle.written_machine.proofs.Keeps.{step-keeps, steps-keep}
 use Rattle.written_machine.proofs.PlanSteps.{plan_steps-event_steps}

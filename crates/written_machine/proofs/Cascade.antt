@@ -23,7 +23,8 @@ use Rattle.written_machine.specs.GoodRun.{cost_if_accepted, cost_of_stimulus, we
 use Rattle.written_machine.specs.CheckedView.{CheckedView}
 use Rattle.cascade_rank.specs.Verified.{IsVerified}
 use Rattle.written_machine.proofs.Does.{potential, potential-does, AreOfPlan, WaitsInPlan, waits-does, HasStates, has_states-does, due-row, has_devices-does}
-use Rattle.written_machine.proofs.Parts.{TakesPart, Begins, ordinary, working, does-order, does-begin, does-before, does-after}
+use Rattle.written_machine.specs.Moves.{TakesPart, Begins, ordinary, working}
+use Rattle.written_machine.proofs.Parts.{does-order, does-begin, does-before, does-after}
 use Rattle.written_machine.proofs.Pricing.{handlers-priced, before-priced, after-priced, IsFired, stimulus-priced, fire-within_bound}
 use Rattle.written_machine.proofs.Growth.{event-grows}
 use Rattle.written_machine.proofs.Order.{order_cost, plan_order-step}

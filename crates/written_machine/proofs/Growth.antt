@@ -21,7 +21,8 @@ use Rattle.written_machine.specs.declared.line.Happening.TheVariants as lines
 use Rattle.event_queue.specs.declared.queue.Posted.{Posted}
 use Rattle.written_machine.specs.Machine.{Machine, write, post, ask_coil, told, all_do, set_players, tell_change, do_action, call_device, tell_listener, tell_listeners, do_handler, do_accepted}
 use Rattle.written_machine.specs.EventStep.{taken, is_kept, before_handlers, after_event}
-use Rattle.written_machine.proofs.Does.{Grows, grows-does}
+use Rattle.written_machine.specs.Moves.{Grows}
+use Rattle.written_machine.proofs.Does.{grows-does}
 use Rattle.written_machine.proofs.Parts.{does-call, does-handler, does-before, does-after}
 
 -- where each adds, all do

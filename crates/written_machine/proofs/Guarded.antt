@@ -32,8 +32,9 @@ use Rattle.written_machine.specs.EventStep.{taken, EventStep}
 use Rattle.written_machine.specs.Run.{Stimulus, moment_of, IsAllowed, IsNothingLate, arrived, begin, IsRun}
 use Rattle.written_machine.specs.Allowed.{ActionsAreAllowed}
 use Rattle.written_machine.specs.Sent.{sent_at, sent_in, sendings, IsIdle, AreSkippedIdle}
-use Rattle.written_machine.proofs.Does.{Move, Wrote, Sent, Switched, Began, Ended, Marked, Turned, Asked, Varied, Stepped, do_move, start-by, stop-by, Licence, MayDo, Does, does-keeps, IsNoCommand}
-use Rattle.written_machine.proofs.Parts.{TakesPart, Begins, ordinary, working, does-before, does-after, does-begin}
+use Rattle.written_machine.specs.Moves.{Move, Wrote, Sent, Switched, Began, Ended, Marked, Turned, Asked, Varied, Stepped, do_move, Licence, MayDo, Does, IsNoCommand, TakesPart, Begins, ordinary, working}
+use Rattle.written_machine.proofs.Does.{start-by, stop-by, does-keeps}
+use Rattle.written_machine.proofs.Parts.{does-before, does-after, does-begin}
 use Rattle.written_machine.proofs.Held.{IsHolding}
 use Rattle.written_machine.proofs.Keeps.{step-keeps, run-keeps}
 use Rattle.written_machine.proofs.Alarms.{not_late-steps, not_late-begin, not_late-initial, allowed-first, forward}

@@ -9,8 +9,8 @@ use Rattle.written_machine.specs.Machine.{Machine}
 use Rattle.plan_tables.specs.PlanView.{work_of}
 use Rattle.written_machine.specs.EventStep.{before_handlers, is_kept, do_after, EventStep, EventSteps}
 use Rattle.written_machine.specs.Run.{Stimulus, IsAllowed, begin, IsRun}
-use Rattle.written_machine.proofs.Does.{Does}
-use Rattle.written_machine.proofs.Parts.{MayHandle, does-order}
+use Rattle.written_machine.specs.Moves.{Does, MayHandle}
+use Rattle.written_machine.proofs.Parts.{does-order}
 
 -- Inv holds between event steps, and During while an event is handled: from the machine's work before its handlers until
 -- that after them, whether a stop was kept or not. The lines since the latest stimulus stand behind the earlier ones.

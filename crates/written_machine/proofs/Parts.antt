@@ -46,7 +46,7 @@ use Rattle.written_machine.specs.declared.line.Happening.TheVariants as lines
 use Rattle.cascade_rank.specs.Cost.{Cost, Lines, Both, each_of, cost_of_post, cost_of_action, cost_of_list, cost_of_answer, cost_of_target, cost_of_binding, led_by, cost_if_led, cost_of_choice}
 use Rattle.cascade_rank.proofs.Games.{game_event-below, game_has-event}
 use Rattle.cascade_rank.proofs.Within.{posts-below, mode_event-within}
-use Rattle.event_queue.specs.Handlers.{takes_part, runs_at, handlers, IsHandlerOrder}
+use Rattle.event_queue.specs.Handlers.{runs_at, handlers, IsHandlerOrder}
 use Rattle.written_machine.specs.Machine.{Machine, write, post, ask_coil, release_coil, release_coils, set_switches, set_mode, set_device, set_players, all_do, tell_change, post_game, write_final, write_finals, do_game, do_action, do_list, world_of, device_at, called, call_device, call_devices, tell_listener, tell_listeners, do_target, do_handler, do_accepted, do_if_accepted}
 use Rattle.written_machine.specs.EventStep.{do_before, do_after, handlers_in}
 use Rattle.written_machine.specs.Run.{switch, device, Stimulus, Change, Alarm, Wait, moment_of, arrived, begin}
@@ -55,43 +55,8 @@ use Rattle.written_machine.specs.Devices.{ActsAreOwn, IsOwnAct, IsOwnListener}
 use Rattle.written_machine.specs.Allowed.{IsAllowed, ActionsAreAllowed}
 use Rattle.written_machine.specs.FreePosts.{IsFree, IsFreeAction, IsFreeSwitch, PostsAreFree}
 use Rattle.written_machine.proofs.Listed.{binding-among, row-among, contains-at, enable-listed}
-use Rattle.written_machine.proofs.Does.{Move, Wrote, Sent, Switched, Began, Ended, Marked, Turned, Asked, Varied, Stepped, step_now, do_move, Licence, MayDo, MayHold, IsFreeThere, Does, quiet, moved, both, less, each_now, all_do-does, all_do-does_now, does-weaker}
-
--- ---- licences
-
--- the owner takes part in a state
-abbrev pub TakesPart : Machine → Owner → Type 0
-TakesPart s owner = takes_part (running_of s.modes) owner ≡ true
-
-abbrev pub IsMachine : Owner → Type 0
-IsMachine owner = owner ≡ owners.Machine
-
--- lines and events of these owners; where it does not matter who posts what, no event at which the machine itself does
--- something
-abbrev pub ordinary : PlanView → (Owner → Type 0) → Type 0 → Licence
-ordinary plan by switches = record { by = by; posts = IsFreeThere plan; switches = switches; marks = ⊥ }
-
--- what the handlers of an event may do, which run from this state on: no switch changes
-abbrev pub MayHandle : PlanView → Machine → Move → Type 0
-MayHandle plan s = MayDo plan (ordinary plan (TakesPart s) ⊥)
-
--- who speaks at the beginning of a stimulus: at the alarm of a device the device's owner, else the machine
-abbrev pub Begins : PlanView → Stimulus → Owner → Type 0
-Begins plan (Change at n level) owner = IsMachine owner
-Begins plan (Alarm at (switch n)) owner = IsMachine owner
-Begins plan (Alarm at (device r)) owner = owner ≡ (row_at plan r).owner
-Begins plan (Wait at) owner = IsMachine owner
-
--- what a stimulus may do
-abbrev pub MayBegin : PlanView → Stimulus → Move → Type 0
-MayBegin plan stimulus = MayDo plan (ordinary plan (Begins plan stimulus) (Unit {0}))
-
--- what the machine itself may do at an event
-abbrev pub working : Licence
-working = record { by = λ owner. Unit {0}; posts = λ e. Unit {0}; switches = ⊥; marks = Unit {0} }
-
-abbrev pub MayWork : PlanView → Move → Type 0
-MayWork plan = MayDo plan working
+use Rattle.written_machine.proofs.Does.{each_now, all_do-does, all_do-does_now, does-weaker}
+use Rattle.written_machine.specs.Moves.{Move, Wrote, Sent, Switched, Began, Ended, Marked, Turned, Asked, Varied, Stepped, step_now, do_move, MayHold, Licence, MayDo, IsFreeThere, Does, quiet, moved, both, less, TakesPart, IsMachine, ordinary, MayHandle, Begins, MayBegin, working, MayWork}
 
 -- ---- what is in a plan
 

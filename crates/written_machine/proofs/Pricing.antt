@@ -51,7 +51,8 @@ use Rattle.written_machine.specs.Machine.{Machine, write, set_switches, set_mode
 use Rattle.written_machine.specs.Devices.{HasDevices}
 use Rattle.written_machine.specs.Run.{switch, device, source_due, Stimulus, Change, Alarm, Wait, arrived}
 use Rattle.written_machine.specs.GoodRun.{cost_if_accepted, cost_of_stimulus}
-use Rattle.written_machine.proofs.Does.{Stepped, step_now, do_move, each_now, has_devices-does, HasCoils, asked-has_coils}
+use Rattle.written_machine.specs.Moves.{Stepped, step_now, do_move}
+use Rattle.written_machine.proofs.Does.{each_now, has_devices-does, HasCoils, asked-has_coils}
 use Rattle.written_machine.proofs.Resting.{stops-turn}
 use Rattle.written_machine.proofs.Parts.{IsThere, target-there, cost_of_handler, call_now, target_now, handler_now, listener_now, accepted_now, if_accepted_now, release_now, stimulus_now, before_now, finals_now, after_now, does-call, does-handler}
 

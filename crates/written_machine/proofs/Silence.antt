@@ -46,8 +46,9 @@ use Rattle.written_machine.specs.Machine.{Machine, initial, post, set_mode, has_
 use Rattle.written_machine.specs.EventStep.{taken, before_handlers, handlers_in, do_before, do_after}
 use Rattle.written_machine.specs.Run.{switch, device, source_due, Stimulus, Change, Alarm, Wait, moment_of, IsAllowed, arrived, begin, IsRun}
 use Rattle.written_machine.specs.Silent.{HasStarted, IsSilent}
-use Rattle.written_machine.proofs.Does.{Move, Wrote, Sent, Switched, Began, Ended, Marked, Turned, Asked, Varied, Stepped, step_now, do_move, start-by, stop-by, MayDo, Does, does-keeps, off-has_coils}
-use Rattle.written_machine.proofs.Parts.{TakesPart, Begins, ordinary, MayHandle, does-calls, does-releases, does-order, does-begin}
+use Rattle.written_machine.specs.Moves.{Move, Wrote, Sent, Switched, Began, Ended, Marked, Turned, Asked, Varied, Stepped, step_now, do_move, MayDo, Does, TakesPart, Begins, ordinary, MayHandle}
+use Rattle.written_machine.proofs.Does.{start-by, stop-by, does-keeps, off-has_coils}
+use Rattle.written_machine.proofs.Parts.{does-calls, does-releases, does-order, does-begin}
 use Rattle.written_machine.proofs.Keeps.{step-keeps, run-keeps}
 use Rattle.written_machine.proofs.Cycles.{mine, waiting_of, IsTurn, idle, turn-will_start, turn-starting, turn-started, turn-stopping, turn-stopped, stopping-runs, stopped-quiet}
 use Rattle.written_machine.proofs.Hearing.{Said, written, all_written, awaited, all_awaited, heard_at, heard_after, heard, IsFine, heard-push, fine-push, heard-started, fine-silent}

@@ -30,7 +30,7 @@ use Rattle.coil_guard.specs.Asked.{after_asking, answer_asking}
 use Rattle.written_machine.specs.Machine.{Machine, write, post, set_coils, told, ask_coil, set_mode, has_game, is_post, post_if, start_mode, stop_mode}
 use Rattle.written_machine.proofs.Cycles.{mine, waiting_of, IsTurn, waiting_of-push, turn-start, turn-stop, IsNoEnd, running-no_end}
 use Rattle.written_machine.proofs.Hearing.{Said, work_written, written, all_written, awaited, all_awaited, heard_at, heard_after, heard, IsFine, written-push, awaited-push, heard-push, fine-push}
-use Rattle.written_machine.proofs.Does.{IsNoEvent}
+use Rattle.written_machine.specs.Moves.{IsNoEvent}
 
 -- Of the mode's events: the one that is being handled, as long as its work is still to come, and those that wait. And
 -- whether it may be heard now.

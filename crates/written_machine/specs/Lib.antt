@@ -15,3 +15,5 @@ pub mod GoodRun
 pub mod FreePosts
 pub mod Accepted
 pub mod AcceptedRuns
+-- what lemmas say of steps: only proofs cite it
+pub mod Moves
