@@ -160,7 +160,7 @@ abbrev pub are_apart : List (List ℕ) → Bool
 are_apart [] = true
 are_apart (k ∷ ks) = not (list_any (bytes_eq k) ks) && are_apart ks
 
--- maps with their own names in a list, which are looked at when all maps are read
+-- maps of which each has a name of its own; the names are compared when all maps are read
 unfoldable pub named_maps_at : List Field → Bool → Bounds → Spot → Node → Result (List Fields) RowsFault
 named_maps_at table others bounds spot node =
     nodes_at (fields_at table others) bounds spot node >>= λ ms. if are_apart (map own_name ms) then Ok ms else refused BadValue spot

@@ -231,8 +231,8 @@ fn are_apart(maps: &[Fields]) -> bool
     true
 }
 
-/// The maps in a list, each with a name of its own; or the first fault, which is BadValue at the
-/// spot if two maps that have no other fault have the same name.
+/// The maps in a list, each with a name of its own; or the first fault. The names are compared when
+/// all maps are read: two that are the same are BadValue at the spot.
 #[tactic(auto, unfolding(crate::specs::Reading::named_maps_at))]
 pub fn named_maps(
     alloc: Global,
