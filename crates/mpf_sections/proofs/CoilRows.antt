@@ -56,14 +56,14 @@ text_named (Some (steps ss)) h = tt
 text_named (Some (maps ms)) h = tt
 text_named (Some (keyed ks)) h = tt
 
-written_named : (e : Entry) (i : ℕ) → IsNamedEntry e → IsNamedWritten (name_in (text_of (slice_get e.values i)))
+pub written_named : (e : Entry) (i : ℕ) → IsNamedEntry e → IsNamedWritten (name_in (text_of (slice_get e.values i)))
 written_named e i h = name_in_named (text_of (slice_get e.values i)) (text_named (slice_get e.values i) (value_at_named e.values i h.values))
 
-some_named : (o : Option Written) → IsNamedWritten o → IfSome o (λ w. IsName w.text)
+pub some_named : (o : Option Written) → IsNamedWritten o → IfSome o (λ w. IsName w.text)
 some_named None h = tt
 some_named (Some w) h = h
 
-either_named : (o : Option Written) (other : Written) → IsNamedWritten o → IsName other.text → IsName (unwrap_or o other).text
+pub either_named : (o : Option Written) (other : Written) → IsNamedWritten o → IsName other.text → IsName (unwrap_or o other).text
 either_named None other h is = is
 either_named (Some w) other h is = h
 

@@ -69,7 +69,7 @@ abbrev pub IsNamedText : Option Plain → Type 0
 IsNamedText None = Unit {0}
 IsNamedText (Some x) = IsNamedPlain x
 
-text_at_named : (values : List Plain) (i : ℕ) → AreNamedPlains values → IsNamedText (slice_get values i)
+pub text_at_named : (values : List Plain) (i : ℕ) → AreNamedPlains values → IsNamedText (slice_get values i)
 text_at_named [] i h = tt
 text_at_named (x ∷ xs) zero h = h.0
 text_at_named (x ∷ xs) (suc i) h = text_at_named xs i h.1

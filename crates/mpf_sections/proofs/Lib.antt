@@ -5,3 +5,4 @@ pub mod ShortRows
 pub mod DeviceRows
 pub mod CoilRows
 pub mod GameRows
+pub mod ShotRows

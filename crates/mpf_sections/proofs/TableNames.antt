@@ -5,12 +5,13 @@ use Rattle.std.specs.Str.{bytes_eq}
 use Rattle.std.proofs.lemmas.Option.{same_Some, none-some}
 use Rattle.mpf_sections.specs.declared.tables.TextKind.{TextKind}
 use Rattle.mpf_sections.specs.declared.tables.TextKind.TheVariants.{Machine, Mode}
+use Rattle.mpf_values.specs.Names.{IsName}
 use Rattle.mpf_values.proofs.NameTexts.{IsName-from_is_name}
 use Rattle.section_tables.specs.Rows.{Handled}
 use Rattle.section_tables.specs.Kinds.{Shape}
 use Rattle.section_tables.specs.Entries.{handled_at}
 use Rattle.section_tables.specs.Named.{IsNamedHandled, IsNamedKinds, IsNamedTable, IsNamedShape, IsShortTable, IsShortShape}
-use Rattle.mpf_sections.specs.SectionTables.{switches, coils, rule_events, flippers, autofire_coils, block, counters, step_blocks, timers, mode, machine, game, event_player, coil_player, variable_player, shared_shapes, machine_shapes, mode_shapes, named_in, shape_of}
+use Rattle.mpf_sections.specs.SectionTables.{switches, coils, rule_events, flippers, autofire_coils, block, counters, step_blocks, timers, default_profile, shots, shot_groups, shot_profiles, shot_shapes, mode, machine, game, event_player, coil_player, variable_player, shared_shapes, machine_shapes, mode_shapes, named_in, shape_of}
 use Rattle.mpf_sections.specs.TableRules.{IsRight}
 use Rattle.section_tables.proofs.RowNames.{no_items, few_items}
 use Rattle.section_tables.proofs.Steps.{word_is}
@@ -96,6 +97,29 @@ timers_named = ((tt, tt), ((tt, tt), ((tt, tt), ((tt, tt), ((tt, tt), ((tt, tt),
 timers_short : (longest : ℕ) → IsShortTable longest timers
 timers_short longest = let none = no_items longest in (none, (none, (none, (none, (none, (none, (none, tt)))))))
 
+-- ---- `shots`, `shot_groups` and `shot_profiles`
+
+pub default_profile_named : IsName default_profile
+default_profile_named = IsName-from_is_name default_profile refl
+
+shots_named : IsNamedTable shots
+shots_named = ((tt, tt), ((tt, tt), ((default_profile_named, tt), ((tt, tt), ((tt, tt), ((tt, tt), ((tt, tt), tt)))))))
+
+shots_short : (longest : ℕ) → IsShortTable longest shots
+shots_short longest = let none = no_items longest in (none, (none, (none, (none, (none, (none, (none, tt)))))))
+
+shot_groups_named : IsNamedTable shot_groups
+shot_groups_named = ((tt, tt), ((tt, tt), ((tt, tt), ((tt, tt), ((tt, tt), tt)))))
+
+shot_groups_short : (longest : ℕ) → IsShortTable longest shot_groups
+shot_groups_short longest = let none = no_items longest in (none, (none, (none, (none, (none, tt)))))
+
+shot_profiles_named : IsNamedTable shot_profiles
+shot_profiles_named = ((tt, (tt, tt)), ((tt, tt), ((tt, tt), tt)))
+
+shot_profiles_short : (longest : ℕ) → IsShortTable longest shot_profiles
+shot_profiles_short longest = let none = no_items longest in (none, (none, (none, tt)))
+
 -- ---- `mode`
 
 mode_named : IsNamedTable mode
@@ -137,6 +161,15 @@ variable_player_named = record { key = tt; value = (tt, (tt, tt)) }
 
 abbrev AllShapes : (Shape → Type 0) → List (List ℕ × Shape) → Type 0
 AllShapes P = AllByRecursion (λ t. P t.1)
+
+pub shot_named : AllShapes IsNamedShape shot_shapes
+shot_named = (shots_named, (shot_groups_named, (shot_profiles_named, tt)))
+
+pub shot_short : (longest : ℕ) → AllShapes (IsShortShape longest) shot_shapes
+shot_short longest = (shots_short longest, (shot_groups_short longest, (shot_profiles_short longest, tt)))
+
+pub shot_right : AllShapes IsRight shot_shapes
+shot_right = (refl, (refl, (refl, tt)))
 
 shared_named : AllShapes IsNamedShape shared_shapes
 shared_named = (player_named, (variable_player_named, (coil_player_named, (counters_named, (step_blocks_named, (step_blocks_named, tt))))))

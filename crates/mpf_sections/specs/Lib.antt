@@ -4,6 +4,7 @@ pub mod Rows
 pub mod Typed
 pub mod TypedCoils
 pub mod TypedGame
+pub mod TypedShots
 pub mod Named
 pub mod Short
 pub mod SectionView

@@ -2,7 +2,7 @@
 use Rattle.std.specs.Prelude.{List, IfSome}
 use Rattle.std.specs.List.{All}
 pub use Rattle.section_tables.specs.Named.{IsNamedHandled, IsNamedEntry, IsNamedPlayer}
-use Rattle.mpf_sections.specs.Rows.{Written, Handled, Switch, EventPlayer, Coil, CoilPlayer, VariablePlayer, Flipper, Autofire, Block, Counter, StepBlock, Timer, ModeSettings, Content, entries, players, entry, listed, SectionRows}
+use Rattle.mpf_sections.specs.Rows.{Written, Handled, Switch, EventPlayer, Coil, CoilPlayer, VariablePlayer, Flipper, Autofire, Shot, ShotGroup, ShotProfile, Block, Counter, StepBlock, Timer, ModeSettings, Content, entries, players, entry, listed, SectionRows}
 pub use Rattle.mpf_values.specs.Names.{IsName}
 
 -- each name in a list is one
@@ -55,6 +55,31 @@ pub record IsNamedAutofire (a : Autofire) : Type 0 where
   pub switch : IsName a.switch.text
   pub enables : AllNamedEvents a.enables
   pub disables : AllNamedEvents a.disables
+
+-- those of a shot, too, with that of its profile
+pub record IsNamedShot (s : Shot) : Type 0 where
+  pub name : IsName s.name.text
+  pub switch : IfSome s.switch (λ w. IsName w.text)
+  pub hits : AllNamedEvents s.hits
+  pub profile : IsName s.profile.text
+  pub advances : AllNamedEvents s.advances
+  pub resets : AllNamedEvents s.resets
+  pub enables : AllNamedEvents s.enables
+  pub disables : AllNamedEvents s.disables
+
+-- the name of a group is one, and so are those of its shots and its events
+pub record IsNamedShotGroup (g : ShotGroup) : Type 0 where
+  pub name : IsName g.name.text
+  pub shots : AllNames g.shots
+  pub rotates : AllNamedEvents g.rotates
+  pub rotates_right : AllNamedEvents g.rotates_right
+  pub rotates_left : AllNamedEvents g.rotates_left
+  pub resets : AllNamedEvents g.resets
+
+-- the name of a profile is one, and so are those of its states
+pub record IsNamedShotProfile (p : ShotProfile) : Type 0 where
+  pub name : IsName p.name.text
+  pub states : AllNames p.states
 
 -- the events of a logic block are names
 pub record IsNamedBlock (b : Block) : Type 0 where

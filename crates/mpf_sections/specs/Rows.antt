@@ -142,6 +142,36 @@ pub record Timer : Type 0 where
   pub restart : Bool
   pub controls : List Control
 
+-- an entry of `shots`: its switch, if it has one, the events that hit it, its profile, and the events that advance, reset,
+-- enable and disable it
+pub record Shot : Type 0 where
+  pub name : Written
+  pub switch : Option Written
+  pub hits : List Handled
+  pub profile : Written
+  pub advances : List Handled
+  pub resets : List Handled
+  pub enables : List Handled
+  pub disables : List Handled
+
+-- an entry of `shot_groups`: its shots, and the events that move their states to the next shots, to the next ones and to
+-- the ones before, and that reset them
+pub record ShotGroup : Type 0 where
+  pub name : Written
+  pub shots : List Written
+  pub rotates : List Handled
+  pub rotates_right : List Handled
+  pub rotates_left : List Handled
+  pub resets : List Handled
+
+-- an entry of `shot_profiles`: its states, whether a hit advances a shot to the next one, and whether the first one comes
+-- after the last
+pub record ShotProfile : Type 0 where
+  pub name : Written
+  pub states : List Written
+  pub advance_on_hit : Bool
+  pub loops : Bool
+
 -- what stands in a section, as written: entries by its table, those of a player, one entry, or a list of names
 pub data Content : Type 0 where
   entries : List Entry → Content

@@ -1,11 +1,11 @@
 -- The tables of the sections: what settings each has. The order decides which of several missing settings is reported.
 use Rattle.std.specs.Prelude.{ℕ, pos, negsuc, true, false, if◌then◌else◌, List, [], ◌∷◌, Option, Some, None, codes}
 use Rattle.std.specs.Str.{bytes_eq}
-use Rattle.section_tables.specs.Rows.{nothing, flag, number, time, power, word, one, names, posts, events, maps}
-use Rattle.section_tables.specs.Entries.{handled_at}
+use Rattle.section_tables.specs.Rows.{nothing, flag, number, time, power, word, name, one, names, posts, events, maps}
+use Rattle.section_tables.specs.Entries.{written_at, handled_at}
 use Rattle.mpf_sections.specs.declared.tables.TextKind.{TextKind}
 use Rattle.mpf_sections.specs.declared.tables.TextKind.TheVariants.{Machine, Mode}
-use Rattle.section_tables.specs.Kinds.{Scalar, a_flag, number_within, time_within, a_power, one_of, a_name, an_event, at_least, between, Absent, required, default, KeyRule, Field, single, name_list, post_list, event_list, step_list, map_list, keyed_maps, Setting, PlayerKinds, Shape, by_entries, by_players, by_entry, by_names}
+use Rattle.section_tables.specs.Kinds.{Scalar, a_flag, number_within, time_within, a_power, one_of, a_name, an_event, at_least, between, Absent, required, default, KeyRule, Field, single, name_list, post_list, event_list, step_list, map_list, named_maps, keyed_maps, Setting, PlayerKinds, Shape, by_entries, by_players, by_entry, by_names}
 
 abbrev row : {K V : Type 0} → List ℕ → K → Absent V → KeyRule K V
 row key kind absent = record { key = key; kind = kind; absent = absent }
@@ -163,6 +163,43 @@ timers =
     ∷ row (codes "control_events") (map_list control_events false (at_least 0)) (default (maps []))
     ∷ []
 
+-- the name of the profile that there always is, so no entry has it
+abbrev pub default_profile : List ℕ
+default_profile = codes "default"
+
+abbrev pub shots : List Setting
+shots =
+    optional (codes "switch") a_name
+    ∷ handling (codes "hit_events")
+    ∷ row (codes "profile") (single a_name) (default (one (name (written_at 0 default_profile))))
+    ∷ handling (codes "advance_events")
+    ∷ handling (codes "reset_events")
+    ∷ handling (codes "enable_events")
+    ∷ handling (codes "disable_events")
+    ∷ []
+
+-- 1 to 16 shots
+abbrev pub shot_groups : List Setting
+shot_groups =
+    row (codes "shots") (name_list (between 1 16)) required
+    ∷ handling (codes "rotate_events")
+    ∷ handling (codes "rotate_right_events")
+    ∷ handling (codes "rotate_left_events")
+    ∷ handling (codes "reset_events")
+    ∷ []
+
+-- a state of a profile
+abbrev pub profile_state : List Field
+profile_state = row (codes "name") a_name required ∷ []
+
+-- 1 to 16 states, of which each has a name of its own
+abbrev pub shot_profiles : List Setting
+shot_profiles =
+    row (codes "states") (named_maps profile_state true (between 1 16)) required
+    ∷ yes (codes "advance_on_hit")
+    ∷ no (codes "loop")
+    ∷ []
+
 -- an event, and what is posted where it is handled
 abbrev pub event_player : PlayerKinds
 event_player = record { key = an_event; value = post_list (at_least 0) }
@@ -242,6 +279,15 @@ sequences_name = codes "sequences"
 abbrev pub timers_name : List ℕ
 timers_name = codes "timers"
 
+abbrev pub shots_name : List ℕ
+shots_name = codes "shots"
+
+abbrev pub shot_groups_name : List ℕ
+shot_groups_name = codes "shot_groups"
+
+abbrev pub shot_profiles_name : List ℕ
+shot_profiles_name = codes "shot_profiles"
+
 -- the list of modes
 abbrev pub modes_name : List ℕ
 modes_name = codes "modes"
@@ -261,6 +307,14 @@ game_name = codes "game"
 -- the name that no device has
 abbrev pub not_a_device : List (List ℕ)
 not_a_device = codes "playfield" ∷ []
+
+-- the sections of shots, each with how it is written; no text has them yet
+abbrev pub shot_shapes : List (List ℕ × Shape)
+shot_shapes =
+    (shots_name, by_entries not_a_device shots)
+    ∷ (shot_groups_name, by_entries not_a_device shot_groups)
+    ∷ (shot_profiles_name, by_entries (default_profile ∷ []) shot_profiles)
+    ∷ []
 
 -- the sections of logic blocks, each with how it is written
 abbrev pub block_shapes : List (List ℕ × Shape)

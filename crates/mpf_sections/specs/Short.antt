@@ -2,7 +2,7 @@
 use Rattle.std.specs.Prelude.{ℕ, ◌≤◌, ℤ, pos, neg_ℤ, ◌≤ℤ◌, Option, IfSome, length}
 use Rattle.std.specs.List.{All}
 pub use Rattle.section_tables.specs.Named.{IsShortEntry, IsShortPlayer}
-use Rattle.mpf_sections.specs.Rows.{Switch, EventPlayer, Coil, CoilItem, CoilPlayer, VariableItem, VariablePlayer, GameSettings, Flipper, Autofire, Block, Counter, StepBlock, Timer, Content, SectionRows}
+use Rattle.mpf_sections.specs.Rows.{Switch, EventPlayer, Coil, CoilItem, CoilPlayer, VariableItem, VariablePlayer, GameSettings, Flipper, Autofire, Shot, ShotGroup, ShotProfile, Block, Counter, StepBlock, Timer, Content, SectionRows}
 use Rattle.mpf_sections.specs.Typed.{entries_in, players_in, entry_in, names_in}
 
 -- No list in a section is longer, whatever its settings are; the coils of an entry of `coil_player` are such a list, and
@@ -76,6 +76,23 @@ pub record IsShortFlipper (f : Flipper) : Type 0 where
 pub record IsShortAutofire (a : Autofire) : Type 0 where
   pub enables : length a.enables ≤ 1024
   pub disables : length a.disables ≤ 1024
+
+pub record IsShortShot (s : Shot) : Type 0 where
+  pub hits : length s.hits ≤ 1024
+  pub advances : length s.advances ≤ 1024
+  pub resets : length s.resets ≤ 1024
+  pub enables : length s.enables ≤ 1024
+  pub disables : length s.disables ≤ 1024
+
+pub record IsShortShotGroup (g : ShotGroup) : Type 0 where
+  pub shots : length g.shots ≤ 16
+  pub rotates : length g.rotates ≤ 1024
+  pub rotates_right : length g.rotates_right ≤ 1024
+  pub rotates_left : length g.rotates_left ≤ 1024
+  pub resets : length g.resets ≤ 1024
+
+abbrev pub IsShortShotProfile : ShotProfile → Type 0
+IsShortShotProfile p = length p.states ≤ 16
 
 -- the events that a logic block posts
 pub record IsShortBlock (b : Block) : Type 0 where

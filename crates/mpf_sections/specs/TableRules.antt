@@ -1,18 +1,14 @@
--- What a table has to say so that it means what it says: no key twice, each default of the kind of its line, and the place of a short form within its table.
-use Rattle.std.specs.Prelude.{◌≡◌, ℕ, nat_le, nat_lt, Bool, true, false, not, ◌&&◌, List, [], ◌∷◌, length, map, Option, Some, None}
+-- What a table has to say so that it means what it says: no key twice, each default of the kind of its line, the place of a short form within its table, and the name of a map first in its table.
+use Rattle.std.specs.Prelude.{◌≡◌, ℕ, nat_le, nat_lt, Bool, true, false, ◌&&◌, List, [], ◌∷◌, length, map, Option, Some, None}
 use Rattle.std.specs.List.{list_any, list_all}
 use Rattle.std.specs.Str.{bytes_eq}
 use Rattle.mpf_values.specs.Reading.{is_name}
 use Rattle.mpf_values.specs.Events.{Condition}
 use Rattle.section_tables.specs.Rows.{Handled, Plain, nothing, flag, number, time, power, word, name, event, Value, one, names, posts, events, maps}
-use Rattle.section_tables.specs.Kinds.{Scalar, a_flag, number_within, time_within, a_power, one_of, a_name, an_event, Absent, required, default, fits, Field, Kind, single, name_list, post_list, event_list, map_list, keyed_maps, Setting, PlayerKinds, Shape, by_entries, by_players, by_entry, by_names}
+use Rattle.section_tables.specs.Kinds.{Scalar, a_flag, number_within, time_within, a_power, one_of, a_name, an_event, Absent, required, default, fits, Field, Kind, single, name_list, post_list, event_list, map_list, named_maps, keyed_maps, Setting, PlayerKinds, Shape, by_entries, by_players, by_entry, by_names}
 use Rattle.section_tables.specs.Tables.{field_key, setting_key}
 use Rattle.section_tables.specs.EntryOf.{within}
-
--- no key stands twice
-abbrev pub are_apart : List (List ℕ) → Bool
-are_apart [] = true
-are_apart (k ∷ ks) = not (list_any (λ other. bytes_eq other k) ks) && are_apart ks
+use Rattle.section_tables.specs.Reading.{are_apart}
 
 -- ---- defaults
 
@@ -45,6 +41,7 @@ is_value_of (post_list bounds) (posts []) = fits bounds 0
 is_value_of (event_list bounds) (events []) = fits bounds 0
 is_value_of (event_list bounds) (events (h ∷ [])) = fits bounds 1 && is_named_handled h
 is_value_of (map_list table others bounds) (maps []) = fits bounds 0
+is_value_of (named_maps table others bounds) (maps []) = fits bounds 0
 is_value_of _ _ = false
 
 abbrev pub is_plain_default : Scalar → Absent Plain → Bool
@@ -60,9 +57,19 @@ is_value_default kind (default v) = is_value_of kind v
 abbrev pub are_fields : List Field → Bool
 are_fields table = are_apart (map field_key table) && list_all (λ f. is_plain_default f.kind f.absent) table
 
+-- a name that has to be written
+abbrev pub is_needed_name : Scalar → Absent Plain → Bool
+is_needed_name a_name required = true
+is_needed_name kind absent = false
+
+abbrev pub begins_with_name : List Field → Bool
+begins_with_name [] = false
+begins_with_name (f ∷ fs) = is_needed_name f.kind f.absent
+
 -- the table of a kind's maps
 abbrev pub has_fields : Kind → Bool
 has_fields (map_list table others bounds) = are_fields table
+has_fields (named_maps table others bounds) = are_fields table && begins_with_name table
 has_fields (keyed_maps table place short) = are_fields table && nat_lt place (length table)
 has_fields _ = true
 

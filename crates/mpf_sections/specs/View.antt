@@ -1,5 +1,6 @@
 -- What contracts see of entries by the names of their settings.
 use Rattle.std.specs.Prelude.{map, option_map, Option}
+use Rattle.std.specs.List.{filter_map}
 use Rattle.std.specs.Borrow.{Bor}
 use Rattle.section_tables.specs.declared.rows.Plain as plains
 use Rattle.section_tables.specs.Rows.{Plain}
@@ -22,10 +23,14 @@ use Rattle.mpf_sections.specs.declared.game.VariableItem as typed_variable_items
 use Rattle.mpf_sections.specs.declared.game.GameSettings as typed_games
 use Rattle.mpf_sections.specs.declared.coil_rules.Flipper as typed_flippers
 use Rattle.mpf_sections.specs.declared.coil_rules.Autofire as typed_autofires
-use Rattle.mpf_sections.specs.Rows.{Written, Handled, Switch, EventPlayer, Coil, CoilItem, CoilPlayer, VariableItem, VariablePlayer, GameSettings, Flipper, Autofire, Block, Counter, StepBlock, Control, Timer, ModeSettings}
+use Rattle.mpf_sections.specs.declared.shots.Shot as typed_shots
+use Rattle.mpf_sections.specs.declared.shots.ShotGroup as typed_groups
+use Rattle.mpf_sections.specs.declared.shots.ShotProfile as typed_profiles
+use Rattle.mpf_sections.specs.Rows.{Written, Handled, Switch, EventPlayer, Coil, CoilItem, CoilPlayer, VariableItem, VariablePlayer, GameSettings, Flipper, Autofire, Shot, ShotGroup, ShotProfile, Block, Counter, StepBlock, Control, Timer, ModeSettings}
 use Rattle.mpf_sections.specs.Typed.{controls_of}
 use Rattle.mpf_sections.specs.TypedCoils.{coil_item_of}
 use Rattle.mpf_sections.specs.TypedGame.{variable_item_of}
+use Rattle.mpf_sections.specs.TypedShots.{state_of}
 pub use Rattle.mpf_sections.specs.SectionView.{content_view, section_view}
 pub use Rattle.section_tables.specs.View.{name_view, names_view, handler_view, handlers_view, plain_view, fields_view, keyed_view, entry_view, player_view}
 
@@ -154,4 +159,34 @@ autofire_view a = record {
   switch = name_at_view a.switch;
   enables = map handler_view a.enables.now;
   disables = map handler_view a.disables.now;
+}
+
+abbrev pub shot_view : typed_shots.Shot → Shot
+shot_view s = record {
+  name = name_view s.name.now;
+  switch = option_map name_at_view s.switch;
+  hits = map handler_view s.hits.now;
+  profile = name_at_view s.profile;
+  advances = map handler_view s.advances.now;
+  resets = map handler_view s.resets.now;
+  enables = map handler_view s.enables.now;
+  disables = map handler_view s.disables.now;
+}
+
+abbrev pub shot_group_view : typed_groups.ShotGroup → ShotGroup
+shot_group_view g = record {
+  name = name_view g.name.now;
+  shots = map name_view g.shots.now;
+  rotates = map handler_view g.rotates.now;
+  rotates_right = map handler_view g.rotates_right.now;
+  rotates_left = map handler_view g.rotates_left.now;
+  resets = map handler_view g.resets.now;
+}
+
+abbrev pub shot_profile_view : typed_profiles.ShotProfile → ShotProfile
+shot_profile_view p = record {
+  name = name_view p.name.now;
+  states = filter_map state_of (map fields_view p.states.now);
+  advance_on_hit = p.advance_on_hit;
+  loops = p.loops;
 }

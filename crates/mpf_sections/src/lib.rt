@@ -5,7 +5,8 @@
 //! [`Section`] has the entries that were read by it. They are rows of values in the order of the
 //! table: [`as_switch`], [`as_event_player`], [`as_coil`], [`as_coil_player`],
 //! [`as_variable_player`], [`as_flipper`], [`as_autofire`], [`as_counter`], [`as_step_block`],
-//! [`as_timer`], [`as_game`], [`min_balls`] and [`mode_settings`] give each setting by its name.
+//! [`as_timer`], [`as_shot`], [`as_shot_group`], [`as_shot_profile`], [`as_game`], [`min_balls`] and
+//! [`mode_settings`] give each setting by its name.
 #![tactic(auto)]
 
 pub mod blocks;
@@ -13,6 +14,7 @@ pub mod coil_rules;
 pub mod coils;
 pub mod game;
 pub mod section;
+pub mod shots;
 pub mod tables;
 pub mod timers;
 pub mod typed;
@@ -27,6 +29,7 @@ pub use game::{
     min_balls,
 };
 pub use section::{Content, Section};
+pub use shots::{Shot, ShotGroup, ShotProfile, as_shot, as_shot_group, as_shot_profile, as_state};
 pub use timers::{Control, Timer, as_control, as_timer};
 pub use typed::{
     EventPlayer, HandledAt, ModeSettings, NameAt, Switch, as_event_player, as_handled, as_switch,

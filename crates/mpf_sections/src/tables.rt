@@ -5,7 +5,7 @@ ghost use Rattle.std.specs.Prelude.{◌≡◌, ℕ, List, Some};
 ghost use Rattle.mpf_sections.specs.declared.tables.TextKind.{TextKind as Text};
 ghost use Rattle.mpf_sections.specs.declared.tables.TextKind.TheVariants.{Machine, Mode};
 ghost use Rattle.section_tables.specs.Kinds.{Shape as SectionShape};
-ghost use Rattle.mpf_sections.specs.SectionTables.{block_shapes, shared_shapes, named_in, shape_of};
+ghost use Rattle.mpf_sections.specs.SectionTables.{shot_shapes, block_shapes, shared_shapes, named_in, shape_of};
 ghost use Rattle.mpf_sections.specs.TableRules.{IsRight};
 ghost use Rattle.section_tables.specs.Reading.{give};
 ghost use Rattle.section_tables.specs.TableView.{shape_view};
@@ -213,6 +213,50 @@ pub const TIMERS: &[Setting] = &[
     ),
 ];
 
+/// The name of the profile that there always is.
+pub const DEFAULT_PROFILE: &[u8] = b"default";
+
+/// `shots`.
+pub const SHOTS: &[Setting] = &[
+    setting!(b"switch", NAME, NOTHING),
+    setting!(b"hit_events", EVENTS, Without::NoEvents),
+    setting!(
+        b"profile",
+        NAME,
+        Without::One(Absent::Name(DEFAULT_PROFILE))
+    ),
+    setting!(b"advance_events", EVENTS, Without::NoEvents),
+    setting!(b"reset_events", EVENTS, Without::NoEvents),
+    setting!(b"enable_events", EVENTS, Without::NoEvents),
+    setting!(b"disable_events", EVENTS, Without::NoEvents),
+];
+
+/// How many shots a group has, and how many states a profile.
+const SOME: Bounds = Bounds::Between(1, 16);
+
+/// `shot_groups`.
+pub const SHOT_GROUPS: &[Setting] = &[
+    setting!(b"shots", Kind::Names(SOME), REQUIRED),
+    setting!(b"rotate_events", EVENTS, Without::NoEvents),
+    setting!(b"rotate_right_events", EVENTS, Without::NoEvents),
+    setting!(b"rotate_left_events", EVENTS, Without::NoEvents),
+    setting!(b"reset_events", EVENTS, Without::NoEvents),
+];
+
+/// The maps of `states`. How a state is shown is said there too, so other keys are ignored.
+const PROFILE_STATE: &[Field] = &[field!(b"name", Scalar::Name, Absent::Required)];
+
+/// `shot_profiles`.
+pub const SHOT_PROFILES: &[Setting] = &[
+    setting!(
+        b"states",
+        Kind::NamedMaps(PROFILE_STATE, Others::Ignored, SOME),
+        REQUIRED
+    ),
+    setting!(b"advance_on_hit", FLAG, YES),
+    setting!(b"loop", FLAG, NO),
+];
+
 /// `mode`: the settings of a mode itself. `use_wait_queue` can only be no.
 pub const MODE: &[Setting] = &[
     setting!(b"start_events", EVENTS, Without::NoEvents),
@@ -332,9 +376,23 @@ pub const SEQUENCES_NAME: &[u8] = b"sequences";
 /// The name of the section [`TIMERS`].
 pub const TIMERS_NAME: &[u8] = b"timers";
 
+/// The name of the section [`SHOTS`].
+pub const SHOTS_NAME: &[u8] = b"shots";
+
+/// The name of the section [`SHOT_GROUPS`].
+pub const SHOT_GROUPS_NAME: &[u8] = b"shot_groups";
+
+/// The name of the section [`SHOT_PROFILES`].
+pub const SHOT_PROFILES_NAME: &[u8] = b"shot_profiles";
+
 /// The name that no device has.
 const NOT_A_DEVICE: Barred = Barred {
     names: &[b"playfield"],
+};
+
+/// The name that no entry of [`SHOT_PROFILES`] has.
+const NOT_DEFAULT: Barred = Barred {
+    names: &[DEFAULT_PROFILE],
 };
 
 const ANY_NAME: Barred = Barred { names: &[] };
@@ -358,6 +416,22 @@ pub enum TextKind {
     Machine,
     /// The text of a mode.
     Mode,
+}
+
+/// How a section of shots is written. No text has them yet: [`shape_of`] has none of them.
+pub fn shot_shape(section: &[u8]) -> Option<Shape>
+    ensures { give shape_view result ≡ named_in section.now shot_shapes }
+{
+    if section == SHOTS_NAME {
+        return Some(Shape::Entries(NOT_A_DEVICE, SHOTS));
+    }
+    if section == SHOT_GROUPS_NAME {
+        return Some(Shape::Entries(NOT_A_DEVICE, SHOT_GROUPS));
+    }
+    if section == SHOT_PROFILES_NAME {
+        return Some(Shape::Entries(NOT_DEFAULT, SHOT_PROFILES));
+    }
+    None
 }
 
 // How a section of logic blocks is written.

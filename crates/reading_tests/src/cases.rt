@@ -38,6 +38,8 @@ pub(crate) enum Subject {
     Entry,
     /// The same by `tables::NEEDS`.
     Needs,
+    /// The same by `tables::OWN_NAMES`.
+    OwnNames,
     /// YAML whose first pair is read as a section by `tables::PLAYER`.
     Players,
     /// YAML whose first pair is a section of a machine.

@@ -121,6 +121,13 @@ const NEEDS: &[Setting] = &[
     setting!(b"open", Kind::Maps(STATE, Others::Ignored, ANY), NOTHING),
 ];
 
+// Maps of which each has a name of its own.
+const OWN_NAMES: &[Setting] = &[setting!(
+    b"states",
+    Kind::NamedMaps(STATE, Others::Ignored, Bounds::Between(1, 3)),
+    REQUIRED
+)];
+
 // A player whose keys are handled events.
 const PLAYER: PlayerKinds = PlayerKinds {
     key: Scalar::Event,
@@ -207,6 +214,23 @@ e:¶  steps: [a]¶  coil: b => Missing 1 events
 e:¶  events: a¶  coil: b¶  tags: c => Missing 1 steps
 e:¶  open: [a] => BadValue 2 open
 e:¶  pulse: 1 => UnknownSetting 2 pulse
+";
+
+// Entries in which maps have names of their own, and their values or their faults.
+const NAMED: &str = "\
+e:¶  states:¶    - name: a¶    - name: b¶      shown: [c] => e@1: {a@3, -, 4, playfield@0}@3{b@4, -, 4, playfield@0}@4
+e:¶  states: [{name: a, to: b}, {to: b, name: b}, {name: A}] => e@1: {a@2, -, 4, b@2}@2{b@2, -, 4, b@2}@2{A@2, -, 4, playfield@0}@2
+e:¶  states: [{name: a}, {name: a}] => BadValue 2 states
+e:¶  states:¶    - name: a¶    - name: b¶    - count: 1¶      name: \"a\" => BadValue 2 states
+e:¶  states:¶    - name: a¶    - name: a¶    - count: 1 => Missing 5 name
+e:¶  states:¶    - name: a¶    - name: a¶      count: 10 => BadValue 5 count
+e:¶  states:¶    - name: a b => BadValue 3 name
+e:¶  states: [{name: a}, {name: b}, {name: c}, {name: d}] => BadValue 2 states
+e:¶  states: [{name: a}, b] => BadValue 2 states
+e:¶  states: => BadValue 2 states
+e:¶  states: {name: a} => BadValue 2 states
+e:¶  states: [«1025 {name: a}, »] => Limit 2 states
+e:¶  number: 1 => Missing 1 states
 ";
 
 // Texts whose one section is a player, and its entries or their fault.
@@ -618,6 +642,7 @@ fn show_rows(
     match subject {
         Subject::Entry => show_entry(out, &entry(alloc, SETTINGS, b"t", pair)?)?,
         Subject::Needs => show_entry(out, &entry(alloc, NEEDS, b"t", pair)?)?,
+        Subject::OwnNames => show_entry(out, &entry(alloc, OWN_NAMES, b"t", pair)?)?,
         Subject::Players => show_players(out, &players(alloc, PLAYER, b"t", pair)?)?,
         Subject::ModeSection => show_section(alloc, out, TextKind::Mode, pair)?,
         _ => show_section(alloc, out, TextKind::Machine, pair)?,
@@ -656,6 +681,7 @@ fn entries_by_tables(rt: HostRuntime) -> Result<(), Fail> {
     let tables = [
         (Subject::Entry, ENTRIES),
         (Subject::Needs, NEEDED),
+        (Subject::OwnNames, NAMED),
         (Subject::Players, PLAYERS),
         (Subject::Section, SECTIONS),
         (Subject::ModeSection, MODE_SECTIONS),

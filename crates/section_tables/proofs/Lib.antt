@@ -7,6 +7,7 @@ pub mod ScalarTexts
 pub mod Counting
 pub mod ListValues
 pub mod RowsRead
+pub mod Apart
 pub mod ValuesRead
 pub mod EntriesRead
 pub mod AnswersOf

@@ -9,7 +9,7 @@ use Rattle.mpf_values.specs.Names.{IsName}
 use Rattle.mpf_values.specs.Events.{Condition, Event, IsUnder, IsEvent}
 use Rattle.mpf_values.specs.Lists.{Item}
 use Rattle.section_tables.specs.Rows.{Written, Handled, Plain, Keyed, Value, Entry, Player}
-use Rattle.section_tables.specs.Kinds.{Scalar, a_flag, number_within, time_within, a_power, one_of, a_name, an_event, Bounds, at_least, Field, Kind, single, name_list, post_list, event_list, step_list, map_list, keyed_maps, Setting, PlayerKinds}
+use Rattle.section_tables.specs.Kinds.{Scalar, a_flag, number_within, time_within, a_power, one_of, a_name, an_event, Bounds, at_least, Field, Kind, single, name_list, post_list, event_list, step_list, map_list, named_maps, keyed_maps, Setting, PlayerKinds}
 use Rattle.section_tables.specs.Entries.{is_ignored, handled_at}
 use Rattle.section_tables.specs.Tables.{behind_one, found_in, field_key, field_default, setting_key, setting_default}
 use Rattle.section_tables.specs.EntryOf.{IsScalar, IsPlain, AreListed, AreNodes, AreNamesListed, IsWritten, IsHandled, OverwritesAt, IsOverwritten, IsField, pass, AreFields, IsKeyedRow, IsKeyed, AreKeyed, IsStep, IsValue, IsSetting, IsEntry, IsOtherEntry, AreEntries, IsPlayer, ArePlayers}
@@ -121,6 +121,8 @@ value_named longest (step_list bounds) node v q h =
     subst IsNamedValue (sym h.2) (all_zip (IsStep longest) AreNamedEvents (handled_named _ longest) h.1.nodes h.0 h.1.each)
 value_named longest (map_list table others bounds) node v q h =
     subst IsNamedValue (sym h.2) (all_zip (AreFields table others) (λ m. AreNamedPlains m.values) (λ n m k. row_named table others k.row.pairs m.values q k.row.overwritten) h.1.nodes h.0 h.1.each)
+value_named longest (named_maps table others bounds) node v q h =
+    subst IsNamedValue (sym h.3) (all_zip (AreFields table others) (λ m. AreNamedPlains m.values) (λ n m k. row_named table others k.row.pairs m.values q k.row.overwritten) h.1.nodes h.0 h.1.each)
 value_named longest (keyed_maps table place short) node v q h =
     subst IsNamedValue (sym h.2) (all_zip (IsKeyed table place short) IsNamedKeyed (keyed_named table place short q) h.1.pairs h.0 h.1.each)
 
@@ -155,6 +157,7 @@ value_short longest (step_list bounds) node v h =
     let each = all_zip (IsStep longest) few (listed_short IsHandled _ longest) h.1.nodes h.0 h.1.each in
     subst (IsShortValue longest) (sym h.2) (nodes_short (IsStep longest) bounds longest node h.0 h.1, All-from_recursion few h.0 each)
 value_short longest (map_list table others bounds) node v h = subst (IsShortValue longest) (sym h.2) (few_items longest (nodes_short (AreFields table others) bounds longest node h.0 h.1))
+value_short longest (named_maps table others bounds) node v h = subst (IsShortValue longest) (sym h.3) (few_items longest (nodes_short (AreFields table others) bounds longest node h.0 h.1))
 value_short longest (keyed_maps table place short) node v h = subst (IsShortValue longest) (sym h.2) (few_items longest (keyed_short table place short longest node h.0 h.1))
 
 -- ---- entries

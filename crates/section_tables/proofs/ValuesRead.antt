@@ -1,5 +1,5 @@
 -- The values of settings are those that are read, and no others.
-use Rattle.std.proofs.Common.{◌≡◌, ◌<◌, ℕ, Bool, true, false, List, length, map, set, Option, Some, None, Result, Ok, refl, sym, ap, subst, inl, arith}
+use Rattle.std.proofs.Common.{◌≡◌, ◌<◌, ℕ, Bool, true, false, if◌then◌else◌, List, length, map, set, Option, Some, None, Result, Ok, refl, sym, ap, subst, inl, arith}
 use Rattle.std.proofs.lemmas.Bool.{le-leb}
 use Rattle.yaml_subset.specs.Node.{Node, Pair}
 use Rattle.yaml_subset.specs.View.{line_of, text_in}
@@ -7,15 +7,16 @@ use Rattle.mpf_values.specs.Reading.{is_name}
 use Rattle.mpf_values.proofs.NameTexts.{IsName-from_is_name, is_name-from_IsName}
 use Rattle.section_tables.specs.declared.fault.FaultKind.TheVariants.{BadValue}
 use Rattle.section_tables.specs.Rows.{Written, Handled, Plain, Fields, Keyed, Value, one, names, posts, events, steps, maps, keyed, RowsFault}
-use Rattle.section_tables.specs.Kinds.{Scalar, at_least, fits, Field, Kind, single, name_list, post_list, event_list, step_list, map_list, keyed_maps}
+use Rattle.section_tables.specs.Kinds.{Scalar, Bounds, at_least, fits, Field, Kind, single, name_list, post_list, event_list, step_list, map_list, named_maps, keyed_maps}
 use Rattle.section_tables.specs.Entries.{pairs_below, written_at}
 use Rattle.section_tables.specs.Tables.{field_key, field_default, field_lacks}
-use Rattle.section_tables.specs.EntryOf.{IsWritten, IsHandled, IsField, pass, IsFieldRow, AreFields, IsKeyedRow, IsKeyed, AreKeyed, IsStep, IsValue}
-use Rattle.section_tables.specs.Reading.{most_items, IsReadOrLong, ◌>>=◌, Spot, rows_fault_at, key_spot, expect, each_read, plain_at, written_in, handled_in, listed_at, nodes_at, field_at, fields_row_at, fields_at, keyed_row_at, keyed_at, few_pairs_at, keyed_list_at, value_at}
+use Rattle.section_tables.specs.EntryOf.{IsWritten, IsHandled, AreNodes, IsField, pass, IsFieldRow, AreFields, own_name, HaveOwnNames, IsKeyedRow, IsKeyed, AreKeyed, IsStep, IsValue}
+use Rattle.section_tables.specs.Reading.{most_items, IsReadOrLong, ◌>>=◌, Spot, rows_fault_at, key_spot, expect, each_read, plain_at, written_in, handled_in, listed_at, nodes_at, field_at, fields_row_at, fields_at, refused, are_apart, named_maps_at, keyed_row_at, keyed_at, few_pairs_at, keyed_list_at, value_at}
 use Rattle.section_tables.proofs.Steps.{bind_ok, guard_true, ok_is, expected}
 use Rattle.section_tables.proofs.Outcomes.{then_or, each_sound, each_or}
 use Rattle.section_tables.proofs.ListValues.{plain_sound, plain_complete, name_sound, name_complete, handled_sound, handled_complete, listed_sound, counted_sound, counted_complete, listed_complete, nodes_sound, nodes_complete}
 use Rattle.section_tables.proofs.RowsRead.{row_sound, row_complete}
+use Rattle.section_tables.proofs.Apart.{apart_sound, apart_complete}
 
 -- ---- maps
 
@@ -50,6 +51,26 @@ fields_complete longest table others spot node m h =
     rw h.row.has
     (then_or (most_items < longest) (fields_row_at others at table h.row.pairs) (λ r. Ok (fields_made node r)) m.values m (field_row_complete longest table others at node m.values h.row)
     (inl (λ i. Ok (record { line = sym h.line i; values = m.values }))))
+
+-- ---- maps with their own names
+
+named_maps_sound : (table : List Field) (others : Bool) (bounds : Bounds) (spot : Spot) (node : Node) (ms : List Fields) → named_maps_at table others bounds spot node ≡ Ok ms
+    → AreNodes (AreFields table others) bounds 1024 node ms × HaveOwnNames ms
+unfolding named_maps_at
+named_maps_sound table others bounds spot node ms e =
+    let read = nodes_at (fields_at table others) bounds spot node in
+    let a = bind_ok read (λ xs. if are_apart (map own_name xs) then Ok xs else refused BadValue spot) ms e in
+    let b = guard_true (are_apart (map own_name a.0)) (Ok a.0) (rows_fault_at BadValue spot) ms a.2 in
+    subst (λ (xs : List Fields). AreNodes (AreFields table others) bounds 1024 node xs × HaveOwnNames xs) (ok_is a.0 ms b.1)
+    (nodes_sound (fields_at table others) (AreFields table others) (fields_sound table others) bounds spot node a.0 a.1, apart_sound (map own_name a.0) b.0)
+
+named_maps_complete : (longest : ℕ) (table : List Field) (others : Bool) (bounds : Bounds) (spot : Spot) (node : Node) (ms : List Fields) → AreNodes (AreFields table others) bounds longest node ms → HaveOwnNames ms
+    → IsReadOrLong longest (named_maps_at table others bounds spot node) ms
+unfolding named_maps_at
+named_maps_complete longest table others bounds spot node ms h apart =
+    then_or (most_items < longest) (nodes_at (fields_at table others) bounds spot node) (λ xs. if are_apart (map own_name xs) then Ok xs else refused BadValue spot) ms ms
+    (nodes_complete (fields_at table others) (AreFields table others) longest (fields_complete longest table others) bounds spot node ms h)
+    (inl (rw (apart_complete (map own_name ms) apart) refl))
 
 -- ---- maps of names
 
@@ -135,6 +156,10 @@ value_sound (step_list bounds) spot node v e =
 value_sound (map_list table others bounds) spot node v e =
     let a = put_in (nodes_at (fields_at table others) bounds spot node) maps v e in
     (a.0, nodes_sound (fields_at table others) (AreFields table others) (fields_sound table others) bounds spot node a.0 a.1, a.2)
+value_sound (named_maps table others bounds) spot node v e =
+    let a = put_in (named_maps_at table others bounds spot node) maps v e in
+    let b = named_maps_sound table others bounds spot node a.0 a.1 in
+    (a.0, b.0, b.1, a.2)
 value_sound (keyed_maps table place short) spot node v e =
     let a = put_in (keyed_list_at table place short spot node) keyed v e in (a.0, keyed_list_sound table place short spot node a.0 a.1, a.2)
 
@@ -156,5 +181,7 @@ value_complete longest (step_list bounds) spot node v h =
 value_complete longest (map_list table others bounds) spot node v h =
     then_put longest (nodes_at (fields_at table others) bounds spot node) maps h.0 v
     (nodes_complete (fields_at table others) (AreFields table others) longest (fields_complete longest table others) bounds spot node h.0 h.1) h.2
+value_complete longest (named_maps table others bounds) spot node v h =
+    then_put longest (named_maps_at table others bounds spot node) maps h.0 v (named_maps_complete longest table others bounds spot node h.0 h.1 h.2) h.3
 value_complete longest (keyed_maps table place short) spot node v h =
     then_put longest (keyed_list_at table place short spot node) keyed h.0 v (keyed_list_complete longest table place short spot node h.0 h.1) h.2

@@ -1,6 +1,6 @@
 -- What the row of an entry is, by the table of its section, however it is read.
-use Rattle.std.specs.Prelude.{◌≡◌, ℕ, ℤ, ◌≤◌, Bool, true, false, ◌&&◌, int_le, List, [], ◌∷◌, length, map, Option, Some, None, set, ◌⊎◌}
-use Rattle.std.specs.List.{AllZip}
+use Rattle.std.specs.Prelude.{◌≡◌, ◌≢◌, ℕ, ℤ, ◌≤◌, Bool, true, false, ◌&&◌, int_le, List, [], ◌∷◌, length, map, Option, Some, None, set, ◌⊎◌}
+use Rattle.std.specs.List.{AllZip, AllPairs}
 use Rattle.yaml_subset.specs.Node.{Node, Pair}
 use Rattle.yaml_subset.specs.View.{line_of, text_in}
 use Rattle.mpf_values.specs.Booleans.{IsBoolean}
@@ -11,7 +11,7 @@ use Rattle.mpf_values.specs.Names.{IsName}
 use Rattle.mpf_values.specs.Events.{Event, IsEvent}
 use Rattle.mpf_values.specs.Lists.{Item, IsList}
 use Rattle.section_tables.specs.Rows.{Written, Handled, Plain, flag, number, time, power, word, name, event, Fields, Keyed, Value, one, names, posts, events, steps, maps, keyed, Entry, Player}
-use Rattle.section_tables.specs.Kinds.{Scalar, a_flag, number_within, time_within, a_power, one_of, a_name, an_event, Bounds, at_least, fits, Field, Kind, single, name_list, post_list, event_list, step_list, map_list, keyed_maps, Setting, PlayerKinds}
+use Rattle.section_tables.specs.Kinds.{Scalar, a_flag, number_within, time_within, a_power, one_of, a_name, an_event, Bounds, at_least, fits, Field, Kind, single, name_list, post_list, event_list, step_list, map_list, named_maps, keyed_maps, Setting, PlayerKinds}
 use Rattle.section_tables.specs.Entries.{pairs_below, nodes_below, is_ignored, written_at, handled_at}
 use Rattle.section_tables.specs.Tables.{found_in, field_key, field_default, field_lacks, setting_key, setting_default, setting_lacks}
 
@@ -106,6 +106,18 @@ pub record AreFields (table : List Field) (others : Bool) (node : Node) (m : Fie
   pub line : m.line ≡ line_of node
   pub row : IsFieldRow table others node m.values
 
+-- the name of a map whose first value is one; the empty text where it is none
+abbrev pub name_first : List Plain → List ℕ
+name_first (name w ∷ xs) = w.text
+name_first _ = []
+
+abbrev pub own_name : Fields → List ℕ
+own_name m = name_first m.values
+
+-- no two maps have the same name
+abbrev pub HaveOwnNames : List Fields → Type 0
+HaveOwnNames ms = AllPairs (λ x y. x ≢ y) (map own_name ms)
+
 -- one value alone, at its place among those that hold where nothing is written; or the row of a map
 abbrev pub IsKeyedRow : List Field → ℕ → Scalar → Node → List Plain → Option (List ℕ) → Type 0
 IsKeyedRow table place short node row (Some text) = (v : Plain) × IsPlain short node v × (row ≡ set (map field_default table) place v)
@@ -138,6 +150,8 @@ IsValue longest (post_list bounds) node v = (xs : List Written) × AreListed IsW
 IsValue longest (event_list bounds) node v = (xs : List Handled) × AreListed IsHandled bounds longest node xs × (v ≡ events xs)
 IsValue longest (step_list bounds) node v = (xs : List (List Handled)) × AreNodes (IsStep longest) bounds longest node xs × (v ≡ steps xs)
 IsValue longest (map_list table others bounds) node v = (xs : List Fields) × AreNodes (AreFields table others) bounds longest node xs × (v ≡ maps xs)
+IsValue longest (named_maps table others bounds) node v =
+    (xs : List Fields) × AreNodes (AreFields table others) bounds longest node xs × HaveOwnNames xs × (v ≡ maps xs)
 IsValue longest (keyed_maps table place short) node v = (xs : List Keyed) × AreKeyed table place short longest node xs × (v ≡ keyed xs)
 
 abbrev pub IsSetting : ℕ → Setting → Node → Value → Type 0

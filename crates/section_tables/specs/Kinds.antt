@@ -37,6 +37,7 @@ abbrev pub Field : Type 0
 Field = KeyRule Scalar Plain
 
 -- What the value of a setting is to be: a text; a list of names, of posted events or of handled events; steps, each a list of handled events; a list of maps, in which other keys are ignored or not;
+-- such a list in which the first field of each map is its name, and no two have the same one;
 -- or a map of names, each with a map, or with one text that stands for the value of the field at this place.
 pub data Kind : Type 0 where
   single : Scalar → Kind
@@ -45,6 +46,7 @@ pub data Kind : Type 0 where
   event_list : Bounds → Kind
   step_list : Bounds → Kind
   map_list : List Field → Bool → Bounds → Kind
+  named_maps : List Field → Bool → Bounds → Kind
   keyed_maps : List Field → ℕ → Scalar → Kind
 
 abbrev pub Setting : Type 0

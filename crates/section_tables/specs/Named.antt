@@ -3,7 +3,7 @@ use Rattle.std.specs.Prelude.{ℕ, ◌≤◌, List, [], length, IfSome}
 use Rattle.std.specs.List.{All, AllByRecursion}
 use Rattle.mpf_values.specs.Names.{IsName}
 use Rattle.section_tables.specs.Rows.{Written, Handled, Plain, name, event, Keyed, Value, one, names, posts, events, steps, maps, keyed, Entry, Player}
-use Rattle.section_tables.specs.Kinds.{Scalar, a_name, an_event, Field, Kind, map_list, keyed_maps, Setting, PlayerKinds, Shape, by_entries, by_players, by_entry, by_names}
+use Rattle.section_tables.specs.Kinds.{Scalar, a_name, an_event, Field, Kind, map_list, named_maps, keyed_maps, Setting, PlayerKinds, Shape, by_entries, by_players, by_entry, by_names}
 use Rattle.section_tables.specs.Tables.{field_default, setting_default}
 
 -- ---- names
@@ -61,6 +61,7 @@ AreNamedFields = AllByRecursion (λ f. IsNamedPlain (field_default f))
 
 abbrev pub IsNamedKind : Kind → Type 0
 IsNamedKind (map_list table others bounds) = AreNamedFields table
+IsNamedKind (named_maps table others bounds) = AreNamedFields table
 IsNamedKind (keyed_maps table place short) = AreNamedFields table
 IsNamedKind _ = Unit {0}
 

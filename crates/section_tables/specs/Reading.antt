@@ -1,5 +1,5 @@
 -- Reading an entry by a table, from its first setting to its last, with the first fault that is met.
-use Rattle.std.specs.Prelude.{◌≡◌, ℕ, ◌<◌, nat_lt, nat_le, ◌==◌, ◌&&◌, not, Bool, false, if◌then◌else◌, List, [], ◌∷◌, length, map, filter, Option, Some, None, Result, Ok, Err, set, ◌⊎◌}
+use Rattle.std.specs.Prelude.{◌≡◌, ℕ, ◌<◌, nat_lt, nat_le, ◌==◌, ◌&&◌, not, Bool, true, false, if◌then◌else◌, List, [], ◌∷◌, length, map, filter, Option, Some, None, Result, Ok, Err, set, ◌⊎◌}
 use Rattle.std.specs.List.{list_any}
 use Rattle.std.specs.Result.{is_ok}
 use Rattle.std.specs.Str.{bytes_eq}
@@ -11,10 +11,10 @@ use Rattle.mpf_values.specs.Reading.{is_name, list_at, boolean_at, integer_at, t
 use Rattle.section_tables.specs.declared.fault.FaultKind.{FaultKind}
 use Rattle.section_tables.specs.declared.fault.FaultKind.TheVariants.{UnknownSetting, BadValue, Missing, Limit}
 use Rattle.section_tables.specs.Rows.{Written, Handled, Plain, flag, number, time, power, word, name, event, Fields, Keyed, Value, one, names, posts, events, steps, maps, keyed, Entry, Player, RowsFault}
-use Rattle.section_tables.specs.Kinds.{Scalar, a_flag, number_within, time_within, a_power, one_of, a_name, an_event, Bounds, at_least, fits, Field, Kind, single, name_list, post_list, event_list, step_list, map_list, keyed_maps, Setting, PlayerKinds}
+use Rattle.section_tables.specs.Kinds.{Scalar, a_flag, number_within, time_within, a_power, one_of, a_name, an_event, Bounds, at_least, fits, Field, Kind, single, name_list, post_list, event_list, step_list, map_list, named_maps, keyed_maps, Setting, PlayerKinds}
 use Rattle.section_tables.specs.Entries.{pairs_below, nodes_below, is_ignored, written_at, handled_at}
 use Rattle.section_tables.specs.Tables.{found_in, field_key, field_default, field_lacks, setting_key, setting_default, setting_lacks}
-use Rattle.section_tables.specs.EntryOf.{within, pass}
+use Rattle.section_tables.specs.EntryOf.{within, pass, own_name}
 
 -- where a fault stands: in which text, at which line, and with which key
 pub record Spot : Type 0 where
@@ -155,6 +155,16 @@ fields_at table others spot node =
     expect spot (pairs_below node) >>= λ pairs. fields_row_at others (record { text = spot.text; line = line_of node; key = spot.key }) table pairs
     >>= λ row. Ok (record { line = line_of node; values = row })
 
+-- no name stands twice
+abbrev pub are_apart : List (List ℕ) → Bool
+are_apart [] = true
+are_apart (k ∷ ks) = not (list_any (bytes_eq k) ks) && are_apart ks
+
+-- maps of which each has a name of its own; the names are compared when all maps are read
+unfoldable pub named_maps_at : List Field → Bool → Bounds → Spot → Node → Result (List Fields) RowsFault
+named_maps_at table others bounds spot node =
+    nodes_at (fields_at table others) bounds spot node >>= λ ms. if are_apart (map own_name ms) then Ok ms else refused BadValue spot
+
 -- the values that belong to a name: one text alone, or a map
 abbrev pub keyed_row_at : List Field → ℕ → Scalar → Spot → Node → Option (List ℕ) → Result (List Plain) RowsFault
 keyed_row_at table place short spot node (Some text) = plain_at short spot node >>= λ v. Ok (set (map field_default table) place v)
@@ -182,6 +192,7 @@ value_at (post_list bounds) spot node = listed_at written_in most_items bounds s
 value_at (event_list bounds) spot node = listed_at handled_in most_items bounds spot node >>= λ xs. Ok (events xs)
 value_at (step_list bounds) spot node = nodes_at (listed_at handled_in most_items (at_least 1)) bounds spot node >>= λ xs. Ok (steps xs)
 value_at (map_list table others bounds) spot node = nodes_at (fields_at table others) bounds spot node >>= λ xs. Ok (maps xs)
+value_at (named_maps table others bounds) spot node = named_maps_at table others bounds spot node >>= λ xs. Ok (maps xs)
 value_at (keyed_maps table place short) spot node = keyed_list_at table place short spot node >>= λ xs. Ok (keyed xs)
 
 abbrev pub setting_at : Setting → Spot → Node → Result Value RowsFault

@@ -19,7 +19,7 @@ use Rattle.section_tables.specs.declared.table.Barred as barreds
 use Rattle.section_tables.specs.declared.table.Shape as shapes
 use Rattle.section_tables.specs.declared.table.Shape.TheVariants as shape
 use Rattle.section_tables.specs.Rows.{Plain, nothing, flag, number, time, power, word, name, Value, one, names, posts, events, maps}
-use Rattle.section_tables.specs.Kinds.{Scalar, a_flag, number_within, time_within, a_power, one_of, a_name, an_event, Bounds, at_least, between, Absent, required, default, Field, Kind, single, name_list, post_list, event_list, step_list, map_list, keyed_maps, Setting, PlayerKinds, Shape, by_entries, by_players, by_entry, by_names}
+use Rattle.section_tables.specs.Kinds.{Scalar, a_flag, number_within, time_within, a_power, one_of, a_name, an_event, Bounds, at_least, between, Absent, required, default, Field, Kind, single, name_list, post_list, event_list, step_list, map_list, named_maps, keyed_maps, Setting, PlayerKinds, Shape, by_entries, by_players, by_entry, by_names}
 use Rattle.section_tables.specs.Entries.{written_at, handled_at}
 
 abbrev pub scalar_view : scalars.Scalar → Scalar
@@ -63,6 +63,7 @@ kind_view (kind.Posts b) = post_list (bounds_view b)
 kind_view (kind.Events b) = event_list (bounds_view b)
 kind_view (kind.Steps b) = step_list (bounds_view b)
 kind_view (kind.Maps table o b) = map_list (map field_view table.now) (others_view o) (bounds_view b)
+kind_view (kind.NamedMaps table o b) = named_maps (map field_view table.now) (others_view o) (bounds_view b)
 kind_view (kind.Keyed table place short) = keyed_maps (map field_view table.now) place (scalar_view short)
 
 abbrev pub without_view : withouts.Without → Absent Value

@@ -1,10 +1,12 @@
 //! Maps that are read by a table of fields.
 
 ghost use Rattle.std.specs.Prelude.{◌≡◌, ◌<◌, Bool, length, map, set, false, IfOk, IfSome};
+ghost use Rattle.std.specs.List.{list_any};
+ghost use Rattle.std.specs.Str.{bytes_eq};
 ghost use Rattle.yaml_subset.specs.View.{node_view, pair_view, text_in, option_slice};
 ghost use Rattle.section_tables.specs.Tables.{found_in, plain_default, field_key, field_default, plain_lacks, field_lacks};
-ghost use Rattle.section_tables.specs.EntryOf.{pass};
-ghost use Rattle.section_tables.specs.Reading.{put_at, overwritten_at, lacking, field_at, fields_row_at, fields_at, nodes_at, keyed_row_at, keyed_at, keyed_list_at};
+ghost use Rattle.section_tables.specs.EntryOf.{pass, own_name};
+ghost use Rattle.section_tables.specs.Reading.{put_at, overwritten_at, lacking, field_at, fields_row_at, fields_at, nodes_at, are_apart, named_maps_at, keyed_row_at, keyed_at, keyed_list_at};
 ghost use Rattle.section_tables.specs.TableView.{scalar_view, bounds_view, others_view, absent_view, field_view};
 ghost use Rattle.section_tables.specs.View.{plain_view, plains_view, fields_view, maps_view, keyed_view, keyed_list_view, spot_view, pairs_view, found_view, GivesRows};
 
@@ -190,6 +192,63 @@ pub fn maps(
             ensures { GivesRows fields_view result (fields_at (map field_view table.entry.now) (others_view others) (spot_view spot.entry) (node_view node.now)) }
         { fields(alloc, spot, table, others, node) },
     )
+}
+
+// ---- maps with their own names
+
+// The name that the first value of a map is; the empty text where it is none.
+fn own_name(map: &Fields) -> &[u8]
+    ensures { result.now ≡ own_name (fields_view map.now) }
+{
+    match map.values.first() {
+        Some(Plain::Name(name)) => &name.text,
+        Some(Plain::DefaultName(name)) => name,
+        _ => b"",
+    }
+}
+
+// Whether one of these maps has the same name as another one.
+fn has_namesake(maps: &[Fields], other: &Fields) -> bool
+    ensures { result ≡ list_any (λ map. bytes_eq (own_name (fields_view other.now)) (own_name (fields_view map))) maps.now }
+{
+    let name = own_name(other);
+    maps.iter().any(
+        |map|
+            ensures { result ≡ bytes_eq name.entry.now (own_name (fields_view map.now)) }
+        { name == own_name(map) },
+    )
+}
+
+// Whether no two maps have the same name.
+fn are_apart(maps: &[Fields]) -> bool
+    ensures { result ≡ are_apart (map own_name (map fields_view maps.now)) }
+{
+    for (at, map) in maps.iter().enumerate() {
+        if has_namesake(&maps[at + 1..], map) {
+            return false;
+        }
+    }
+    true
+}
+
+/// The maps in a list, each with a name of its own; or the first fault. The names are compared when
+/// all maps are read: two that are the same are BadValue at the spot.
+#[tactic(auto, unfolding(crate::specs::Reading::named_maps_at))]
+pub fn named_maps(
+    alloc: Global,
+    spot: Spot<'_>,
+    table: &[Field],
+    others: Others,
+    bounds: Bounds,
+    tree: &Tree,
+) -> Result<Vec<Fields>, ConfigFault>
+    ensures { GivesRows maps_view result (named_maps_at (map field_view table.now) (others_view others) (bounds_view bounds) (spot_view spot.entry) (node_view tree.now)) }
+{
+    let maps = maps(alloc, spot, table, others, bounds, tree)?;
+    if !are_apart(&maps) {
+        return Err(ConfigFault::Bundle(spot.fault(alloc, FaultKind::BadValue)?));
+    }
+    Ok(maps)
 }
 
 // ---- maps of names

@@ -13,7 +13,7 @@ ghost use Rattle.section_tables.specs.View.{names_view, handlers_view, steps_vie
 
 use crate::each::each;
 use crate::fault::{ConfigFault, FaultKind};
-use crate::fields::{default_plain, keyed_list, lacks as plain_lacks, maps};
+use crate::fields::{default_plain, keyed_list, lacks as plain_lacks, maps, named_maps};
 use crate::lists::{MAX_ITEMS, handlers, names};
 use crate::nodes::nodes;
 use crate::rows::{Handler, Name, Value};
@@ -201,6 +201,10 @@ pub fn value(alloc: Global, spot: Spot<'_>, kind: Kind, tree: &Tree) -> Result<V
         }
         Kind::Maps(table, others, bounds) => {
             let maps = maps(alloc, spot, table, others, bounds, tree)?;
+            Ok(Value::Maps(maps))
+        }
+        Kind::NamedMaps(table, others, bounds) => {
+            let maps = named_maps(alloc, spot, table, others, bounds, tree)?;
             Ok(Value::Maps(maps))
         }
         Kind::Keyed(table, at, short) => {

@@ -75,6 +75,9 @@ pub enum Kind {
     Steps(Bounds),
     /// A YAML list of maps with these keys.
     Maps(&'static [Field], Others, Bounds),
+    /// Such a list in which the first field of each map is its name, and no two maps have the same
+    /// one.
+    NamedMaps(&'static [Field], Others, Bounds),
     /// A map of names, of which there may be as many as items in a list. Each has a map with these
     /// keys, or one text: the value of the field at this place, with the defaults for the other
     /// fields.

@@ -1,0 +1,213 @@
+//! The entries of `shots`, `shot_groups` and `shot_profiles`, by the names of their settings.
+
+ghost use Rattle.std.specs.Prelude.{◌≡◌, map, option_map, slice_get, unwrap_or};
+ghost use Rattle.section_tables.specs.Entries.{written_at};
+ghost use Rattle.section_tables.specs.View.{values_view};
+ghost use Rattle.mpf_sections.specs.Typed.{listed_names, listed_maps};
+ghost use Rattle.mpf_sections.specs.TypedShots.{few, default_profile, shot_of, shot_group_of, state_of, shot_profile_of, shots_in, shot_groups_in, shot_profiles_in};
+ghost use Rattle.mpf_sections.specs.View.{name_view, fields_view, entry_view, section_view, name_at_view, shot_view, shot_group_view, shot_profile_view};
+
+use crate::section::Section;
+use crate::tables::{DEFAULT_PROFILE, SHOT_GROUPS_NAME, SHOT_PROFILES_NAME, SHOTS_NAME};
+use crate::typed::NameAt;
+use crate::values::{field, flag, handlers, maps, name, names, text};
+use section_tables::rows::{Entry, Fields, Handler, Name, Value};
+
+/// An entry of `shots`.
+#[derive(Clone, Copy)]
+pub struct Shot<'a> {
+    pub name: &'a Name,
+    /// The switch that hits it, if there is one: by default there is none.
+    pub switch: Option<NameAt<'a>>,
+    /// The events that hit it.
+    pub hits: &'a [Handler],
+    /// The profile that says what states it has: by default `default`, at line 0.
+    pub profile: NameAt<'a>,
+    /// The events that move it to its next state.
+    pub advances: &'a [Handler],
+    /// The events that move it to its first state.
+    pub resets: &'a [Handler],
+    /// The events that enable it. Without any it is enabled at first.
+    pub enables: &'a [Handler],
+    /// The events that disable it.
+    pub disables: &'a [Handler],
+}
+
+/// An entry of `shot_groups`.
+#[derive(Clone, Copy)]
+pub struct ShotGroup<'a> {
+    pub name: &'a Name,
+    /// Its shots: in the rows of a bundle 1 to 16.
+    pub shots: &'a [Name],
+    /// The events that move the state of each shot to the next shot, and that of the last one to
+    /// the first.
+    pub rotates: &'a [Handler],
+    /// The events that do the same.
+    pub rotates_right: &'a [Handler],
+    /// The events that move the states the other way.
+    pub rotates_left: &'a [Handler],
+    /// The events that move each shot to its first state.
+    pub resets: &'a [Handler],
+}
+
+/// An entry of `shot_profiles`.
+#[derive(Clone, Copy)]
+pub struct ShotProfile<'a> {
+    pub name: &'a Name,
+    /// The states, first to last, each to be read with [`as_state`]: in the rows of a bundle 1 to
+    /// 16, of which no two have the same name.
+    pub states: &'a [Fields],
+    /// Whether a hit moves a shot to its next state: by default it does.
+    pub advance_on_hit: bool,
+    /// The setting `loop`: whether the first state comes after the last. By default none does.
+    pub loops: bool,
+}
+
+// The places of the settings in the table of `shots`.
+const SWITCH: usize = 0;
+
+const HITS: usize = 1;
+
+const PROFILE: usize = 2;
+
+const ADVANCES: usize = 3;
+
+const SHOT_RESETS: usize = 4;
+
+const ENABLES: usize = 5;
+
+const DISABLES: usize = 6;
+
+// Those in the table of `shot_groups`.
+const SHOTS: usize = 0;
+
+const ROTATES: usize = 1;
+
+const ROTATES_RIGHT: usize = 2;
+
+const ROTATES_LEFT: usize = 3;
+
+const GROUP_RESETS: usize = 4;
+
+// Those in the table of `shot_profiles`.
+const STATES: usize = 0;
+
+const ADVANCE_ON_HIT: usize = 1;
+
+const LOOP: usize = 2;
+
+// The place of the field in the map of a state.
+const STATE_NAME: usize = 0;
+
+// The profile of this name, or where none is written the default one.
+fn profile_or_default(written: Option<NameAt<'_>>) -> NameAt<'_>
+    ensures { name_at_view result ≡ unwrap_or (option_map name_at_view written.entry) (written_at 0 default_profile) }
+{
+    match written {
+        Some(profile) => profile,
+        None => NameAt {
+            line: 0,
+            text: DEFAULT_PROFILE,
+        },
+    }
+}
+
+// The names at a place of a row, 16 at most.
+fn few_names(row: &[Value], at: usize) -> &[Name]
+    ensures { map name_view result.now ≡ few (listed_names (slice_get (values_view row.now) at)) }
+{
+    let names = names(row, at);
+    if names.len() <= 16 { names } else { &[] }
+}
+
+// The maps at a place of a row, 16 at most.
+fn few_maps(row: &[Value], at: usize) -> &[Fields]
+    ensures { map fields_view result.now ≡ few (listed_maps (slice_get (values_view row.now) at)) }
+{
+    let maps = maps(row, at);
+    if maps.len() <= 16 { maps } else { &[] }
+}
+
+/// An entry of `shots`, by the names of its settings.
+#[tactic(auto, unfolding(crate::specs::TypedShots::shot_of))]
+pub fn as_shot(entry: &Entry) -> Shot<'_>
+    ensures { shot_view result ≡ shot_of (entry_view entry.now) }
+{
+    let row = entry.values.as_slice();
+    Shot {
+        name: &entry.name,
+        switch: name(text(row, SWITCH)),
+        hits: handlers(row, HITS),
+        profile: profile_or_default(name(text(row, PROFILE))),
+        advances: handlers(row, ADVANCES),
+        resets: handlers(row, SHOT_RESETS),
+        enables: handlers(row, ENABLES),
+        disables: handlers(row, DISABLES),
+    }
+}
+
+/// An entry of `shot_groups`, by the names of its settings.
+#[tactic(auto, unfolding(crate::specs::TypedShots::shot_group_of))]
+pub fn as_shot_group(entry: &Entry) -> ShotGroup<'_>
+    ensures { shot_group_view result ≡ shot_group_of (entry_view entry.now) }
+{
+    let row = entry.values.as_slice();
+    ShotGroup {
+        name: &entry.name,
+        shots: few_names(row, SHOTS),
+        rotates: handlers(row, ROTATES),
+        rotates_right: handlers(row, ROTATES_RIGHT),
+        rotates_left: handlers(row, ROTATES_LEFT),
+        resets: handlers(row, GROUP_RESETS),
+    }
+}
+
+/// A map of `states`: the name of the state; none if it has none, as no map has that is read.
+#[tactic(auto, unfolding(crate::specs::TypedShots::state_of))]
+pub fn as_state(map: &Fields) -> Option<NameAt<'_>>
+    ensures { option_map name_at_view result ≡ state_of (fields_view map.now) }
+{
+    name(field(&map.values, STATE_NAME))
+}
+
+/// An entry of `shot_profiles`, by the names of its settings.
+#[tactic(auto, unfolding(crate::specs::TypedShots::shot_profile_of))]
+pub fn as_shot_profile(entry: &Entry) -> ShotProfile<'_>
+    ensures { shot_profile_view result ≡ shot_profile_of (entry_view entry.now) }
+{
+    let row = entry.values.as_slice();
+    ShotProfile {
+        name: &entry.name,
+        states: few_maps(row, STATES),
+        advance_on_hit: flag(row, ADVANCE_ON_HIT),
+        loops: flag(row, LOOP),
+    }
+}
+
+impl Section {
+    /// The entries of `shots`, each to be read with [`as_shot`]; none of any other section.
+    #[tactic(auto, unfolding(crate::specs::TypedShots::shots_in))]
+    pub fn shots(&self) -> &[Entry]
+        ensures { map shot_of (map entry_view result.now) ≡ shots_in (section_view self.now) }
+    {
+        self.entries_of(SHOTS_NAME)
+    }
+
+    /// The entries of `shot_groups`, each to be read with [`as_shot_group`]; none of any other
+    /// section.
+    #[tactic(auto, unfolding(crate::specs::TypedShots::shot_groups_in))]
+    pub fn shot_groups(&self) -> &[Entry]
+        ensures { map shot_group_of (map entry_view result.now) ≡ shot_groups_in (section_view self.now) }
+    {
+        self.entries_of(SHOT_GROUPS_NAME)
+    }
+
+    /// The entries of `shot_profiles`, each to be read with [`as_shot_profile`]; none of any other
+    /// section.
+    #[tactic(auto, unfolding(crate::specs::TypedShots::shot_profiles_in))]
+    pub fn shot_profiles(&self) -> &[Entry]
+        ensures { map shot_profile_of (map entry_view result.now) ≡ shot_profiles_in (section_view self.now) }
+    {
+        self.entries_of(SHOT_PROFILES_NAME)
+    }
+}
