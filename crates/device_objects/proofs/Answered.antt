@@ -69,7 +69,8 @@ in_range a (suc n) k low high =
       | inr other ↦ there (in_range (a + 1) n k (omega (arith, low, other)) (omega (arith, high)))
     ]
 
-in_flat_map : {A X : Type 0} (f : A → List X) {a : A} {x : X} {among : List A} → In a among → In x (f a) → In x (flat_map f among)
+in_flat_map : {A X : Type 0} (f : A → List X) {a : A} {x : X} {among : List A} → In a among → In x (f a)
+    → In x (flat_map f among)
 in_flat_map f {among = []} never at = elim never [ ]
 in_flat_map f {among = b ∷ bs} here at = at_left (flat_map f bs) at
 in_flat_map f {among = b ∷ bs} (there found) at = at_right (f b) (in_flat_map f found at)
@@ -283,7 +284,8 @@ timer-in t (calls.Act act) now s = timer_act-in t act now s
 -- ---- banks
 
 -- the only shot of a group, when it has moved
-only_shot : (shots i s next : ℕ) (states : List ℕ) → nat_lt i shots ≡ true → nat_lt 1 shots ≡ false → slice_get states i ≡ Some s
+only_shot : (shots i s next : ℕ) (states : List ℕ) → nat_lt i shots ≡ true → nat_lt 1 shots ≡ false
+    → slice_get states i ≡ Some s
     → list_all (λ n. n == next) (take shots (slice_set states i next)) ≡ true
 only_shot zero i s next states within one is = absurd (nat_lt-not_zero i within)
 only_shot (suc zero) zero s next [] within one is = absurd (none-some s is)
@@ -294,7 +296,8 @@ only_shot (suc (suc n)) i s next states within one is = absurd (one_below n one)
 -- what a hit answers, by whether the shots are a group, advance, move and are then all in one state, and are several
 hit-comes : {S : Type 0} (x y : S) (group advance moves all several : Bool) (hits : List ℕ) (done : ℕ)
     → (several ≡ false → all ≡ true)
-    → In (if◌then◌else◌ {A = S × List ℕ} advance (x, hits ++ (if group && (moves && all) then done ∷ [] else [])) (y, hits)).1
+    → In (if◌then◌else◌ {A = S × List ℕ} advance (x, hits ++ (if group && (moves && all) then done ∷ [] else []))
+    (y, hits)).1
     (if group && (advance && moves) then only_if several (hits ∷ []) ++ (hits ++ done ∷ []) ∷ [] else hits ∷ [])
 hit-comes x y false false moves all several hits done only = here
 hit-comes x y true false moves all several hits done only = here
@@ -312,19 +315,23 @@ hit_now-in b i s slot within is =
     (bank.are_all_in b next (bank.gone_on b i s slot.states)) (nat_lt 1 b.shots) (bank.hit_lists b i s)
     (bank.group_complete b next) (λ one. only_shot b.shots i s next slot.states within one is)
 
-hit_where-in : (b : BankSettings) (i : ℕ) (slot : BankSlot) (enabled : Option Bool) (state : Option ℕ) → nat_lt i b.shots ≡ true
+hit_where-in : (b : BankSettings) (i : ℕ) (slot : BankSlot) (enabled : Option Bool) (state : Option ℕ)
+    → nat_lt i b.shots ≡ true
     → slice_get slot.states i ≡ state → ((s : ℕ) → state ≡ Some s → s ≤ b.last_state)
     → In (bank.hit_where b i enabled state slot).1 ([] ∷ only_if (nat_lt i b.shots) (of_hit b i))
 hit_where-in b i slot (Some true) (Some s) within is low =
-    let at : In s (range_with_len 0 (state_count b)) = in_range 0 (state_count b) s (omega arith) (omega (arith, low s refl)) in
+    let at : In s (range_with_len 0 (state_count b)) =
+    in_range 0 (state_count b) s (omega arith) (omega (arith, low s refl)) in
     there (if_holds (nat_lt i b.shots) within (in_flat_map (of_hit_in b i) at (hit_now-in b i s slot within is)))
 hit_where-in b i slot _ _ within is low = here
 
-bank_slot-in : (b : BankSettings) (act : Act) (slot : BankSlot) → HasBankShape b slot → In (bank.slot_step b act slot).1 (of_bank b act)
+bank_slot-in : (b : BankSettings) (act : Act) (slot : BankSlot) → HasBankShape b slot
+    → In (bank.slot_step b act slot).1 (of_bank b act)
 bank_slot-in b (acts.Hit i) slot shape =
     let state = slice_get slot.states i in
     either (nat_lt i b.shots) (bank.hit_where b i (slice_get slot.enabled i) state slot) (slot, [])
-    (λ within. hit_where-in b i slot (slice_get slot.enabled i) state within refl (λ s is. All-at (λ n. n ≤ b.last_state) slot.states i s is shape.2))
+    (λ within. hit_where-in b i slot (slice_get slot.enabled i) state within refl
+    (λ s is. All-at (λ n. n ≤ b.last_state) slot.states i s is shape.2))
     (λ not. here)
 bank_slot-in b _ slot shape = here
 
@@ -332,14 +339,17 @@ bank_none-in : (b : BankSettings) (act : Act) → In [] (of_bank b act)
 bank_none-in b (acts.Hit i) = here
 bank_none-in b _ = here
 
-bank-in : (b : BankSettings) (call : Call) (world : World) (slots : List BankSlot) → All (HasBankShape b) slots → MayCome call (states.Bank slots)
+bank-in : (b : BankSettings) (call : Call) (world : World) (slots : List BankSlot) → All (HasBankShape b) slots
+    → MayCome call (states.Bank slots)
     → In (bank.bank_step b call world slots).1 (outcomes (kinds.Bank b) call)
 bank-in b calls.ModeStart world slots shape may = here
 bank-in b calls.ModeStop world slots shape may = here
 bank-in b calls.Fire world slots shape may = absurd (false≢true may)
 bank-in b (calls.Act act) world slots shape may =
-    step_in_use-answers (HasBankShape b) (λ answer. In answer (of_bank b act)) (λ slot. bank.slot_step b act (bank.current b world slot))
-    (λ slot has. bank_slot-in b act (bank.current b world slot) (current-shape b world slot has)) slots (slot_in_use true world) shape
+    step_in_use-answers (HasBankShape b) (λ answer. In answer (of_bank b act))
+    (λ slot. bank.slot_step b act (bank.current b world slot))
+    (λ slot has. bank_slot-in b act (bank.current b world slot) (current-shape b world slot has)) slots
+    (slot_in_use true world) shape
     (bank_none-in b act)
 
 -- ---- flippers and autofire coils
@@ -376,7 +386,8 @@ answers_are_outcomes (kinds.Counter c) call now world (states.Counter slots) sha
 answers_are_outcomes (kinds.Accrual a) call now world (states.Accrual slots) shape may = contains (accrual-in a call world slots shape.0 may)
 answers_are_outcomes (kinds.Sequence q) call now world (states.Sequence slots) shape may = contains (sequence-in q call world slots shape may)
 answers_are_outcomes (kinds.Timer t) call now world (states.Timer s) shape may = contains (timer-in t call now s)
-answers_are_outcomes (kinds.Bank b) call now world (states.Bank slots) shape may = contains (bank-in b call world slots shape.1 may)
+answers_are_outcomes (kinds.Bank b) call now world (states.Bank slots) shape may =
+    contains (bank-in b call world slots shape.1 may)
 answers_are_outcomes kinds.Flipper call now world (states.Flipper s) shape may = contains (flipper-in call s may)
 answers_are_outcomes kinds.Autofire call now world (states.Autofire s) shape may = contains (autofire-in call s may)
 answers_are_outcomes _ call now world _ shape may = elim shape [ ]

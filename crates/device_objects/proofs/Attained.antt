@@ -90,7 +90,8 @@ all_if : (P : List ℕ → Type 0) (holds : Bool) (xs : List (List ℕ)) → (ho
 all_if P true xs all = all refl
 all_if P false xs all = none P
 
-by_test : (P : List ℕ → Type 0) (test : Bool) (xs ys : List (List ℕ)) → (test ≡ true → All P xs) → (test ≡ false → All P ys)
+by_test : (P : List ℕ → Type 0) (test : Bool) (xs ys : List (List ℕ)) → (test ≡ true → All P xs)
+    → (test ≡ false → All P ys)
     → All P (if test then xs else ys)
 by_test P true xs ys first second = first refl
 by_test P false xs ys first second = second refl
@@ -416,7 +417,8 @@ bank_by_nobody b act = record {
 }
 
 -- what a hit answers where it completes no group, and where it completes one
-not_complete : (group advance moves all : Bool) → (group && (advance && moves)) ≡ false → advance ≡ true → (group && (moves && all)) ≡ false
+not_complete : (group advance moves all : Bool) → (group && (advance && moves)) ≡ false → advance ≡ true
+    → (group && (moves && all)) ≡ false
 not_complete false advance moves all is on = refl
 not_complete true false moves all is on = absurd (false≢true on)
 not_complete true true false all is on = refl
@@ -468,20 +470,25 @@ none_moves true all true is = refl
 none_moves true all false is = absurd (false≢true is)
 
 -- of several shots that were in one state, one has moved
-one_moved : (n i s next : ℕ) → nat_lt 1 n ≡ true → n ≤ 16 → (next ≡ s → ⊥) → list_all (λ x. x == next) (take n (slice_set (replicate 16 s) i next)) ≡ false
+one_moved : (n i s next : ℕ) → nat_lt 1 n ≡ true → n ≤ 16 → (next ≡ s → ⊥)
+    → list_all (λ x. x == next) (take n (slice_set (replicate 16 s) i next)) ≡ false
 one_moved n i s next several few differ =
     let moved_one : List ℕ = slice_set (replicate 16 s) i next in
     let j : ℕ = another i in
     let two : 1 < n = ltb-true 1 n several in
     let low : j < 2 = (another-is i).1 in
-    let long : length (take n moved_one) ≡ n = omega (arith, few, length-take n moved_one, length-set (replicate 16 s) i next, length-replicate 16 s) in
+    let long : length (take n moved_one) ≡ n =
+    omega (arith, few, length-take n moved_one, length-set (replicate 16 s) i next, length-replicate 16 s) in
     let stays : get_or (take n moved_one) j 0 ≡ s =
-    (get_or-take n moved_one j 0 (omega (arith, two, low)) ∙ get_or-set_other (replicate 16 s) i j next 0 (another-is i).0 ∙ get_or-replicate 16 j s 0 (omega (arith, low))) in
+    (get_or-take n moved_one j 0 (omega (arith, two, low))
+    ∙ get_or-set_other (replicate 16 s) i j next 0 (another-is i).0
+    ∙ get_or-replicate 16 j s 0 (omega (arith, low))) in
     list_all_at (λ x. x == next) (take n moved_one) j 0 (omega (arith, two, low, long))
     (ap (λ x. x == next) stays ∙ ne_eqb s next (λ same. differ (sym same)))
 
 module _ (b : BankSettings) (limits : IsWithinLimits (kinds.Bank b)) where
-  bank_shape : (shots : List ℕ) → length shots ≡ 16 → All (λ s. s ≤ b.last_state) shots → HasBankShape b (bank_slot shots)
+  bank_shape : (shots : List ℕ) → length shots ≡ 16 → All (λ s. s ≤ b.last_state) shots
+      → HasBankShape b (bank_slot shots)
   bank_shape shots long within = (sym limits.2, long, within)
 
   -- a hit of a shot in this state
@@ -489,8 +496,11 @@ module _ (b : BankSettings) (limits : IsWithinLimits (kinds.Bank b)) where
       → (bank.slot_step b (acts.Hit i) (bank_slot shots)).1 ≡ (bank.hit b i s (bank_slot shots)).1
   bank_hit i s shots within is =
       let i-low : i < b.shots = ltb-true i b.shots within in
-      let on : slice_get (replicate 16 true) i ≡ Some true = slice_get-replicate 16 i true (omega (arith, limits.0, i-low)) in
-      if_true (nat_lt i b.shots) (bank.hit_where b i (slice_get (replicate 16 true) i) (slice_get shots i) (bank_slot shots)) (bank_slot shots, []) within
+      let on : slice_get (replicate 16 true) i ≡ Some true =
+      slice_get-replicate 16 i true (omega (arith, limits.0, i-low)) in
+      if_true (nat_lt i b.shots)
+      (bank.hit_where b i (slice_get (replicate 16 true) i) (slice_get shots i) (bank_slot shots))
+      (bank_slot shots, []) within
       ∙ ap (λ enabled. (bank.hit_where b i enabled (slice_get shots i) (bank_slot shots)).1) on
       ∙ ap (λ state. (bank.hit_where b i (Some true) state (bank_slot shots)).1) is
 
@@ -499,24 +509,29 @@ module _ (b : BankSettings) (limits : IsWithinLimits (kinds.Bank b)) where
       → bank.is_complete b s (bank.gone_on b i s (replicate 16 s)) ≡ false
   stays-incomplete i s (inl cannot) on =
       let next = bank.next_state b s in
-      not_complete b.group b.advance_on_hit (not (next == s)) (bank.are_all_in b next (bank.gone_on b i s (replicate 16 s))) cannot on
+      not_complete b.group b.advance_on_hit (not (next == s))
+      (bank.are_all_in b next (bank.gone_on b i s (replicate 16 s))) cannot on
   stays-incomplete i s (inr several) on =
       let next = bank.next_state b s in
       let all = bank.are_all_in b next (bank.gone_on b i s (replicate 16 s)) in
       elim (cases_Bool (next == s)) [
         | inl same ↦ none_moves b.group all (next == s) same
-        | inr other ↦ none_differs b.group (not (next == s)) all (one_moved b.shots i s next several limits.0 (eqb-false next s other))
+        | inr other ↦ none_differs b.group (not (next == s)) all
+            (one_moved b.shots i s next several limits.0 (eqb-false next s other))
       ]
 
-  going_on-comes : (i s : ℕ) → nat_lt i b.shots ≡ true → s ≤ b.last_state → (can_complete b s ≡ false) ⊎ (nat_lt 1 b.shots ≡ true)
+  going_on-comes : (i s : ℕ) → nat_lt i b.shots ≡ true → s ≤ b.last_state
+      → (can_complete b s ≡ false) ⊎ (nat_lt 1 b.shots ≡ true)
       → IsAnswer (kinds.Bank b) (calls.Act (acts.Hit i)) (bank.hit_lists b i s)
   going_on-comes i s within low how =
       let i-low : i < b.shots = ltb-true i b.shots within in
       let shots : List ℕ = replicate 16 s in
       let gone : List ℕ = bank.gone_on b i s shots in
-      bank_answer b (acts.Hit i) (bank.hit_lists b i s) shots (bank_shape shots refl (All-replicate (λ x. x ≤ b.last_state) 16 s low))
+      bank_answer b (acts.Hit i) (bank.hit_lists b i s) shots
+      (bank_shape shots refl (All-replicate (λ x. x ≤ b.last_state) 16 s low))
       (bank_hit i s shots within (slice_get-replicate 16 i s (omega (arith, limits.0, i-low)))
-      ∙ quiet_hit (record (bank_slot shots) { states = gone }) (bank_slot shots) b.advance_on_hit (bank.is_complete b s gone) (bank.hit_lists b i s)
+      ∙ quiet_hit (record (bank_slot shots) { states = gone }) (bank_slot shots) b.advance_on_hit
+      (bank.is_complete b s gone) (bank.hit_lists b i s)
       (bank.group_complete b (bank.next_state b s) ∷ []) (stays-incomplete i s how))
 
   completing-comes : (i s : ℕ) → nat_lt i b.shots ≡ true → s ≤ b.last_state → can_complete b s ≡ true
@@ -528,27 +543,35 @@ module _ (b : BankSettings) (limits : IsWithinLimits (kinds.Bank b)) where
       let shots : List ℕ = slice_set others i s in
       let there : i < length others = omega (arith, limits.0, i-low, length-replicate 16 next) in
       let is : slice_get shots i ≡ Some s =
-      (slice_get-get_or shots i s (omega (arith, there, length-set others i s)) ∙ ap Some (get_or-set_same others i s s there)) in
+      (slice_get-get_or shots i s (omega (arith, there, length-set others i s))
+      ∙ ap Some (get_or-set_same others i s s there)) in
       let gone : bank.gone_on b i s shots ≡ others = set-set others i s next ∙ set-replicate 16 i next in
       let all : bank.are_all_in b next (bank.gone_on b i s shots) ≡ true =
-      (ap (λ xs. list_all (λ x. x == next) (take b.shots xs)) gone ∙ ap (list_all (λ x. x == next)) (take-replicate b.shots 16 next limits.0)
+      (ap (λ xs. list_all (λ x. x == next) (take b.shots xs)) gone
+      ∙ ap (list_all (λ x. x == next)) (take-replicate b.shots 16 next limits.0)
       ∙ all_same b.shots next) in
       let of_group = and_parts b.group (b.advance_on_hit && not (next == s)) can in
       let moves = and_parts b.advance_on_hit (not (next == s)) of_group.1 in
       bank_answer b (acts.Hit i) (hit_completing b i s) shots
-      (bank_shape shots (length-set others i s) (All-set (λ x. x ≤ b.last_state) others i s low (All-replicate (λ x. x ≤ b.last_state) 16 next (next-within b s low))))
+      (bank_shape shots (length-set others i s)
+      (All-set (λ x. x ≤ b.last_state) others i s low
+      (All-replicate (λ x. x ≤ b.last_state) 16 next (next-within b s low))))
       (bank_hit i s shots within is
       ∙ full_hit (record (bank_slot shots) { states = bank.gone_on b i s shots }) (bank_slot shots) b.advance_on_hit
       (bank.is_complete b s (bank.gone_on b i s shots)) (bank.hit_lists b i s) (bank.group_complete b next ∷ []) moves.0
       (and_from b.group (not (next == s) && bank.are_all_in b next (bank.gone_on b i s shots)) of_group.0
       (and_from (not (next == s)) (bank.are_all_in b next (bank.gone_on b i s shots)) moves.1 all)))
 
-  hit_in-comes : (i s : ℕ) → nat_lt i b.shots ≡ true → s ≤ b.last_state → All (IsAnswer (kinds.Bank b) (calls.Act (acts.Hit i))) (of_hit_in b i s)
+  hit_in-comes : (i s : ℕ) → nat_lt i b.shots ≡ true → s ≤ b.last_state
+      → All (IsAnswer (kinds.Bank b) (calls.Act (acts.Hit i))) (of_hit_in b i s)
   hit_in-comes i s within low =
       let Answer : List ℕ → Type 0 = IsAnswer (kinds.Bank b) (calls.Act (acts.Hit i)) in
-      by_test Answer (can_complete b s) (only_if (nat_lt 1 b.shots) (bank.hit_lists b i s ∷ []) ++ hit_completing b i s ∷ []) (bank.hit_lists b i s ∷ [])
+      by_test Answer (can_complete b s)
+      (only_if (nat_lt 1 b.shots) (bank.hit_lists b i s ∷ []) ++ hit_completing b i s ∷ [])
+      (bank.hit_lists b i s ∷ [])
       (λ can. All-append Answer (only_if (nat_lt 1 b.shots) (bank.hit_lists b i s ∷ [])) (hit_completing b i s ∷ [])
-      (all_if Answer (nat_lt 1 b.shots) (bank.hit_lists b i s ∷ []) (λ several. one Answer (bank.hit_lists b i s) (going_on-comes i s within low (inr several))))
+      (all_if Answer (nat_lt 1 b.shots) (bank.hit_lists b i s ∷ [])
+      (λ several. one Answer (bank.hit_lists b i s) (going_on-comes i s within low (inr several))))
       (one Answer (hit_completing b i s) (completing-comes i s within low can)))
       (λ cannot. one Answer (bank.hit_lists b i s) (going_on-comes i s within low (inl cannot)))
 
@@ -557,7 +580,8 @@ module _ (b : BankSettings) (limits : IsWithinLimits (kinds.Bank b)) where
       let Answer : List ℕ → Type 0 = IsAnswer (kinds.Bank b) (calls.Act (acts.Hit i)) in
       All-cons Answer [] (only_if (nat_lt i b.shots) (of_hit b i)) (bank_by_nobody b (acts.Hit i))
       (all_if Answer (nat_lt i b.shots) (of_hit b i)
-      (λ within. All-flat_map_range Answer (of_hit_in b i) 0 (state_count b) (λ s l. hit_in-comes i s within (omega (arith, l)))))
+      (λ within. All-flat_map_range Answer (of_hit_in b i) 0 (state_count b)
+      (λ s l. hit_in-comes i s within (omega (arith, l)))))
   bank_acts act = one (IsAnswer (kinds.Bank b) (calls.Act act)) [] (bank_by_nobody b act)
 
 -- ---- flippers and autofire coils
@@ -607,8 +631,10 @@ outcomes_come_about (kinds.Sequence q) calls.ModeStop limits = one (IsAnswer (ki
 outcomes_come_about (kinds.Sequence q) calls.Fire limits = none (IsAnswer (kinds.Sequence q) calls.Fire)
 outcomes_come_about (kinds.Timer t) call limits = timer_come_about t call limits.1
 outcomes_come_about (kinds.Bank b) (calls.Act act) limits = bank_acts b limits act
-outcomes_come_about (kinds.Bank b) calls.ModeStart limits = one (IsAnswer (kinds.Bank b) calls.ModeStart) [] (first_answer (kinds.Bank b) calls.ModeStart [] tt refl)
-outcomes_come_about (kinds.Bank b) calls.ModeStop limits = one (IsAnswer (kinds.Bank b) calls.ModeStop) [] (first_answer (kinds.Bank b) calls.ModeStop [] tt refl)
+outcomes_come_about (kinds.Bank b) calls.ModeStart limits =
+    one (IsAnswer (kinds.Bank b) calls.ModeStart) [] (first_answer (kinds.Bank b) calls.ModeStart [] tt refl)
+outcomes_come_about (kinds.Bank b) calls.ModeStop limits =
+    one (IsAnswer (kinds.Bank b) calls.ModeStop) [] (first_answer (kinds.Bank b) calls.ModeStop [] tt refl)
 outcomes_come_about (kinds.Bank b) calls.Fire limits = none (IsAnswer (kinds.Bank b) calls.Fire)
 outcomes_come_about kinds.Flipper (calls.Act act) limits = flipper_acts act
 outcomes_come_about kinds.Flipper calls.ModeStart limits = one (IsAnswer kinds.Flipper calls.ModeStart) [] (first_answer kinds.Flipper calls.ModeStart [] tt refl)

@@ -209,7 +209,8 @@ AreAllBelow n answers = All (AreBelow n) answers
 only : (n : ℕ) (lists : List ℕ) → AreBelow n lists → AreAllBelow n (lists ∷ [])
 only n lists h = All-cons (AreBelow n) lists [] h (All-nil (AreBelow n))
 
-below_if : (n : ℕ) (holds : Bool) (answers : List (List ℕ)) → (holds ≡ true → AreAllBelow n answers) → AreAllBelow n (only_if holds answers)
+below_if : (n : ℕ) (holds : Bool) (answers : List (List ℕ)) → (holds ≡ true → AreAllBelow n answers)
+    → AreAllBelow n (only_if holds answers)
 below_if n true answers all = all refl
 below_if n false answers all = All-nil (AreBelow n)
 
@@ -219,11 +220,13 @@ all_one_of n true xs ys first second = first refl
 all_one_of n false xs ys first second = second
 
 -- the lists of a group, where the bank is one
-group_if : (group : Bool) (n c s : ℕ) → s < c → AreBelow (c * (n + (if group then 2 else 0))) (if group then (n * c + s) ∷ [] else [])
+group_if : (group : Bool) (n c s : ℕ) → s < c
+    → AreBelow (c * (n + (if group then 2 else 0))) (if group then (n * c + s) ∷ [] else [])
 group_if true n c s low = one (c * (n + 2)) (n * c + s) (group-below n c s low)
 group_if false n c s low = none (c * (n + 0))
 
-complete_if : (group : Bool) (n c s : ℕ) → group ≡ true → s < c → AreBelow (c * (n + (if group then 2 else 0))) ((suc n * c + s) ∷ [])
+complete_if : (group : Bool) (n c s : ℕ) → group ≡ true → s < c
+    → AreBelow (c * (n + (if group then 2 else 0))) ((suc n * c + s) ∷ [])
 complete_if true n c s is low = one (c * (n + 2)) (suc n * c + s) (complete-below n c s low)
 complete_if false n c s is low = absurd (false≢true is)
 
@@ -249,8 +252,10 @@ module _ (b : BankSettings) where
   hit_in-below : (i s : ℕ) → i < b.shots → s ≤ b.last_state → AreAllBelow count (of_hit_in b i s)
   hit_in-below i s within low =
       let hits : AreAllBelow count (hit_lists b i s ∷ []) = only count (hit_lists b i s) (hits-below i s within low) in
-      all_one_of count (can_complete b s) (only_if (nat_lt 1 b.shots) (hit_lists b i s ∷ []) ++ hit_completing b i s ∷ []) (hit_lists b i s ∷ [])
-      (λ can. All-append (AreBelow count) (only_if (nat_lt 1 b.shots) (hit_lists b i s ∷ [])) (hit_completing b i s ∷ [])
+      all_one_of count (can_complete b s)
+      (only_if (nat_lt 1 b.shots) (hit_lists b i s ∷ []) ++ hit_completing b i s ∷ []) (hit_lists b i s ∷ [])
+      (λ can. All-append (AreBelow count) (only_if (nat_lt 1 b.shots) (hit_lists b i s ∷ []))
+      (hit_completing b i s ∷ [])
       (below_if count (nat_lt 1 b.shots) (hit_lists b i s ∷ []) (λ several. hits))
       (only count (hit_completing b i s) (completing-below i s within low (and_parts b.group _ can).0)))
       hits
@@ -269,7 +274,8 @@ module _ (b : BankSettings) where
   bank-all_below calls.Fire = All-nil (AreBelow count)
   bank-all_below (calls.Act act) = bank-below act
 
-  bank-lists : (call : Call) (now : ℕ) (world : World) (slots : List BankSlot) → HasShape (kinds.Bank b) (states.Bank slots)
+  bank-lists : (call : Call) (now : ℕ) (world : World) (slots : List BankSlot)
+      → HasShape (kinds.Bank b) (states.Bank slots)
       → AreBelow count (bank_step b call world slots).1
   bank-lists (calls.Act act) now world slots shape =
       All-contains (AreBelow count) (of_bank b act) (bank_step b (calls.Act act) world slots).1 (bank-below act)
@@ -289,9 +295,11 @@ outcomes_of_row kinds.Flipper call = search rules
 outcomes_of_row kinds.Autofire call = search rules
 
 -- and what a device of the row's shape answers
-pub lists_are_of_the_row : (settings : Settings) (call : Call) (now : ℕ) (world : World) (state : DeviceState) → HasShape settings state
+pub lists_are_of_the_row : (settings : Settings) (call : Call) (now : ℕ) (world : World) (state : DeviceState)
+    → HasShape settings state
     → All (λ k. k < list_count settings) (device_step settings call now world state).1
-lists_are_of_the_row (kinds.Counter c) call now world (states.Counter slots) shape = counter-below c call now world slots
+lists_are_of_the_row (kinds.Counter c) call now world (states.Counter slots) shape =
+    counter-below c call now world slots
 lists_are_of_the_row (kinds.Accrual a) call now world (states.Accrual slots) shape = accrual-below a call world slots
 lists_are_of_the_row (kinds.Sequence q) call now world (states.Sequence slots) shape = sequence-below q call world slots
 lists_are_of_the_row (kinds.Timer t) call now world (states.Timer s) shape = timer-below t call now s

@@ -105,19 +105,25 @@ module _ (b : BankSettings) where
   pub next-within : (state : ℕ) → state ≤ b.last_state → bank.next_state b state ≤ b.last_state
   next-within state l = one_of (nat_lt state b.last_state) b.loops (λ is. ltb-true state b.last_state is)
     where
-      one_of : (goes loops : Bool) → (goes ≡ true → state < b.last_state) → (if goes then suc state else (if loops then 0 else state)) ≤ b.last_state
+      one_of : (goes loops : Bool) → (goes ≡ true → state < b.last_state)
+          → (if goes then suc state else (if loops then 0 else state)) ≤ b.last_state
       one_of true loops below = let lt : state < b.last_state = below refl in omega (arith, lt)
       one_of false true below = omega arith
       one_of false false below = l
 
-  pub with_states : (slot : BankSlot) (states : List ℕ) → HasBankShape b slot → length states ≡ 16 → AreWithin states → HasBankShape b (record slot { states = states })
+  pub with_states : (slot : BankSlot) (states : List ℕ) → HasBankShape b slot → length states ≡ 16 → AreWithin states
+      → HasBankShape b (record slot { states = states })
   with_states slot states shape long within = (shape.0, long, within)
 
-  pub with_flag : (slot : BankSlot) (i : ℕ) (flag : Bool) → HasBankShape b slot → HasBankShape b (record slot { enabled = slice_set slot.enabled i flag })
+  pub with_flag : (slot : BankSlot) (i : ℕ) (flag : Bool) → HasBankShape b slot
+      → HasBankShape b (record slot { enabled = slice_set slot.enabled i flag })
   with_flag slot i flag shape = (length-set slot.enabled i flag ∙ shape.0, shape.1, shape.2)
 
-  pub with_state : (slot : BankSlot) (i state : ℕ) → HasBankShape b slot → state ≤ b.last_state → HasBankShape b (record slot { states = slice_set slot.states i state })
-  with_state slot i state shape within = with_states slot (slice_set slot.states i state) shape (length-set slot.states i state ∙ shape.1) (All-set (λ s. s ≤ b.last_state) slot.states i state within shape.2)
+  pub with_state : (slot : BankSlot) (i state : ℕ) → HasBankShape b slot → state ≤ b.last_state
+      → HasBankShape b (record slot { states = slice_set slot.states i state })
+  with_state slot i state shape within =
+      with_states slot (slice_set slot.states i state) shape (length-set slot.states i state ∙ shape.1)
+      (All-set (λ s. s ≤ b.last_state) slot.states i state within shape.2)
 
   turned-length : (k : ℕ) (states : List ℕ) → length (bank.turned b.shots k states) ≡ length states
   turned-length k states =
@@ -132,7 +138,8 @@ module _ (b : BankSettings) where
         length-drop b.shots states,
       )
 
-  turned-shape : (slot : BankSlot) (k : ℕ) → HasBankShape b slot → HasBankShape b (record slot { states = bank.turned b.shots k slot.states })
+  turned-shape : (slot : BankSlot) (k : ℕ) → HasBankShape b slot
+      → HasBankShape b (record slot { states = bank.turned b.shots k slot.states })
   turned-shape slot k shape =
       let P : ℕ → Type 0 = λ s. s ≤ b.last_state in
       let turning : List ℕ = take b.shots slot.states in
@@ -146,50 +153,73 @@ module _ (b : BankSettings) where
   first_slot-shape game = (refl, refl, All-replicate (λ s. s ≤ b.last_state) 16 0 (omega arith))
 
   -- a slot that is one of two
-  one_slot : (test : Bool) (x y : BankSlot) → HasBankShape b x → HasBankShape b y → HasBankShape b (if test then x else y)
+  one_slot : (test : Bool) (x y : BankSlot) → HasBankShape b x → HasBankShape b y
+      → HasBankShape b (if test then x else y)
   one_slot true x y first second = first
   one_slot false x y first second = second
 
-  one_answer : (test : Bool) (x y : BankSlot × List ℕ) → HasBankShape b x.0 → HasBankShape b y.0 → HasBankShape b (if test then x else y).0
+  one_answer : (test : Bool) (x y : BankSlot × List ℕ) → HasBankShape b x.0 → HasBankShape b y.0
+      → HasBankShape b (if test then x else y).0
   one_answer true x y first second = first
   one_answer false x y first second = second
 
-  hit_where-shape : (i : ℕ) (slot : BankSlot) (enabled : Option Bool) (state : Option ℕ) → ((s : ℕ) → state ≡ Some s → s ≤ b.last_state) → HasBankShape b slot
+  hit_where-shape : (i : ℕ) (slot : BankSlot) (enabled : Option Bool) (state : Option ℕ)
+      → ((s : ℕ) → state ≡ Some s → s ≤ b.last_state) → HasBankShape b slot
       → HasBankShape b (bank.hit_where b i enabled state slot).0
   hit_where-shape i slot (Some true) (Some s) within shape =
-      one_answer b.advance_on_hit (record slot { states = bank.gone_on b i s slot.states }, _) (slot, _) (with_state slot i (bank.next_state b s) shape (next-within s (within s refl))) shape
+      one_answer b.advance_on_hit (record slot { states = bank.gone_on b i s slot.states }, _) (slot, _)
+      (with_state slot i (bank.next_state b s) shape (next-within s (within s refl))) shape
   hit_where-shape i slot _ _ within shape = shape
 
-  advance_where-shape : (i : ℕ) (slot : BankSlot) (state : Option ℕ) → ((s : ℕ) → state ≡ Some s → s ≤ b.last_state) → HasBankShape b slot → HasBankShape b (bank.advance_where b i state slot)
+  advance_where-shape : (i : ℕ) (slot : BankSlot) (state : Option ℕ) → ((s : ℕ) → state ≡ Some s → s ≤ b.last_state)
+      → HasBankShape b slot → HasBankShape b (bank.advance_where b i state slot)
   advance_where-shape i slot None within shape = shape
-  advance_where-shape i slot (Some s) within shape = with_state slot i (bank.next_state b s) shape (next-within s (within s refl))
+  advance_where-shape i slot (Some s) within shape =
+      with_state slot i (bank.next_state b s) shape (next-within s (within s refl))
 
   bank_slot-shape : (act : Act) (slot : BankSlot) → HasBankShape b slot → HasBankShape b (bank.slot_step b act slot).0
   bank_slot-shape (acts.Hit i) slot shape =
-      one_answer (nat_lt i b.shots) (bank.hit_where b i (slice_get slot.enabled i) (slice_get slot.states i) slot) (slot, [])
-      (hit_where-shape i slot (slice_get slot.enabled i) (slice_get slot.states i) (λ s is. All-at (λ n. n ≤ b.last_state) slot.states i s is shape.2) shape) shape
+      one_answer (nat_lt i b.shots) (bank.hit_where b i (slice_get slot.enabled i) (slice_get slot.states i) slot)
+      (slot, [])
+      (hit_where-shape i slot (slice_get slot.enabled i) (slice_get slot.states i)
+      (λ s is. All-at (λ n. n ≤ b.last_state) slot.states i s is shape.2) shape) shape
   bank_slot-shape (acts.Advance i) slot shape =
       one_slot (nat_lt i b.shots) (bank.advance_where b i (slice_get slot.states i) slot) slot
-      (advance_where-shape i slot (slice_get slot.states i) (λ s is. All-at (λ n. n ≤ b.last_state) slot.states i s is shape.2) shape) shape
-  bank_slot-shape (acts.ResetShot i) slot shape = one_slot (nat_lt i b.shots) (record slot { states = slice_set slot.states i 0 }) slot (with_state slot i 0 shape (omega arith)) shape
-  bank_slot-shape (acts.EnableShot i) slot shape = one_slot (nat_lt i b.shots) (record slot { enabled = slice_set slot.enabled i true }) slot (with_flag slot i true shape) shape
-  bank_slot-shape (acts.DisableShot i) slot shape = one_slot (nat_lt i b.shots) (record slot { enabled = slice_set slot.enabled i false }) slot (with_flag slot i false shape) shape
-  bank_slot-shape acts.Reset slot shape = with_states slot (replicate 16 0) shape refl (All-replicate (λ s. s ≤ b.last_state) 16 0 (omega arith))
+      (advance_where-shape i slot (slice_get slot.states i)
+      (λ s is. All-at (λ n. n ≤ b.last_state) slot.states i s is shape.2) shape) shape
+  bank_slot-shape (acts.ResetShot i) slot shape =
+      one_slot (nat_lt i b.shots) (record slot { states = slice_set slot.states i 0 }) slot
+      (with_state slot i 0 shape (omega arith)) shape
+  bank_slot-shape (acts.EnableShot i) slot shape =
+      one_slot (nat_lt i b.shots) (record slot { enabled = slice_set slot.enabled i true }) slot
+      (with_flag slot i true shape) shape
+  bank_slot-shape (acts.DisableShot i) slot shape =
+      one_slot (nat_lt i b.shots) (record slot { enabled = slice_set slot.enabled i false }) slot
+      (with_flag slot i false shape) shape
+  bank_slot-shape acts.Reset slot shape =
+      with_states slot (replicate 16 0) shape refl (All-replicate (λ s. s ≤ b.last_state) 16 0 (omega arith))
   bank_slot-shape acts.RotateRight slot shape = turned-shape slot (b.shots - 1) shape
   bank_slot-shape acts.RotateLeft slot shape = turned-shape slot 1 shape
   bank_slot-shape _ slot shape = shape
 
-  pub current-shape : (world : World) (slot : BankSlot) → HasBankShape b slot → HasBankShape b (bank.current b world slot)
-  current-shape world slot shape = one_slot (is_of_other_game true world slot.game) (bank.first_slot b world.games) slot (first_slot-shape world.games) shape
+  pub current-shape : (world : World) (slot : BankSlot) → HasBankShape b slot
+      → HasBankShape b (bank.current b world slot)
+  current-shape world slot shape =
+      one_slot (is_of_other_game true world slot.game) (bank.first_slot b world.games) slot
+      (first_slot-shape world.games) shape
 
-  bank_step-shape : (call : Call) (world : World) (slots : List BankSlot) → All (HasBankShape b) slots → All (HasBankShape b) (bank.bank_step b call world slots).0
+  bank_step-shape : (call : Call) (world : World) (slots : List BankSlot) → All (HasBankShape b) slots
+      → All (HasBankShape b) (bank.bank_step b call world slots).0
   bank_step-shape (calls.Act act) world slots all =
       step_in_use-all (HasBankShape b) (λ slot. bank.slot_step b act (bank.current b world slot))
-      (λ slot shape. bank_slot-shape act (bank.current b world slot) (current-shape world slot shape)) slots (slot_in_use true world) all
+      (λ slot shape. bank_slot-shape act (bank.current b world slot) (current-shape world slot shape)) slots
+      (slot_in_use true world) all
   bank_step-shape _ world slots all = all
 
-  bank_step-length : (call : Call) (world : World) (slots : List BankSlot) → length (bank.bank_step b call world slots).0 ≡ length slots
-  bank_step-length (calls.Act act) world slots = step_in_use-length (λ slot. bank.slot_step b act (bank.current b world slot)) slots (slot_in_use true world)
+  bank_step-length : (call : Call) (world : World) (slots : List BankSlot)
+      → length (bank.bank_step b call world slots).0 ≡ length slots
+  bank_step-length (calls.Act act) world slots =
+      step_in_use-length (λ slot. bank.slot_step b act (bank.current b world slot)) slots (slot_in_use true world)
   bank_step-length _ world slots = refl
 
 -- ---- all kinds
@@ -208,7 +238,8 @@ step-shape (kinds.Counter c) call now world (states.Counter slots) four = counte
 step-shape (kinds.Accrual a) call now world (states.Accrual slots) shape = (accrual_step-length a call world slots ∙ shape.0, accrual_step-marks a call world slots shape.1)
 step-shape (kinds.Sequence q) call now world (states.Sequence slots) four = sequence_step-length q call world slots ∙ four
 step-shape (kinds.Timer t) call now world (states.Timer s) shape = tt
-step-shape (kinds.Bank b) call now world (states.Bank slots) shape = (bank_step-length b call world slots ∙ shape.0, bank_step-shape b call world slots shape.1)
+step-shape (kinds.Bank b) call now world (states.Bank slots) shape =
+    (bank_step-length b call world slots ∙ shape.0, bank_step-shape b call world slots shape.1)
 step-shape kinds.Flipper call now world (states.Flipper s) shape = tt
 step-shape kinds.Autofire call now world (states.Autofire s) shape = tt
 step-shape _ call now world _ shape = elim shape [ ]

@@ -1,7 +1,9 @@
-//! Tests of the devices over their public calls: counters, accruals, sequences, timers, flippers and
-//! autofire coils, against plain models of their own and in short scripts.
+//! Tests of the devices over their public calls: counters, accruals, sequences, timers, banks of shots,
+//! flippers and autofire coils, against plain models of their own and in short scripts.
 #![tactic(auto)]
 
+#[cfg(test)]
+mod banks;
 #[cfg(test)]
 mod calls;
 #[cfg(test)]

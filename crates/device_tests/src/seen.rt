@@ -36,7 +36,7 @@ fn are_counters(block: &Block, world: World, slots: &[CounterSlot; 4]) -> bool {
 }
 
 /// The marks as bits.
-fn bits(marks: &[bool; 16]) -> i64 {
+pub(crate) fn bits(marks: &[bool; 16]) -> i64 {
     let mut bits = 0i64;
     let mut bit = 1i64;
     for mark in marks.iter() {
