@@ -1,9 +1,9 @@
 -- What devices answer is among their outcomes.
-use Rattle.std.proofs.Common.{◌≡◌, ℕ, zero, ◌==◌, suc, ◌+◌, nat_lt, ◌<◌, ◌≤◌, Bool, true, false, Option, None, Some, List, [], ◌∷◌, ◌++◌, length, take, slice_get, slice_set, if◌then◌else◌, is_some, refl, sym, ap, subst, ◌⊎◌, inl, inr, ◌∙◌, ◌&&◌, not, zero-le, suc-le-suc, ℤ, pos, ◌+ℤ◌, ◌-ℤ◌, arith}
+use Rattle.std.proofs.Common.{◌≡◌, ℕ, zero, ◌==◌, suc, ◌+◌, nat_lt, nat_le, ◌<◌, ◌≤◌, Bool, true, false, Option, None, Some, List, [], ◌∷◌, ◌++◌, length, take, slice_get, slice_set, if◌then◌else◌, is_some, refl, sym, ap, subst, ◌⊎◌, inl, inr, ◌∙◌, ◌&&◌, not, zero-le, suc-le-suc, ℤ, pos, ◌+ℤ◌, ◌-ℤ◌, arith}
 use Rattle.std.specs.List.{All, Contains, flat_map, list_all, range_with_len}
 use Rattle.std.proofs.lemmas.List.{append-nil}
 use Rattle.std.proofs.lemmas.Option.{none-some}
-use Rattle.std.proofs.lemmas.Bool.{and_from, and_parts, cases_eq, eq-eqb, ltb-true, lt-ltb, false≢true, true≢false}
+use Rattle.std.proofs.lemmas.Bool.{and_from, and_parts, cases_eq, eq-eqb, leb-true, ltb-true, lt-ltb, false≢true, true≢false}
 use Rattle.plan_tables.specs.declared.devices.BankSettings.{BankSettings}
 use Rattle.plan_tables.specs.declared.devices.BlockSettings.{BlockSettings}
 use Rattle.plan_tables.specs.declared.devices.CounterSettings.{CounterSettings}
@@ -34,18 +34,18 @@ use Rattle.device_objects.specs.Timer as timer
 use Rattle.device_objects.specs.Bank as bank
 use Rattle.device_objects.specs.Flipper as flipper
 use Rattle.device_objects.specs.Autofire as autofire
-use Rattle.device_objects.specs.Laws.{HasBankShape, MayCome, AnswersAreOutcomes}
+use Rattle.device_objects.specs.Laws.{MayCome, AnswersAreOutcomes}
 use Rattle.device_objects.specs.Outcomes.{silent, only_if, completing, going_on, resetting, of_counter, of_accrual, of_sequence, of_timer, of_timer_act, can_complete, hit_completing, of_hit_in, of_hit, of_bank, of_switch, of_flipper, of_autofire, timer_completing, outcomes}
-use Rattle.device_objects.proofs.Slots.{All-at, in_use-answers, step_in_use-answers}
+use Rattle.device_objects.proofs.Slots.{in_use-answers}
 use Rattle.device_objects.proofs.Shapes.{current-shape}
 
 -- ---- lists of answers
 
-data In {X : Type 0} (x : X) : List X → Type 0 where
+pub data In {X : Type 0} (x : X) : List X → Type 0 where
   here : {xs : List X} → In x (x ∷ xs)
   there : {y : X} {xs : List X} → In x xs → In x (y ∷ xs)
 
-contains : {X : Type 0} {x : X} {xs : List X} → In x xs → Contains xs x
+pub contains : {X : Type 0} {x : X} {xs : List X} → In x xs → Contains xs x
 contains here = (0, suc-le-suc zero-le, refl)
 contains (there at) = let rest = contains at in (suc rest.0, suc-le-suc rest.1, rest.2)
 
@@ -316,41 +316,36 @@ hit_now-in b i s slot within is =
     (bank.group_complete b next) (λ one. only_shot b.shots i s next slot.states within one is)
 
 hit_where-in : (b : BankSettings) (i : ℕ) (slot : BankSlot) (enabled : Option Bool) (state : Option ℕ)
-    → nat_lt i b.shots ≡ true
-    → slice_get slot.states i ≡ state → ((s : ℕ) → state ≡ Some s → s ≤ b.last_state)
+    → nat_lt i b.shots ≡ true → slice_get slot.states i ≡ state
     → In (bank.hit_where b i enabled state slot).1 ([] ∷ only_if (nat_lt i b.shots) (of_hit b i))
-hit_where-in b i slot (Some true) (Some s) within is low =
-    let at : In s (range_with_len 0 (state_count b)) =
-    in_range 0 (state_count b) s (omega arith) (omega (arith, low s refl)) in
-    there (if_holds (nat_lt i b.shots) within (in_flat_map (of_hit_in b i) at (hit_now-in b i s slot within is)))
-hit_where-in b i slot _ _ within is low = here
+hit_where-in b i slot (Some true) (Some s) within is =
+    either (nat_le s b.last_state) (bank.hit b i s slot) (slot, [])
+    (λ known.
+    let low = leb-true s b.last_state known in
+    let at : In s (range_with_len 0 (state_count b)) = in_range 0 (state_count b) s (omega arith) (omega (arith, low)) in
+    there (if_holds (nat_lt i b.shots) within (in_flat_map (of_hit_in b i) at (hit_now-in b i s slot within is))))
+    (λ unknown. here)
+hit_where-in b i slot _ _ within is = here
 
-bank_slot-in : (b : BankSettings) (act : Act) (slot : BankSlot) → HasBankShape b slot
-    → In (bank.slot_step b act slot).1 (of_bank b act)
-bank_slot-in b (acts.Hit i) slot shape =
+pub bank_slot-in : (b : BankSettings) (act : Act) (slot : BankSlot) → In (bank.slot_step b act slot).1 (of_bank b act)
+bank_slot-in b (acts.Hit i) slot =
     let state = slice_get slot.states i in
     either (nat_lt i b.shots) (bank.hit_where b i (slice_get slot.enabled i) state slot) (slot, [])
-    (λ within. hit_where-in b i slot (slice_get slot.enabled i) state within refl
-    (λ s is. All-at (λ n. n ≤ b.last_state) slot.states i s is shape.2))
-    (λ not. here)
-bank_slot-in b _ slot shape = here
+    (λ within. hit_where-in b i slot (slice_get slot.enabled i) state within refl) (λ not. here)
+bank_slot-in b _ slot = here
 
 bank_none-in : (b : BankSettings) (act : Act) → In [] (of_bank b act)
 bank_none-in b (acts.Hit i) = here
 bank_none-in b _ = here
 
-bank-in : (b : BankSettings) (call : Call) (world : World) (slots : List BankSlot) → All (HasBankShape b) slots
-    → MayCome call (states.Bank slots)
+bank-in : (b : BankSettings) (call : Call) (world : World) (slots : List BankSlot) → length slots ≡ 4 → MayCome call (states.Bank slots)
     → In (bank.bank_step b call world slots).1 (outcomes (kinds.Bank b) call)
-bank-in b calls.ModeStart world slots shape may = here
-bank-in b calls.ModeStop world slots shape may = here
-bank-in b calls.Fire world slots shape may = absurd (false≢true may)
-bank-in b (calls.Act act) world slots shape may =
-    step_in_use-answers (HasBankShape b) (λ answer. In answer (of_bank b act))
-    (λ slot. bank.slot_step b act (bank.current b world slot))
-    (λ slot has. bank_slot-in b act (bank.current b world slot) (current-shape b world slot has)) slots
-    (slot_in_use true world) shape
-    (bank_none-in b act)
+bank-in b calls.ModeStart world slots four may = here
+bank-in b calls.ModeStop world slots four may = here
+bank-in b calls.Fire world slots four may = absurd (false≢true may)
+bank-in b (calls.Act act) world slots four may =
+    in_use-answers (λ answer. In answer (of_bank b act)) (λ slot. bank.slot_step b act (bank.current b world slot))
+    (λ slot. bank_slot-in b act (bank.current b world slot)) true world slots four (λ is. bank_none-in b act)
 
 -- ---- flippers and autofire coils
 
@@ -387,7 +382,7 @@ answers_are_outcomes (kinds.Accrual a) call now world (states.Accrual slots) sha
 answers_are_outcomes (kinds.Sequence q) call now world (states.Sequence slots) shape may = contains (sequence-in q call world slots shape may)
 answers_are_outcomes (kinds.Timer t) call now world (states.Timer s) shape may = contains (timer-in t call now s)
 answers_are_outcomes (kinds.Bank b) call now world (states.Bank slots) shape may =
-    contains (bank-in b call world slots shape.1 may)
+    contains (bank-in b call world slots shape.0 may)
 answers_are_outcomes kinds.Flipper call now world (states.Flipper s) shape may = contains (flipper-in call s may)
 answers_are_outcomes kinds.Autofire call now world (states.Autofire s) shape may = contains (autofire-in call s may)
 answers_are_outcomes _ call now world _ shape may = elim shape [ ]

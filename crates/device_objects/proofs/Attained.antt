@@ -1,5 +1,5 @@
 -- Each outcome is the answer of some state.
-use Rattle.std.proofs.Common.{◌≡◌, ◌≢◌, ◌⊎◌, inl, inr, ℕ, zero, ◌==◌, suc, ◌+◌, nat_lt, ◌<◌, ◌≤◌, Bool, true, false, Option, None, Some, List, [], ◌∷◌, ◌++◌, length, replicate, take, get_or, slice_get, slice_set, if◌then◌else◌, is_some, refl, sym, ap, not, ◌∙◌, ◌&&◌, ℤ, pos, neg_ℤ, ◌+ℤ◌, ◌-ℤ◌, arith}
+use Rattle.std.proofs.Common.{◌≡◌, ◌≢◌, ◌⊎◌, inl, inr, ℕ, zero, ◌==◌, suc, ◌+◌, nat_lt, nat_le, ◌<◌, ◌≤◌, Bool, true, false, Option, None, Some, List, [], ◌∷◌, ◌++◌, length, replicate, take, get_or, slice_get, slice_set, if◌then◌else◌, is_some, refl, sym, ap, not, ◌∙◌, ◌&&◌, ℤ, pos, neg_ℤ, ◌+ℤ◌, ◌-ℤ◌, arith}
 use Rattle.std.specs.List.{All, list_all}
 use Rattle.std.specs.Prelude.{int_le}
 use Rattle.std.specs.Prelude.{◌≤ℤ◌}
@@ -8,7 +8,7 @@ use Rattle.std.proofs.lemmas.List.Elements.{All-cons, All-append, All-replicate,
 use Rattle.std.proofs.lemmas.List.Folds.{list_all_at}
 use Rattle.std.proofs.lemmas.List.{append-nil, get_or-replicate, get_or-set_other, get_or-set_same, get_or-take, length-replicate, length-set, length-take, set-set, take-replicate}
 use Rattle.std.proofs.lemmas.Option.{slice_get-get_or}
-use Rattle.std.proofs.lemmas.Bool.{and_from, and_parts, cases_Bool, eq-eqb, eqb-false, ltb-true, ne_eqb, false≢true, true≢false}
+use Rattle.std.proofs.lemmas.Bool.{and_from, and_parts, cases_Bool, eq-eqb, eqb-false, le-leb, ltb-true, ne_eqb, false≢true, true≢false}
 use Rattle.plan_tables.specs.declared.devices.BankSettings.{BankSettings}
 use Rattle.plan_tables.specs.declared.devices.CounterSettings.{CounterSettings}
 use Rattle.plan_tables.specs.declared.devices.StepSettings.{StepSettings}
@@ -492,9 +492,9 @@ module _ (b : BankSettings) (limits : IsWithinLimits (kinds.Bank b)) where
   bank_shape shots long within = (sym limits.2, long, within)
 
   -- a hit of a shot in this state
-  bank_hit : (i s : ℕ) (shots : List ℕ) → nat_lt i b.shots ≡ true → slice_get shots i ≡ Some s
+  bank_hit : (i s : ℕ) (shots : List ℕ) → nat_lt i b.shots ≡ true → s ≤ b.last_state → slice_get shots i ≡ Some s
       → (bank.slot_step b (acts.Hit i) (bank_slot shots)).1 ≡ (bank.hit b i s (bank_slot shots)).1
-  bank_hit i s shots within is =
+  bank_hit i s shots within low is =
       let i-low : i < b.shots = ltb-true i b.shots within in
       let on : slice_get (replicate 16 true) i ≡ Some true =
       slice_get-replicate 16 i true (omega (arith, limits.0, i-low)) in
@@ -503,6 +503,7 @@ module _ (b : BankSettings) (limits : IsWithinLimits (kinds.Bank b)) where
       (bank_slot shots, []) within
       ∙ ap (λ enabled. (bank.hit_where b i enabled (slice_get shots i) (bank_slot shots)).1) on
       ∙ ap (λ state. (bank.hit_where b i (Some true) state (bank_slot shots)).1) is
+      ∙ if_true (nat_le s b.last_state) (bank.hit b i s (bank_slot shots)) (bank_slot shots, []) (le-leb s b.last_state low)
 
   -- a shot is hit in this state, as all others are in
   stays-incomplete : (i s : ℕ) → (can_complete b s ≡ false) ⊎ (nat_lt 1 b.shots ≡ true) → b.advance_on_hit ≡ true
@@ -529,7 +530,7 @@ module _ (b : BankSettings) (limits : IsWithinLimits (kinds.Bank b)) where
       let gone : List ℕ = bank.gone_on b i s shots in
       bank_answer b (acts.Hit i) (bank.hit_lists b i s) shots
       (bank_shape shots refl (All-replicate (λ x. x ≤ b.last_state) 16 s low))
-      (bank_hit i s shots within (slice_get-replicate 16 i s (omega (arith, limits.0, i-low)))
+      (bank_hit i s shots within low (slice_get-replicate 16 i s (omega (arith, limits.0, i-low)))
       ∙ quiet_hit (record (bank_slot shots) { states = gone }) (bank_slot shots) b.advance_on_hit
       (bank.is_complete b s gone) (bank.hit_lists b i s)
       (bank.group_complete b (bank.next_state b s) ∷ []) (stays-incomplete i s how))
@@ -556,7 +557,7 @@ module _ (b : BankSettings) (limits : IsWithinLimits (kinds.Bank b)) where
       (bank_shape shots (length-set others i s)
       (All-set (λ x. x ≤ b.last_state) others i s low
       (All-replicate (λ x. x ≤ b.last_state) 16 next (next-within b s low))))
-      (bank_hit i s shots within is
+      (bank_hit i s shots within low is
       ∙ full_hit (record (bank_slot shots) { states = bank.gone_on b i s shots }) (bank_slot shots) b.advance_on_hit
       (bank.is_complete b s (bank.gone_on b i s shots)) (bank.hit_lists b i s) (bank.group_complete b next ∷ []) moves.0
       (and_from b.group (not (next == s) && bank.are_all_in b next (bank.gone_on b i s shots)) of_group.0

@@ -33,11 +33,11 @@ use Rattle.device_objects.specs.Sequence as sequence
 use Rattle.device_objects.specs.Timer as timer
 use Rattle.device_objects.specs.Flipper as flipper
 use Rattle.device_objects.specs.Autofire as autofire
-use Rattle.device_objects.specs.Bank.{next_state, shot_hit, group_hit, group_complete, hit_lists, slot_step, bank_step}
+use Rattle.device_objects.specs.Bank.{next_state, shot_hit, group_hit, group_complete, hit_lists, current, slot_step, bank_step}
 use Rattle.device_objects.specs.DeviceStep.{device_step}
 use Rattle.device_objects.specs.Laws.{HasShape, OutcomesAreOfTheRow}
 use Rattle.device_objects.specs.Outcomes.{silent, only_if, can_complete, hit_completing, of_hit_in, of_hit, of_bank, outcomes}
-use Rattle.device_objects.proofs.Answered.{answers_are_outcomes}
+use Rattle.device_objects.proofs.Answered.{contains, bank_slot-in}
 use Rattle.device_objects.proofs.Flat.{All-flat_map_range}
 use Rattle.device_objects.proofs.Shapes.{next-within}
 
@@ -274,13 +274,14 @@ module _ (b : BankSettings) where
   bank-all_below calls.Fire = All-nil (AreBelow count)
   bank-all_below (calls.Act act) = bank-below act
 
-  bank-lists : (call : Call) (now : ℕ) (world : World) (slots : List BankSlot)
-      → HasShape (kinds.Bank b) (states.Bank slots)
-      → AreBelow count (bank_step b call world slots).1
-  bank-lists (calls.Act act) now world slots shape =
-      All-contains (AreBelow count) (of_bank b act) (bank_step b (calls.Act act) world slots).1 (bank-below act)
-      (answers_are_outcomes (kinds.Bank b) (calls.Act act) now world (states.Bank slots) shape tt)
-  bank-lists _ now world slots shape = none count
+  -- what a bank answers is one of its outcomes
+  bank-slot : (act : Act) (slot : BankSlot) → AreBelow count (slot_step b act slot).1
+  bank-slot act slot = All-contains (AreBelow count) (of_bank b act) (slot_step b act slot).1 (bank-below act) (contains (bank_slot-in b act slot))
+
+  bank-lists : (call : Call) (world : World) (slots : List BankSlot) → AreBelow count (bank_step b call world slots).1
+  bank-lists (calls.Act act) world slots =
+      in_use-below count (λ slot. slot_step b act (current b world slot)) (λ slot. bank-slot act (current b world slot)) slots (slot_in_use true world)
+  bank-lists _ world slots = none count
 
 -- ---- every kind
 
@@ -294,16 +295,13 @@ outcomes_of_row (kinds.Bank b) call = bank-all_below b call
 outcomes_of_row kinds.Flipper call = search rules
 outcomes_of_row kinds.Autofire call = search rules
 
--- and what a device of the row's shape answers
-pub lists_are_of_the_row : (settings : Settings) (call : Call) (now : ℕ) (world : World) (state : DeviceState)
-    → HasShape settings state
-    → All (λ k. k < list_count settings) (device_step settings call now world state).1
-lists_are_of_the_row (kinds.Counter c) call now world (states.Counter slots) shape =
-    counter-below c call now world slots
-lists_are_of_the_row (kinds.Accrual a) call now world (states.Accrual slots) shape = accrual-below a call world slots
-lists_are_of_the_row (kinds.Sequence q) call now world (states.Sequence slots) shape = sequence-below q call world slots
-lists_are_of_the_row (kinds.Timer t) call now world (states.Timer s) shape = timer-below t call now s
-lists_are_of_the_row (kinds.Bank b) call now world (states.Bank slots) shape = bank-lists b call now world slots shape
-lists_are_of_the_row kinds.Flipper call now world (states.Flipper s) shape = flipper-below call s
-lists_are_of_the_row kinds.Autofire call now world (states.Autofire s) shape = autofire-below call s
-lists_are_of_the_row settings call now world state shape = none (list_count settings)
+-- and what a device answers
+pub lists_are_of_the_row : (settings : Settings) (call : Call) (now : ℕ) (world : World) (state : DeviceState) → All (λ k. k < list_count settings) (device_step settings call now world state).1
+lists_are_of_the_row (kinds.Counter c) call now world (states.Counter slots) = counter-below c call now world slots
+lists_are_of_the_row (kinds.Accrual a) call now world (states.Accrual slots) = accrual-below a call world slots
+lists_are_of_the_row (kinds.Sequence q) call now world (states.Sequence slots) = sequence-below q call world slots
+lists_are_of_the_row (kinds.Timer t) call now world (states.Timer s) = timer-below t call now s
+lists_are_of_the_row (kinds.Bank b) call now world (states.Bank slots) = bank-lists b call world slots
+lists_are_of_the_row kinds.Flipper call now world (states.Flipper s) = flipper-below call s
+lists_are_of_the_row kinds.Autofire call now world (states.Autofire s) = autofire-below call s
+lists_are_of_the_row settings call now world state = none (list_count settings)

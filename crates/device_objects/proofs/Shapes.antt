@@ -1,5 +1,5 @@
 -- States keep their kind.
-use Rattle.std.proofs.Common.{◌≡◌, ℕ, suc, ◌-◌, ◌<◌, ◌≤◌, Bool, true, false, Option, None, Some, List, [], ◌++◌, length, take, drop, replicate, slice_get, slice_set, nat_lt, if◌then◌else◌, refl, ◌∙◌, ◌&&◌, arith}
+use Rattle.std.proofs.Common.{◌≡◌, ℕ, suc, ◌-◌, ◌<◌, ◌≤◌, Bool, true, false, Option, None, Some, List, [], ◌++◌, length, take, drop, replicate, slice_get, slice_set, nat_lt, nat_le, if◌then◌else◌, refl, ◌∙◌, ◌&&◌, arith}
 use Rattle.std.specs.List.{All}
 use Rattle.std.proofs.lemmas.Bool.{ltb-true, ltb-false}
 use Rattle.std.proofs.lemmas.List.{length-set, length-take, length-drop, length-append}
@@ -167,8 +167,10 @@ module _ (b : BankSettings) where
       → ((s : ℕ) → state ≡ Some s → s ≤ b.last_state) → HasBankShape b slot
       → HasBankShape b (bank.hit_where b i enabled state slot).0
   hit_where-shape i slot (Some true) (Some s) within shape =
-      one_answer b.advance_on_hit (record slot { states = bank.gone_on b i s slot.states }, _) (slot, _)
-      (with_state slot i (bank.next_state b s) shape (next-within s (within s refl))) shape
+      one_answer (nat_le s b.last_state) (bank.hit b i s slot) (slot, [])
+      (one_answer b.advance_on_hit (record slot { states = bank.gone_on b i s slot.states }, _) (slot, _)
+      (with_state slot i (bank.next_state b s) shape (next-within s (within s refl))) shape)
+      shape
   hit_where-shape i slot _ _ within shape = shape
 
   advance_where-shape : (i : ℕ) (slot : BankSlot) (state : Option ℕ) → ((s : ℕ) → state ≡ Some s → s ≤ b.last_state)

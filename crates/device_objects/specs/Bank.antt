@@ -1,5 +1,5 @@
 -- A bank of shots: a group, or a lone shot. Each player has a slot of their own.
-use Rattle.std.specs.Prelude.{ℕ, suc, ◌+◌, ◌-◌, ◌*◌, ◌==◌, nat_lt, Bool, true, false, not, ◌&&◌, if◌then◌else◌, Option, None, Some, List, [], ◌∷◌, ◌++◌, replicate, take, drop, slice_get, slice_set}
+use Rattle.std.specs.Prelude.{ℕ, suc, ◌+◌, ◌-◌, ◌*◌, ◌==◌, nat_lt, nat_le, Bool, true, false, not, ◌&&◌, if◌then◌else◌, Option, None, Some, List, [], ◌∷◌, ◌++◌, replicate, take, drop, slice_get, slice_set}
 use Rattle.std.specs.List.{list_all}
 use Rattle.plan_tables.specs.declared.devices.Act.{Act}
 use Rattle.plan_tables.specs.declared.devices.Act.TheVariants as acts
@@ -63,9 +63,9 @@ hit b i state slot =
     )
     else (slot, hit_lists b i state)
 
--- a shot of this number in this state is hit; without such a shot, or where it is disabled, nothing is done
+-- a shot of this number in this state is hit; where there is no such shot or state, or it is disabled, nothing is done
 abbrev pub hit_where : BankSettings → ℕ → Option Bool → Option ℕ → BankSlot → BankSlot × List ℕ
-hit_where b i (Some true) (Some state) slot = hit b i state slot
+hit_where b i (Some true) (Some state) slot = if nat_le state b.last_state then hit b i state slot else (slot, [])
 hit_where b i _ _ slot = (slot, [])
 
 -- a shot goes on, whether it is enabled or not

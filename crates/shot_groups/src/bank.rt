@@ -153,7 +153,11 @@ fn take_hit(settings: &BankSettings, slot: &mut BankSlot, shot: usize) -> Outcom
     if shot >= usize::from(settings.shots) || !slot.enabled[shot] {
         return Outcome::new();
     }
-    hit(settings, slot, shot, slot.states[shot])
+    let state = slot.states[shot];
+    if state > settings.last_state {
+        return Outcome::new();
+    }
+    hit(settings, slot, shot, state)
 }
 
 /// A shot goes on, whether it is enabled or not.
