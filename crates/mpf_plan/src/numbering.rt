@@ -76,16 +76,24 @@ fn hashing_of(
     Ok(NameHashing { start })
 }
 
-/// Each name that the contributions use, and after it a byte that is in no name.
+/// Each name that the contributions use.
 fn feed(hasher: &mut DefaultHasher, contributions: &[Contribution]) {
     for contribution in contributions {
         if let Some((_, name)) = used(contribution) {
-            hasher.write(name.front);
-            hasher.write(name.middle);
-            hasher.write(name.end);
-            hasher.write(b"\n");
+            feed_name(hasher, name);
         }
     }
+}
+
+/// The pieces of a name, and after them a byte that is in no name.
+fn feed_name(hasher: &mut DefaultHasher, name: Parts) {
+    hasher.write(name.first);
+    hasher.write(name.second);
+    hasher.write(name.third);
+    hasher.write(name.fourth);
+    hasher.write(name.fifth);
+    hasher.write(name.sixth);
+    hasher.write(b"\n");
 }
 
 // ---- limits

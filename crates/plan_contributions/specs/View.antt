@@ -16,9 +16,9 @@ use Rattle.plan_contributions.specs.declared.contribution.Contribution as contri
 use Rattle.plan_contributions.specs.declared.contribution.Contribution.TheVariants as contribution
 use Rattle.plan_contributions.specs.Contributions.{Contribution, gives, reads, active, inactive, mode, mode_event, binds, does, device, does_in, listens, mentions, coil, under, plays, Row, entry, alone, player, of_mode}
 
--- the name that the parts make
+-- the name that the parts make: their pieces, one after the other
 abbrev pub parts_text : Parts → List ℕ
-parts_text p = p.front.now ++ p.middle.now ++ p.end.now
+parts_text p = p.first.now ++ p.second.now ++ p.third.now ++ p.fourth.now ++ p.fifth.now ++ p.sixth.now
 
 abbrev pub defaults_view : defaults.Defaults → Defaults
 defaults_view d = record { pulse_ms = d.pulse_ms; pulse_power = d.pulse_power; hold_power = d.hold_power; may_hold = d.may_hold }

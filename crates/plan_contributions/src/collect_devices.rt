@@ -9,7 +9,7 @@ ghost use Rattle.plan_contributions.specs.Contributions.{mentions, does_in, effe
 ghost use Rattle.plan_contributions.specs.View.{parts_text, contributions_view};
 
 use crate::collect_bound::{collect_bound, collect_each};
-use crate::contribution::{Aim, Contribution, Effect, Parts, Place, whole};
+use crate::contribution::{Aim, Contribution, Effect, Parts, Place, joined, whole};
 use mpf_config::config::{ControlAction, Direction as WrittenDirection};
 use mpf_config::{
     ACCRUALS_NAME, Block, COUNTERS_NAME, Counter, Entry, Fields, Handler, Name, SEQUENCES_NAME,
@@ -147,11 +147,7 @@ fn collect_mentions<'a>(
 fn block_event<'a>(name: &'a [u8], end: &'static [u8]) -> Parts<'a>
     ensures { parts_text result ≡ block_event name.now end.now }
 {
-    Parts {
-        front: b"logicblock_",
-        middle: name,
-        end,
-    }
+    joined(b"logicblock_", name, end)
 }
 
 /// What a block posts when its value changes, when it is hit, and when it completes.
@@ -351,11 +347,7 @@ fn control_act(action: ControlAction, value: i64) -> Act
 fn timer_event<'a>(name: &'a [u8], end: &'static [u8]) -> Parts<'a>
     ensures { parts_text result ≡ timer_event name.now end.now }
 {
-    Parts {
-        front: b"timer_",
-        middle: name,
-        end,
-    }
+    joined(b"timer_", name, end)
 }
 
 /// What a timer posts when it starts, stops, pauses, ticks and completes.
