@@ -313,16 +313,16 @@ fn add_binding(
     names: &NameSets,
     text: &mut Vec<u8>,
     draft: &mut Draft,
-    name: &[u8],
+    name: Parts,
     place: Place,
     aim: Aim,
 ) -> Result<(), AllocError>
     requires lists { length draft.old.lists.items ≤ 21504 }
     requires rows { length draft.old.rows.items ≤ 1024 }
     requires modes { length draft.old.modes.items ≤ 64 }
-    ensures { OnOk result (draft_view names.now draft.new ≡ with_contribution (name_sets_view names.now) (draft_view names.now draft.old) (binds name.now place aim)) }
+    ensures { OnOk result (draft_view names.now draft.new ≡ with_contribution (name_sets_view names.now) (draft_view names.now draft.old) (binds (parts_text name.entry) place aim)) }
 {
-    let event = event_of(names, text, whole(name))?;
+    let event = event_of(names, text, name)?;
     let binding = next_binding(draft, event, place, aim);
     draft.bindings.push(binding)?;
     begin_list(alloc, &mut draft.lists, aim)

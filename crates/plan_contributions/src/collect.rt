@@ -418,7 +418,8 @@ fn collect_stop_where<'a>(
     ensures { OnOk result (contributions_view contributions.new.items ≡ contributions_view contributions.old.items ++ stopper_where holds event.now) }
 {
     if holds {
-        contributions.push(Contribution::Binds(event, Place::Control, Aim::Stop))?;
+        let bound = Contribution::Binds(whole(event), Place::Control, Aim::Stop);
+        contributions.push(bound)?;
     }
     Ok(())
 }

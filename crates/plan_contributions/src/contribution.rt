@@ -87,7 +87,7 @@ pub enum Contribution<'a> {
     /// An event of the mode that came last, which has this name.
     ModeEvent(ModeEvent, &'a [u8]),
     /// A binding of the event: whose it is, and what it is to do.
-    Binds(&'a [u8], Place, Aim),
+    Binds(Parts<'a>, Place, Aim),
     /// The effect list that began last does this.
     Does(Effect<'a>),
     /// A row of a device, with which its effect lists begin.
@@ -203,7 +203,7 @@ pub fn used<'a>(contribution: &Contribution<'a>) -> Option<(Table, Parts<'a>)>
             Some((Table::Events, mode_event_name(ModeEvent::WillStart, name)))
         }
         Contribution::ModeEvent(which, name) => Some((Table::Events, mode_event_name(which, name))),
-        Contribution::Binds(name, _, _) => Some((Table::Events, whole(name))),
+        Contribution::Binds(name, _, _) => Some((Table::Events, name)),
         Contribution::Does(effect) => Some(used_by(effect)),
         Contribution::DoesIn(_, effect) => Some(used_by(effect)),
         Contribution::Listens(_, name) => Some((Table::Switches, whole(name))),
