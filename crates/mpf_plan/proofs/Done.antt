@@ -68,7 +68,7 @@ module _ (Q : EventId → Type 0) (A : Action → Type 0) where
       switches = All-changed IsPosting (heard_by (next_listener d.plan k)) d.plan.switches (number_among (names Switches) n) no_switch (λ s posts. posts) meet.switches;
       lists = meet.lists;
     }
-    meet_one (mentions n) is = meet
+    meet_one (mentions t n) is = meet
     meet_one (coil n limits) is = record { switches = meet.switches; lists = meet.lists }
     meet_one (under c) is = record { switches = meet.switches; lists = meet.lists }
     meet_one (plays min_balls balls_per_game max_players) is = record { switches = meet.switches; lists = meet.lists }

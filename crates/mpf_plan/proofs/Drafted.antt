@@ -235,7 +235,7 @@ module _ (names : Names) where
   counts_one d (does_in k e) = action_counts ((first_of_last d.plan.row_lists).0 + k) (action_of names e) d
   counts_one d (listens k n) = listener_counts (number_among (names Switches) n) (next_listener d.plan k) d
   counts_one d (coil n limits) = coil_counts (number_among (names Coils) n) limits d
-  counts_one d (mentions n) = modes_counts d.plan.modes d
+  counts_one d (mentions t n) = modes_counts d.plan.modes d
   counts_one d (under c) = condition_counts (condition_of names c) d
   counts_one d (plays min_balls balls_per_game max_players) = game_counts (rules_of (names Events) min_balls balls_per_game max_players) d
 

@@ -136,7 +136,7 @@ module _ (names : Names) (d : DraftView) (o : Option Place) (own : IsOwn o d.pla
     listeners = changed_switch (heard_by (next_listener d.plan k)) (λ s h. All-push (IsOwnListener d.plan.rows) s.listeners (next_listener d.plan k) h (own_listener k heard)) (number_among (names Switches) n);
     last = own.last;
   }
-  own_one (mentions n) is heard = own
+  own_one (mentions t n) is heard = own
   own_one (coil n limits) is heard = record { bindings = own.bindings; listeners = own.listeners; last = own.last }
   own_one (under c) is heard = record {
     bindings = All-changed (IsOwnBinding d.plan.rows) (conditioned (condition_of names c)) d.plan.bindings (length d.plan.bindings - 1) no_binding (λ b h. h) own.bindings;

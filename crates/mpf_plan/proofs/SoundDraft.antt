@@ -286,7 +286,7 @@ module _ (names : Names) (d : DraftView) (sound : IsSound names d.plan) where
     sound_one (device place settings) o own placed opened known = device_sound place settings opened
     sound_one (does_in k e) o own placed opened known = action_sound ((first_of_last d.plan.row_lists).0 + k) (action_of names e)
     sound_one (listens k x) o own placed opened known = same_sound (with_contribution names d (listens k x)).plan.switches d.plan.coils d.plan.lists (omega arith)
-    sound_one (mentions x) o own placed opened known = sound
+    sound_one (mentions t x) o own placed opened known = sound
     sound_one (coil x limits) o own placed opened known = same_sound d.plan.switches (with_contribution names d (coil x limits)).plan.coils d.plan.lists (omega arith)
     sound_one (under c) o own placed opened known = condition_sound (condition_of names c) (subst (λ vs. number_among (names Variables) c.variable < length vs) (sym sound.variables) known)
     sound_one (plays min_balls balls_per_game max_players) o own placed opened known = game_sound (rules_of (names Events) min_balls balls_per_game max_players)

@@ -188,7 +188,7 @@ module _ (names : Names) where
   fit_one n f d (device place settings) room fit = fit_device n f d.plan fit (d.plan.rows ++ next_row d.plan place settings ∷ []) (list_count settings)
   fit_one n f d (does_in k e) room fit = fit_in n f d.plan fit k (action_of names e) room
   fit_one n f d (listens k e) room fit = record { lists = fit.lists; last = fit.last; in_row = fit.in_row }
-  fit_one n f d (mentions e) room fit = fit
+  fit_one n f d (mentions t e) room fit = fit
   fit_one n f d (coil e limits) room fit = record { lists = fit.lists; last = fit.last; in_row = fit.in_row }
   fit_one n f d (under c) room fit = record { lists = fit.lists; last = fit.last; in_row = fit.in_row }
   fit_one n f d (plays min_balls balls_per_game max_players) room fit = record { lists = fit.lists; last = fit.last; in_row = fit.in_row }

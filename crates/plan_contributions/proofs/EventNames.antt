@@ -37,7 +37,7 @@ module _ (P : List ℕ → Type 0) where
   use_fit (device place settings) h = tt
   use_fit (does_in k e) h = effect_fit e h
   use_fit (listens k n) h = h
-  use_fit (mentions n) h = h
+  use_fit (mentions t n) h = h
   use_fit (coil n limits) h = h
   use_fit (under c) h = h
   use_fit (plays min_balls balls_per_game max_players) h = tt

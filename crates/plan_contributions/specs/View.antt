@@ -46,7 +46,7 @@ contribution_view (contribution.Device place settings) = device place settings
 contribution_view (contribution.DoesIn k e) = does_in k (effect_view e)
 contribution_view (contribution.Listens k n) = listens k n.now
 contribution_view (contribution.Coil n limits) = coil n.now limits
-contribution_view (contribution.Mentions n) = mentions (parts_text n)
+contribution_view (contribution.Mentions table n) = mentions table (parts_text n)
 contribution_view (contribution.Under n comparison number) = under (record { variable = n.now; comparison = comparison; number = number })
 contribution_view (contribution.Plays min_balls balls_per_game max_players) = plays min_balls balls_per_game max_players
 

@@ -7,6 +7,7 @@ ghost use Rattle.mpf_sections.specs.View.{name_view, handler_view, handlers_view
 ghost use Rattle.plan_contributions.specs.DeviceEntries.{acts, direction_in_plan, is_none, block_settings, block_acts, block_mentions, block_event, or_own, block_lists, counter_settings, counter_device, step_acts, step_settings, step_device, control_act, controlled, timer_event, timer_lists, timer_settings, timer_device, device_of};
 ghost use Rattle.plan_contributions.specs.Contributions.{mentions, does_in, effects_from, posts, texts, act_binding, device_contributions, where_device};
 ghost use Rattle.plan_contributions.specs.View.{parts_text, contributions_view};
+ghost use Rattle.plan_tables.specs.declared.table.Table.TheVariants.{Events};
 
 use crate::collect_bound::{collect_bound, collect_each};
 use crate::contribution::{Aim, Contribution, Effect, Parts, Place, joined, whole};
@@ -18,6 +19,7 @@ use mpf_config::{
 use plan_tables::devices::{
     Act, BlockSettings, CounterSettings, Direction, Settings, StepSettings, TimerSettings,
 };
+use plan_tables::table::Table;
 use std::alloc::AllocError;
 
 /// What an entry gives where it is a device, after what is there.
@@ -122,7 +124,7 @@ fn collect_block_posts<'a>(
     name: &'a [u8],
     block: Block<'a>,
 ) -> Result<(), AllocError>
-    ensures { OnOk result (contributions_view contributions.new.items ≡ contributions_view contributions.old.items ++ (map mentions (block_mentions (block_view block.entry)) ++ effects_from 0 (block_lists name.now (block_view block.entry)))) }
+    ensures { OnOk result (contributions_view contributions.new.items ≡ contributions_view contributions.old.items ++ (map (mentions Events) (block_mentions (block_view block.entry)) ++ effects_from 0 (block_lists name.now (block_view block.entry)))) }
 {
     collect_mentions(contributions, block.hit)?;
     collect_mentions(contributions, block.complete)?;
@@ -135,10 +137,10 @@ fn collect_mentions<'a>(
     contributions: &mut Vec<Contribution<'a>>,
     names: &'a [Name],
 ) -> Result<(), AllocError>
-    ensures { OnOk result (contributions_view contributions.new.items ≡ contributions_view contributions.old.items ++ map mentions (texts (map name_view names.now))) }
+    ensures { OnOk result (contributions_view contributions.new.items ≡ contributions_view contributions.old.items ++ map (mentions Events) (texts (map name_view names.now))) }
 {
     for name in names {
-        contributions.push(Contribution::Mentions(whole(&name.text)))?;
+        contributions.push(Contribution::Mentions(Table::Events, whole(&name.text)))?;
     }
     Ok(())
 }

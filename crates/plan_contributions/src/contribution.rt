@@ -96,8 +96,8 @@ pub enum Contribution<'a> {
     DoesIn(u8, Effect<'a>),
     /// The row that came last listens to the switch of this name, as its switch of this number.
     Listens(usize, &'a [u8]),
-    /// A setting names the event.
-    Mentions(Parts<'a>),
+    /// A setting names what stands in the table under this name: an event or a switch.
+    Mentions(Table, Parts<'a>),
     /// A coil: its name, and what it may be sent.
     Coil(&'a [u8], CoilLimits),
     /// The binding that came last is under a condition: the variable of this name compares so with
@@ -208,7 +208,7 @@ pub fn used<'a>(contribution: &Contribution<'a>) -> Option<(Table, Parts<'a>)>
         Contribution::DoesIn(_, effect) => Some(used_by(effect)),
         Contribution::Listens(_, name) => Some((Table::Switches, whole(name))),
         Contribution::Coil(name, _) => Some((Table::Coils, whole(name))),
-        Contribution::Mentions(name) => Some((Table::Events, name)),
+        Contribution::Mentions(table, name) => Some((table, name)),
         Contribution::Under(name, _, _) => Some((Table::Variables, whole(name))),
         _ => None,
     }
