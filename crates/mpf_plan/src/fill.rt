@@ -582,7 +582,7 @@ fn add_effect_in(
     names: &NameSets,
     text: &mut Vec<u8>,
     draft: &mut Draft,
-    number: u8,
+    number: u16,
     effect: Effect,
 ) -> Result<(), AllocError>
     ensures { OnOk result (draft_view names.now draft.new ≡ with_contribution (name_sets_view names.now) (draft_view names.now draft.old) (does_in number (effect_view effect.entry))) }

@@ -174,7 +174,7 @@ fn collect_block_lists<'a>(
 /// This effect list of the row posts the events that are written, or its own where none is.
 fn collect_list<'a>(
     contributions: &mut Vec<Contribution<'a>>,
-    number: u8,
+    number: u16,
     names: &'a [Name],
     own: Parts<'a>,
 ) -> Result<(), AllocError>
@@ -189,7 +189,7 @@ fn collect_list<'a>(
 
 fn collect_written<'a>(
     contributions: &mut Vec<Contribution<'a>>,
-    number: u8,
+    number: u16,
     names: &'a [Name],
 ) -> Result<(), AllocError>
     ensures { OnOk result (contributions_view contributions.new.items ≡ contributions_view contributions.old.items ++ map (does_in number) (map posts (texts (map name_view names.now)))) }

@@ -93,7 +93,7 @@ pub enum Contribution<'a> {
     /// A row of a device, with which its effect lists begin.
     Device(Place, Settings),
     /// This effect list of the row that came last does this, by its number in the row.
-    DoesIn(u8, Effect<'a>),
+    DoesIn(u16, Effect<'a>),
     /// The row that came last listens to the switch of this name, as its switch of this number.
     Listens(usize, &'a [u8]),
     /// A setting names what stands in the table under this name: an event or a switch.
