@@ -17,7 +17,7 @@ use Rattle.plan_contributions.specs.declared.contribution.Place.TheVariants.{Mac
 use Rattle.plan_contributions.specs.declared.contribution.Aim.TheVariants.{Run}
 use Rattle.plan_tables.specs.declared.table.Table.TheVariants.{Events, Switches}
 use Rattle.plan_contributions.specs.DeviceEntries.{Device, device_of}
-use Rattle.plan_contributions.specs.Contributions.{Contribution, gives, reads, active, inactive, mode, mode_event, binds, does, device, does_in, listens, mentions, coil, under, plays, bound, switch_contributions, player_contributions, coil_contributions, coil_player_contributions, item_contributions, variable_player_contributions, game_contributions, controls, mode_contributions, act_binding, effects_from, listens_from, device_contributions, where_device, Row, entry, alone, player, of_mode, rows_of, machine_device, machine_entry_contributions, entry_contributions, alone_contributions, player_entry_contributions, row_contributions, given_by, contributions_of}
+use Rattle.plan_contributions.specs.Contributions.{Contribution, gives, reads, active, inactive, mode, mode_event, binds, does, device, does_in, listens, mentions, unknown, coil, under, plays, bound, switch_contributions, player_contributions, coil_contributions, coil_player_contributions, item_contributions, variable_player_contributions, game_contributions, controls, mode_contributions, act_binding, effects_from, listens_from, device_contributions, where_device, Row, entry, alone, player, of_mode, rows_of, machine_device, machine_entry_contributions, entry_contributions, alone_contributions, player_entry_contributions, row_contributions, given_by, contributions_of}
 use Rattle.plan_contributions.specs.Facts.{row_after}
 use Rattle.plan_contributions.proofs.RowFacts.{All-each, All-made}
 use Rattle.mpf_plan.proofs.Usual.{IsUsual, of_switch, of_bound, of_player, of_coil_player, of_device, of_controls}
@@ -127,6 +127,7 @@ heard_any o (listens k n ∷ cs) h = absurd (none_some h.0)
     none_some : None ≡ Some Machine → ⊥
     none_some e = cc
 heard_any o (mentions t n ∷ cs) h = (tt, heard_any o cs h.1)
+heard_any o (unknown ∷ cs) h = (tt, heard_any o cs h.1)
 heard_any o (coil n limits ∷ cs) h = (tt, heard_any o cs h.1)
 heard_any o (under c ∷ cs) h = (tt, heard_any o cs h.1)
 heard_any o (plays min_balls balls_per_game max_players ∷ cs) h = (tt, heard_any o cs h.1)

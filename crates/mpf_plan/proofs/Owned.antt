@@ -18,7 +18,7 @@ use Rattle.plan_tables.specs.declared.entries.Target.{Target}
 use Rattle.plan_tables.specs.declared.entries.Target.TheVariants.{Run, Start, Stop, Act}
 use Rattle.plan_tables.specs.declared.table.Table.TheVariants.{Events, Switches}
 use Rattle.plan_tables.specs.PlanView.{PlanSwitch, no_switch, PlanView, no_binding, no_mode, no_row}
-use Rattle.plan_contributions.specs.Contributions.{Contribution, gives, reads, active, inactive, mode, mode_event, mode_event_name, binds, does, device, does_in, listens, mentions, coil, under, plays}
+use Rattle.plan_contributions.specs.Contributions.{Contribution, gives, reads, active, inactive, mode, mode_event, mode_event_name, binds, does, device, does_in, listens, mentions, unknown, coil, under, plays}
 use Rattle.mpf_plan.specs.Uses.{Names, number_among}
 use Rattle.mpf_plan.specs.PlanOf.{DraftView, event_of, with_event_in, last_mode, last_row, owner_at, target_at, next_binding, next_row, next_listener, heard_by, condition_of, conditioned, with_contribution, named_switch, blank}
 use Rattle.mpf_plan.proofs.Drafted.{given_plan}
@@ -137,6 +137,7 @@ module _ (names : Names) (d : DraftView) (o : Option Place) (own : IsOwn o d.pla
     last = own.last;
   }
   own_one (mentions t n) is heard = own
+  own_one unknown is heard = own
   own_one (coil n limits) is heard = record { bindings = own.bindings; listeners = own.listeners; last = own.last }
   own_one (under c) is heard = record {
     bindings = All-changed (IsOwnBinding d.plan.rows) (conditioned (condition_of names c)) d.plan.bindings (length d.plan.bindings - 1) no_binding (λ b h. h) own.bindings;

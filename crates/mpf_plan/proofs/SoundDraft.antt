@@ -31,7 +31,7 @@ use Rattle.plan_tables.specs.PlanView.{PlanSwitch, PlanCoil, PlanMode, no_bindin
 use Rattle.plan_tables.specs.Valid.{IsEventWithin, IsSwitchWithin, IsListenerWithin, IsModeWithin, IsActionWithin, IsOwnerWithin, IsTargetWithin, IsConditionWithin, IsBindingWithin, IsGameWithin, IsRowWithin, HasEntries}
 use Rattle.plan_contributions.specs.DeviceEntries.{pulse, enable, disable, Effect, posts, works, changes}
 use Rattle.plan_contributions.specs.UsedNames.{used_by}
-use Rattle.plan_contributions.specs.Contributions.{Contribution, gives, reads, active, inactive, mode, mode_event, mode_event_name, binds, does, device, does_in, listens, mentions, coil, under, plays}
+use Rattle.plan_contributions.specs.Contributions.{Contribution, gives, reads, active, inactive, mode, mode_event, mode_event_name, binds, does, device, does_in, listens, mentions, unknown, coil, under, plays}
 use Rattle.mpf_plan.specs.Uses.{Names, names_from, number_among}
 use Rattle.mpf_plan.specs.PlanOf.{DraftView, event_of, action_of, new_mode, with_event_in, with_mode, with_mode_event, last_mode, owner_at, target_at, next_binding, lists_for, with_list_for, with_binding, next_row, next_list, with_device, first_of_last, with_one_more, condition_of, conditioned, last_conditioned, with_condition, rules_of, with_game, with_contribution, blank, drafted}
 use Rattle.mpf_plan.proofs.Among.{IsAmong, IsKnown, all_known}
@@ -287,6 +287,7 @@ module _ (names : Names) (d : DraftView) (sound : IsSound names d.plan) where
     sound_one (does_in k e) o own placed opened known = action_sound ((first_of_last d.plan.row_lists).0 + k) (action_of names e)
     sound_one (listens k x) o own placed opened known = same_sound (with_contribution names d (listens k x)).plan.switches d.plan.coils d.plan.lists (omega arith)
     sound_one (mentions t x) o own placed opened known = sound
+    sound_one unknown o own placed opened known = sound
     sound_one (coil x limits) o own placed opened known = same_sound d.plan.switches (with_contribution names d (coil x limits)).plan.coils d.plan.lists (omega arith)
     sound_one (under c) o own placed opened known = condition_sound (condition_of names c) (subst (λ vs. number_among (names Variables) c.variable < length vs) (sym sound.variables) known)
     sound_one (plays min_balls balls_per_game max_players) o own placed opened known = game_sound (rules_of (names Events) min_balls balls_per_game max_players)

@@ -38,7 +38,7 @@ use Rattle.mpf_plan.specs.declared.fault.PlanFault.{PlanFault}
 use Rattle.mpf_plan.specs.declared.fault.PlanFault.TheVariants as faults
 use Rattle.plan_tables.specs.PlanView.{PlanSwitch, no_switch, PlanCoil, no_binding, no_coil, PlanMode, no_event, no_mode, PlanView}
 use Rattle.plan_contributions.specs.DeviceEntries.{Deed, pulse, enable, disable, Effect, posts, works, changes}
-use Rattle.plan_contributions.specs.Contributions.{Contribution, gives, reads, active, inactive, mode, mode_event, mode_event_name, binds, does, device, does_in, listens, mentions, coil, under, plays, contributions_of}
+use Rattle.plan_contributions.specs.Contributions.{Contribution, gives, reads, active, inactive, mode, mode_event, mode_event_name, binds, does, device, does_in, listens, mentions, unknown, coil, under, plays, contributions_of}
 use Rattle.mpf_plan.specs.Uses.{Names, names_from, number_among, lacks_name}
 use Rattle.plan_tables.specs.Limits.{first_above, IsFirstAbove}
 
@@ -312,6 +312,7 @@ with_contribution names d (device place settings) = with_device place settings d
 with_contribution names d (does_in k e) = with_action_in k (action_of names e) d
 with_contribution names d (listens k n) = with_listener (number_among (names Switches) n) (next_listener d.plan k) d
 with_contribution names d (mentions table n) = d
+with_contribution names d unknown = d
 with_contribution names d (coil n limits) = with_coil (number_among (names Coils) n) limits d
 with_contribution names d (under c) = with_condition (condition_of names c) d
 with_contribution names d (plays min_balls balls_per_game max_players) =

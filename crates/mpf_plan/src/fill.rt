@@ -104,7 +104,7 @@ fn add(
         Contribution::DoesIn(number, effect) => add_effect_in(names, text, draft, number, effect),
         Contribution::Listens(number, name) => add_listener(names, text, draft, number, name),
         Contribution::Coil(name, limits) => add_coil(names, text, draft, name, limits),
-        Contribution::Mentions(_, _) => Ok(()),
+        Contribution::Mentions(_, _) | Contribution::Unknown => Ok(()),
         Contribution::Under(name, comparison, number) => {
             add_condition(names, text, draft, name, comparison, number)
         }

@@ -40,8 +40,9 @@ use Rattle.plan_tables.specs.declared.entries.CoilLimits.{CoilLimits}
 -- begins where it is to run one; what the list does that began last; a row of a device with its settings, with which its
 -- effect lists begin; what this list of the last row does, by its number in the row; a switch to which the last row
 -- listens, by its number in the row; an event or a switch that a setting names, by its table, which gets its number here;
--- a coil by its name, with what it may be sent; the condition of the binding that came last; the rules of the game: how
--- many balls have to be at home for it to begin, how many each player has, and how many players there can be.
+-- something that a setting names, which is in no table, and which nothing has; a coil by its name, with what it may be
+-- sent; the condition of the binding that came last; the rules of the game: how many balls have to be at home for it to
+-- begin, how many each player has, and how many players there can be.
 pub data Contribution : Type 0 where
   gives : Table → List ℕ → Contribution
   reads : SwitchKind → Contribution
@@ -55,6 +56,7 @@ pub data Contribution : Type 0 where
   does_in : ℕ → Effect → Contribution
   listens : ℕ → List ℕ → Contribution
   mentions : Table → List ℕ → Contribution
+  unknown : Contribution
   coil : List ℕ → CoilLimits → Contribution
   under : Condition → Contribution
   plays : (min_balls balls_per_game max_players : ℕ) → Contribution

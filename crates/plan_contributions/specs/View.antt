@@ -14,7 +14,7 @@ use Rattle.plan_contributions.specs.CoilEntries.{Defaults}
 use Rattle.plan_contributions.specs.DeviceEntries.{Deed, pulse, enable, disable, Effect, posts, works, changes}
 use Rattle.plan_contributions.specs.declared.contribution.Contribution as contributions
 use Rattle.plan_contributions.specs.declared.contribution.Contribution.TheVariants as contribution
-use Rattle.plan_contributions.specs.Contributions.{Contribution, gives, reads, active, inactive, mode, mode_event, binds, does, device, does_in, listens, mentions, coil, under, plays, Row, entry, alone, player, of_mode}
+use Rattle.plan_contributions.specs.Contributions.{Contribution, gives, reads, active, inactive, mode, mode_event, binds, does, device, does_in, listens, mentions, unknown, coil, under, plays, Row, entry, alone, player, of_mode}
 
 -- the name that the parts make: their pieces, one after the other
 abbrev pub parts_text : Parts → List ℕ
@@ -47,6 +47,7 @@ contribution_view (contribution.DoesIn k e) = does_in k (effect_view e)
 contribution_view (contribution.Listens k n) = listens k n.now
 contribution_view (contribution.Coil n limits) = coil n.now limits
 contribution_view (contribution.Mentions table n) = mentions table (parts_text n)
+contribution_view contribution.Unknown = unknown
 contribution_view (contribution.Under n comparison number) = under (record { variable = n.now; comparison = comparison; number = number })
 contribution_view (contribution.Plays min_balls balls_per_game max_players) = plays min_balls balls_per_game max_players
 

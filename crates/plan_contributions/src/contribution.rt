@@ -98,6 +98,8 @@ pub enum Contribution<'a> {
     Listens(usize, &'a [u8]),
     /// A setting names what stands in the table under this name: an event or a switch.
     Mentions(Table, Parts<'a>),
+    /// A setting names what nothing has, where what it names is in no table.
+    Unknown,
     /// A coil: its name, and what it may be sent.
     Coil(&'a [u8], CoilLimits),
     /// The binding that came last is under a condition: the variable of this name compares so with
