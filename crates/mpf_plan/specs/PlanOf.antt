@@ -31,7 +31,7 @@ use Rattle.plan_tables.specs.Devices.{list_count}
 use Rattle.plan_contributions.specs.declared.contribution.Place.{Place}
 use Rattle.plan_contributions.specs.declared.contribution.Place.TheVariants.{Machine, Control, Mode}
 use Rattle.plan_contributions.specs.declared.contribution.Aim.{Aim}
-use Rattle.plan_contributions.specs.declared.contribution.Aim.TheVariants.{Run, Start, Stop, Do}
+use Rattle.plan_contributions.specs.declared.contribution.Aim.TheVariants.{Run, Start, Stop, Do, On}
 use Rattle.plan_tables.specs.declared.table.Table.{Table}
 use Rattle.plan_tables.specs.declared.table.Table.TheVariants.{Events, Switches, Coils, Variables}
 use Rattle.mpf_plan.specs.declared.fault.PlanFault.{PlanFault}
@@ -172,12 +172,13 @@ abbrev pub last_row : PlanView → RowId
 last_row plan = record { 0 = length plan.rows - 1 }
 
 -- what a binding does that is next: it runs the next effect list, starts or stops the mode that came last, or acts on
--- the row that came last
+-- the row that came last, or on the row of this number, which may come later
 abbrev pub target_at : PlanView → Aim → Target
 target_at plan Run = targets.Run (record { 0 = length plan.lists })
 target_at plan Start = targets.Start (last_mode plan)
 target_at plan Stop = targets.Stop (last_mode plan)
 target_at plan (Do act) = targets.Act (last_row plan) act
+target_at plan (On r act) = targets.Act (record { 0 = r }) act
 
 abbrev pub next_binding : PlanView → EventId → Place → Aim → Binding
 next_binding plan event place aim = record {

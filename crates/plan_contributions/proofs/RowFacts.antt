@@ -26,7 +26,7 @@ use Rattle.mpf_sections.proofs.DeviceRows.{counter_named, step_block_named, time
 use Rattle.mpf_sections.proofs.CoilRows.{coil_named, coil_player_named, flipper_named, autofire_named, coil_in_range, coil_player_short, coil_player_in_range, coils_in_range}
 use Rattle.mpf_sections.proofs.GameRows.{variable_player_named, variable_player_short, game_in_range, min_balls_few}
 use Rattle.plan_contributions.specs.declared.contribution.Aim.{Aim}
-use Rattle.plan_contributions.specs.declared.contribution.Aim.TheVariants.{Run, Start, Stop, Do}
+use Rattle.plan_contributions.specs.declared.contribution.Aim.TheVariants.{Run, Start, Stop, Do, On}
 use Rattle.plan_contributions.specs.declared.contribution.Place.{Place}
 use Rattle.plan_contributions.specs.declared.contribution.Place.TheVariants.{Machine, Control, Mode}
 use Rattle.plan_tables.specs.Devices.{IsWithinLimits}
@@ -233,6 +233,7 @@ AreOpened-more (c ∷ cs) m n more h = (opened c h.0, AreOpened-more cs (modes_a
     aim_open Start is = omega (arith, more, is)
     aim_open Stop is = omega (arith, more, is)
     aim_open (Do act) is = tt
+    aim_open (On r act) is = tt
 
     opened : (x : Contribution) → IsOpen m x → IsOpen n x
     opened (binds e place aim) is = (place_open place is.0, aim_open aim is.1)

@@ -46,6 +46,8 @@ pub enum Aim {
     Stop,
     /// Act on the device whose row came last.
     Do(Act),
+    /// Act on the device whose row has this number. It may come later.
+    On(usize, Act),
 }
 
 /// What is done with a coil. Powers are in thousandths of full power.
