@@ -12,19 +12,19 @@ use Rattle.mpf_config.specs.Rows.{Rows}
 use Rattle.plan_tables.specs.declared.entries.CoilLimits.{CoilLimits}
 use Rattle.plan_tables.specs.declared.entries.ModeEvent.TheVariants.{WillStart}
 use Rattle.plan_tables.specs.declared.table.Table.{Table}
-use Rattle.plan_tables.specs.declared.table.Table.TheVariants.{Events, Coils, Variables}
+use Rattle.plan_tables.specs.declared.table.Table.TheVariants.{Events, Switches, Coils, Variables}
 use Rattle.plan_tables.specs.Limits.{order_of}
 use Rattle.machine_definitions.specs.Definitions.{latest_coil, coil_called}
 use Rattle.plan_contributions.specs.DeviceEntries.{Effect, posts, works, changes}
 use Rattle.plan_contributions.specs.CoilEntries.{limits_of_coil}
-use Rattle.plan_contributions.specs.Contributions.{Contribution, gives, reads, active, inactive, mode, mode_event, mode_event_name, binds, does, device, does_in, listens, mentions, coil, under, plays, contributions_of}
-use Rattle.plan_contributions.specs.Doing.{Does}
+use Rattle.plan_contributions.specs.Contributions.{Contribution, gives, reads, active, inactive, mode, mode_event, mode_event_name, binds, does, device, does_in, listens, mentions, unknown, coil, under, plays, contributions_of}
+use Rattle.plan_contributions.specs.Doing.{IsMention, Does}
 use Rattle.plan_contributions.specs.Facts.{given_coil}
 use Rattle.plan_contributions.specs.UsedNames.{used, given, name_in_table, given_names}
 use Rattle.plan_contributions.proofs.CoilsGiven.{coils_given}
 use Rattle.plan_contributions.proofs.SwitchesGiven.{switches_given}
 use Rattle.plan_contributions.proofs.RowEffects.{all_do}
-use Rattle.mpf_plan.specs.Uses.{lacks_name}
+use Rattle.mpf_plan.specs.Uses.{is_unknown, lacks_name}
 use Rattle.mpf_plan.specs.ByName.{IsGiven, AreGiven}
 use Rattle.mpf_plan.proofs.Judged.{nothing_lacks}
 use Rattle.row_faults.specs.Sound.{IsSound}
@@ -127,6 +127,16 @@ module _ (rows : Rows) (sound : IsSound rows) where
   effect-given (works n deed) h = λ needed. coil_given n rows h.coil h.called
   effect-given (changes v action n) h = never_variable v
 
+  -- what a setting names
+  mention-given : (t : Table) (n : List ℕ) → IsMention (IsFine rows) (IsUnreserved rows) (IsThere rows) t n → IsGiven cs (Some (t, n))
+  mention-given Events n h = never n
+  mention-given Switches n h = λ needed. switches_given rows n h
+  mention-given _ n h = absurd h
+
+  is_known : (c : Contribution) → Does (IsFine rows) (IsUnreserved rows) (IsThere rows) c → is_unknown c ≡ false
+  is_known unknown h = absurd h
+  is_known _ h = refl
+
   is_given : (i : ℕ) (d c : Contribution) → i < length cs → get_or cs i d ≡ c → Does (IsFine rows) (IsUnreserved rows) (IsThere rows) c → IsGiven cs (used c)
   is_given i d (gives t n) within at h = λ needed. given_there cs i d (gives t n) t n within at refl
   is_given i d (coil n limits) within at h = λ needed. given_there cs i d (coil n limits) Coils n within at refl
@@ -140,14 +150,15 @@ module _ (rows : Rows) (sound : IsSound rows) where
   is_given i d (mode n priority game) within at h = never (mode_event_name WillStart n)
   is_given i d (mode_event which n) within at h = never (mode_event_name which n)
   is_given i d (binds n place aim) within at h = never n
-  is_given i d (mentions n) within at h = never n
+  is_given i d (mentions t n) within at h = mention-given t n h
+  is_given i d unknown within at h = absurd h
   is_given i d (under c) within at h = never_variable c.variable
   is_given i d (plays min_balls balls_per_game max_players) within at h = tt
 
   are_given : AreGiven cs
   are_given =
       let doing = all_do (IsFine rows) (IsUnreserved rows) (IsThere rows) rows (rows_doing rows sound) in
-      λ i d within. is_given i d (get_or cs i d) within refl (doing i d within)
+      λ i d within. (is_known (get_or cs i d) (doing i d within), is_given i d (get_or cs i d) within refl (doing i d within))
 
   pub lacks_nothing : lacks_name (contributions_of rows) ≡ false
   lacks_nothing = nothing_lacks cs are_given

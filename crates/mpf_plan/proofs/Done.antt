@@ -10,7 +10,7 @@ use Rattle.plan_tables.specs.declared.entries.EventId.{EventId}
 use Rattle.plan_tables.specs.declared.table.Table.TheVariants.{Events, Switches}
 use Rattle.plan_tables.specs.Devices.{list_count}
 use Rattle.plan_tables.specs.PlanView.{PlanSwitch, no_switch, PlanView}
-use Rattle.plan_contributions.specs.Contributions.{Contribution, gives, reads, active, inactive, mode, mode_event, binds, does, device, does_in, listens, mentions, coil, under, plays}
+use Rattle.plan_contributions.specs.Contributions.{Contribution, gives, reads, active, inactive, mode, mode_event, binds, does, device, does_in, listens, mentions, unknown, coil, under, plays}
 use Rattle.mpf_plan.specs.Uses.{Names, number_among}
 use Rattle.mpf_plan.specs.PlanOf.{DraftView, event_of, action_of, last_switch, lists_for, with_one_more, next_listener, heard_by, first_of_last, with_contribution, named_switch, blank, drafted}
 use Rattle.mpf_plan.proofs.Drafted.{given_plan}
@@ -68,7 +68,8 @@ module _ (Q : EventId → Type 0) (A : Action → Type 0) where
       switches = All-changed IsPosting (heard_by (next_listener d.plan k)) d.plan.switches (number_among (names Switches) n) no_switch (λ s posts. posts) meet.switches;
       lists = meet.lists;
     }
-    meet_one (mentions n) is = meet
+    meet_one (mentions t n) is = meet
+    meet_one unknown is = meet
     meet_one (coil n limits) is = record { switches = meet.switches; lists = meet.lists }
     meet_one (under c) is = record { switches = meet.switches; lists = meet.lists }
     meet_one (plays min_balls balls_per_game max_players) is = record { switches = meet.switches; lists = meet.lists }

@@ -28,7 +28,7 @@ use Rattle.plan_tables.specs.declared.table.Table.TheVariants.{Events, Bindings,
 use Rattle.plan_tables.specs.declared.entries.ModeEvent.TheVariants.{WillStart}
 use Rattle.plan_tables.specs.PlanView.{PlanSwitch, no_switch, PlanCoil, no_coil, PlanMode, no_mode, no_binding, PlanView}
 use Rattle.plan_tables.specs.Limits.{entry_count, entry_names}
-use Rattle.plan_contributions.specs.Contributions.{Contribution, gives, reads, active, inactive, mode, mode_event, mode_event_name, binds, does, device, does_in, listens, mentions, coil, under, plays, row_contributions, given_by}
+use Rattle.plan_contributions.specs.Contributions.{Contribution, gives, reads, active, inactive, mode, mode_event, mode_event_name, binds, does, device, does_in, listens, mentions, unknown, coil, under, plays, row_contributions, given_by}
 use Rattle.mpf_plan.specs.Uses.{Names, names_from, number_among}
 use Rattle.mpf_plan.specs.PlanOf.{DraftView, event_of, action_of, last_switch, with_given, new_mode, with_event_in, next_binding, lists_for, with_binding, with_list_for, with_one_more, next_row, next_list, with_device, next_listener, heard_by, with_listener, first_of_last, limited_to, with_coil, condition_of, conditioned, last_conditioned, with_condition, rules_of, with_game, with_contribution, named_switch, named_coil, blank, drafted, plan_from}
 use Rattle.plan_tables.specs.Inside.{name_sets_view, mode_entry_view}
@@ -235,7 +235,8 @@ module _ (names : Names) where
   counts_one d (does_in k e) = action_counts ((first_of_last d.plan.row_lists).0 + k) (action_of names e) d
   counts_one d (listens k n) = listener_counts (number_among (names Switches) n) (next_listener d.plan k) d
   counts_one d (coil n limits) = coil_counts (number_among (names Coils) n) limits d
-  counts_one d (mentions n) = modes_counts d.plan.modes d
+  counts_one d (mentions t n) = modes_counts d.plan.modes d
+  counts_one d unknown = modes_counts d.plan.modes d
   counts_one d (under c) = condition_counts (condition_of names c) d
   counts_one d (plays min_balls balls_per_game max_players) = game_counts (rules_of (names Events) min_balls balls_per_game max_players) d
 

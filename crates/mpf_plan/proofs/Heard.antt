@@ -15,9 +15,9 @@ use Rattle.plan_contributions.specs.VariableEntries.{item_change}
 use Rattle.plan_contributions.specs.declared.contribution.Place.{Place}
 use Rattle.plan_contributions.specs.declared.contribution.Place.TheVariants.{Machine, Control, Mode}
 use Rattle.plan_contributions.specs.declared.contribution.Aim.TheVariants.{Run}
-use Rattle.plan_tables.specs.declared.table.Table.TheVariants.{Switches}
+use Rattle.plan_tables.specs.declared.table.Table.TheVariants.{Events, Switches}
 use Rattle.plan_contributions.specs.DeviceEntries.{Device, device_of}
-use Rattle.plan_contributions.specs.Contributions.{Contribution, gives, reads, active, inactive, mode, mode_event, binds, does, device, does_in, listens, mentions, coil, under, plays, bound, switch_contributions, player_contributions, coil_contributions, coil_player_contributions, item_contributions, variable_player_contributions, game_contributions, controls, mode_contributions, act_binding, effects_from, listens_from, device_contributions, where_device, Row, entry, alone, player, of_mode, rows_of, machine_device, machine_entry_contributions, entry_contributions, alone_contributions, player_entry_contributions, row_contributions, given_by, contributions_of}
+use Rattle.plan_contributions.specs.Contributions.{Contribution, gives, reads, active, inactive, mode, mode_event, binds, does, device, does_in, listens, mentions, unknown, coil, under, plays, bound, switch_contributions, player_contributions, coil_contributions, coil_player_contributions, item_contributions, variable_player_contributions, game_contributions, controls, mode_contributions, act_binding, effects_from, listens_from, device_contributions, where_device, Row, entry, alone, player, of_mode, rows_of, machine_device, machine_entry_contributions, entry_contributions, alone_contributions, player_entry_contributions, row_contributions, given_by, contributions_of}
 use Rattle.plan_contributions.specs.Facts.{row_after}
 use Rattle.plan_contributions.proofs.RowFacts.{All-each, All-made}
 use Rattle.mpf_plan.proofs.Usual.{IsUsual, of_switch, of_bound, of_player, of_coil_player, of_device, of_controls}
@@ -67,7 +67,7 @@ quiet_switch machine s = of_switch IsQuiet (λ e. Unit {0}) usual_quiet machine 
 quiet_item : (item : VariableItem) → AreQuiet (item_contributions item)
 quiet_item item =
     let change = does (item_change item) in
-    All-cons IsQuiet (mentions (player_event item.variable.text)) (change ∷ []) tt (All-cons IsQuiet change [] tt (All-nil IsQuiet))
+    All-cons IsQuiet (mentions Events (player_event item.variable.text)) (change ∷ []) tt (All-cons IsQuiet change [] tt (All-nil IsQuiet))
 
 quiet_variable_player : (place : Place) (p : VariablePlayer) → AreQuiet (variable_player_contributions place p)
 unfolding variable_player_contributions
@@ -85,14 +85,14 @@ quiet_player_entry machine place section p = by (bytes_eq section event_player_n
     by false false false = All-nil IsQuiet
 
 -- what comes of a device after the switches to which it listens
-pub quiet_device : (place : Place) (d : Device) → AreQuiet (flat_map (act_binding place) d.handled ++ (map mentions d.mentioned ++ effects_from 0 d.lists))
+pub quiet_device : (place : Place) (d : Device) → AreQuiet (flat_map (act_binding place) d.handled ++ (map (mentions Events) d.mentioned ++ effects_from 0 d.lists))
 quiet_device place d = of_device IsQuiet (λ e. Unit {0}) usual_quiet place d (λ i l within j e inside. tt)
 
 quiet_game : (machine : List SectionRows) (g : GameSettings) → AreQuiet (game_contributions machine g)
 unfolding game_contributions
 quiet_game machine g =
     let rules = plays (min_balls_of machine) g.balls_per_game g.max_players in
-    All-append IsQuiet (map mentions game_event_names) (rules ∷ []) (All-made IsQuiet mentions (λ n. tt) game_event_names) (All-cons IsQuiet rules [] tt (All-nil IsQuiet))
+    All-append IsQuiet (map (mentions Events) game_event_names) (rules ∷ []) (All-made IsQuiet (mentions Events) (λ n. tt) game_event_names) (All-cons IsQuiet rules [] tt (All-nil IsQuiet))
 
 pub quiet_alone : (machine : List SectionRows) (place : Place) (section : List ℕ) (e : Entry) → AreQuiet (alone_contributions machine place section e)
 unfolding alone_contributions
@@ -126,7 +126,8 @@ heard_any o (listens k n ∷ cs) h = absurd (none_some h.0)
   where
     none_some : None ≡ Some Machine → ⊥
     none_some e = cc
-heard_any o (mentions n ∷ cs) h = (tt, heard_any o cs h.1)
+heard_any o (mentions t n ∷ cs) h = (tt, heard_any o cs h.1)
+heard_any o (unknown ∷ cs) h = (tt, heard_any o cs h.1)
 heard_any o (coil n limits ∷ cs) h = (tt, heard_any o cs h.1)
 heard_any o (under c ∷ cs) h = (tt, heard_any o cs h.1)
 heard_any o (plays min_balls balls_per_game max_players ∷ cs) h = (tt, heard_any o cs h.1)
@@ -151,14 +152,14 @@ heard_listens k (n ∷ ns) rest h = (refl, heard_listens (suc k) ns rest h)
 heard_device : (d : Device) → AreHeard None (device_contributions Machine d)
 unfolding device_contributions
 heard_device d =
-    let rest = flat_map (act_binding Machine) d.handled ++ (map mentions d.mentioned ++ effects_from 0 d.lists) in
+    let rest = flat_map (act_binding Machine) d.handled ++ (map (mentions Events) d.mentioned ++ effects_from 0 d.lists) in
     (tt, heard_listens 0 d.listens rest (quiet_heard rest (Some Machine) (quiet_device Machine d)))
 
 -- a device that listens to no switch may stand anywhere
 silent_device : (place : Place) (d : Device) → d.listens ≡ [] → AreHeard None (device_contributions place d)
 unfolding device_contributions
 silent_device place d none =
-    let rest = flat_map (act_binding place) d.handled ++ (map mentions d.mentioned ++ effects_from 0 d.lists) in
+    let rest = flat_map (act_binding place) d.handled ++ (map (mentions Events) d.mentioned ++ effects_from 0 d.lists) in
     (tt, subst (λ ns. AreHeard (Some place) (listens_from 0 ns ++ rest)) (sym none) (quiet_heard rest (Some place) (quiet_device place d)))
 
 abbrev ListensToNone : Option Device → Type 0

@@ -1,5 +1,5 @@
 -- The first table that is above its limit, and the plan where there is none.
-use Rattle.std.proofs.Common.{◌≡◌, ◌<◌, ◌≤◌, ◌⊎◌, inl, inr, ℕ, ◌+◌, ◌==◌, Bool, true, false, cond, not, List, [], ◌∷◌, ◌&&◌, length, nat_lt, Option, Some, None, refl, sym, ◌∙◌, ap, subst, arith}
+use Rattle.std.proofs.Common.{◌≡◌, ◌<◌, ◌≤◌, ◌⊎◌, inl, inr, ℕ, ◌+◌, ◌==◌, Bool, true, false, cond, not, List, [], ◌∷◌, ◌&&◌, ◌||◌, length, nat_lt, Option, Some, None, refl, sym, ◌∙◌, ap, subst, arith}
 use Rattle.std.specs.Prelude.{Result, Ok, Err, find}
 use Rattle.std.specs.List.{list_any}
 use Rattle.std.specs.Str.{bytes_eq}
@@ -11,7 +11,7 @@ use Rattle.plan_tables.specs.declared.table.Table.{Table}
 use Rattle.plan_tables.specs.PlanView.{PlanView}
 use Rattle.plan_contributions.specs.Contributions.{Contribution, contributions_of}
 use Rattle.plan_contributions.specs.UsedNames.{used, given_names}
-use Rattle.mpf_plan.specs.Uses.{is_to_be_given, is_lacking, lacks_name}
+use Rattle.mpf_plan.specs.Uses.{Names, is_to_be_given, is_lacking, is_unknown, lacks, lacks_name}
 use Rattle.plan_tables.specs.Limits.{entry_count, limit_of, order_of, tables_in_order, first_above, IsFirstAbove}
 use Rattle.mpf_plan.specs.PlanOf.{plan_of, plan_at, PlanRefusal, no_such_name, above_limit, fitting, IsExceeded}
 use Rattle.mpf_plan.specs.ByName.{IsGiven, AreGiven}
@@ -22,8 +22,11 @@ use Rattle.mpf_plan.proofs.ByTable.{place_within, same_place, in_place}
 -- no name is lacking where each that has to be given is
 pub nothing_lacks : (cs : List Contribution) → AreGiven cs → lacks_name cs ≡ false
 nothing_lacks cs each =
-    list_any_none (λ c. is_lacking (λ t. given_names t cs) (used c)) cs (All-weaker (λ c. IsGiven cs (used c)) (λ c. is_lacking (λ t. given_names t cs) (used c) ≡ false) (λ c. here (used c)) cs each)
+    list_any_none (lacks there) cs (All-weaker (λ c. (is_unknown c ≡ false) × IsGiven cs (used c)) (λ c. lacks there c ≡ false) (λ c h. ap (λ b. b || is_lacking there (used c)) h.0 ∙ here (used c) h.1) cs each)
   where
+    there : Names
+    there = λ t. given_names t cs
+
     by : (b there : Bool) → (b ≡ true → there ≡ true) → (b && not there) ≡ false
     by true there is = ap not (is refl)
     by false there is = refl
@@ -130,8 +133,8 @@ limit-name : (t : Table) → ◌≡◌ {A = Result PlanView PlanRefusal} (Err (a
 limit-name t e = cc
 
 module _ (rows : Rows) where
-  abbrev lacks : Bool
-  lacks = lacks_name (contributions_of rows)
+  abbrev lacks_any : Bool
+  lacks_any = lacks_name (contributions_of rows)
 
   -- a name that nothing has
   pub plan_at-lacking : lacks_name (contributions_of rows) ≡ true → plan_at rows ≡ Err no_such_name
@@ -151,17 +154,17 @@ module _ (rows : Rows) where
   plan_at-exceeded none t first = complete none ∙ ap (fitting (plan_of rows)) (first_is (plan_of rows) t first)
 
   -- An answer other than that a name is lacking says that none is.
-  named_if : (r : Result PlanView PlanRefusal) → plan_at rows ≡ r → (r ≡ Err no_such_name → ⊥) → (b : Bool) → lacks ≡ b → lacks ≡ false
+  named_if : (r : Result PlanView PlanRefusal) → plan_at rows ≡ r → (r ≡ Err no_such_name → ⊥) → (b : Bool) → lacks_any ≡ b → lacks_any ≡ false
   named_if r is other true lacking = absurd (other (sym is ∙ plan_at-lacking lacking))
   named_if r is other false none = none
 
   -- Where there is a plan, no name is lacking.
   pub plan_at-complete : (plan : PlanView) → plan_at rows ≡ Ok plan → lacks_name (contributions_of rows) ≡ false
-  plan_at-complete plan is = named_if (Ok plan) is (Ok-Err plan no_such_name) lacks refl
+  plan_at-complete plan is = named_if (Ok plan) is (Ok-Err plan no_such_name) lacks_any refl
 
   -- Nor is one where a table is above its limit.
   pub plan_at-above : (t : Table) → plan_at rows ≡ Err (above_limit t) → lacks_name (contributions_of rows) ≡ false
-  plan_at-above t is = named_if (Err (above_limit t)) is (limit-name t) lacks refl
+  plan_at-above t is = named_if (Err (above_limit t)) is (limit-name t) lacks_any refl
 
   -- An answer with a plan is the plan of the rows, and each table is within its limit.
   pub plan_at-Ok : (plan : PlanView) → plan_at rows ≡ Ok plan → (plan ≡ plan_of rows) × ((t : Table) → entry_count plan t ≤ limit_of t)
@@ -189,12 +192,12 @@ module _ (rows : Rows) where
 
   -- An answer that a name is lacking tells of one.
   pub plan_at-named : plan_at rows ≡ Err no_such_name → lacks_name (contributions_of rows) ≡ true
-  plan_at-named is = by lacks refl
+  plan_at-named is = by lacks_any refl
     where
       fitted : (o : Option Table) → ◌≡◌ {A = Result PlanView PlanRefusal} (fitting (plan_of rows) o) (Err no_such_name) → ⊥
       fitted None e = Ok-Err (plan_of rows) no_such_name e
       fitted (Some t) e = limit-name t e
 
-      by : (b : Bool) → lacks ≡ b → lacks ≡ true
+      by : (b : Bool) → lacks_any ≡ b → lacks_any ≡ true
       by true lacking = lacking
       by false none = absurd (fitted (first_above (plan_of rows)) (sym (complete none) ∙ is))

@@ -15,6 +15,7 @@ pub mod Done
 pub mod Usual
 pub mod Heard
 pub mod Ready
+pub mod RowOwners
 pub mod Owned
 pub mod GameNames
 pub mod GameMade

@@ -3,7 +3,7 @@ use Rattle.std.proofs.Common.{◌≡◌, ◌≢◌, ℕ, zero, suc, ◌<◌, ◌
 use Rattle.std.specs.Prelude.{unwrap_or}
 use Rattle.std.specs.Str.{bytes_eq}
 use Rattle.std.specs.List.{All, flat_map, list_any}
-use Rattle.std.proofs.lemmas.Bool.{cases_lt}
+use Rattle.std.proofs.lemmas.Bool.{cases_lt, or_parts}
 use Rattle.std.proofs.lemmas.List.{length-set, length-map, get_or-set_same, get_or-set_other}
 use Rattle.std.proofs.lemmas.List.Elements.{All-head, All-tail}
 use Rattle.std.proofs.lemmas.List.Folds.{list_any-append, list_any_at}
@@ -16,7 +16,7 @@ use Rattle.plan_tables.specs.PlanView.{PlanCoil, no_coil, PlanView, coil_at}
 use Rattle.plan_contributions.specs.Contributions.{Contribution, gives, coil}
 use Rattle.plan_contributions.specs.UsedNames.{used, name_in_table, uses, given_names}
 use Rattle.plan_contributions.specs.Facts.{given_coil}
-use Rattle.mpf_plan.specs.Uses.{Names, names_from, number_among, is_lacking, lacks_name}
+use Rattle.mpf_plan.specs.Uses.{Names, names_from, number_among, is_lacking, is_unknown, lacks, lacks_name}
 use Rattle.mpf_plan.specs.PlanOf.{DraftView, limited_to, with_contribution, named_coil, blank, drafted, plan_from}
 use Rattle.mpf_plan.specs.ByName.{latest_limits, limits_called, AreLimitsByName}
 use Rattle.mpf_plan.proofs.Among.{place_within}
@@ -40,16 +40,16 @@ module _ (n : List ℕ) (there : Names) where
       by _ found has false same is = absurd (true≢false (sym is))
   given_one (Some (t, m)) has is = absurd (true≢false (sym is))
 
-  given_among : (cs : List Contribution) → list_any (λ c. is_lacking there (used c)) cs ≡ false → list_any (bytes_eq n) (uses Coils cs) ≡ true → list_any (bytes_eq n) (there Coils) ≡ true
+  given_among : (cs : List Contribution) → list_any (lacks there) cs ≡ false → list_any (bytes_eq n) (uses Coils cs) ≡ true → list_any (bytes_eq n) (there Coils) ≡ true
   given_among [] has is = absurd (true≢false (sym is))
   given_among (c ∷ cs) has is =
-      by (given_among cs) (is_lacking there (used c)) refl has (list_any (bytes_eq n) (name_in_table Coils (used c))) refl
+      by (given_among cs) (lacks there c) refl has (list_any (bytes_eq n) (name_in_table Coils (used c))) refl
       (sym (list_any-append (bytes_eq n) (name_in_table Coils (used c)) (uses Coils cs)) ∙ is)
     where
-      by : (list_any (λ x. is_lacking there (used x)) cs ≡ false → list_any (bytes_eq n) (uses Coils cs) ≡ true → list_any (bytes_eq n) (there Coils) ≡ true) → (lacking : Bool) → is_lacking there (used c) ≡ lacking → (lacking || list_any (λ x. is_lacking there (used x)) cs) ≡ false
+      by : (list_any (lacks there) cs ≡ false → list_any (bytes_eq n) (uses Coils cs) ≡ true → list_any (bytes_eq n) (there Coils) ≡ true) → (lacking : Bool) → lacks there c ≡ lacking → (lacking || list_any (lacks there) cs) ≡ false
           → (b : Bool) → list_any (bytes_eq n) (name_in_table Coils (used c)) ≡ b → (b || list_any (bytes_eq n) (uses Coils cs)) ≡ true → list_any (bytes_eq n) (there Coils) ≡ true
       by rest true lacking has b here is = absurd (true≢false has)
-      by rest false lacking has true here is = given_one (used c) lacking here
+      by rest false lacking has true here is = given_one (used c) (or_parts (is_unknown c) (is_lacking there (used c)) lacking).1 here
       by rest false lacking has false here is = rest has is
 
 -- coils alone are given as coils

@@ -91,7 +91,7 @@ module _ (names : Names) where
   in_device : (place : Place) (d : Device) → Leaves (device_contributions place d)
   unfolding device_contributions
   in_device place d ms =
-      let rest = flat_map (act_binding place) d.handled ++ (map mentions d.mentioned ++ effects_from 0 d.lists) in
+      let rest = flat_map (act_binding place) d.handled ++ (map (mentions Events) d.mentioned ++ effects_from 0 d.lists) in
       both (listens_from 0 d.listens) rest (in_listens 0 d.listens) (quiet_leaves rest (quiet_device place d)) ms
 
   in_where : (place : Place) (o : Option Device) → Leaves (where_device place o)

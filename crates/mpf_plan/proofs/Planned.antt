@@ -22,13 +22,16 @@ use Rattle.plan_tables.specs.Limits.{entry_count, limit_of, first_above}
 use Rattle.mpf_plan.specs.PlanOf.{drafted, plan_from, plan_of, plan_at, GivesPlan, IsExceeded}
 use Rattle.plan_tables.specs.Inside.{name_sets_view, tables_view}
 use Rattle.plan_contributions.specs.View.{row_list_view}
-use Rattle.mpf_plan.specs.Inside.{draft_view}
-use Rattle.mpf_plan.specs.Numbering.{mode_count, Numbered}
+use Rattle.plan_contributions.specs.Facts.{row_places, AreAimed}
+use Rattle.plan_contributions.proofs.Aimed.{rows_are_aimed}
+use Rattle.mpf_plan.specs.Inside.{IsActNumbered, draft_view}
+use Rattle.mpf_plan.specs.Numbering.{mode_count, row_count, Numbered}
 use Rattle.mpf_plan.proofs.Judged.{all_within, is_first, plan_at-lacking, plan_at-within, plan_at-exceeded, plan_at-Err}
 use Rattle.mpf_plan.proofs.ValidPlan.{IsValid-plan_of}
 use Rattle.mpf_plan.proofs.Drafted.{modes-from, coils_count}
 use Rattle.mpf_plan.proofs.Steps.{coils_seen}
 use Rattle.mpf_plan.proofs.ModeWorks.{modes-count}
+use Rattle.mpf_plan.proofs.RowOwners.{acts_numbered}
 
 module _ (rows : Rows) (machine : List SectionRows) (text : machine ≡ rows.machine) (rs numbered_of : List found.Row) (are : row_list_view rs ≡ rows_of rows) (first : numbered_of ≡ rs) where
   abbrev cs : List Contribution
@@ -90,6 +93,13 @@ pub modes_few : (rows : Rows) (machine : List SectionRows) (rs made_of : List fo
 modes_few rows machine rs made_of text are again few =
     let same : given_by machine (row_list_view made_of) ≡ contributions_of rows = λ i. given_by (text i) ((ap row_list_view again ∙ are) i) in
     omega (arith, few.few, modes-count rows, modes-from (contributions_of rows), ap mode_count same)
+
+-- the numbers of rows on which something acts are those of rows
+pub acts_few : (rows : Rows) (machine : List SectionRows) (rs made_of : List found.Row) → machine ≡ rows.machine → row_list_view rs ≡ rows_of rows → made_of ≡ rs
+    → row_count (given_by machine (row_list_view made_of)) ≤ 1024 → All IsActNumbered (given_by machine (row_list_view made_of))
+acts_few rows machine rs made_of text are again few =
+    let same : given_by machine (row_list_view made_of) ≡ contributions_of rows = λ i. given_by (text i) ((ap row_list_view again ∙ are) i) in
+    acts_numbered (given_by machine (row_list_view made_of)) (subst (λ cs. AreAimed (row_places 0 cs) 0 cs) (sym same) (rows_are_aimed rows)) few
 
 -- each binding is of an event of the plan
 pub events_bound : (plan : PlanView) → IsValid plan → All (λ b. b.event.0 < length plan.events) plan.bindings

@@ -205,7 +205,7 @@ plain_machine_device machine section e =
 ready_device : (place : Place) (d : Device) → ArePlain d.lists → AreReady (device_contributions place d)
 unfolding device_contributions
 ready_device place d each =
-    let rest = flat_map (act_binding place) d.handled ++ (map mentions d.mentioned ++ effects_from 0 d.lists) in
+    let rest = flat_map (act_binding place) d.handled ++ (map (mentions Events) d.mentioned ++ effects_from 0 d.lists) in
     plain_ready (device place d.settings ∷ listens_from 0 d.listens ++ rest)
     (All-cons IsPlain (device place d.settings) (listens_from 0 d.listens ++ rest) tt
     (All-append IsPlain (listens_from 0 d.listens) rest (All-listens IsPlain (λ n. Unit {0}) (λ k n h. tt) 0 d.listens (λ i n within. tt)) (of_device IsPlain IsPlainEffect usual_plain place d each)))
@@ -238,7 +238,7 @@ rules_within machine e =
       players = players.1;
     }
 
-mentioned_uses : (ns : List (List ℕ)) → uses Events (map mentions ns) ≡ ns
+mentioned_uses : (ns : List (List ℕ)) → uses Events (map (mentions Events) ns) ≡ ns
 mentioned_uses [] = refl
 mentioned_uses (n ∷ ns) = ap (λ l. n ∷ l) (mentioned_uses ns)
 
@@ -246,19 +246,19 @@ same_bytes : (n : List ℕ) → bytes_eq n n ≡ true
 same_bytes n = (bytes_eq-Decides n n).1 refl
 
 -- names are used where they are mentioned
-all_used : (ns : List (List ℕ)) (rest : List Contribution) → All (IsUsed (map mentions ns ++ rest)) ns
+all_used : (ns : List (List ℕ)) (rest : List Contribution) → All (IsUsed (map (mentions Events) ns ++ rest)) ns
 all_used ns rest =
-    All-from_get_or (IsUsed (map mentions ns ++ rest)) ns [] (λ i inside.
+    All-from_get_or (IsUsed (map (mentions Events) ns ++ rest)) ns [] (λ i inside.
     let n = get_or ns i [] in
-    used_left (map mentions ns) rest n (ap (list_any (bytes_eq n)) (mentioned_uses ns) ∙ list_any_at (bytes_eq n) ns i [] inside (same_bytes n)))
+    used_left (map (mentions Events) ns) rest n (ap (list_any (bytes_eq n)) (mentioned_uses ns) ∙ list_any_at (bytes_eq n) ns i [] inside (same_bytes n)))
 
 ready_game : (machine : List SectionRows) (e : Entry) → AreReady (game_contributions machine (game_of e))
 unfolding game_contributions
 ready_game machine e =
     let rules = plays (min_balls_of machine) (game_of e).balls_per_game (game_of e).max_players in
-    let named = map mentions game_event_names in
+    let named = map (mentions Events) game_event_names in
     let all = IsReady (IsUsed (named ++ rules ∷ [])) in
-    All-append all named (rules ∷ []) (All-made all mentions (λ n. tt) game_event_names) (All-cons all rules [] (all_used game_event_names (rules ∷ []), rules_within machine e) (All-nil all))
+    All-append all named (rules ∷ []) (All-made all (mentions Events) (λ n. tt) game_event_names) (All-cons all rules [] (all_used game_event_names (rules ∷ []), rules_within machine e) (All-nil all))
 
 -- ---- variables
 
@@ -266,8 +266,8 @@ ready_item : (item : VariableItem) → AreReady (item_contributions item)
 ready_item item =
     let name = player_event item.variable.text in
     let change = does (item_change item) in
-    let all = IsReady (IsUsed (mentions name ∷ change ∷ [])) in
-    All-cons all (mentions name) (change ∷ []) tt (All-cons all change [] (used_left (mentions name ∷ []) (change ∷ []) name (ap (λ b. b || false) (same_bytes name))) (All-nil all))
+    let all = IsReady (IsUsed (mentions Events name ∷ change ∷ [])) in
+    All-cons all (mentions Events name) (change ∷ []) tt (All-cons all change [] (used_left (mentions Events name ∷ []) (change ∷ []) name (ap (λ b. b || false) (same_bytes name))) (All-nil all))
 
 ready_items : (items : List VariableItem) → AreReady (flat_map item_contributions items)
 ready_items [] = All-nil (IsReady (IsUsed []))

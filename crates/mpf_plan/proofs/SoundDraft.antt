@@ -1,5 +1,5 @@
 -- What contributions make has entries for all its numbers, where a mode came before what is of one.
-use Rattle.std.proofs.Common.{◌≡◌, ℕ, ◌+◌, ◌-◌, ◌<◌, ◌≤◌, ◌⊎◌, inl, inr, Bool, true, false, nat_lt, List, [], ◌∷◌, ◌++◌, length, fold, set, get_or, slice_index_or, refl, sym, ◌∙◌, ap, subst, arith}
+use Rattle.std.proofs.Common.{◌≡◌, ℕ, ◌+◌, ◌-◌, ◌<◌, ◌≤◌, ◌⊎◌, inl, inr, Bool, true, false, nat_lt, List, [], ◌∷◌, ◌++◌, length, map, fold, set, get_or, slice_index_or, refl, sym, ◌∙◌, ap, subst, arith}
 use Rattle.std.specs.Prelude.{Option, None, Some, IfSome}
 use Rattle.std.specs.List.{All}
 use Rattle.std.proofs.lemmas.Bool.{cases_lt, ltb-true, ltb-false}
@@ -31,14 +31,15 @@ use Rattle.plan_tables.specs.PlanView.{PlanSwitch, PlanCoil, PlanMode, no_bindin
 use Rattle.plan_tables.specs.Valid.{IsEventWithin, IsSwitchWithin, IsListenerWithin, IsModeWithin, IsActionWithin, IsOwnerWithin, IsTargetWithin, IsConditionWithin, IsBindingWithin, IsGameWithin, IsRowWithin, HasEntries}
 use Rattle.plan_contributions.specs.DeviceEntries.{pulse, enable, disable, Effect, posts, works, changes}
 use Rattle.plan_contributions.specs.UsedNames.{used_by}
-use Rattle.plan_contributions.specs.Contributions.{Contribution, gives, reads, active, inactive, mode, mode_event, mode_event_name, binds, does, device, does_in, listens, mentions, coil, under, plays}
+use Rattle.plan_contributions.specs.Contributions.{Contribution, gives, reads, active, inactive, mode, mode_event, mode_event_name, binds, does, device, does_in, listens, mentions, unknown, coil, under, plays}
 use Rattle.mpf_plan.specs.Uses.{Names, names_from, number_among}
 use Rattle.mpf_plan.specs.PlanOf.{DraftView, event_of, action_of, new_mode, with_event_in, with_mode, with_mode_event, last_mode, owner_at, target_at, next_binding, lists_for, with_list_for, with_binding, next_row, next_list, with_device, first_of_last, with_one_more, condition_of, conditioned, last_conditioned, with_condition, rules_of, with_game, with_contribution, blank, drafted}
 use Rattle.mpf_plan.proofs.Among.{IsAmong, IsKnown, all_known}
-use Rattle.mpf_plan.proofs.Drafted.{given_plan, names-from, modes_one, lists_begun}
+use Rattle.mpf_plan.proofs.Drafted.{given_plan, names-from, lists_begun}
 use Rattle.mpf_plan.proofs.Heard.{AreHeard}
-use Rattle.plan_contributions.specs.Facts.{row_after, IsPlacedAim, IsPlaced, ArePlaced, IsOpenPlace, IsOpenAim, IsOpen, modes_after, AreOpened}
-use Rattle.mpf_plan.proofs.Owned.{IsOwn, IsOwnListener, IsOwnSwitch, own_one, own_blank, own_fold}
+use Rattle.plan_contributions.specs.Facts.{row_after, IsPlaced, ArePlaced, IsOpenPlace, IsOpenAim, IsOpen, modes_after, AreOpened, row_places, IsAimed, AreAimed}
+use Rattle.mpf_plan.proofs.RowOwners.{owner_by, owners_of, modes_come, owners_fold, rows_kept, bound_on}
+use Rattle.mpf_plan.proofs.Owned.{IsOwnTarget, IsOwn, IsOwnListener, IsOwnSwitch, own_aim, own_then, own_blank, own_drafted}
 use Rattle.mpf_plan.proofs.Done.{IsMet, meet_drafted}
 use Rattle.mpf_plan.proofs.GameMade.{game_made, game_within}
 use Rattle.mpf_plan.proofs.Ready.{IsReadyEffect, IsReady, IsNumberedIn, AreNumbered}
@@ -70,9 +71,6 @@ module _ (p q : PlanView) (grows : Grows p q) where
 
   binding_grows : (b : Binding) → IsBindingWithin p b → IsBindingWithin q b
   binding_grows b within = (let event = within.0 in omega (arith, event, grows.events), owner_grows b.owner within.1, target_grows b.target within.2, condition_grows b.condition within.3)
-
-  bindings_grow : (bs : List Binding) → All (IsBindingWithin p) bs → All (IsBindingWithin q) bs
-  bindings_grow bs all = All-weaker (IsBindingWithin p) (IsBindingWithin q) binding_grows bs all
 
   row_stays : (r : RowId) → row_at q r ≡ row_at p r → (list_of_row q r 0).0 ≡ (list_of_row p r 0).0 → IsRowWithin p r → IsRowWithin q r
   row_stays r same first within = record {
@@ -108,21 +106,33 @@ module _ (p q : PlanView) (grows : Grows p q) where
             (within r before)
         by (inr from) = row_last r (omega (arith, from, inside, ap length rows, length_push p.rows row))
 
+-- bindings act on rows that are there in the end
+abbrev with_rows : List DeviceRow → PlanView → PlanView
+with_rows final plan = record plan { rows = final }
+
+module _ (final : List DeviceRow) (p q : PlanView) (grows : Grows p q) where
+  finally_grows : Grows (with_rows final p) (with_rows final q)
+  finally_grows = record { events = grows.events; variables = grows.variables; modes = grows.modes; lists = grows.lists; rows = omega arith }
+
+  bindings_grow : (bs : List Binding) → All (IsBindingWithin (with_rows final p)) bs → All (IsBindingWithin (with_rows final q)) bs
+  bindings_grow bs all = All-weaker (IsBindingWithin (with_rows final p)) (IsBindingWithin (with_rows final q)) (binding_grows (with_rows final p) (with_rows final q) finally_grows) bs all
+
 -- ---- one contribution more
 
--- the events and variables are the names, and every number in modes, bindings and rows is that of an entry
-pub record IsSound (names : Names) (plan : PlanView) : Type 0 where
+-- the events and variables are the names, and every number in modes, bindings and rows is that of an entry; rows on which
+-- something acts may come later
+pub record IsSound (names : Names) (final : List DeviceRow) (plan : PlanView) : Type 0 where
   pub events : plan.events ≡ names Events
   pub variables : plan.variables ≡ names Variables
   pub modes : All (IsModeWithin (length plan.events)) plan.modes
-  pub bindings : All (IsBindingWithin plan) plan.bindings
+  pub bindings : All (IsBindingWithin (with_rows final plan)) plan.bindings
   pub rows : (r : RowId) → r.0 < length plan.rows → IsRowWithin plan r
   pub row_lists : length plan.row_lists ≡ length plan.rows
 
--- a row is there where one is acted on
-abbrev HasRow : ℕ → Aim → Type 0
-HasRow rows (aims.Do act) = 0 < rows
-HasRow rows _ = Unit {0}
+-- what is bound next acts on a row of its own owner
+abbrev IsOwnNext : List DeviceRow → PlanView → Contribution → Type 0
+IsOwnNext final plan (binds x place aim) = IsOwnTarget final (owner_at (last_mode plan) place) (target_at plan aim)
+IsOwnNext final plan _ = Unit {0}
 
 -- a mode came before
 owner_within : (plan : PlanView) (n : ℕ) (place : Place) → n ≤ length plan.modes → IsOpenPlace n place → IsOwnerWithin plan (owner_at (last_mode plan) place)
@@ -138,12 +148,12 @@ module _ (count : ℕ) (m : PlanMode) (e : EventId) (known : e.0 < count) (withi
   event_set Stopping = record { will_start = within.will_start; starting = within.starting; started = within.started; stopping = known; stopped = within.stopped }
   event_set Stopped = record { will_start = within.will_start; starting = within.starting; started = within.started; stopping = within.stopping; stopped = known }
 
-module _ (names : Names) (d : DraftView) (sound : IsSound names d.plan) where
+module _ (names : Names) (final : List DeviceRow) (d : DraftView) (sound : IsSound names final d.plan) where
   event_within : (n : List ℕ) → number_among (names Events) n < length (names Events) → number_among (names Events) n < length d.plan.events
   event_within n known = subst (λ es. number_among (names Events) n < length es) (sym sound.events) known
 
   -- the bindings and rows stay, where there are no fewer entries
-  same_sound : (switches : List PlanSwitch) (coils : List PlanCoil) (lists : List (List Action)) → length d.plan.lists ≤ length lists → IsSound names (record d.plan { switches = switches; coils = coils; lists = lists })
+  same_sound : (switches : List PlanSwitch) (coils : List PlanCoil) (lists : List (List Action)) → length d.plan.lists ≤ length lists → IsSound names final (record d.plan { switches = switches; coils = coils; lists = lists })
   same_sound switches coils lists more =
       let new : PlanView = record d.plan { switches = switches; coils = coils; lists = lists } in
       let grows : Grows d.plan new = record { events = refl; variables = refl; modes = omega arith; lists = more; rows = omega arith } in
@@ -151,13 +161,13 @@ module _ (names : Names) (d : DraftView) (sound : IsSound names d.plan) where
         events = sound.events;
         variables = sound.variables;
         modes = sound.modes;
-        bindings = bindings_grow d.plan new grows d.plan.bindings sound.bindings;
+        bindings = bindings_grow final d.plan new grows d.plan.bindings sound.bindings;
         rows = rows_stay d.plan new grows refl refl sound.rows;
         row_lists = sound.row_lists;
       }
 
   -- the binding that came last has a condition
-  condition_sound : (c : Condition) → c.variable.0 < length d.plan.variables → IsSound names (with_condition c d).plan
+  condition_sound : (c : Condition) → c.variable.0 < length d.plan.variables → IsSound names final (with_condition c d).plan
   condition_sound c known =
       let changed = last_conditioned c d.plan.bindings in
       let new : PlanView = record d.plan { bindings = changed } in
@@ -166,13 +176,13 @@ module _ (names : Names) (d : DraftView) (sound : IsSound names d.plan) where
         events = sound.events;
         variables = sound.variables;
         modes = sound.modes;
-        bindings = bindings_grow d.plan new grows changed
-            (All-changed (IsBindingWithin d.plan) (conditioned c) d.plan.bindings (length d.plan.bindings - 1) no_binding (λ b h. (h.0, h.1, h.2, known)) sound.bindings);
+        bindings = bindings_grow final d.plan new grows changed
+            (All-changed (IsBindingWithin (with_rows final d.plan)) (conditioned c) d.plan.bindings (length d.plan.bindings - 1) no_binding (λ b h. (h.0, h.1, h.2, known)) sound.bindings);
         rows = rows_stay d.plan new grows refl refl sound.rows;
         row_lists = sound.row_lists;
       }
 
-  game_sound : (rules : GameRules) → IsSound names (with_game rules d).plan
+  game_sound : (rules : GameRules) → IsSound names final (with_game rules d).plan
   game_sound rules =
       let new : PlanView = record d.plan { game = Some rules } in
       let grows : Grows d.plan new = record { events = refl; variables = refl; modes = omega arith; lists = omega arith; rows = omega arith } in
@@ -180,12 +190,12 @@ module _ (names : Names) (d : DraftView) (sound : IsSound names d.plan) where
         events = sound.events;
         variables = sound.variables;
         modes = sound.modes;
-        bindings = bindings_grow d.plan new grows d.plan.bindings sound.bindings;
+        bindings = bindings_grow final d.plan new grows d.plan.bindings sound.bindings;
         rows = rows_stay d.plan new grows refl refl sound.rows;
         row_lists = sound.row_lists;
       }
 
-  mode_sound : (modes : List PlanMode) → length d.plan.modes ≤ length modes → All (IsModeWithin (length d.plan.events)) modes → IsSound names (record d.plan { modes = modes })
+  mode_sound : (modes : List PlanMode) → length d.plan.modes ≤ length modes → All (IsModeWithin (length d.plan.events)) modes → IsSound names final (record d.plan { modes = modes })
   mode_sound modes more within =
       let new : PlanView = record d.plan { modes = modes } in
       let grows : Grows d.plan new = record { events = refl; variables = refl; modes = more; lists = omega arith; rows = omega arith } in
@@ -193,16 +203,16 @@ module _ (names : Names) (d : DraftView) (sound : IsSound names d.plan) where
         events = sound.events;
         variables = sound.variables;
         modes = within;
-        bindings = bindings_grow d.plan new grows d.plan.bindings sound.bindings;
+        bindings = bindings_grow final d.plan new grows d.plan.bindings sound.bindings;
         rows = rows_stay d.plan new grows refl refl sound.rows;
         row_lists = sound.row_lists;
       }
 
-  mode_added : (m : PlanMode) → IsModeWithin (length d.plan.events) m → IsSound names (with_mode m d).plan
+  mode_added : (m : PlanMode) → IsModeWithin (length d.plan.events) m → IsSound names final (with_mode m d).plan
   mode_added m within =
       mode_sound (d.plan.modes ++ m ∷ []) (omega (arith, length_push d.plan.modes m)) (All-push (IsModeWithin (length d.plan.events)) d.plan.modes m sound.modes within)
 
-  mode_changed : (which : ModeEvent) (e : EventId) → e.0 < length d.plan.events → IsSound names (with_mode_event which e d).plan
+  mode_changed : (which : ModeEvent) (e : EventId) → e.0 < length d.plan.events → IsSound names final (with_mode_event which e d).plan
   mode_changed which e known = mode_sound (set d.plan.modes last changed) (omega (arith, length-set d.plan.modes last changed)) (by (nat_lt last (length d.plan.modes)) refl)
     where
       last : ℕ
@@ -218,19 +228,20 @@ module _ (names : Names) (d : DraftView) (sound : IsSound names d.plan) where
       by false is = subst (All (IsModeWithin (length d.plan.events))) (sym (set_past d.plan.modes last changed (ltb-false last (length d.plan.modes) is))) sound.modes
 
   module _ (n : ℕ) (few : n ≤ length d.plan.modes) where
-    target_within : (aim : Aim) (plan : PlanView) → IsOpenAim n aim → HasRow (length d.plan.rows) aim → length plan.modes ≡ length d.plan.modes → plan.lists ≡ lists_for aim d.plan.lists → plan.rows ≡ d.plan.rows
+    target_within : (aim : Aim) (owner : Owner) (plan : PlanView) → IsOpenAim n aim → IsOwnTarget plan.rows owner (target_at d.plan aim) → length plan.modes ≡ length d.plan.modes → plan.lists ≡ lists_for aim d.plan.lists
         → IsTargetWithin plan (target_at d.plan aim)
-    target_within aims.Run plan opened some same lists rows = omega (arith, ap length lists, length_push d.plan.lists [])
-    target_within aims.Start plan opened some same lists rows = omega (arith, few, opened, same)
-    target_within aims.Stop plan opened some same lists rows = omega (arith, few, opened, same)
-    target_within (aims.Do act) plan opened some same lists rows = omega (arith, some, ap length rows)
+    target_within aims.Run owner plan opened own same lists = omega (arith, ap length lists, length_push d.plan.lists [])
+    target_within aims.Start owner plan opened own same lists = omega (arith, few, opened, same)
+    target_within aims.Stop owner plan opened own same lists = omega (arith, few, opened, same)
+    target_within (aims.Do act) owner plan opened own same lists = own.0
+    target_within (aims.On r act) owner plan opened own same lists = own.0
 
     longer : (aim : Aim) → length d.plan.lists ≤ length (lists_for aim d.plan.lists)
     longer aims.Run = omega (arith, length_push d.plan.lists [])
     longer _ = omega arith
 
-    binding_sound : (e : EventId) (place : Place) (aim : Aim) → e.0 < length d.plan.events → IsOpenPlace n place → IsOpenAim n aim → HasRow (length d.plan.rows) aim → IsSound names (with_list_for aim (with_binding (next_binding d.plan e place aim) d)).plan
-    binding_sound e place aim known placed aimed some =
+    binding_sound : (e : EventId) (place : Place) (aim : Aim) → e.0 < length d.plan.events → IsOpenPlace n place → IsOpenAim n aim → IsOwnTarget final (owner_at (last_mode d.plan) place) (target_at d.plan aim) → IsSound names final (with_list_for aim (with_binding (next_binding d.plan e place aim) d)).plan
+    binding_sound e place aim known placed aimed own =
         let b = next_binding d.plan e place aim in
         let new : PlanView = record d.plan { lists = lists_for aim d.plan.lists; bindings = d.plan.bindings ++ b ∷ [] } in
         let grows : Grows d.plan new = record { events = refl; variables = refl; modes = omega arith; lists = longer aim; rows = omega arith } in
@@ -238,13 +249,13 @@ module _ (names : Names) (d : DraftView) (sound : IsSound names d.plan) where
           events = sound.events;
           variables = sound.variables;
           modes = sound.modes;
-          bindings = All-push (IsBindingWithin new) d.plan.bindings b (bindings_grow d.plan new grows d.plan.bindings sound.bindings)
-              (known, owner_grows d.plan new grows b.owner (owner_within d.plan n place few placed), target_within aim new aimed some refl refl refl, tt);
+          bindings = All-push (IsBindingWithin (with_rows final new)) d.plan.bindings b (bindings_grow final d.plan new grows d.plan.bindings sound.bindings)
+              (known, owner_grows (with_rows final d.plan) (with_rows final new) (finally_grows final d.plan new grows) b.owner (owner_within (with_rows final d.plan) n place few placed), target_within aim b.owner (with_rows final new) aimed own refl refl, tt);
           rows = rows_stay d.plan new grows refl refl sound.rows;
           row_lists = sound.row_lists;
         }
 
-    device_sound : (place : Place) (settings : Settings) → IsOpenPlace n place → IsSound names (with_device place settings d).plan
+    device_sound : (place : Place) (settings : Settings) → IsOpenPlace n place → IsSound names final (with_device place settings d).plan
     device_sound place settings placed =
         let row = next_row d.plan place settings in
         let first = next_list d.plan in
@@ -256,64 +267,64 @@ module _ (names : Names) (d : DraftView) (sound : IsSound names d.plan) where
           events = sound.events;
           variables = sound.variables;
           modes = sound.modes;
-          bindings = bindings_grow d.plan new grows d.plan.bindings sound.bindings;
+          bindings = bindings_grow final d.plan new grows d.plan.bindings sound.bindings;
           rows = rows_more d.plan new grows row first refl refl sound.row_lists refl owner (omega (arith, begun)) sound.rows;
           row_lists = omega (arith, sound.row_lists, length_push d.plan.rows row, length_push d.plan.row_lists first);
         }
 
     -- an action more in a list
-    action_sound : (at : ℕ) (a : Action) → IsSound names (record d.plan { lists = with_one_more at a d.plan.lists })
+    action_sound : (at : ℕ) (a : Action) → IsSound names final (record d.plan { lists = with_one_more at a d.plan.lists })
     action_sound at a = same_sound d.plan.switches d.plan.coils (with_one_more at a d.plan.lists) (omega (arith, length-set d.plan.lists at (get_or d.plan.lists at [] ++ a ∷ [])))
 
-    has_row : (o : Option Place) → IsOwn o d.plan → (place : Place) (aim : Aim) → IsPlacedAim o place aim → HasRow (length d.plan.rows) aim
-    has_row o own place (aims.Do act) is = (own.last place is).0
-    has_row o own place aims.Run is = tt
-    has_row o own place aims.Start is = tt
-    has_row o own place aims.Stop is = tt
-
-    sound_one : (c : Contribution) (o : Option Place) → IsOwn o d.plan → IsPlaced o c → IsOpen n c → IsKnown names c → IsSound names (with_contribution names d c).plan
-    sound_one (gives t x) o own placed opened known = subst (IsSound names) (sym (given_plan t (number_among (names t) x) d)) sound
-    sound_one (reads kind) o own placed opened known = same_sound (with_contribution names d (reads kind)).plan.switches d.plan.coils d.plan.lists (omega arith)
-    sound_one (active x) o own placed opened known = same_sound (with_contribution names d (active x)).plan.switches d.plan.coils d.plan.lists (omega arith)
-    sound_one (inactive x) o own placed opened known = same_sound (with_contribution names d (inactive x)).plan.switches d.plan.coils d.plan.lists (omega arith)
-    sound_one (mode x priority game) o own placed opened known =
+    pub sound_one : (c : Contribution) → IsOwnNext final d.plan c → IsOpen n c → IsKnown names c → IsSound names final (with_contribution names d c).plan
+    sound_one (gives t x) own opened known = subst (IsSound names final) (sym (given_plan t (number_among (names t) x) d)) sound
+    sound_one (reads kind) own opened known = same_sound (with_contribution names d (reads kind)).plan.switches d.plan.coils d.plan.lists (omega arith)
+    sound_one (active x) own opened known = same_sound (with_contribution names d (active x)).plan.switches d.plan.coils d.plan.lists (omega arith)
+    sound_one (inactive x) own opened known = same_sound (with_contribution names d (inactive x)).plan.switches d.plan.coils d.plan.lists (omega arith)
+    sound_one (mode x priority game) own opened known =
         let here = event_within (mode_event_name WillStart x) known in
         let some : 0 < length d.plan.events = omega (arith, here) in
         mode_added (new_mode x priority game (event_of (names Events) (mode_event_name WillStart x))) (record { will_start = here; starting = some; started = some; stopping = some; stopped = some })
-    sound_one (mode_event which x) o own placed opened known = mode_changed which (event_of (names Events) (mode_event_name which x)) (event_within (mode_event_name which x) known)
-    sound_one (binds x place aim) o own placed opened known = binding_sound (event_of (names Events) x) place aim (event_within x known) opened.0 opened.1 (has_row o own place aim placed)
-    sound_one (does e) o own placed opened known = action_sound (length d.plan.lists - 1) (action_of names e)
-    sound_one (device place settings) o own placed opened known = device_sound place settings opened
-    sound_one (does_in k e) o own placed opened known = action_sound ((first_of_last d.plan.row_lists).0 + k) (action_of names e)
-    sound_one (listens k x) o own placed opened known = same_sound (with_contribution names d (listens k x)).plan.switches d.plan.coils d.plan.lists (omega arith)
-    sound_one (mentions x) o own placed opened known = sound
-    sound_one (coil x limits) o own placed opened known = same_sound d.plan.switches (with_contribution names d (coil x limits)).plan.coils d.plan.lists (omega arith)
-    sound_one (under c) o own placed opened known = condition_sound (condition_of names c) (subst (λ vs. number_among (names Variables) c.variable < length vs) (sym sound.variables) known)
-    sound_one (plays min_balls balls_per_game max_players) o own placed opened known = game_sound (rules_of (names Events) min_balls balls_per_game max_players)
+    sound_one (mode_event which x) own opened known = mode_changed which (event_of (names Events) (mode_event_name which x)) (event_within (mode_event_name which x) known)
+    sound_one (binds x place aim) own opened known = binding_sound (event_of (names Events) x) place aim (event_within x known) opened.0 opened.1 own
+    sound_one (does e) own opened known = action_sound (length d.plan.lists - 1) (action_of names e)
+    sound_one (device place settings) own opened known = device_sound place settings opened
+    sound_one (does_in k e) own opened known = action_sound ((first_of_last d.plan.row_lists).0 + k) (action_of names e)
+    sound_one (listens k x) own opened known = same_sound (with_contribution names d (listens k x)).plan.switches d.plan.coils d.plan.lists (omega arith)
+    sound_one (mentions t x) own opened known = sound
+    sound_one unknown own opened known = sound
+    sound_one (coil x limits) own opened known = same_sound d.plan.switches (with_contribution names d (coil x limits)).plan.coils d.plan.lists (omega arith)
+    sound_one (under c) own opened known = condition_sound (condition_of names c) (subst (λ vs. number_among (names Variables) c.variable < length vs) (sym sound.variables) known)
+    sound_one (plays min_balls balls_per_game max_players) own opened known = game_sound (rules_of (names Events) min_balls balls_per_game max_players)
 
 -- ---- all contributions
 
 module _ (names : Names) where
-  -- there are as many modes as have come
-  more_modes : (n : ℕ) (d : DraftView) (c : Contribution) → n ≤ length d.plan.modes → modes_after n c ≤ length (with_contribution names d c).plan.modes
-  more_modes n d (mode x priority game) few = omega (arith, few, modes_one names d (mode x priority game))
-  more_modes n d (gives t x) few = omega (arith, few, modes_one names d (gives t x))
-  more_modes n d (mode_event which x) few = omega (arith, few, modes_one names d (mode_event which x))
-  more_modes n d _ few = few
+  -- where these are the rows in the end
+  module _ (final : List DeviceRow) (places : List (Place × ℕ)) (owned : owners_of final ≡ map owner_by places) where
+    own_next : (c : Contribution) (cs : List Contribution) (n : ℕ) (o : Option Place) (d : DraftView) → n ≡ length d.plan.modes → (fold (with_contribution names) d (c ∷ cs)).plan.rows ≡ final
+        → IsPlaced o c → IsAimed places n c → IsOwn final o d.plan → IsOwnNext final d.plan c
+    own_next (binds x place aim) cs n o d same made placed aimed own =
+        let c = binds x place aim in
+        let kept = rows_kept names (c ∷ cs) d in
+        own_aim names final d o own kept.0 (sym made ∙ kept.1) place aim placed (bound_on final places owned n d.plan c same aimed)
+    own_next _ cs n o d same made placed aimed own = tt
 
-  sound_fold : (cs : List Contribution) (n : ℕ) (o : Option Place) (d : DraftView) → n ≤ length d.plan.modes → AreOpened n cs → ArePlaced o cs → AreHeard o cs → All (IsKnown names) cs → IsOwn o d.plan → IsSound names d.plan
-      → IsSound names (fold (with_contribution names) d cs).plan
-  sound_fold [] n o d few opened placed heard known own sound = sound
-  sound_fold (c ∷ cs) n o d few opened placed heard known own sound =
-      sound_fold cs (modes_after n c) (row_after o c) (with_contribution names d c) (more_modes n d c few) opened.1 placed.1 heard.1 (All-tail (IsKnown names) c cs known) (own_one names d o own c placed.0 heard.0)
-      (sound_one names d sound n few c o own placed.0 opened.0 (All-head (IsKnown names) c cs known))
+    sound_fold : (cs : List Contribution) (n : ℕ) (o : Option Place) (d : DraftView) → n ≡ length d.plan.modes → (fold (with_contribution names) d cs).plan.rows ≡ final
+        → AreOpened n cs → ArePlaced o cs → AreAimed places n cs → AreHeard o cs → All (IsKnown names) cs → IsOwn final o d.plan → IsSound names final d.plan → IsSound names final (fold (with_contribution names) d cs).plan
+    sound_fold [] n o d same made opened placed aimed heard known own sound = sound
+    sound_fold (c ∷ cs) n o d same made opened placed aimed heard known own sound =
+        let few : n ≤ length d.plan.modes = omega (arith, same) in
+        sound_fold cs (modes_after n c) (row_after o c) (with_contribution names d c) (modes_come names n d c same) made opened.1 placed.1 aimed.1 heard.1 (All-tail (IsKnown names) c cs known)
+        (own_then names final places owned c cs n o d same made placed.0 aimed.0 heard.0 own)
+        (sound_one names final d sound n few c (own_next c cs n o d same made placed.0 aimed.0 own) opened.0 (All-head (IsKnown names) c cs known))
 
-  sound_blank : IsSound names (blank names).plan
-  sound_blank = record {
+  sound_blank : (final : List DeviceRow) → IsSound names final (blank names).plan
+  sound_blank final = record {
     events = refl;
     variables = refl;
     modes = All-nil (IsModeWithin (length (names Events)));
-    bindings = All-nil (IsBindingWithin (blank names).plan);
+    bindings = All-nil (IsBindingWithin (with_rows final (blank names).plan));
     rows = λ r within. absurd (omega (arith, within));
     row_lists = refl;
   }
@@ -352,25 +363,30 @@ module _ (names : Names) where
       (omega (arith, variable, variables), omega (arith, event, events))
 
 -- what contributions make is sound, where a mode came before what is of one, and a row before what acts on it
-pub sound_drafted : (cs : List Contribution) → AreOpened 0 cs → ArePlaced None cs → AreHeard None cs → IsSound (names_from cs) (drafted (names_from cs) cs).plan
-sound_drafted cs opened placed heard = sound_fold (names_from cs) cs 0 None (blank (names_from cs)) (omega arith) opened placed heard (all_known cs) (own_blank (names_from cs)) (sound_blank (names_from cs))
+pub sound_drafted : (cs : List Contribution) → AreOpened 0 cs → ArePlaced None cs → AreAimed (row_places 0 cs) 0 cs → AreHeard None cs
+    → IsSound (names_from cs) (drafted (names_from cs) cs).plan.rows (drafted (names_from cs) cs).plan
+sound_drafted cs opened placed aimed heard =
+    let names = names_from cs in
+    let final = (drafted names cs).plan.rows in
+    sound_fold names final (row_places 0 cs) (owners_fold names cs 0 (blank names) refl) cs 0 None (blank names) refl refl opened placed aimed heard (all_known cs) (own_blank names final) (sound_blank names final)
 
-pub has_entries : (cs : List Contribution) → AreOpened 0 cs → ArePlaced None cs → AreHeard None cs → AreNumbered cs → HasEntries (drafted (names_from cs) cs).plan
-has_entries cs opened placed heard ready =
+pub has_entries : (cs : List Contribution) → AreOpened 0 cs → ArePlaced None cs → AreAimed (row_places 0 cs) 0 cs → AreHeard None cs → AreNumbered cs → HasEntries (drafted (names_from cs) cs).plan
+has_entries cs opened placed aimed heard ready =
     let names = names_from cs in
     let plan = (drafted names cs).plan in
-    let sound = sound_drafted cs opened placed heard in
+    let sound = sound_drafted cs opened placed aimed heard in
+    let all : Grows (with_rows plan.rows plan) plan = record { events = refl; variables = refl; modes = omega arith; lists = omega arith; rows = omega arith } in
     let posted : EventId → Type 0 = IsEventWithin (length (names Events)) in
     let meet = meet_drafted posted (IsNumbered names) names cs (λ i d within. done_known names (get_or cs i d) (all_known cs i d within) (ready i d within)) in
     let events = ap length sound.events in
     let coils = sym (length-map plan.coils (λ (c : PlanCoil). c.name)) ∙ ap length (names-from cs Coils) in
-    let own = own_fold names cs None (blank names) placed heard (own_blank names) in
+    let own = own_drafted names cs placed aimed heard in
     record {
       modes = sound.modes;
       switches = subst (λ n. All (IsSwitchWithin n) plan.switches) (sym events) meet.switches;
       listeners = All-weaker (IsOwnSwitch plan.rows) (λ s. All (IsListenerWithin (length plan.rows)) s.listeners) (λ s. All-weaker (IsOwnListener plan.rows) (IsListenerWithin (length plan.rows)) (λ l is. is.0) s.listeners) plan.switches own.1;
       lists = All-weaker (All (IsNumbered names)) (All (IsActionWithin plan)) (All-weaker (IsNumbered names) (IsActionWithin plan) (action_within names plan events coils (ap length sound.variables))) plan.lists meet.lists;
-      bindings = sound.bindings;
+      bindings = All-weaker (IsBindingWithin (with_rows plan.rows plan)) (IsBindingWithin plan) (binding_grows (with_rows plan.rows plan) plan all) plan.bindings sound.bindings;
       rows = sound.rows;
       game = subst (λ n. IfSome plan.game (IsGameWithin n)) (sym events) (game_within names plan.game (game_made cs ready));
     }

@@ -1,8 +1,9 @@
 -- The first of the contributions, and of the rows: one more.
-use Rattle.std.proofs.Common.{◌≡◌, ℕ, ◌+◌, ◌<◌, ◌≤◌, zero, suc, List, [], ◌∷◌, ◌++◌, length, fold, take, get_or, sym, ◌∙◌, ap, arith}
-use Rattle.std.specs.List.{sum_by}
+use Rattle.std.proofs.Common.{◌≡◌, ℕ, ◌+◌, ◌<◌, ◌≤◌, zero, suc, List, [], ◌∷◌, ◌++◌, length, fold, take, get_or, sym, ◌∙◌, ap, subst, arith}
+use Rattle.std.specs.List.{All, sum_by}
 use Rattle.std.proofs.lemmas.Grind.{flat_map-append}
-use Rattle.std.proofs.lemmas.List.{take_more, map-append, append-nil}
+use Rattle.std.proofs.lemmas.List.{take_more, map-append, append-nil, length-append, length-map, get_or-map, get_or_append_left}
+use Rattle.std.proofs.lemmas.List.Elements.{All-tail}
 use Rattle.std.proofs.lemmas.List.Sums.{fold-append, sum_by-append}
 use Rattle.mpf_sections.specs.Rows.{SectionRows}
 use Rattle.plan_contributions.specs.declared.collect.Row as rows
@@ -53,3 +54,21 @@ module _ (machine : List SectionRows) (rs : List rows.Row) (i : ℕ) (d : rows.R
 
   pub part_modes : mode_count (given_by machine (row_list_view (take i rs))) + mode_count (row_contributions machine (row_view (get_or rs i d))) ≤ mode_count (given_by machine (row_list_view rs))
   part_modes = part_sum machine modes_given rs i d within
+
+-- what holds of each contribution holds of the one at this place
+pub all_here : (Q : Contribution → Type 0) (cs : List contributions.Contribution) (i : ℕ) (d : contributions.Contribution) → i < length cs → All Q (contributions_view cs) → Q (contribution_view (get_or cs i d))
+all_here Q cs i d within all = subst Q (get_or-map contribution_view cs i d (contribution_view d) within) (all i (contribution_view d) (omega (arith, within, length-map cs contribution_view)))
+
+-- what holds of each contribution of rows holds of each of one of them
+all_left : (Q : Contribution → Type 0) (cs ds : List Contribution) → All Q (cs ++ ds) → All Q cs
+all_left Q cs ds all i d within = subst Q (get_or_append_left cs ds d i within) (all i d (omega (arith, within, length-append cs ds)))
+
+all_right : (Q : Contribution → Type 0) (cs ds : List Contribution) → All Q (cs ++ ds) → All Q ds
+all_right Q [] ds all = all
+all_right Q (c ∷ cs) ds all = all_right Q cs ds (All-tail Q c (cs ++ ds) all)
+
+pub all_of_row : (Q : Contribution → Type 0) (machine : List SectionRows) (rs : List rows.Row) (i : ℕ) (r : rows.Row) → i < length rs → All Q (given_by machine (row_list_view rs)) → All Q (row_contributions machine (row_view (get_or rs i r)))
+all_of_row Q machine [] i r within all = absurd (omega (arith, within))
+all_of_row Q machine (x ∷ rs) zero r within all = all_left Q (row_contributions machine (row_view x)) (given_by machine (row_list_view rs)) all
+all_of_row Q machine (x ∷ rs) (suc i) r within all =
+    all_of_row Q machine rs i r (omega (arith, within)) (all_right Q (row_contributions machine (row_view x)) (given_by machine (row_list_view rs)) all)

@@ -10,7 +10,7 @@ use Rattle.plan_contributions.specs.declared.contribution.Place.TheVariants.{Con
 use Rattle.plan_contributions.specs.declared.contribution.Aim.{Aim}
 use Rattle.plan_contributions.specs.declared.contribution.Aim.TheVariants.{Run, Start, Stop, Do}
 use Rattle.plan_tables.specs.declared.entries.SwitchKind.{SwitchKind}
-use Rattle.plan_tables.specs.declared.table.Table.TheVariants.{Switches}
+use Rattle.plan_tables.specs.declared.table.Table.TheVariants.{Events, Switches}
 use Rattle.plan_contributions.specs.DeviceEntries.{texts, events, Deed, Effect, posts, works, Device}
 use Rattle.plan_contributions.specs.CoilEntries.{item_effect}
 use Rattle.plan_contributions.specs.Contributions.{Contribution, gives, reads, active, inactive, binds, does, does_in, mentions, under, under_where, bound, always, active_posts, inactive_posts, kind_of, switch_contributions, player_contributions, coil_player_contributions, starter, stopper, stopper_where, controls, act_binding, effects_from}
@@ -24,7 +24,7 @@ pub record IsUsual (P : Contribution → Type 0) (R : Effect → Type 0) : Type 
   pub off : (n : List ℕ) → P (inactive n)
   pub bindings : (n : List ℕ) (place : Place) (aim : Aim) → P (binds n place aim)
   pub conditions : (c : Condition) → P (under c)
-  pub mentioned : (n : List ℕ) → P (mentions n)
+  pub mentioned : (n : List ℕ) → P (mentions Events n)
   pub done : (e : Effect) → R e → P (does e)
   pub done_in : (k : ℕ) (e : Effect) → R e → P (does_in k e)
   pub posted : (n : List ℕ) → R (posts n)
@@ -59,13 +59,13 @@ module _ (P : Contribution → Type 0) (R : Effect → Type 0) (usual : IsUsual 
       (All-made P (λ item. does (item_effect machine item)) (λ item. usual.done (item_effect machine item) (usual.worked _ _)) p.items)
 
   -- what comes of a device after the switches to which it listens
-  pub of_device : (place : Place) (d : Device) → All (All R) d.lists → All P (flat_map (act_binding place) d.handled ++ (map mentions d.mentioned ++ effects_from 0 d.lists))
+  pub of_device : (place : Place) (d : Device) → All (All R) d.lists → All P (flat_map (act_binding place) d.handled ++ (map (mentions Events) d.mentioned ++ effects_from 0 d.lists))
   of_device place d each =
       let acting = flat_map (act_binding place) d.handled in
-      let named = map mentions d.mentioned in
+      let named = map (mentions Events) d.mentioned in
       let doing = effects_from 0 d.lists in
       All-append P acting (named ++ doing) (All-each P (act_binding place) (λ h. of_bound h.0 place (Do h.1)) d.handled)
-      (All-append P named doing (All-made P mentions usual.mentioned d.mentioned) (All-lists P R usual.done_in 0 d.lists each))
+      (All-append P named doing (All-made P (mentions Events) usual.mentioned d.mentioned) (All-lists P R usual.done_in 0 d.lists each))
 
   of_stopper : (holds : Bool) (event : List ℕ) → All P (stopper_where holds event)
   of_stopper true event = of_bound (always event) Control Stop

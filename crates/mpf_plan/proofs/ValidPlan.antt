@@ -9,7 +9,7 @@ use Rattle.std.proofs.lemmas.List.Elements.{All-nil, All-cons, All-head, All-tai
 use Rattle.mpf_config.specs.Rows.{Rows}
 use Rattle.mpf_config.specs.Short.{AreListsShort}
 use Rattle.mpf_config.specs.FewModes.{AreFewModes}
-use Rattle.plan_contributions.specs.declared.contribution.Aim.TheVariants.{Run, Start, Stop, Do}
+use Rattle.plan_contributions.specs.declared.contribution.Aim.TheVariants.{Run, Start, Stop, Do, On}
 use Rattle.plan_tables.specs.declared.entries.Action.{Action}
 use Rattle.plan_tables.specs.declared.entries.CoilId.{CoilId}
 use Rattle.plan_tables.specs.declared.entries.CoilLimits.{CoilLimits}
@@ -25,7 +25,7 @@ use Rattle.plan_tables.specs.declared.table.Table.TheVariants as tables
 use Rattle.plan_tables.specs.PlanView.{no_coil, PlanView, coil_at, row_at}
 use Rattle.plan_tables.specs.Devices.{IsWithinLimits, list_count}
 use Rattle.plan_tables.specs.Valid.{IsCoilWithin, IsValid, HasEntries}
-use Rattle.plan_contributions.specs.Contributions.{Contribution, gives, reads, active, inactive, mode, mode_event, binds, does, device, does_in, listens, mentions, coil, under, plays, contributions_of}
+use Rattle.plan_contributions.specs.Contributions.{Contribution, gives, reads, active, inactive, mode, mode_event, binds, does, device, does_in, listens, mentions, unknown, coil, under, plays, contributions_of}
 use Rattle.mpf_plan.specs.Uses.{Names, names_from, number_among, lacks_name}
 use Rattle.mpf_plan.specs.ByName.{latest_limits, AreLimitsByName, ListenersAreOwn}
 use Rattle.plan_tables.specs.Limits.{entry_count, limit_of}
@@ -34,11 +34,12 @@ use Rattle.mpf_plan.proofs.Counts.{named_of}
 use Rattle.mpf_plan.proofs.Drafted.{given_plan, names-from, count-bindings, count-rows, count-row_lists, count-lists}
 use Rattle.mpf_plan.proofs.Judged.{plan_at-Ok, plan_at-complete}
 use Rattle.plan_contributions.specs.Facts.{AreShort, IsRoomy, effects_after, effects_in_after, full, AreLimits, IsLimited, given_coil}
+use Rattle.plan_contributions.proofs.Aimed.{rows_are_aimed}
 use Rattle.plan_contributions.proofs.RowFacts.{rows_are_short, rows_are_open, rows_are_limited, rows_are_placed}
 use Rattle.mpf_plan.proofs.Apart.{all_apart, named_apart}
 use Rattle.mpf_plan.proofs.Heard.{rows_are_heard, plain_of_heard}
 use Rattle.mpf_plan.proofs.Limited.{limits_by_name}
-use Rattle.mpf_plan.proofs.Owned.{IsOwnTarget, IsOwnBinding, IsOwnListener, IsOwnSwitch, own_fold, own_blank}
+use Rattle.mpf_plan.proofs.Owned.{IsOwnTarget, IsOwnBinding, IsOwnListener, IsOwnSwitch, own_drafted}
 use Rattle.mpf_plan.proofs.SoundDraft.{has_entries}
 use Rattle.mpf_plan.proofs.ModeWorks.{modes-count, works_are}
 use Rattle.mpf_plan.proofs.GameWorks.{game_works_are}
@@ -183,12 +184,14 @@ module _ (names : Names) where
   fit_one n f d (binds e place Start) room fit = record { lists = fit.lists; last = fit.last; in_row = fit.in_row }
   fit_one n f d (binds e place Stop) room fit = record { lists = fit.lists; last = fit.last; in_row = fit.in_row }
   fit_one n f d (binds e place (Do act)) room fit = record { lists = fit.lists; last = fit.last; in_row = fit.in_row }
+  fit_one n f d (binds e place (On r act)) room fit = record { lists = fit.lists; last = fit.last; in_row = fit.in_row }
   fit_one n f d (binds e place Run) room fit = let more = fit_more n f d.plan fit in record { lists = more.lists; last = more.last; in_row = more.in_row }
   fit_one n f d (does e) room fit = fit_last n f d.plan fit (action_of names e) room
   fit_one n f d (device place settings) room fit = fit_device n f d.plan fit (d.plan.rows ++ next_row d.plan place settings ∷ []) (list_count settings)
   fit_one n f d (does_in k e) room fit = fit_in n f d.plan fit k (action_of names e) room
   fit_one n f d (listens k e) room fit = record { lists = fit.lists; last = fit.last; in_row = fit.in_row }
-  fit_one n f d (mentions e) room fit = fit
+  fit_one n f d (mentions t e) room fit = fit
+  fit_one n f d unknown room fit = fit
   fit_one n f d (coil e limits) room fit = record { lists = fit.lists; last = fit.last; in_row = fit.in_row }
   fit_one n f d (under c) room fit = record { lists = fit.lists; last = fit.last; in_row = fit.in_row }
   fit_one n f d (plays min_balls balls_per_game max_players) room fit = record { lists = fit.lists; last = fit.last; in_row = fit.in_row }
@@ -269,7 +272,7 @@ valid_from rows short few_modes none_lacks within =
       settings = limited_fold names cs (blank names) (rows_are_limited rows short) (All-nil IsLimitedRow);
       action_limit = fit_fold names 1024 full cs (blank names) (rows_are_short rows short) none;
       names = λ t. subst (AllPairs (λ x y. x ≢ y)) (sym (names-from cs t)) (all_apart (named_of cs t) (named_apart cs t));
-      entries = has_entries cs (rows_are_open rows) (rows_are_placed rows) (rows_are_heard rows) (rows_are_ready rows);
+      entries = has_entries cs (rows_are_open rows) (rows_are_placed rows) (rows_are_aimed rows) (rows_are_heard rows) (rows_are_ready rows);
       works = works_are rows few_modes.apart;
       game_works = game_works_are rows;
     }
@@ -282,7 +285,7 @@ IsValid-plan_of rows short few none within = valid_from rows short few none with
 
 HasEntries-plan_of : (rows : Rows) → HasEntries (plan_of rows)
 unfolding plan_of
-HasEntries-plan_of rows = has_entries (contributions_of rows) (rows_are_open rows) (rows_are_placed rows) (rows_are_heard rows) (rows_are_ready rows)
+HasEntries-plan_of rows = has_entries (contributions_of rows) (rows_are_open rows) (rows_are_placed rows) (rows_are_aimed rows) (rows_are_heard rows) (rows_are_ready rows)
 
 pub HasEntries-plan_at : (rows : Rows) (plan : PlanView) → plan_at rows ≡ Ok plan → HasEntries plan
 HasEntries-plan_at rows plan is = subst HasEntries (sym (plan_at-Ok rows plan is).0) (HasEntries-plan_of rows)
@@ -293,9 +296,7 @@ AreOwn plan = All (IsOwnBinding plan.rows) plan.bindings × All (IsOwnSwitch pla
 
 own-plan_of : (rows : Rows) → AreOwn (plan_of rows)
 unfolding plan_of
-own-plan_of rows =
-    let cs = contributions_of rows in
-    own_fold (names_from cs) cs None (blank (names_from cs)) (rows_are_placed rows) (rows_are_heard rows) (own_blank (names_from cs))
+own-plan_of rows = own_drafted (names_from (contributions_of rows)) (contributions_of rows) (rows_are_placed rows) (rows_are_aimed rows) (rows_are_heard rows)
 
 pub own-plan_at : (rows : Rows) (plan : PlanView) → plan_at rows ≡ Ok plan → All (λ b. (r : RowId) (act : Act) → b.target ≡ targets.Act r act → (row_at plan r).owner ≡ b.owner) plan.bindings
 own-plan_at rows plan is =

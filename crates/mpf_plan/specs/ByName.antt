@@ -1,5 +1,5 @@
 -- What a plan says by names: of what its effect lists do, of what its coils may be sent, and of the names that are used.
-use Rattle.std.specs.Prelude.{ℕ, ◌≡◌, ◌<◌, if◌then◌else◌, List, length, fold, Option, None, Some, true}
+use Rattle.std.specs.Prelude.{ℕ, ◌≡◌, ◌<◌, if◌then◌else◌, List, length, fold, Option, None, Some, true, false}
 use Rattle.std.specs.List.{All, flat_map, list_any}
 use Rattle.std.specs.Str.{bytes_eq}
 use Rattle.plan_tables.specs.declared.entries.CoilId.{CoilId}
@@ -14,7 +14,7 @@ use Rattle.plan_contributions.specs.DeviceEntries.{pulse, enable, disable, Effec
 use Rattle.plan_contributions.specs.Contributions.{Contribution}
 use Rattle.plan_contributions.specs.UsedNames.{used, given_names}
 use Rattle.plan_contributions.specs.Facts.{given_coil}
-use Rattle.mpf_plan.specs.Uses.{is_to_be_given}
+use Rattle.mpf_plan.specs.Uses.{is_to_be_given, is_unknown}
 
 -- ---- what is done
 
@@ -61,9 +61,9 @@ abbrev pub IsGiven : List Contribution → Option (Table × List ℕ) → Type 0
 IsGiven cs None = Unit {0}
 IsGiven cs (Some (t, n)) = is_to_be_given t ≡ true → list_any (bytes_eq n) (given_names t cs) ≡ true
 
--- so is each that contributions use
+-- so is each that contributions use, and none of them names what is unknown
 abbrev pub AreGiven : List Contribution → Type 0
-AreGiven cs = All (λ c. IsGiven cs (used c)) cs
+AreGiven cs = All (λ c. (is_unknown c ≡ false) × IsGiven cs (used c)) cs
 
 -- ---- listeners
 

@@ -1,10 +1,13 @@
 -- What a plan that is being made holds.
-use Rattle.std.specs.Prelude.{ℕ, List, [], ◌∷◌}
+use Rattle.std.specs.Prelude.{ℕ, ◌<◌, List, [], ◌∷◌}
 use Rattle.plan_tables.specs.declared.names.NameSets.{NameSets}
 use Rattle.plan_tables.specs.declared.entries.CoilLimits.{CoilLimits}
 use Rattle.plan_tables.specs.declared.table.Table.TheVariants.{Coils}
 use Rattle.plan_tables.specs.PlanView.{PlanCoil}
 use Rattle.plan_tables.specs.Inside.{name_sets_view, tables_view}
+use Rattle.plan_contributions.specs.declared.contribution.Aim.{Aim}
+use Rattle.plan_contributions.specs.declared.contribution.Aim.TheVariants.{On}
+use Rattle.plan_contributions.specs.Contributions.{Contribution, binds}
 use Rattle.mpf_plan.specs.declared.draft.Draft.{Draft}
 use Rattle.mpf_plan.specs.PlanOf.{DraftView}
 
@@ -13,6 +16,16 @@ abbrev pub limited_coils : List (List ℕ) → List CoilLimits → List PlanCoil
 limited_coils names [] = []
 limited_coils [] (l ∷ ls) = record { name = []; limits = l } ∷ limited_coils [] ls
 limited_coils (n ∷ ns) (l ∷ ls) = record { name = n; limits = l } ∷ limited_coils ns ls
+
+-- the number of a row on which something acts, where the aim says it, is one that a row of a plan can have
+abbrev pub IsRowNumbered : Aim → Type 0
+IsRowNumbered (On r act) = r < 1024
+IsRowNumbered _ = Unit {0}
+
+-- so it is with what a contribution binds
+abbrev pub IsActNumbered : Contribution → Type 0
+IsActNumbered (binds n place aim) = IsRowNumbered aim
+IsActNumbered _ = Unit {0}
 
 abbrev pub draft_view : NameSets → Draft → DraftView
 draft_view names d = record {

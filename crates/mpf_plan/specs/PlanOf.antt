@@ -31,14 +31,14 @@ use Rattle.plan_tables.specs.Devices.{list_count}
 use Rattle.plan_contributions.specs.declared.contribution.Place.{Place}
 use Rattle.plan_contributions.specs.declared.contribution.Place.TheVariants.{Machine, Control, Mode}
 use Rattle.plan_contributions.specs.declared.contribution.Aim.{Aim}
-use Rattle.plan_contributions.specs.declared.contribution.Aim.TheVariants.{Run, Start, Stop, Do}
+use Rattle.plan_contributions.specs.declared.contribution.Aim.TheVariants.{Run, Start, Stop, Do, On}
 use Rattle.plan_tables.specs.declared.table.Table.{Table}
 use Rattle.plan_tables.specs.declared.table.Table.TheVariants.{Events, Switches, Coils, Variables}
 use Rattle.mpf_plan.specs.declared.fault.PlanFault.{PlanFault}
 use Rattle.mpf_plan.specs.declared.fault.PlanFault.TheVariants as faults
 use Rattle.plan_tables.specs.PlanView.{PlanSwitch, no_switch, PlanCoil, no_binding, no_coil, PlanMode, no_event, no_mode, PlanView}
 use Rattle.plan_contributions.specs.DeviceEntries.{Deed, pulse, enable, disable, Effect, posts, works, changes}
-use Rattle.plan_contributions.specs.Contributions.{Contribution, gives, reads, active, inactive, mode, mode_event, mode_event_name, binds, does, device, does_in, listens, mentions, coil, under, plays, contributions_of}
+use Rattle.plan_contributions.specs.Contributions.{Contribution, gives, reads, active, inactive, mode, mode_event, mode_event_name, binds, does, device, does_in, listens, mentions, unknown, coil, under, plays, contributions_of}
 use Rattle.mpf_plan.specs.Uses.{Names, names_from, number_among, lacks_name}
 use Rattle.plan_tables.specs.Limits.{first_above, IsFirstAbove}
 
@@ -172,12 +172,13 @@ abbrev pub last_row : PlanView → RowId
 last_row plan = record { 0 = length plan.rows - 1 }
 
 -- what a binding does that is next: it runs the next effect list, starts or stops the mode that came last, or acts on
--- the row that came last
+-- the row that came last, or on the row of this number, which may come later
 abbrev pub target_at : PlanView → Aim → Target
 target_at plan Run = targets.Run (record { 0 = length plan.lists })
 target_at plan Start = targets.Start (last_mode plan)
 target_at plan Stop = targets.Stop (last_mode plan)
 target_at plan (Do act) = targets.Act (last_row plan) act
+target_at plan (On r act) = targets.Act (record { 0 = r }) act
 
 abbrev pub next_binding : PlanView → EventId → Place → Aim → Binding
 next_binding plan event place aim = record {
@@ -311,7 +312,8 @@ with_contribution names d (does e) = with_action (action_of names e) d
 with_contribution names d (device place settings) = with_device place settings d
 with_contribution names d (does_in k e) = with_action_in k (action_of names e) d
 with_contribution names d (listens k n) = with_listener (number_among (names Switches) n) (next_listener d.plan k) d
-with_contribution names d (mentions n) = d
+with_contribution names d (mentions table n) = d
+with_contribution names d unknown = d
 with_contribution names d (coil n limits) = with_coil (number_among (names Coils) n) limits d
 with_contribution names d (under c) = with_condition (condition_of names c) d
 with_contribution names d (plays min_balls balls_per_game max_players) =

@@ -1,10 +1,10 @@
 -- The numbers of the names that contributions use, and the names that they lack.
-use Rattle.std.specs.Prelude.{ℕ, Bool, true, false, not, ◌&&◌, List, [], ◌∷◌, Option, None, Some, filter}
+use Rattle.std.specs.Prelude.{ℕ, Bool, true, false, not, ◌&&◌, ◌||◌, List, [], ◌∷◌, Option, None, Some, filter}
 use Rattle.std.specs.List.{list_any, position_or_len}
 use Rattle.std.specs.Str.{bytes_eq}
 use Rattle.plan_tables.specs.declared.table.Table.{Table}
 use Rattle.plan_tables.specs.declared.table.Table.TheVariants.{Events, Variables}
-use Rattle.plan_contributions.specs.Contributions.{Contribution}
+use Rattle.plan_contributions.specs.Contributions.{Contribution, unknown}
 use Rattle.plan_contributions.specs.UsedNames.{used, uses, given_names}
 
 -- ---- numbers
@@ -45,6 +45,15 @@ abbrev pub is_lacking : Names → Option (Table × List ℕ) → Bool
 is_lacking there None = false
 is_lacking there (Some (table, n)) = is_to_be_given table && not (list_any (bytes_eq n) (there table))
 
--- whether contributions use a name that nothing has
+-- whether a contribution names what is in no table, and what nothing has
+abbrev pub is_unknown : Contribution → Bool
+is_unknown unknown = true
+is_unknown _ = false
+
+-- whether a contribution names what nothing has: what is unknown, or a name that has to be given and is not there
+abbrev pub lacks : Names → Contribution → Bool
+lacks there c = is_unknown c || is_lacking there (used c)
+
+-- whether one of the contributions does
 abbrev pub lacks_name : List Contribution → Bool
-lacks_name cs = list_any (λ c. is_lacking (λ table. given_names table cs) (used c)) cs
+lacks_name cs = list_any (lacks (λ table. given_names table cs)) cs

@@ -64,7 +64,8 @@ use std::alloc::Global;
 ///
 /// # Errors
 ///
-/// - `NoSuchName`: a switch or a coil is named that no entry of the machine text has.
+/// - `NoSuchName`: a switch or a coil is named that no entry of the machine text has, or a setting
+///   names something else that nothing has.
 /// - `Limit`: a table is above its limit; the first such table in the order of `Table` is reported.
 /// - `NoMemory`: memory ran out.
 pub fn plan(alloc: Global, config: &Config) -> Result<Plan, PlanFault>

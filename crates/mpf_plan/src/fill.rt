@@ -1,6 +1,7 @@
 //! The plan of contributions: each adds its own to what is there.
 
 ghost use Rattle.std.specs.Prelude.{◌≡◌, ◌<◌, ◌≤◌, ◌+◌, ◌*◌, ◌++◌, List, [], ℕ, false, length, map, fold, replicate, slice_index_or, slice_set, IfOk, OnOk};
+ghost use Rattle.std.specs.List.{All};
 ghost use Rattle.plan_tables.specs.declared.names.NameSets.{NameSets as NameSetsValue};
 ghost use Rattle.plan_tables.specs.declared.table.Table.TheVariants.{Events, Switches, Coils, Variables};
 ghost use Rattle.machine_definitions.specs.GameEvents.{game_event_names};
@@ -9,7 +10,7 @@ ghost use Rattle.plan_tables.specs.Devices.{list_count};
 ghost use Rattle.mpf_plan.specs.PlanOf.{event_of, coil_of, variable_of, last_conditioned, action_with, action_of, owner_at, priority_at, with_switch, with_kind, with_active, with_inactive, first_event, with_event, last_with_event, last_mode, last_row, next_binding, last_priority, lists_for, with_one_more, last_with, next_row, with_device, first_of_last, with_contribution, next_listener, with_listener, limited_to, named_switch, named_coil, blank, drafted, next_list, with_action_in};
 ghost use Rattle.plan_tables.specs.Inside.{name_sets_view, mode_entry_view, action_lists, switches_view};
 ghost use Rattle.plan_contributions.specs.View.{parts_text, deed_view, effect_view, contribution_view, contributions_view, row_list_view};
-ghost use Rattle.mpf_plan.specs.Inside.{limited_coils, draft_view};
+ghost use Rattle.mpf_plan.specs.Inside.{limited_coils, IsRowNumbered, IsActNumbered, draft_view};
 ghost use Rattle.mpf_plan.specs.Numbering.{binding_count, mode_count, row_count};
 ghost use Rattle.plan_tables.specs.PlanView.{no_switch, no_coil};
 ghost use Rattle.plan_tables.specs.NamesKept.{names_of};
@@ -42,6 +43,7 @@ pub(crate) fn fill(
     requires bindings { binding_count (given_by definitions.now (row_list_view rows.now)) ≤ 16384 }
     requires rows { row_count (given_by definitions.now (row_list_view rows.now)) ≤ 1024 }
     requires modes { mode_count (given_by definitions.now (row_list_view rows.now)) ≤ 64 }
+    requires acts { All IsActNumbered (given_by definitions.now (row_list_view rows.now)) }
     ensures { IfOk result (λ d. draft_view names.now d ≡ drafted (name_sets_view names.now) (given_by definitions.now (row_list_view rows.now))) }
 {
     let mut draft = blank(alloc, names)?;
@@ -64,6 +66,7 @@ fn add_all(
     requires lists { length draft.old.lists.items + binding_count (contributions_view contributions.now) + 5 * row_count (contributions_view contributions.now) ≤ 21504 }
     requires rows { length draft.old.rows.items + row_count (contributions_view contributions.now) ≤ 1024 }
     requires modes { length draft.old.modes.items + mode_count (contributions_view contributions.now) ≤ 64 }
+    requires acts { All IsActNumbered (contributions_view contributions.now) }
     ensures { OnOk result (draft_view names.now draft.new ≡ fold (with_contribution (name_sets_view names.now)) (draft_view names.now draft.old) (contributions_view contributions.now)) }
 {
     for contribution in contributions {
@@ -82,6 +85,7 @@ fn add(
     requires lists { length draft.old.lists.items ≤ 21504 }
     requires rows { length draft.old.rows.items ≤ 1024 }
     requires modes { length draft.old.modes.items ≤ 64 }
+    requires acts { IsActNumbered (contribution_view contribution.now) }
     ensures { OnOk result (draft_view names.now draft.new ≡ with_contribution (name_sets_view names.now) (draft_view names.now draft.old) (contribution_view contribution.now)) }
 {
     match *contribution {
@@ -104,7 +108,7 @@ fn add(
         Contribution::DoesIn(number, effect) => add_effect_in(names, text, draft, number, effect),
         Contribution::Listens(number, name) => add_listener(names, text, draft, number, name),
         Contribution::Coil(name, limits) => add_coil(names, text, draft, name, limits),
-        Contribution::Mentions(_) => Ok(()),
+        Contribution::Mentions(_, _) | Contribution::Unknown => Ok(()),
         Contribution::Under(name, comparison, number) => {
             add_condition(names, text, draft, name, comparison, number)
         }
@@ -313,16 +317,17 @@ fn add_binding(
     names: &NameSets,
     text: &mut Vec<u8>,
     draft: &mut Draft,
-    name: &[u8],
+    name: Parts,
     place: Place,
     aim: Aim,
 ) -> Result<(), AllocError>
     requires lists { length draft.old.lists.items ≤ 21504 }
     requires rows { length draft.old.rows.items ≤ 1024 }
     requires modes { length draft.old.modes.items ≤ 64 }
-    ensures { OnOk result (draft_view names.now draft.new ≡ with_contribution (name_sets_view names.now) (draft_view names.now draft.old) (binds name.now place aim)) }
+    requires acts { IsRowNumbered aim }
+    ensures { OnOk result (draft_view names.now draft.new ≡ with_contribution (name_sets_view names.now) (draft_view names.now draft.old) (binds (parts_text name.entry) place aim)) }
 {
-    let event = event_of(names, text, whole(name))?;
+    let event = event_of(names, text, name)?;
     let binding = next_binding(draft, event, place, aim);
     draft.bindings.push(binding)?;
     begin_list(alloc, &mut draft.lists, aim)
@@ -333,6 +338,7 @@ fn next_binding(draft: &Draft, event: EventId, place: Place, aim: Aim) -> Bindin
     requires lists { length draft.now.lists.items ≤ 21504 }
     requires rows { length draft.now.rows.items ≤ 1024 }
     requires modes { length draft.now.modes.items ≤ 64 }
+    requires acts { IsRowNumbered aim }
     ensures { (names : NameSetsValue) → result ≡ next_binding (draft_view names draft.now).plan event place aim }
 {
     let last = last_mode(draft);
@@ -342,6 +348,7 @@ fn next_binding(draft: &Draft, event: EventId, place: Place, aim: Aim) -> Bindin
         Aim::Start => Target::Start(last),
         Aim::Stop => Target::Stop(last),
         Aim::Do(act) => Target::Act(last_row(draft), act),
+        Aim::On(row, act) => Target::Act(RowId(row as u16), act),
     };
     Binding {
         event,
@@ -582,7 +589,7 @@ fn add_effect_in(
     names: &NameSets,
     text: &mut Vec<u8>,
     draft: &mut Draft,
-    number: u8,
+    number: u16,
     effect: Effect,
 ) -> Result<(), AllocError>
     ensures { OnOk result (draft_view names.now draft.new ≡ with_contribution (name_sets_view names.now) (draft_view names.now draft.old) (does_in number (effect_view effect.entry))) }

@@ -4,8 +4,8 @@ ghost use Rattle.std.specs.Prelude.{◌≡◌, ◌≤◌, ◌<◌, ◌+◌, ◌+
 ghost use Rattle.std.specs.List.{list_any};
 ghost use Rattle.plan_contributions.specs.Contributions.{Contribution as ContributionValue, given_by};
 ghost use Rattle.plan_tables.specs.Limits.{entry_count, limit_of, tables_in_order, first_above};
-ghost use Rattle.plan_contributions.specs.UsedNames.{used, given_names};
-ghost use Rattle.mpf_plan.specs.Uses.{number_among, is_to_be_given, is_lacking, lacks_name};
+ghost use Rattle.plan_contributions.specs.UsedNames.{given_names};
+ghost use Rattle.mpf_plan.specs.Uses.{number_among, is_to_be_given, is_unknown, lacks, lacks_name};
 ghost use Rattle.mpf_plan.specs.PlanOf.{plan_from};
 ghost use Rattle.plan_tables.specs.NamesKept.{names_of};
 ghost use Rattle.plan_contributions.specs.View.{parts_text, contribution_view, contributions_view, row_list_view};
@@ -76,16 +76,24 @@ fn hashing_of(
     Ok(NameHashing { start })
 }
 
-/// Each name that the contributions use, and after it a byte that is in no name.
+/// Each name that the contributions use.
 fn feed(hasher: &mut DefaultHasher, contributions: &[Contribution]) {
     for contribution in contributions {
         if let Some((_, name)) = used(contribution) {
-            hasher.write(name.front);
-            hasher.write(name.middle);
-            hasher.write(name.end);
-            hasher.write(b"\n");
+            feed_name(hasher, name);
         }
     }
+}
+
+/// The pieces of a name, and after them a byte that is in no name.
+fn feed_name(hasher: &mut DefaultHasher, name: Parts) {
+    hasher.write(name.first);
+    hasher.write(name.second);
+    hasher.write(name.third);
+    hasher.write(name.fourth);
+    hasher.write(name.fifth);
+    hasher.write(name.sixth);
+    hasher.write(b"\n");
 }
 
 // ---- limits
@@ -307,14 +315,14 @@ fn note_given(
     Ok(())
 }
 
-/// Whether the contributions use a name that is not among these.
+/// Whether the contributions name what nothing has, or use a name that is not among these.
 fn use_other(
     sets: &[NameSet],
     text: &mut Vec<u8>,
     contributions: &[Contribution],
 ) -> Result<bool, AllocError>
     requires { length sets.now ≡ length tables_in_order }
-    ensures { IfOk result (λ b. (cs : List ContributionValue) → HoldGivenNames cs sets.now → b ≡ list_any (λ c. is_lacking (λ t. given_names t cs) (used c)) (contributions_view contributions.now)) }
+    ensures { IfOk result (λ b. (cs : List ContributionValue) → HoldGivenNames cs sets.now → b ≡ list_any (lacks (λ t. given_names t cs)) (contributions_view contributions.now)) }
 {
     for contribution in contributions {
         let lacking = is_other(sets, text, contribution)?;
@@ -325,15 +333,18 @@ fn use_other(
     Ok(false)
 }
 
-/// Whether the contribution uses a name that is not among these.
+/// Whether the contribution names what nothing has, or uses a name that is not among these.
 fn is_other(
     sets: &[NameSet],
     text: &mut Vec<u8>,
     contribution: &Contribution,
 ) -> Result<bool, AllocError>
     requires { length sets.now ≡ length tables_in_order }
-    ensures { IfOk result (λ b. (cs : List ContributionValue) → HoldGivenNames cs sets.now → b ≡ is_lacking (λ t. given_names t cs) (used (contribution_view contribution.now))) }
+    ensures { IfOk result (λ b. (cs : List ContributionValue) → HoldGivenNames cs sets.now → b ≡ lacks (λ t. given_names t cs) (contribution_view contribution.now)) }
 {
+    if is_unknown(contribution) {
+        return Ok(true);
+    }
     let Some((table, name)) = used(contribution) else {
         return Ok(false);
     };
@@ -343,6 +354,16 @@ fn is_other(
     write_name(text, name)?;
     let there = sets[table.index()].contains(text.as_slice());
     Ok(!there)
+}
+
+/// Whether the contribution names what nothing has.
+fn is_unknown(contribution: &Contribution) -> bool
+    ensures { result ≡ is_unknown (contribution_view contribution.now) }
+{
+    match *contribution {
+        Contribution::Unknown => true,
+        _ => false,
+    }
 }
 
 /// Whether a name of the table has to be given: events and variables are there by their use alone.

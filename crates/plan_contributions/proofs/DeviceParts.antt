@@ -12,6 +12,7 @@ use Rattle.plan_tables.specs.declared.devices.Settings.TheVariants as kinds
 use Rattle.plan_tables.specs.declared.devices.Act.{Act}
 use Rattle.plan_tables.specs.declared.devices.Act.TheVariants.{Step}
 use Rattle.plan_tables.specs.declared.devices.Settings.{Settings}
+use Rattle.plan_tables.specs.declared.table.Table.TheVariants.{Events}
 use Rattle.plan_contributions.specs.declared.contribution.Contribution as contributions
 use Rattle.plan_contributions.specs.declared.contribution.Contribution.TheVariants as contribution
 use Rattle.plan_contributions.specs.declared.contribution.Parts.{Parts}
@@ -52,12 +53,12 @@ lists_collected old a b e u hit complete first then_ rest =
 
 -- then what acts on a row that listens to no switch, and the rest
 pub device_collected : (place : Place) (d : Device) (old a b e : List Contribution) → d.listens ≡ [] → a ≡ old ++ device place d.settings ∷ [] → b ≡ a ++ flat_map (act_binding place) d.handled
-    → e ≡ b ++ (map mentions d.mentioned ++ effects_from 0 d.lists) → e ≡ old ++ device_contributions place d
+    → e ≡ b ++ (map (mentions Events) d.mentioned ++ effects_from 0 d.lists) → e ≡ old ++ device_contributions place d
 unfolding device_contributions
 device_collected place d old a b e silent first then_ rest =
     let row = device place d.settings in
     let acting = flat_map (act_binding place) d.handled in
-    let doing = map mentions d.mentioned ++ effects_from 0 d.lists in
+    let doing = map (mentions Events) d.mentioned ++ effects_from 0 d.lists in
     rest ∙ ap (λ l. l ++ doing) (then_ ∙ ap (λ l. l ++ acting) first)
     ∙ append_assoc (old ++ row ∷ []) acting doing
     ∙ append_assoc old (row ∷ []) (acting ++ doing)

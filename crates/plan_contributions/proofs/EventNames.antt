@@ -9,7 +9,7 @@ use Rattle.mpf_config.specs.Named.{IsNamedMode}
 use Rattle.plan_tables.specs.declared.table.Table.{Table}
 use Rattle.plan_tables.specs.declared.table.Table.TheVariants.{Events, Switches, Coils, Variables}
 use Rattle.plan_contributions.specs.DeviceEntries.{Effect, posts, works, changes}
-use Rattle.plan_contributions.specs.Contributions.{Contribution, gives, reads, active, inactive, mode, mode_event, binds, does, device, does_in, listens, mentions, coil, under, plays, contributions_of}
+use Rattle.plan_contributions.specs.Contributions.{Contribution, gives, reads, active, inactive, mode, mode_event, binds, does, device, does_in, listens, mentions, unknown, coil, under, plays, contributions_of}
 use Rattle.plan_contributions.specs.UsedNames.{used_by, used, uses, name_in_table}
 use Rattle.plan_contributions.proofs.RowFacts.{IsFitName, IsFitEffect, IsFit, All-flat_map, any_name, rows_fit}
 use Rattle.plan_contributions.specs.Facts.{IsOfNames}
@@ -37,7 +37,8 @@ module _ (P : List ℕ → Type 0) where
   use_fit (device place settings) h = tt
   use_fit (does_in k e) h = effect_fit e h
   use_fit (listens k n) h = h
-  use_fit (mentions n) h = h
+  use_fit (mentions t n) h = h
+  use_fit unknown h = tt
   use_fit (coil n limits) h = h
   use_fit (under c) h = h
   use_fit (plays min_balls balls_per_game max_players) h = tt

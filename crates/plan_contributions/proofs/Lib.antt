@@ -3,6 +3,7 @@ pub mod DeviceParts
 pub mod Placed
 pub mod RowFacts
 pub mod RowEffects
+pub mod Aimed
 pub mod Silent
 pub mod Unnamed
 pub mod CoilsGiven

@@ -6,7 +6,7 @@ use Rattle.std.proofs.lemmas.List.Elements.{All-head, All-tail}
 use Rattle.std.proofs.lemmas.Option.{none-some}
 use Rattle.mpf_values.specs.Events.{Condition}
 use Rattle.plan_contributions.specs.declared.contribution.Aim.{Aim}
-use Rattle.plan_contributions.specs.declared.contribution.Aim.TheVariants.{Run, Start, Stop, Do}
+use Rattle.plan_contributions.specs.declared.contribution.Aim.TheVariants.{Run, Start, Stop, Do, On}
 use Rattle.plan_contributions.specs.declared.contribution.Place.{Place}
 use Rattle.plan_contributions.specs.declared.contribution.Place.TheVariants.{Machine}
 use Rattle.plan_contributions.specs.DeviceEntries.{Effect}
@@ -24,6 +24,7 @@ ArePlaced-any o (c ∷ cs) h = (placed c h.0, after (ArePlaced-any o cs) c h.1)
     aimed place Run is = tt
     aimed place Start is = tt
     aimed place Stop is = tt
+    aimed place (On r act) is = tt
 
     placed : (x : Contribution) → IsPlaced None x → IsPlaced o x
     placed (binds e place aim) is = aimed place aim is

@@ -11,6 +11,7 @@ use Rattle.mpf_sections.specs.TypedGame.{variable_player_name, game_name, variab
 use Rattle.machine_definitions.specs.GameEvents.{game_event_names}
 use Rattle.machine_definitions.specs.Players.{player_event}
 use Rattle.plan_tables.specs.declared.devices.Act.{Act}
+use Rattle.plan_tables.specs.declared.table.Table.TheVariants.{Events}
 use Rattle.plan_contributions.specs.VariableEntries.{item_change}
 use Rattle.mpf_config.specs.Rows.{ModeRows, Rows}
 use Rattle.mpf_sections.specs.Rows as sections
@@ -77,7 +78,7 @@ module _ (P : Effect → Type 0) (S L : List ℕ → Type 0) where
       All-append D (bound p.event.event place Run) (map (λ item. does (item_effect machine item)) p.items) (in_bound p.event.event place Run) (All-map D (λ item. does (item_effect machine item)) p.items h)
 
   in_item : (item : VariableItem) → P (item_change item) → All D (item_contributions item)
-  in_item item h = All-cons D (mentions (player_event item.variable.text)) (does (item_change item) ∷ []) tt (All-cons D (does (item_change item)) [] h (All-nil D))
+  in_item item h = All-cons D (mentions Events (player_event item.variable.text)) (does (item_change item) ∷ []) tt (All-cons D (does (item_change item)) [] h (All-nil D))
 
   in_variable_player : (place : Place) (p : VariablePlayer) → IsVariablePlayerDoing P S L p → All D (variable_player_contributions place p)
   unfolding variable_player_contributions
@@ -88,7 +89,7 @@ module _ (P : Effect → Type 0) (S L : List ℕ → Type 0) where
   in_game : (machine : List SectionRows) (g : GameSettings) → All D (game_contributions machine g)
   unfolding game_contributions
   in_game machine g =
-      All-append D (map mentions game_event_names) (plays (min_balls_of machine) g.balls_per_game g.max_players ∷ []) (All-made D mentions (λ n. tt) game_event_names)
+      All-append D (map (mentions Events) game_event_names) (plays (min_balls_of machine) g.balls_per_game g.max_players ∷ []) (All-made D (mentions Events) (λ n. tt) game_event_names)
       (All-cons D (plays (min_balls_of machine) g.balls_per_game g.max_players) [] tt (All-nil D))
 
   in_device : (place : Place) (d : Device) → IsDeviceDoing P S L d → All D (device_contributions place d)
@@ -96,12 +97,12 @@ module _ (P : Effect → Type 0) (S L : List ℕ → Type 0) where
   in_device place d h =
       let listening = listens_from 0 d.listens in
       let acting = flat_map (act_binding place) d.handled in
-      let named = map mentions d.mentioned in
+      let named = map (mentions Events) d.mentioned in
       let doing = effects_from 0 d.lists in
       All-cons D (device place d.settings) (listening ++ (acting ++ (named ++ doing))) tt
       (All-append D listening (acting ++ (named ++ doing)) (All-listens D L (λ k n m. m) 0 d.listens h.listens)
       (All-append D acting (named ++ doing) (All-flat_map D (act_binding place) d.handled (λ i x within. acts_so (get_or d.handled i x)))
-      (All-append D named doing (All-made D mentions (λ n. tt) d.mentioned) (All-lists D P (λ k e m. m) 0 d.lists h.lists))))
+      (All-append D named doing (All-made D (mentions Events) (λ n. tt) d.mentioned) (All-lists D P (λ k e m. m) 0 d.lists h.lists))))
     where
       acts_so : (x : Event × Act) → All D (act_binding place x)
       acts_so x = in_bound x.0 place (Do x.1)

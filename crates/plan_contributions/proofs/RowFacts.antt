@@ -26,7 +26,7 @@ use Rattle.mpf_sections.proofs.DeviceRows.{counter_named, step_block_named, time
 use Rattle.mpf_sections.proofs.CoilRows.{coil_named, coil_player_named, flipper_named, autofire_named, coil_in_range, coil_player_short, coil_player_in_range, coils_in_range}
 use Rattle.mpf_sections.proofs.GameRows.{variable_player_named, variable_player_short, game_in_range, min_balls_few}
 use Rattle.plan_contributions.specs.declared.contribution.Aim.{Aim}
-use Rattle.plan_contributions.specs.declared.contribution.Aim.TheVariants.{Run, Start, Stop, Do}
+use Rattle.plan_contributions.specs.declared.contribution.Aim.TheVariants.{Run, Start, Stop, Do, On}
 use Rattle.plan_contributions.specs.declared.contribution.Place.{Place}
 use Rattle.plan_contributions.specs.declared.contribution.Place.TheVariants.{Machine, Control, Mode}
 use Rattle.plan_tables.specs.Devices.{IsWithinLimits}
@@ -75,7 +75,7 @@ IsFit P (binds n place aim) = P n
 IsFit P (does e) = IsFitEffect P e
 IsFit P (does_in k e) = IsFitEffect P e
 IsFit P (listens k n) = IsName n
-IsFit P (mentions n) = P n
+IsFit P (mentions t n) = IsFitName P t n
 IsFit P (coil n limits) = IsName n
 IsFit P (under c) = IsName c.variable
 IsFit P _ = Unit {0}
@@ -233,6 +233,7 @@ AreOpened-more (c ∷ cs) m n more h = (opened c h.0, AreOpened-more cs (modes_a
     aim_open Start is = omega (arith, more, is)
     aim_open Stop is = omega (arith, more, is)
     aim_open (Do act) is = tt
+    aim_open (On r act) is = tt
 
     opened : (x : Contribution) → IsOpen m x → IsOpen n x
     opened (binds e place aim) is = (place_open place is.0, aim_open aim is.1)
@@ -538,7 +539,7 @@ module _ (machine : List SectionRows) (P : List ℕ → Type 0) (of : IsOfNames 
   fit_changes items h = All-flat_map (IsFit P) item_contributions items (All-weaker (λ (i : VariableItem). IsName i.variable.text) (λ i. All (IsFit P) (item_contributions i)) fit items h)
     where
       fit : (i : VariableItem) → IsName i.variable.text → All (IsFit P) (item_contributions i)
-      fit i k = All-cons (IsFit P) (mentions (player_event i.variable.text)) (does (item_change i) ∷ []) (of.player i.variable.text k) (All-cons (IsFit P) (does (item_change i)) [] k (All-nil (IsFit P)))
+      fit i k = All-cons (IsFit P) (mentions Events (player_event i.variable.text)) (does (item_change i) ∷ []) (of.player i.variable.text k) (All-cons (IsFit P) (does (item_change i)) [] k (All-nil (IsFit P)))
 
   variable_player_facts : (place : Place) (p : VariablePlayer) → Facts P n (IsNamedVariablePlayer p) (length p.items ≤ 1024) (IsOpenPlace n place) (variable_player_contributions place p)
   unfolding variable_player_contributions
@@ -548,19 +549,19 @@ module _ (machine : List SectionRows) (P : List ℕ → Type 0) (of : IsOfNames 
       (all_alone (AreOpened n) item_contributions (λ i cs k. (tt, (tt, k))) p.items tt) (all_alone (ArePlaced None) item_contributions (λ i cs k. (tt, (tt, k))) p.items tt)
     where
       right : (i : VariableItem) → All IsRight (item_contributions i)
-      right i = All-cons IsRight (mentions (player_event i.variable.text)) (does (item_change i) ∷ []) (tt, tt) (All-cons IsRight (does (item_change i)) [] (tt, tt) (All-nil IsRight))
+      right i = All-cons IsRight (mentions Events (player_event i.variable.text)) (does (item_change i) ∷ []) (tt, tt) (All-cons IsRight (does (item_change i)) [] (tt, tt) (All-nil IsRight))
 
   game_facts : (g : GameSettings) → Facts P n (Unit {0}) (IsGameInRange g) (Unit {0}) (game_contributions machine g)
   unfolding game_contributions
   game_facts g =
       let rules = plays (min_balls_of machine) g.balls_per_game g.max_players in
-      let named = map mentions game_event_names in
+      let named = map (mentions Events) game_event_names in
       record {
-        names = λ h. All-append (IsFit P) named (rules ∷ []) (All-map (IsFit P) mentions game_event_names of.game_events) (All-cons (IsFit P) rules [] tt (All-nil (IsFit P)));
-        lists = λ h. each_before (AreShort 1024 full) mentions (λ e cs k. (tt, k)) game_event_names (rules ∷ []) (tt, tt);
-        modes = λ h. each_before (AreOpened n) mentions (λ e cs k. (tt, k)) game_event_names (rules ∷ []) (tt, tt);
-        limits = λ h. All-append IsRight named (rules ∷ []) (All-made IsRight mentions (λ e. (tt, tt)) game_event_names) (All-cons IsRight rules [] (limited h, tt) (All-nil IsRight));
-        acts = each_before (ArePlaced None) mentions (λ e cs k. (tt, k)) game_event_names (rules ∷ []) (tt, tt);
+        names = λ h. All-append (IsFit P) named (rules ∷ []) (All-map (IsFit P) (mentions Events) game_event_names of.game_events) (All-cons (IsFit P) rules [] tt (All-nil (IsFit P)));
+        lists = λ h. each_before (AreShort 1024 full) (mentions Events) (λ e cs k. (tt, k)) game_event_names (rules ∷ []) (tt, tt);
+        modes = λ h. each_before (AreOpened n) (mentions Events) (λ e cs k. (tt, k)) game_event_names (rules ∷ []) (tt, tt);
+        limits = λ h. All-append IsRight named (rules ∷ []) (All-made IsRight (mentions Events) (λ e. (tt, tt)) game_event_names) (All-cons IsRight rules [] (limited h, tt) (All-nil IsRight));
+        acts = each_before (ArePlaced None) (mentions Events) (λ e cs k. (tt, k)) game_event_names (rules ∷ []) (tt, tt);
       }
     where
       limited : IsGameInRange g → AreRules (min_balls_of machine) g.balls_per_game g.max_players
@@ -599,34 +600,34 @@ module _ (machine : List SectionRows) (P : List ℕ → Type 0) (of : IsOfNames 
       let none = effects_in_after full (device place d.settings) in
       let listening = listens_from 0 d.listens in
       let acting = flat_map (act_binding place) d.handled in
-      let named = map mentions d.mentioned in
+      let named = map (mentions Events) d.mentioned in
       let doing = effects_from 0 d.lists in
       record {
         names = λ h. All-cons (IsFit P) (device place d.settings) (listening ++ (acting ++ (named ++ doing))) tt
             (All-append (IsFit P) listening (acting ++ (named ++ doing)) (All-listens (IsFit P) IsName (λ k s m. m) 0 d.listens h.listens)
             (All-append (IsFit P) acting (named ++ doing) (fit_acting place d.handled h.handled)
-            (All-append (IsFit P) named doing (All-map (IsFit P) mentions d.mentioned h.mentioned) (All-lists (IsFit P) (IsFitEffect P) (λ k e m. m) 0 d.lists h.lists))));
+            (All-append (IsFit P) named doing (All-map (IsFit P) (mentions Events) d.mentioned h.mentioned) (All-lists (IsFit P) (IsFitEffect P) (λ k e m. m) 0 d.lists h.lists))));
         lists = λ h. (
           tt,
           AreShort-listens 1024 none 0 d.listens (acting ++ (named ++ doing))
               (all_before (AreShort 1024 none) (act_binding place) (λ x cs k. (tt, AreShort-under 1024 none x.0.condition cs k)) d.handled (named ++ doing)
-              (each_before (AreShort 1024 none) mentions (λ x cs k. (tt, k)) d.mentioned doing (AreShort-lists 0 d.lists h.lists 1024 none (λ j from. omega arith)))),
+              (each_before (AreShort 1024 none) (mentions Events) (λ x cs k. (tt, k)) d.mentioned doing (AreShort-lists 0 d.lists h.lists 1024 none (λ j from. omega arith)))),
         );
         modes = λ h. (
           h,
           AreOpened-listens n 0 d.listens (acting ++ (named ++ doing))
               (all_before (AreOpened n) (act_binding place) (λ x cs k. ((h, tt), AreOpened-under n x.0.condition cs k)) d.handled (named ++ doing)
-              (each_before (AreOpened n) mentions (λ x cs k. (tt, k)) d.mentioned doing (AreOpened-lists n 0 d.lists))),
+              (each_before (AreOpened n) (mentions Events) (λ x cs k. (tt, k)) d.mentioned doing (AreOpened-lists n 0 d.lists))),
         );
         limits = λ h. All-cons IsRight (device place d.settings) (listening ++ (acting ++ (named ++ doing))) (h.limits, h.place_of)
             (All-append IsRight listening (acting ++ (named ++ doing)) (All-listens IsRight (λ s. Unit {0}) (λ k s m. (tt, tt)) 0 d.listens (λ i x within. tt))
             (All-append IsRight acting (named ++ doing) (All-each IsRight (act_binding place) (λ x. right_bound x.0 place (Do x.1)) d.handled)
-            (All-append IsRight named doing (All-made IsRight mentions (λ x. (tt, tt)) d.mentioned) (All-lists IsRight IsEffectInRange (λ k e m. (m, tt)) 0 d.lists h.effects))));
+            (All-append IsRight named doing (All-made IsRight (mentions Events) (λ x. (tt, tt)) d.mentioned) (All-lists IsRight IsEffectInRange (λ k e m. (m, tt)) 0 d.lists h.effects))));
         acts = (
           tt,
           ArePlaced-listens place 0 d.listens (acting ++ (named ++ doing)) own
               (all_before (ArePlaced (Some place)) (act_binding place) (λ x cs k. (refl, ArePlaced-under (Some place) x.0.condition cs k)) d.handled (named ++ doing)
-              (each_before (ArePlaced (Some place)) mentions (λ x cs k. (tt, k)) d.mentioned doing (ArePlaced-effects (Some place) 0 d.lists))),
+              (each_before (ArePlaced (Some place)) (mentions Events) (λ x cs k. (tt, k)) d.mentioned doing (ArePlaced-effects (Some place) 0 d.lists))),
         );
       }
 

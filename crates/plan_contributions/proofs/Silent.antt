@@ -20,7 +20,7 @@ use Rattle.plan_contributions.specs.declared.contribution.Place.{Place}
 use Rattle.plan_contributions.specs.declared.contribution.Place.TheVariants.{Machine, Control, Mode}
 use Rattle.plan_contributions.specs.declared.contribution.Aim.{Aim}
 use Rattle.plan_contributions.specs.declared.contribution.Aim.TheVariants.{Run, Start, Stop, Do}
-use Rattle.plan_tables.specs.declared.table.Table.TheVariants.{Switches}
+use Rattle.plan_tables.specs.declared.table.Table.TheVariants.{Events, Switches}
 use Rattle.plan_contributions.specs.CoilEntries.{item_effect}
 use Rattle.plan_contributions.specs.DeviceEntries.{Effect, posts}
 use Rattle.plan_contributions.specs.Contributions.{Contribution, gives, reads, active, inactive, mode, mode_event, binds, does, device, does_in, listens, mentions, under, plays, under_where, bound, always, kind_of, texts, events, active_posts, inactive_posts, switch_contributions, player_contributions, coil_contributions, coil_player_contributions, item_contributions, variable_player_contributions, game_contributions, starter, stopper, stopper_where, later_events, controls, mode_contributions, Device, act_binding, listens_from, effects_from, device_contributions, where_device, machine_device, machine_entry_contributions, alone_contributions, player_entry_contributions}
@@ -38,7 +38,7 @@ pub record IsSilent {X : Type 0} (tell : Contribution → List X) : Type 0 where
   pub rows : (place : Place) (settings : Settings) → tell (device place settings) ≡ []
   pub done_in : (k : ℕ) (e : Effect) → tell (does_in k e) ≡ []
   pub listened : (k : ℕ) (n : List ℕ) → tell (listens k n) ≡ []
-  pub mentioned : (n : List ℕ) → tell (mentions n) ≡ []
+  pub mentioned : (n : List ℕ) → tell (mentions Events n) ≡ []
   pub met : (c : Condition) → tell (under c) ≡ []
   pub played : (min_balls balls_per_game max_players : ℕ) → tell (plays min_balls balls_per_game max_players) ≡ []
 
@@ -98,7 +98,7 @@ module _ {X : Type 0} (tell : Contribution → List X) (silent : IsSilent tell) 
 
   in_item : (item : VariableItem) → TellsNone (item_contributions item)
   in_item item =
-      first (mentions (player_event item.variable.text)) (does (item_change item) ∷ []) (silent.mentioned (player_event item.variable.text))
+      first (mentions Events (player_event item.variable.text)) (does (item_change item) ∷ []) (silent.mentioned (player_event item.variable.text))
       (first (does (item_change item)) [] (silent.done (item_change item)) refl)
 
   in_variable_player : (place : Place) (p : VariablePlayer) → TellsNone (variable_player_contributions place p)
@@ -109,7 +109,7 @@ module _ {X : Type 0} (tell : Contribution → List X) (silent : IsSilent tell) 
   in_game : (machine : List SectionRows) (g : GameSettings) → TellsNone (game_contributions machine g)
   unfolding game_contributions
   in_game machine g =
-      both (map mentions game_event_names) (plays (min_balls_of machine) g.balls_per_game g.max_players ∷ []) (each mentions silent.mentioned game_event_names)
+      both (map (mentions Events) game_event_names) (plays (min_balls_of machine) g.balls_per_game g.max_players ∷ []) (each (mentions Events) silent.mentioned game_event_names)
       (first (plays (min_balls_of machine) g.balls_per_game g.max_players) [] (silent.played (min_balls_of machine) g.balls_per_game g.max_players) refl)
 
   in_lists : (k : ℕ) (lists : List (List Effect)) → TellsNone (effects_from k lists)
@@ -125,11 +125,11 @@ module _ {X : Type 0} (tell : Contribution → List X) (silent : IsSilent tell) 
   in_device place d =
       let listening = listens_from 0 d.listens in
       let acting = flat_map (act_binding place) d.handled in
-      let named = map mentions d.mentioned in
+      let named = map (mentions Events) d.mentioned in
       let doing = effects_from 0 d.lists in
       first (device place d.settings) (listening ++ (acting ++ (named ++ doing))) (silent.rows place d.settings)
       (both listening (acting ++ (named ++ doing)) (in_listens 0 d.listens)
-      (both acting (named ++ doing) (each_all (act_binding place) (λ h. act_silent h) d.handled) (both named doing (each mentions silent.mentioned d.mentioned) (in_lists 0 d.lists))))
+      (both acting (named ++ doing) (each_all (act_binding place) (λ h. act_silent h) d.handled) (both named doing (each (mentions Events) silent.mentioned d.mentioned) (in_lists 0 d.lists))))
     where
       act_silent : (h : Event × Act) → TellsNone (act_binding place h)
       act_silent h = in_bound h.0 place (Do h.1)

@@ -26,7 +26,7 @@ use Rattle.plan_contributions.specs.declared.contribution.Aim.TheVariants.{Run, 
 use Rattle.plan_tables.specs.declared.devices.Settings.{Settings}
 use Rattle.plan_tables.specs.declared.devices.Act.{Act}
 use Rattle.plan_tables.specs.declared.table.Table.{Table}
-use Rattle.plan_tables.specs.declared.table.Table.TheVariants.{Switches}
+use Rattle.plan_tables.specs.declared.table.Table.TheVariants.{Events, Switches}
 pub use Rattle.plan_contributions.specs.DeviceEntries.{texts, events, Effect, posts, works, changes, Device, device_of}
 use Rattle.machine_definitions.specs.Definitions.{makes_quick}
 use Rattle.plan_contributions.specs.CoilEntries.{limits_of_coil, item_effect, flipper_device, autofire_device}
@@ -39,9 +39,10 @@ use Rattle.plan_tables.specs.declared.entries.CoilLimits.{CoilLimits}
 -- in a game; an event of the mode that came last, which has this name; a binding of an event, with which an effect list
 -- begins where it is to run one; what the list does that began last; a row of a device with its settings, with which its
 -- effect lists begin; what this list of the last row does, by its number in the row; a switch to which the last row
--- listens, by its number in the row; an event that a setting names, which gets its number here; a coil by its name, with
--- what it may be sent; the condition of the binding that came last; the rules of the game: how many balls have to be at
--- home for it to begin, how many each player has, and how many players there can be.
+-- listens, by its number in the row; an event or a switch that a setting names, by its table, which gets its number here;
+-- something that a setting names, which is in no table, and which nothing has; a coil by its name, with what it may be
+-- sent; the condition of the binding that came last; the rules of the game: how many balls have to be at home for it to
+-- begin, how many each player has, and how many players there can be.
 pub data Contribution : Type 0 where
   gives : Table → List ℕ → Contribution
   reads : SwitchKind → Contribution
@@ -54,7 +55,8 @@ pub data Contribution : Type 0 where
   device : Place → Settings → Contribution
   does_in : ℕ → Effect → Contribution
   listens : ℕ → List ℕ → Contribution
-  mentions : List ℕ → Contribution
+  mentions : Table → List ℕ → Contribution
+  unknown : Contribution
   coil : List ℕ → CoilLimits → Contribution
   under : Condition → Contribution
   plays : (min_balls balls_per_game max_players : ℕ) → Contribution
@@ -130,7 +132,7 @@ coil_player_contributions machine place p =
 
 -- a variable that is changed, after the event that its change posts
 abbrev pub item_contributions : VariableItem → List Contribution
-item_contributions item = mentions (player_event item.variable.text) ∷ does (item_change item) ∷ []
+item_contributions item = mentions Events (player_event item.variable.text) ∷ does (item_change item) ∷ []
 
 -- an entry binds an effect list to the event that it handles; the list does what the items say, in order
 unfoldable pub variable_player_contributions : Place → VariablePlayer → List Contribution
@@ -141,7 +143,7 @@ variable_player_contributions place p = bound p.event.event place Run ++ flat_ma
 -- the events of the game, and its rules
 unfoldable pub game_contributions : List SectionRows → GameSettings → List Contribution
 game_contributions machine g =
-    map mentions game_event_names ++ plays (min_balls_of machine) g.balls_per_game g.max_players ∷ []
+    map (mentions Events) game_event_names ++ plays (min_balls_of machine) g.balls_per_game g.max_players ∷ []
 
 -- ---- modes
 
@@ -207,7 +209,7 @@ unfoldable pub device_contributions : Place → Device → List Contribution
 device_contributions place d =
     device place d.settings
     ∷ listens_from 0 d.listens
-    ++ (flat_map (act_binding place) d.handled ++ (map mentions d.mentioned ++ effects_from 0 d.lists))
+    ++ (flat_map (act_binding place) d.handled ++ (map (mentions Events) d.mentioned ++ effects_from 0 d.lists))
 
 -- what a device gives, where an entry is one
 abbrev pub where_device : Place → Option Device → List Contribution

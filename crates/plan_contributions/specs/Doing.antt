@@ -1,5 +1,5 @@
--- What holds of each effect, of each event that a switch posts, and of each switch to which a device listens: of those of
--- rows, and of those of contributions.
+-- What holds of each effect, of each event that a switch posts, and of each switch to which a device listens or which a
+-- setting names: of those of rows, and of those of contributions.
 use Rattle.std.specs.Prelude.{ℕ, List, Option, None, Some}
 use Rattle.std.specs.List.{All}
 use Rattle.mpf_sections.specs.Rows.{Switch, EventPlayer, CoilPlayer, VariablePlayer, SectionRows}
@@ -8,9 +8,11 @@ use Rattle.plan_contributions.specs.VariableEntries.{item_change}
 use Rattle.mpf_config.specs.Rows.{ModeRows, Rows}
 use Rattle.mpf_sections.specs.Typed.{entries_in, switches_in, event_players_in}
 use Rattle.mpf_sections.specs.TypedCoils.{coil_players_in, flippers_in, autofires_in}
+use Rattle.plan_tables.specs.declared.table.Table.{Table}
+use Rattle.plan_tables.specs.declared.table.Table.TheVariants.{Events, Switches}
 use Rattle.plan_contributions.specs.DeviceEntries.{texts, Effect, posts, Device, device_of}
 use Rattle.plan_contributions.specs.CoilEntries.{item_effect, flipper_device, autofire_device}
-use Rattle.plan_contributions.specs.Contributions.{Contribution, active, inactive, does, does_in, listens, active_posts, inactive_posts}
+use Rattle.plan_contributions.specs.Contributions.{Contribution, active, inactive, does, does_in, listens, mentions, unknown, active_posts, inactive_posts}
 
 module _ (P : Effect → Type 0) (S L : List ℕ → Type 0) where
   -- S holds of the name of each event that a switch posts, and P of each post of an entry of `event_player`
@@ -59,12 +61,20 @@ module _ (P : Effect → Type 0) (S L : List ℕ → Type 0) where
     pub machine : All (IsMachineDoing rows.machine) rows.machine
     pub modes : All (λ (m : ModeRows). All (IsDoing rows.machine) m.sections) rows.modes
 
+  -- what a setting names is an event, or a switch of whose name L holds
+  abbrev pub IsMention : Table → List ℕ → Type 0
+  IsMention Events n = Unit {0}
+  IsMention Switches n = L n
+  IsMention _ n = ⊥
+
   -- S holds of the event that a contribution makes a switch post, P of what it makes an effect list do, and L of the switch
-  -- to which it makes a device listen
+  -- to which it makes a device listen, or which a setting names; and nothing is unknown
   abbrev pub Does : Contribution → Type 0
   Does (active n) = S n
   Does (inactive n) = S n
   Does (does e) = P e
   Does (does_in k e) = P e
   Does (listens k n) = L n
+  Does (mentions table n) = IsMention table n
+  Does unknown = ⊥
   Does _ = Unit {0}

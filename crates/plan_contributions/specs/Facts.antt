@@ -1,12 +1,12 @@
 -- What holds of the contributions of rows.
-use Rattle.std.specs.Prelude.{◌≡◌, ℕ, suc, ◌<◌, ◌≤◌, ◌==◌, if◌then◌else◌, List, [], ◌∷◌, ◌++◌, map, Option, None, Some, codes}
+use Rattle.std.specs.Prelude.{◌≡◌, ℕ, suc, ◌<◌, ◌≤◌, ◌==◌, if◌then◌else◌, List, [], ◌∷◌, ◌++◌, map, Option, None, Some, slice_get, codes}
 use Rattle.std.specs.List.{All, flat_map}
 use Rattle.mpf_sections.specs.Named.{IsName}
 use Rattle.mpf_sections.specs.Rows.{SectionRows}
 use Rattle.mpf_sections.specs.Short.{IsPulseInRange, IsPowerInRange}
 use Rattle.mpf_sections.specs.TypedCoils.{coils_in}
 use Rattle.plan_contributions.specs.declared.contribution.Aim.{Aim}
-use Rattle.plan_contributions.specs.declared.contribution.Aim.TheVariants.{Run, Start, Stop, Do}
+use Rattle.plan_contributions.specs.declared.contribution.Aim.TheVariants.{Run, Start, Stop, Do, On}
 use Rattle.plan_contributions.specs.declared.contribution.Place.{Place}
 use Rattle.plan_contributions.specs.declared.contribution.Place.TheVariants.{Machine, Control, Mode}
 use Rattle.plan_tables.specs.Devices.{IsWithinLimits}
@@ -113,6 +113,7 @@ IsOpenAim n Run = Unit {0}
 IsOpenAim n Start = 0 < n
 IsOpenAim n Stop = 0 < n
 IsOpenAim n (Do act) = Unit {0}
+IsOpenAim n (On r act) = Unit {0}
 
 abbrev pub IsOpen : ℕ → Contribution → Type 0
 IsOpen n (binds e place aim) = IsOpenPlace n place × IsOpenAim n aim
@@ -148,6 +149,32 @@ IsPlaced o _ = Unit {0}
 abbrev pub ArePlaced : Option Place → List Contribution → Type 0
 ArePlaced o [] = Unit {0}
 ArePlaced o (c ∷ cs) = IsPlaced o c × ArePlaced (row_after o c) cs
+
+-- ---- rows that may come later
+
+-- each row that contributions give, in turn: its place, and how many modes have come, where so many came before all of them
+abbrev pub row_place : ℕ → Contribution → List (Place × ℕ)
+row_place n (device place settings) = (place, n) ∷ []
+row_place n _ = []
+
+abbrev pub row_places : ℕ → List Contribution → List (Place × ℕ)
+row_places n [] = []
+row_places n (c ∷ cs) = row_place n c ++ row_places (modes_after n c) cs
+
+-- what acts on a row by its number is on one of these rows: on one of its own place, and of the modes that have come
+abbrev pub IsAimedAt : List (Place × ℕ) → ℕ → Place → Aim → Type 0
+IsAimedAt rows n place (On r act) = slice_get rows r ≡ Some (place, n)
+IsAimedAt rows n place _ = Unit {0}
+
+abbrev pub IsAimed : List (Place × ℕ) → ℕ → Contribution → Type 0
+IsAimed rows n (binds e place aim) = IsAimedAt rows n place aim
+IsAimed rows n _ = Unit {0}
+
+abbrev pub AreAimed : List (Place × ℕ) → ℕ → List Contribution → Type 0
+AreAimed rows n [] = Unit {0}
+AreAimed rows n (c ∷ cs) = IsAimed rows n c × AreAimed rows (modes_after n c) cs
+
+-- ---- rows of the machine alone
 
 -- flippers and autofire coils are the machine's
 abbrev pub IsPlaceOf : Settings → Place → Type 0

@@ -27,7 +27,7 @@ used (does e) = used_by e
 used (does_in k e) = used_by e
 used (listens k n) = Some (Switches, n)
 used (coil n limits) = Some (Coils, n)
-used (mentions n) = Some (Events, n)
+used (mentions table n) = Some (table, n)
 used (under c) = Some (Variables, c.variable)
 used _ = None
 

@@ -14,11 +14,11 @@ use Rattle.plan_contributions.specs.CoilEntries.{Defaults}
 use Rattle.plan_contributions.specs.DeviceEntries.{Deed, pulse, enable, disable, Effect, posts, works, changes}
 use Rattle.plan_contributions.specs.declared.contribution.Contribution as contributions
 use Rattle.plan_contributions.specs.declared.contribution.Contribution.TheVariants as contribution
-use Rattle.plan_contributions.specs.Contributions.{Contribution, gives, reads, active, inactive, mode, mode_event, binds, does, device, does_in, listens, mentions, coil, under, plays, Row, entry, alone, player, of_mode}
+use Rattle.plan_contributions.specs.Contributions.{Contribution, gives, reads, active, inactive, mode, mode_event, binds, does, device, does_in, listens, mentions, unknown, coil, under, plays, Row, entry, alone, player, of_mode}
 
--- the name that the parts make
+-- the name that the parts make: their pieces, one after the other
 abbrev pub parts_text : Parts → List ℕ
-parts_text p = p.front.now ++ p.middle.now ++ p.end.now
+parts_text p = p.first.now ++ p.second.now ++ p.third.now ++ p.fourth.now ++ p.fifth.now ++ p.sixth.now
 
 abbrev pub defaults_view : defaults.Defaults → Defaults
 defaults_view d = record { pulse_ms = d.pulse_ms; pulse_power = d.pulse_power; hold_power = d.hold_power; may_hold = d.may_hold }
@@ -40,13 +40,14 @@ contribution_view (contribution.Active n) = active (parts_text n)
 contribution_view (contribution.Inactive n) = inactive (parts_text n)
 contribution_view (contribution.Mode n priority game) = mode n.now priority game
 contribution_view (contribution.ModeEvent which n) = mode_event which n.now
-contribution_view (contribution.Binds n place aim) = binds n.now place aim
+contribution_view (contribution.Binds n place aim) = binds (parts_text n) place aim
 contribution_view (contribution.Does e) = does (effect_view e)
 contribution_view (contribution.Device place settings) = device place settings
 contribution_view (contribution.DoesIn k e) = does_in k (effect_view e)
 contribution_view (contribution.Listens k n) = listens k n.now
 contribution_view (contribution.Coil n limits) = coil n.now limits
-contribution_view (contribution.Mentions n) = mentions (parts_text n)
+contribution_view (contribution.Mentions table n) = mentions table (parts_text n)
+contribution_view contribution.Unknown = unknown
 contribution_view (contribution.Under n comparison number) = under (record { variable = n.now; comparison = comparison; number = number })
 contribution_view (contribution.Plays min_balls balls_per_game max_players) = plays min_balls balls_per_game max_players
 

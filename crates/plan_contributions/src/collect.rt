@@ -11,7 +11,7 @@ use crate::collect_coils::{collect_autofire, collect_coil, collect_coil_player, 
 use crate::collect_devices::collect_device;
 use crate::collect_game::collect_game;
 use crate::collect_variables::collect_variable_player;
-use crate::contribution::{Aim, Contribution, Effect, Parts, Place, whole};
+use crate::contribution::{Aim, Contribution, Effect, Place, joined, whole};
 use machine_definitions::Definitions;
 use mpf_config::config::Contact as WrittenContact;
 use mpf_config::{
@@ -300,11 +300,8 @@ fn collect_active<'a>(
 ) -> Result<(), AllocError>
     ensures { OnOk result (contributions_view contributions.new.items ≡ contributions_view contributions.old.items ++ map active (active_posts (switch_row_view row.entry))) }
 {
-    contributions.push(Contribution::Active(Parts {
-        front: &row.name.text,
-        middle: b"",
-        end: b"_active",
-    }))?;
+    let own = joined(&row.name.text, b"", b"_active");
+    contributions.push(Contribution::Active(own))?;
     collect_tags(contributions, row.tags)?;
     for name in row.activated {
         contributions.push(Contribution::Active(whole(&name.text)))?;
@@ -319,11 +316,8 @@ fn collect_tags<'a>(
     ensures { OnOk result (contributions_view contributions.new.items ≡ contributions_view contributions.old.items ++ map active (map tag_event (map name_view tags.now))) }
 {
     for tag in tags {
-        contributions.push(Contribution::Active(Parts {
-            front: b"sw_",
-            middle: b"",
-            end: &tag.text,
-        }))?;
+        let event = joined(b"sw_", b"", &tag.text);
+        contributions.push(Contribution::Active(event))?;
     }
     Ok(())
 }
@@ -335,11 +329,8 @@ fn collect_inactive<'a>(
 ) -> Result<(), AllocError>
     ensures { OnOk result (contributions_view contributions.new.items ≡ contributions_view contributions.old.items ++ map inactive (inactive_posts (switch_row_view row.entry))) }
 {
-    contributions.push(Contribution::Inactive(Parts {
-        front: &row.name.text,
-        middle: b"",
-        end: b"_inactive",
-    }))?;
+    let own = joined(&row.name.text, b"", b"_inactive");
+    contributions.push(Contribution::Inactive(own))?;
     for name in row.deactivated {
         contributions.push(Contribution::Inactive(whole(&name.text)))?;
     }
@@ -427,7 +418,8 @@ fn collect_stop_where<'a>(
     ensures { OnOk result (contributions_view contributions.new.items ≡ contributions_view contributions.old.items ++ stopper_where holds event.now) }
 {
     if holds {
-        contributions.push(Contribution::Binds(event, Place::Control, Aim::Stop))?;
+        let bound = Contribution::Binds(whole(event), Place::Control, Aim::Stop);
+        contributions.push(bound)?;
     }
     Ok(())
 }

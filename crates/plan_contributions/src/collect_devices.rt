@@ -7,9 +7,10 @@ ghost use Rattle.mpf_sections.specs.View.{name_view, handler_view, handlers_view
 ghost use Rattle.plan_contributions.specs.DeviceEntries.{acts, direction_in_plan, is_none, block_settings, block_acts, block_mentions, block_event, or_own, block_lists, counter_settings, counter_device, step_acts, step_settings, step_device, control_act, controlled, timer_event, timer_lists, timer_settings, timer_device, device_of};
 ghost use Rattle.plan_contributions.specs.Contributions.{mentions, does_in, effects_from, posts, texts, act_binding, device_contributions, where_device};
 ghost use Rattle.plan_contributions.specs.View.{parts_text, contributions_view};
+ghost use Rattle.plan_tables.specs.declared.table.Table.TheVariants.{Events};
 
 use crate::collect_bound::{collect_bound, collect_each};
-use crate::contribution::{Aim, Contribution, Effect, Parts, Place, whole};
+use crate::contribution::{Aim, Contribution, Effect, Parts, Place, joined, whole};
 use mpf_config::config::{ControlAction, Direction as WrittenDirection};
 use mpf_config::{
     ACCRUALS_NAME, Block, COUNTERS_NAME, Counter, Entry, Fields, Handler, Name, SEQUENCES_NAME,
@@ -18,6 +19,7 @@ use mpf_config::{
 use plan_tables::devices::{
     Act, BlockSettings, CounterSettings, Direction, Settings, StepSettings, TimerSettings,
 };
+use plan_tables::table::Table;
 use std::alloc::AllocError;
 
 /// What an entry gives where it is a device, after what is there.
@@ -122,7 +124,7 @@ fn collect_block_posts<'a>(
     name: &'a [u8],
     block: Block<'a>,
 ) -> Result<(), AllocError>
-    ensures { OnOk result (contributions_view contributions.new.items ≡ contributions_view contributions.old.items ++ (map mentions (block_mentions (block_view block.entry)) ++ effects_from 0 (block_lists name.now (block_view block.entry)))) }
+    ensures { OnOk result (contributions_view contributions.new.items ≡ contributions_view contributions.old.items ++ (map (mentions Events) (block_mentions (block_view block.entry)) ++ effects_from 0 (block_lists name.now (block_view block.entry)))) }
 {
     collect_mentions(contributions, block.hit)?;
     collect_mentions(contributions, block.complete)?;
@@ -135,10 +137,10 @@ fn collect_mentions<'a>(
     contributions: &mut Vec<Contribution<'a>>,
     names: &'a [Name],
 ) -> Result<(), AllocError>
-    ensures { OnOk result (contributions_view contributions.new.items ≡ contributions_view contributions.old.items ++ map mentions (texts (map name_view names.now))) }
+    ensures { OnOk result (contributions_view contributions.new.items ≡ contributions_view contributions.old.items ++ map (mentions Events) (texts (map name_view names.now))) }
 {
     for name in names {
-        contributions.push(Contribution::Mentions(whole(&name.text)))?;
+        contributions.push(Contribution::Mentions(Table::Events, whole(&name.text)))?;
     }
     Ok(())
 }
@@ -147,11 +149,7 @@ fn collect_mentions<'a>(
 fn block_event<'a>(name: &'a [u8], end: &'static [u8]) -> Parts<'a>
     ensures { parts_text result ≡ block_event name.now end.now }
 {
-    Parts {
-        front: b"logicblock_",
-        middle: name,
-        end,
-    }
+    joined(b"logicblock_", name, end)
 }
 
 /// What a block posts when its value changes, when it is hit, and when it completes.
@@ -176,7 +174,7 @@ fn collect_block_lists<'a>(
 /// This effect list of the row posts the events that are written, or its own where none is.
 fn collect_list<'a>(
     contributions: &mut Vec<Contribution<'a>>,
-    number: u8,
+    number: u16,
     names: &'a [Name],
     own: Parts<'a>,
 ) -> Result<(), AllocError>
@@ -191,7 +189,7 @@ fn collect_list<'a>(
 
 fn collect_written<'a>(
     contributions: &mut Vec<Contribution<'a>>,
-    number: u8,
+    number: u16,
     names: &'a [Name],
 ) -> Result<(), AllocError>
     ensures { OnOk result (contributions_view contributions.new.items ≡ contributions_view contributions.old.items ++ map (does_in number) (map posts (texts (map name_view names.now)))) }
@@ -351,11 +349,7 @@ fn control_act(action: ControlAction, value: i64) -> Act
 fn timer_event<'a>(name: &'a [u8], end: &'static [u8]) -> Parts<'a>
     ensures { parts_text result ≡ timer_event name.now end.now }
 {
-    Parts {
-        front: b"timer_",
-        middle: name,
-        end,
-    }
+    joined(b"timer_", name, end)
 }
 
 /// What a timer posts when it starts, stops, pauses, ticks and completes.

@@ -5,10 +5,12 @@ ghost use Rattle.mpf_sections.specs.View.{game_view};
 ghost use Rattle.machine_definitions.specs.GameEvents.{game_event_names};
 ghost use Rattle.plan_contributions.specs.Contributions.{mentions, game_contributions};
 ghost use Rattle.plan_contributions.specs.View.{contributions_view};
+ghost use Rattle.plan_tables.specs.declared.table.Table.TheVariants.{Events};
 
 use crate::contribution::{Contribution, whole};
 use machine_definitions::{Definitions, GAME_EVENT_NAMES};
 use mpf_config::GameSettings;
+use plan_tables::table::Table;
 use std::alloc::AllocError;
 
 /// The events of the game, and its rules.
@@ -33,10 +35,10 @@ fn collect_events<'a>(
     contributions: &mut Vec<Contribution<'a>>,
     names: &[&'a [u8]],
 ) -> Result<(), AllocError>
-    ensures { OnOk result (contributions_view contributions.new.items ≡ contributions_view contributions.old.items ++ map mentions (map (λ n. n.now) names.now)) }
+    ensures { OnOk result (contributions_view contributions.new.items ≡ contributions_view contributions.old.items ++ map (mentions Events) (map (λ n. n.now) names.now)) }
 {
     for name in names {
-        contributions.push(Contribution::Mentions(whole(name)))?;
+        contributions.push(Contribution::Mentions(Table::Events, whole(name)))?;
     }
     Ok(())
 }

@@ -13,6 +13,7 @@ use crate::contribution::{Aim, Contribution, Effect, Place, player_event};
 use mpf_config::config::VariableAction as WrittenAction;
 use mpf_config::{Keyed, VariableItem, VariablePlayer, as_variable_item};
 use plan_tables::entries::VariableAction;
+use plan_tables::table::Table;
 use std::alloc::AllocError;
 
 /// What is done with a variable, in the plan.
@@ -59,7 +60,8 @@ fn collect_changes<'a>(
 {
     for keyed in items {
         let item = as_variable_item(keyed);
-        contributions.push(Contribution::Mentions(player_event(&item.variable.text)))?;
+        let event = player_event(&item.variable.text);
+        contributions.push(Contribution::Mentions(Table::Events, event))?;
         contributions.push(Contribution::Does(change_of(item)))?;
     }
     Ok(())

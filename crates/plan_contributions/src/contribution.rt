@@ -12,15 +12,16 @@ use plan_tables::entries::{CoilLimits, ModeEvent, SwitchKind, VariableAction};
 use plan_tables::table::Table;
 use std::alloc::AllocError;
 
-/// A name in three parts, one after the other, which lie where they are written.
+/// A name in six pieces, one after the other, which lie where they are written. A piece that is not
+/// needed is empty.
 #[derive(Clone, Copy)]
 pub struct Parts<'a> {
-    /// How the name begins.
-    pub front: &'a [u8],
-    /// What comes next; empty in a name of two parts.
-    pub middle: &'a [u8],
-    /// How the name ends; the whole of it where it is written as it is.
-    pub end: &'a [u8],
+    pub first: &'a [u8],
+    pub second: &'a [u8],
+    pub third: &'a [u8],
+    pub fourth: &'a [u8],
+    pub fifth: &'a [u8],
+    pub sixth: &'a [u8],
 }
 
 /// Whose a binding is.
@@ -45,6 +46,8 @@ pub enum Aim {
     Stop,
     /// Act on the device whose row came last.
     Do(Act),
+    /// Act on the device whose row has this number. It may come later.
+    On(usize, Act),
 }
 
 /// What is done with a coil. Powers are in thousandths of full power.
@@ -86,17 +89,19 @@ pub enum Contribution<'a> {
     /// An event of the mode that came last, which has this name.
     ModeEvent(ModeEvent, &'a [u8]),
     /// A binding of the event: whose it is, and what it is to do.
-    Binds(&'a [u8], Place, Aim),
+    Binds(Parts<'a>, Place, Aim),
     /// The effect list that began last does this.
     Does(Effect<'a>),
     /// A row of a device, with which its effect lists begin.
     Device(Place, Settings),
     /// This effect list of the row that came last does this, by its number in the row.
-    DoesIn(u8, Effect<'a>),
+    DoesIn(u16, Effect<'a>),
     /// The row that came last listens to the switch of this name, as its switch of this number.
     Listens(usize, &'a [u8]),
-    /// A setting names the event.
-    Mentions(Parts<'a>),
+    /// A setting names what stands in the table under this name: an event or a switch.
+    Mentions(Table, Parts<'a>),
+    /// A setting names what nothing has, where what it names is in no table.
+    Unknown,
     /// A coil: its name, and what it may be sent.
     Coil(&'a [u8], CoilLimits),
     /// The binding that came last is under a condition: the variable of this name compares so with
@@ -111,15 +116,25 @@ pub enum Contribution<'a> {
     },
 }
 
+/// A name in three pieces.
+pub fn joined<'a>(front: &'a [u8], middle: &'a [u8], end: &'a [u8]) -> Parts<'a>
+    ensures { parts_text result ≡ front.now ++ middle.now ++ end.now }
+{
+    Parts {
+        first: b"",
+        second: b"",
+        third: b"",
+        fourth: front,
+        fifth: middle,
+        sixth: end,
+    }
+}
+
 /// A name as it is written.
 pub fn whole(name: &[u8]) -> Parts<'_>
     ensures { parts_text result ≡ name.now }
 {
-    Parts {
-        front: b"",
-        middle: b"",
-        end: name,
-    }
+    joined(b"", b"", name)
 }
 
 /// How the name of an event of a mode ends.
@@ -140,9 +155,12 @@ pub fn mode_event_name(which: ModeEvent, name: &[u8]) -> Parts<'_>
     ensures { parts_text result ≡ mode_event_name which name.now }
 {
     Parts {
-        front: b"mode_",
-        middle: name,
-        end: event_ending(which),
+        first: b"",
+        second: b"",
+        third: b"",
+        fourth: b"mode_",
+        fifth: name,
+        sixth: event_ending(which),
     }
 }
 
@@ -150,11 +168,7 @@ pub fn mode_event_name(which: ModeEvent, name: &[u8]) -> Parts<'_>
 pub fn player_event(variable: &[u8]) -> Parts<'_>
     ensures { parts_text result ≡ player_event variable.now }
 {
-    Parts {
-        front: b"player_",
-        middle: b"",
-        end: variable,
-    }
+    joined(b"player_", b"", variable)
 }
 
 /// Writes the name in place of what the text was.
@@ -162,9 +176,12 @@ pub fn write_name(text: &mut Vec<u8>, name: Parts) -> Result<(), AllocError>
     ensures { OnOk result (text.new.items ≡ parts_text name.entry) }
 {
     text.clear();
-    text.extend_from_slice(name.front)?;
-    text.extend_from_slice(name.middle)?;
-    text.extend_from_slice(name.end)
+    text.extend_from_slice(name.first)?;
+    text.extend_from_slice(name.second)?;
+    text.extend_from_slice(name.third)?;
+    text.extend_from_slice(name.fourth)?;
+    text.extend_from_slice(name.fifth)?;
+    text.extend_from_slice(name.sixth)
 }
 
 /// The name that a part of an effect list uses, and its table.
@@ -190,12 +207,12 @@ pub fn used<'a>(contribution: &Contribution<'a>) -> Option<(Table, Parts<'a>)>
             Some((Table::Events, mode_event_name(ModeEvent::WillStart, name)))
         }
         Contribution::ModeEvent(which, name) => Some((Table::Events, mode_event_name(which, name))),
-        Contribution::Binds(name, _, _) => Some((Table::Events, whole(name))),
+        Contribution::Binds(name, _, _) => Some((Table::Events, name)),
         Contribution::Does(effect) => Some(used_by(effect)),
         Contribution::DoesIn(_, effect) => Some(used_by(effect)),
         Contribution::Listens(_, name) => Some((Table::Switches, whole(name))),
         Contribution::Coil(name, _) => Some((Table::Coils, whole(name))),
-        Contribution::Mentions(name) => Some((Table::Events, name)),
+        Contribution::Mentions(table, name) => Some((table, name)),
         Contribution::Under(name, _, _) => Some((Table::Variables, whole(name))),
         _ => None,
     }

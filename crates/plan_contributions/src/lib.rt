@@ -17,6 +17,6 @@ pub mod contribution;
 pub use collect::{Row, collect_row, rows_of};
 pub use collect_devices::direction_in_plan;
 pub use contribution::{
-    Aim, Contribution, Deed, Effect, Parts, Place, given, mode_event_name, player_event, used,
-    whole, write_name,
+    Aim, Contribution, Deed, Effect, Parts, Place, given, joined, mode_event_name, player_event,
+    used, whole, write_name,
 };

@@ -1,8 +1,8 @@
 use Rattle.mpf_plan.specs.PlanOf.{with_contribution}
 use Rattle.plan_tables.specs.Inside.{name_sets_view}
-use Rattle.mpf_plan.specs.Inside.{draft_view}
+use Rattle.mpf_plan.specs.Inside.{IsActNumbered, draft_view}
 use Rattle.mpf_plan.proofs.Drafted.{lists_fit, device_rows_fit, modes_fit}
-use Rattle.mpf_plan.proofs.Taken.{added_next}
+use Rattle.mpf_plan.proofs.Taken.{all_here, added_next}
 use Rattle.mpf_plan.proofs.fill.add_all.Goals as goal
 
 pub add-requires-clause-lists : goal.add-requires-clause-lists
@@ -13,6 +13,9 @@ add-requires-clause-rows c = device_rows_fit c.args.names.now c.args.draft.now c
 
 pub add-requires-clause-modes : goal.add-requires-clause-modes
 add-requires-clause-modes c = modes_fit c.args.names.now c.args.draft.now c.loop-contribution.draft c.args.contributions.now c.loop-contribution.contribution-index c.requires.modes c.loop-contribution.invariant
+
+pub add-requires-clause-acts : goal.add-requires-clause-acts
+add-requires-clause-acts c = all_here IsActNumbered c.args.contributions.now c.loop-contribution.contribution-index _ c.loop-contribution-test.true c.requires.acts
 
 pub loop-contribution-preserved : goal.loop-contribution-preserved
 loop-contribution-preserved c =

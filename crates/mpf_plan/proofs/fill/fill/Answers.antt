@@ -1,3 +1,7 @@
+use Rattle.std.proofs.Common.{sym, subst}
+use Rattle.std.specs.List.{All}
+use Rattle.mpf_plan.specs.Inside.{IsActNumbered}
+use Rattle.mpf_plan.proofs.Taken.{all_of_row}
 use Rattle.mpf_plan.proofs.Collected.{row_is}
 use Rattle.mpf_plan.proofs.Drafted.{row_fits, row_rows_fit, row_modes_fit}
 use Rattle.mpf_plan.proofs.fill.fill.Goals as goal
@@ -19,3 +23,9 @@ add_all-requires-clause-modes c =
     let row = c.row-item.result in
     let here = row_is c.args.definitions.now c.args.rows.now c.loop-row.row-index row c.loop-row-test.true c.row-item.is c.deref.result.now c.collect_row.new.contributions.items c.deref.ensures.value c.in_ok-collect_row.ensures in
     row_modes_fit c.args.definitions.now c.args.names.now c.loop-row.draft c.args.rows.now c.loop-row.row-index row c.deref.result.now c.loop-row-test.true here c.loop-row.invariant c.requires.modes
+
+pub add_all-requires-clause-acts : goal.add_all-requires-clause-acts
+add_all-requires-clause-acts c =
+    let row = c.row-item.result in
+    let here = row_is c.args.definitions.now c.args.rows.now c.loop-row.row-index row c.loop-row-test.true c.row-item.is c.deref.result.now c.collect_row.new.contributions.items c.deref.ensures.value c.in_ok-collect_row.ensures in
+    subst (All IsActNumbered) (sym here) (all_of_row IsActNumbered c.args.definitions.now c.args.rows.now c.loop-row.row-index row c.loop-row-test.true c.requires.acts)

@@ -6,7 +6,7 @@ use Rattle.plan_tables.specs.Inside.{mode_entry_view}
 use Rattle.mpf_plan.specs.PlanOf.{last_priority, owner_at, priority_at, target_at}
 use Rattle.mpf_plan.specs.Inside.{draft_view}
 use Rattle.mpf_plan.proofs.fill.next_binding.Goals as goal
-use Rattle.mpf_plan.proofs.fill.next_binding.Goals.{in-Run, in-Start, in-Stop, in-Do}
+use Rattle.mpf_plan.proofs.fill.next_binding.Goals.{in-Run, in-Start, in-Stop, in-Do, in-On}
 
 pub returns : goal.returns
 returns c names =
@@ -20,6 +20,7 @@ returns c names =
       | in-Start w ↦ w.target-is ∙ ap targets.Start last ∙ ap to (sym w.in-Start.is)
       | in-Stop w ↦ w.target-is ∙ ap targets.Stop last ∙ ap to (sym w.in-Stop.is)
       | in-Do w ↦ w.target-is ∙ ap (λ r. targets.Act r w.in-Do.act) (w.last_row.ensures names) ∙ ap to (sym w.in-Do.is)
+      | in-On w ↦ w.target-is ∙ ap to (sym w.in-On.is)
     ] in
     let owner = c.owner_at.ensures ∙ ap (λ m. owner_at m c.args.place) last in
     let priority = c.priority_at.ensures ∙ ap (λ p. priority_at p c.args.place) (c.last_priority-priority.ensures ∙ ap (λ ms. last_priority (map mode_entry_view ms)) c.deref.ensures.value) in

@@ -4,8 +4,8 @@ use Rattle.std.proofs.lemmas.Bool.{or_from}
 use Rattle.std.proofs.lemmas.List.{take_all}
 use Rattle.std.proofs.lemmas.List.Folds.{list_any-append}
 use Rattle.plan_contributions.specs.Contributions.{Contribution, given_by}
-use Rattle.plan_contributions.specs.UsedNames.{used, given_names}
-use Rattle.mpf_plan.specs.Uses.{is_lacking}
+use Rattle.plan_contributions.specs.UsedNames.{given_names}
+use Rattle.mpf_plan.specs.Uses.{lacks}
 use Rattle.plan_contributions.specs.View.{contributions_view, row_list_view}
 use Rattle.mpf_plan.specs.Numbering.{HoldGivenNames}
 use Rattle.mpf_plan.proofs.Collected.{row_is, row_more}
@@ -15,7 +15,7 @@ use Rattle.mpf_plan.proofs.numbering.lacks_name.Goals as goal
 pub loop-row-preserved : goal.loop-row-preserved
 loop-row-preserved c =
     let all = given_by c.args.definitions.now (row_list_view c.args.rows.now) in
-    let lacking : Contribution → Bool = λ d. is_lacking (λ t. given_names t all) (used d) in
+    let lacking : Contribution → Bool = lacks (λ t. given_names t all) in
     let so_far = given_by c.args.definitions.now (row_list_view (take c.loop-row.row-index c.args.rows.now)) in
     let here = contributions_view c.deref-in-loop-row.result.now in
     let none : list_any lacking here ≡ false = sym (c.in_ok-lacking.ensures all (subst (HoldGivenNames all) (sym c.deref.ensures.value) c.in_ok-sets.ensures)) ∙ c.if-lacking.false in
@@ -26,7 +26,7 @@ loop-row-preserved c =
 pub returns-then-lacking : goal.returns-then-lacking
 returns-then-lacking c =
     let all = given_by c.args.definitions.now (row_list_view c.args.rows.now) in
-    let lacking : Contribution → Bool = λ d. is_lacking (λ t. given_names t all) (used d) in
+    let lacking : Contribution → Bool = lacks (λ t. given_names t all) in
     sym (any_row c.args.definitions.now lacking c.args.rows.now c.loop-row.row-index c.row-item.result c.loop-row-test.true
     (ap (list_any lacking) (sym (row_is c.args.definitions.now c.args.rows.now c.loop-row.row-index c.row-item.result c.loop-row-test.true c.row-item.is c.deref-in-loop-row.result.now c.collect_row.new.contributions.items
     c.deref-in-loop-row.ensures.value c.in_ok-collect_row.ensures))
@@ -35,4 +35,4 @@ returns-then-lacking c =
 pub returns : goal.returns
 returns c =
     let all = given_by c.args.definitions.now (row_list_view c.args.rows.now) in
-    sym (subst (λ rs. list_any (λ d. is_lacking (λ t. given_names t all) (used d)) (given_by c.args.definitions.now (row_list_view rs)) ≡ false) (take_all c.loop-row.row-index c.args.rows.now c.loop-row-test.false) c.loop-row.invariant)
+    sym (subst (λ rs. list_any (lacks (λ t. given_names t all)) (given_by c.args.definitions.now (row_list_view rs)) ≡ false) (take_all c.loop-row.row-index c.args.rows.now c.loop-row-test.false) c.loop-row.invariant)

@@ -1,10 +1,10 @@
 use Rattle.std.proofs.Common.{◌≡◌, false, take}
 use Rattle.std.specs.List.{list_any}
 use Rattle.plan_contributions.specs.Contributions.{given_by}
-use Rattle.plan_contributions.specs.UsedNames.{used, given_names}
-use Rattle.mpf_plan.specs.Uses.{is_lacking}
+use Rattle.plan_contributions.specs.UsedNames.{given_names}
+use Rattle.mpf_plan.specs.Uses.{lacks}
 use Rattle.plan_contributions.specs.View.{row_list_view}
 use Rattle.mpf_plan.proofs.numbering.lacks_name.Given as goal
 
 abbrev pub invariant-loop-row : goal.invariant-loop-row
-invariant-loop-row l = list_any (λ c. is_lacking (λ t. given_names t (given_by l.definitions (row_list_view l.rows))) (used c)) (given_by l.definitions (row_list_view (take l.row-index l.rows))) ≡ false
+invariant-loop-row l = list_any (lacks (λ t. given_names t (given_by l.definitions (row_list_view l.rows)))) (given_by l.definitions (row_list_view (take l.row-index l.rows))) ≡ false

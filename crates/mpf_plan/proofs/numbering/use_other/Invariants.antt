@@ -1,11 +1,11 @@
 use Rattle.std.proofs.Common.{◌≡◌, List, false, take}
 use Rattle.std.specs.List.{list_any}
 use Rattle.plan_contributions.specs.Contributions.{Contribution}
-use Rattle.plan_contributions.specs.UsedNames.{used, given_names}
-use Rattle.mpf_plan.specs.Uses.{is_lacking}
+use Rattle.plan_contributions.specs.UsedNames.{given_names}
+use Rattle.mpf_plan.specs.Uses.{lacks}
 use Rattle.plan_contributions.specs.View.{contributions_view}
 use Rattle.mpf_plan.specs.Numbering.{HoldGivenNames}
 use Rattle.mpf_plan.proofs.numbering.use_other.Given as goal
 
 abbrev pub invariant-loop-contribution : goal.invariant-loop-contribution
-invariant-loop-contribution l = (cs : List Contribution) → HoldGivenNames cs l.sets → list_any (λ c. is_lacking (λ t. given_names t cs) (used c)) (contributions_view (take l.contribution-index l.contributions)) ≡ false
+invariant-loop-contribution l = (cs : List Contribution) → HoldGivenNames cs l.sets → list_any (lacks (λ t. given_names t cs)) (contributions_view (take l.contribution-index l.contributions)) ≡ false

@@ -1,6 +1,7 @@
 use Rattle.std.proofs.Common.{◌++◌, map, ap, ◌∙◌}
 use Rattle.std.proofs.lemmas.List.{append_assoc}
 use Rattle.mpf_sections.specs.View.{name_view, block_view}
+use Rattle.plan_tables.specs.declared.table.Table.TheVariants.{Events}
 use Rattle.plan_contributions.specs.DeviceEntries.{block_lists}
 use Rattle.plan_contributions.specs.Contributions.{mentions, texts, effects_from}
 use Rattle.plan_contributions.specs.View.{contributions_view}
@@ -13,5 +14,5 @@ returns c =
     let hit = texts (map name_view c.args.block.hit.now) in
     let complete = texts (map name_view c.args.block.complete.now) in
     let posting = effects_from 0 (block_lists c.args.name.now (block_view c.args.block)) in
-    let named = c.in_ok-collect_mentions-2.ensures ∙ ap (λ l. l ++ map mentions complete) c.in_ok-collect_mentions.ensures ∙ mapped_after mentions old hit complete in
-    c.in_ok-collect_block_lists.ensures ∙ ap (λ l. l ++ posting) named ∙ append_assoc old (map mentions (hit ++ complete)) posting
+    let named = c.in_ok-collect_mentions-2.ensures ∙ ap (λ l. l ++ map (mentions Events) complete) c.in_ok-collect_mentions.ensures ∙ mapped_after (mentions Events) old hit complete in
+    c.in_ok-collect_block_lists.ensures ∙ ap (λ l. l ++ posting) named ∙ append_assoc old (map (mentions Events) (hit ++ complete)) posting

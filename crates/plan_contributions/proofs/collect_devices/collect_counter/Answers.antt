@@ -2,6 +2,7 @@ use Rattle.std.proofs.Common.{◌++◌, map, refl, ap, ◌∙◌}
 use Rattle.std.specs.List.{flat_map}
 use Rattle.mpf_sections.specs.View.{handler_view, block_view, counter_view}
 use Rattle.plan_tables.specs.declared.devices.Act.TheVariants.{Count}
+use Rattle.plan_tables.specs.declared.table.Table.TheVariants.{Events}
 use Rattle.plan_contributions.specs.DeviceEntries.{acts, block_acts, block_mentions, block_lists, counter_settings, counter_device}
 use Rattle.plan_contributions.specs.Contributions.{act_binding, mentions, effects_from}
 use Rattle.plan_contributions.specs.View.{contributions_view}
@@ -21,5 +22,5 @@ returns c =
     let acting = c.in_ok-collect_block_acts.ensures ∙ ap (λ l. l ++ flat_map f others) c.in_ok-collect_acts.ensures ∙ made_after f one counts others in
     let acted = contributions_view c.collect_block_acts.new.contributions.items in
     let block = block_view c.args.row.block in
-    let posting = c.in_ok-collect_block_posts.ensures ∙ ap (λ n. acted ++ (map mentions (block_mentions block) ++ effects_from 0 (block_lists n block))) c.deref.ensures.value in
+    let posting = c.in_ok-collect_block_posts.ensures ∙ ap (λ n. acted ++ (map (mentions Events) (block_mentions block) ++ effects_from 0 (block_lists n block))) c.deref.ensures.value in
     device_collected place (counter_device row) (contributions_view old) one acted (contributions_view c.collect_block_posts.new.contributions.items) refl first acting posting

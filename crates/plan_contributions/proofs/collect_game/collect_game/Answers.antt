@@ -1,6 +1,7 @@
 use Rattle.std.proofs.Common.{◌++◌, map, [], ◌∷◌, ap, ◌∙◌}
 use Rattle.std.proofs.lemmas.List.{append_assoc, map-append}
 use Rattle.machine_definitions.specs.GameEvents.{game_event_names}
+use Rattle.plan_tables.specs.declared.table.Table.TheVariants.{Events}
 use Rattle.plan_contributions.specs.declared.contribution.Contribution.TheVariants as contribution
 use Rattle.plan_contributions.specs.Contributions.{mentions, plays, game_contributions}
 use Rattle.plan_contributions.specs.View.{contribution_view, contributions_view}
@@ -16,5 +17,5 @@ returns c =
     ap contributions_view c.in_ok-push.ensures.items
     ∙ map-append contribution_view c.collect_events.new.contributions.items last
     ∙ ap (λ l. l ++ plays c.min_balls.result balls players ∷ []) c.in_ok-collect_events.ensures
-    ∙ append_assoc old (map mentions game_event_names) (plays c.min_balls.result balls players ∷ [])
-    ∙ ap (λ n. old ++ (map mentions game_event_names ++ plays n balls players ∷ [])) c.min_balls.ensures
+    ∙ append_assoc old (map (mentions Events) game_event_names) (plays c.min_balls.result balls players ∷ [])
+    ∙ ap (λ n. old ++ (map (mentions Events) game_event_names ++ plays n balls players ∷ [])) c.min_balls.ensures

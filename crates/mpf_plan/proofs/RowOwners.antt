@@ -1,0 +1,118 @@
+-- The owners of the rows of a plan, by contributions; and the rows on which something acts by their numbers.
+use Rattle.std.proofs.Common.{◌≡◌, ℕ, ◌-◌, ◌<◌, ◌≤◌, List, [], ◌∷◌, ◌++◌, length, map, fold, slice_index_or, refl, sym, ◌∙◌, ap, arith}
+use Rattle.std.specs.Prelude.{Some, slice_get}
+use Rattle.std.specs.Option.{option_map}
+use Rattle.std.specs.List.{All}
+use Rattle.std.proofs.lemmas.List.{append-nil, append_assoc, map-append, length-map}
+use Rattle.std.proofs.lemmas.List.Elements.{All-nil, All-cons}
+use Rattle.std.proofs.lemmas.List.Sums.{sum_by-cons}
+use Rattle.std.proofs.lemmas.Option.{slice_get-map, slice_get_within, slice_get-get_or, same_Some}
+use Rattle.plan_tables.specs.declared.devices.DeviceRow.{DeviceRow}
+use Rattle.plan_tables.specs.declared.entries.Owner.{Owner}
+use Rattle.plan_tables.specs.PlanView.{PlanView, no_row}
+use Rattle.plan_contributions.specs.declared.contribution.Aim.{Aim}
+use Rattle.plan_contributions.specs.declared.contribution.Aim.TheVariants.{On}
+use Rattle.plan_contributions.specs.declared.contribution.Place.{Place}
+use Rattle.plan_contributions.specs.Contributions.{Contribution, gives, mode, mode_event, binds, device}
+use Rattle.plan_contributions.specs.Facts.{modes_after, row_place, row_places, IsAimed, AreAimed}
+use Rattle.mpf_plan.specs.Uses.{Names, number_among}
+use Rattle.mpf_plan.specs.Numbering.{rows_given, row_count}
+use Rattle.mpf_plan.specs.PlanOf.{DraftView, last_mode, owner_at, next_row, with_contribution}
+use Rattle.mpf_plan.specs.Inside.{IsActNumbered}
+use Rattle.mpf_plan.proofs.Drafted.{given_plan, modes_one}
+
+-- the owner of a row of this place, where so many modes have come
+abbrev pub owner_by : Place × ℕ → Owner
+owner_by p = owner_at (record { 0 = p.1 - 1 }) p.0
+
+abbrev pub owners_of : List DeviceRow → List Owner
+owners_of rows = map (λ (r : DeviceRow). r.owner) rows
+
+-- ---- rows that are made
+
+module _ (names : Names) where
+  -- as many modes are there as have come
+  pub modes_come : (n : ℕ) (d : DraftView) (c : Contribution) → n ≡ length d.plan.modes → modes_after n c ≡ length (with_contribution names d c).plan.modes
+  modes_come n d (mode x priority game) same = omega (arith, same, modes_one names d (mode x priority game))
+  modes_come n d (gives t x) same = omega (arith, same, modes_one names d (gives t x))
+  modes_come n d (mode_event which x) same = omega (arith, same, modes_one names d (mode_event which x))
+  modes_come n d _ same = same
+
+  owners_one : (n : ℕ) (d : DraftView) (c : Contribution) → n ≡ length d.plan.modes → owners_of (with_contribution names d c).plan.rows ≡ owners_of d.plan.rows ++ map owner_by (row_place n c)
+  owners_one n d (gives t x) same = ap (λ p. owners_of p.rows) (given_plan t (number_among (names t) x) d) ∙ sym (append-nil (owners_of d.plan.rows))
+  owners_one n d (device place settings) same =
+      map-append (λ (r : DeviceRow). r.owner) d.plan.rows (next_row d.plan place settings ∷ [])
+      ∙ ap (λ m. owners_of d.plan.rows ++ owner_by (place, m) ∷ []) (sym same)
+  owners_one n d _ same = sym (append-nil (owners_of d.plan.rows))
+
+  pub owners_fold : (cs : List Contribution) (n : ℕ) (d : DraftView) → n ≡ length d.plan.modes → owners_of (fold (with_contribution names) d cs).plan.rows ≡ owners_of d.plan.rows ++ map owner_by (row_places n cs)
+  owners_fold [] n d same = sym (append-nil (owners_of d.plan.rows))
+  owners_fold (c ∷ cs) n d same =
+      let here = map owner_by (row_place n c) in
+      let later = map owner_by (row_places (modes_after n c) cs) in
+      owners_fold cs (modes_after n c) (with_contribution names d c) (modes_come n d c same)
+      ∙ ap (λ l. l ++ later) (owners_one n d c same)
+      ∙ append_assoc (owners_of d.plan.rows) here later
+      ∙ ap (λ l. owners_of d.plan.rows ++ l) (sym (map-append owner_by (row_place n c) (row_places (modes_after n c) cs)))
+
+  -- rows stay, and others come after them
+  abbrev Kept : List DeviceRow → List DeviceRow → Type 0
+  Kept before after = (rest : List DeviceRow) × (after ≡ before ++ rest)
+
+  kept_one : (d : DraftView) (c : Contribution) → Kept d.plan.rows (with_contribution names d c).plan.rows
+  kept_one d (gives t x) = ([], ap (λ p. p.rows) (given_plan t (number_among (names t) x) d) ∙ sym (append-nil d.plan.rows))
+  kept_one d (device place settings) = (next_row d.plan place settings ∷ [], refl)
+  kept_one d _ = ([], sym (append-nil d.plan.rows))
+
+  pub rows_kept : (cs : List Contribution) (d : DraftView) → Kept d.plan.rows (fold (with_contribution names) d cs).plan.rows
+  rows_kept [] d = ([], sym (append-nil d.plan.rows))
+  rows_kept (c ∷ cs) d =
+      let one = kept_one d c in
+      let more = rows_kept cs (with_contribution names d c) in
+      (one.0 ++ more.0, more.1 ∙ ap (λ l. l ++ more.0) one.1 ∙ append_assoc d.plan.rows one.0 more.0)
+
+-- ---- rows by their numbers
+
+-- what acts on a row by its number is on one of these rows, and of this owner
+abbrev pub IsOnRow : List DeviceRow → Owner → Aim → Type 0
+IsOnRow rows owner (On r act) = (r < length rows) × ((slice_index_or rows r no_row).owner ≡ owner)
+IsOnRow rows owner _ = Unit {0}
+
+abbrev pub IsBoundOn : List DeviceRow → PlanView → Contribution → Type 0
+IsBoundOn rows plan (binds e place aim) = IsOnRow rows (owner_at (last_mode plan) place) aim
+IsBoundOn rows plan _ = Unit {0}
+
+module _ (rows : List DeviceRow) (places : List (Place × ℕ)) (owned : owners_of rows ≡ map owner_by places) where
+  on_row : (place : Place) (n r : ℕ) → slice_get places r ≡ Some (place, n) → (r < length rows) × ((slice_index_or rows r no_row).owner ≡ owner_by (place, n))
+  on_row place n r is =
+      let owner : DeviceRow → Owner = λ x. x.owner in
+      let there : slice_get (owners_of rows) r ≡ Some (owner_by (place, n)) = ap (λ l. slice_get l r) owned ∙ slice_get-map owner_by places r ∙ ap (option_map owner_by) is in
+      let within : r < length rows = omega (arith, slice_get_within (owners_of rows) r (owner_by (place, n)) there, length-map rows owner) in
+      (within, same_Some (slice_index_or rows r no_row).owner (owner_by (place, n)) (sym (slice_get-map owner rows r ∙ ap (option_map owner) (slice_get-get_or rows r no_row within)) ∙ there))
+
+  pub bound_on : (n : ℕ) (plan : PlanView) (c : Contribution) → n ≡ length plan.modes → IsAimed places n c → IsBoundOn rows plan c
+  bound_on n plan (binds e place (On r act)) same is =
+      let on = on_row place n r is in
+      (on.0, on.1 ∙ ap (λ m. owner_by (place, m)) same)
+  bound_on n plan _ same is = tt
+
+-- ---- the numbers of rows are small
+
+counted : (n : ℕ) (cs : List Contribution) → length (row_places n cs) ≡ row_count cs
+counted n [] = refl
+counted n (c ∷ cs) = by c (counted (modes_after n c) cs)
+  where
+    by : (c : Contribution) → length (row_places (modes_after n c) cs) ≡ row_count cs → length (row_places n (c ∷ cs)) ≡ row_count (c ∷ cs)
+    by (device place settings) rest = omega (arith, rest, sum_by-cons rows_given (device place settings) cs)
+    by x rest = omega (arith, rest, sum_by-cons rows_given x cs)
+
+numbered : (rows : List (Place × ℕ)) → length rows ≤ 1024 → (n : ℕ) (cs : List Contribution) → AreAimed rows n cs → All IsActNumbered cs
+numbered rows few n [] aimed = All-nil IsActNumbered
+numbered rows few n (c ∷ cs) aimed = All-cons IsActNumbered c cs (by c aimed.0) (numbered rows few (modes_after n c) cs aimed.1)
+  where
+    by : (c : Contribution) → IsAimed rows n c → IsActNumbered c
+    by (binds e place (On r act)) is = omega (arith, few, slice_get_within rows r (place, n) is)
+    by _ is = tt
+
+pub acts_numbered : (cs : List Contribution) → AreAimed (row_places 0 cs) 0 cs → row_count cs ≤ 1024 → All IsActNumbered cs
+acts_numbered cs aimed few = numbered (row_places 0 cs) (omega (arith, few, counted 0 cs)) 0 cs aimed
