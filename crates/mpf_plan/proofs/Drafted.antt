@@ -1,8 +1,9 @@
 -- What contributions make: as many bindings and effect lists as they give, and the names that were there.
 use Rattle.std.proofs.Common.{◌≡◌, ℕ, ◌+◌, ◌-◌, ◌*◌, ◌<◌, ◌≤◌, zero, suc, take, Bool, true, false, cond, List, [], ◌∷◌, ◌++◌, length, map, fold, get_or, replicate, slice_index_or, slice_set, Option, Some, refl, sym, ◌∙◌, ap, subst, arith}
-use Rattle.std.specs.List.{sum_by}
+use Rattle.std.specs.List.{All, sum_by}
 use Rattle.std.proofs.Math.Seq.{map-set_same}
 use Rattle.std.proofs.lemmas.List.{length_push, length-set, length-map, length-append, length-replicate}
+use Rattle.std.proofs.lemmas.List.Elements.{All-head, All-tail}
 use Rattle.std.proofs.lemmas.List.Sums.{sum_by-cons}
 use Rattle.mpf_sections.specs.Rows.{SectionRows}
 use Rattle.plan_contributions.specs.declared.collect.Row as rows
@@ -34,20 +35,22 @@ use Rattle.mpf_plan.specs.PlanOf.{DraftView, event_of, action_of, last_switch, w
 use Rattle.plan_tables.specs.Inside.{name_sets_view, mode_entry_view}
 use Rattle.mpf_plan.specs.Inside.{limited_coils, draft_view}
 use Rattle.plan_contributions.specs.View.{contribution_view, contributions_view, row_view, row_list_view}
-use Rattle.mpf_plan.specs.Numbering.{bindings_given, binding_count, rows_given, row_count, modes_given, mode_count}
+use Rattle.mpf_plan.specs.Numbering.{bindings_given, binding_count, rows_given, row_count, modes_given, mode_count, lists_given, lists_count}
+use Rattle.plan_tables.proofs.RowLists.{few_lists}
+use Rattle.plan_contributions.specs.Facts.{IsLimited}
 use Rattle.mpf_plan.proofs.Counts.{named_of, count_of}
 use Rattle.mpf_plan.proofs.Steps.{length-limited}
-use Rattle.mpf_plan.proofs.Taken.{part_count, part_rows, part_modes}
+use Rattle.mpf_plan.proofs.Taken.{part_count, part_rows, part_lists, part_modes}
 
 -- ---- what one contribution changes
 
--- so many bindings more, and so many rows of devices, at most one effect list for each binding and five for each row, and
--- the same names
-pub record Counts (n r : ℕ) (old new : DraftView) : Type 0 where
+-- so many bindings more, so many rows of devices and effect lists of them, at most one more effect list for each binding,
+-- and the same names
+pub record Counts (n r l : ℕ) (old new : DraftView) : Type 0 where
   pub bindings : length new.plan.bindings ≡ length old.plan.bindings + n
   pub rows : length new.plan.rows ≡ length old.plan.rows + r
   pub row_lists : length new.plan.row_lists ≡ length old.plan.row_lists + r
-  pub lists : length new.plan.lists ≤ length old.plan.lists + n + 5 * r
+  pub lists : length new.plan.lists ≤ length old.plan.lists + n + l
   pub names : (t : Table) → entry_names new.plan t ≡ entry_names old.plan t
   pub defined : length new.defined ≡ length old.defined
 
@@ -68,7 +71,7 @@ given_defined Switches n d = by (slice_index_or d.defined n true)
     by false = length-set d.defined n true
 given_defined _ n d = refl
 
-given_counts : (t : Table) (n : ℕ) (d : DraftView) → Counts 0 0 d (with_given t n d)
+given_counts : (t : Table) (n : ℕ) (d : DraftView) → Counts 0 0 0 d (with_given t n d)
 given_counts t n d =
     let same = given_plan t n d in
     record {
@@ -85,7 +88,7 @@ switches_names : (plan : PlanView) (switches : List PlanSwitch) → map (λ (s :
 switches_names plan switches same Switches = same
 switches_names plan switches same _ = refl
 
-switch_counts : (change : PlanSwitch → PlanSwitch) → ((s : PlanSwitch) → (change s).name ≡ s.name) → (d : DraftView) → Counts 0 0 d (last_switch change d)
+switch_counts : (change : PlanSwitch → PlanSwitch) → ((s : PlanSwitch) → (change s).name ≡ s.name) → (d : DraftView) → Counts 0 0 0 d (last_switch change d)
 switch_counts change same d = record {
   bindings = omega arith;
   rows = omega arith;
@@ -96,7 +99,7 @@ switch_counts change same d = record {
   defined = refl;
 }
 
-listener_counts : (n : ℕ) (l : Listener) (d : DraftView) → Counts 0 0 d (with_listener n l d)
+listener_counts : (n : ℕ) (l : Listener) (d : DraftView) → Counts 0 0 0 d (with_listener n l d)
 listener_counts n l d = record {
   bindings = omega arith;
   rows = omega arith;
@@ -112,7 +115,7 @@ coils_names : (plan : PlanView) (coils : List PlanCoil) → map (λ (c : PlanCoi
 coils_names plan coils same Coils = same
 coils_names plan coils same _ = refl
 
-coil_counts : (n : ℕ) (limits : CoilLimits) (d : DraftView) → Counts 0 0 d (with_coil n limits d)
+coil_counts : (n : ℕ) (limits : CoilLimits) (d : DraftView) → Counts 0 0 0 d (with_coil n limits d)
 coil_counts n limits d = record {
   bindings = omega arith;
   rows = omega arith;
@@ -130,7 +133,7 @@ unnamed plan modes lists bindings rows firsts Bindings = refl
 unnamed plan modes lists bindings rows firsts Rows = refl
 unnamed plan modes lists bindings rows firsts _ = refl
 
-modes_counts : (modes : List PlanMode) (d : DraftView) → Counts 0 0 d (record d { plan = record d.plan { modes = modes } })
+modes_counts : (modes : List PlanMode) (d : DraftView) → Counts 0 0 0 d (record d { plan = record d.plan { modes = modes } })
 modes_counts modes d = record {
   bindings = omega arith;
   rows = omega arith;
@@ -144,7 +147,7 @@ list_begun : (aim : Aim) (lists : List (List Action)) → length (lists_for aim 
 list_begun Run lists = omega (arith, length_push lists [])
 list_begun _ lists = omega arith
 
-binding_counts : (aim : Aim) (b : Binding) (d : DraftView) → Counts 1 0 d (with_list_for aim (with_binding b d))
+binding_counts : (aim : Aim) (b : Binding) (d : DraftView) → Counts 1 0 0 d (with_list_for aim (with_binding b d))
 binding_counts aim b d = record {
   bindings = length_push d.plan.bindings b;
   rows = omega arith;
@@ -155,7 +158,7 @@ binding_counts aim b d = record {
 }
 
 -- a condition of a binding
-condition_counts : (c : Condition) (d : DraftView) → Counts 0 0 d (with_condition c d)
+condition_counts : (c : Condition) (d : DraftView) → Counts 0 0 0 d (with_condition c d)
 condition_counts c d = record {
   bindings = let last = length d.plan.bindings - 1 in omega (arith, length-set d.plan.bindings last (conditioned c (get_or d.plan.bindings last no_binding)));
   rows = omega arith;
@@ -166,7 +169,7 @@ condition_counts c d = record {
 }
 
 -- the rules of the game have no names
-game_counts : (rules : GameRules) (d : DraftView) → Counts 0 0 d (with_game rules d)
+game_counts : (rules : GameRules) (d : DraftView) → Counts 0 0 0 d (with_game rules d)
 game_counts rules d = record {
   bindings = omega arith;
   rows = omega arith;
@@ -182,7 +185,7 @@ game_counts rules d = record {
     same plan game _ = refl
 
 -- an action more in a list
-action_counts : (n : ℕ) (a : Action) (d : DraftView) → Counts 0 0 d (record d { plan = record d.plan { lists = with_one_more n a d.plan.lists } })
+action_counts : (n : ℕ) (a : Action) (d : DraftView) → Counts 0 0 0 d (record d { plan = record d.plan { lists = with_one_more n a d.plan.lists } })
 action_counts n a d = record {
   bindings = omega arith;
   rows = omega arith;
@@ -192,26 +195,18 @@ action_counts n a d = record {
   defined = refl;
 }
 
-five_lists : (settings : Settings) → list_count settings ≤ 5
-five_lists (Counter c) = omega arith
-five_lists (Accrual a) = omega arith
-five_lists (Sequence q) = omega arith
-five_lists (Timer t) = omega arith
-five_lists Flipper = omega arith
-five_lists Autofire = omega arith
-
 -- the effect lists of a row begin
 pub lists_begun : (lists : List (List Action)) (n : ℕ) → length (lists ++ replicate n []) ≡ length lists + n
 lists_begun lists n =
     let none : List Action = [] in
     omega (arith, length-append lists (replicate n none), length-replicate n none)
 
-device_counts : (place : Place) (settings : Settings) (d : DraftView) → Counts 0 1 d (with_device place settings d)
+device_counts : (place : Place) (settings : Settings) (d : DraftView) → Counts 0 1 (list_count settings) d (with_device place settings d)
 device_counts place settings d = record {
   bindings = omega arith;
   rows = length_push d.plan.rows (next_row d.plan place settings);
   row_lists = length_push d.plan.row_lists (next_list d.plan);
-  lists = omega (arith, lists_begun d.plan.lists (list_count settings), five_lists settings);
+  lists = omega (arith, lists_begun d.plan.lists (list_count settings));
   names = unnamed d.plan d.plan.modes (d.plan.lists ++ replicate (list_count settings) []) d.plan.bindings (d.plan.rows ++ next_row d.plan place settings ∷ []) (d.plan.row_lists ++ next_list d.plan ∷ []);
   defined = refl;
 }
@@ -220,7 +215,7 @@ device_counts place settings d = record {
 
 module _ (names : Names) where
   -- one contribution more
-  counts_one : (d : DraftView) (c : Contribution) → Counts (bindings_given c) (rows_given c) d (with_contribution names d c)
+  counts_one : (d : DraftView) (c : Contribution) → Counts (bindings_given c) (rows_given c) (lists_given c) d (with_contribution names d c)
   counts_one d (gives t n) = given_counts t _ d
   counts_one d (reads kind) = switch_counts (λ s. record s { kind = kind }) (λ s. refl) d
   counts_one d (active n) = switch_counts (λ s. record s { active = s.active ++ event_of (names Events) n ∷ [] }) (λ s. refl) d
@@ -240,8 +235,8 @@ module _ (names : Names) where
   counts_one d (under c) = condition_counts (condition_of names c) d
   counts_one d (plays min_balls balls_per_game max_players) = game_counts (rules_of (names Events) min_balls balls_per_game max_players) d
 
-  counts_then : (n m r q : ℕ) (a b c : DraftView) → Counts n r a b → Counts m q b c → Counts (n + m) (r + q) a c
-  counts_then n m r q a b c first then_ = record {
+  counts_then : (n m r q l k : ℕ) (a b c : DraftView) → Counts n r l a b → Counts m q k b c → Counts (n + m) (r + q) (l + k) a c
+  counts_then n m r q l k a b c first then_ = record {
     bindings = omega (arith, first.bindings, then_.bindings);
     rows = omega (arith, first.rows, then_.rows);
     row_lists = omega (arith, first.row_lists, then_.row_lists);
@@ -251,15 +246,16 @@ module _ (names : Names) where
   }
 
   -- all contributions, in turn
-  pub counts_fold : (d : DraftView) (cs : List Contribution) → Counts (binding_count cs) (row_count cs) d (fold (with_contribution names) d cs)
+  pub counts_fold : (d : DraftView) (cs : List Contribution) → Counts (binding_count cs) (row_count cs) (lists_count cs) d (fold (with_contribution names) d cs)
   counts_fold d [] = record { bindings = omega arith; rows = omega arith; row_lists = omega arith; lists = omega arith; names = λ t. refl; defined = refl }
   counts_fold d (c ∷ cs) =
-      let both = counts_then (bindings_given c) (binding_count cs) (rows_given c) (row_count cs) d (with_contribution names d c) (fold (with_contribution names) (with_contribution names d c) cs)
+      let both = counts_then (bindings_given c) (binding_count cs) (rows_given c) (row_count cs) (lists_given c) (lists_count cs) d (with_contribution names d c) (fold (with_contribution names) (with_contribution names d c) cs)
       (counts_one d c) (counts_fold (with_contribution names d c) cs) in
-      subst (λ n. Counts n (row_count (c ∷ cs)) d (fold (with_contribution names) d (c ∷ cs))) (sym (sum_by-cons bindings_given c cs))
-      (subst (λ r. Counts (bindings_given c + binding_count cs) r d (fold (with_contribution names) d (c ∷ cs))) (sym (sum_by-cons rows_given c cs)) both)
+      subst (λ n. Counts n (row_count (c ∷ cs)) (lists_count (c ∷ cs)) d (fold (with_contribution names) d (c ∷ cs))) (sym (sum_by-cons bindings_given c cs))
+      (subst (λ r. Counts (bindings_given c + binding_count cs) r (lists_count (c ∷ cs)) d (fold (with_contribution names) d (c ∷ cs))) (sym (sum_by-cons rows_given c cs))
+      (subst (λ l. Counts (bindings_given c + binding_count cs) (rows_given c + row_count cs) l d (fold (with_contribution names) d (c ∷ cs))) (sym (sum_by-cons lists_given c cs)) both))
 
-  pub counts_drafted : (cs : List Contribution) → Counts (binding_count cs) (row_count cs) (blank names) (drafted names cs)
+  pub counts_drafted : (cs : List Contribution) → Counts (binding_count cs) (row_count cs) (lists_count cs) (blank names) (drafted names cs)
   counts_drafted cs = counts_fold (blank names) cs
 
   -- ---- modes
@@ -288,7 +284,7 @@ blank_coils (n ∷ ns) = ap (λ l. n ∷ l) (blank_coils ns)
 -- ---- the plan of contributions
 
 module _ (cs : List Contribution) where
-  abbrev counts : Counts (binding_count cs) (row_count cs) (blank (names_from cs)) (drafted (names_from cs) cs)
+  abbrev counts : Counts (binding_count cs) (row_count cs) (lists_count cs) (blank (names_from cs)) (drafted (names_from cs) cs)
   counts = counts_drafted (names_from cs) cs
 
   blank_names : (t : Table) → entry_names (blank (names_from cs)).plan t ≡ named_of cs t
@@ -313,7 +309,7 @@ module _ (cs : List Contribution) where
   pub count-row_lists : length (plan_from cs).row_lists ≡ length (plan_from cs).rows
   count-row_lists = omega (arith, counts.rows, counts.row_lists)
 
-  pub count-lists : length (plan_from cs).lists ≤ binding_count cs + 5 * row_count cs
+  pub count-lists : length (plan_from cs).lists ≤ binding_count cs + lists_count cs
   count-lists = omega (arith, counts.lists)
 
   -- and so many entries
@@ -327,6 +323,17 @@ module _ (cs : List Contribution) where
 
 -- ---- room for effect lists, rows and modes
 
+-- a row whose settings are within their limits has at most 288 effect lists
+lists_few_one : (c : Contribution) → IsLimited c → lists_given c ≤ 288 * rows_given c
+lists_few_one (device place settings) limits = omega (arith, few_lists settings limits)
+lists_few_one _ limits = omega arith
+
+pub lists_few : (cs : List Contribution) → All IsLimited cs → lists_count cs ≤ 288 * row_count cs
+lists_few [] all = omega arith
+lists_few (c ∷ cs) all =
+    let here = lists_few_one c (All-head IsLimited c cs all) in
+    omega (arith, here, lists_few cs (All-tail IsLimited c cs all), sum_by-cons lists_given c cs, sum_by-cons rows_given c cs)
+
 module _ (f : Contribution → ℕ) where
   taken_few : (cs : List contributions.Contribution) (i : ℕ) → sum_by f (contributions_view (take i cs)) ≤ sum_by f (contributions_view cs)
   taken_few cs zero = omega arith
@@ -337,11 +344,11 @@ module _ (f : Contribution → ℕ) where
 
 module _ (names : NameSets) (old new : Draft) (cs : List contributions.Contribution) (i : ℕ) where
   -- there are no more lists than the contributions give
-  pub lists_fit : length old.lists.items + binding_count (contributions_view cs) + 5 * row_count (contributions_view cs) ≤ 21504
-      → draft_view names new ≡ fold (with_contribution (name_sets_view names)) (draft_view names old) (contributions_view (take i cs)) → length new.lists.items ≤ 21504
+  pub lists_fit : length old.lists.items + binding_count (contributions_view cs) + lists_count (contributions_view cs) ≤ 311296
+      → draft_view names new ≡ fold (with_contribution (name_sets_view names)) (draft_view names old) (contributions_view (take i cs)) → length new.lists.items ≤ 311296
   lists_fit room is =
       let counts = counts_fold (name_sets_view names) (draft_view names old) (contributions_view (take i cs)) in
-      omega (arith, room, ap (λ d. length d.plan.lists) is, counts.lists, taken_few bindings_given cs i, taken_few rows_given cs i, length-map new.lists.items (λ v. v.items), length-map old.lists.items (λ v. v.items))
+      omega (arith, room, ap (λ d. length d.plan.lists) is, counts.lists, taken_few bindings_given cs i, taken_few lists_given cs i, length-map new.lists.items (λ v. v.items), length-map old.lists.items (λ v. v.items))
 
   -- nor more rows
   pub device_rows_fit : length old.rows.items + row_count (contributions_view cs) ≤ 1024
@@ -360,10 +367,10 @@ module _ (names : NameSets) (old new : Draft) (cs : List contributions.Contribut
 module _ (machine : List SectionRows) (names : NameSets) (d : Draft) (rs : List rows.Row) (i : ℕ) (r : rows.Row) (now : List contributions.Contribution) (within : i < length rs) (here : contributions_view now ≡ row_contributions machine (row_view (get_or rs i r)))
     (is : draft_view names d ≡ drafted (name_sets_view names) (given_by machine (row_list_view (take i rs)))) where
   -- nor than the rows give
-  pub row_fits : binding_count (given_by machine (row_list_view rs)) ≤ 16384 → row_count (given_by machine (row_list_view rs)) ≤ 1024 → length d.lists.items + binding_count (contributions_view now) + 5 * row_count (contributions_view now) ≤ 21504
+  pub row_fits : binding_count (given_by machine (row_list_view rs)) ≤ 16384 → lists_count (given_by machine (row_list_view rs)) ≤ 294912 → length d.lists.items + binding_count (contributions_view now) + lists_count (contributions_view now) ≤ 311296
   row_fits room few =
       let counts = counts_drafted (name_sets_view names) (given_by machine (row_list_view (take i rs))) in
-      omega (arith, room, few, part_count machine rs i r within, part_rows machine rs i r within, ap binding_count here, ap row_count here, ap (λ x. length x.plan.lists) is, counts.lists, length-map d.lists.items (λ v. v.items))
+      omega (arith, room, few, part_count machine rs i r within, part_lists machine rs i r within, ap binding_count here, ap lists_count here, ap (λ x. length x.plan.lists) is, counts.lists, length-map d.lists.items (λ v. v.items))
 
   pub row_rows_fit : row_count (given_by machine (row_list_view rs)) ≤ 1024 → length d.rows.items + row_count (contributions_view now) ≤ 1024
   row_rows_fit few =

@@ -25,10 +25,11 @@ use Rattle.plan_contributions.specs.View.{row_list_view}
 use Rattle.plan_contributions.specs.Facts.{row_places, AreAimed}
 use Rattle.plan_contributions.proofs.Aimed.{rows_are_aimed}
 use Rattle.mpf_plan.specs.Inside.{IsActNumbered, draft_view}
-use Rattle.mpf_plan.specs.Numbering.{mode_count, row_count, Numbered}
+use Rattle.mpf_plan.specs.Numbering.{mode_count, row_count, lists_count, Numbered}
 use Rattle.mpf_plan.proofs.Judged.{all_within, is_first, plan_at-lacking, plan_at-within, plan_at-exceeded, plan_at-Err}
 use Rattle.mpf_plan.proofs.ValidPlan.{IsValid-plan_of}
-use Rattle.mpf_plan.proofs.Drafted.{modes-from, coils_count}
+use Rattle.mpf_plan.proofs.Drafted.{modes-from, coils_count, lists_few}
+use Rattle.plan_contributions.proofs.RowFacts.{rows_are_limited}
 use Rattle.mpf_plan.proofs.Steps.{coils_seen}
 use Rattle.mpf_plan.proofs.ModeWorks.{modes-count}
 use Rattle.mpf_plan.proofs.RowOwners.{acts_numbered}
@@ -100,6 +101,13 @@ pub acts_few : (rows : Rows) (machine : List SectionRows) (rs made_of : List fou
 acts_few rows machine rs made_of text are again few =
     let same : given_by machine (row_list_view made_of) ≡ contributions_of rows = λ i. given_by (text i) ((ap row_list_view again ∙ are) i) in
     acts_numbered (given_by machine (row_list_view made_of)) (subst (λ cs. AreAimed (row_places 0 cs) 0 cs) (sym same) (rows_are_aimed rows)) few
+
+-- nor more effect lists of rows than 288 each
+pub lists_within : (rows : Rows) (machine : List SectionRows) (rs made_of : List found.Row) → machine ≡ rows.machine → row_list_view rs ≡ rows_of rows → made_of ≡ rs → AreListsShort rows
+    → row_count (given_by machine (row_list_view made_of)) ≤ 1024 → lists_count (given_by machine (row_list_view made_of)) ≤ 294912
+lists_within rows machine rs made_of text are again short few =
+    let same : given_by machine (row_list_view made_of) ≡ contributions_of rows = λ i. given_by (text i) ((ap row_list_view again ∙ are) i) in
+    omega (arith, few, lists_few (contributions_of rows) (rows_are_limited rows short), ap lists_count same, ap row_count same)
 
 -- each binding is of an event of the plan
 pub events_bound : (plan : PlanView) → IsValid plan → All (λ b. b.event.0 < length plan.events) plan.bindings

@@ -10,7 +10,7 @@ use Rattle.plan_contributions.specs.declared.collect.Row as rows
 use Rattle.plan_contributions.specs.declared.contribution.Contribution as contributions
 use Rattle.plan_contributions.specs.Contributions.{Contribution, row_contributions, given_by}
 use Rattle.plan_contributions.specs.View.{contribution_view, contributions_view, row_view, row_list_view}
-use Rattle.mpf_plan.specs.Numbering.{bindings_given, binding_count, rows_given, row_count, modes_given, mode_count}
+use Rattle.mpf_plan.specs.Numbering.{bindings_given, binding_count, rows_given, row_count, modes_given, mode_count, lists_given, lists_count}
 
 module _ (cs : List contributions.Contribution) (i : ℕ) (d : contributions.Contribution) (within : i < length cs) where
   pub contributions_more : contributions_view (take (i + 1) cs) ≡ contributions_view (take i cs) ++ contribution_view (get_or cs i d) ∷ []
@@ -45,12 +45,15 @@ module _ (machine : List SectionRows) (f : Contribution → ℕ) where
       omega (arith, sum_by-append f here (given_by machine (row_list_view rs)), sum_by-append f here (given_by machine (row_list_view (take i rs))), part_sum rs i d (omega arith))
 
 module _ (machine : List SectionRows) (rs : List rows.Row) (i : ℕ) (d : rows.Row) (within : i < length rs) where
-  -- so it is with bindings, with rows of devices, and with modes
+  -- so it is with bindings, with rows of devices, with their effect lists, and with modes
   pub part_count : binding_count (given_by machine (row_list_view (take i rs))) + binding_count (row_contributions machine (row_view (get_or rs i d))) ≤ binding_count (given_by machine (row_list_view rs))
   part_count = part_sum machine bindings_given rs i d within
 
   pub part_rows : row_count (given_by machine (row_list_view (take i rs))) + row_count (row_contributions machine (row_view (get_or rs i d))) ≤ row_count (given_by machine (row_list_view rs))
   part_rows = part_sum machine rows_given rs i d within
+
+  pub part_lists : lists_count (given_by machine (row_list_view (take i rs))) + lists_count (row_contributions machine (row_view (get_or rs i d))) ≤ lists_count (given_by machine (row_list_view rs))
+  part_lists = part_sum machine lists_given rs i d within
 
   pub part_modes : mode_count (given_by machine (row_list_view (take i rs))) + mode_count (row_contributions machine (row_view (get_or rs i d))) ≤ mode_count (given_by machine (row_list_view rs))
   part_modes = part_sum machine modes_given rs i d within

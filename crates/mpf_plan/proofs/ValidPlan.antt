@@ -31,7 +31,7 @@ use Rattle.mpf_plan.specs.ByName.{latest_limits, AreLimitsByName, ListenersAreOw
 use Rattle.plan_tables.specs.Limits.{entry_count, limit_of}
 use Rattle.mpf_plan.specs.PlanOf.{DraftView, action_of, first_of_last, next_row, next_list, with_one_more, with_contribution, blank, plan_from, plan_of, plan_at}
 use Rattle.mpf_plan.proofs.Counts.{named_of}
-use Rattle.mpf_plan.proofs.Drafted.{given_plan, names-from, count-bindings, count-rows, count-row_lists, count-lists}
+use Rattle.mpf_plan.proofs.Drafted.{given_plan, names-from, count-bindings, count-rows, count-row_lists, count-lists, lists_few}
 use Rattle.mpf_plan.proofs.Judged.{plan_at-Ok, plan_at-complete}
 use Rattle.plan_contributions.specs.Facts.{AreShort, IsRoomy, effects_after, effects_in_after, full, AreLimits, IsLimited, given_coil}
 use Rattle.plan_contributions.proofs.Aimed.{rows_are_aimed}
@@ -265,7 +265,7 @@ valid_from rows short few_modes none_lacks within =
       switch_limit = within Switches;
       coil_limit = within Coils;
       variable_limit = within Variables;
-      list_limit = omega (arith, limit, few, count-bindings cs, count-rows cs, count-lists cs);
+      list_limit = omega (arith, limit, few, count-bindings cs, count-rows cs, count-lists cs, lists_few cs (rows_are_limited rows short));
       row_limit = few;
       row_lists = count-row_lists cs;
       coils = coils_within rows short none_lacks;

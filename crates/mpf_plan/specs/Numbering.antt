@@ -8,6 +8,7 @@ use Rattle.plan_tables.specs.declared.names.NameTable.{NameTable}
 use Rattle.plan_tables.specs.declared.names.NameSets.{NameSets}
 use Rattle.mpf_plan.specs.declared.fault.PlanFault.{PlanFault}
 use Rattle.mpf_plan.specs.declared.fault.PlanFault.TheVariants as faults
+use Rattle.plan_tables.specs.Devices.{list_count}
 use Rattle.plan_tables.specs.declared.table.Table.{Table}
 use Rattle.mpf_plan.specs.declared.first_uses.Found.{Found}
 use Rattle.plan_contributions.specs.Contributions.{Contribution, mode, binds, device}
@@ -51,6 +52,14 @@ rows_given _ = 0
 
 abbrev pub row_count : List Contribution → ℕ
 row_count cs = sum_by rows_given cs
+
+-- and how many effect lists of rows
+abbrev pub lists_given : Contribution → ℕ
+lists_given (device place settings) = list_count settings
+lists_given _ = 0
+
+abbrev pub lists_count : List Contribution → ℕ
+lists_count cs = sum_by lists_given cs
 
 -- all are counted, or both numbers are above the limit
 abbrev pub IsCount : ℕ → ℕ → ℕ → Type 0

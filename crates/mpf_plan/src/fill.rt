@@ -6,12 +6,11 @@ ghost use Rattle.plan_tables.specs.declared.names.NameSets.{NameSets as NameSets
 ghost use Rattle.plan_tables.specs.declared.table.Table.TheVariants.{Events, Switches, Coils, Variables};
 ghost use Rattle.machine_definitions.specs.GameEvents.{game_event_names};
 ghost use Rattle.plan_contributions.specs.Contributions.{gives, active, inactive, mode, mode_event, binds, does, does_in, listens, coil, under, plays, given_by};
-ghost use Rattle.plan_tables.specs.Devices.{list_count};
 ghost use Rattle.mpf_plan.specs.PlanOf.{event_of, coil_of, variable_of, last_conditioned, action_with, action_of, owner_at, priority_at, with_switch, with_kind, with_active, with_inactive, first_event, with_event, last_with_event, last_mode, last_row, next_binding, last_priority, lists_for, with_one_more, last_with, next_row, with_device, first_of_last, with_contribution, next_listener, with_listener, limited_to, named_switch, named_coil, blank, drafted, next_list, with_action_in};
 ghost use Rattle.plan_tables.specs.Inside.{name_sets_view, mode_entry_view, action_lists, switches_view};
 ghost use Rattle.plan_contributions.specs.View.{parts_text, deed_view, effect_view, contribution_view, contributions_view, row_list_view};
 ghost use Rattle.mpf_plan.specs.Inside.{limited_coils, IsRowNumbered, IsActNumbered, draft_view};
-ghost use Rattle.mpf_plan.specs.Numbering.{binding_count, mode_count, row_count};
+ghost use Rattle.mpf_plan.specs.Numbering.{binding_count, lists_count, mode_count, row_count};
 ghost use Rattle.plan_tables.specs.PlanView.{no_switch, no_coil};
 ghost use Rattle.plan_tables.specs.NamesKept.{names_of};
 
@@ -41,6 +40,7 @@ pub(crate) fn fill(
     rows: &[Row],
 ) -> Result<Draft, AllocError>
     requires bindings { binding_count (given_by definitions.now (row_list_view rows.now)) ≤ 16384 }
+    requires lists { lists_count (given_by definitions.now (row_list_view rows.now)) ≤ 294912 }
     requires rows { row_count (given_by definitions.now (row_list_view rows.now)) ≤ 1024 }
     requires modes { mode_count (given_by definitions.now (row_list_view rows.now)) ≤ 64 }
     requires acts { All IsActNumbered (given_by definitions.now (row_list_view rows.now)) }
@@ -63,7 +63,7 @@ fn add_all(
     draft: &mut Draft,
     contributions: &[Contribution],
 ) -> Result<(), AllocError>
-    requires lists { length draft.old.lists.items + binding_count (contributions_view contributions.now) + 5 * row_count (contributions_view contributions.now) ≤ 21504 }
+    requires lists { length draft.old.lists.items + binding_count (contributions_view contributions.now) + lists_count (contributions_view contributions.now) ≤ 311296 }
     requires rows { length draft.old.rows.items + row_count (contributions_view contributions.now) ≤ 1024 }
     requires modes { length draft.old.modes.items + mode_count (contributions_view contributions.now) ≤ 64 }
     requires acts { All IsActNumbered (contributions_view contributions.now) }
@@ -82,7 +82,7 @@ fn add(
     draft: &mut Draft,
     contribution: &Contribution,
 ) -> Result<(), AllocError>
-    requires lists { length draft.old.lists.items ≤ 21504 }
+    requires lists { length draft.old.lists.items ≤ 311296 }
     requires rows { length draft.old.rows.items ≤ 1024 }
     requires modes { length draft.old.modes.items ≤ 64 }
     requires acts { IsActNumbered (contribution_view contribution.now) }
@@ -321,7 +321,7 @@ fn add_binding(
     place: Place,
     aim: Aim,
 ) -> Result<(), AllocError>
-    requires lists { length draft.old.lists.items ≤ 21504 }
+    requires lists { length draft.old.lists.items ≤ 311296 }
     requires rows { length draft.old.rows.items ≤ 1024 }
     requires modes { length draft.old.modes.items ≤ 64 }
     requires acts { IsRowNumbered aim }
@@ -335,7 +335,7 @@ fn add_binding(
 
 /// The binding of the event that is next.
 fn next_binding(draft: &Draft, event: EventId, place: Place, aim: Aim) -> Binding
-    requires lists { length draft.now.lists.items ≤ 21504 }
+    requires lists { length draft.now.lists.items ≤ 311296 }
     requires rows { length draft.now.rows.items ≤ 1024 }
     requires modes { length draft.now.modes.items ≤ 64 }
     requires acts { IsRowNumbered aim }
@@ -534,7 +534,7 @@ fn add_device(
     place: Place,
     settings: Settings,
 ) -> Result<(), AllocError>
-    requires lists { length draft.old.lists.items ≤ 21504 }
+    requires lists { length draft.old.lists.items ≤ 311296 }
     requires rows { length draft.old.rows.items ≤ 1024 }
     requires modes { length draft.old.modes.items ≤ 64 }
     ensures { OnOk result ((names : NameSetsValue) → draft_view names draft.new ≡ with_device place settings (draft_view names draft.old)) }
@@ -543,7 +543,7 @@ fn add_device(
     let first = ListId(draft.lists.len() as u32);
     draft.rows.push(row)?;
     draft.row_lists.push(first)?;
-    begin_lists(alloc, &mut draft.lists, list_count(settings))?;
+    begin_lists(alloc, &mut draft.lists, settings.list_count() as usize)?;
     Ok(())
 }
 
@@ -557,20 +557,6 @@ fn next_row(draft: &Draft, place: Place, settings: Settings) -> DeviceRow
         number: RowId(draft.rows.len() as u16),
         owner: owner_at(last_mode(draft), place),
         settings,
-    }
-}
-
-/// How many effect lists a row has.
-fn list_count(settings: Settings) -> usize
-    ensures { result ≡ list_count settings }
-{
-    match settings {
-        Settings::Counter(_) => 3,
-        Settings::Accrual(_) => 3,
-        Settings::Sequence(_) => 3,
-        Settings::Timer(_) => 5,
-        Settings::Flipper => 2,
-        Settings::Autofire => 1,
     }
 }
 

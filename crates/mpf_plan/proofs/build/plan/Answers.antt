@@ -5,9 +5,9 @@ use Rattle.mpf_sections.specs.View.{section_view}
 use Rattle.mpf_config.specs.View.{rows_view}
 use Rattle.plan_contributions.specs.Contributions.{given_by}
 use Rattle.plan_contributions.specs.View.{row_list_view}
-use Rattle.mpf_plan.proofs.Drafted.{entries_count, coils_count}
-use Rattle.mpf_plan.proofs.Planned.{refused_exact, refused_limit, rows_within, is_plan, is_planned, is_valid, modes_few, acts_few}
 use Rattle.mpf_plan.specs.Numbering.{row_count}
+use Rattle.mpf_plan.proofs.Drafted.{entries_count, coils_count}
+use Rattle.mpf_plan.proofs.Planned.{refused_exact, refused_limit, rows_within, is_plan, is_planned, is_valid, modes_few, acts_few, lists_within}
 use Rattle.mpf_plan.proofs.build.plan.Goals as goal
 
 pub returns-in_err-names-clause-exact : goal.returns-in_err-names-clause-exact
@@ -26,6 +26,11 @@ fill-requires-clause-modes c = modes_few (rows_view c.args.config.now) c.in_ok-d
 pub fill-requires-clause-acts : goal.fill-requires-clause-acts
 fill-requires-clause-acts c =
     acts_few (rows_view c.args.config.now) c.in_ok-definitions.definitions c.in_ok-rows.rows.items c.deref-3.result.now (c.in_ok-definitions.ensures ∙ ap (map section_view) c.deref.ensures.value) c.in_ok-rows.ensures c.deref-3.ensures.value
+    (subst (λ rs. row_count (given_by c.in_ok-definitions.definitions (row_list_view rs)) ≤ 1024) (c.deref-2.ensures.value ∙ sym c.deref-3.ensures.value) c.in_ok-names.ensures.4)
+
+pub fill-requires-clause-lists : goal.fill-requires-clause-lists
+fill-requires-clause-lists c =
+    lists_within (rows_view c.args.config.now) c.in_ok-definitions.definitions c.in_ok-rows.rows.items c.deref-3.result.now (c.in_ok-definitions.ensures ∙ ap (map section_view) c.deref.ensures.value) c.in_ok-rows.ensures c.deref-3.ensures.value c.args.config.now.lists_short
     (subst (λ rs. row_count (given_by c.in_ok-definitions.definitions (row_list_view rs)) ≤ 1024) (c.deref-2.ensures.value ∙ sym c.deref-3.ensures.value) c.in_ok-names.ensures.4)
 
 pub new-requires-2-clause-valid : goal.new-requires-2-clause-valid

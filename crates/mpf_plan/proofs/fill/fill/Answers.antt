@@ -10,7 +10,7 @@ pub add_all-requires-clause-lists : goal.add_all-requires-clause-lists
 add_all-requires-clause-lists c =
     let row = c.row-item.result in
     let here = row_is c.args.definitions.now c.args.rows.now c.loop-row.row-index row c.loop-row-test.true c.row-item.is c.deref.result.now c.collect_row.new.contributions.items c.deref.ensures.value c.in_ok-collect_row.ensures in
-    row_fits c.args.definitions.now c.args.names.now c.loop-row.draft c.args.rows.now c.loop-row.row-index row c.deref.result.now c.loop-row-test.true here c.loop-row.invariant c.requires.bindings c.requires.rows
+    row_fits c.args.definitions.now c.args.names.now c.loop-row.draft c.args.rows.now c.loop-row.row-index row c.deref.result.now c.loop-row-test.true here c.loop-row.invariant c.requires.bindings c.requires.lists
 
 pub add_all-requires-clause-rows : goal.add_all-requires-clause-rows
 add_all-requires-clause-rows c =
