@@ -20,7 +20,7 @@ use Rattle.plan_tables.specs.declared.entries.ModeEvent.{ModeEvent}
 use Rattle.plan_tables.specs.declared.entries.ModeEvent.TheVariants.{Starting, Started, Stopping, Stopped}
 use Rattle.plan_tables.specs.declared.table.Table.TheVariants.{Events, Switches}
 use Rattle.plan_contributions.specs.declared.contribution.Aim.{Aim}
-use Rattle.plan_contributions.specs.declared.contribution.Aim.TheVariants.{Run, Start, Stop, Do}
+use Rattle.plan_contributions.specs.declared.contribution.Aim.TheVariants.{Run, Start, Stop, Do, On}
 use Rattle.plan_contributions.specs.declared.contribution.Place.{Place}
 use Rattle.plan_contributions.specs.declared.contribution.Place.TheVariants.{Machine, Control, Mode}
 use Rattle.plan_contributions.specs.VariableEntries.{item_change}
@@ -30,49 +30,59 @@ use Rattle.plan_contributions.specs.Contributions.{Contribution, gives, reads, a
 use Rattle.plan_contributions.specs.Facts.{row_places, IsAimedAt, AreAimed}
 use Rattle.plan_contributions.proofs.RowFacts.{All-each, All-made, All-listens, All-lists}
 
--- What a contribution of a text of this place is like, where so many modes have come: no mode comes by it, its row is of the
--- place, and what acts on a row by its number is on one of these rows.
-abbrev pub IsOfText : List (Place × ℕ) → ℕ → Place → Contribution → Type 0
-IsOfText rows n place (mode name priority game) = ⊥
-IsOfText rows n place (binds e own aim) = IsAimedAt rows n own aim
-IsOfText rows n place (device own settings) = own ≡ place
-IsOfText rows n place _ = Unit {0}
+-- What a contribution of a text of this place is like: no mode comes by it, its row is of the place, and what it binds is
+-- aimed so.
+abbrev pub IsOfText : (Place → Aim → Type 0) → Place → Contribution → Type 0
+IsOfText A place (mode name priority game) = ⊥
+IsOfText A place (binds e own aim) = A own aim
+IsOfText A place (device own settings) = own ≡ place
+IsOfText A place _ = Unit {0}
 
-module _ (rows : List (Place × ℕ)) (n : ℕ) (place : Place) where
-  abbrev Q : Contribution → Type 0
-  Q c = IsOfText rows n place c
+-- an aim that says no row by its number
+abbrev pub IsUnnumbered : Aim → Type 0
+IsUnnumbered (On r act) = ⊥
+IsUnnumbered _ = Unit {0}
 
-  -- contributions of a text, before others
-  pub aimed_before : (cs ds : List Contribution) → All Q cs → AreAimed rows n ds → AreAimed rows n (cs ++ ds)
-  aimed_before [] ds own rest = rest
-  aimed_before (c ∷ cs) ds own rest = by c (All-head Q c cs own) (aimed_before cs ds (All-tail Q c cs own) rest)
-    where
-      by : (c : Contribution) → Q c → AreAimed rows n (cs ++ ds) → AreAimed rows n (c ∷ cs ++ ds)
-      by (mode name priority game) is h = absurd is
-      by (binds e own aim) is h = (is, h)
-      by _ is h = (tt, h)
+-- ---- contributions of a text, before others
 
-  -- their rows are all of this place and of these modes
-  pub places_of_text : (cs : List Contribution) → All Q cs → All (λ r. r ≡ (place, n)) (row_places n cs)
+module _ (A : Place → Aim → Type 0) (place : Place) (n : ℕ) where
+  -- their rows are all of its place, and of the modes that have come
+  pub places_of_text : (cs : List Contribution) → All (IsOfText A place) cs → All (λ r. r ≡ (place, n)) (row_places n cs)
   places_of_text [] own = All-nil (λ r. r ≡ (place, n))
-  places_of_text (c ∷ cs) own = by c (All-head Q c cs own) (places_of_text cs (All-tail Q c cs own))
+  places_of_text (c ∷ cs) own = by c (All-head (IsOfText A place) c cs own) (places_of_text cs (All-tail (IsOfText A place) c cs own))
     where
-      by : (c : Contribution) → Q c → All (λ r. r ≡ (place, n)) (row_places n cs) → All (λ r. r ≡ (place, n)) (row_places n (c ∷ cs))
+      by : (c : Contribution) → IsOfText A place c → All (λ r. r ≡ (place, n)) (row_places n cs) → All (λ r. r ≡ (place, n)) (row_places n (c ∷ cs))
       by (mode name priority game) is h = absurd is
       by (device own settings) is h = All-cons (λ r. r ≡ (place, n)) (own, n) (row_places n cs) (ap (λ p. (p, n)) is) h
       by _ is h = h
 
-  -- and they come before the rows of what comes after them
-  pub places_before : (cs ds : List Contribution) → All Q cs → row_places n (cs ++ ds) ≡ row_places n cs ++ row_places n ds
+  -- and come before the rows of what comes after them
+  pub places_before : (cs ds : List Contribution) → All (IsOfText A place) cs → row_places n (cs ++ ds) ≡ row_places n cs ++ row_places n ds
   places_before [] ds own = refl
-  places_before (c ∷ cs) ds own = by c (All-head Q c cs own) (places_before cs ds (All-tail Q c cs own))
+  places_before (c ∷ cs) ds own = by c (All-head (IsOfText A place) c cs own) (places_before cs ds (All-tail (IsOfText A place) c cs own))
     where
-      by : (c : Contribution) → Q c → row_places n (cs ++ ds) ≡ row_places n cs ++ row_places n ds → row_places n (c ∷ cs ++ ds) ≡ row_places n (c ∷ cs) ++ row_places n ds
+      by : (c : Contribution) → IsOfText A place c → row_places n (cs ++ ds) ≡ row_places n cs ++ row_places n ds → row_places n (c ∷ cs ++ ds) ≡ row_places n (c ∷ cs) ++ row_places n ds
       by (mode name priority game) is h = absurd is
       by (device own settings) is h = ap (λ l. (own, n) ∷ l) h
       by _ is h = h
 
-  -- ---- what rows give
+-- where they are aimed at these rows, all are
+pub aimed_before : (rows : List (Place × ℕ)) (n : ℕ) (place : Place) (cs ds : List Contribution) → All (IsOfText (IsAimedAt rows n) place) cs → AreAimed rows n ds → AreAimed rows n (cs ++ ds)
+aimed_before rows n place [] ds own rest = rest
+aimed_before rows n place (c ∷ cs) ds own rest =
+    by c (All-head (IsOfText (IsAimedAt rows n) place) c cs own) (aimed_before rows n place cs ds (All-tail (IsOfText (IsAimedAt rows n) place) c cs own) rest)
+  where
+    by : (c : Contribution) → IsOfText (IsAimedAt rows n) place c → AreAimed rows n (cs ++ ds) → AreAimed rows n (c ∷ cs ++ ds)
+    by (mode name priority game) is h = absurd is
+    by (binds e own aim) is h = (is, h)
+    by _ is h = (tt, h)
+
+-- ---- what rows give
+
+-- where each aim that says no row by its number is one of these
+module _ (A : Place → Aim → Type 0) (plain : (own : Place) (aim : Aim) → IsUnnumbered aim → A own aim) (place : Place) where
+  abbrev Q : Contribution → Type 0
+  Q c = IsOfText A place c
 
   in_switch : (machine : List SectionRows) (s : Switch) → All Q (switch_contributions machine s)
   unfolding switch_contributions
@@ -83,7 +93,7 @@ module _ (rows : List (Place × ℕ)) (n : ℕ) (place : Place) where
       (All-cons Q (reads (kind_of machine s)) (on ++ off) tt (All-append Q on off (All-made Q active (λ e. tt) (active_posts s)) (All-made Q inactive (λ e. tt) (inactive_posts s))))
 
   -- a handled event is bound, under its condition
-  in_bound : (e : Event) (own : Place) (aim : Aim) → IsAimedAt rows n own aim → All Q (bound e own aim)
+  in_bound : (e : Event) (own : Place) (aim : Aim) → A own aim → All Q (bound e own aim)
   in_bound e own aim is = All-cons Q (binds e.name own aim) (under_where e.condition) is (in_under e.condition)
     where
       in_under : (o : Option Condition) → All Q (under_where o)
@@ -94,12 +104,12 @@ module _ (rows : List (Place × ℕ)) (n : ℕ) (place : Place) where
   unfolding player_contributions
   in_player own p =
       let make : List ℕ → Contribution = λ e. does (posts e) in
-      All-append Q (bound p.event.event own Run) (map make (texts p.posts)) (in_bound p.event.event own Run tt) (All-made Q make (λ e. tt) (texts p.posts))
+      All-append Q (bound p.event.event own Run) (map make (texts p.posts)) (in_bound p.event.event own Run (plain own Run tt)) (All-made Q make (λ e. tt) (texts p.posts))
 
   in_coil_player : (machine : List SectionRows) (own : Place) (p : CoilPlayer) → All Q (coil_player_contributions machine own p)
   unfolding coil_player_contributions
   in_coil_player machine own p =
-      All-append Q (bound p.event.event own Run) (map (λ item. does (item_effect machine item)) p.items) (in_bound p.event.event own Run tt)
+      All-append Q (bound p.event.event own Run) (map (λ item. does (item_effect machine item)) p.items) (in_bound p.event.event own Run (plain own Run tt))
       (All-made Q (λ item. does (item_effect machine item)) (λ item. tt) p.items)
 
   in_item : (item : VariableItem) → All Q (item_contributions item)
@@ -109,7 +119,7 @@ module _ (rows : List (Place × ℕ)) (n : ℕ) (place : Place) where
   in_variable_player : (own : Place) (p : VariablePlayer) → All Q (variable_player_contributions own p)
   unfolding variable_player_contributions
   in_variable_player own p =
-      All-append Q (bound p.event.event own Run) (flat_map item_contributions p.items) (in_bound p.event.event own Run tt) (All-each Q item_contributions in_item p.items)
+      All-append Q (bound p.event.event own Run) (flat_map item_contributions p.items) (in_bound p.event.event own Run (plain own Run tt)) (All-each Q item_contributions in_item p.items)
 
   in_game : (machine : List SectionRows) (g : GameSettings) → All Q (game_contributions machine g)
   unfolding game_contributions
@@ -126,7 +136,7 @@ module _ (rows : List (Place × ℕ)) (n : ℕ) (place : Place) where
       let doing = effects_from 0 d.lists in
       All-cons Q (device place d.settings) (listening ++ (acting ++ (named ++ doing))) refl
       (All-append Q listening (acting ++ (named ++ doing)) (All-listens Q (λ s. Unit {0}) (λ k s m. tt) 0 d.listens (λ i x within. tt))
-      (All-append Q acting (named ++ doing) (All-each Q (act_binding place) (λ (x : Event × Act). in_bound x.0 place (Do x.1) tt) d.handled)
+      (All-append Q acting (named ++ doing) (All-each Q (act_binding place) (λ (x : Event × Act). in_bound x.0 place (Do x.1) (plain place (Do x.1) tt)) d.handled)
       (All-append Q named doing (All-made Q (mentions Events) (λ e. tt) d.mentioned) (All-lists Q (λ e. Unit {0}) (λ k e m. tt) 0 d.lists (λ i l within j e inside. tt)))))
 
   in_where : (o : Option Device) → All Q (where_device place o)
@@ -154,27 +164,27 @@ module _ (rows : List (Place × ℕ)) (n : ℕ) (place : Place) where
   in_alone machine Mode section e = All-nil Q
 
 -- an entry of the machine text
-in_machine_entry : (rows : List (Place × ℕ)) (n : ℕ) (machine : List SectionRows) (section : List ℕ) (e : Entry) → All (IsOfText rows n Machine) (machine_entry_contributions machine section e)
+in_machine_entry : (A : Place → Aim → Type 0) (plain : (own : Place) (aim : Aim) → IsUnnumbered aim → A own aim) (machine : List SectionRows) (section : List ℕ) (e : Entry) → All (IsOfText A Machine) (machine_entry_contributions machine section e)
 unfolding machine_entry_contributions coil_contributions
-in_machine_entry rows n machine section e =
-    let Q = IsOfText rows n Machine in
+in_machine_entry A plain machine section e =
+    let Q = IsOfText A Machine in
     let others = where_device Machine (machine_device machine section e) in
-    when rows n Machine (bytes_eq section coils_name) (coil_contributions (coil_of e)) (if bytes_eq section switches_name then switch_contributions machine (switch_of e) else others)
+    when A plain Machine (bytes_eq section coils_name) (coil_contributions (coil_of e)) (if bytes_eq section switches_name then switch_contributions machine (switch_of e) else others)
     (All-cons Q _ [] tt (All-nil Q))
-    (when rows n Machine (bytes_eq section switches_name) (switch_contributions machine (switch_of e)) others (in_switch rows n Machine machine (switch_of e)) (in_where rows n Machine (machine_device machine section e)))
+    (when A plain Machine (bytes_eq section switches_name) (switch_contributions machine (switch_of e)) others (in_switch A plain Machine machine (switch_of e)) (in_where A plain Machine (machine_device machine section e)))
 
 -- each entry of a text, in a section of this name
-module _ (rows : List (Place × ℕ)) (n : ℕ) (machine : List SectionRows) where
-  in_entry : (place : Place) (section : List ℕ) (e : Entry) → All (IsOfText rows n place) (entry_contributions machine place section e)
+module _ (A : Place → Aim → Type 0) (plain : (own : Place) (aim : Aim) → IsUnnumbered aim → A own aim) (machine : List SectionRows) where
+  in_entry : (place : Place) (section : List ℕ) (e : Entry) → All (IsOfText A place) (entry_contributions machine place section e)
   unfolding entry_contributions
-  in_entry Machine section e = in_machine_entry rows n machine section e
-  in_entry Control section e = in_where rows n Control (device_of section e)
-  in_entry Mode section e = in_where rows n Mode (device_of section e)
+  in_entry Machine section e = in_machine_entry A plain machine section e
+  in_entry Control section e = in_where A plain Control (device_of section e)
+  in_entry Mode section e = in_where A plain Mode (device_of section e)
 
   -- all that a section gives, or a text
   module _ (place : Place) where
     abbrev R : Contribution → Type 0
-    R c = IsOfText rows n place c
+    R c = IsOfText A place c
 
     of_section : (section : List ℕ) (content : Content) → All R (given_by machine (rows_from place section content))
     of_section section (entries es) = each es
@@ -187,8 +197,8 @@ module _ (rows : List (Place × ℕ)) (n : ℕ) (machine : List SectionRows) whe
         each : (ps : List Player) → All R (given_by machine (map (player place section) ps))
         each [] = All-nil R
         each (p ∷ ps) =
-            All-append R (player_entry_contributions machine place section p) (given_by machine (map (player place section) ps)) (in_player_entry rows n place machine place section p) (each ps)
-    of_section section (sections.entry e) = All-append R (alone_contributions machine place section e) [] (in_alone rows n place machine place section e) (All-nil R)
+            All-append R (player_entry_contributions machine place section p) (given_by machine (map (player place section) ps)) (in_player_entry A plain place machine place section p) (each ps)
+    of_section section (sections.entry e) = All-append R (alone_contributions machine place section e) [] (in_alone A plain place machine place section e) (All-nil R)
     of_section section (sections.listed ws) = All-nil R
 
     pub of_text : (ss : List SectionRows) → All R (given_by machine (rows_in place ss))
@@ -200,12 +210,12 @@ module _ (rows : List (Place × ℕ)) (n : ℕ) (machine : List SectionRows) whe
 
 -- ---- modes
 
-module _ (rows : List (Place × ℕ)) (n : ℕ) where
+module _ (A : Place → Aim → Type 0) (plain : (own : Place) (aim : Aim) → IsUnnumbered aim → A own aim) where
   abbrev C : Contribution → Type 0
-  C c = IsOfText rows n Mode c
+  C c = IsOfText A Mode c
 
   of_stopper : (holds : Bool) (name : List ℕ) → All C (stopper_where holds name)
-  of_stopper true name = in_bound rows n Mode (always name) Control Stop tt
+  of_stopper true name = in_bound A plain Mode (always name) Control Stop (plain Control Stop tt)
   of_stopper false name = All-nil C
 
   -- the events of a mode, and what starts and stops it
@@ -221,12 +231,25 @@ module _ (rows : List (Place × ℕ)) (n : ℕ) where
       (event Stopped (controls s)
       (All-append C (starts ++ stops ++ ball) game
       (All-append C (starts ++ stops) ball
-      (All-append C starts stops (All-each C starter (λ e. in_bound rows n Mode e Control Start tt) (events s.starts)) (All-each C stopper (λ e. in_bound rows n Mode e Control Stop tt) (events s.stops)))
+      (All-append C starts stops (All-each C starter (λ e. in_bound A plain Mode e Control Start (plain Control Start tt)) (events s.starts)) (All-each C stopper (λ e. in_bound A plain Mode e Control Stop (plain Control Stop tt)) (events s.stops)))
       (of_stopper s.stops_with_ball (codes "ball_ending")))
       (of_stopper s.game (codes "game_ending"))))))
     where
       event : (which : ModeEvent) (cs : List Contribution) → All C cs → All C (mode_event which name ∷ cs)
       event which cs rest = All-cons C (mode_event which name) cs tt rest
+
+-- all rows of a text are of its place, and of the modes that have come
+pub places_of_rows : (n : ℕ) (machine : List SectionRows) (place : Place) (ss : List SectionRows) → All (λ r. r ≡ (place, n)) (row_places n (given_by machine (rows_in place ss)))
+places_of_rows n machine place ss =
+    let any : Place → Aim → Type 0 = λ own aim. Unit {0} in
+    places_of_text any place n (given_by machine (rows_in place ss)) (of_text any (λ own aim is. tt) machine place ss)
+
+-- ---- acts on rows by their numbers
+
+-- an aim that says no row by its number is right, whatever the rows are
+unnumbered : (rows : List (Place × ℕ)) (n : ℕ) (own : Place) (aim : Aim) → IsUnnumbered aim → IsAimedAt rows n own aim
+unnumbered rows n own (On r act) is = absurd is
+unnumbered rows n own _ is = tt
 
 module _ (rows : List (Place × ℕ)) (machine : List SectionRows) where
   -- what modes give, one after the other
@@ -238,12 +261,12 @@ module _ (rows : List (Place × ℕ)) (machine : List SectionRows) where
       let text = given_by machine (rows_in Mode m.sections) in
       let later = given_by machine (flat_map mode_rows ms) in
       subst (AreAimed rows n) (sym (flat_map-append (row_contributions machine) (mode_rows m) (flat_map mode_rows ms)))
-      (first m.name s text later (aimed_before rows (suc n) Mode text later (of_text rows (suc n) machine Mode m.sections) (modes_aimed (suc n) ms)))
+      (first m.name s text later (aimed_before rows (suc n) Mode text later (of_text (IsAimedAt rows (suc n)) (unnumbered rows (suc n)) machine Mode m.sections) (modes_aimed (suc n) ms)))
     where
       -- a mode, before the rows of its text
       first : (name : List ℕ) (s : ModeSettings) (text later : List Contribution) → AreAimed rows (suc n) (text ++ later) → AreAimed rows n ((mode_contributions name s ++ text) ++ later)
       first name s text later rest =
-          (tt, subst (AreAimed rows (suc n)) (sym (append_assoc (later_events name ++ controls s) text later)) (aimed_before rows (suc n) Mode (later_events name ++ controls s) (text ++ later) (of_controls rows (suc n) name s) rest))
+          (tt, subst (AreAimed rows (suc n)) (sym (append_assoc (later_events name ++ controls s) text later)) (aimed_before rows (suc n) Mode (later_events name ++ controls s) (text ++ later) (of_controls (IsAimedAt rows (suc n)) (unnumbered rows (suc n)) name s) rest))
 
 -- whatever the rows of a configuration are
 pub rows_are_aimed : (rows : Rows) → AreAimed (row_places 0 (contributions_of rows)) 0 (contributions_of rows)
@@ -252,4 +275,4 @@ rows_are_aimed rows =
     let machine = rows_in Machine rows.machine in
     let modes = flat_map mode_rows rows.modes in
     subst (AreAimed places 0) (sym (flat_map-append (row_contributions rows.machine) machine modes))
-    (aimed_before places 0 Machine (given_by rows.machine machine) (given_by rows.machine modes) (of_text places 0 rows.machine Machine rows.machine) (modes_aimed places rows.machine 0 rows.modes))
+    (aimed_before places 0 Machine (given_by rows.machine machine) (given_by rows.machine modes) (of_text (IsAimedAt places 0) (unnumbered places 0) rows.machine Machine rows.machine) (modes_aimed places rows.machine 0 rows.modes))

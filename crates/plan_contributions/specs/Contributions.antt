@@ -37,12 +37,12 @@ use Rattle.plan_tables.specs.declared.entries.CoilLimits.{CoilLimits}
 -- One thing that a row gives: an entry of a table, by its name; how the last given switch is read; an event that this
 -- switch posts when it becomes active, or inactive; a mode by its name, with its priority, and whether it starts only
 -- in a game; an event of the mode that came last, which has this name; a binding of an event, with which an effect list
--- begins where it is to run one; what the list does that began last; a row of a device with its settings, with which its
--- effect lists begin; what this list of the last row does, by its number in the row; a switch to which the last row
--- listens, by its number in the row; an event or a switch that a setting names, by its table, which gets its number here;
--- something that a setting names, which is in no table, and which nothing has; a coil by its name, with what it may be
--- sent; the condition of the binding that came last; the rules of the game: how many balls have to be at home for it to
--- begin, how many each player has, and how many players there can be.
+-- begins where it is to run one; what the list does that began last; a row of a device with its settings, with which
+-- its effect lists begin; what this list of the last row does, by its number in the row; a switch to which the last row
+-- listens, by its number in the row; an event or a switch that a setting names, by its table, which gets its number
+-- here; something that a setting names, which is in no table, and which nothing has; a coil by its name, with what it
+-- may be sent; the condition of the binding that came last; the rules of the game: how many balls have to be at home
+-- for it to begin, how many each player has, and how many players there can be.
 pub data Contribution : Type 0 where
   gives : Table → List ℕ → Contribution
   reads : SwitchKind → Contribution

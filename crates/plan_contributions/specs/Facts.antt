@@ -152,11 +152,12 @@ ArePlaced o (c ∷ cs) = IsPlaced o c × ArePlaced (row_after o c) cs
 
 -- ---- rows that may come later
 
--- each row that contributions give, in turn: its place, and how many modes have come, where so many came before all of them
+-- the row that a contribution gives, if it gives one: its place, and how many modes have come
 abbrev pub row_place : ℕ → Contribution → List (Place × ℕ)
 row_place n (device place settings) = (place, n) ∷ []
 row_place n _ = []
 
+-- so it is with all rows, in turn, where so many modes came before
 abbrev pub row_places : ℕ → List Contribution → List (Place × ℕ)
 row_places n [] = []
 row_places n (c ∷ cs) = row_place n c ++ row_places (modes_after n c) cs
