@@ -29,7 +29,7 @@ first_slot b game = record { game = game; enabled = b.enabled; states = replicat
 abbrev pub first_slots : BankSettings → List BankSlot
 first_slots b = replicate 4 (first_slot b 0)
 
--- the state after this one: after the last comes the first where the profile loops, and else none
+-- the next state: after the last comes the first where the profile loops, and else it stays
 abbrev pub next_state : BankSettings → ℕ → ℕ
 next_state b state = if nat_lt state b.last_state then suc state else (if b.loops then 0 else state)
 
