@@ -12,7 +12,7 @@ use Rattle.device_objects.specs.declared.device.Call.{Call}
 use Rattle.device_objects.specs.Laws.{MayCome}
 use Rattle.device_objects.specs.Outcomes.{outcomes}
 use Rattle.device_objects.proofs.Answered.{answers_are_outcomes}
-use Rattle.cascade_rank.proofs.Outcomes.{outcomes_of_row}
+use Rattle.device_objects.proofs.Lists.{outcomes_of_row}
 use Rattle.cascade_rank.proofs.Rows.{length-rows, row_of}
 use Rattle.written_machine.specs.Devices.{HasDevices}
 use Rattle.written_machine.specs.Machine.{Machine, all_do, do_action, do_list, world_of, device_at, called, call_device}
