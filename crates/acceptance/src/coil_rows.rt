@@ -869,6 +869,44 @@ fn switches_move_coils(rt: HostRuntime) -> Result<(), Fail> {
 
 // Boards that fault, and how many commands they took.
 const BOARDS: &str = "
+=== board takes the commands of the play and no others
+--- play
+@ config/config.yaml
+#config_version=6
+switches:
+  s_k:
+    number: 1
+    debounce: quick
+coils:
+  c_up:
+    default_pulse_ms: 20
+coil_player:
+  s_k_active:
+    c_up: pulse
+--- log
+105 s_k 1
+110 s_k 0
+120 s_k 1
+130 s_k 0
+145 s_k 1
+200
+--- board
+fault 99
+=> Yes 2
+105 machine switch s_k active
+105 machine event s_k_active
+105 machine coil c_up pulse 20 1000
+110 machine switch s_k inactive
+110 machine event s_k_inactive
+120 machine switch s_k active
+120 machine event s_k_active
+120 machine skip c_up pulse
+130 machine switch s_k inactive
+130 machine event s_k_inactive
+145 machine switch s_k active
+145 machine event s_k_active
+145 machine coil c_up pulse 20 1000
+
 === board faults once
 The coil of the command is put off, though it is not on.
 --- play
