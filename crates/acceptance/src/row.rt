@@ -22,6 +22,7 @@ use config_checker::Checked;
 use device_objects::Device;
 use logic_blocks::{Accrual, Counter, Sequence, Timer};
 use pinball_shell::{ShellFault, Verdict, check_text, load_text, play_text, verify_text};
+use shot_groups::ShotBank;
 use std::alloc::{AllocError, Global};
 use std::io::Write;
 use std::process::Abort;
@@ -156,6 +157,8 @@ fn play_log(
             devices.push(Box::new(alloc, sequence)?)?;
         } else if let Some(timer) = Timer::new(row) {
             devices.push(Box::new(alloc, timer)?)?;
+        } else if let Some(bank) = ShotBank::new(row) {
+            devices.push(Box::new(alloc, bank)?)?;
         } else if let Some(flipper) = Flipper::new(row) {
             devices.push(Box::new(alloc, flipper)?)?;
         } else if let Some(autofire) = Autofire::new(row) {

@@ -1,4 +1,5 @@
 pub mod Definitions
+pub mod Shots
 pub mod GameEvents
 pub mod Players
 pub mod Found

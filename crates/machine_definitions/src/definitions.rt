@@ -1,4 +1,4 @@
-//! What the entries of the machine text say of others, found by name.
+//! What the entries of all texts define, found by name.
 
 ghost use Rattle.std.specs.Prelude.{◌≡◌, ◌||◌, ℕ, List, fold, map, option_map, IfOk, OnOk};
 ghost use Rattle.std.specs.List.{list_any};
@@ -6,85 +6,135 @@ ghost use Rattle.std.specs.Str.{bytes_eq};
 ghost use Rattle.mpf_sections.specs.Typed.{switch_of};
 ghost use Rattle.mpf_sections.specs.TypedCoils.{coil_of, flipper_of, autofire_of};
 ghost use Rattle.mpf_sections.specs.TypedGame.{min_balls_of};
-ghost use Rattle.mpf_sections.specs.View.{entry_view, section_view, coil_view};
+ghost use Rattle.mpf_sections.specs.View.{entry_view, section_view, coil_view, shot_view};
+ghost use Rattle.mpf_config.specs.View.{rows_view};
 ghost use Rattle.machine_definitions.specs.Definitions.{coil_called, latest_coil, has_switch, makes_quick};
-ghost use Rattle.machine_definitions.specs.Found.{found_coil, is_found, HasCoils, HasSwitches, HasQuick};
+ghost use Rattle.machine_definitions.specs.Shots.{shot_called, has_profile, profile_of_name};
+ghost use Rattle.machine_definitions.specs.Found.{found_coil, is_found, profile_view, HasCoils, HasSwitches, HasQuick};
 
-use mpf_config::{Coil, Entry, Section, as_autofire, as_coil, as_flipper, as_switch, min_balls};
+use crate::profile::{Profile, standard_profile};
+use crate::shots::{profiles_of, shots_of};
+use mpf_config::config::Config;
+use mpf_config::{
+    Coil, Entry, Section, Shot, as_autofire, as_coil, as_flipper, as_switch,
+    min_balls,
+};
+use mpf_sections::tables::DEFAULT_PROFILE;
 use std::alloc::{AllocError, Global};
 use std::collections::{BTreeMap, BTreeSet};
 use std::marker::Model;
 
-/// The coils of the machine text, the names of its switches, and the names of those that flippers
-/// and autofire coils use.
+/// What the entries of a configuration define: the coils of the machine text, the names of its
+/// switches, the names of those that flippers and autofire coils use, and the shots and the profiles
+/// of all texts.
 #[derive(Drop)]
 pub struct Definitions<'a> {
-    sections: &'a [Section],
+    config: &'a Config,
     coils: BTreeMap<&'a [u8], Coil<'a>>,
     switches: BTreeSet<&'a [u8]>,
     quick: BTreeSet<&'a [u8]>,
+    shots: BTreeMap<&'a [u8], Shot<'a>>,
+    profiles: BTreeMap<&'a [u8], Profile<'a>>,
+    standard: Profile<'a>,
 }
 
 impl<'a> Model for Definitions<'a> {
-    ghost use Rattle.std.specs.Prelude.{List, map};
-    ghost use Rattle.mpf_sections.specs.Rows.{SectionRows};
-    ghost use Rattle.mpf_sections.specs.View.{section_view};
-    ghost use Rattle.machine_definitions.specs.Found.{HasCoils, HasSwitches, HasQuick};
+    ghost use Rattle.mpf_config.specs.Rows.{Rows};
+    ghost use Rattle.mpf_config.specs.View.{rows_view};
+    ghost use Rattle.machine_definitions.specs.Found.{IsDefined};
 
-    ghost Value = { List SectionRows };
+    ghost Value = { Rows };
 
-    ghost view = { λ d. map section_view d.sections.now };
+    ghost view = { λ d. rows_view d.config.now };
 
-    ghost invariant = { λ d. HasCoils (map section_view d.sections.now) d.coils × HasSwitches (map section_view d.sections.now) d.switches × HasQuick (map section_view d.sections.now) d.quick };
+    ghost invariant = { λ d. IsDefined (rows_view d.config.now) d.coils d.switches d.quick d.shots d.profiles d.standard };
 }
 
 impl<'a> Definitions<'a> {
-    /// What the entries in the sections of the machine text define.
+    /// What the entries of the configuration define.
     ///
     /// # Errors
     ///
     /// Memory ran out.
-    pub fn new(alloc: Global, sections: &'a [Section]) -> Result<Definitions<'a>, AllocError>
-        ensures { IfOk result (λ d. d ≡ map section_view sections.now) }
+    pub fn new(alloc: Global, config: &'a Config) -> Result<Definitions<'a>, AllocError>
+        ensures { IfOk result (λ d. d ≡ rows_view config.now) }
     {
-        let coils = coils_of(alloc, sections)?;
-        let switches = switches_of(alloc, sections)?;
-        let quick = quick_of(alloc, sections)?;
+        let machine: &'a [Section] = config.machine.sections.as_slice();
+        let coils = coils_of(alloc, machine)?;
+        let switches = switches_of(alloc, machine)?;
+        let quick = quick_of(alloc, machine)?;
+        let shots = shots_of(alloc, config)?;
+        let profiles = profiles_of(alloc, config)?;
+        let standard = standard_profile(alloc)?;
         Ok(Definitions {
-            sections,
+            config,
             coils,
             switches,
             quick,
+            shots,
+            profiles,
+            standard,
         })
+    }
+
+    /// The configuration.
+    pub fn config(&self) -> &'a Config
+        ensures { rows_view result.now ≡ self.now }
+    {
+        self.config
     }
 
     /// The coil of this name, if there is one.
     pub fn coil(&self, name: &[u8]) -> Option<Coil<'a>>
-        ensures { option_map coil_view result ≡ coil_called self.now name.now }
+        ensures { option_map coil_view result ≡ coil_called self.now.machine name.now }
     {
         self.coils.get(name).copied()
     }
 
     /// Whether an entry defines a switch of this name.
     pub fn has_switch(&self, name: &[u8]) -> bool
-        ensures { result ≡ has_switch self.now name.now }
+        ensures { result ≡ has_switch self.now.machine name.now }
     {
         self.switches.contains(name)
     }
 
     /// How many balls have to be at home for a game to begin: at most 99.
     pub fn min_balls(&self) -> u32
-        ensures { result ≡ min_balls_of self.now }
+        ensures { result ≡ min_balls_of self.now.machine }
     {
-        min_balls(self.sections)
+        min_balls(&self.config.machine.sections)
     }
 
     /// Whether a flipper or an autofire coil uses the switch of this name. Then it is read at once
     /// unless its entry says otherwise.
     pub fn makes_quick(&self, name: &[u8]) -> bool
-        ensures { result ≡ makes_quick self.now name.now }
+        ensures { result ≡ makes_quick self.now.machine name.now }
     {
         self.quick.contains(name)
+    }
+
+    /// The shot of this name, if there is one, in whichever text.
+    pub fn shot(&self, name: &[u8]) -> Option<Shot<'a>>
+        ensures { option_map shot_view result ≡ shot_called self.now name.now }
+    {
+        self.shots.get(name).copied()
+    }
+
+    /// Whether there is a profile of this name: `default`, or one that an entry defines.
+    pub fn has_profile(&self, name: &[u8]) -> bool
+        ensures { result ≡ has_profile self.now name.now }
+    {
+        name == DEFAULT_PROFILE || self.profiles.contains_key(name)
+    }
+
+    /// The profile of this name; where no entry defines one, that of shots whose entries name none.
+    pub fn profile(&self, name: &[u8]) -> &Profile<'a>
+        ensures { profile_view result.now ≡ profile_of_name self.now name.now }
+    {
+        match self.profiles.get(name) {
+            Some(profile) => profile,
+            None => &self.standard,
+        }
     }
 }
 

@@ -1,10 +1,14 @@
-//! What the entries of the machine text define, found by name.
+//! What the entries of all texts define, found by name.
 //!
-//! Other entries, of this text and of those of the modes, speak of coils and switches by their names.
+//! Entries speak of the coils and switches of the machine text, and of the shots and profiles of all texts, by their
+//! names.
 #![tactic(auto)]
 
 pub mod definitions;
 pub mod game_events;
+pub mod profile;
+mod shots;
 
 pub use definitions::Definitions;
 pub use game_events::{GAME_EVENT_NAMES, is_reserved_game_event};
+pub use profile::Profile;

@@ -74,8 +74,8 @@ pub fn plan(alloc: Global, config: &Config) -> Result<Plan, PlanFault>
     ensures within { IfOk result (λ _. (t : TableValue) → entry_count (plan_of (rows_view config.now)) t ≤ limit_of t) }
     ensures limit { (t : TableValue) → result ≡ Err (PlanFault.Limit t) → IsExceeded (rows_view config.now) t }
 {
-    let rows = rows_of(alloc, config)?;
-    let definitions = Definitions::new(alloc, &config.machine.sections)?;
+    let definitions = Definitions::new(alloc, config)?;
+    let rows = rows_of(alloc, &definitions)?;
     let names = number(alloc, &definitions, &rows)?;
     let draft = fill(alloc, &names, &definitions, &rows)?;
     let plan = Plan::new(

@@ -39,12 +39,12 @@ pub(crate) fn fill(
     definitions: &Definitions,
     rows: &[Row],
 ) -> Result<Draft, AllocError>
-    requires bindings { binding_count (given_by definitions.now (row_list_view rows.now)) ≤ 16384 }
-    requires lists { lists_count (given_by definitions.now (row_list_view rows.now)) ≤ 294912 }
-    requires rows { row_count (given_by definitions.now (row_list_view rows.now)) ≤ 1024 }
-    requires modes { mode_count (given_by definitions.now (row_list_view rows.now)) ≤ 64 }
-    requires acts { All IsActNumbered (given_by definitions.now (row_list_view rows.now)) }
-    ensures { IfOk result (λ d. draft_view names.now d ≡ drafted (name_sets_view names.now) (given_by definitions.now (row_list_view rows.now))) }
+    requires bindings { binding_count (given_by definitions.now.machine (row_list_view rows.now)) ≤ 16384 }
+    requires lists { lists_count (given_by definitions.now.machine (row_list_view rows.now)) ≤ 294912 }
+    requires rows { row_count (given_by definitions.now.machine (row_list_view rows.now)) ≤ 1024 }
+    requires modes { mode_count (given_by definitions.now.machine (row_list_view rows.now)) ≤ 64 }
+    requires acts { All IsActNumbered (given_by definitions.now.machine (row_list_view rows.now)) }
+    ensures { IfOk result (λ d. draft_view names.now d ≡ drafted (name_sets_view names.now) (given_by definitions.now.machine (row_list_view rows.now))) }
 {
     let mut draft = blank(alloc, names)?;
     let mut text = Vec::new(alloc);

@@ -27,7 +27,7 @@ pub(crate) fn number(
     definitions: &Definitions,
     rows: &[Row],
 ) -> Result<NameSets, PlanFault>
-    ensures { Numbered (given_by definitions.now (row_list_view rows.now)) result }
+    ensures { Numbered (given_by definitions.now.machine (row_list_view rows.now)) result }
 {
     let hashing = hashing_of(alloc, definitions, rows)?;
     let lacking = lacks_name(alloc, definitions, hashing, rows)?;
@@ -130,7 +130,7 @@ fn find_names(
     hashing: NameHashing,
     rows: &[Row],
 ) -> Result<Found, AllocError>
-    ensures { IfOk result (HasFound (given_by definitions.now (row_list_view rows.now))) }
+    ensures { IfOk result (HasFound (given_by definitions.now.machine (row_list_view rows.now))) }
 {
     let mut found = Found {
         tables: no_names(alloc, hashing)?,
@@ -253,7 +253,7 @@ fn lacks_name(
     hashing: NameHashing,
     rows: &[Row],
 ) -> Result<bool, AllocError>
-    ensures { IfOk result (λ b. b ≡ lacks_name (given_by definitions.now (row_list_view rows.now))) }
+    ensures { IfOk result (λ b. b ≡ lacks_name (given_by definitions.now.machine (row_list_view rows.now))) }
 {
     let sets = given_names(alloc, definitions, hashing, rows)?;
     let mut text = Vec::new(alloc);
@@ -275,7 +275,7 @@ fn given_names(
     hashing: NameHashing,
     rows: &[Row],
 ) -> Result<Vec<NameSet>, AllocError>
-    ensures { IfOk result (λ sets. HoldGivenNames (given_by definitions.now (row_list_view rows.now)) sets.items) }
+    ensures { IfOk result (λ sets. HoldGivenNames (given_by definitions.now.machine (row_list_view rows.now)) sets.items) }
 {
     let mut sets = no_sets(alloc, hashing)?;
     let mut contributions = Vec::new(alloc);

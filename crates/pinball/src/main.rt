@@ -12,6 +12,7 @@ use pinball_shell::{
     BUNDLE_LIMIT, Failure, ShellFault, Verdict, check_text, join, load_text, play_text, read_all,
     status, verify_text,
 };
+use shot_groups::ShotBank;
 use std::alloc::{AllocError, Global};
 use std::io::{self, BufWriter, ErrorKind, Read, Write};
 use std::process::ExitCode;
@@ -136,6 +137,8 @@ fn play_log<L: Read, W: Write>(
             devices.push(Box::new(alloc, sequence)?)?;
         } else if let Some(timer) = Timer::new(row) {
             devices.push(Box::new(alloc, timer)?)?;
+        } else if let Some(bank) = ShotBank::new(row) {
+            devices.push(Box::new(alloc, bank)?)?;
         } else if let Some(flipper) = Flipper::new(row) {
             devices.push(Box::new(alloc, flipper)?)?;
         } else if let Some(autofire) = Autofire::new(row) {

@@ -22,15 +22,18 @@ use Rattle.plan_tables.specs.declared.entries.ModeEvent.TheVariants.{WillStart, 
 use Rattle.plan_contributions.specs.declared.contribution.Place.{Place}
 use Rattle.plan_contributions.specs.declared.contribution.Place.TheVariants.{Machine, Control, Mode}
 use Rattle.plan_contributions.specs.declared.contribution.Aim.{Aim}
-use Rattle.plan_contributions.specs.declared.contribution.Aim.TheVariants.{Run, Start, Stop, Do}
+use Rattle.plan_contributions.specs.declared.contribution.Aim.TheVariants.{Run, Start, Stop, Do, On}
 use Rattle.plan_tables.specs.declared.devices.Settings.{Settings}
 use Rattle.plan_tables.specs.declared.devices.Act.{Act}
 use Rattle.plan_tables.specs.declared.table.Table.{Table}
 use Rattle.plan_tables.specs.declared.table.Table.TheVariants.{Events, Switches}
-pub use Rattle.plan_contributions.specs.DeviceEntries.{texts, events, Effect, posts, works, changes, Device, device_of}
+pub use Rattle.plan_contributions.specs.DeviceEntries.{texts, events, Effect, posts, works, changes, Device, always, device_of}
 use Rattle.machine_definitions.specs.Definitions.{makes_quick}
 use Rattle.plan_contributions.specs.CoilEntries.{limits_of_coil, item_effect, flipper_device, autofire_device}
-use Rattle.mpf_sections.specs.Rows.{Coil, CoilPlayer}
+use Rattle.mpf_sections.specs.Rows.{Coil, CoilPlayer, Shot, ShotGroup}
+use Rattle.mpf_sections.specs.TypedShots.{shots_name, shot_groups_name, shot_of, shot_group_of}
+use Rattle.machine_definitions.specs.Shots.{Profile, has_profile, profile_of_name}
+use Rattle.plan_contributions.specs.ShotEntries.{Seat, seat_of, rows_after_text, shot_acts, lone_device, group_device, Members, members_of}
 use Rattle.mpf_sections.specs.TypedCoils.{coils_name, coil_player_name, flippers_name, autofire_coils_name, coil_of, coil_player_of, flipper_of, autofire_of}
 use Rattle.plan_tables.specs.declared.entries.CoilLimits.{CoilLimits}
 
@@ -71,10 +74,6 @@ under_where (Some c) = under c ∷ []
 -- a handled event is bound, under its condition
 abbrev pub bound : Event → Place → Aim → List Contribution
 bound e place aim = binds e.name place aim ∷ under_where e.condition
-
--- an event of this name, which is handled always
-abbrev pub always : List ℕ → Event
-always name = record { name = name; condition = None }
 
 -- ---- switches
 
@@ -216,33 +215,92 @@ abbrev pub where_device : Place → Option Device → List Contribution
 where_device place None = []
 where_device place (Some d) = device_contributions place d
 
+-- ---- shots
+
+-- something is unknown, unless all is known
+abbrev pub unknown_unless : Bool → List Contribution
+unknown_unless true = []
+unknown_unless false = unknown ∷ []
+
+-- the switch of a shot, if it has one
+abbrev pub shot_switch : Option Written → List Contribution
+shot_switch None = []
+shot_switch (Some w) = mentions Switches w.text ∷ []
+
+-- what acts on the row of this number, or where none is given, on the row that came last
+abbrev pub aim_at : Option ℕ → Act → Aim
+aim_at None act = Do act
+aim_at (Some row) act = On row act
+
+abbrev pub act_at : Place → Option ℕ → Event × Act → List Contribution
+act_at place row h = bound h.0 place (aim_at row h.1)
+
+-- what a shot gives beside its switch: where it has a seat, its events act on the group's row
+abbrev pub seated : Place → Profile → Shot → Option Seat → List Contribution
+seated place p s None = device_contributions place (lone_device p s)
+seated place p s (Some seat) = flat_map (act_at place (Some seat.row)) (shot_acts seat.shot s)
+
+-- a shot with its seat, if it has one; whether its profile is known, and the profile
+unfoldable pub shot_contributions : Place → Shot → Option Seat → Bool → Profile → List Contribution
+shot_contributions place s seat known p = unknown_unless known ++ (shot_switch s.switch ++ seated place p s seat)
+
+-- a group
+unfoldable pub group_contributions : Place → ShotGroup → Members → List Contribution
+group_contributions place g m = unknown_unless m.all_known ++ device_contributions place (group_device g m)
+
 -- ---- rows
 
--- An entry in the section of this name, or the one that the section is; or an entry of a player, whose bindings have this
--- place; or a mode by its name, with what its text says of it.
+-- An entry in the section of this name, or the one that the section is; a shot, with its seat if it has one, whether its
+-- profile is known, and its profile; a group, with what is known of its shots; or an entry of a player, whose bindings have
+-- this place; or a mode by its name, with what its text says of it.
 pub data Row : Type 0 where
   entry : Place → List ℕ → Entry → Row
   alone : Place → List ℕ → Entry → Row
+  shot : Place → Shot → Option Seat → Bool → Profile → Row
+  group : Place → ShotGroup → Members → Row
   player : Place → List ℕ → Player → Row
   of_mode : List ℕ → ModeSettings → Row
 
-abbrev pub rows_from : Place → List ℕ → Content → List Row
-rows_from place name (entries es) = map (entry place name) es
-rows_from place name (players ps) = map (player place name) ps
-rows_from place name (single e) = alone place name e ∷ []
-rows_from place name (listed ws) = []
+-- Here `seat` says of a name which seat the shot of this name has, if it has one.
+module _ (rows : Rows) (place : Place) (seat : List ℕ → Option Seat) where
+  abbrev pub shot_row : Shot → Row
+  shot_row s = shot place s (seat s.name.text) (has_profile rows s.profile.text) (profile_of_name rows s.profile.text)
 
--- the rows of sections, as written
-abbrev pub rows_in : Place → List SectionRows → List Row
-rows_in place sections = flat_map (λ s. rows_from place s.name s.content) sections
+  abbrev pub group_row : ShotGroup → Row
+  group_row g = group place g (members_of rows g)
 
--- a mode, and then the rows of its sections
-abbrev pub mode_rows : ModeRows → List Row
-mode_rows m = of_mode m.name (mode_settings m.sections) ∷ rows_in Mode m.sections
+  -- an entry in the section of this name
+  abbrev pub entry_row : List ℕ → Entry → Row
+  entry_row section e =
+      if bytes_eq section shots_name then shot_row (shot_of e)
+      else (if bytes_eq section shot_groups_name then group_row (shot_group_of e) else entry place section e)
+
+  abbrev pub rows_from : List ℕ → Content → List Row
+  rows_from name (entries es) = map (entry_row name) es
+  rows_from name (players ps) = map (player place name) ps
+  rows_from name (single e) = alone place name e ∷ []
+  rows_from name (listed ws) = []
+
+  -- the rows of sections, as written
+  abbrev pub rows_in : List SectionRows → List Row
+  rows_in sections = flat_map (λ s. rows_from s.name s.content) sections
+
+-- the rows of a text, where so many rows of devices come before it
+abbrev pub text_rows : Rows → Place → ℕ → List SectionRows → List Row
+text_rows rows place n sections = rows_in rows place (seat_of place n sections) sections
+
+-- a mode, and then the rows of its text
+abbrev pub mode_rows : Rows → ℕ → ModeRows → List Row
+mode_rows rows n m = of_mode m.name (mode_settings m.sections) ∷ text_rows rows Mode n m.sections
+
+-- these modes, one after the other
+abbrev pub modes_rows : Rows → ℕ → List ModeRows → List Row
+modes_rows rows n [] = []
+modes_rows rows n (m ∷ ms) = mode_rows rows n m ++ modes_rows rows (rows_after_text Mode n m.sections) ms
 
 -- the rows of the machine, and then those of one mode after the other
 abbrev pub rows_of : Rows → List Row
-rows_of rows = rows_in Machine rows.machine ++ flat_map mode_rows rows.modes
+rows_of rows = text_rows rows Machine 0 rows.machine ++ modes_rows rows (rows_after_text Machine 0 rows.machine) rows.modes
 
 -- the device of an entry of the machine text, whatever its kind
 abbrev pub machine_device : List SectionRows → List ℕ → Entry → Option Device
@@ -282,6 +340,8 @@ player_entry_contributions machine place section p =
 abbrev pub row_contributions : List SectionRows → Row → List Contribution
 row_contributions machine (entry place section e) = entry_contributions machine place section e
 row_contributions machine (alone place section e) = alone_contributions machine place section e
+row_contributions machine (shot place s seat known p) = shot_contributions place s seat known p
+row_contributions machine (group place g m) = group_contributions place g m
 row_contributions machine (player place section p) = player_entry_contributions machine place section p
 row_contributions machine (of_mode name s) = mode_contributions name s
 

@@ -48,6 +48,10 @@ pub record Device : Type 0 where
   pub mentioned : List (List ℕ)
   pub lists : List (List Effect)
 
+-- an event of this name, which is handled always
+abbrev pub always : List ℕ → Event
+always name = record { name = name; condition = None }
+
 -- each of the events does this
 abbrev pub acts : Act → List Handled → List (Event × Act)
 acts act hs = map (λ h. (h.event, act)) hs

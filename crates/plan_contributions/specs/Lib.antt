@@ -1,5 +1,6 @@
 pub mod DeviceEntries
 pub mod CoilEntries
+pub mod ShotEntries
 pub mod VariableEntries
 pub mod Contributions
 pub mod UsedNames

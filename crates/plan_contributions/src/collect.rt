@@ -1,133 +1,29 @@
-//! What the rows of a configuration give to a plan, by names and in plan order.
+//! What a row of a configuration gives to a plan, by names.
 
-ghost use Rattle.std.specs.Prelude.{◌≡◌, ◌++◌, map, IfOk, OnOk, codes};
-ghost use Rattle.mpf_sections.specs.View.{switch_view as switch_row_view, event_player_view, mode_settings_view, section_view, entry_view, player_view, name_view};
-ghost use Rattle.mpf_config.specs.View.{mode_view, rows_view};
-ghost use Rattle.plan_contributions.specs.Contributions.{active, inactive, does, posts, texts, contact_of, is_quick, kind_of, tag_event, active_posts, inactive_posts, switch_contributions, player_contributions, stopper_where, later_events, controls, mode_contributions, rows_in, rows_from, mode_rows, rows_of, entry, alone, player, machine_entry_contributions, entry_contributions, alone_contributions, player_entry_contributions, row_contributions};
-ghost use Rattle.plan_contributions.specs.View.{contributions_view, row_view, row_list_view};
+ghost use Rattle.std.specs.Prelude.{◌≡◌, ◌++◌, map, OnOk};
+ghost use Rattle.mpf_sections.specs.View.{switch_view as switch_row_view, event_player_view, mode_settings_view, entry_view, player_view, name_view};
+ghost use Rattle.plan_contributions.specs.Contributions.{active, inactive, does, posts, texts, contact_of, is_quick, kind_of, tag_event, active_posts, inactive_posts, switch_contributions, player_contributions, stopper_where, later_events, controls, mode_contributions, machine_entry_contributions, entry_contributions, alone_contributions, player_entry_contributions, row_contributions};
+ghost use Rattle.plan_contributions.specs.View.{contributions_view, row_view};
 
 use crate::collect_bound::{collect_bound, collect_each};
 use crate::collect_coils::{collect_autofire, collect_coil, collect_coil_player, collect_flipper};
 use crate::collect_devices::collect_device;
 use crate::collect_game::collect_game;
+use crate::collect_shots::{collect_group, collect_shot};
 use crate::collect_variables::collect_variable_player;
 use crate::contribution::{Aim, Contribution, Effect, Place, joined, whole};
+use crate::rows::Row;
 use machine_definitions::Definitions;
 use mpf_config::config::Contact as WrittenContact;
 use mpf_config::{
-    AUTOFIRE_COILS_NAME, COIL_PLAYER_NAME, COILS_NAME, Config, Content, Debounce,
-    EVENT_PLAYER_NAME, Entry, EventPlayer, FLIPPERS_NAME, GAME_NAME, ModeSettings, ModeText, Name,
-    Player, SWITCHES_NAME, Section, Switch, VARIABLE_PLAYER_NAME, as_autofire, as_coil,
-    as_coil_player, as_event_player, as_flipper, as_game, as_switch, as_variable_player,
-    mode_settings,
+    AUTOFIRE_COILS_NAME, COIL_PLAYER_NAME, COILS_NAME, Debounce, EVENT_PLAYER_NAME, Entry,
+    EventPlayer, FLIPPERS_NAME, GAME_NAME, ModeSettings, Name, Player, SWITCHES_NAME, Switch,
+    VARIABLE_PLAYER_NAME, as_autofire, as_coil, as_coil_player, as_event_player, as_flipper,
+    as_game, as_shot, as_shot_group, as_switch, as_variable_player,
 };
 use plan_tables::entries::{Contact, ModeEvent, SwitchKind};
 use plan_tables::table::Table;
-use std::alloc::{AllocError, Global};
-
-/// A row of a text.
-#[derive(Clone, Copy)]
-pub enum Row<'a> {
-    /// An entry in the section of this name, whose bindings have this place.
-    Entry(Place, &'a [u8], &'a Entry),
-    /// The one entry that the section of this name is, in a text of this place.
-    Alone(Place, &'a [u8], &'a Entry),
-    /// An entry of a player in the section of this name, whose bindings have this place.
-    Player(Place, &'a [u8], &'a Player),
-    /// A mode by its name, with what its text says of it.
-    Mode(&'a [u8], ModeSettings<'a>),
-}
-
-// ---- rows
-
-/// The rows of the machine text, and then those of one mode after the other, in the order of the
-/// modes. The rows of a text come as its sections and entries are written; a mode itself comes
-/// before the rows of its text.
-///
-/// # Errors
-///
-/// Memory ran out.
-pub fn rows_of<'a>(alloc: Global, config: &'a Config) -> Result<Vec<Row<'a>>, AllocError>
-    ensures { IfOk result (λ rows. row_list_view rows.items ≡ rows_of (rows_view config.now)) }
-{
-    let mut rows: Vec<Row<'a>> = Vec::new(alloc);
-    let sections: &'a [Section] = config.machine.sections.as_slice();
-    let modes: &'a [ModeText] = config.modes.as_slice();
-    add_sections(&mut rows, Place::Machine, sections)?;
-    for mode in modes {
-        add_mode(&mut rows, mode)?;
-    }
-    Ok(rows)
-}
-
-/// A mode, and then the rows of its sections.
-fn add_mode<'a>(rows: &mut Vec<Row<'a>>, mode: &'a ModeText) -> Result<(), AllocError>
-    ensures { OnOk result (row_list_view rows.new.items ≡ row_list_view rows.old.items ++ mode_rows (mode_view mode.now)) }
-{
-    let sections = mode.sections.as_slice();
-    rows.push(Row::Mode(&mode.name, mode_settings(sections)))?;
-    add_sections(rows, Place::Mode, sections)
-}
-
-/// The rows of sections, as written.
-fn add_sections<'a>(
-    rows: &mut Vec<Row<'a>>,
-    place: Place,
-    sections: &'a [Section],
-) -> Result<(), AllocError>
-    ensures { OnOk result (row_list_view rows.new.items ≡ row_list_view rows.old.items ++ rows_in place (map section_view sections.now)) }
-{
-    for section in sections {
-        add_rows(rows, place, section)?;
-    }
-    Ok(())
-}
-
-fn add_rows<'a>(
-    rows: &mut Vec<Row<'a>>,
-    place: Place,
-    section: &'a Section,
-) -> Result<(), AllocError>
-    ensures { OnOk result (row_list_view rows.new.items ≡ row_list_view rows.old.items ++ rows_from place (section_view section.now).name (section_view section.now).content) }
-{
-    match &section.content {
-        Content::Entries(entries) => add_entries(rows, place, &section.name, entries),
-        Content::Players(players) => add_players(rows, place, &section.name, players),
-        Content::Entry(entry) => {
-            rows.push(Row::Alone(place, &section.name, entry))?;
-            Ok(())
-        }
-        Content::Names(_) => Ok(()),
-    }
-}
-
-fn add_entries<'a>(
-    rows: &mut Vec<Row<'a>>,
-    place: Place,
-    section: &'a [u8],
-    entries: &'a [Entry],
-) -> Result<(), AllocError>
-    ensures { OnOk result (row_list_view rows.new.items ≡ row_list_view rows.old.items ++ map (entry place section.now) (map entry_view entries.now)) }
-{
-    for entry in entries {
-        rows.push(Row::Entry(place, section, entry))?;
-    }
-    Ok(())
-}
-
-fn add_players<'a>(
-    rows: &mut Vec<Row<'a>>,
-    place: Place,
-    section: &'a [u8],
-    players: &'a [Player],
-) -> Result<(), AllocError>
-    ensures { OnOk result (row_list_view rows.new.items ≡ row_list_view rows.old.items ++ map (player place section.now) (map player_view players.now)) }
-{
-    for player in players {
-        rows.push(Row::Player(place, section, player))?;
-    }
-    Ok(())
-}
+use std::alloc::AllocError;
 
 // ---- contributions
 
@@ -142,7 +38,7 @@ pub fn collect_row<'a>(
     definitions: &Definitions<'_>,
     row: Row<'a>,
 ) -> Result<(), AllocError>
-    ensures { OnOk result (contributions_view contributions.new.items ≡ row_contributions definitions.now (row_view row.entry)) }
+    ensures { OnOk result (contributions_view contributions.new.items ≡ row_contributions definitions.now.machine (row_view row.entry)) }
 {
     contributions.clear();
     match row {
@@ -151,6 +47,12 @@ pub fn collect_row<'a>(
         }
         Row::Alone(place, section, entry) => {
             collect_alone(contributions, definitions, place, section, entry)
+        }
+        Row::Shot(place, entry, seat, known, profile) => {
+            collect_shot(contributions, place, as_shot(entry), seat, known, profile)
+        }
+        Row::Group(place, entry, members) => {
+            collect_group(contributions, place, as_shot_group(entry), members)
         }
         Row::Player(place, section, player) => {
             collect_player(contributions, definitions, place, section, player)
@@ -169,7 +71,7 @@ fn collect_entry<'a>(
     section: &[u8],
     entry: &'a Entry,
 ) -> Result<(), AllocError>
-    ensures { OnOk result (contributions_view contributions.new.items ≡ contributions_view contributions.old.items ++ entry_contributions definitions.now place section.now (entry_view entry.now)) }
+    ensures { OnOk result (contributions_view contributions.new.items ≡ contributions_view contributions.old.items ++ entry_contributions definitions.now.machine place section.now (entry_view entry.now)) }
 {
     match place {
         Place::Machine => collect_machine_entry(contributions, definitions, section, entry),
@@ -185,7 +87,7 @@ fn collect_machine_entry<'a>(
     section: &[u8],
     entry: &'a Entry,
 ) -> Result<(), AllocError>
-    ensures { OnOk result (contributions_view contributions.new.items ≡ contributions_view contributions.old.items ++ machine_entry_contributions definitions.now section.now (entry_view entry.now)) }
+    ensures { OnOk result (contributions_view contributions.new.items ≡ contributions_view contributions.old.items ++ machine_entry_contributions definitions.now.machine section.now (entry_view entry.now)) }
 {
     if section == COILS_NAME {
         return collect_coil(contributions, as_coil(entry));
@@ -212,7 +114,7 @@ fn collect_alone(
     section: &[u8],
     entry: &Entry,
 ) -> Result<(), AllocError>
-    ensures { OnOk result (contributions_view contributions.new.items ≡ contributions_view contributions.old.items ++ alone_contributions definitions.now place section.now (entry_view entry.now)) }
+    ensures { OnOk result (contributions_view contributions.new.items ≡ contributions_view contributions.old.items ++ alone_contributions definitions.now.machine place section.now (entry_view entry.now)) }
 {
     match place {
         Place::Machine if section == GAME_NAME => {
@@ -231,7 +133,7 @@ fn collect_player<'a>(
     section: &[u8],
     player: &'a Player,
 ) -> Result<(), AllocError>
-    ensures { OnOk result (contributions_view contributions.new.items ≡ contributions_view contributions.old.items ++ player_entry_contributions definitions.now place section.now (player_view player.now)) }
+    ensures { OnOk result (contributions_view contributions.new.items ≡ contributions_view contributions.old.items ++ player_entry_contributions definitions.now.machine place section.now (player_view player.now)) }
 {
     if section == EVENT_PLAYER_NAME {
         return collect_event_player(contributions, place, as_event_player(player));
@@ -253,7 +155,7 @@ fn collect_switch<'a>(
     definitions: &Definitions<'_>,
     row: Switch<'a>,
 ) -> Result<(), AllocError>
-    ensures { OnOk result (contributions_view contributions.new.items ≡ contributions_view contributions.old.items ++ switch_contributions definitions.now (switch_row_view row.entry)) }
+    ensures { OnOk result (contributions_view contributions.new.items ≡ contributions_view contributions.old.items ++ switch_contributions definitions.now.machine (switch_row_view row.entry)) }
 {
     contributions.push(Contribution::Gives(Table::Switches, &row.name.text))?;
     contributions.push(Contribution::Reads(kind_of(definitions, row)))?;
@@ -264,7 +166,7 @@ fn collect_switch<'a>(
 
 /// How the switch of a row is read.
 fn kind_of(definitions: &Definitions<'_>, row: Switch<'_>) -> SwitchKind
-    ensures { result ≡ kind_of definitions.now (switch_row_view row.entry) }
+    ensures { result ≡ kind_of definitions.now.machine (switch_row_view row.entry) }
 {
     SwitchKind {
         contact: contact_of(row.contact),
@@ -284,7 +186,7 @@ fn contact_of(contact: WrittenContact) -> Contact
 
 /// Whether a raw level of the switch of this name is accepted at once.
 fn is_quick(definitions: &Definitions<'_>, name: &[u8], debounce: Debounce) -> bool
-    ensures { result ≡ is_quick definitions.now name.now debounce }
+    ensures { result ≡ is_quick definitions.now.machine name.now debounce }
 {
     match debounce {
         Debounce::Auto => definitions.makes_quick(name),

@@ -59,7 +59,7 @@ pub(crate) struct Defaults {
 }
 
 fn defaults_of(definitions: &Definitions<'_>, name: &[u8]) -> Defaults
-    ensures { defaults_view result ≡ defaults_called definitions.now name.now }
+    ensures { defaults_view result ≡ defaults_called definitions.now.machine name.now }
 {
     match definitions.coil(name) {
         Some(coil) => Defaults {
@@ -101,7 +101,7 @@ pub(crate) fn collect_coil_player<'a>(
     place: Place,
     row: CoilPlayer<'a>,
 ) -> Result<(), AllocError>
-    ensures { OnOk result (contributions_view contributions.new.items ≡ contributions_view contributions.old.items ++ coil_player_contributions definitions.now place (coil_player_view row.entry)) }
+    ensures { OnOk result (contributions_view contributions.new.items ≡ contributions_view contributions.old.items ++ coil_player_contributions definitions.now.machine place (coil_player_view row.entry)) }
 {
     collect_bound(contributions, row.event, place, Aim::Run)?;
     collect_items(contributions, definitions, row.items)
@@ -113,7 +113,7 @@ fn collect_items<'a>(
     definitions: &Definitions<'_>,
     items: &'a [Keyed],
 ) -> Result<(), AllocError>
-    ensures { OnOk result (contributions_view contributions.new.items ≡ contributions_view contributions.old.items ++ map (λ item. does (item_effect definitions.now item)) (map coil_item_of (map keyed_view items.now))) }
+    ensures { OnOk result (contributions_view contributions.new.items ≡ contributions_view contributions.old.items ++ map (λ item. does (item_effect definitions.now.machine item)) (map coil_item_of (map keyed_view items.now))) }
 {
     for keyed in items {
         let item = as_coil_item(keyed);
@@ -149,7 +149,7 @@ pub(crate) fn collect_flipper<'a>(
     definitions: &Definitions<'_>,
     row: Flipper<'a>,
 ) -> Result<(), AllocError>
-    ensures { OnOk result (contributions_view contributions.new.items ≡ contributions_view contributions.old.items ++ device_contributions Machine (flipper_device definitions.now (flipper_view row.entry))) }
+    ensures { OnOk result (contributions_view contributions.new.items ≡ contributions_view contributions.old.items ++ device_contributions Machine (flipper_device definitions.now.machine (flipper_view row.entry))) }
 {
     contributions.push(Contribution::Device(Place::Machine, Settings::Flipper))?;
     contributions.push(Contribution::Listens(0, row.switch.text))?;
@@ -168,7 +168,7 @@ fn collect_two_coils<'a>(
     main: NameAt<'a>,
     hold: NameAt<'a>,
 ) -> Result<(), AllocError>
-    ensures { OnOk result (contributions_view contributions.new.items ≡ contributions_view contributions.old.items ++ effects_from 0 (flipper_on definitions.now (name_at_view main.entry) (Some (name_at_view hold.entry)) ∷ flipper_off definitions.now (name_at_view main.entry) (Some (name_at_view hold.entry)) ∷ [])) }
+    ensures { OnOk result (contributions_view contributions.new.items ≡ contributions_view contributions.old.items ++ effects_from 0 (flipper_on definitions.now.machine (name_at_view main.entry) (Some (name_at_view hold.entry)) ∷ flipper_off definitions.now.machine (name_at_view main.entry) (Some (name_at_view hold.entry)) ∷ [])) }
 {
     let pulse = own_pulse(defaults_of(definitions, main.text));
     let enable = own_hold(defaults_of(definitions, hold.text));
@@ -184,7 +184,7 @@ fn collect_main_coil<'a>(
     definitions: &Definitions<'_>,
     main: NameAt<'a>,
 ) -> Result<(), AllocError>
-    ensures { OnOk result (contributions_view contributions.new.items ≡ contributions_view contributions.old.items ++ effects_from 0 (flipper_on definitions.now (name_at_view main.entry) None ∷ flipper_off definitions.now (name_at_view main.entry) None ∷ [])) }
+    ensures { OnOk result (contributions_view contributions.new.items ≡ contributions_view contributions.old.items ++ effects_from 0 (flipper_on definitions.now.machine (name_at_view main.entry) None ∷ flipper_off definitions.now.machine (name_at_view main.entry) None ∷ [])) }
 {
     let coil = defaults_of(definitions, main.text);
     if !coil.may_hold {
@@ -203,7 +203,7 @@ pub(crate) fn collect_autofire<'a>(
     definitions: &Definitions<'_>,
     row: Autofire<'a>,
 ) -> Result<(), AllocError>
-    ensures { OnOk result (contributions_view contributions.new.items ≡ contributions_view contributions.old.items ++ device_contributions Machine (autofire_device definitions.now (autofire_view row.entry))) }
+    ensures { OnOk result (contributions_view contributions.new.items ≡ contributions_view contributions.old.items ++ device_contributions Machine (autofire_device definitions.now.machine (autofire_view row.entry))) }
 {
     let pulse = own_pulse(defaults_of(definitions, row.coil.text));
     contributions.push(Contribution::Device(Place::Machine, Settings::Autofire))?;

@@ -83,7 +83,7 @@ pub(crate) fn collect_acts<'a>(
 
 // ---- logic blocks
 
-fn is_none<T>(items: &[T]) -> bool
+pub(crate) fn is_none<T>(items: &[T]) -> bool
     ensures { result ≡ is_none items.now }
 {
     match items {

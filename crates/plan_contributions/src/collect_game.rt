@@ -19,7 +19,7 @@ pub(crate) fn collect_game(
     definitions: &Definitions<'_>,
     row: GameSettings,
 ) -> Result<(), AllocError>
-    ensures { OnOk result (contributions_view contributions.new.items ≡ contributions_view contributions.old.items ++ game_contributions definitions.now (game_view row)) }
+    ensures { OnOk result (contributions_view contributions.new.items ≡ contributions_view contributions.old.items ++ game_contributions definitions.now.machine (game_view row)) }
 {
     collect_events(contributions, &GAME_EVENT_NAMES)?;
     contributions.push(Contribution::Plays {

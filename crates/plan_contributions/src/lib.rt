@@ -11,12 +11,19 @@ mod collect_bound;
 mod collect_coils;
 mod collect_devices;
 mod collect_game;
+mod collect_shots;
 mod collect_variables;
 pub mod contribution;
+pub mod members;
+pub mod rows;
+pub mod seats;
 
-pub use collect::{Row, collect_row, rows_of};
+pub use collect::collect_row;
 pub use collect_devices::direction_in_plan;
 pub use contribution::{
     Aim, Contribution, Deed, Effect, Parts, Place, given, joined, mode_event_name, player_event,
     used, whole, write_name,
 };
+pub use members::Members;
+pub use rows::{Row, rows_of};
+pub use seats::Seat;

@@ -2,6 +2,7 @@ pub mod FaultView
 pub mod FaultText
 pub mod Reserved
 pub mod CoilFaults
+pub mod ShotFaults
 pub mod VariableFaults
 pub mod RowFaults
 pub mod Sound

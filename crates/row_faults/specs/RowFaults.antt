@@ -15,12 +15,14 @@ use Rattle.row_faults.specs.FaultText.{row_fault_number, row_fault_line}
 use Rattle.row_faults.specs.Reserved.{events_of_modes, mode_names, posts_in, reserved_among}
 use Rattle.row_faults.specs.VariableFaults.{variable_faults}
 use Rattle.row_faults.specs.CoilFaults.{fault_at, coil_faults, coil_player_faults, flipper_faults, autofire_faults}
+use Rattle.row_faults.specs.ShotFaults.{shot_faults, listed_of, is_own_shot, taken_after, misplaced}
+use Rattle.mpf_sections.specs.TypedShots.{shots_in}
 
 -- ---- one section
 
--- a reserved event is posted
-abbrev pub reserved_fault : List ℕ → Written → RowFaultView
-reserved_fault text w = fault_at Name text w
+-- what is wrong with this name
+abbrev pub name_fault : List ℕ → Written → RowFaultView
+name_fault text w = fault_at Name text w
 
 -- whether a value has reached or passed its end, if it has one
 abbrev pub has_reached : Direction → Option ℤ → ℤ → Bool
@@ -43,13 +45,15 @@ coil_faults_in machine text s =
     ++ flat_map (flipper_faults machine text) (flippers_in s)
     ++ flat_map (autofire_faults machine text) (autofires_in s)
 
--- The faults of a section of a text, as written: its posts of reserved events, those of what it says of variables and of
--- coils, and its timers that start at their end. A section is of one kind, so at most one of these lists has any.
-abbrev pub section_faults : List (List ℕ) → List SectionRows → List ℕ → SectionRows → List RowFaultView
-section_faults modes machine text s =
-    map (reserved_fault text) (reserved_among modes (posts_in s))
+-- The faults of a section of a text, as written: its posts of reserved events, those of what it says of variables, of
+-- coils and of shots, and its timers that start at their end. A section is of one kind, so at most one of these lists has
+-- any.
+abbrev pub section_faults : List (List ℕ) → Rows → List ℕ → SectionRows → List RowFaultView
+section_faults modes rows text s =
+    map (name_fault text) (reserved_among modes (posts_in s))
     ++ variable_faults modes text s
-    ++ coil_faults_in machine text s
+    ++ coil_faults_in rows.machine text s
+    ++ flat_map (shot_faults rows text) (shots_in s)
     ++ map (timer_fault text) (filter starts_at_end (timers_in s))
 
 -- ---- by line
@@ -71,16 +75,33 @@ fault_line f = f.line
 abbrev pub fault_number : RowFaultView → ℕ
 fault_number f = row_fault_number f.kind
 
--- the faults of a text, by line, on one line by number, and those of one line and number as written
-abbrev pub text_faults : List (List ℕ) → List SectionRows → List ℕ → List SectionRows → List RowFaultView
-text_faults modes machine text sections = ordered_by fault_line (ordered_by fault_number (flat_map (section_faults modes machine text) sections))
+-- the faults of a text as written, where groups of texts before it list these shots: of its sections, and of its groups
+abbrev pub written_faults : List (List ℕ) → Rows → (List ℕ → Bool) → List ℕ → List SectionRows → List RowFaultView
+written_faults modes rows is_taken text sections =
+    flat_map (section_faults modes rows text) sections
+    ++ map (name_fault text) (misplaced rows (is_own_shot sections) is_taken (listed_of rows sections))
 
-abbrev pub mode_faults : List (List ℕ) → List SectionRows → ModeRows → List RowFaultView
-mode_faults modes machine m = text_faults modes machine (mode_text_name m.name) m.sections
+-- the same by line, on one line by number, and those of one line and number as written
+abbrev pub text_faults : List (List ℕ) → Rows → (List ℕ → Bool) → List ℕ → List SectionRows → List RowFaultView
+text_faults modes rows is_taken text sections =
+    ordered_by fault_line (ordered_by fault_number (written_faults modes rows is_taken text sections))
+
+-- the faults of the texts of these modes, in their order
+abbrev pub mode_faults : List (List ℕ) → Rows → (List ℕ → Bool) → List ModeRows → List RowFaultView
+mode_faults modes rows is_taken [] = []
+mode_faults modes rows is_taken (m ∷ ms) =
+    text_faults modes rows is_taken (mode_text_name m.name) m.sections
+    ++ mode_faults modes rows (taken_after is_taken (listed_of rows m.sections)) ms
+
+-- no name is listed before the machine text
+abbrev pub is_none_taken : List ℕ → Bool
+is_none_taken name = false
 
 -- the faults of all texts: the machine text, then the modes' in their order
 abbrev pub faults_by : List (List ℕ) → Rows → List RowFaultView
-faults_by modes rows = text_faults modes rows.machine machine_name rows.machine ++ flat_map (mode_faults modes rows.machine) rows.modes
+faults_by modes rows =
+    text_faults modes rows is_none_taken machine_name rows.machine
+    ++ mode_faults modes rows (taken_after is_none_taken (listed_of rows rows.machine)) rows.modes
 
 -- ---- once each
 

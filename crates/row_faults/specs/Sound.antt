@@ -1,13 +1,15 @@
--- What holds of rows without faults: nothing that they say of a coil goes past its limits, and the coils and switches
--- of which they speak are defined. Here `machine` is the sections of the machine text.
-use Rattle.std.specs.Prelude.{◌≡◌, ℕ, ◌≤◌, true, false, Some, IfSome, List, unwrap_or}
+-- What holds of rows without faults: nothing that they say of a coil goes past its limits, and the coils, switches, shots
+-- and profiles of which they speak are defined. Here `machine` is the sections of the machine text.
+use Rattle.std.specs.Prelude.{◌≡◌, ℕ, ◌≤◌, true, false, Some, IfSome, IsSome, List, unwrap_or}
 use Rattle.std.specs.List.{All}
 use Rattle.mpf_sections.specs.declared.words.CoilAction.{CoilAction}
 use Rattle.mpf_sections.specs.declared.words.CoilAction.TheVariants.{Pulse, Enable, Disable}
-use Rattle.mpf_sections.specs.Rows.{Coil, CoilItem, CoilPlayer, Flipper, Autofire, VariableItem, SectionRows}
+use Rattle.mpf_sections.specs.Rows.{Coil, CoilItem, CoilPlayer, Flipper, Autofire, VariableItem, Shot, ShotGroup, SectionRows}
 use Rattle.mpf_sections.specs.TypedCoils.{coils_in, coil_players_in, flippers_in, autofires_in}
 use Rattle.mpf_config.specs.Rows.{Rows}
 use Rattle.machine_definitions.specs.Definitions.{coil_called, has_switch}
+use Rattle.machine_definitions.specs.Shots.{shot_called, has_profile}
+use Rattle.mpf_sections.specs.TypedShots.{shots_in, shot_groups_in}
 use Rattle.row_faults.specs.Reserved.{events_of_modes, is_reserved, mode_names, posts_of}
 use Rattle.mpf_sections.specs.TypedGame.{variable_players_in}
 use Rattle.row_faults.specs.VariableFaults.{is_barred}
@@ -61,11 +63,22 @@ pub record IsAutofireSound (machine : List SectionRows) (a : Autofire) : Type 0 
   pub coil : IsCoilSuch machine a.coil.text IsCoilSound
   pub switch : has_switch machine a.switch.text ≡ true
 
-pub record IsSectionSound (machine : List SectionRows) (s : SectionRows) : Type 0 where
+-- the switch of a shot is defined, if it has one, and so is its profile
+pub record IsShotSound (rows : Rows) (s : Shot) : Type 0 where
+  pub switch : IfSome s.switch (λ w. has_switch rows.machine w.text ≡ true)
+  pub profile : has_profile rows s.profile.text ≡ true
+
+-- each shot that a group lists is defined
+abbrev pub IsShotGroupSound : Rows → ShotGroup → Type 0
+IsShotGroupSound rows g = All (λ w. IsSome (shot_called rows w.text)) g.shots
+
+pub record IsSectionSound (rows : Rows) (s : SectionRows) : Type 0 where
   pub coils : All IsCoilSound (coils_in s)
-  pub coil_players : All (IsCoilPlayerSound machine) (coil_players_in s)
-  pub flippers : All (IsFlipperSound machine) (flippers_in s)
-  pub autofires : All (IsAutofireSound machine) (autofires_in s)
+  pub coil_players : All (IsCoilPlayerSound rows.machine) (coil_players_in s)
+  pub flippers : All (IsFlipperSound rows.machine) (flippers_in s)
+  pub autofires : All (IsAutofireSound rows.machine) (autofires_in s)
+  pub shots : All (IsShotSound rows) (shots_in s)
+  pub groups : All (IsShotGroupSound rows) (shot_groups_in s)
 
 -- ---- all texts
 
@@ -85,5 +98,5 @@ pub record IsSound (rows : Rows) : Type 0 where
   pub posts : PostNothingReserved rows
   pub changes : All (ChangesNothingBarred rows) rows.machine
   pub mode_changes : All (λ m. All (ChangesNothingBarred rows) m.sections) rows.modes
-  pub machine : All (IsSectionSound rows.machine) rows.machine
-  pub modes : All (λ m. All (IsSectionSound rows.machine) m.sections) rows.modes
+  pub machine : All (IsSectionSound rows) rows.machine
+  pub modes : All (λ m. All (IsSectionSound rows) m.sections) rows.modes

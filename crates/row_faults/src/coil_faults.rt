@@ -25,7 +25,7 @@ pub(crate) fn add_coil_faults(
     text: &[u8],
     section: &Section,
 ) -> Result<(), AllocError>
-    ensures { OnOk result (row_faults_view faults.new.items ≡ row_faults_view faults.old.items ++ coil_faults_in definitions.now text.now (section_view section.now)) }
+    ensures { OnOk result (row_faults_view faults.new.items ≡ row_faults_view faults.old.items ++ coil_faults_in definitions.now.machine text.now (section_view section.now)) }
 {
     add_coils(alloc, faults, text, section.coils())?;
     add_coil_players(alloc, faults, definitions, text, section.coil_players())?;
@@ -43,21 +43,21 @@ fn add_coil_name(
     text: &[u8],
     name: NameAt<'_>,
 ) -> Result<(), AllocError>
-    ensures { OnOk result (row_faults_view faults.new.items ≡ row_faults_view faults.old.items ++ coil_name_faults definitions.now text.now (name_at_view name.entry)) }
+    ensures { OnOk result (row_faults_view faults.new.items ≡ row_faults_view faults.old.items ++ coil_name_faults definitions.now.machine text.now (name_at_view name.entry)) }
 {
     let unknown = definitions.coil(name.text).is_none();
     add_if(alloc, faults, unknown, RowFaultKind::Name, text, name)
 }
 
 /// Adds a fault where no entry defines a switch of this name.
-fn add_switch_name(
+pub(crate) fn add_switch_name(
     alloc: Global,
     faults: &mut Vec<RowFault>,
     definitions: &Definitions<'_>,
     text: &[u8],
     name: NameAt<'_>,
 ) -> Result<(), AllocError>
-    ensures { OnOk result (row_faults_view faults.new.items ≡ row_faults_view faults.old.items ++ switch_name_faults definitions.now text.now (name_at_view name.entry)) }
+    ensures { OnOk result (row_faults_view faults.new.items ≡ row_faults_view faults.old.items ++ switch_name_faults definitions.now.machine text.now (name_at_view name.entry)) }
 {
     let unknown = !definitions.has_switch(name.text);
     add_if(alloc, faults, unknown, RowFaultKind::Name, text, name)
@@ -113,7 +113,7 @@ fn add_coil_players(
     text: &[u8],
     players: &[Player],
 ) -> Result<(), AllocError>
-    ensures { OnOk result (row_faults_view faults.new.items ≡ row_faults_view faults.old.items ++ flat_map (coil_player_faults definitions.now text.now) (map coil_player_of (map player_view players.now))) }
+    ensures { OnOk result (row_faults_view faults.new.items ≡ row_faults_view faults.old.items ++ flat_map (coil_player_faults definitions.now.machine text.now) (map coil_player_of (map player_view players.now))) }
 {
     for player in players {
         add_items(
@@ -135,7 +135,7 @@ fn add_items(
     text: &[u8],
     items: &[Keyed],
 ) -> Result<(), AllocError>
-    ensures { OnOk result (row_faults_view faults.new.items ≡ row_faults_view faults.old.items ++ flat_map (item_faults definitions.now text.now) (map coil_item_of (map keyed_view items.now))) }
+    ensures { OnOk result (row_faults_view faults.new.items ≡ row_faults_view faults.old.items ++ flat_map (item_faults definitions.now.machine text.now) (map coil_item_of (map keyed_view items.now))) }
 {
     for item in items {
         add_item(alloc, faults, definitions, text, as_coil_item(item))?;
@@ -151,7 +151,7 @@ fn add_item(
     text: &[u8],
     item: CoilItem<'_>,
 ) -> Result<(), AllocError>
-    ensures { OnOk result (row_faults_view faults.new.items ≡ row_faults_view faults.old.items ++ item_faults definitions.now text.now (coil_item_view item.entry)) }
+    ensures { OnOk result (row_faults_view faults.new.items ≡ row_faults_view faults.old.items ++ item_faults definitions.now.machine text.now (coil_item_view item.entry)) }
 {
     match definitions.coil(&item.coil.text) {
         Some(coil) => add_limits(alloc, faults, text, item, coil),
@@ -237,7 +237,7 @@ fn add_flippers(
     text: &[u8],
     entries: &[Entry],
 ) -> Result<(), AllocError>
-    ensures { OnOk result (row_faults_view faults.new.items ≡ row_faults_view faults.old.items ++ flat_map (flipper_faults definitions.now text.now) (map flipper_of (map entry_view entries.now))) }
+    ensures { OnOk result (row_faults_view faults.new.items ≡ row_faults_view faults.old.items ++ flat_map (flipper_faults definitions.now.machine text.now) (map flipper_of (map entry_view entries.now))) }
 {
     for entry in entries {
         add_flipper(alloc, faults, definitions, text, as_flipper(entry))?;
@@ -253,7 +253,7 @@ fn add_flipper(
     text: &[u8],
     flipper: Flipper<'_>,
 ) -> Result<(), AllocError>
-    ensures { OnOk result (row_faults_view faults.new.items ≡ row_faults_view faults.old.items ++ flipper_faults definitions.now text.now (flipper_view flipper.entry)) }
+    ensures { OnOk result (row_faults_view faults.new.items ≡ row_faults_view faults.old.items ++ flipper_faults definitions.now.machine text.now (flipper_view flipper.entry)) }
 {
     add_coil_name(alloc, faults, definitions, text, flipper.main_coil)?;
     add_hold_coil(alloc, faults, definitions, text, flipper)?;
@@ -268,7 +268,7 @@ fn add_hold_coil(
     text: &[u8],
     flipper: Flipper<'_>,
 ) -> Result<(), AllocError>
-    ensures { OnOk result (row_faults_view faults.new.items ≡ row_faults_view faults.old.items ++ hold_faults definitions.now text.now (flipper_view flipper.entry) (flipper_view flipper.entry).hold_coil) }
+    ensures { OnOk result (row_faults_view faults.new.items ≡ row_faults_view faults.old.items ++ hold_faults definitions.now.machine text.now (flipper_view flipper.entry) (flipper_view flipper.entry).hold_coil) }
 {
     match flipper.hold_coil {
         Some(hold) => add_hold(
@@ -322,7 +322,7 @@ fn add_autofires(
     text: &[u8],
     entries: &[Entry],
 ) -> Result<(), AllocError>
-    ensures { OnOk result (row_faults_view faults.new.items ≡ row_faults_view faults.old.items ++ flat_map (autofire_faults definitions.now text.now) (map autofire_of (map entry_view entries.now))) }
+    ensures { OnOk result (row_faults_view faults.new.items ≡ row_faults_view faults.old.items ++ flat_map (autofire_faults definitions.now.machine text.now) (map autofire_of (map entry_view entries.now))) }
 {
     for entry in entries {
         let autofire = as_autofire(entry);

@@ -8,7 +8,9 @@ ghost use Rattle.row_faults.specs.FaultText.{row_fault_number, row_fault_name};
 pub enum RowFaultKind {
     /// A reserved event is posted: one of a game, or of a mode that the machine text lists. Or a
     /// variable is changed that the game alone sets, or whose change posts a reserved event. Or no
-    /// entry defines the coil or the switch of this name.
+    /// entry defines the coil, the switch or the profile of this name. Or a group lists a shot that
+    /// its own text does not define, that a group lists before, or that has another profile than the
+    /// first one of the group.
     Name,
     /// A pulse is longer than the longest one of its coil.
     PulseLimit,

@@ -10,6 +10,7 @@ pub mod fault_text;
 mod once;
 mod reserved;
 pub mod rows;
+mod shot_faults;
 mod variable_faults;
 
 pub use fault::{RowFault, RowFaultKind};

@@ -5,8 +5,10 @@ ghost use Rattle.std.specs.List.{filter, flat_map};
 ghost use Rattle.mpf_sections.specs.Typed.{timer_of};
 ghost use Rattle.mpf_sections.specs.View.{entry_view, section_view, timer_view};
 ghost use Rattle.mpf_config.specs.View.{mode_view, rows_view};
-ghost use Rattle.row_faults.specs.RowFaults.{reserved_fault, has_reached, starts_at_end, timer_fault, section_faults, ordered_by, fault_line, fault_number, text_faults, mode_faults, faults_by, row_faults};
+ghost use Rattle.row_faults.specs.RowFaults.{name_fault, has_reached, starts_at_end, timer_fault, section_faults, ordered_by, fault_line, fault_number, text_faults, mode_faults, faults_by, row_faults};
+ghost use Rattle.row_faults.specs.ShotFaults.{listed_of, taken_after};
 ghost use Rattle.row_faults.specs.Sound.{IsSound};
+ghost use Rattle.machine_definitions.specs.Found.{is_found};
 ghost use Rattle.row_faults.specs.View.{keys_view, written_view, row_fault_view, row_faults_view};
 
 use crate::adding::{at, fault_at};
@@ -14,6 +16,7 @@ use crate::coil_faults::add_coil_faults;
 use crate::fault::{RowFault, RowFaultKind};
 use crate::once::listed_once;
 use crate::reserved::{ModeEvents, add_texts, events_of_modes, reserved_posts};
+use crate::shot_faults::{Shots, add_shots, misplaced_shots};
 use crate::variable_faults::add_variable_faults;
 use machine_definitions::Definitions;
 use mpf_config::{
@@ -21,6 +24,7 @@ use mpf_config::{
     mode_text_name,
 };
 use std::alloc::{AllocError, Global};
+use std::collections::BTreeSet;
 
 /// The faults of the rows of a configuration, in the order in which a report lists them: by text,
 /// line and number. Those that print the same line are listed once. Rows without any are sound: no
@@ -48,51 +52,46 @@ fn faults_of_texts(
 ) -> Result<Vec<RowFault>, AllocError>
     ensures { IfOk result (λ faults. row_faults_view faults.items ≡ faults_by (keys_view modes.now) (rows_view config.now)) }
 {
-    let mut faults = Vec::new(alloc);
+    let definitions = Definitions::new(alloc, config)?;
+    let mut taken = BTreeSet::new(alloc);
     let machine = config.machine.sections.as_slice();
-    let definitions = Definitions::new(alloc, machine)?;
-    add_text(
+    let mut faults = faults_of_text(
         alloc,
-        &mut faults,
+        &mut taken,
         modes,
         &definitions,
         MACHINE_NAME,
         machine,
     )?;
-    add_modes(alloc, &mut faults, modes, &definitions, &config.modes)?;
+    add_modes(
+        alloc,
+        &mut faults,
+        &mut taken,
+        modes,
+        &definitions,
+        &config.modes,
+    )?;
     Ok(faults)
 }
 
-/// Adds the faults of the texts of these modes.
-fn add_modes(
+/// Adds the faults of the texts of these modes, where groups of texts before them list the shots
+/// that are taken.
+fn add_modes<'a>(
     alloc: Global,
     faults: &mut Vec<RowFault>,
+    taken: &mut Shots<'a>,
     modes: &ModeEvents,
     definitions: &Definitions<'_>,
-    texts: &[ModeText],
+    texts: &'a [ModeText],
 ) -> Result<(), AllocError>
-    ensures { OnOk result (row_faults_view faults.new.items ≡ row_faults_view faults.old.items ++ flat_map (mode_faults (keys_view modes.now) definitions.now) (map mode_view texts.now)) }
+    ensures { OnOk result (row_faults_view faults.new.items ≡ row_faults_view faults.old.items ++ mode_faults (keys_view modes.now) definitions.now (is_found taken.old) (map mode_view texts.now)) }
 {
     for text in texts {
         let name = mode_text_name(alloc, &text.name)?;
-        add_text(alloc, faults, modes, definitions, &name, &text.sections)?;
+        let own = faults_of_text(alloc, taken, modes, definitions, &name, &text.sections)?;
+        add_all(faults, own)?;
     }
     Ok(())
-}
-
-/// Adds the faults of the text of this name, by line and number.
-fn add_text(
-    alloc: Global,
-    faults: &mut Vec<RowFault>,
-    modes: &ModeEvents,
-    definitions: &Definitions<'_>,
-    text: &[u8],
-    sections: &[Section],
-) -> Result<(), AllocError>
-    ensures { OnOk result (row_faults_view faults.new.items ≡ row_faults_view faults.old.items ++ text_faults (keys_view modes.now) definitions.now text.now (map section_view sections.now)) }
-{
-    let own = faults_of_text(alloc, modes, definitions, text, sections)?;
-    add_all(faults, own)
 }
 
 fn add_all(faults: &mut Vec<RowFault>, own: Vec<RowFault>) -> Result<(), AllocError>
@@ -104,23 +103,43 @@ fn add_all(faults: &mut Vec<RowFault>, own: Vec<RowFault>) -> Result<(), AllocEr
     Ok(())
 }
 
-/// The faults of the text of this name, by line and number.
-fn faults_of_text(
+/// The faults of the text of this name, by line and number, where groups of texts before it list the
+/// shots that are taken. Takes those that its groups list.
+fn faults_of_text<'a>(
     alloc: Global,
+    taken: &mut Shots<'a>,
+    modes: &ModeEvents,
+    definitions: &Definitions<'_>,
+    text: &[u8],
+    sections: &'a [Section],
+) -> Result<Vec<RowFault>, AllocError>
+    ensures faults { IfOk result (λ faults. row_faults_view faults.items ≡ text_faults (keys_view modes.now) definitions.now (is_found taken.old) text.now (map section_view sections.now)) }
+    ensures taken { IfOk result (λ _. is_found taken.new ≡ taken_after (is_found taken.old) (listed_of definitions.now (map section_view sections.now))) }
+{
+    let mut faults = Vec::new(alloc);
+    add_sections(alloc, &mut faults, modes, definitions, text, sections)?;
+    let misplaced = misplaced_shots(alloc, taken, definitions, sections)?;
+    add_names(alloc, &mut faults, text, &misplaced)?;
+    sort_by_number(&mut faults)?;
+    sort_by_line(&mut faults)?;
+    Ok(faults)
+}
+
+/// Adds the faults of the sections of the text of this name, as written.
+fn add_sections(
+    alloc: Global,
+    faults: &mut Vec<RowFault>,
     modes: &ModeEvents,
     definitions: &Definitions<'_>,
     text: &[u8],
     sections: &[Section],
-) -> Result<Vec<RowFault>, AllocError>
-    ensures { IfOk result (λ faults. row_faults_view faults.items ≡ text_faults (keys_view modes.now) definitions.now text.now (map section_view sections.now)) }
+) -> Result<(), AllocError>
+    ensures { OnOk result (row_faults_view faults.new.items ≡ row_faults_view faults.old.items ++ flat_map (section_faults (keys_view modes.now) definitions.now text.now) (map section_view sections.now)) }
 {
-    let mut faults = Vec::new(alloc);
     for section in sections {
-        add_section(alloc, &mut faults, modes, definitions, text, section)?;
+        add_section(alloc, faults, modes, definitions, text, section)?;
     }
-    sort_by_number(&mut faults)?;
-    sort_by_line(&mut faults)?;
-    Ok(faults)
+    Ok(())
 }
 
 /// By number, those of one number as they are.
@@ -151,23 +170,24 @@ fn add_section(
     ensures { OnOk result (row_faults_view faults.new.items ≡ row_faults_view faults.old.items ++ section_faults (keys_view modes.now) definitions.now text.now (section_view section.now)) }
 {
     let posts = reserved_posts(alloc, modes, section)?;
-    add_posts(alloc, faults, text, &posts)?;
+    add_names(alloc, faults, text, &posts)?;
     add_variable_faults(alloc, faults, modes, text, section)?;
     add_coil_faults(alloc, faults, definitions, text, section)?;
+    add_shots(alloc, faults, definitions, text, section.shots())?;
     add_timers(alloc, faults, text, section.timers())
 }
 
-/// Adds a fault for each of these reserved events, which the text posts.
-fn add_posts(
+/// Adds a fault for each of these names of the text.
+fn add_names(
     alloc: Global,
     faults: &mut Vec<RowFault>,
     text: &[u8],
-    posts: &[&Name],
+    names: &[&Name],
 ) -> Result<(), AllocError>
-    ensures { OnOk result (row_faults_view faults.new.items ≡ row_faults_view faults.old.items ++ map (reserved_fault text.now) (written_view posts.now)) }
+    ensures { OnOk result (row_faults_view faults.new.items ≡ row_faults_view faults.old.items ++ map (name_fault text.now) (written_view names.now)) }
 {
-    for post in posts {
-        let fault = fault_at(alloc, RowFaultKind::Name, text, at(post))?;
+    for name in names {
+        let fault = fault_at(alloc, RowFaultKind::Name, text, at(name))?;
         faults.push(fault)?;
     }
     Ok(())

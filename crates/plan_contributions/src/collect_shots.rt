@@ -1,0 +1,332 @@
+//! What the entries of shots and of their groups give to a plan.
+
+ghost use Rattle.std.specs.Prelude.{◌≡◌, ◌≤◌, ◌+◌, ◌*◌, ◌++◌, [], ◌∷◌, length, map, option_map, codes, IfOk, OnOk};
+ghost use Rattle.std.specs.List.{flat_map};
+ghost use Rattle.mpf_sections.specs.View.{name_view, name_at_view, handler_view, shot_view, shot_group_view};
+ghost use Rattle.machine_definitions.specs.Found.{profile_view};
+ghost use Rattle.plan_contributions.specs.DeviceEntries.{acts, posts, texts};
+ghost use Rattle.plan_contributions.specs.ShotEntries.{flags, is_enabled, switch_hits, shot_acts, group_acts, bank_settings, shot_events, shot_lists, group_events, state_lists, group_lists, lone_device, group_device};
+ghost use Rattle.plan_contributions.specs.Contributions.{does_in, effects_from, act_binding, device_contributions, unknown_unless, shot_switch, aim_at, act_at, seated, shot_contributions, group_contributions};
+ghost use Rattle.plan_contributions.specs.View.{parts_text, seat_view, members_view, contributions_view};
+
+use crate::collect_bound::collect_each;
+use crate::collect_devices::collect_acts;
+use crate::contribution::{Aim, Contribution, Effect, Parts, Place, joined, whole};
+use crate::members::{Members, is_enabled};
+use crate::seats::Seat;
+use machine_definitions::Profile;
+use mpf_config::{Handler, Name, NameAt, Shot, ShotGroup};
+use plan_tables::devices::{Act, BankSettings, Settings};
+use plan_tables::table::Table;
+use std::alloc::AllocError;
+
+/// A shot, with its seat if it has one, whether its profile is defined, and its profile.
+#[tactic(auto, unfolding(crate::specs::Contributions::shot_contributions))]
+pub(crate) fn collect_shot<'a>(
+    contributions: &mut Vec<Contribution<'a>>,
+    place: Place,
+    row: Shot<'a>,
+    seat: Option<Seat>,
+    known: bool,
+    profile: &Profile<'a>,
+) -> Result<(), AllocError>
+    ensures { OnOk result (contributions_view contributions.new.items ≡ contributions_view contributions.old.items ++ shot_contributions place (shot_view row.entry) (option_map seat_view seat) known (profile_view profile.now)) }
+{
+    collect_unknown(contributions, known)?;
+    collect_switch(contributions, row.switch)?;
+    match seat {
+        Some(seat) => collect_shot_acts(contributions, place, Some(seat.row), seat.shot, row),
+        None => collect_lone(contributions, place, row, profile),
+    }
+}
+
+/// A group, with what is known of its shots.
+#[tactic(auto, unfolding(crate::specs::Contributions::group_contributions, crate::specs::Contributions::device_contributions))]
+pub(crate) fn collect_group<'a>(
+    contributions: &mut Vec<Contribution<'a>>,
+    place: Place,
+    row: ShotGroup<'a>,
+    members: Members<'a>,
+) -> Result<(), AllocError>
+    requires few { length row.entry.shots.now ≤ 16 }
+    ensures { OnOk result (contributions_view contributions.new.items ≡ contributions_view contributions.old.items ++ group_contributions place (shot_group_view row.entry) (members_view members)) }
+{
+    let settings = bank_settings(members.profile, row.shots.len() as u8, members.enabled, true);
+    collect_unknown(contributions, members.all_known)?;
+    contributions.push(Contribution::Device(place, settings))?;
+    collect_group_acts(contributions, place, row)?;
+    collect_group_lists(contributions, members.profile, &row.name.text, row.shots)
+}
+
+/// Something is unknown, unless all is known.
+fn collect_unknown(contributions: &mut Vec<Contribution<'_>>, known: bool) -> Result<(), AllocError>
+    ensures { OnOk result (contributions_view contributions.new.items ≡ contributions_view contributions.old.items ++ unknown_unless known) }
+{
+    if !known {
+        contributions.push(Contribution::Unknown)?;
+    }
+    Ok(())
+}
+
+/// The switch of a shot, if it has one.
+fn collect_switch<'a>(
+    contributions: &mut Vec<Contribution<'a>>,
+    switch: Option<NameAt<'a>>,
+) -> Result<(), AllocError>
+    ensures { OnOk result (contributions_view contributions.new.items ≡ contributions_view contributions.old.items ++ shot_switch (option_map name_at_view switch.entry)) }
+{
+    if let Some(name) = switch {
+        contributions.push(Contribution::Mentions(Table::Switches, whole(name.text)))?;
+    }
+    Ok(())
+}
+
+/// A bank of one shot.
+#[tactic(auto, unfolding(crate::specs::Contributions::device_contributions))]
+fn collect_lone<'a>(
+    contributions: &mut Vec<Contribution<'a>>,
+    place: Place,
+    row: Shot<'a>,
+    profile: &Profile<'a>,
+) -> Result<(), AllocError>
+    ensures { OnOk result (contributions_view contributions.new.items ≡ contributions_view contributions.old.items ++ device_contributions place (lone_device (profile_view profile.now) (shot_view row.entry))) }
+{
+    let settings = bank_settings(profile, 1, first_flag(is_enabled(row)), false);
+    contributions.push(Contribution::Device(place, settings))?;
+    collect_shot_acts(contributions, place, None, 0, row)?;
+    collect_shot_lists(contributions, 0, profile, &row.name.text)?;
+    Ok(())
+}
+
+/// A flag for each of 16 shots, of which this is the first.
+fn first_flag(flag: bool) -> [bool; 16]
+    ensures { result ≡ flags (flag ∷ []) }
+{
+    let mut flags = [false; 16];
+    flags[0] = flag;
+    flags
+}
+
+/// The settings of a bank of so many shots.
+fn bank_settings(profile: &Profile<'_>, shots: u8, enabled: [bool; 16], group: bool) -> Settings
+    ensures { result ≡ bank_settings (profile_view profile.now) shots enabled group }
+{
+    Settings::Bank(BankSettings {
+        shots,
+        enabled,
+        last_state: profile.states.len().saturating_sub(1) as u8,
+        advance_on_hit: profile.advance_on_hit,
+        loops: profile.loops,
+        group,
+    })
+}
+
+// ---- events
+
+/// What acts on the row of this number, or where none is given, on the row that came last.
+fn aim_at(row: Option<usize>, act: Act) -> Aim
+    ensures { result ≡ aim_at row act }
+{
+    match row {
+        Some(row) => Aim::On(row, act),
+        None => Aim::Do(act),
+    }
+}
+
+/// What acts on the shot of this number in a bank.
+fn collect_shot_acts<'a>(
+    contributions: &mut Vec<Contribution<'a>>,
+    place: Place,
+    row: Option<usize>,
+    number: usize,
+    shot: Shot<'a>,
+) -> Result<(), AllocError>
+    ensures { OnOk result (contributions_view contributions.new.items ≡ contributions_view contributions.old.items ++ flat_map (act_at place row) (shot_acts number (shot_view shot.entry))) }
+{
+    collect_switch_hits(contributions, place, row, Act::Hit(number), shot.switch)?;
+    collect_acts_at(contributions, place, row, Act::Hit(number), shot.hits)?;
+    collect_acts_at(contributions, place, row, Act::Advance(number), shot.advances)?;
+    collect_acts_at(contributions, place, row, Act::ResetShot(number), shot.resets)?;
+    collect_acts_at(contributions, place, row, Act::EnableShot(number), shot.enables)?;
+    collect_acts_at(contributions, place, row, Act::DisableShot(number), shot.disables)?;
+    Ok(())
+}
+
+/// The switch of a shot hits it when it becomes active.
+fn collect_switch_hits<'a>(
+    contributions: &mut Vec<Contribution<'a>>,
+    place: Place,
+    row: Option<usize>,
+    hit: Act,
+    switch: Option<NameAt<'a>>,
+) -> Result<(), AllocError>
+    ensures { OnOk result (contributions_view contributions.new.items ≡ contributions_view contributions.old.items ++ flat_map (act_at place row) (switch_hits hit (option_map name_at_view switch.entry))) }
+{
+    if let Some(name) = switch {
+        let event = joined(name.text, b"", b"_active");
+        contributions.push(Contribution::Binds(event, place, aim_at(row, hit)))?;
+    }
+    Ok(())
+}
+
+/// Each of the events does this with the row.
+fn collect_acts_at<'a>(
+    contributions: &mut Vec<Contribution<'a>>,
+    place: Place,
+    row: Option<usize>,
+    act: Act,
+    handlers: &'a [Handler],
+) -> Result<(), AllocError>
+    ensures { OnOk result (contributions_view contributions.new.items ≡ contributions_view contributions.old.items ++ flat_map (act_at place row) (acts act (map handler_view handlers.now))) }
+{
+    collect_each(contributions, handlers, place, aim_at(row, act))
+}
+
+/// What acts on a group.
+fn collect_group_acts<'a>(
+    contributions: &mut Vec<Contribution<'a>>,
+    place: Place,
+    group: ShotGroup<'a>,
+) -> Result<(), AllocError>
+    ensures { OnOk result (contributions_view contributions.new.items ≡ contributions_view contributions.old.items ++ flat_map (act_binding place) (group_acts (shot_group_view group.entry))) }
+{
+    collect_acts(contributions, place, Act::RotateRight, group.rotates)?;
+    collect_acts(contributions, place, Act::RotateRight, group.rotates_right)?;
+    collect_acts(contributions, place, Act::RotateLeft, group.rotates_left)?;
+    collect_acts(contributions, place, Act::Reset, group.resets)?;
+    Ok(())
+}
+
+// ---- effect lists
+
+/// The effect lists of a group: of each of its shots, and its own.
+fn collect_group_lists<'a>(
+    contributions: &mut Vec<Contribution<'a>>,
+    profile: &Profile<'a>,
+    name: &'a [u8],
+    shots: &'a [Name],
+) -> Result<(), AllocError>
+    requires few { length shots.now ≤ 16 }
+    ensures { OnOk result (contributions_view contributions.new.items ≡ contributions_view contributions.old.items ++ effects_from 0 (group_lists (profile_view profile.now) name.now (texts (map name_view shots.now)))) }
+{
+    let hits = collect_each_shot(contributions, profile, shots)?;
+    let completes = collect_states(contributions, hits, profile, name, b"_hit")?;
+    collect_states(contributions, completes, profile, name, b"_complete")?;
+    Ok(())
+}
+
+/// The effect lists of these shots. Returns the number of the next list.
+fn collect_each_shot<'a>(
+    contributions: &mut Vec<Contribution<'a>>,
+    profile: &Profile<'a>,
+    shots: &'a [Name],
+) -> Result<u16, AllocError>
+    requires few { length shots.now ≤ 16 }
+    ensures lists { OnOk result (contributions_view contributions.new.items ≡ contributions_view contributions.old.items ++ effects_from 0 (flat_map (shot_lists (profile_view profile.now)) (texts (map name_view shots.now)))) }
+    ensures next { IfOk result (λ next. next ≡ length shots.now * length profile.now.states.items) }
+{
+    let mut next = 0;
+    for shot in shots {
+        next = collect_shot_lists(contributions, next, profile, &shot.text)?;
+    }
+    Ok(next)
+}
+
+/// The effect lists of the shot of this name, one for each state of its profile, from this number
+/// on. Returns the number of the next list.
+fn collect_shot_lists<'a>(
+    contributions: &mut Vec<Contribution<'a>>,
+    first: u16,
+    profile: &Profile<'a>,
+    name: &'a [u8],
+) -> Result<u16, AllocError>
+    requires few { first ≤ 288 }
+    ensures lists { OnOk result (contributions_view contributions.new.items ≡ contributions_view contributions.old.items ++ effects_from first.entry (shot_lists (profile_view profile.now) name.now)) }
+    ensures next { IfOk result (λ next. next ≡ first.entry + length profile.now.states.items) }
+{
+    let mut number = first;
+    for state in &profile.states {
+        collect_shot_list(contributions, number, name, profile.name, state)?;
+        number += 1;
+    }
+    Ok(number)
+}
+
+/// What a shot posts in a state, in the effect list of this number.
+fn collect_shot_list<'a>(
+    contributions: &mut Vec<Contribution<'a>>,
+    number: u16,
+    name: &'a [u8],
+    profile: &'a [u8],
+    state: &'a [u8],
+) -> Result<(), AllocError>
+    ensures { OnOk result (contributions_view contributions.new.items ≡ contributions_view contributions.old.items ++ map (does_in number) (map posts (shot_events name.now profile.now state.now))) }
+{
+    collect_post(contributions, number, joined(name, b"", b"_hit"))?;
+    collect_post(contributions, number, ending(name, profile, b"_hit"))?;
+    collect_post(contributions, number, in_profile(name, profile, state))?;
+    collect_post(contributions, number, ending(name, state, b"_hit"))?;
+    Ok(())
+}
+
+/// What a group posts in each state of its profile, with this ending, in effect lists from this
+/// number on. Returns the number of the next list.
+fn collect_states<'a>(
+    contributions: &mut Vec<Contribution<'a>>,
+    first: u16,
+    profile: &Profile<'a>,
+    name: &'a [u8],
+    end: &'static [u8],
+) -> Result<u16, AllocError>
+    requires few { first ≤ 288 }
+    ensures lists { OnOk result (contributions_view contributions.new.items ≡ contributions_view contributions.old.items ++ effects_from first.entry (state_lists end.now (profile_view profile.now) name.now)) }
+    ensures next { IfOk result (λ next. next ≡ first.entry + length profile.now.states.items) }
+{
+    let mut number = first;
+    for state in &profile.states {
+        collect_post(contributions, number, joined(name, b"", end))?;
+        collect_post(contributions, number, ending(name, state, end))?;
+        number += 1;
+    }
+    Ok(number)
+}
+
+/// An effect list of the row posts the event.
+fn collect_post<'a>(
+    contributions: &mut Vec<Contribution<'a>>,
+    number: u16,
+    event: Parts<'a>,
+) -> Result<(), AllocError>
+    ensures { OnOk result (contributions_view contributions.new.items ≡ contributions_view contributions.old.items ++ does_in number (posts (parts_text event.entry)) ∷ []) }
+{
+    contributions.push(Contribution::DoesIn(number, Effect::Post(event)))?;
+    Ok(())
+}
+
+/// A name, `_`, another name, and an ending.
+fn ending<'a>(name: &'a [u8], other: &'a [u8], end: &'static [u8]) -> Parts<'a>
+    ensures { parts_text result ≡ name.now ++ codes "_" ++ other.now ++ end.now }
+{
+    Parts {
+        first: b"",
+        second: b"",
+        third: name,
+        fourth: b"_",
+        fifth: other,
+        sixth: end,
+    }
+}
+
+/// What a shot posts in a state, with the name of its profile.
+fn in_profile<'a>(name: &'a [u8], profile: &'a [u8], state: &'a [u8]) -> Parts<'a>
+    ensures { parts_text result ≡ name.now ++ codes "_" ++ profile.now ++ codes "_" ++ state.now ++ codes "_hit" }
+{
+    Parts {
+        first: name,
+        second: b"_",
+        third: profile,
+        fourth: b"_",
+        fifth: state,
+        sixth: b"_hit",
+    }
+}
