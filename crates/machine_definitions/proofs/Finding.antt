@@ -1,5 +1,5 @@
 -- What is found by a name, after a key was taken.
-use Rattle.std.proofs.Common.{is_eq, ◌≡◌, ℕ, ◌+◌, ◌<◌, length, drop, get_or, Bool, true, false, cond, ◌||◌, List, [], ◌∷◌, Option, Some, option_map, refl, sym, ap, ◌∙◌, arith}
+use Rattle.std.proofs.Common.{is_eq, ◌≡◌, ℕ, if◌then◌else◌, ◌+◌, ◌<◌, length, drop, get_or, Bool, true, false, cond, ◌||◌, List, [], ◌∷◌, Option, Some, option_map, refl, sym, ap, ◌∙◌, arith}
 use Rattle.std.specs.List.{list_any}
 use Rattle.std.specs.Str.{bytes_eq}
 use Rattle.std.specs.Borrow.{Bor}
@@ -17,11 +17,7 @@ use Rattle.std.proofs.lemmas.Bool.{le-ltb, eq-eqb}
 use Rattle.std.proofs.lemmas.Bool.Decides.{same_from_decides}
 use Rattle.std.proofs.lemmas.Slice.Eq.{bytes_eq-Decides}
 use Rattle.std.proofs.lemmas.Map.Lookups.{exact_bytes}
-use Rattle.mpf_sections.specs.declared.coils.Coil as rows
-use Rattle.mpf_sections.specs.Rows.{Coil}
-use Rattle.mpf_sections.specs.View.{coil_view}
-use Rattle.machine_definitions.specs.Definitions.{latest_coil}
-use Rattle.machine_definitions.specs.Found.{found_coil, is_found}
+use Rattle.machine_definitions.specs.Found.{has_bytes, is_found}
 
 -- ---- keys by their bytes
 
@@ -56,21 +52,26 @@ by_bytes x y = slice_cmp nat_cmp x.now y.now
 abbrev asked : Bor (List ℕ) → List ℕ → Bor (List ℕ)
 asked k name = record { ref_ptr = k.ref_ptr; now = name }
 
--- ---- coils
+-- ---- what is found by names in a map
 
-pub coil-found : (coils : BTreeMap (Bor (List ℕ)) rows.Coil) (name : List ℕ) → option_map coil_view (lookup (λ k. is_eq (slice_cmp nat_cmp name k.now)) coils.entries) ≡ found_coil coils name
-coil-found coils name = ap (λ (test : Bor (List ℕ) → Bool). option_map coil_view (lookup test coils.entries)) (λ i k. same_test name k.now i)
+module _ {V X : Type 0} (view : V → X) where
+  abbrev by_name : BTreeMap (Bor (List ℕ)) V → List ℕ → Option X
+  by_name found name = option_map view (lookup (has_bytes name) found.entries)
 
-pub took-coil : (old new : BTreeMap (Bor (List ℕ)) rows.Coil) (k : Bor (List ℕ)) (c : rows.Coil) → k.now ≡ (coil_view c).name.text → maps.Updates by_bytes old new k (Some c)
-    → (name : List ℕ) → found_coil new name ≡ latest_coil name (found_coil old name) (coil_view c)
-took-coil old new k c is updates name =
-    sym (coil-found new name)
-    ∙ ap (option_map coil_view) (updates.0 (asked k name) ∙ ap (λ (b : Bool). cond b (Some c) (lookup (λ x. is_eq (slice_cmp nat_cmp name x.now)) old.entries)) (turned_test name k.now ∙ ap (bytes_eq name) is))
-    ∙ seen (bytes_eq name (coil_view c).name.text) (lookup (λ x. is_eq (slice_cmp nat_cmp name x.now)) old.entries) (found_coil old name) (coil-found old name)
-  where
-    seen : (b : Bool) (o : Option rows.Coil) (r : Option Coil) → option_map coil_view o ≡ r → option_map coil_view (cond b (Some c) o) ≡ cond b (Some (coil_view c)) r
-    seen true o r e = refl
-    seen false o r e = e
+  pub value-found : (found : BTreeMap (Bor (List ℕ)) V) (name : List ℕ) → option_map view (lookup (λ k. is_eq (slice_cmp nat_cmp name k.now)) found.entries) ≡ by_name found name
+  value-found found name = ap (λ (test : Bor (List ℕ) → Bool). option_map view (lookup test found.entries)) (λ i k. same_test name k.now i)
+
+  -- a key with its value was taken
+  pub took-value : (old new : BTreeMap (Bor (List ℕ)) V) (k : Bor (List ℕ)) (v : V) → maps.Updates by_bytes old new k (Some v)
+      → (name : List ℕ) → by_name new name ≡ (if bytes_eq name k.now then Some (view v) else by_name old name)
+  took-value old new k v updates name =
+      sym (value-found new name)
+      ∙ ap (option_map view) (updates.0 (asked k name) ∙ ap (λ (b : Bool). cond b (Some v) (lookup (λ x. is_eq (slice_cmp nat_cmp name x.now)) old.entries)) (turned_test name k.now))
+      ∙ seen (bytes_eq name k.now) (lookup (λ x. is_eq (slice_cmp nat_cmp name x.now)) old.entries) (by_name old name) (value-found old name)
+    where
+      seen : (b : Bool) (o : Option V) (r : Option X) → option_map view o ≡ r → option_map view (cond b (Some v) o) ≡ cond b (Some (view v)) r
+      seen true o r e = refl
+      seen false o r e = e
 
 -- ---- names
 

@@ -1,13 +1,13 @@
 //! The profiles of shots.
 
-ghost use Rattle.std.specs.Prelude.{◌≡◌, map, IfOk};
+ghost use Rattle.std.specs.Prelude.{◌≡◌, ◌≤◌, length, map, IfOk};
 ghost use Rattle.std.specs.List.{filter_map};
-ghost use Rattle.mpf_sections.specs.TypedShots.{state_of};
-ghost use Rattle.mpf_sections.specs.View.{fields_view, shot_profile_view};
+ghost use Rattle.mpf_sections.specs.TypedShots.{state_of, shot_profile_of};
+ghost use Rattle.mpf_sections.specs.View.{entry_view, fields_view};
 ghost use Rattle.machine_definitions.specs.Shots.{profile_of, standard_profile};
 ghost use Rattle.machine_definitions.specs.Found.{names_view, profile_view};
 
-use mpf_config::{Fields, ShotProfile, as_state};
+use mpf_config::{Entry, Fields, as_shot_profile, as_state};
 use mpf_sections::tables::DEFAULT_PROFILE;
 use std::alloc::{AllocError, Global};
 
@@ -21,6 +21,7 @@ pub struct Profile<'a> {
     pub advance_on_hit: bool,
     /// Whether the first state comes after the last one.
     pub loops: bool,
+    ghost few: { length states.items ≤ 16 },
 }
 
 /// The profile of shots whose entries name none.
@@ -39,12 +40,10 @@ pub(crate) fn standard_profile<'a>(alloc: Global) -> Result<Profile<'a>, AllocEr
 }
 
 /// The profile that an entry defines.
-pub(crate) fn profile_of<'a>(
-    alloc: Global,
-    row: ShotProfile<'a>,
-) -> Result<Profile<'a>, AllocError>
-    ensures { IfOk result (λ p. profile_view p ≡ profile_of (shot_profile_view row.entry)) }
+pub(crate) fn profile_of<'a>(alloc: Global, entry: &'a Entry) -> Result<Profile<'a>, AllocError>
+    ensures { IfOk result (λ p. profile_view p ≡ profile_of (shot_profile_of (entry_view entry.now))) }
 {
+    let row = as_shot_profile(entry);
     Ok(Profile {
         name: &row.name.text,
         states: states_of(alloc, row.states)?,

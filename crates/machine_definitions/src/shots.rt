@@ -10,7 +10,7 @@ ghost use Rattle.machine_definitions.specs.Found.{found_shot, found_profile, Has
 
 use crate::profile::{Profile, profile_of};
 use mpf_config::config::Config;
-use mpf_config::{Entry, Section, Shot, as_shot, as_shot_profile};
+use mpf_config::{Entry, Section, Shot, as_shot};
 use std::alloc::{AllocError, Global};
 use std::collections::BTreeMap;
 
@@ -96,7 +96,7 @@ fn add_profiles<'a>(
     ensures { OnOk result ((name : List ℕ) → found_profile profiles.new name ≡ fold (latest_profile name) (found_profile profiles.old name) (map profile_of (map shot_profile_of (map entry_view entries.now)))) }
 {
     for entry in entries {
-        let profile = profile_of(alloc, as_shot_profile(entry))?;
+        let profile = profile_of(alloc, entry)?;
         let before = profiles.insert(profile.name, profile)?;
         drop(before);
     }
