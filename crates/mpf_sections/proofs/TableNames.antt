@@ -162,23 +162,23 @@ variable_player_named = record { key = tt; value = (tt, (tt, tt)) }
 abbrev AllShapes : (Shape → Type 0) → List (List ℕ × Shape) → Type 0
 AllShapes P = AllByRecursion (λ t. P t.1)
 
-pub shot_named : AllShapes IsNamedShape shot_shapes
+shot_named : AllShapes IsNamedShape shot_shapes
 shot_named = (shots_named, (shot_groups_named, (shot_profiles_named, tt)))
 
-pub shot_short : (longest : ℕ) → AllShapes (IsShortShape longest) shot_shapes
+shot_short : (longest : ℕ) → AllShapes (IsShortShape longest) shot_shapes
 shot_short longest = (shots_short longest, (shot_groups_short longest, (shot_profiles_short longest, tt)))
 
-pub shot_right : AllShapes IsRight shot_shapes
+shot_right : AllShapes IsRight shot_shapes
 shot_right = (refl, (refl, (refl, tt)))
 
 shared_named : AllShapes IsNamedShape shared_shapes
-shared_named = (player_named, (variable_player_named, (coil_player_named, (counters_named, (step_blocks_named, (step_blocks_named, tt))))))
+shared_named = (player_named, (variable_player_named, (coil_player_named, (counters_named, (step_blocks_named, (step_blocks_named, shot_named))))))
 
 shared_short : (longest : ℕ) → AllShapes (IsShortShape longest) shared_shapes
-shared_short longest = (tt, (tt, (tt, (counters_short longest, (step_blocks_short longest, (step_blocks_short longest, tt))))))
+shared_short longest = (tt, (tt, (tt, (counters_short longest, (step_blocks_short longest, (step_blocks_short longest, shot_short longest))))))
 
 shared_right : AllShapes IsRight shared_shapes
-shared_right = (refl, (refl, (refl, (refl, (refl, (refl, tt))))))
+shared_right = (refl, (refl, (refl, (refl, (refl, (refl, shot_right))))))
 
 pub shape_named : (text : TextKind) (section : List ℕ) (shape : Shape) → shape_of text section ≡ Some shape → IsNamedShape shape
 shape_named Machine section shape is = holds_at (λ name s. IsNamedShape s) section shape machine_shapes is

@@ -308,7 +308,7 @@ game_name = codes "game"
 abbrev pub not_a_device : List (List ℕ)
 not_a_device = codes "playfield" ∷ []
 
--- the sections of shots, each with how it is written; no text has them yet
+-- the sections of shots, each with how it is written
 abbrev pub shot_shapes : List (List ℕ × Shape)
 shot_shapes =
     (shots_name, by_entries not_a_device shots)
@@ -316,13 +316,13 @@ shot_shapes =
     ∷ (shot_profiles_name, by_entries (default_profile ∷ []) shot_profiles)
     ∷ []
 
--- the sections of logic blocks, each with how it is written
+-- those of logic blocks, and of shots
 abbrev pub block_shapes : List (List ℕ × Shape)
 block_shapes =
     (counters_name, by_entries not_a_device counters)
     ∷ (accruals_name, by_entries not_a_device step_blocks)
     ∷ (sequences_name, by_entries not_a_device step_blocks)
-    ∷ []
+    ∷ shot_shapes
 
 -- those of texts of both kinds
 abbrev pub shared_shapes : List (List ℕ × Shape)

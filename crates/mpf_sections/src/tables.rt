@@ -418,8 +418,8 @@ pub enum TextKind {
     Mode,
 }
 
-/// How a section of shots is written. No text has them yet: [`shape_of`] has none of them.
-pub fn shot_shape(section: &[u8]) -> Option<Shape>
+// How a section of shots is written.
+fn shot_shape(section: &[u8]) -> Option<Shape>
     ensures { give shape_view result ≡ named_in section.now shot_shapes }
 {
     if section == SHOTS_NAME {
@@ -434,7 +434,7 @@ pub fn shot_shape(section: &[u8]) -> Option<Shape>
     None
 }
 
-// How a section of logic blocks is written.
+// How a section of logic blocks, or of shots, is written.
 fn block_shape(section: &[u8]) -> Option<Shape>
     ensures { give shape_view result ≡ named_in section.now block_shapes }
 {
@@ -447,7 +447,7 @@ fn block_shape(section: &[u8]) -> Option<Shape>
     if section == SEQUENCES_NAME {
         return Some(Shape::Entries(NOT_A_DEVICE, STEP_BLOCKS));
     }
-    None
+    shot_shape(section)
 }
 
 // How a section is written that texts of both kinds have.
