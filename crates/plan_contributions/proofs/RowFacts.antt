@@ -49,7 +49,7 @@ use Rattle.plan_tables.specs.declared.entries.ModeEvent.TheVariants.{WillStart, 
 use Rattle.plan_tables.specs.declared.table.Table.{Table}
 use Rattle.plan_tables.specs.declared.table.Table.TheVariants.{Events, Switches, Coils, Variables}
 use Rattle.plan_contributions.specs.Contributions.{Contribution, gives, reads, active, inactive, mode, mode_event, mode_event_name, binds, does, device, does_in, listens, mentions, unknown, coil, under, plays, under_where, bound, texts, kind_of, tag_event, active_posts, inactive_posts, switch_contributions, player_contributions, coil_contributions, coil_player_contributions, item_contributions, variable_player_contributions, game_contributions, starter, stopper, stopper_where, later_events, controls, mode_contributions, Device, act_binding, effects_from, listens_from, device_contributions, where_device, unknown_unless, shot_switch, act_at, seated, shot_contributions, group_contributions, Row, entry, alone, shot, group, player, of_mode, shot_row, group_row, entry_row, rows_from, rows_in, mode_rows, modes_rows, rows_of, machine_device, machine_entry_contributions, entry_contributions, alone_contributions, player_entry_contributions, row_contributions, given_by, contributions_of}
-use Rattle.plan_contributions.specs.Facts.{ArePlaced, IsOfNames, effects_after, effects_in_after, full, IsRoomy, AreShort, AreLimits, AreRules, IsEffectInRange, IsLimited, IsPlaceOf, IsOfMachine, IsPlaced, IsOpenPlace, IsOpenAim, IsOpen, modes_after, AreOpened}
+use Rattle.plan_contributions.specs.Facts.{ArePlaced, IsOfNames, effects_after, effects_in_after, full, IsRoomy, AreShort, AreLimits, AreRules, IsDeedInRange, IsEffectInRange, IsLimited, IsPlaceOf, IsOfMachine, IsPlaced, IsOpenPlace, IsOpenAim, IsOpen, modes_after, AreOpened}
 use Rattle.plan_contributions.proofs.Before.{each_before, each_alone, all_before, all_alone, under_before, All-bound, each_some, All-flat_map}
 use Rattle.plan_contributions.proofs.CoilFacts.{pulse_ranged, hold_ranged, item_ranged, flips_on, flips_off}
 use Rattle.plan_contributions.proofs.ShotFacts.{OfHandled, all_shot_acts, all_group_acts, all_shot_lists, all_group_lists, posts_of_shot, posts_of_group, IsFew, shot_lists_few, group_lists_few, IsShortProfile, IsShortGroup, flags_of, bank_within, IsNamedProfile, profile_named, members_named, profile_short, members_short}

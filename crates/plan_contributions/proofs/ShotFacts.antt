@@ -111,7 +111,7 @@ module _ (R : Effect → Type 0) (posted : (n : List ℕ) → R (posts n)) (p : 
       (in_each (group_events (codes "_complete") name))
 
 -- and has few of them
-abbrev IsFew : List Effect → Type 0
+abbrev pub IsFew : List Effect → Type 0
 IsFew es = length es ≤ 1024
 
 module _ (p : Profile) where
