@@ -118,7 +118,7 @@ player-word name h =
 
 -- ---- what is made of several names
 
--- of at least one byte and of at most so many, all such as are in words
+-- what is in a word: some bytes, at most so many, and neither a blank nor a line end among them
 record IsPart (most : ℕ) (text : List ℕ) : Type 0 where
   some : 0 < length text
   few : length text ≤ most
@@ -148,22 +148,22 @@ joined {front = front} {behind = behind} first last =
 part-word : {most : ℕ} {text : List ℕ} → most ≤ 198 → IsPart most text → IsEventWord text
 part-word {text = text} within part = let few = part.few in some-word text part.some (omega (arith, few, within)) part.letters
 
+-- what a shot posts in a state of its profile
 shot-words : (name profile state : List ℕ) → IsName name → IsName profile → IsName state → All IsEventWord (shot_events name profile state)
 shot-words name profile state n p s =
     let own = name-part name n in
     let of_profile = joined (joined own underscore) (name-part profile p) in
-    All-from_recursion IsEventWord (shot_events name profile state) (
-        part-word (omega arith) (joined own hit),
-        (part-word (omega arith) (joined of_profile hit),
-        (part-word (omega arith) (joined (joined (joined of_profile underscore) (name-part state s)) hit), (part-word (omega arith) (joined (joined (joined own underscore) (name-part state s)) hit), tt))),
-    )
+    let of_both = joined (joined of_profile underscore) (name-part state s) in
+    let of_state = joined (joined own underscore) (name-part state s) in
+    All-from_recursion IsEventWord (shot_events name profile state)
+    (part-word (omega arith) (joined own hit), (part-word (omega arith) (joined of_profile hit), (part-word (omega arith) (joined of_both hit), (part-word (omega arith) (joined of_state hit), tt))))
 
--- what a group posts with an ending
+-- what a group posts in a state, with an ending
 group-words : (most : ℕ) (ending name state : List ℕ) → most ≤ 9 → IsPart most ending → IsName name → IsName state → All IsEventWord (group_events ending name state)
 group-words most ending name state short end n s =
     let own = name-part name n in
-    All-from_recursion IsEventWord (group_events ending name state)
-    (part-word (omega (arith, short)) (joined own end), (part-word (omega (arith, short)) (joined (joined (joined own underscore) (name-part state s)) end), tt))
+    let of_state = joined (joined own underscore) (name-part state s) in
+    All-from_recursion IsEventWord (group_events ending name state) (part-word (omega (arith, short)) (joined own end), (part-word (omega (arith, short)) (joined of_state end), tt))
 
 -- the events of the game, by looking at each
 is_short_word : List ℕ → Bool

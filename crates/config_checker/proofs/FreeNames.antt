@@ -19,12 +19,12 @@ abbrev first_of : List ℕ → ℕ
 first_of [] = 0
 first_of (x ∷ xs) = x
 
--- the last two bytes, as one number, of what stands after these two
+-- the last two bytes of a text, as one number, where these two stand before it
 abbrev last_two : ℕ → ℕ → List ℕ → ℕ
 last_two x y [] = x * 256 + y
 last_two x y (z ∷ zs) = last_two y z zs
 
--- and of a name
+-- those of a name
 abbrev end_of : List ℕ → ℕ
 end_of name = last_two 0 0 name
 
@@ -67,7 +67,7 @@ tag-free name rows = begins-free rows 115 _ refl refl
 
 -- ---- names with last bytes of their own
 
--- the events of a mode end with `rt`, `ng` or `ed`
+-- the events of modes end with `rt`, `ng` or `ed`
 module _ (two : ℕ) (no_start : (end_of (codes "rt") == two) ≡ false) (no_ing : (end_of (codes "ng") == two) ≡ false) (no_ed : (end_of (codes "ed") == two) ≡ false) where
   last-other : (ws : List (List ℕ)) → list_any (λ e. end_of e == two) (events_of_modes ws) ≡ false
   last-other [] = refl
@@ -107,8 +107,8 @@ module _ (rows : Rows) where
   pub shot-free : (name profile state : List ℕ) → All IsFreeName (shot_events name profile state)
   shot-free name profile state =
       All-from_recursion IsFreeName (shot_events name profile state) (
-          hit-free name rows,
-          (hit-free (name ++ codes "_" ++ profile) rows, (hit-free (name ++ codes "_" ++ profile ++ codes "_" ++ state) rows, (hit-free (name ++ codes "_" ++ state) rows, tt))),
+        hit-free name rows,
+        (hit-free (name ++ codes "_" ++ profile) rows, (hit-free (name ++ codes "_" ++ profile ++ codes "_" ++ state) rows, (hit-free (name ++ codes "_" ++ state) rows, tt))),
       )
 
   pub group_hit-free : (name state : List ℕ) → All IsFreeName (group_events (codes "_hit") name state)
