@@ -1,10 +1,13 @@
 pub mod Before
 pub mod DeviceParts
 pub mod Placed
+pub mod CoilFacts
+pub mod ShotFacts
 pub mod RowFacts
 pub mod RowEffects
-pub mod Aimed
 pub mod Silent
+pub mod SeatFacts
+pub mod Aimed
 pub mod Unnamed
 pub mod CoilsGiven
 pub mod SwitchesGiven
