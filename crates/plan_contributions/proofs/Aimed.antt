@@ -342,7 +342,7 @@ module _ (places : List (Place × ℕ)) (rows : Rows) where
       let first = later_events name ++ controls s in
       let first_own : All (IsOfText IsAny Mode) first = of_controls IsAny (λ own aim is. tt) name s in
       let none : row_places (suc n) first ≡ [] =
-          places_told IsAny Mode (suc n) first first_own ∙ ap (map (λ p. (p, suc n))) (row_tells row_given silent rows.machine (of_mode name s)) in
+      places_told IsAny Mode (suc n) first first_own ∙ ap (map (λ p. (p, suc n))) (row_tells row_given silent rows.machine (of_mode name s)) in
       ap (row_places (suc n)) (append_assoc first text later)
       ∙ places_before IsAny Mode (suc n) first (text ++ later) first_own
       ∙ (λ i. none i ++ places_before IsAny Mode (suc n) text later own i)
@@ -360,7 +360,7 @@ module _ (places : List (Place × ℕ)) (rows : Rows) where
       let rest = row_places (suc k) later in
       let split : given_by rows.machine (modes_rows rows n (m ∷ ms)) ≡ (mode_contributions m.name s ++ text) ++ later = flat_map-append (row_contributions rows.machine) (mode_rows rows n m) (modes_rows rows after ms) in
       let so : places ≡ before ++ (own ++ rest) =
-          all ∙ ap (λ cs. before ++ row_places k cs) split ∙ ap (λ l. before ++ l) (mode_places k m.name s text later (of_any rows Mode n m.sections)) in
+      all ∙ ap (λ cs. before ++ row_places k cs) split ∙ ap (λ l. before ++ l) (mode_places k m.name s text later (of_any rows Mode n m.sections)) in
       let count : length (before ++ own) ≡ after = length-append before own ∙ ap (λ i. i + length own) first ∙ places_count rows Mode n m.sections (suc k) in
       subst (AreAimed places k) (sym split)
       (mode_first m.name s text later (aimed_before places (suc k) Mode text later (text_aimed rows Mode n m.sections (suc k) places before rest first so)
@@ -368,9 +368,11 @@ module _ (places : List (Place × ℕ)) (rows : Rows) where
     where
       -- a mode, before the rows of its text
       mode_first : (name : List ℕ) (s : ModeSettings) (text later : List Contribution) → AreAimed places (suc k) (text ++ later) → AreAimed places k ((mode_contributions name s ++ text) ++ later)
-      mode_first name s text later rest =
-          (tt, subst (AreAimed places (suc k)) (sym (append_assoc (later_events name ++ controls s) text later))
-          (aimed_before places (suc k) Mode (later_events name ++ controls s) (text ++ later) (of_controls (IsAimedAt places (suc k)) (unnumbered places (suc k)) name s) rest))
+      mode_first name s text later rest = (
+        tt,
+        subst (AreAimed places (suc k)) (sym (append_assoc (later_events name ++ controls s) text later))
+            (aimed_before places (suc k) Mode (later_events name ++ controls s) (text ++ later) (of_controls (IsAimedAt places (suc k)) (unnumbered places (suc k)) name s) rest),
+      )
 
 -- whatever the rows of a configuration are
 pub rows_are_aimed : (rows : Rows) → AreAimed (row_places 0 (contributions_of rows)) 0 (contributions_of rows)

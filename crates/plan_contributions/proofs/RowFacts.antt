@@ -1,14 +1,12 @@
 -- What the contributions of a row are like: proved here once for each section, and all else follows from it.
 use Rattle.std.proofs.Common.{◌≡◌, ℕ, suc, ◌+◌, ◌<◌, ◌≤◌, ◌==◌, Bool, true, false, if◌then◌else◌, List, [], ◌∷◌, ◌++◌, length, map, get_or, refl, sym, ap, subst, arith, codes}
-use Rattle.std.specs.Prelude.{Option, None, Some, IfSome, fold, unwrap_or}
+use Rattle.std.specs.Prelude.{Option, None, Some, IfSome}
 use Rattle.std.specs.Str.{bytes_eq}
 use Rattle.std.specs.List.{All, flat_map}
 use Rattle.std.proofs.lemmas.Bool.{eqb-true}
 use Rattle.std.proofs.lemmas.Grind.{flat_map-append}
 use Rattle.std.proofs.lemmas.List.{length-map}
 use Rattle.std.proofs.lemmas.List.Elements.{All-nil, All-cons, All-head, All-tail, All-append, All-map, All-weaker}
-use Rattle.mpf_sections.specs.declared.words.CoilAction.{CoilAction}
-use Rattle.mpf_sections.specs.declared.words.CoilAction.TheVariants as actions
 use Rattle.mpf_values.specs.Events.{Condition, Event}
 use Rattle.mpf_sections.specs.Rows.{Written, Handled, Entry, Player, Switch, EventPlayer, Coil, CoilItem, CoilPlayer, VariableItem, VariablePlayer, GameSettings, Flipper, Autofire, Block, Counter, StepBlock, Control as TimerControl, Timer, Shot, ShotGroup, ModeSettings, Content, entries, players, SectionRows}
 use Rattle.mpf_config.specs.Rows.{ModeRows, Rows}
@@ -16,15 +14,15 @@ use Rattle.mpf_sections.specs.Rows as sections
 use Rattle.mpf_sections.specs.Named.{IsName, AllNames, IsNamedHandled, AllNamedEvents, IsNamedEntry, IsNamedPlayer, IsNamedSwitch, IsNamedEventPlayer, IsNamedCoil, IsNamedCoilPlayer, IsNamedVariablePlayer, IsNamedFlipper, IsNamedAutofire, IsNamedShot, IsNamedShotGroup, IsNamedBlock, IsNamedCounter, IsNamedStepBlock, IsNamedTimer, AreNamedSettings, IsNamedContent, IsNamed}
 use Rattle.mpf_config.specs.Named.{IsNamedMode}
 use Rattle.mpf_sections.specs.Typed.{switches_name, event_player_name, counters_name, accruals_name, sequences_name, timers_name, switch_of, event_player_of, counter_of, step_block_of, timer_of, mode_settings}
-use Rattle.mpf_sections.specs.TypedCoils.{coils_name, coil_player_name, flippers_name, autofire_coils_name, coil_of, coil_player_of, flipper_of, autofire_of, coils_in}
+use Rattle.mpf_sections.specs.TypedCoils.{coils_name, coil_player_name, flippers_name, autofire_coils_name, coil_of, coil_player_of, flipper_of, autofire_of}
 use Rattle.mpf_sections.specs.TypedShots.{shots_name, shot_groups_name, shot_of, shot_group_of}
 use Rattle.mpf_sections.specs.TypedGame.{variable_player_name, game_name, variable_player_of, game_of, min_balls_of}
-use Rattle.mpf_sections.specs.Short.{IsGameInRange, IsPulseInRange, IsPowerInRange, IsCoilInRange, IsItemInRange, IsCoilPlayerInRange, IsShortEntry, IsShortPlayer, IsShortBlock, IsShortCounter, IsShortStepBlock, IsShortTimer, IsShortContent, IsShortSection}
+use Rattle.mpf_sections.specs.Short.{IsGameInRange, IsCoilInRange, IsItemInRange, IsCoilPlayerInRange, IsShortEntry, IsShortPlayer, IsShortBlock, IsShortCounter, IsShortStepBlock, IsShortTimer, IsShortContent, IsShortSection}
 use Rattle.mpf_config.specs.Short.{IsShortMode, AreListsShort}
 use Rattle.mpf_sections.proofs.RowNames.{switch_named, event_player_named, mode_settings_named}
 use Rattle.mpf_sections.proofs.ShortRows.{event_player_short}
 use Rattle.mpf_sections.proofs.DeviceRows.{counter_named, step_block_named, timer_named, counter_short, step_block_short, timer_in_range}
-use Rattle.mpf_sections.proofs.CoilRows.{coil_named, coil_player_named, flipper_named, autofire_named, coil_in_range, coil_player_short, coil_player_in_range, coils_in_range}
+use Rattle.mpf_sections.proofs.CoilRows.{coil_named, coil_player_named, flipper_named, autofire_named, coil_in_range, coil_player_short, coil_player_in_range}
 use Rattle.mpf_sections.proofs.ShotRows.{shot_named, shot_group_named, shot_group_short}
 use Rattle.mpf_sections.proofs.GameRows.{variable_player_named, variable_player_short, game_in_range, min_balls_few}
 use Rattle.plan_contributions.specs.declared.contribution.Aim.{Aim}
@@ -36,13 +34,12 @@ use Rattle.plan_tables.specs.declared.devices.Act.{Act}
 use Rattle.plan_tables.specs.declared.devices.Act.TheVariants.{Count, Step, Enable, Disable, Reset, Restart}
 use Rattle.plan_tables.specs.declared.devices.Settings.{Settings}
 use Rattle.plan_tables.specs.declared.devices.Settings.TheVariants as kinds
-use Rattle.machine_definitions.specs.Definitions.{latest_coil, no_coil, coil_of_name}
 use Rattle.machine_definitions.specs.GameEvents.{game_event_names}
 use Rattle.machine_definitions.specs.Players.{player_event}
 use Rattle.machine_definitions.specs.Shots.{Profile}
 use Rattle.plan_contributions.specs.VariableEntries.{item_change}
-use Rattle.plan_contributions.specs.CoilEntries.{limits_of_coil, defaults_called, own_pulse, own_hold, deed_by, item_effect, flipper_on, flipper_off, flipper_device, autofire_device}
-use Rattle.plan_contributions.specs.DeviceEntries.{Deed, disable, Effect, posts, works, changes, events, device_of, acts, block_acts, block_mentions, block_event, or_own, block_lists, counter_device, step_acts, step_settings, step_device, controlled, timer_event, timer_endings, timer_device, always}
+use Rattle.plan_contributions.specs.CoilEntries.{limits_of_coil, defaults_called, own_pulse, own_hold, item_effect, flipper_on, flipper_off, flipper_device, autofire_device}
+use Rattle.plan_contributions.specs.DeviceEntries.{disable, Effect, posts, works, changes, events, device_of, acts, block_acts, block_mentions, block_event, or_own, block_lists, counter_device, step_acts, step_settings, step_device, controlled, timer_event, timer_endings, timer_device, always}
 use Rattle.plan_contributions.specs.ShotEntries.{Seat, seat_of, rows_after_text, shot_events, group_events, shot_acts, flags, is_enabled, lone_device, Members, group_device}
 use Rattle.plan_tables.specs.declared.entries.ModeEvent.{ModeEvent}
 use Rattle.plan_tables.specs.declared.entries.ModeEvent.TheVariants.{WillStart, Starting, Started, Stopping, Stopped}

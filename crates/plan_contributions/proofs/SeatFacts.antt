@@ -16,12 +16,12 @@ use Rattle.mpf_sections.specs.Typed.{switches_name, counters_name, accruals_name
 use Rattle.mpf_sections.specs.TypedCoils.{coils_name, flippers_name, autofire_coils_name, coil_of, flipper_of, autofire_of}
 use Rattle.mpf_sections.specs.TypedShots.{shots_name, shot_groups_name, shot_of, shot_group_of, shot_groups_in}
 use Rattle.mpf_config.specs.Rows.{Rows}
-use Rattle.machine_definitions.specs.Shots.{Profile, profile_of_name}
+use Rattle.machine_definitions.specs.Shots.{profile_of_name}
 use Rattle.plan_tables.specs.declared.devices.Settings.TheVariants as kinds
 use Rattle.plan_contributions.specs.declared.contribution.Place.{Place}
 use Rattle.plan_contributions.specs.declared.contribution.Place.TheVariants.{Machine, Control, Mode}
 use Rattle.plan_contributions.specs.CoilEntries.{flipper_device, autofire_device}
-use Rattle.plan_contributions.specs.DeviceEntries.{Device, counter_device, step_settings, step_device, timer_device, device_of}
+use Rattle.plan_contributions.specs.DeviceEntries.{counter_device, step_settings, step_device, timer_device, device_of}
 use Rattle.plan_contributions.specs.ShotEntries.{section_entries, text_entries, lists_shot, is_grouped, row_sections, has_row, rows_after, rows_after_all, Seat, seats_at, entry_seats, seats_from, latest_seat, seat_of, rows_after_text}
 use Rattle.plan_contributions.specs.Contributions.{Contribution, device, coil_contributions, machine_device, Row, entry, player, shot_row, group_row, entry_row, rows_from, rows_in, text_rows}
 use Rattle.plan_contributions.proofs.Silent.{IsSilent, told_shot, told_where, told_machine, told}
@@ -176,7 +176,7 @@ module _ (rows : Rows) (place : Place) (grouped : List ℕ → Bool) (seat : Lis
       let rest = rows_in rows place seat ss in
       let first = content_count s.name s.content n in
       let all : n + length (given (here ++ rest)) ≡ (n + length (given here)) + length (given rest) =
-          ap (λ (l : List Place). n + length l) (flat_map-append (told row_given silent rows.machine) here rest) ∙ split n (given here) (given rest) in
+      ap (λ (l : List Place). n + length l) (flat_map-append (told row_given silent rows.machine) here rest) ∙ split n (given here) (given rest) in
       all
       ∙ ap (λ k. k + length (given rest)) first
       ∙ text_count ss (rows_after_all place grouped n (section_entries s))
