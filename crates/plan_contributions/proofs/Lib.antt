@@ -1,6 +1,8 @@
 pub mod Before
 pub mod DeviceParts
 pub mod Placed
+pub mod Short
+pub mod Opened
 pub mod CoilFacts
 pub mod ShotFacts
 pub mod RowFacts
