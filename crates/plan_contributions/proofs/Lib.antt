@@ -1,10 +1,15 @@
 pub mod Before
 pub mod DeviceParts
 pub mod Placed
+pub mod Short
+pub mod Opened
+pub mod CoilFacts
+pub mod ShotFacts
 pub mod RowFacts
 pub mod RowEffects
-pub mod Aimed
 pub mod Silent
+pub mod SeatFacts
+pub mod Aimed
 pub mod Unnamed
 pub mod CoilsGiven
 pub mod SwitchesGiven
