@@ -1,5 +1,8 @@
 pub mod Before
 pub mod DeviceParts
+pub mod Seats
+pub mod Flags
+pub mod ShotParts
 pub mod Placed
 pub mod RowFacts
 pub mod RowEffects

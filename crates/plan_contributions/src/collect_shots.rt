@@ -284,11 +284,25 @@ fn collect_states<'a>(
 {
     let mut number = first;
     for state in &profile.states {
-        collect_post(contributions, number, joined(name, b"", end))?;
-        collect_post(contributions, number, ending(name, state, end))?;
+        collect_group_list(contributions, number, name, state, end)?;
         number += 1;
     }
     Ok(number)
+}
+
+/// What a group posts in a state, in the effect list of this number.
+fn collect_group_list<'a>(
+    contributions: &mut Vec<Contribution<'a>>,
+    number: u16,
+    name: &'a [u8],
+    state: &'a [u8],
+    end: &'static [u8],
+) -> Result<(), AllocError>
+    ensures { OnOk result (contributions_view contributions.new.items ≡ contributions_view contributions.old.items ++ map (does_in number) (map posts (group_events end.now name.now state.now))) }
+{
+    collect_post(contributions, number, joined(name, b"", end))?;
+    collect_post(contributions, number, ending(name, state, end))?;
+    Ok(())
 }
 
 /// An effect list of the row posts the event.
