@@ -1,5 +1,7 @@
 -- Which seats the entries of a text have, one entry after the other.
 use Rattle.std.proofs.Common.{◌≡◌, ℕ, suc, ◌+◌, ◌<◌, Bool, List, [], ◌∷◌, ◌++◌, length, map, fold, drop, get_or, Option, refl, sym, ◌∙◌, ap, arith}
+use Rattle.std.specs.Prelude.{true, not, if◌then◌else◌}
+use Rattle.std.specs.Str.{bytes_eq}
 use Rattle.std.proofs.lemmas.List.{append_assoc, drop_more}
 use Rattle.std.proofs.lemmas.Grind.{fold-append}
 use Rattle.section_tables.specs.declared.rows.Name.{Name}
@@ -7,9 +9,11 @@ use Rattle.section_tables.specs.declared.rows.Entry as rows
 use Rattle.mpf_sections.specs.declared.section.Section.{Section}
 use Rattle.mpf_sections.specs.Rows.{Entry, SectionRows}
 use Rattle.mpf_sections.specs.View.{name_view, entry_view, section_view}
+use Rattle.yaml_subset.specs.Keys.{is_among}
+use Rattle.mpf_sections.specs.TypedShots.{shots_name}
 use Rattle.machine_definitions.proofs.Finding.{next-is}
 use Rattle.plan_contributions.specs.declared.contribution.Place.{Place}
-use Rattle.plan_contributions.specs.ShotEntries.{section_entries, text_entries, rows_after, rows_after_all, Seat, seats_at, entry_seats, seats_from, latest_seat}
+use Rattle.plan_contributions.specs.ShotEntries.{section_entries, text_entries, row_sections, has_row, rows_after, rows_after_all, Seat, seats_at, entry_seats, seats_from, latest_seat}
 
 -- the seat of a name after these, where this one was found before
 abbrev pub seat_after : List ℕ → Option Seat → List (List ℕ × Seat) → Option Seat
@@ -35,6 +39,10 @@ abbrev pub entries_of : List ℕ → List rows.Entry → List (List ℕ × Entry
 entries_of section es = map (λ e. (section, e)) (map entry_view es)
 
 module _ (place : Place) (grouped : List ℕ → Bool) where
+  -- whether a shot has a row
+  pub shot_has_row : (section : List ℕ) (e : Entry) → bytes_eq section shots_name ≡ true → not (grouped e.name.text) ≡ has_row place grouped (section, e)
+  shot_has_row section e is = ap (λ (b : Bool). if b then not (grouped e.name.text) else is_among (row_sections place) section) (sym is)
+
   -- the seats of some entries, and then those of others
   pub seats-append : (n : ℕ) (xs ys : List (List ℕ × Entry)) → seats_from place grouped n (xs ++ ys) ≡ seats_from place grouped n xs ++ seats_from place grouped (rows_after_all place grouped n xs) ys
   seats-append n [] ys = refl

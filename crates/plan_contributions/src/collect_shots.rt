@@ -49,7 +49,7 @@ pub(crate) fn collect_group<'a>(
     members: Members<'a>,
 ) -> Result<(), AllocError>
     requires few { length row.entry.shots.now ≤ 16 }
-    ensures { OnOk result (contributions_view contributions.new.items ≡ contributions_view contributions.old.items ++ group_contributions place (shot_group_view row.entry) (members_view members)) }
+    ensures { OnOk result (contributions_view contributions.new.items ≡ contributions_view contributions.old.items ++ group_contributions place (shot_group_view row.entry) (members_view members.entry)) }
 {
     let settings = bank_settings(members.profile, row.shots.len() as u8, members.enabled, true);
     collect_unknown(contributions, members.all_known)?;
@@ -241,8 +241,8 @@ fn collect_shot_lists<'a>(
     name: &'a [u8],
 ) -> Result<u16, AllocError>
     requires few { first ≤ 288 }
-    ensures lists { OnOk result (contributions_view contributions.new.items ≡ contributions_view contributions.old.items ++ effects_from first.entry (shot_lists (profile_view profile.now) name.now)) }
-    ensures next { IfOk result (λ next. next ≡ first.entry + length profile.now.states.items) }
+    ensures lists { OnOk result (contributions_view contributions.new.items ≡ contributions_view contributions.old.items ++ effects_from first (shot_lists (profile_view profile.now) name.now)) }
+    ensures next { IfOk result (λ next. next ≡ first + length profile.now.states.items) }
 {
     let mut number = first;
     for state in &profile.states {
@@ -279,8 +279,8 @@ fn collect_states<'a>(
     end: &'static [u8],
 ) -> Result<u16, AllocError>
     requires few { first ≤ 288 }
-    ensures lists { OnOk result (contributions_view contributions.new.items ≡ contributions_view contributions.old.items ++ effects_from first.entry (state_lists end.now (profile_view profile.now) name.now)) }
-    ensures next { IfOk result (λ next. next ≡ first.entry + length profile.now.states.items) }
+    ensures lists { OnOk result (contributions_view contributions.new.items ≡ contributions_view contributions.old.items ++ effects_from first (state_lists end.now (profile_view profile.now) name.now)) }
+    ensures next { IfOk result (λ next. next ≡ first + length profile.now.states.items) }
 {
     let mut number = first;
     for state in &profile.states {

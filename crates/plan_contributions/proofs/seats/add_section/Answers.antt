@@ -15,7 +15,7 @@ loop-entry-preserved c =
     let es = c.entries-entry-items.result.now in
     let e = c.entry-item.result in
     let later = entries_of section (drop (l.entry-index + 1) es) in
-    let rows = c.in_ok-rows.ensures ∙ ap (λ s. rows_after place grouped l.rows (s, entry_view e)) c.deref-2.ensures.value in
+    let rows = c.in_ok-rows.ensures ∙ ap (λ s. rows_after place grouped l.rows (s, entry_view e)) c.deref-in-loop-entry.ensures.value in
     record {
       seats = λ name.
           let found = found_seat l.seats name in

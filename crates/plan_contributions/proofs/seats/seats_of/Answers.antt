@@ -1,8 +1,10 @@
 use Rattle.std.proofs.Common.{◌≡◌, ◌+◌, ℕ, Bool, List, map, drop, None, Option, ap, ◌∙◌}
+use Rattle.std.specs.Prelude.{option_map}
+use Rattle.std.specs.Map.{lookup}
 use Rattle.mpf_sections.specs.View.{section_view}
-use Rattle.machine_definitions.specs.Found.{is_found}
+use Rattle.machine_definitions.specs.Found.{has_bytes, is_found}
 use Rattle.plan_contributions.specs.ShotEntries.{Seat, is_grouped, section_entries, text_entries, rows_after_all, seats_from}
-use Rattle.plan_contributions.specs.View.{found_seat}
+use Rattle.plan_contributions.specs.View.{seat_view, found_seat}
 use Rattle.plan_contributions.proofs.Seats.{seat_after, section_next, section_rows_next}
 use Rattle.plan_contributions.proofs.seats.seats_of.Goals as goal
 
@@ -11,7 +13,9 @@ loop-section-init c =
     let sections = map section_view c.args.sections.now in
     let same : is_found c.in_ok-grouped.grouped ≡ is_grouped sections = λ i name. c.in_ok-grouped.ensures name i in
     record {
-      seats = λ name. ap (λ (g : List ℕ → Bool). seat_after name None (seats_from c.args.place g c.args.before (text_entries sections))) same;
+      seats = λ name.
+          ap (λ found. seat_after name (option_map seat_view (lookup (has_bytes name) found)) (seats_from c.args.place (is_found c.in_ok-grouped.grouped) c.args.before (text_entries sections))) c.new-seats.ensures.empty
+          ∙ ap (λ (g : List ℕ → Bool). seat_after name None (seats_from c.args.place g c.args.before (text_entries sections))) same;
       rows = ap (λ (g : List ℕ → Bool). rows_after_all c.args.place g c.args.before (text_entries sections)) same;
     }
 
