@@ -2,7 +2,7 @@
 use Rattle.std.proofs.Common.{◌≡◌, ℕ, suc, ◌+◌, ◌*◌, ◌<◌, List, [], ◌∷◌, ◌++◌, length, map, drop, get_or, sym, ◌∙◌, ap, arith}
 use Rattle.std.specs.List.{flat_map}
 use Rattle.std.specs.Borrow.{Bor}
-use Rattle.std.proofs.lemmas.List.{append_assoc, length-append, length-map}
+use Rattle.std.proofs.lemmas.List.{append_assoc, drop_more, length-append, length-map}
 use Rattle.section_tables.specs.declared.rows.Name.{Name}
 use Rattle.mpf_sections.specs.View.{name_view}
 use Rattle.machine_definitions.specs.Found.{names_view}
@@ -34,15 +34,15 @@ abbrev pub lists_of : (List ℕ → List Effect) → List (Bor (List ℕ)) → L
 lists_of f states = map f (names_view states)
 
 -- one state, and then the others
-pub state_next : (f : List ℕ → List Effect) (old : List Contribution) (k : ℕ) (states : List (Bor (List ℕ))) (i : ℕ) (d : Bor (List ℕ)) → i < length states → d ≡ get_or states i d
-    → (old ++ map (does_in k) (f d.now)) ++ effects_from (k + 1) (lists_of f (drop (i + 1) states)) ≡ old ++ effects_from k (lists_of f (drop i states))
-state_next f old k states i d within is =
-    let here = map (does_in k) (f d.now) in
+pub state_next : (f : List ℕ → List Effect) (old : List Contribution) (k : ℕ) (states : List (Bor (List ℕ))) (i : ℕ) (d : Bor (List ℕ)) → i < length states
+    → (old ++ map (does_in k) (f (get_or states i d).now)) ++ effects_from (k + 1) (lists_of f (drop (i + 1) states)) ≡ old ++ effects_from k (lists_of f (drop i states))
+state_next f old k states i d within =
+    let here = map (does_in k) (f (get_or states i d).now) in
     let later = lists_of f (drop (i + 1) states) in
     let next : k + 1 ≡ suc k = omega arith in
     append_assoc old here (effects_from (k + 1) later)
     ∙ ap (λ n. old ++ (here ++ effects_from n later)) next
-    ∙ next-is (λ l. old ++ effects_from k (lists_of f l)) states i d within is
+    ∙ ap (λ l. old ++ effects_from k (lists_of f l)) (sym (drop_more states i d within))
 
 -- ---- shots
 
