@@ -2,6 +2,7 @@ pub mod Before
 pub mod DeviceParts
 pub mod Seats
 pub mod Flags
+pub mod Known
 pub mod ShotParts
 pub mod Placed
 pub mod RowFacts
