@@ -1,6 +1,6 @@
 pub mod Before
 pub mod DeviceParts
-pub mod Seats
+pub mod SeatParts
 pub mod Flags
 pub mod Known
 pub mod ShotParts

@@ -3,7 +3,7 @@ use Rattle.mpf_sections.specs.View.{name_view}
 use Rattle.machine_definitions.proofs.Finding.{took-value}
 use Rattle.plan_contributions.specs.ShotEntries.{Seat, seats_at}
 use Rattle.plan_contributions.specs.View.{seat_view, found_seat}
-use Rattle.plan_contributions.proofs.Seats.{seat_after, seat_next}
+use Rattle.plan_contributions.proofs.SeatParts.{seat_after, seat_next}
 use Rattle.plan_contributions.proofs.seats.add_seats.Goals as goal
 
 pub loop-shot-preserved : goal.loop-shot-preserved

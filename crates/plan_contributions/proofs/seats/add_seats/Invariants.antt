@@ -2,7 +2,7 @@ use Rattle.std.proofs.Common.{◌≡◌, ℕ, List, map, drop}
 use Rattle.mpf_sections.specs.View.{name_view}
 use Rattle.plan_contributions.specs.ShotEntries.{seats_at}
 use Rattle.plan_contributions.specs.View.{found_seat}
-use Rattle.plan_contributions.proofs.Seats.{seat_after}
+use Rattle.plan_contributions.proofs.SeatParts.{seat_after}
 use Rattle.plan_contributions.proofs.seats.add_seats.Given as goal
 
 abbrev pub invariant-loop-shot : goal.invariant-loop-shot

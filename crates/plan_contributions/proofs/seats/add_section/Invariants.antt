@@ -3,7 +3,7 @@ use Rattle.mpf_sections.specs.View.{entry_view, section_view}
 use Rattle.machine_definitions.specs.Found.{is_found}
 use Rattle.plan_contributions.specs.ShotEntries.{rows_after_all, seats_from}
 use Rattle.plan_contributions.specs.View.{found_seat}
-use Rattle.plan_contributions.proofs.Seats.{seat_after, entries_of}
+use Rattle.plan_contributions.proofs.SeatParts.{seat_after, entries_of}
 use Rattle.plan_contributions.proofs.seats.add_section.Given as goal
 
 abbrev pub invariant-loop-entry : goal.invariant-loop-entry

@@ -3,7 +3,7 @@ use Rattle.std.specs.Prelude.{not}
 use Rattle.mpf_sections.specs.View.{entry_view}
 use Rattle.machine_definitions.specs.Found.{is_found}
 use Rattle.machine_definitions.proofs.Finding.{name-found}
-use Rattle.plan_contributions.proofs.Seats.{shot_has_row}
+use Rattle.plan_contributions.proofs.SeatParts.{shot_has_row}
 use Rattle.plan_contributions.proofs.seats.has_row.Goals as goal
 
 pub returns-then-eq : goal.returns-then-eq

@@ -5,7 +5,7 @@ use Rattle.mpf_sections.specs.View.{section_view}
 use Rattle.machine_definitions.specs.Found.{has_bytes, is_found}
 use Rattle.plan_contributions.specs.ShotEntries.{Seat, is_grouped, section_entries, text_entries, rows_after_all, seats_from}
 use Rattle.plan_contributions.specs.View.{seat_view, found_seat}
-use Rattle.plan_contributions.proofs.Seats.{seat_after, section_next, section_rows_next}
+use Rattle.plan_contributions.proofs.SeatParts.{seat_after, section_next, section_rows_next}
 use Rattle.plan_contributions.proofs.seats.seats_of.Goals as goal
 
 pub loop-section-init : goal.loop-section-init

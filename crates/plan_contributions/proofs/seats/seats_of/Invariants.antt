@@ -3,7 +3,7 @@ use Rattle.mpf_sections.specs.View.{section_view}
 use Rattle.machine_definitions.specs.Found.{is_found}
 use Rattle.plan_contributions.specs.ShotEntries.{text_entries, rows_after_all, seats_from, seat_of, rows_after_text}
 use Rattle.plan_contributions.specs.View.{found_seat}
-use Rattle.plan_contributions.proofs.Seats.{seat_after}
+use Rattle.plan_contributions.proofs.SeatParts.{seat_after}
 use Rattle.plan_contributions.proofs.seats.seats_of.Given as goal
 
 abbrev pub invariant-loop-section : goal.invariant-loop-section
