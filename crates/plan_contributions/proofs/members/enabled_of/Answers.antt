@@ -1,5 +1,4 @@
 use Rattle.std.proofs.Common.{◌<◌, length, Bool, List, ℕ, set, ap, ◌∙◌, arith}
-use Rattle.section_tables.specs.declared.rows.Name.{Name}
 use Rattle.mpf_sections.specs.Rows.{Written}
 use Rattle.mpf_sections.specs.View.{name_view}
 use Rattle.machine_definitions.specs.Shots.{shot_called}
@@ -14,8 +13,7 @@ loop-number-preserved c =
     let shots = c.args.shots.now in
     let flag = λ (w : Written). is_enabled_if (shot_called rows w.text) in
     let d = c.index-shots-number.result in
-    let name = c.deref.ensures.value ∙ ap (λ (n : Name). n.text.items) c.index-shots-number.is in
-    let here = c.is_enabled_if.ensures ∙ ap is_enabled_if c.shot.ensures ∙ ap (λ (t : List ℕ). is_enabled_if (shot_called rows t)) name in
+    let here = c.is_enabled_if.ensures ∙ ap is_enabled_if c.shot.ensures ∙ ap (λ (t : List ℕ). is_enabled_if (shot_called rows t)) c.deref.ensures.value in
     let within : l.number < 16 = omega arith in
     let some : l.number < length shots = omega arith in
     ap (λ (bs : List Bool). set bs l.number c.is_enabled_if.result) l.invariant
