@@ -48,7 +48,7 @@ pub(crate) fn collect_group<'a>(
     row: ShotGroup<'a>,
     members: Members<'a>,
 ) -> Result<(), AllocError>
-    requires few { length row.entry.shots.now ≤ 16 }
+    requires few { length row.shots.now ≤ 16 }
     ensures { OnOk result (contributions_view contributions.new.items ≡ contributions_view contributions.old.items ++ group_contributions place (shot_group_view row.entry) (members_view members.entry)) }
 {
     let settings = bank_settings(members.profile, row.shots.len() as u8, members.enabled, true);
