@@ -5,10 +5,15 @@ pub mod Flags
 pub mod Known
 pub mod ShotParts
 pub mod Placed
+pub mod Short
+pub mod Opened
+pub mod CoilFacts
+pub mod ShotFacts
 pub mod RowFacts
 pub mod RowEffects
-pub mod Aimed
 pub mod Silent
+pub mod SeatFacts
+pub mod Aimed
 pub mod Unnamed
 pub mod CoilsGiven
 pub mod SwitchesGiven
