@@ -24,15 +24,15 @@ filled_all : (n p k : ℕ) (bs : List Bool) → n ≤ p → k ≡ min (length bs
 filled_all n p k bs room end =
     ⊎_elim
     (λ (short : length bs < n).
-        let same : k ≡ length bs = omega arith in
-        let here : length bs ≤ k = omega arith in
-        ap (λ l. take n (l ++ replicate p false)) (take_all k bs here))
+    let same : k ≡ length bs = omega arith in
+    let here : length bs ≤ k = omega arith in
+    ap (λ l. take n (l ++ replicate p false)) (take_all k bs here))
     (λ (long : n ≤ length bs).
-        let same : k ≡ n = omega arith in
-        ap (λ i. take n (take i bs ++ replicate p false)) same
-        ∙ take-append-le n (take n bs) (replicate p false) (simp length-take (omega arith))
-        ∙ take-take n n bs (omega arith)
-        ∙ sym (take-append-le n bs (replicate p false) long))
+    let same : k ≡ n = omega arith in
+    ap (λ i. take n (take i bs ++ replicate p false)) same
+    ∙ take-append-le n (take n bs) (replicate p false) (simp length-take (omega arith))
+    ∙ take-take n n bs (omega arith)
+    ∙ sym (take-append-le n bs (replicate p false) long))
     (cases_lt (length bs) n)
 
 -- the first flags of some items

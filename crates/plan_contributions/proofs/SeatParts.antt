@@ -7,7 +7,7 @@ use Rattle.std.proofs.lemmas.Grind.{fold-append}
 use Rattle.section_tables.specs.declared.rows.Name.{Name}
 use Rattle.section_tables.specs.declared.rows.Entry as rows
 use Rattle.mpf_sections.specs.declared.section.Section.{Section}
-use Rattle.mpf_sections.specs.Rows.{Entry, SectionRows}
+use Rattle.mpf_sections.specs.Rows.{Entry}
 use Rattle.mpf_sections.specs.View.{name_view, entry_view, section_view}
 use Rattle.yaml_subset.specs.Keys.{is_among}
 use Rattle.mpf_sections.specs.TypedShots.{shots_name}

@@ -51,7 +51,12 @@ pub(crate) fn collect_group<'a>(
     requires few { length row.shots.now ≤ 16 }
     ensures { OnOk result (contributions_view contributions.new.items ≡ contributions_view contributions.old.items ++ group_contributions place (shot_group_view row.entry) (members_view members.entry)) }
 {
-    let settings = bank_settings(members.profile, row.shots.len() as u8, members.enabled, true);
+    let settings = bank_settings(
+        members.profile,
+        row.shots.len() as u8,
+        members.enabled,
+        true,
+    );
     collect_unknown(contributions, members.all_known)?;
     contributions.push(Contribution::Device(place, settings))?;
     collect_group_acts(contributions, place, row)?;
@@ -145,10 +150,34 @@ fn collect_shot_acts<'a>(
 {
     collect_switch_hits(contributions, place, row, Act::Hit(number), shot.switch)?;
     collect_acts_at(contributions, place, row, Act::Hit(number), shot.hits)?;
-    collect_acts_at(contributions, place, row, Act::Advance(number), shot.advances)?;
-    collect_acts_at(contributions, place, row, Act::ResetShot(number), shot.resets)?;
-    collect_acts_at(contributions, place, row, Act::EnableShot(number), shot.enables)?;
-    collect_acts_at(contributions, place, row, Act::DisableShot(number), shot.disables)?;
+    collect_acts_at(
+        contributions,
+        place,
+        row,
+        Act::Advance(number),
+        shot.advances,
+    )?;
+    collect_acts_at(
+        contributions,
+        place,
+        row,
+        Act::ResetShot(number),
+        shot.resets,
+    )?;
+    collect_acts_at(
+        contributions,
+        place,
+        row,
+        Act::EnableShot(number),
+        shot.enables,
+    )?;
+    collect_acts_at(
+        contributions,
+        place,
+        row,
+        Act::DisableShot(number),
+        shot.disables,
+    )?;
     Ok(())
 }
 

@@ -103,11 +103,7 @@ fn add_entry<'a>(
 }
 
 /// Adds the seats of the shots that a group lists, whose row has this number.
-fn add_seats<'a>(
-    seats: &mut Seats<'a>,
-    row: usize,
-    shots: &'a [Name],
-) -> Result<(), AllocError>
+fn add_seats<'a>(seats: &mut Seats<'a>, row: usize, shots: &'a [Name]) -> Result<(), AllocError>
     ensures { OnOk result ((name : List ℕ) → found_seat seats.new name ≡ fold (latest_seat name) (found_seat seats.old name) (seats_at row 0 (map name_view shots.now))) }
 {
     for shot in 0..shots.len() {

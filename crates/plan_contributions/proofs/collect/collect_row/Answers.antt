@@ -1,4 +1,4 @@
-use Rattle.std.proofs.Common.{◌≡◌, length, map, ap, arith}
+use Rattle.std.proofs.Common.{length, ap, arith}
 use Rattle.std.proofs.lemmas.List.{length-map}
 use Rattle.mpf_sections.specs.Rows.{ShotGroup}
 use Rattle.mpf_sections.specs.View.{name_view, entry_view}

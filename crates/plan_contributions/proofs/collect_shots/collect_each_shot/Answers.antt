@@ -1,8 +1,8 @@
-use Rattle.std.proofs.Common.{◌≡◌, ◌++◌, ◌+◌, ℕ, length, List, map, drop, sym, refl, ap, ◌∙◌, arith}
+use Rattle.std.proofs.Common.{◌≡◌, ◌++◌, ◌+◌, ℕ, length, List, map, drop, ap, ◌∙◌, arith}
 use Rattle.std.specs.List.{flat_map}
 use Rattle.std.proofs.lemmas.List.{length-map}
 use Rattle.mpf_sections.specs.View.{name_view}
-use Rattle.machine_definitions.specs.Found.{names_view, profile_view}
+use Rattle.machine_definitions.specs.Found.{profile_view}
 use Rattle.plan_contributions.specs.DeviceEntries.{texts, posts}
 use Rattle.plan_contributions.specs.ShotEntries.{shot_events, shot_lists}
 use Rattle.plan_contributions.specs.Contributions.{effects_from}

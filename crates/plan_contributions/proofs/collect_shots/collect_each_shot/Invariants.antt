@@ -12,5 +12,5 @@ abbrev pub invariant-loop-shot : goal.invariant-loop-shot
 invariant-loop-shot l = record {
   lists : contributions_view l.contributions.items ++ effects_from l.next (flat_map (shot_lists (profile_view l.profile)) (texts (map name_view (drop l.shot-index l.shots))))
       ≡ contributions_view l.initial.contributions.items ++ effects_from 0 (flat_map (shot_lists (profile_view l.profile)) (texts (map name_view l.shots)));
-  next : l.next ≡ l.shot-index * length l.profile.states.items
+  next : l.next ≡ l.shot-index * length l.profile.states.items;
 }

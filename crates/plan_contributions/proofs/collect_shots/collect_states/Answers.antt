@@ -1,5 +1,4 @@
-use Rattle.std.proofs.Common.{◌++◌, ◌+◌, ℕ, List, map, drop, get_or, refl, ap, ◌∙◌, arith}
-use Rattle.std.specs.Borrow.{Bor}
+use Rattle.std.proofs.Common.{◌++◌, ◌+◌, ℕ, List, map, drop, ap, ◌∙◌, arith}
 use Rattle.plan_contributions.specs.DeviceEntries.{posts}
 use Rattle.plan_contributions.specs.ShotEntries.{group_events}
 use Rattle.plan_contributions.specs.Contributions.{effects_from}

@@ -1,11 +1,10 @@
-use Rattle.std.proofs.Common.{◌≡◌, Bool, Option, option_map, ap, ◌∙◌}
+use Rattle.std.proofs.Common.{◌≡◌, option_map, ap, ◌∙◌}
 use Rattle.mpf_sections.specs.Rows.{Shot}
 use Rattle.mpf_sections.specs.TypedShots.{shot_of}
 use Rattle.mpf_sections.specs.View.{entry_view}
 use Rattle.machine_definitions.specs.Found.{profile_view}
-use Rattle.machine_definitions.specs.Shots.{Profile, has_profile, profile_of_name}
+use Rattle.machine_definitions.specs.Shots.{has_profile, profile_of_name}
 use Rattle.machine_definitions.proofs.Finding.{value-found}
-use Rattle.plan_contributions.specs.ShotEntries.{Seat}
 use Rattle.plan_contributions.specs.Contributions.{shot}
 use Rattle.plan_contributions.specs.View.{seat_view, found_seat}
 use Rattle.plan_contributions.proofs.rows.shot_row.Goals as goal

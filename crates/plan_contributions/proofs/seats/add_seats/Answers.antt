@@ -1,4 +1,4 @@
-use Rattle.std.proofs.Common.{◌+◌, List, map, drop, get_or, Option, ap, ◌∙◌}
+use Rattle.std.proofs.Common.{◌+◌, map, drop, get_or, Option, ap, ◌∙◌}
 use Rattle.mpf_sections.specs.View.{name_view}
 use Rattle.machine_definitions.proofs.Finding.{took-value}
 use Rattle.plan_contributions.specs.ShotEntries.{Seat, seats_at}

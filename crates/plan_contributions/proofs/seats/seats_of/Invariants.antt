@@ -10,5 +10,5 @@ abbrev pub invariant-loop-section : goal.invariant-loop-section
 invariant-loop-section l = record {
   seats : (name : List ℕ) → seat_after name (found_seat l.seats name) (seats_from l.place (is_found l.grouped) l.rows (text_entries (map section_view (drop l.section-index l.sections))))
       ≡ seat_of l.place l.before (map section_view l.sections) name;
-  rows : rows_after_all l.place (is_found l.grouped) l.rows (text_entries (map section_view (drop l.section-index l.sections))) ≡ rows_after_text l.place l.before (map section_view l.sections)
+  rows : rows_after_all l.place (is_found l.grouped) l.rows (text_entries (map section_view (drop l.section-index l.sections))) ≡ rows_after_text l.place l.before (map section_view l.sections);
 }
