@@ -61,13 +61,13 @@ module _ {V X : Type 0} (view : V → X) where
   pub value-found : (found : BTreeMap (Bor (List ℕ)) V) (name : List ℕ) → option_map view (lookup (λ k. is_eq (slice_cmp nat_cmp name k.now)) found.entries) ≡ by_name found name
   value-found found name = ap (λ (test : Bor (List ℕ) → Bool). option_map view (lookup test found.entries)) (λ i k. same_test name k.now i)
 
-  -- a key with its value was taken
-  pub took-value : (old new : BTreeMap (Bor (List ℕ)) V) (k : Bor (List ℕ)) (v : V) → maps.Updates by_bytes old new k (Some v)
-      → (name : List ℕ) → by_name new name ≡ (if bytes_eq name k.now then Some (view v) else by_name old name)
-  took-value old new k v updates name =
+  -- a value was taken under a key that has these bytes
+  pub took-value : (old new : BTreeMap (Bor (List ℕ)) V) (k : Bor (List ℕ)) (v : V) (key : List ℕ) → k.now ≡ key → maps.Updates by_bytes old new k (Some v)
+      → (name : List ℕ) → by_name new name ≡ (if bytes_eq name key then Some (view v) else by_name old name)
+  took-value old new k v key is updates name =
       sym (value-found new name)
-      ∙ ap (option_map view) (updates.0 (asked k name) ∙ ap (λ (b : Bool). cond b (Some v) (lookup (λ x. is_eq (slice_cmp nat_cmp name x.now)) old.entries)) (turned_test name k.now))
-      ∙ seen (bytes_eq name k.now) (lookup (λ x. is_eq (slice_cmp nat_cmp name x.now)) old.entries) (by_name old name) (value-found old name)
+      ∙ ap (option_map view) (updates.0 (asked k name) ∙ ap (λ (b : Bool). cond b (Some v) (lookup (λ x. is_eq (slice_cmp nat_cmp name x.now)) old.entries)) (turned_test name k.now ∙ ap (bytes_eq name) is))
+      ∙ seen (bytes_eq name key) (lookup (λ x. is_eq (slice_cmp nat_cmp name x.now)) old.entries) (by_name old name) (value-found old name)
     where
       seen : (b : Bool) (o : Option V) (r : Option X) → option_map view o ≡ r → option_map view (cond b (Some v) o) ≡ cond b (Some (view v)) r
       seen true o r e = refl

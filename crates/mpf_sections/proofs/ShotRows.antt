@@ -129,7 +129,12 @@ shot_short e h = record {
   disables = few_events e 6 h;
 }
 
--- A group has at most 16 shots, and no other list of it has more than 1,024 items.
+-- A group has at most 16 shots.
+pub shot_group_few : (e : Entry) → length (shot_group_of e).shots ≤ 16
+unfolding shot_group_of
+shot_group_few e = few_short (listed_names (slice_get e.values 0))
+
+-- No other list of it has more than 1,024 items.
 pub shot_group_short : (e : Entry) → IsShortEntry 1024 e → IsShortShotGroup (shot_group_of e)
 unfolding shot_group_of
 shot_group_short e h = record {

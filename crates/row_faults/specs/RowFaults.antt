@@ -15,7 +15,7 @@ use Rattle.row_faults.specs.FaultText.{row_fault_number, row_fault_line}
 use Rattle.row_faults.specs.Reserved.{events_of_modes, mode_names, posts_in, reserved_among}
 use Rattle.row_faults.specs.VariableFaults.{variable_faults}
 use Rattle.row_faults.specs.CoilFaults.{fault_at, coil_faults, coil_player_faults, flipper_faults, autofire_faults}
-use Rattle.row_faults.specs.ShotFaults.{shot_faults, listed_of, is_own_shot, taken_after, misplaced}
+use Rattle.row_faults.specs.ShotFaults.{shot_faults, listed_in, listed_of, is_own_shot, taken_after, misplaced}
 use Rattle.mpf_sections.specs.TypedShots.{shots_in}
 
 -- ---- one section
@@ -46,15 +46,23 @@ coil_faults_in machine text s =
     ++ flat_map (autofire_faults machine text) (autofires_in s)
 
 -- The faults of a section of a text, as written: its posts of reserved events, those of what it says of variables, of
--- coils and of shots, and its timers that start at their end. A section is of one kind, so at most one of these lists has
--- any.
-abbrev pub section_faults : List (List ℕ) → Rows → List ℕ → SectionRows → List RowFaultView
-section_faults modes rows text s =
+-- coils and of shots, the shots that its groups may not list, and its timers that start at their end. A section is of one
+-- kind, so at most one of these lists has any.
+abbrev pub section_faults : List (List ℕ) → Rows → (is_own is_taken : List ℕ → Bool) → List ℕ → SectionRows → List RowFaultView
+section_faults modes rows is_own is_taken text s =
     map (name_fault text) (reserved_among modes (posts_in s))
     ++ variable_faults modes text s
     ++ coil_faults_in rows.machine text s
     ++ flat_map (shot_faults rows text) (shots_in s)
+    ++ map (name_fault text) (misplaced rows is_own is_taken (listed_in rows s))
     ++ map (timer_fault text) (filter starts_at_end (timers_in s))
+
+-- the faults of sections of a text, as written
+abbrev pub written_faults : List (List ℕ) → Rows → (is_own is_taken : List ℕ → Bool) → List ℕ → List SectionRows → List RowFaultView
+written_faults modes rows is_own is_taken text [] = []
+written_faults modes rows is_own is_taken text (s ∷ ss) =
+    section_faults modes rows is_own is_taken text s
+    ++ written_faults modes rows is_own (taken_after is_taken (listed_in rows s)) text ss
 
 -- ---- by line
 
@@ -75,19 +83,14 @@ fault_line f = f.line
 abbrev pub fault_number : RowFaultView → ℕ
 fault_number f = row_fault_number f.kind
 
--- the faults of a text as written, where groups of texts before it list these shots: of its sections, and of its groups
-abbrev pub written_faults : List (List ℕ) → Rows → (List ℕ → Bool) → List ℕ → List SectionRows → List RowFaultView
-written_faults modes rows is_taken text sections =
-    flat_map (section_faults modes rows text) sections
-    ++ map (name_fault text) (misplaced rows (is_own_shot sections) is_taken (listed_of rows sections))
-
--- the same by line, on one line by number, and those of one line and number as written
-abbrev pub text_faults : List (List ℕ) → Rows → (List ℕ → Bool) → List ℕ → List SectionRows → List RowFaultView
+-- the faults of a text, by line, on one line by number, and those of one line and number as written; groups of texts before
+-- it list the shots that are taken
+abbrev pub text_faults : List (List ℕ) → Rows → (is_taken : List ℕ → Bool) → List ℕ → List SectionRows → List RowFaultView
 text_faults modes rows is_taken text sections =
-    ordered_by fault_line (ordered_by fault_number (written_faults modes rows is_taken text sections))
+    ordered_by fault_line (ordered_by fault_number (written_faults modes rows (is_own_shot sections) is_taken text sections))
 
 -- the faults of the texts of these modes, in their order
-abbrev pub mode_faults : List (List ℕ) → Rows → (List ℕ → Bool) → List ModeRows → List RowFaultView
+abbrev pub mode_faults : List (List ℕ) → Rows → (is_taken : List ℕ → Bool) → List ModeRows → List RowFaultView
 mode_faults modes rows is_taken [] = []
 mode_faults modes rows is_taken (m ∷ ms) =
     text_faults modes rows is_taken (mode_text_name m.name) m.sections

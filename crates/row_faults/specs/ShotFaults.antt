@@ -51,7 +51,7 @@ listed_of rows sections = flat_map (listed_in rows) sections
 abbrev pub is_own_shot : List SectionRows → List ℕ → Bool
 is_own_shot own name = list_any (λ s. bytes_eq name s.name.text) (flat_map shots_in own)
 
--- whether two shots have different profiles; a shot that nothing defines differs from none
+-- whether two shots have different profiles; a shot that nothing defines is not compared
 abbrev pub are_of_two_profiles : Option Shot → Option Shot → Bool
 are_of_two_profiles (Some s) (Some t) = not (bytes_eq s.profile.text t.profile.text)
 are_of_two_profiles _ _ = false

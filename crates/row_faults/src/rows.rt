@@ -5,8 +5,8 @@ ghost use Rattle.std.specs.List.{filter, flat_map};
 ghost use Rattle.mpf_sections.specs.Typed.{timer_of};
 ghost use Rattle.mpf_sections.specs.View.{entry_view, section_view, timer_view};
 ghost use Rattle.mpf_config.specs.View.{mode_view, rows_view};
-ghost use Rattle.row_faults.specs.RowFaults.{name_fault, has_reached, starts_at_end, timer_fault, section_faults, ordered_by, fault_line, fault_number, text_faults, mode_faults, faults_by, row_faults};
-ghost use Rattle.row_faults.specs.ShotFaults.{listed_of, taken_after};
+ghost use Rattle.row_faults.specs.RowFaults.{name_fault, has_reached, starts_at_end, timer_fault, section_faults, written_faults, ordered_by, fault_line, fault_number, text_faults, mode_faults, faults_by, row_faults};
+ghost use Rattle.row_faults.specs.ShotFaults.{listed_in, listed_of, taken_after};
 ghost use Rattle.row_faults.specs.Sound.{IsSound};
 ghost use Rattle.machine_definitions.specs.Found.{is_found};
 ghost use Rattle.row_faults.specs.View.{keys_view, written_view, row_fault_view, row_faults_view};
@@ -16,7 +16,7 @@ use crate::coil_faults::add_coil_faults;
 use crate::fault::{RowFault, RowFaultKind};
 use crate::once::listed_once;
 use crate::reserved::{ModeEvents, add_texts, events_of_modes, reserved_posts};
-use crate::shot_faults::{Shots, add_shots, misplaced_shots};
+use crate::shot_faults::{Shots, add_shots, misplaced_shots, shots_of};
 use crate::variable_faults::add_variable_faults;
 use machine_definitions::Definitions;
 use mpf_config::{
@@ -116,30 +116,43 @@ fn faults_of_text<'a>(
     ensures faults { IfOk result (λ faults. row_faults_view faults.items ≡ text_faults (keys_view modes.now) definitions.now (is_found taken.old) text.now (map section_view sections.now)) }
     ensures taken { IfOk result (λ _. is_found taken.new ≡ taken_after (is_found taken.old) (listed_of definitions.now (map section_view sections.now))) }
 {
-    let mut faults = Vec::new(alloc);
-    add_sections(alloc, &mut faults, modes, definitions, text, sections)?;
-    let misplaced = misplaced_shots(alloc, taken, definitions, sections)?;
-    add_names(alloc, &mut faults, text, &misplaced)?;
+    let own = shots_of(alloc, sections)?;
+    let known = Known {
+        modes,
+        definitions,
+        own: &own,
+    };
+    let mut faults = written_faults(alloc, taken, known, text, sections)?;
     sort_by_number(&mut faults)?;
     sort_by_line(&mut faults)?;
     Ok(faults)
 }
 
-/// Adds the faults of the sections of the text of this name, as written.
-fn add_sections(
+/// What faults of a text depend on: the events of modes, what entries define, and the shots that the
+/// text itself defines.
+#[derive(Clone, Copy)]
+struct Known<'k> {
+    modes: &'k ModeEvents,
+    definitions: &'k Definitions<'k>,
+    own: &'k Shots<'k>,
+}
+
+/// The faults of the sections of the text of this name, as written.
+fn written_faults<'a>(
     alloc: Global,
-    faults: &mut Vec<RowFault>,
-    modes: &ModeEvents,
-    definitions: &Definitions<'_>,
+    taken: &mut Shots<'a>,
+    known: Known<'_>,
     text: &[u8],
-    sections: &[Section],
-) -> Result<(), AllocError>
-    ensures { OnOk result (row_faults_view faults.new.items ≡ row_faults_view faults.old.items ++ flat_map (section_faults (keys_view modes.now) definitions.now text.now) (map section_view sections.now)) }
+    sections: &'a [Section],
+) -> Result<Vec<RowFault>, AllocError>
+    ensures faults { IfOk result (λ faults. row_faults_view faults.items ≡ written_faults (keys_view known.entry.modes.now) known.entry.definitions.now (is_found known.entry.own.now) (is_found taken.old) text.now (map section_view sections.now)) }
+    ensures taken { IfOk result (λ _. is_found taken.new ≡ taken_after (is_found taken.old) (listed_of known.entry.definitions.now (map section_view sections.now))) }
 {
+    let mut faults = Vec::new(alloc);
     for section in sections {
-        add_section(alloc, faults, modes, definitions, text, section)?;
+        add_section(alloc, &mut faults, taken, known, text, section)?;
     }
-    Ok(())
+    Ok(faults)
 }
 
 /// By number, those of one number as they are.
@@ -159,21 +172,24 @@ fn sort_by_line(faults: &mut Vec<RowFault>) -> Result<(), AllocError>
 }
 
 /// Adds the faults of a section of the text of this name, as written.
-fn add_section(
+fn add_section<'a>(
     alloc: Global,
     faults: &mut Vec<RowFault>,
-    modes: &ModeEvents,
-    definitions: &Definitions<'_>,
+    taken: &mut Shots<'a>,
+    known: Known<'_>,
     text: &[u8],
-    section: &Section,
+    section: &'a Section,
 ) -> Result<(), AllocError>
-    ensures { OnOk result (row_faults_view faults.new.items ≡ row_faults_view faults.old.items ++ section_faults (keys_view modes.now) definitions.now text.now (section_view section.now)) }
+    ensures faults { OnOk result (row_faults_view faults.new.items ≡ row_faults_view faults.old.items ++ section_faults (keys_view known.entry.modes.now) known.entry.definitions.now (is_found known.entry.own.now) (is_found taken.old) text.now (section_view section.now)) }
+    ensures taken { OnOk result (is_found taken.new ≡ taken_after (is_found taken.old) (listed_in known.entry.definitions.now (section_view section.now))) }
 {
-    let posts = reserved_posts(alloc, modes, section)?;
+    let posts = reserved_posts(alloc, known.modes, section)?;
     add_names(alloc, faults, text, &posts)?;
-    add_variable_faults(alloc, faults, modes, text, section)?;
-    add_coil_faults(alloc, faults, definitions, text, section)?;
-    add_shots(alloc, faults, definitions, text, section.shots())?;
+    add_variable_faults(alloc, faults, known.modes, text, section)?;
+    add_coil_faults(alloc, faults, known.definitions, text, section)?;
+    add_shots(alloc, faults, known.definitions, text, section.shots())?;
+    let misplaced = misplaced_shots(alloc, taken, known.definitions, known.own, section)?;
+    add_names(alloc, faults, text, &misplaced)?;
     add_timers(alloc, faults, text, section.timers())
 }
 

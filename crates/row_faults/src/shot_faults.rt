@@ -6,7 +6,7 @@ ghost use Rattle.std.specs.Str.{bytes_eq};
 ghost use Rattle.mpf_sections.specs.TypedShots.{shot_of, shot_group_of};
 ghost use Rattle.mpf_sections.specs.View.{name_view, name_at_view, entry_view, section_view, shot_view, shot_group_view};
 ghost use Rattle.machine_definitions.specs.Found.{is_found};
-ghost use Rattle.row_faults.specs.ShotFaults.{shot_switch_faults, shot_faults, first_shot, listed_after, listed_by, listed_of, is_own_shot, are_of_two_profiles, is_misplaced, taken_after, kept_if, misplaced};
+ghost use Rattle.row_faults.specs.ShotFaults.{shot_switch_faults, shot_faults, first_shot, listed_after, listed_by, listed_in, is_own_shot, are_of_two_profiles, is_misplaced, taken_after, kept_if, misplaced};
 ghost use Rattle.row_faults.specs.View.{row_faults_view, written_view};
 
 use crate::adding::add_if;
@@ -78,28 +78,26 @@ fn add_switch(
 
 // ---- `shot_groups`
 
-/// The names that the groups of a text may not list, in the order in which they are written, where
-/// groups of texts before it list the names that are taken. Takes all that its groups list. Where
-/// memory runs out, some of it may be taken.
+/// The names that the groups of a section may not list, in the order in which they are written. Here
+/// `own` are the shots that the section's text defines, and groups before these list the names that
+/// are taken. Takes all that these groups list. Where memory runs out, some of it may be taken.
 pub(crate) fn misplaced_shots<'a>(
     alloc: Global,
     taken: &mut Shots<'a>,
     definitions: &Definitions<'_>,
-    sections: &'a [Section],
+    own: &Shots<'_>,
+    section: &'a Section,
 ) -> Result<Vec<&'a Name>, AllocError>
-    ensures names { IfOk result (λ names. written_view names.items ≡ misplaced definitions.now (is_own_shot (map section_view sections.now)) (is_found taken.old) (listed_of definitions.now (map section_view sections.now))) }
-    ensures taken { IfOk result (λ _. is_found taken.new ≡ taken_after (is_found taken.old) (listed_of definitions.now (map section_view sections.now))) }
+    ensures names { IfOk result (λ names. written_view names.items ≡ misplaced definitions.now (is_found own.now) (is_found taken.old) (listed_in definitions.now (section_view section.now))) }
+    ensures taken { IfOk result (λ _. is_found taken.new ≡ taken_after (is_found taken.old) (listed_in definitions.now (section_view section.now))) }
 {
-    let own = shots_of(alloc, sections)?;
     let mut names = Vec::new(alloc);
-    for section in sections {
-        note_groups(&mut names, taken, definitions, &own, section.shot_groups())?;
-    }
+    note_groups(&mut names, taken, definitions, own, section.shot_groups())?;
     Ok(names)
 }
 
 /// The shots that these sections define.
-fn shots_of<'a>(alloc: Global, sections: &'a [Section]) -> Result<Shots<'a>, AllocError>
+pub(crate) fn shots_of<'a>(alloc: Global, sections: &'a [Section]) -> Result<Shots<'a>, AllocError>
     ensures { IfOk result (λ shots. (name : List ℕ) → is_found shots name ≡ is_own_shot (map section_view sections.now) name) }
 {
     let mut shots = BTreeSet::new(alloc);

@@ -11,7 +11,7 @@ pub loop-entry-preserved : goal.loop-entry-preserved
 loop-entry-preserved c = λ name.
     let l = c.loop-entry in
     let seen = λ (o : Option Coil) (entries : List _). fold (latest_coil name) o (map coil_of (map entry_view entries)) in
-    let took = took-value coil_view l.coils c.insert.new.self c.deref.result c.as_coil-coil.result c.in_ok-insert.ensures.updates name in
+    let took = took-value coil_view l.coils c.insert.new.self c.deref.result c.as_coil-coil.result (coil_view c.as_coil-coil.result).name.text c.deref.ensures.value c.in_ok-insert.ensures.updates name in
     ap (λ (o : Option Coil). seen o (drop (l.entry-index + 1) c.args.entries.now)) (took ∙ ap (latest_coil name (found_coil l.coils name)) c.as_coil-coil.ensures)
     ∙ next-is (seen (found_coil l.coils name)) c.args.entries.now l.entry-index c.entry-item.result c.loop-entry-test.true c.entry-item.is
     ∙ l.invariant name
