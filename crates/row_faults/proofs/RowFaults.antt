@@ -27,8 +27,8 @@ use Rattle.machine_definitions.specs.Players.{player_event, is_set_by_game}
 use Rattle.row_faults.specs.declared.fault.RowFaultKind.TheVariants.{Name}
 use Rattle.row_faults.specs.CoilFaults.{fault_if}
 use Rattle.row_faults.specs.Reserved.{mode_events, events_of_modes, posts_in}
-use Rattle.row_faults.specs.RowFaults.{fault_line, fault_number, ordered_by, name_fault, starts_at_end, timer_fault, coil_faults_in, text_faults, mode_faults, is_none_taken, faults_by, listed_once}
-use Rattle.row_faults.specs.ShotFaults.{shot_faults, listed_of, is_own_shot, taken_after, misplaced}
+use Rattle.row_faults.specs.RowFaults.{fault_line, fault_number, ordered_by, name_fault, starts_at_end, timer_fault, coil_faults_in, section_faults, written_faults, text_faults, mode_faults, is_none_taken, faults_by, listed_once}
+use Rattle.row_faults.specs.ShotFaults.{shot_faults, listed_in, listed_of, is_own_shot, taken_after, misplaced}
 use Rattle.row_faults.specs.View.{row_fault_view, row_faults_view}
 
 -- ---- sets
@@ -120,23 +120,29 @@ barred_by test v = is_set_by_game v || (is_among reserved_game_events (player_ev
 abbrev variables_by : (List ℕ → Bool) → List ℕ → SectionRows → List RowFaultView
 variables_by test text s = flat_map (λ (p : VariablePlayer). flat_map (λ (i : VariableItem). fault_if (barred_by test i.variable.text) Name text i.variable) p.items) (variable_players_in s)
 
-abbrev section_by : (List ℕ → Bool) → Rows → List ℕ → SectionRows → List RowFaultView
-section_by test rows text s =
+abbrev section_by : (List ℕ → Bool) → Rows → (is_own is_taken : List ℕ → Bool) → List ℕ → SectionRows → List RowFaultView
+section_by test rows is_own is_taken text s =
     map (name_fault text) (filter (λ w. is_among reserved_game_events w.text || test w.text) (posts_in s))
     ++ variables_by test text s
     ++ coil_faults_in rows.machine text s
     ++ flat_map (shot_faults rows text) (shots_in s)
+    ++ map (name_fault text) (misplaced rows is_own is_taken (listed_in rows s))
     ++ map (timer_fault text) (filter starts_at_end (timers_in s))
-
-abbrev text_by : (List ℕ → Bool) → Rows → (List ℕ → Bool) → List ℕ → List SectionRows → List RowFaultView
-text_by test rows is_taken text sections =
-    ordered_by fault_line
-    (ordered_by fault_number (flat_map (section_by test rows text) sections ++ map (name_fault text) (misplaced rows (is_own_shot sections) is_taken (listed_of rows sections))))
 
 -- only what is among the events of modes matters
 module _ (modes others : List (List ℕ)) (rows : Rows) (same : (q : List ℕ) → is_among modes q ≡ is_among others q) where
+  same_section : (is_own is_taken : List ℕ → Bool) (text : List ℕ) (s : SectionRows) → section_faults modes rows is_own is_taken text s ≡ section_faults others rows is_own is_taken text s
+  same_section is_own is_taken text s = ap (λ (test : List ℕ → Bool). section_by test rows is_own is_taken text s) (λ i q. same q i)
+
+  same_written : (is_own is_taken : List ℕ → Bool) (text : List ℕ) (ss : List SectionRows) → written_faults modes rows is_own is_taken text ss ≡ written_faults others rows is_own is_taken text ss
+  same_written is_own is_taken text [] = refl
+  same_written is_own is_taken text (s ∷ ss) =
+      let later = taken_after is_taken (listed_in rows s) in
+      ap (λ (fs : List RowFaultView). fs ++ written_faults modes rows is_own later text ss) (same_section is_own is_taken text s)
+      ∙ ap (λ (fs : List RowFaultView). section_faults others rows is_own is_taken text s ++ fs) (same_written is_own later text ss)
+
   same_text : (is_taken : List ℕ → Bool) (text : List ℕ) (sections : List SectionRows) → text_faults modes rows is_taken text sections ≡ text_faults others rows is_taken text sections
-  same_text is_taken text sections = ap (λ (test : List ℕ → Bool). text_by test rows is_taken text sections) (λ i q. same q i)
+  same_text is_taken text sections = ap (λ (fs : List RowFaultView). ordered_by fault_line (ordered_by fault_number fs)) (same_written (is_own_shot sections) is_taken text sections)
 
   same_modes : (is_taken : List ℕ → Bool) (ms : List ModeRows) → mode_faults modes rows is_taken ms ≡ mode_faults others rows is_taken ms
   same_modes is_taken [] = refl

@@ -1,5 +1,5 @@
 -- Rows without faults are sound.
-use Rattle.std.proofs.Common.{◌≡◌, ℕ, ◌≤◌, nat_lt, get_or, Bool, true, false, not, ◌&&◌, ◌||◌, List, [], ◌++◌, map, filter, Option, Some, None, IfSome, is_some, unwrap_or, refl}
+use Rattle.std.proofs.Common.{◌≡◌, ℕ, ◌≤◌, nat_lt, get_or, Bool, true, false, not, ◌&&◌, ◌||◌, List, [], ◌∷◌, ◌++◌, map, filter, Option, Some, None, IfSome, is_some, unwrap_or, refl}
 use Rattle.std.specs.Option.{is_none}
 use Rattle.std.specs.List.{All, flat_map}
 use Rattle.std.proofs.lemmas.Bool.{ltb-false, not-false}
@@ -168,26 +168,21 @@ listed-own rows is_own is_taken (l ∷ ls) e =
     let other = or-none (not (is_own l.shot.text)) (is_taken l.shot.text) front.0 in
     All-cons (λ l. is_own l.shot.text ≡ true) l ls (not-false (is_own l.shot.text) other.0) (listed-own rows is_own (taken_with l is_taken) ls both.1)
 
-groups-sound : (rows : Rows) (is_own : List ℕ → Bool) → ((name : List ℕ) → is_own name ≡ true → is_some (shot_called rows name) ≡ true) → (sections : List SectionRows) → All (λ l. is_own l.shot.text ≡ true) (listed_of rows sections)
-    → All (λ s. All (IsShotGroupSound rows) (shot_groups_in s)) sections
-groups-sound rows is_own called sections all =
-    All-weaker (λ s. All (λ l. is_own l.shot.text ≡ true) (listed_in rows s)) (λ s. All (IsShotGroupSound rows) (shot_groups_in s)) in-section sections
-    (each-All (λ l. is_own l.shot.text ≡ true) (listed_in rows) sections all)
-  where
-    in-group : (g : ShotGroup) → All (λ l. is_own l.shot.text ≡ true) (listed_by rows g) → IsShotGroupSound rows g
-    in-group g own =
-        All-weaker (λ w. is_own w.text ≡ true) (λ w. is_some (shot_called rows w.text) ≡ true) (λ w e. called w.text e) g.shots
-        (map-All (λ l. is_own l.shot.text ≡ true) (λ w. record { first = first_shot rows g.shots; shot = w }) g.shots own)
+module _ (rows : Rows) (is_own : List ℕ → Bool) (called : (name : List ℕ) → is_own name ≡ true → is_some (shot_called rows name) ≡ true) where
+  group-sound : (g : ShotGroup) → All (λ l. is_own l.shot.text ≡ true) (listed_by rows g) → IsShotGroupSound rows g
+  group-sound g own =
+      All-weaker (λ w. is_own w.text ≡ true) (λ w. is_some (shot_called rows w.text) ≡ true) (λ w e. called w.text e) g.shots
+      (map-All (λ l. is_own l.shot.text ≡ true) (λ w. record { first = first_shot rows g.shots; shot = w }) g.shots own)
 
-    in-section : (s : SectionRows) → All (λ l. is_own l.shot.text ≡ true) (listed_in rows s) → All (IsShotGroupSound rows) (shot_groups_in s)
-    in-section s own =
-        All-weaker (λ g. All (λ l. is_own l.shot.text ≡ true) (listed_by rows g)) (IsShotGroupSound rows) in-group (shot_groups_in s)
-        (each-All (λ l. is_own l.shot.text ≡ true) (listed_by rows) (shot_groups_in s) own)
+  groups-sound : (s : SectionRows) → All (λ l. is_own l.shot.text ≡ true) (listed_in rows s) → All (IsShotGroupSound rows) (shot_groups_in s)
+  groups-sound s own =
+      All-weaker (λ g. All (λ l. is_own l.shot.text ≡ true) (listed_by rows g)) (IsShotGroupSound rows) group-sound (shot_groups_in s)
+      (each-All (λ l. is_own l.shot.text ≡ true) (listed_by rows) (shot_groups_in s) own)
 
 -- ---- sections
 
-module _ (modes : List (List ℕ)) (rows : Rows) (text : List ℕ) where
-  -- of a section without faults the parts are none
+module _ (modes : List (List ℕ)) (rows : Rows) (is_own : List ℕ → Bool) (text : List ℕ) where
+  -- of a section without faults the parts are none, and its groups list shots of its own text
   record HasNone (s : SectionRows) : Type 0 where
     pub posts : reserved_among modes (posts_in s) ≡ []
     pub variables : All (λ p. variable_player_faults modes text p ≡ []) (variable_players_in s)
@@ -196,9 +191,10 @@ module _ (modes : List (List ℕ)) (rows : Rows) (text : List ℕ) where
     pub flippers : All (λ f. flipper_faults rows.machine text f ≡ []) (flippers_in s)
     pub autofires : All (λ a. autofire_faults rows.machine text a ≡ []) (autofires_in s)
     pub shots : All (λ t. shot_faults rows text t ≡ []) (shots_in s)
+    pub listed : All (λ l. is_own l.shot.text ≡ true) (listed_in rows s)
 
-  section-none : (s : SectionRows) → section_faults modes rows text s ≡ [] → HasNone s
-  section-none s e =
+  section-none : (is_taken : List ℕ → Bool) (s : SectionRows) → section_faults modes rows is_own is_taken text s ≡ [] → HasNone s
+  section-none is_taken s e =
       let machine = rows.machine in
       let posts = map (name_fault text) (reserved_among modes (posts_in s)) in
       let coils = flat_map (coil_faults text) (coils_in s) in
@@ -207,9 +203,11 @@ module _ (modes : List (List ℕ)) (rows : Rows) (text : List ℕ) where
       let autofires = flat_map (autofire_faults machine text) (autofires_in s) in
       let variables = variable_faults modes text s in
       let shots = flat_map (shot_faults rows text) (shots_in s) in
-      let all = append-none (((posts ++ variables) ++ coil_faults_in machine text s) ++ shots) (map (timer_fault text) (filter starts_at_end (timers_in s))) e in
-      let most = append-none ((posts ++ variables) ++ coil_faults_in machine text s) shots all.0 in
-      let front = append-none (posts ++ variables) (coil_faults_in machine text s) most.0 in
+      let names = misplaced rows is_own is_taken (listed_in rows s) in
+      let all = append-none ((((posts ++ variables) ++ coil_faults_in machine text s) ++ shots) ++ map (name_fault text) names) (map (timer_fault text) (filter starts_at_end (timers_in s))) e in
+      let most = append-none (((posts ++ variables) ++ coil_faults_in machine text s) ++ shots) (map (name_fault text) names) all.0 in
+      let more = append-none ((posts ++ variables) ++ coil_faults_in machine text s) shots most.0 in
+      let front = append-none (posts ++ variables) (coil_faults_in machine text s) more.0 in
       let events = append-none posts variables front.0 in
       let last = append-none ((coils ++ players) ++ flippers) autofires front.1 in
       let third = append-none (coils ++ players) flippers last.0 in
@@ -221,14 +219,15 @@ module _ (modes : List (List ℕ)) (rows : Rows) (text : List ℕ) where
         players = flat_map-none (coil_player_faults machine text) (coil_players_in s) first.1;
         flippers = flat_map-none (flipper_faults machine text) (flippers_in s) third.1;
         autofires = flat_map-none (autofire_faults machine text) (autofires_in s) last.1;
-        shots = flat_map-none (shot_faults rows text) (shots_in s) most.1;
+        shots = flat_map-none (shot_faults rows text) (shots_in s) more.1;
+        listed = listed-own rows is_own is_taken (listed_in rows s) (map-none (name_fault text) names most.1);
       }
 
   coils-sound : (s : SectionRows) → HasNone s → All IsCoilSound (coils_in s)
   coils-sound s h = λ i d within. coil-sound text (get_or (coils_in s) i d) (coils_in_range s i d within) (h.coils i d within)
 
-  section-sound : All IsCoilSound (flat_map coils_in rows.machine) → (s : SectionRows) → HasNone s → All (IsShotGroupSound rows) (shot_groups_in s) → IsSectionSound rows s
-  section-sound all s h groups =
+  section-sound : All IsCoilSound (flat_map coils_in rows.machine) → ((name : List ℕ) → is_own name ≡ true → is_some (shot_called rows name) ≡ true) → (s : SectionRows) → HasNone s → IsSectionSound rows s
+  section-sound all called s h =
       let machine = rows.machine in
       record {
         coils = coils-sound s h;
@@ -236,7 +235,7 @@ module _ (modes : List (List ℕ)) (rows : Rows) (text : List ℕ) where
         flippers = λ i d within. flipper-sound machine all text (get_or (flippers_in s) i d) (h.flippers i d within);
         autofires = λ i d within. autofire-sound machine all text (get_or (autofires_in s) i d) (h.autofires i d within);
         shots = λ i d within. shot-sound rows text (get_or (shots_in s) i d) (h.shots i d within);
-        groups = groups;
+        groups = groups-sound rows is_own called s h.listed;
       }
 
   -- no variable is changed that no row may change
@@ -252,46 +251,50 @@ module _ (modes : List (List ℕ)) (rows : Rows) (text : List ℕ) where
   section-free s h =
       All-weaker (λ p. variable_player_faults modes text p ≡ []) (λ p. All (λ item. is_barred modes item.variable.text ≡ false) p.items) player-free (variable_players_in s) h.variables
 
-  -- of a text without faults no section has any, and its groups list shots of its own
-  record TextHasNone (sections : List SectionRows) : Type 0 where
-    pub each : All HasNone sections
-    pub own : All (λ l. is_own_shot sections l.shot.text ≡ true) (listed_of rows sections)
-
-  text-none : (is_taken : List ℕ → Bool) (sections : List SectionRows) → text_faults modes rows is_taken text sections ≡ [] → TextHasNone sections
-  text-none is_taken sections e =
-      let of_sections = flat_map (section_faults modes rows text) sections in
-      let names = misplaced rows (is_own_shot sections) is_taken (listed_of rows sections) in
-      let all = written_faults modes rows is_taken text sections in
-      let parts = append-none of_sections (map (name_fault text) names) (ordered-none fault_number all (ordered-none fault_line (ordered_by fault_number all) e)) in
-      record {
-        each = All-weaker (λ s. section_faults modes rows text s ≡ []) HasNone section-none sections (flat_map-none (section_faults modes rows text) sections parts.0);
-        own = listed-own rows (is_own_shot sections) is_taken (listed_of rows sections) (map-none (name_fault text) names parts.1);
-      }
-
-  text-sound : All IsCoilSound (flat_map coils_in rows.machine) → (sections : List SectionRows) → ((name : List ℕ) → is_own_shot sections name ≡ true → is_some (shot_called rows name) ≡ true) → TextHasNone sections
-      → All (IsSectionSound rows) sections
-  text-sound all sections called h =
-      let groups = groups-sound rows (is_own_shot sections) called sections h.own in
-      λ i d within. section-sound all (get_or sections i d) (h.each i d within) (groups i d within)
+  sections-none : (is_taken : List ℕ → Bool) (ss : List SectionRows) → written_faults modes rows is_own is_taken text ss ≡ [] → All HasNone ss
+  sections-none is_taken [] e = All-nil HasNone
+  sections-none is_taken (s ∷ ss) e =
+      let later = taken_after is_taken (listed_in rows s) in
+      let both = append-none (section_faults modes rows is_own is_taken text s) (written_faults modes rows is_own later text ss) e in
+      All-cons HasNone s ss (section-none is_taken s both.0) (sections-none later ss both.1)
 
   -- no post of the sections is reserved
-  text-free : (sections : List SectionRows) → TextHasNone sections → All (λ w. is_reserved_by modes w.text ≡ false) (posts_of sections)
+  text-free : (sections : List SectionRows) → All HasNone sections → All (λ w. is_reserved_by modes w.text ≡ false) (posts_of sections)
   text-free sections h =
       All-each (λ w. is_reserved_by modes w.text ≡ false) posts_in sections
-      (All-weaker HasNone (λ s. All (λ w. is_reserved_by modes w.text ≡ false) (posts_in s)) (λ s k. filter-none (λ w. is_reserved_by modes w.text) (posts_in s) k.posts) sections h.each)
+      (All-weaker HasNone (λ s. All (λ w. is_reserved_by modes w.text ≡ false) (posts_in s)) (λ s k. filter-none (λ w. is_reserved_by modes w.text) (posts_in s) k.posts) sections h)
 
 -- ---- all texts
 
 module _ (modes : List (List ℕ)) (rows : Rows) where
+  -- no section of a text has faults
+  abbrev TextHasNone : List ℕ → List SectionRows → Type 0
+  TextHasNone text sections = All (HasNone modes rows (is_own_shot sections) text) sections
+
+  text-none : (is_taken : List ℕ → Bool) (text : List ℕ) (sections : List SectionRows) → text_faults modes rows is_taken text sections ≡ [] → TextHasNone text sections
+  text-none is_taken text sections e =
+      let all = written_faults modes rows (is_own_shot sections) is_taken text sections in
+      sections-none modes rows (is_own_shot sections) text is_taken sections (ordered-none fault_number all (ordered-none fault_line (ordered_by fault_number all) e))
+
   abbrev ModeHasNone : ModeRows → Type 0
-  ModeHasNone m = TextHasNone modes rows (mode_text_name m.name) m.sections
+  ModeHasNone m = TextHasNone (mode_text_name m.name) m.sections
 
   modes-none : (is_taken : List ℕ → Bool) (ms : List ModeRows) → mode_faults modes rows is_taken ms ≡ [] → All ModeHasNone ms
   modes-none is_taken [] e = All-nil ModeHasNone
   modes-none is_taken (m ∷ ms) e =
       let later = taken_after is_taken (listed_of rows m.sections) in
       let both = append-none (text_faults modes rows is_taken (mode_text_name m.name) m.sections) (mode_faults modes rows later ms) e in
-      All-cons ModeHasNone m ms (text-none modes rows (mode_text_name m.name) is_taken m.sections both.0) (modes-none later ms both.1)
+      All-cons ModeHasNone m ms (text-none is_taken (mode_text_name m.name) m.sections both.0) (modes-none later ms both.1)
+
+  text-sound : All IsCoilSound (flat_map coils_in rows.machine) → (text : List ℕ) (sections : List SectionRows) → ((name : List ℕ) → is_own_shot sections name ≡ true → is_some (shot_called rows name) ≡ true) → TextHasNone text sections
+      → All (IsSectionSound rows) sections
+  text-sound all text sections called h =
+      All-weaker (HasNone modes rows (is_own_shot sections) text) (IsSectionSound rows) (section-sound modes rows (is_own_shot sections) text all called) sections h
+
+  text-changes : (text : List ℕ) (sections : List SectionRows) → TextHasNone text sections → All (λ s. All (λ p. All (λ item. is_barred modes item.variable.text ≡ false) p.items) (variable_players_in s)) sections
+  text-changes text sections h =
+      All-weaker (HasNone modes rows (is_own_shot sections) text) (λ s. All (λ p. All (λ item. is_barred modes item.variable.text ≡ false) p.items) (variable_players_in s))
+      (section-free modes rows (is_own_shot sections) text) sections h
 
 pub no_faults_sound : (rows : Rows) → row_faults rows ≡ [] → IsSound rows
 unfolding row_faults
@@ -300,18 +303,19 @@ no_faults_sound rows none =
     let machine = rows.machine in
     let later = taken_after is_none_taken (listed_of rows machine) in
     let parts = append-none (text_faults modes rows is_none_taken machine_name machine) (mode_faults modes rows later rows.modes) (once-none (faults_by modes rows) none) in
-    let own = text-none modes rows machine_name is_none_taken machine parts.0 in
-    let each = modes-none modes rows later rows.modes parts.1 in
+    let own : TextHasNone modes rows machine_name machine = text-none modes rows is_none_taken machine_name machine parts.0 in
+    let each : All (ModeHasNone modes rows) rows.modes = modes-none modes rows later rows.modes parts.1 in
     let text_of = λ (m : ModeRows). mode_text_name m.name in
-    let all = All-each IsCoilSound coils_in machine (All-weaker (HasNone modes rows machine_name) (λ s. All IsCoilSound (coils_in s)) (coils-sound modes rows machine_name) machine own.each) in
+    let all = All-each IsCoilSound coils_in machine
+        (All-weaker (HasNone modes rows (is_own_shot machine) machine_name) (λ s. All IsCoilSound (coils_in s)) (coils-sound modes rows (is_own_shot machine) machine_name) machine own) in
     record {
       posts = record {
-        machine = text-free modes rows machine_name machine own;
-        modes = All-weaker (ModeHasNone modes rows) (λ m. All (λ w. is_reserved_by modes w.text ≡ false) (posts_of m.sections)) (λ m h. text-free modes rows (text_of m) m.sections h) rows.modes each;
+        machine = text-free modes rows (is_own_shot machine) machine_name machine own;
+        modes = All-weaker (ModeHasNone modes rows) (λ m. All (λ w. is_reserved_by modes w.text ≡ false) (posts_of m.sections))
+            (λ m h. text-free modes rows (is_own_shot m.sections) (text_of m) m.sections h) rows.modes each;
       };
-      changes = All-weaker (HasNone modes rows machine_name) (ChangesNothingBarred rows) (section-free modes rows machine_name) machine own.each;
-      mode_changes = All-weaker (ModeHasNone modes rows) (λ m. All (ChangesNothingBarred rows) m.sections)
-          (λ m h. All-weaker (HasNone modes rows (text_of m)) (ChangesNothingBarred rows) (section-free modes rows (text_of m)) m.sections h.each) rows.modes each;
-      machine = text-sound modes rows machine_name all machine (λ name own. machine-called name rows own) own;
-      modes = λ i d within. text-sound modes rows (text_of (get_or rows.modes i d)) all (get_or rows.modes i d).sections (λ name own. mode-called name rows i d within own) (each i d within);
+      changes = text-changes modes rows machine_name machine own;
+      mode_changes = All-weaker (ModeHasNone modes rows) (λ m. All (ChangesNothingBarred rows) m.sections) (λ m h. text-changes modes rows (text_of m) m.sections h) rows.modes each;
+      machine = text-sound modes rows all machine_name machine (λ name. machine-called name rows) own;
+      modes = λ i d within. text-sound modes rows all (text_of (get_or rows.modes i d)) (get_or rows.modes i d).sections (λ name. mode-called name rows i d within) (each i d within);
     }
