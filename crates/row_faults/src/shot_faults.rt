@@ -91,8 +91,9 @@ pub(crate) fn misplaced_shots<'a>(
     ensures names { IfOk result (λ names. written_view names.items ≡ misplaced definitions.now (is_found own.now) (is_found taken.old) (listed_in definitions.now (section_view section.now))) }
     ensures taken { IfOk result (λ _. is_found taken.new ≡ taken_after (is_found taken.old) (listed_in definitions.now (section_view section.now))) }
 {
-    let mut names = Vec::new(alloc);
-    note_groups(&mut names, taken, definitions, own, section.shot_groups())?;
+    let groups: &'a [Entry] = section.shot_groups();
+    let mut names: Vec<&'a Name> = Vec::new(alloc);
+    note_groups(&mut names, taken, definitions, own, groups)?;
     Ok(names)
 }
 

@@ -13,14 +13,14 @@ loop-name-preserved c =
     let l = c.loop-name in
     let rows = c.args.definitions.now in
     let own = is_found c.args.own.now in
-    let first = option_map shot_view c.args.first.entry in
+    let first = option_map shot_view c.args.first in
     let name = name_view c.name-item.result in
     let it : Listed = record { first = first; shot = name } in
     let listed = λ (names : List _). listed_after first (map name_view names) in
     let rest = listed (drop (l.name-index + 1) c.args.listed.now) in
-    let noted = c.in_ok-note_if.ensures ∙ ap (λ (b : Bool). written_view l.names.items ++ kept_if b name []) (c.is_misplaced.ensures name.line) in
+    let noted = c.in_ok-note_if.ensures ∙ ap (λ (b : Bool). written_view l.names.items ++ kept_if b name []) (c.is_misplaced-misplaced.ensures name.line) in
     let taken : is_found c.insert.new.self ≡ taken_with it (is_found l.taken) =
-    λ i q. (took-name l.taken c.insert.new.self c.deref-2.result c.in_ok-insert.ensures.updates q ∙ ap (λ key. is_found l.taken q || bytes_eq q key) c.deref-2.ensures.value) i in
+    λ i q. (took-name l.taken c.insert.new.self c.deref-in-loop-name.result c.in_ok-insert.ensures.updates q ∙ ap (λ key. is_found l.taken q || bytes_eq q key) c.deref-in-loop-name.ensures.value) i in
     record {
       noted =
           noted-more rows own (written_view l.names.items) (written_view c.note_if.new.names.items) (is_found l.taken) (is_found c.insert.new.self) (it ∷ []) rest noted taken
