@@ -12,12 +12,11 @@ ghost use Rattle.machine_definitions.specs.Definitions.{coil_called, latest_coil
 ghost use Rattle.machine_definitions.specs.Shots.{shot_called, has_profile, profile_of_name};
 ghost use Rattle.machine_definitions.specs.Found.{found_coil, is_found, profile_view, HasCoils, HasSwitches, HasQuick};
 
-use crate::profile::{Profile, standard_profile};
-use crate::shots::{profiles_of, shots_of};
+use crate::profile::Profile;
+use crate::shots::{profiles_of, shots_of, standard_profile};
 use mpf_config::config::Config;
 use mpf_config::{
-    Coil, Entry, Section, Shot, as_autofire, as_coil, as_flipper, as_switch,
-    min_balls,
+    Coil, Entry, Section, Shot, as_autofire, as_coil, as_flipper, as_switch, min_balls,
 };
 use mpf_sections::tables::DEFAULT_PROFILE;
 use std::alloc::{AllocError, Global};
@@ -131,10 +130,7 @@ impl<'a> Definitions<'a> {
     pub fn profile(&self, name: &[u8]) -> &Profile<'a>
         ensures { profile_view result.now ≡ profile_of_name self.now name.now }
     {
-        match self.profiles.get(name) {
-            Some(profile) => profile,
-            None => &self.standard,
-        }
+        self.profiles.get(name).unwrap_or(&self.standard)
     }
 }
 

@@ -1,16 +1,17 @@
 //! The shots of all texts, and their profiles, by their names.
 
 ghost use Rattle.std.specs.Prelude.{◌≡◌, ℕ, List, fold, map, IfOk, OnOk};
-ghost use Rattle.std.specs.List.{flat_map};
-ghost use Rattle.mpf_sections.specs.TypedShots.{shot_of, shot_profile_of, shots_in, shot_profiles_in};
-ghost use Rattle.mpf_sections.specs.View.{entry_view, section_view};
+ghost use Rattle.std.specs.List.{filter_map, flat_map};
+ghost use Rattle.mpf_sections.specs.TypedShots.{shot_of, state_of, shot_profile_of, shots_in, shot_profiles_in};
+ghost use Rattle.mpf_sections.specs.View.{entry_view, fields_view, section_view};
 ghost use Rattle.mpf_config.specs.View.{rows_view};
-ghost use Rattle.machine_definitions.specs.Shots.{latest_shot, profile_of, latest_profile};
-ghost use Rattle.machine_definitions.specs.Found.{found_shot, found_profile, HasShots, HasProfiles};
+ghost use Rattle.machine_definitions.specs.Shots.{latest_shot, profile_of, standard_profile, latest_profile};
+ghost use Rattle.machine_definitions.specs.Found.{names_view, profile_view, found_shot, found_profile, HasShots, HasProfiles};
 
-use crate::profile::{Profile, profile_of};
-use mpf_config::config::Config;
-use mpf_config::{Entry, Section, Shot, as_shot};
+use crate::profile::Profile;
+use mpf_config::config::{Config, ModeText};
+use mpf_config::{Entry, Fields, Section, Shot, as_shot, as_shot_profile, as_state};
+use mpf_sections::tables::DEFAULT_PROFILE;
 use std::alloc::{AllocError, Global};
 use std::collections::BTreeMap;
 
@@ -23,9 +24,11 @@ pub(crate) fn shots_of<'a>(
 ) -> Result<BTreeMap<&'a [u8], Shot<'a>>, AllocError>
     ensures { IfOk result (λ shots. HasShots (rows_view config.now) shots) }
 {
-    let mut shots = BTreeMap::new(alloc);
-    add_text_shots(&mut shots, &config.machine.sections)?;
-    for mode in &config.modes {
+    let machine: &'a [Section] = config.machine.sections.as_slice();
+    let modes: &'a [ModeText] = config.modes.as_slice();
+    let mut shots: BTreeMap<&'a [u8], Shot<'a>> = BTreeMap::new(alloc);
+    add_text_shots(&mut shots, machine)?;
+    for mode in modes {
         add_text_shots(&mut shots, &mode.sections)?;
     }
     Ok(shots)
@@ -66,9 +69,11 @@ pub(crate) fn profiles_of<'a>(
 ) -> Result<BTreeMap<&'a [u8], Profile<'a>>, AllocError>
     ensures { IfOk result (λ profiles. HasProfiles (rows_view config.now) profiles) }
 {
-    let mut profiles = BTreeMap::new(alloc);
-    add_text_profiles(alloc, &mut profiles, &config.machine.sections)?;
-    for mode in &config.modes {
+    let machine: &'a [Section] = config.machine.sections.as_slice();
+    let modes: &'a [ModeText] = config.modes.as_slice();
+    let mut profiles: BTreeMap<&'a [u8], Profile<'a>> = BTreeMap::new(alloc);
+    add_text_profiles(alloc, &mut profiles, machine)?;
+    for mode in modes {
         add_text_profiles(alloc, &mut profiles, &mode.sections)?;
     }
     Ok(profiles)
@@ -101,4 +106,45 @@ fn add_profiles<'a>(
         drop(before);
     }
     Ok(())
+}
+
+/// The profile of shots whose entries name none.
+pub(crate) fn standard_profile<'a>(alloc: Global) -> Result<Profile<'a>, AllocError>
+    ensures { IfOk result (λ p. profile_view p ≡ standard_profile) }
+{
+    let mut states: Vec<&'a [u8]> = Vec::new(alloc);
+    states.push(b"unlit")?;
+    states.push(b"lit")?;
+    Ok(Profile {
+        name: DEFAULT_PROFILE,
+        states,
+        advance_on_hit: true,
+        loops: false,
+    })
+}
+
+/// The profile that an entry defines.
+pub(crate) fn profile_of<'a>(alloc: Global, entry: &'a Entry) -> Result<Profile<'a>, AllocError>
+    ensures { IfOk result (λ p. profile_view p ≡ profile_of (shot_profile_of (entry_view entry.now))) }
+{
+    let row = as_shot_profile(entry);
+    Ok(Profile {
+        name: &row.name.text,
+        states: states_of(alloc, row.states)?,
+        advance_on_hit: row.advance_on_hit,
+        loops: row.loops,
+    })
+}
+
+/// The names of the states.
+fn states_of<'a>(alloc: Global, maps: &'a [Fields]) -> Result<Vec<&'a [u8]>, AllocError>
+    ensures { IfOk result (λ states. names_view states.items ≡ map (λ w. w.text) (filter_map state_of (map fields_view maps.now))) }
+{
+    let mut states = Vec::new(alloc);
+    for fields in maps {
+        if let Some(state) = as_state(fields) {
+            states.push(state.text)?;
+        }
+    }
+    Ok(states)
 }

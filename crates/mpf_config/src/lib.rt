@@ -23,11 +23,12 @@ pub use config::{
 };
 pub use escape::{escaped_makes_no_line, write_escaped};
 pub use fault::{ConfigFault, Fault, FaultKind, write_fault};
+// The sections: their names, and their entries by the names of their settings.
 pub use mpf_sections::tables::{
     ACCRUALS_NAME, AUTOFIRE_COILS_NAME, COIL_PLAYER_NAME, COILS_NAME, COUNTERS_NAME,
-    EVENT_PLAYER_NAME, FLIPPERS_NAME, GAME_NAME, MACHINE_SECTION_NAME, MODE_NAME, MODES_NAME,
-    SEQUENCES_NAME, SHOT_GROUPS_NAME, SHOT_PROFILES_NAME, SHOTS_NAME, SWITCHES_NAME, TIMERS_NAME,
-    VARIABLE_PLAYER_NAME,
+    DEFAULT_PROFILE, EVENT_PLAYER_NAME, FLIPPERS_NAME, GAME_NAME, MACHINE_SECTION_NAME, MODE_NAME,
+    MODES_NAME, SEQUENCES_NAME, SHOT_GROUPS_NAME, SHOT_PROFILES_NAME, SHOTS_NAME, SWITCHES_NAME,
+    TIMERS_NAME, VARIABLE_PLAYER_NAME,
 };
 pub use mpf_sections::{
     Autofire, Block, Coil, CoilItem, CoilPlayer, Control, Counter, EventPlayer, Flipper,

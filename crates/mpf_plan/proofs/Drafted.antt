@@ -6,7 +6,7 @@ use Rattle.std.proofs.lemmas.List.{length_push, length-set, length-map, length-a
 use Rattle.std.proofs.lemmas.List.Elements.{All-head, All-tail}
 use Rattle.std.proofs.lemmas.List.Sums.{sum_by-cons}
 use Rattle.mpf_sections.specs.Rows.{SectionRows}
-use Rattle.plan_contributions.specs.declared.collect.Row as rows
+use Rattle.plan_contributions.specs.declared.rows.Row as rows
 use Rattle.plan_contributions.specs.declared.contribution.Aim.{Aim}
 use Rattle.plan_contributions.specs.declared.contribution.Aim.TheVariants.{Run}
 use Rattle.plan_contributions.specs.declared.contribution.Contribution as contributions

@@ -4,7 +4,7 @@ use Rattle.std.specs.Prelude.{Option, None, Some}
 use Rattle.std.specs.Str.{bytes_eq}
 use Rattle.std.specs.List.{All, flat_map}
 use Rattle.std.proofs.lemmas.List.Elements.{All-nil, All-cons, All-append, All-head, All-tail}
-use Rattle.mpf_sections.specs.Rows.{Entry, Player, Switch, VariableItem, VariablePlayer, GameSettings, ModeSettings, SectionRows}
+use Rattle.mpf_sections.specs.Rows.{Written, Entry, Player, Switch, VariableItem, VariablePlayer, Shot, ShotGroup, GameSettings, ModeSettings, SectionRows}
 use Rattle.mpf_config.specs.Rows.{Rows}
 use Rattle.mpf_sections.specs.Typed.{switches_name, event_player_name, counters_name, accruals_name, sequences_name, timers_name, switch_of, event_player_of}
 use Rattle.mpf_sections.specs.TypedCoils.{coils_name, coil_player_name, coil_of, coil_player_of}
@@ -16,11 +16,15 @@ use Rattle.plan_contributions.specs.declared.contribution.Place.{Place}
 use Rattle.plan_contributions.specs.declared.contribution.Place.TheVariants.{Machine, Control, Mode}
 use Rattle.plan_contributions.specs.declared.contribution.Aim.TheVariants.{Run}
 use Rattle.plan_tables.specs.declared.table.Table.TheVariants.{Events, Switches}
+use Rattle.mpf_values.specs.Events.{Event}
+use Rattle.machine_definitions.specs.Shots.{Profile}
+use Rattle.plan_tables.specs.declared.devices.Act.{Act}
 use Rattle.plan_contributions.specs.DeviceEntries.{Device, device_of}
-use Rattle.plan_contributions.specs.Contributions.{Contribution, gives, reads, active, inactive, mode, mode_event, binds, does, device, does_in, listens, mentions, unknown, coil, under, plays, bound, switch_contributions, player_contributions, coil_contributions, coil_player_contributions, item_contributions, variable_player_contributions, game_contributions, controls, mode_contributions, act_binding, effects_from, listens_from, device_contributions, where_device, Row, entry, alone, player, of_mode, rows_of, machine_device, machine_entry_contributions, entry_contributions, alone_contributions, player_entry_contributions, row_contributions, given_by, contributions_of}
+use Rattle.plan_contributions.specs.ShotEntries.{Seat, shot_acts, lone_device, Members, group_device}
+use Rattle.plan_contributions.specs.Contributions.{Contribution, gives, reads, active, inactive, mode, mode_event, binds, does, device, does_in, listens, mentions, unknown, coil, under, plays, bound, switch_contributions, player_contributions, coil_contributions, coil_player_contributions, item_contributions, variable_player_contributions, game_contributions, controls, mode_contributions, act_binding, effects_from, listens_from, device_contributions, where_device, unknown_unless, shot_switch, act_at, seated, shot_contributions, group_contributions, Row, entry, alone, shot, group, player, of_mode, rows_of, machine_device, machine_entry_contributions, entry_contributions, alone_contributions, player_entry_contributions, row_contributions, given_by, contributions_of}
 use Rattle.plan_contributions.specs.Facts.{row_after}
 use Rattle.plan_contributions.proofs.RowFacts.{All-each, All-made}
-use Rattle.mpf_plan.proofs.Usual.{IsUsual, of_switch, of_bound, of_player, of_coil_player, of_device, of_controls}
+use Rattle.mpf_plan.proofs.Usual.{IsUsual, of_switch, of_bound, of_player, of_coil_player, of_device, of_unknown, of_shot_switch, of_acts_at, of_controls}
 
 -- a switch that is given by its name alone, or a switch to which a row of the machine listens that came last
 abbrev pub IsHeard : Option Place → Contribution → Type 0
@@ -54,7 +58,8 @@ usual_quiet = record {
   off = λ n. tt;
   bindings = λ n place aim. tt;
   conditions = λ c. tt;
-  mentioned = λ n. tt;
+  mentioned = λ t n. tt;
+  lacking = tt;
   done = λ e h. tt;
   done_in = λ k e h. tt;
   posted = λ n. tt;
@@ -200,9 +205,37 @@ heard_entry machine Machine section e = heard_machine_entry machine section e
 heard_entry machine Control section e = silent_where Control (device_of section e) (listens_to_none section e)
 heard_entry machine Mode section e = silent_where Mode (device_of section e) (listens_to_none section e)
 
+-- what a shot gives beside its row, and a group before it
+pub quiet_unknown : (known : Bool) → AreQuiet (unknown_unless known)
+quiet_unknown known = of_unknown IsQuiet (λ e. Unit {0}) usual_quiet known
+
+pub quiet_shot_switch : (o : Option Written) → AreQuiet (shot_switch o)
+quiet_shot_switch o = of_shot_switch IsQuiet (λ e. Unit {0}) usual_quiet o
+
+pub quiet_acts_at : (place : Place) (row : Option ℕ) (hs : List (Event × Act)) → AreQuiet (flat_map (act_at place row) hs)
+quiet_acts_at place row hs = of_acts_at IsQuiet (λ e. Unit {0}) usual_quiet place row hs
+
+heard_shot : (place : Place) (s : Shot) (seat : Option Seat) (known : Bool) (p : Profile) → AreHeard None (shot_contributions place s seat known p)
+unfolding shot_contributions
+heard_shot place s seat known p =
+    heard_append (unknown_unless known) (shot_switch s.switch ++ seated place p s seat) None (quiet_heard (unknown_unless known) None (quiet_unknown known))
+    (heard_append (shot_switch s.switch) (seated place p s seat) None (quiet_heard (shot_switch s.switch) None (quiet_shot_switch s.switch)) (by seat))
+  where
+    by : (seat : Option Seat) → AreHeard None (seated place p s seat)
+    by None = silent_device place (lone_device p s) refl
+    by (Some seat) = quiet_heard (flat_map (act_at place (Some seat.row)) (shot_acts seat.shot s)) None (quiet_acts_at place (Some seat.row) (shot_acts seat.shot s))
+
+heard_group : (place : Place) (g : ShotGroup) (m : Members) → AreHeard None (group_contributions place g m)
+unfolding group_contributions
+heard_group place g m =
+    heard_append (unknown_unless m.all_known) (device_contributions place (group_device g m)) None (quiet_heard (unknown_unless m.all_known) None (quiet_unknown m.all_known))
+    (silent_device place (group_device g m) refl)
+
 heard_row : (machine : List SectionRows) (r : Row) → AreHeard None (row_contributions machine r)
 unfolding mode_contributions
 heard_row machine (entry place section e) = heard_entry machine place section e
+heard_row machine (shot place s seat known p) = heard_shot place s seat known p
+heard_row machine (group place g m) = heard_group place g m
 heard_row machine (alone place section e) = quiet_heard (alone_contributions machine place section e) None (quiet_alone machine place section e)
 heard_row machine (player place section p) = quiet_heard (player_entry_contributions machine place section p) None (quiet_player_entry machine place section p)
 heard_row machine (of_mode name s) = (tt, (tt, (tt, (tt, (tt, quiet_heard (controls s) None (quiet_controls s))))))

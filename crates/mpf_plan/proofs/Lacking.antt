@@ -12,7 +12,7 @@ use Rattle.std.proofs.lemmas.List.Sums.{fold-append}
 use Rattle.std.proofs.lemmas.Slice.Eq.{bytes_eq-Decides}
 use Rattle.indexmap.specs.IndexSet.{IndexSet}
 use Rattle.mpf_sections.specs.Rows.{SectionRows}
-use Rattle.plan_contributions.specs.declared.collect.Row as rows
+use Rattle.plan_contributions.specs.declared.rows.Row as rows
 use Rattle.plan_tables.specs.declared.table.Table.{Table}
 use Rattle.plan_contributions.specs.Contributions.{Contribution, row_contributions, given_by}
 use Rattle.mpf_plan.specs.Uses.{first_uses, is_to_be_given, is_lacking}

@@ -19,12 +19,16 @@ use Rattle.plan_tables.specs.declared.entries.ModeEvent.{ModeEvent}
 use Rattle.plan_tables.specs.declared.entries.ModeEvent.TheVariants.{WillStart, Starting, Started, Stopping, Stopped}
 use Rattle.plan_tables.specs.declared.table.Table.TheVariants.{Events}
 use Rattle.plan_tables.specs.PlanView.{PlanMode, no_mode, event_among}
+use Rattle.mpf_sections.specs.Rows.{Shot, ShotGroup}
+use Rattle.mpf_sections.specs.TypedShots.{shots_name, shot_groups_name, shot_of, shot_group_of}
+use Rattle.machine_definitions.specs.Shots.{Profile}
 use Rattle.plan_contributions.specs.DeviceEntries.{Device, device_of}
-use Rattle.plan_contributions.specs.Contributions.{Contribution, gives, mode, mode_event, mode_event_name, mentions, switch_contributions, coil_contributions, later_events, controls, mode_contributions, act_binding, effects_from, listens_from, device_contributions, where_device, Row, entry, alone, player, of_mode, rows_from, rows_in, mode_rows, rows_of, machine_device, machine_entry_contributions, entry_contributions, alone_contributions, player_entry_contributions, row_contributions, given_by, contributions_of}
+use Rattle.plan_contributions.specs.ShotEntries.{Seat, seat_of, rows_after_text, shot_acts, lone_device, Members, group_device}
+use Rattle.plan_contributions.specs.Contributions.{Contribution, gives, mode, mode_event, mode_event_name, mentions, switch_contributions, coil_contributions, later_events, controls, mode_contributions, act_binding, effects_from, listens_from, device_contributions, where_device, unknown_unless, shot_switch, act_at, seated, shot_contributions, group_contributions, Row, entry, alone, shot, group, player, of_mode, shot_row, group_row, entry_row, rows_from, rows_in, text_rows, mode_rows, modes_rows, rows_of, machine_device, machine_entry_contributions, entry_contributions, alone_contributions, player_entry_contributions, row_contributions, given_by, contributions_of}
 use Rattle.mpf_plan.specs.Uses.{Names, names_from, number_among}
 use Rattle.mpf_plan.specs.PlanOf.{DraftView, event_of, new_mode, with_event_in, last_with_event, with_contribution, blank, drafted, plan_from}
 use Rattle.mpf_plan.proofs.Drafted.{given_plan}
-use Rattle.mpf_plan.proofs.Heard.{IsQuiet, AreQuiet, quiet_switch, quiet_player_entry, quiet_device, quiet_alone, quiet_controls}
+use Rattle.mpf_plan.proofs.Heard.{IsQuiet, AreQuiet, quiet_unknown, quiet_shot_switch, quiet_acts_at, quiet_switch, quiet_player_entry, quiet_device, quiet_alone, quiet_controls}
 
 module _ (names : Names) where
   -- the event of this name of a mode
@@ -113,6 +117,21 @@ module _ (names : Names) where
   in_entry machine Control section e = in_where Control (device_of section e)
   in_entry machine Mode section e = in_where Mode (device_of section e)
 
+  in_shot : (place : Place) (s : Shot) (seat : Option Seat) (known : Bool) (p : Profile) → Leaves (shot_contributions place s seat known p)
+  unfolding shot_contributions
+  in_shot place s seat known p =
+      both (unknown_unless known) (shot_switch s.switch ++ seated place p s seat) (quiet_leaves (unknown_unless known) (quiet_unknown known))
+      (both (shot_switch s.switch) (seated place p s seat) (quiet_leaves (shot_switch s.switch) (quiet_shot_switch s.switch)) (by seat))
+    where
+      by : (seat : Option Seat) → Leaves (seated place p s seat)
+      by None = in_device place (lone_device p s)
+      by (Some seat) = quiet_leaves (flat_map (act_at place (Some seat.row)) (shot_acts seat.shot s)) (quiet_acts_at place (Some seat.row) (shot_acts seat.shot s))
+
+  in_group : (place : Place) (g : ShotGroup) (m : Members) → Leaves (group_contributions place g m)
+  unfolding group_contributions
+  in_group place g m =
+      both (unknown_unless m.all_known) (device_contributions place (group_device g m)) (quiet_leaves (unknown_unless m.all_known) (quiet_unknown m.all_known)) (in_device place (group_device g m))
+
   in_player_entry : (machine : List SectionRows) (place : Place) (section : List ℕ) (p : Player) → Leaves (player_entry_contributions machine place section p)
   in_player_entry machine place section p = quiet_leaves (player_entry_contributions machine place section p) (quiet_player_entry machine place section p)
 
@@ -151,6 +170,8 @@ module _ (names : Names) where
   row_adds : (machine : List SectionRows) (r : Row) (ms : List PlanMode) → fold modes_with ms (row_contributions machine r) ≡ ms ++ modes_of r
   row_adds machine (entry place section e) ms = in_entry machine place section e ms ∙ sym (append-nil ms)
   row_adds machine (alone place section e) ms = quiet_leaves (alone_contributions machine place section e) (quiet_alone machine place section e) ms ∙ sym (append-nil ms)
+  row_adds machine (shot place s seat known p) ms = in_shot place s seat known p ms ∙ sym (append-nil ms)
+  row_adds machine (group place g m) ms = in_group place g m ms ∙ sym (append-nil ms)
   row_adds machine (player place section p) ms = in_player_entry machine place section p ms ∙ sym (append-nil ms)
   row_adds machine (of_mode name s) ms = mode_adds name s ms
 
@@ -167,28 +188,42 @@ module _ (names : Names) where
   none_mapped make none [] = refl
   none_mapped make none (x ∷ xs) = λ i. none x i ++ none_mapped make none xs i
 
-  none_from : (place : Place) (name : List ℕ) (content : Content) → flat_map modes_of (rows_from place name content) ≡ []
-  none_from place name (entries es) = none_mapped (entry place name) (λ e. refl) es
-  none_from place name (players ps) = none_mapped (player place name) (λ p. refl) ps
-  none_from place name (sections.entry e) = refl
-  none_from place name (sections.listed ws) = refl
+  module _ (rows : Rows) (place : Place) (seat : List ℕ → Option Seat) where
+    none_entry : (name : List ℕ) (e : Entry) → modes_of (entry_row rows place seat name e) ≡ []
+    none_entry name e = by (bytes_eq name shots_name) (bytes_eq name shot_groups_name)
+      where
+        by : (s g : Bool) → modes_of (if s then shot_row rows place seat (shot_of e) else (if g then group_row rows place seat (shot_group_of e) else entry place name e)) ≡ []
+        by true g = refl
+        by false true = refl
+        by false false = refl
 
-  none_in : (place : Place) (ss : List SectionRows) → flat_map modes_of (rows_in place ss) ≡ []
-  none_in place [] = refl
-  none_in place (s ∷ ss) =
-      flat_map-append modes_of (rows_from place s.name s.content) (rows_in place ss) ∙ (λ i. none_from place s.name s.content i ++ none_in place ss i)
+    none_from : (name : List ℕ) (content : Content) → flat_map modes_of (rows_from rows place seat name content) ≡ []
+    none_from name (entries es) = none_mapped (entry_row rows place seat name) (none_entry name) es
+    none_from name (players ps) = none_mapped (player place name) (λ p. refl) ps
+    none_from name (sections.entry e) = refl
+    none_from name (sections.listed ws) = refl
 
-  of_modes : (ms : List ModeRows) → flat_map modes_of (flat_map mode_rows ms) ≡ map made ms
-  of_modes [] = refl
-  of_modes (m ∷ ms) =
-      flat_map-append modes_of (mode_rows m) (flat_map mode_rows ms) ∙ (λ i. made m ∷ none_in Mode m.sections i ++ of_modes ms i)
+    none_in : (ss : List SectionRows) → flat_map modes_of (rows_in rows place seat ss) ≡ []
+    none_in [] = refl
+    none_in (s ∷ ss) =
+        flat_map-append modes_of (rows_from rows place seat s.name s.content) (rows_in rows place seat ss) ∙ (λ i. none_from s.name s.content i ++ none_in ss i)
+
+  none_of_text : (rows : Rows) (place : Place) (n : ℕ) (ss : List SectionRows) → flat_map modes_of (text_rows rows place n ss) ≡ []
+  none_of_text rows place n ss = none_in rows place (seat_of place n ss) ss
+
+  of_modes : (rows : Rows) (n : ℕ) (ms : List ModeRows) → flat_map modes_of (modes_rows rows n ms) ≡ map made ms
+  of_modes rows n [] = refl
+  of_modes rows n (m ∷ ms) =
+      let later = rows_after_text Mode n m.sections in
+      flat_map-append modes_of (mode_rows rows n m) (modes_rows rows later ms) ∙ (λ i. made m ∷ none_of_text rows Mode n m.sections i ++ of_modes rows later ms i)
 
   pub modes_drafted : (rows : Rows) → (drafted names (contributions_of rows)).plan.modes ≡ map made rows.modes
   modes_drafted rows =
+      let later = rows_after_text Machine 0 rows.machine in
       modes_fold (contributions_of rows) (blank names)
       ∙ rows_add rows.machine (rows_of rows) []
-      ∙ flat_map-append modes_of (rows_in Machine rows.machine) (flat_map mode_rows rows.modes)
-      ∙ (λ i. none_in Machine rows.machine i ++ of_modes rows.modes i)
+      ∙ flat_map-append modes_of (text_rows rows Machine 0 rows.machine) (modes_rows rows later rows.modes)
+      ∙ (λ i. none_of_text rows Machine 0 rows.machine i ++ of_modes rows later rows.modes i)
 
 -- the modes of the plan of contributions
 pub modes-made : (rows : Rows) → (plan_from (contributions_of rows)).modes ≡ map (made (names_from (contributions_of rows))) rows.modes

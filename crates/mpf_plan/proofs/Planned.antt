@@ -7,7 +7,7 @@ use Rattle.mpf_sections.specs.Rows.{SectionRows}
 use Rattle.mpf_config.specs.Rows.{Rows}
 use Rattle.mpf_config.specs.Short.{AreListsShort}
 use Rattle.mpf_config.specs.FewModes.{AreFewModes}
-use Rattle.plan_contributions.specs.declared.collect.Row as found
+use Rattle.plan_contributions.specs.declared.rows.Row as found
 use Rattle.plan_tables.specs.declared.names.NameSets.{NameSets}
 use Rattle.mpf_plan.specs.declared.draft.Draft.{Draft}
 use Rattle.plan_tables.specs.declared.table.Table.{Table}

@@ -6,11 +6,11 @@ use Rattle.std.specs.Str.{bytes_eq}
 use Rattle.std.specs.List.{All, flat_map, list_any}
 use Rattle.std.proofs.lemmas.Bool.{and_parts, leb-true, or_left, or_right}
 use Rattle.std.proofs.lemmas.Grind.{flat_map-append}
-use Rattle.std.proofs.lemmas.List.Elements.{All-nil, All-cons, All-append, All-weaker, All-from_get_or}
+use Rattle.std.proofs.lemmas.List.Elements.{All-nil, All-cons, All-append, All-map, All-weaker, All-from_get_or}
 use Rattle.std.proofs.lemmas.List.Folds.{list_any-append, list_any_at}
 use Rattle.std.proofs.lemmas.Slice.Eq.{bytes_eq-Decides}
 use Rattle.section_tables.specs.Rows.{number, Value, one}
-use Rattle.mpf_sections.specs.Rows.{Entry, Player, Block, Flipper, VariableItem, VariablePlayer, ModeSettings, SectionRows, Written}
+use Rattle.mpf_sections.specs.Rows.{Entry, Player, Block, Flipper, VariableItem, VariablePlayer, Shot, ShotGroup, ModeSettings, SectionRows, Written}
 use Rattle.mpf_config.specs.Rows.{Rows}
 use Rattle.mpf_sections.specs.Typed.{switches_name, event_player_name, counters_name, accruals_name, sequences_name, timers_name, switch_of, event_player_of, counter_of, step_block_of, timer_of, setting_of, row_or, content_named, natural_within}
 use Rattle.mpf_sections.specs.TypedCoils.{coils_name, coil_player_name, flippers_name, autofire_coils_name, coil_of, coil_player_of, flipper_of}
@@ -23,16 +23,18 @@ use Rattle.plan_contributions.specs.declared.contribution.Place.TheVariants.{Mac
 use Rattle.plan_contributions.specs.declared.contribution.Aim.TheVariants.{Run}
 use Rattle.plan_tables.specs.declared.table.Table.TheVariants.{Events}
 use Rattle.plan_contributions.specs.VariableEntries.{item_change}
-use Rattle.plan_contributions.specs.DeviceEntries.{disable, Effect, posts, works, changes, Device, device_of, block_event, block_lists, or_own, timer_event, timer_endings}
+use Rattle.plan_contributions.specs.DeviceEntries.{texts, disable, Effect, posts, works, changes, Device, device_of, block_event, block_lists, or_own, timer_event, timer_endings}
+use Rattle.machine_definitions.specs.Shots.{Profile}
+use Rattle.plan_contributions.specs.ShotEntries.{Seat, shot_events, shot_lists, group_events, state_lists, group_lists, shot_acts, lone_device, Members, group_device}
 use Rattle.plan_contributions.specs.CoilEntries.{flipper_on, flipper_off, flipper_device}
-use Rattle.plan_contributions.specs.Contributions.{Contribution, device, does, does_in, mentions, coil, plays, bound, switch_contributions, player_contributions, coil_contributions, coil_player_contributions, item_contributions, variable_player_contributions, game_contributions, mode, later_events, controls, mode_contributions, act_binding, effects_from, listens_from, device_contributions, where_device, Row, entry, alone, player, of_mode, rows_of, machine_device, machine_entry_contributions, entry_contributions, alone_contributions, player_entry_contributions, row_contributions, given_by, contributions_of}
+use Rattle.plan_contributions.specs.Contributions.{Contribution, device, does, does_in, mentions, coil, plays, bound, switch_contributions, player_contributions, coil_contributions, coil_player_contributions, item_contributions, variable_player_contributions, game_contributions, mode, later_events, controls, mode_contributions, act_binding, effects_from, listens_from, device_contributions, where_device, unknown_unless, shot_switch, act_at, seated, shot_contributions, group_contributions, Row, entry, alone, shot, group, player, of_mode, rows_of, machine_device, machine_entry_contributions, entry_contributions, alone_contributions, player_entry_contributions, row_contributions, given_by, contributions_of}
 use Rattle.plan_contributions.specs.UsedNames.{used, name_in_table, uses}
 use Rattle.plan_contributions.specs.Facts.{AreRules}
 use Rattle.plan_contributions.proofs.RowFacts.{All-listens, All-made}
 use Rattle.mpf_plan.specs.Uses.{names_from, number_among}
 use Rattle.mpf_plan.proofs.Among.{place_within}
 use Rattle.mpf_plan.proofs.Lacking.{any_first}
-use Rattle.mpf_plan.proofs.Usual.{IsUsual, of_switch, of_bound, of_player, of_coil_player, of_device, of_controls}
+use Rattle.mpf_plan.proofs.Usual.{IsUsual, of_switch, of_bound, of_player, of_coil_player, of_device, of_unknown, of_shot_switch, of_acts_at, of_controls}
 
 -- Q holds of each name of an event of which a contribution speaks, where it does not use that name
 module _ (Q : List ℕ → Type 0) where
@@ -125,7 +127,8 @@ usual_plain = record {
   off = λ n. tt;
   bindings = λ n place aim. tt;
   conditions = λ c. tt;
-  mentioned = λ n. tt;
+  mentioned = λ t n. tt;
+  lacking = tt;
   done = λ e h. h;
   done_in = λ k e h. h;
   posted = λ n. tt;
@@ -213,6 +216,44 @@ ready_device place d each =
 ready_where : (place : Place) (o : Option Device) → IsPlainDevice o → AreReady (where_device place o)
 ready_where place None plain = All-nil (IsReady (IsUsed []))
 ready_where place (Some d) plain = ready_device place d plain
+
+-- ---- shots and groups
+
+plain_shot : (p : Profile) (name : List ℕ) → ArePlain (shot_lists p name)
+plain_shot p name = All-map (All IsPlainEffect) (λ state. map posts (shot_events name p.name state)) p.states (λ i d within. all_posts (shot_events name p.name (get_or p.states i d)))
+
+plain_states : (ending : List ℕ) (p : Profile) (name : List ℕ) → ArePlain (state_lists ending p name)
+plain_states ending p name = All-map (All IsPlainEffect) (λ state. map posts (group_events ending name state)) p.states (λ i d within. all_posts (group_events ending name (get_or p.states i d)))
+
+plain_shots : (p : Profile) (names : List (List ℕ)) → ArePlain (flat_map (shot_lists p) names)
+plain_shots p [] = All-nil (All IsPlainEffect)
+plain_shots p (n ∷ ns) = All-append (All IsPlainEffect) (shot_lists p n) (flat_map (shot_lists p) ns) (plain_shot p n) (plain_shots p ns)
+
+plain_group : (p : Profile) (name : List ℕ) (shots : List (List ℕ)) → ArePlain (group_lists p name shots)
+plain_group p name shots =
+    let each = flat_map (shot_lists p) shots in
+    let hits = state_lists (codes "_hit") p name in
+    let completes = state_lists (codes "_complete") p name in
+    All-append (All IsPlainEffect) (each ++ hits) completes (All-append (All IsPlainEffect) each hits (plain_shots p shots) (plain_states (codes "_hit") p name)) (plain_states (codes "_complete") p name)
+
+ready_unknown : (known : Bool) → AreReady (unknown_unless known)
+ready_unknown known = plain_ready (unknown_unless known) (of_unknown IsPlain IsPlainEffect usual_plain known)
+
+ready_shot : (place : Place) (s : Shot) (seat : Option Seat) (known : Bool) (p : Profile) → AreReady (shot_contributions place s seat known p)
+unfolding shot_contributions
+ready_shot place s seat known p =
+    both (unknown_unless known) (shot_switch s.switch ++ seated place p s seat) (ready_unknown known)
+    (both (shot_switch s.switch) (seated place p s seat) (plain_ready (shot_switch s.switch) (of_shot_switch IsPlain IsPlainEffect usual_plain s.switch)) (by seat))
+  where
+    by : (seat : Option Seat) → AreReady (seated place p s seat)
+    by None = ready_device place (lone_device p s) (plain_shot p s.name.text)
+    by (Some seat) = plain_ready (flat_map (act_at place (Some seat.row)) (shot_acts seat.shot s)) (of_acts_at IsPlain IsPlainEffect usual_plain place (Some seat.row) (shot_acts seat.shot s))
+
+ready_group : (place : Place) (g : ShotGroup) (m : Members) → AreReady (group_contributions place g m)
+unfolding group_contributions
+ready_group place g m =
+    both (unknown_unless m.all_known) (device_contributions place (group_device g m)) (ready_unknown m.all_known)
+    (ready_device place (group_device g m) (plain_group m.profile g.name.text (texts g.shots)))
 
 -- ---- the game
 
@@ -328,6 +369,8 @@ ready_row : (machine : List SectionRows) (r : Row) → AreReady (row_contributio
 unfolding mode_contributions
 ready_row machine (entry place section e) = ready_entry machine place section e
 ready_row machine (alone place section e) = ready_alone machine place section e
+ready_row machine (shot place s seat known p) = ready_shot place s seat known p
+ready_row machine (group place g m) = ready_group place g m
 ready_row machine (player place section p) = ready_player_entry machine place section p
 ready_row machine (of_mode name s) =
     let first = mode name s.priority s.game ∷ later_events name in

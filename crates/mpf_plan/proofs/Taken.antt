@@ -6,7 +6,7 @@ use Rattle.std.proofs.lemmas.List.{take_more, map-append, append-nil, length-app
 use Rattle.std.proofs.lemmas.List.Elements.{All-tail}
 use Rattle.std.proofs.lemmas.List.Sums.{fold-append, sum_by-append}
 use Rattle.mpf_sections.specs.Rows.{SectionRows}
-use Rattle.plan_contributions.specs.declared.collect.Row as rows
+use Rattle.plan_contributions.specs.declared.rows.Row as rows
 use Rattle.plan_contributions.specs.declared.contribution.Contribution as contributions
 use Rattle.plan_contributions.specs.Contributions.{Contribution, row_contributions, given_by}
 use Rattle.plan_contributions.specs.View.{contribution_view, contributions_view, row_view, row_list_view}

@@ -1,19 +1,21 @@
--- What holds of each usual contribution holds of those of switches, players, devices and modes.
+-- What holds of each usual contribution holds of those of switches, players, devices, shots and modes.
 use Rattle.std.proofs.Common.{ℕ, Bool, true, false, List, [], ◌∷◌, ◌++◌, map, codes}
 use Rattle.std.specs.Prelude.{Option, None, Some}
 use Rattle.std.specs.List.{All, flat_map}
 use Rattle.std.proofs.lemmas.List.Elements.{All-nil, All-cons, All-append}
 use Rattle.mpf_values.specs.Events.{Condition, Event}
-use Rattle.mpf_sections.specs.Rows.{Switch, EventPlayer, CoilPlayer, ModeSettings, SectionRows}
+use Rattle.mpf_sections.specs.Rows.{Written, Switch, EventPlayer, CoilPlayer, ModeSettings, SectionRows}
 use Rattle.plan_contributions.specs.declared.contribution.Place.{Place}
 use Rattle.plan_contributions.specs.declared.contribution.Place.TheVariants.{Control}
 use Rattle.plan_contributions.specs.declared.contribution.Aim.{Aim}
 use Rattle.plan_contributions.specs.declared.contribution.Aim.TheVariants.{Run, Start, Stop, Do}
+use Rattle.plan_tables.specs.declared.devices.Act.{Act}
 use Rattle.plan_tables.specs.declared.entries.SwitchKind.{SwitchKind}
+use Rattle.plan_tables.specs.declared.table.Table.{Table}
 use Rattle.plan_tables.specs.declared.table.Table.TheVariants.{Events, Switches}
 use Rattle.plan_contributions.specs.DeviceEntries.{texts, events, Deed, Effect, posts, works, Device}
 use Rattle.plan_contributions.specs.CoilEntries.{item_effect}
-use Rattle.plan_contributions.specs.Contributions.{Contribution, gives, reads, active, inactive, binds, does, does_in, mentions, under, under_where, bound, always, active_posts, inactive_posts, kind_of, switch_contributions, player_contributions, coil_player_contributions, starter, stopper, stopper_where, controls, act_binding, effects_from}
+use Rattle.plan_contributions.specs.Contributions.{Contribution, gives, reads, active, inactive, binds, does, does_in, mentions, unknown, under, under_where, bound, always, active_posts, inactive_posts, kind_of, switch_contributions, player_contributions, coil_player_contributions, starter, stopper, stopper_where, controls, act_binding, effects_from, unknown_unless, shot_switch, aim_at, act_at}
 use Rattle.plan_contributions.proofs.RowFacts.{All-each, All-made, All-lists}
 
 -- P holds of contributions that are usual, and of those that do such an effect as devices do and players of events and coils
@@ -24,7 +26,8 @@ pub record IsUsual (P : Contribution → Type 0) (R : Effect → Type 0) : Type 
   pub off : (n : List ℕ) → P (inactive n)
   pub bindings : (n : List ℕ) (place : Place) (aim : Aim) → P (binds n place aim)
   pub conditions : (c : Condition) → P (under c)
-  pub mentioned : (n : List ℕ) → P (mentions Events n)
+  pub mentioned : (t : Table) (n : List ℕ) → P (mentions t n)
+  pub lacking : P unknown
   pub done : (e : Effect) → R e → P (does e)
   pub done_in : (k : ℕ) (e : Effect) → R e → P (does_in k e)
   pub posted : (n : List ℕ) → R (posts n)
@@ -65,7 +68,19 @@ module _ (P : Contribution → Type 0) (R : Effect → Type 0) (usual : IsUsual 
       let named = map (mentions Events) d.mentioned in
       let doing = effects_from 0 d.lists in
       All-append P acting (named ++ doing) (All-each P (act_binding place) (λ h. of_bound h.0 place (Do h.1)) d.handled)
-      (All-append P named doing (All-made P (mentions Events) usual.mentioned d.mentioned) (All-lists P R usual.done_in 0 d.lists each))
+      (All-append P named doing (All-made P (mentions Events) (usual.mentioned Events) d.mentioned) (All-lists P R usual.done_in 0 d.lists each))
+
+  -- what comes of a shot beside a row, and of a group before its row
+  pub of_unknown : (known : Bool) → All P (unknown_unless known)
+  of_unknown true = All-nil P
+  of_unknown false = All-cons P unknown [] usual.lacking (All-nil P)
+
+  pub of_shot_switch : (o : Option Written) → All P (shot_switch o)
+  of_shot_switch None = All-nil P
+  of_shot_switch (Some w) = All-cons P (mentions Switches w.text) [] (usual.mentioned Switches w.text) (All-nil P)
+
+  pub of_acts_at : (place : Place) (row : Option ℕ) (hs : List (Event × Act)) → All P (flat_map (act_at place row) hs)
+  of_acts_at place row hs = All-each P (act_at place row) (λ h. of_bound h.0 place (aim_at row h.1)) hs
 
   of_stopper : (holds : Bool) (event : List ℕ) → All P (stopper_where holds event)
   of_stopper true event = of_bound (always event) Control Stop

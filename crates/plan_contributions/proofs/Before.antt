@@ -1,9 +1,9 @@
 -- What holds of contributions, and still where others come before them.
-use Rattle.std.proofs.Common.{List, [], ◌∷◌, ◌++◌, map, sym, subst}
-use Rattle.std.specs.Prelude.{Option, None, Some, IfSome}
+use Rattle.std.proofs.Common.{List, [], ◌∷◌, ◌++◌, map, get_or, sym, subst}
+use Rattle.std.specs.Prelude.{Option, None, Some, IfSome, unwrap_or}
 use Rattle.std.specs.List.{All, flat_map}
 use Rattle.std.proofs.lemmas.List.{append_assoc}
-use Rattle.std.proofs.lemmas.List.Elements.{All-nil, All-cons}
+use Rattle.std.proofs.lemmas.List.Elements.{All-nil, All-cons, All-head, All-tail, All-append}
 use Rattle.mpf_values.specs.Events.{Condition, Event}
 use Rattle.plan_contributions.specs.declared.contribution.Aim.{Aim}
 use Rattle.plan_contributions.specs.declared.contribution.Place.{Place}
@@ -48,3 +48,18 @@ All-bound Q e place aim binding condition = All-cons Q (binds e.name place aim) 
 pub each_some : (R : Condition → Type 0) → ((c : Condition) → R c) → (o : Option Condition) → IfSome o R
 each_some R each None = tt
 each_some R each (Some c) = each c
+
+-- what is written, or else another
+pub or_else : {A : Type 0} (Q : A → Type 0) (o : Option A) (other : A) → IfSome o Q → Q other → Q (unwrap_or o other)
+or_else Q None other h is = is
+or_else Q (Some x) other h is = h
+
+-- what holds of everything holds of each item
+pub All-every : {X : Type 0} (P : X → Type 0) → ((x : X) → P x) → (xs : List X) → All P xs
+All-every P every xs = λ i d within. every (get_or xs i d)
+
+-- what holds of all that each item gives
+pub All-flat_map : {X Y : Type 0} (P : Y → Type 0) (f : X → List Y) (xs : List X) → All (λ x. All P (f x)) xs → All P (flat_map f xs)
+All-flat_map P f [] all = All-nil P
+All-flat_map P f (x ∷ xs) all =
+    All-append P (f x) (flat_map f xs) (All-head (λ z. All P (f z)) x xs all) (All-flat_map P f xs (All-tail (λ z. All P (f z)) x xs all))

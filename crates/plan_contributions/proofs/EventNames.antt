@@ -11,7 +11,8 @@ use Rattle.plan_tables.specs.declared.table.Table.TheVariants.{Events, Switches,
 use Rattle.plan_contributions.specs.DeviceEntries.{Effect, posts, works, changes}
 use Rattle.plan_contributions.specs.Contributions.{Contribution, gives, reads, active, inactive, mode, mode_event, binds, does, device, does_in, listens, mentions, unknown, coil, under, plays, contributions_of}
 use Rattle.plan_contributions.specs.UsedNames.{used_by, used, uses, name_in_table}
-use Rattle.plan_contributions.proofs.RowFacts.{IsFitName, IsFitEffect, IsFit, All-flat_map, any_name, rows_fit}
+use Rattle.plan_contributions.proofs.Before.{All-flat_map}
+use Rattle.plan_contributions.proofs.RowFacts.{IsFitName, IsFitEffect, IsFit, any_name, rows_fit}
 use Rattle.plan_contributions.specs.Facts.{IsOfNames}
 
 -- the name that is used, if there is one, is fit for its table

@@ -1,17 +1,20 @@
 -- What holds of each effect of the rows, of each event that their switches post, and of each switch to which their devices
 -- listen, holds of those of their contributions.
-use Rattle.std.proofs.Common.{ℕ, Bool, true, false, if◌then◌else◌, List, [], ◌∷◌, ◌++◌, map, get_or, zero, suc, arith, codes}
-use Rattle.std.specs.Prelude.{Option, None, Some}
+use Rattle.std.proofs.Common.{◌≡◌, ℕ, Bool, true, false, if◌then◌else◌, List, [], ◌∷◌, ◌++◌, map, get_or, zero, suc, sym, true≢false, arith, codes}
+use Rattle.std.specs.Prelude.{Option, None, Some, IfSome, is_some}
 use Rattle.std.specs.Str.{bytes_eq}
 use Rattle.std.specs.List.{All, flat_map}
 use Rattle.std.proofs.lemmas.List.Elements.{All-nil, All-cons, All-append, All-map, All-weaker, All-head, All-tail}
+use Rattle.std.proofs.lemmas.List.Sums.{list_all-from_AllPass}
 use Rattle.mpf_values.specs.Events.{Condition, Event}
-use Rattle.mpf_sections.specs.Rows.{Entry, Player, Switch, EventPlayer, CoilPlayer, VariablePlayer, VariableItem, GameSettings, Coil, Flipper, Autofire, ModeSettings, Content, entries, players, SectionRows}
+use Rattle.mpf_sections.specs.Rows.{Written, Entry, Player, Switch, EventPlayer, CoilItem, CoilPlayer, VariablePlayer, VariableItem, GameSettings, Coil, Flipper, Autofire, Shot, ShotGroup, ModeSettings, Content, entries, players, SectionRows}
 use Rattle.mpf_sections.specs.TypedGame.{variable_player_name, game_name, variable_player_of, game_of, variable_players_in, min_balls_of}
 use Rattle.machine_definitions.specs.GameEvents.{game_event_names}
+use Rattle.machine_definitions.specs.Shots.{Profile, shot_called, has_profile, profile_of_name}
+use Rattle.mpf_sections.specs.TypedShots.{shots_name, shot_groups_name, shot_of, shot_group_of, shots_in, shot_groups_in}
 use Rattle.machine_definitions.specs.Players.{player_event}
 use Rattle.plan_tables.specs.declared.devices.Act.{Act}
-use Rattle.plan_tables.specs.declared.table.Table.TheVariants.{Events}
+use Rattle.plan_tables.specs.declared.table.Table.TheVariants.{Events, Switches}
 use Rattle.plan_contributions.specs.VariableEntries.{item_change}
 use Rattle.mpf_config.specs.Rows.{ModeRows, Rows}
 use Rattle.mpf_sections.specs.Rows as sections
@@ -20,12 +23,14 @@ use Rattle.mpf_sections.specs.TypedCoils.{coils_name, coil_player_name, flippers
 use Rattle.plan_contributions.specs.declared.contribution.Place.{Place}
 use Rattle.plan_contributions.specs.declared.contribution.Place.TheVariants.{Machine, Control, Mode}
 use Rattle.plan_contributions.specs.declared.contribution.Aim.{Aim}
-use Rattle.plan_contributions.specs.declared.contribution.Aim.TheVariants.{Run, Start, Stop, Do}
+use Rattle.plan_contributions.specs.declared.contribution.Aim.TheVariants.{Run, Start, Stop, Do, On}
 use Rattle.plan_contributions.specs.CoilEntries.{limits_of_coil, item_effect, flipper_device, autofire_device}
 use Rattle.plan_contributions.specs.DeviceEntries.{Effect, posts}
-use Rattle.plan_contributions.specs.Contributions.{Contribution, reads, active, inactive, mode, binds, does, device, mentions, coil, under, plays, under_where, bound, always, texts, events, kind_of, active_posts, inactive_posts, switch_contributions, player_contributions, coil_contributions, coil_player_contributions, item_contributions, variable_player_contributions, game_contributions, starter, stopper, stopper_where, later_events, controls, mode_contributions, Device, act_binding, listens_from, effects_from, device_contributions, device_of, where_device, machine_device, Row, entry, alone, player, of_mode, rows_from, rows_in, mode_rows, rows_of, machine_entry_contributions, entry_contributions, alone_contributions, player_entry_contributions, row_contributions, contributions_of}
-use Rattle.plan_contributions.proofs.RowFacts.{All-flat_map, All-made, All-listens, All-lists, sections_each}
-use Rattle.plan_contributions.specs.Doing.{IsSwitchDoing, IsPlayerDoing, IsDeviceDoing, IsEntryDoing, IsCoilPlayerDoing, IsVariablePlayerDoing, IsDoing, IsMachineDoing, AreDoing, Does}
+use Rattle.plan_contributions.specs.ShotEntries.{Seat, seat_of, shot_lists, shot_acts, lone_device, group_device, members_of}
+use Rattle.plan_contributions.specs.Contributions.{Contribution, reads, active, inactive, mode, binds, does, device, mentions, coil, under, plays, under_where, bound, always, texts, events, kind_of, active_posts, inactive_posts, switch_contributions, player_contributions, coil_contributions, coil_player_contributions, item_contributions, variable_player_contributions, game_contributions, starter, stopper, stopper_where, later_events, controls, mode_contributions, Device, act_binding, listens_from, effects_from, device_contributions, device_of, where_device, machine_device, unknown_unless, shot_switch, act_at, seated, shot_contributions, group_contributions, Row, entry, alone, player, of_mode, shot_row, group_row, entry_row, rows_from, rows_in, mode_rows, rows_of, machine_entry_contributions, entry_contributions, alone_contributions, player_entry_contributions, row_contributions, contributions_of}
+use Rattle.plan_contributions.proofs.Before.{All-every, All-flat_map}
+use Rattle.plan_contributions.proofs.RowFacts.{All-made, All-listens, All-lists, sections_each, rows_each}
+use Rattle.plan_contributions.specs.Doing.{IsSwitchDoing, IsPlayerDoing, IsDeviceDoing, IsEntryDoing, IsCoilPlayerDoing, IsVariablePlayerDoing, IsShotDoing, IsShotGroupDoing, IsDoing, IsMachineDoing, AreDoing, Does}
 
 -- what holds of each item as it is seen
 from_map : {X Y : Type 0} (R : Y → Type 0) (f : X → Y) (xs : List X) → All R (map f xs) → All (λ x. R (f x)) xs
@@ -72,10 +77,11 @@ module _ (P : Effect → Type 0) (S L : List ℕ → Type 0) where
   unfolding coil_contributions
   in_coil c = All-cons D (coil c.name.text (limits_of_coil c)) [] tt (All-nil D)
 
-  in_coil_player : (machine : List SectionRows) (place : Place) (p : CoilPlayer) → IsCoilPlayerDoing P S L machine p → All D (coil_player_contributions machine place p)
+  in_coil_player : (rows : Rows) (place : Place) (p : CoilPlayer) → IsCoilPlayerDoing P S L rows p → All D (coil_player_contributions rows.machine place p)
   unfolding coil_player_contributions
-  in_coil_player machine place p h =
-      All-append D (bound p.event.event place Run) (map (λ item. does (item_effect machine item)) p.items) (in_bound p.event.event place Run) (All-map D (λ item. does (item_effect machine item)) p.items h)
+  in_coil_player rows place p h =
+      let make : CoilItem → Contribution = λ item. does (item_effect rows.machine item) in
+      All-append D (bound p.event.event place Run) (map make p.items) (in_bound p.event.event place Run) (All-map D make p.items h)
 
   in_item : (item : VariableItem) → P (item_change item) → All D (item_contributions item)
   in_item item h = All-cons D (mentions Events (player_event item.variable.text)) (does (item_change item) ∷ []) tt (All-cons D (does (item_change item)) [] h (All-nil D))
@@ -138,9 +144,43 @@ module _ (P : Effect → Type 0) (S L : List ℕ → Type 0) where
       first name s (suc (suc (suc (suc zero)))) d within = tt
       first name s (suc (suc (suc (suc (suc i))))) d within = absurd (omega (arith, within))
 
+  -- ---- shots
+
+  in_unknown : (known : Bool) → known ≡ true → All D (unknown_unless known)
+  in_unknown true is = All-nil D
+  in_unknown false is = absurd (true≢false (sym is))
+
+  in_shot_switch : (o : Option Written) → IfSome o (λ w. L w.text) → All D (shot_switch o)
+  in_shot_switch None h = All-nil D
+  in_shot_switch (Some w) h = All-cons D (mentions Switches w.text) [] h (All-nil D)
+
+  in_seated : (place : Place) (p : Profile) (s : Shot) (seat : Option Seat) → All (All P) (shot_lists p s.name.text) → All D (seated place p s seat)
+  in_seated place p s None h = in_device place (lone_device p s) (record { lists = h; listens = All-nil L })
+  in_seated place p s (Some seat) h =
+      let acting = shot_acts seat.shot s in
+      All-flat_map D (act_at place (Some seat.row)) acting (All-every (λ (x : Event × Act). All D (act_at place (Some seat.row) x)) (λ x. in_bound x.0 place (On seat.row x.1)) acting)
+
+  in_shot : (rows : Rows) (place : Place) (s : Shot) (seat : Option Seat) → IsShotDoing P S L rows s → All D (shot_contributions place s seat (has_profile rows s.profile.text) (profile_of_name rows s.profile.text))
+  unfolding shot_contributions
+  in_shot rows place s seat h =
+      let known = has_profile rows s.profile.text in
+      let p = profile_of_name rows s.profile.text in
+      All-append D (unknown_unless known) (shot_switch s.switch ++ seated place p s seat) (in_unknown known h.profile)
+      (All-append D (shot_switch s.switch) (seated place p s seat) (in_shot_switch s.switch h.switch) (in_seated place p s seat h.lists))
+
+  in_group : (rows : Rows) (place : Place) (g : ShotGroup) → IsShotGroupDoing P S L rows g → All D (group_contributions place g (members_of rows g))
+  unfolding group_contributions
+  in_group rows place g h =
+      let m = members_of rows g in
+      All-append D (unknown_unless m.all_known) (device_contributions place (group_device g m)) (in_unknown m.all_known (list_all-from_AllPass (λ w. is_some (shot_called rows w.text)) g.shots h.shots))
+      (in_device place (group_device g m) (record { lists = h.lists; listens = All-nil L }))
+
   -- ---- rows
 
-  module _ (machine : List SectionRows) where
+  module _ (rows : Rows) where
+    abbrev machine : List SectionRows
+    machine = rows.machine
+
     abbrev GivesDoing : Row → Type 0
     GivesDoing r = All D (row_contributions machine r)
 
@@ -164,15 +204,15 @@ module _ (P : Effect → Type 0) (S L : List ℕ → Type 0) where
         by false true hs h = in_switch machine (switch_of e) hs
         by false false hs h = in_where Machine (machine_device machine section e) h
 
-    in_player_entry : (place : Place) (section : List ℕ) (p : Player) → Where (bytes_eq section event_player_name) (IsPlayerDoing P S L (event_player_of p)) → Where (bytes_eq section coil_player_name) (IsCoilPlayerDoing P S L machine (coil_player_of p))
+    in_player_entry : (place : Place) (section : List ℕ) (p : Player) → Where (bytes_eq section event_player_name) (IsPlayerDoing P S L (event_player_of p)) → Where (bytes_eq section coil_player_name) (IsCoilPlayerDoing P S L rows (coil_player_of p))
         → Where (bytes_eq section variable_player_name) (IsVariablePlayerDoing P S L (variable_player_of p)) → All D (player_entry_contributions machine place section p)
     unfolding player_entry_contributions
     in_player_entry place section p = by (bytes_eq section event_player_name) (bytes_eq section coil_player_name) (bytes_eq section variable_player_name)
       where
-        by : (e c v : Bool) → Where e (IsPlayerDoing P S L (event_player_of p)) → Where c (IsCoilPlayerDoing P S L machine (coil_player_of p)) → Where v (IsVariablePlayerDoing P S L (variable_player_of p))
+        by : (e c v : Bool) → Where e (IsPlayerDoing P S L (event_player_of p)) → Where c (IsCoilPlayerDoing P S L rows (coil_player_of p)) → Where v (IsVariablePlayerDoing P S L (variable_player_of p))
             → All D (if e then player_contributions place (event_player_of p) else (if c then coil_player_contributions machine place (coil_player_of p) else (if v then variable_player_contributions place (variable_player_of p) else [])))
         by true c v he hc hv = in_player place (event_player_of p) he
-        by false true v he hc hv = in_coil_player machine place (coil_player_of p) hc
+        by false true v he hc hv = in_coil_player rows place (coil_player_of p) hc
         by false false true he hc hv = in_variable_player place (variable_player_of p) hv
         by false false false he hc hv = All-nil D
 
@@ -188,52 +228,63 @@ module _ (P : Effect → Type 0) (S L : List ℕ → Type 0) where
     in_alone Mode section e = All-nil D
 
     in_players : (place : Place) (s : SectionRows) (ps : List Player) → All (IsPlayerDoing P S L) (map event_player_of (if bytes_eq s.name event_player_name then ps else []))
-        → All (IsCoilPlayerDoing P S L machine) (map coil_player_of (if bytes_eq s.name coil_player_name then ps else []))
+        → All (IsCoilPlayerDoing P S L rows) (map coil_player_of (if bytes_eq s.name coil_player_name then ps else []))
         → All (IsVariablePlayerDoing P S L) (map variable_player_of (if bytes_eq s.name variable_player_name then ps else [])) → All GivesDoing (map (player place s.name) ps)
     in_players place s ps posted coils variables =
         let own = where_named (IsPlayerDoing P S L) event_player_of (bytes_eq s.name event_player_name) ps posted in
-        let others = where_named (IsCoilPlayerDoing P S L machine) coil_player_of (bytes_eq s.name coil_player_name) ps coils in
+        let others = where_named (IsCoilPlayerDoing P S L rows) coil_player_of (bytes_eq s.name coil_player_name) ps coils in
         let changing = where_named (IsVariablePlayerDoing P S L) variable_player_of (bytes_eq s.name variable_player_name) ps variables in
         All-map GivesDoing (player place s.name) ps (λ i d within. in_player_entry place s.name (get_or ps i d) (own i d within) (others i d within) (changing i d within))
 
-    -- of a section of a mode
-    in_mode_content : (s : SectionRows) (content : Content) → IsDoing P S L machine (record { name = s.name; content = content }) → All GivesDoing (rows_from Mode s.name content)
-    unfolding event_players_in coil_players_in variable_players_in entry_contributions
-    in_mode_content s (entries es) h = All-map GivesDoing (entry Mode s.name) es (λ i d within. in_where Mode (device_of s.name (get_or es i d)) (h.devices i d within))
-    in_mode_content s (players ps) h = in_players Mode s ps h.players h.coil_players h.variable_players
-    in_mode_content s (sections.entry e) h = All-cons GivesDoing (alone Mode s.name e) [] (in_alone Mode s.name e) (All-nil GivesDoing)
-    in_mode_content s (sections.listed ws) h = All-nil GivesDoing
+    -- an entry of a section, where it is a shot, a group, or neither
+    in_entry_row : (place : Place) (seat : List ℕ → Option Seat) (section : List ℕ) (e : Entry) → Where (bytes_eq section shots_name) (IsShotDoing P S L rows (shot_of e)) → Where (bytes_eq section shot_groups_name) (IsShotGroupDoing P S L rows (shot_group_of e))
+        → All D (entry_contributions machine place section e) → GivesDoing (entry_row rows place seat section e)
+    in_entry_row place seat section e = by (bytes_eq section shots_name) (bytes_eq section shot_groups_name)
+      where
+        by : (s g : Bool) → Where s (IsShotDoing P S L rows (shot_of e)) → Where g (IsShotGroupDoing P S L rows (shot_group_of e)) → All D (entry_contributions machine place section e)
+            → GivesDoing (if s then shot_row rows place seat (shot_of e) else (if g then group_row rows place seat (shot_group_of e) else entry place section e))
+        by true g hs hg h = in_shot rows place (shot_of e) (seat (shot_of e).name.text) hs
+        by false true hs hg h = in_group rows place (shot_group_of e) hg
+        by false false hs hg h = h
 
-    in_mode_section : (s : SectionRows) → IsDoing P S L machine s → All GivesDoing (rows_from Mode s.name s.content)
-    in_mode_section s h = in_mode_content s s.content h
+    in_entries : (place : Place) (seat : List ℕ → Option Seat) (s : SectionRows) (es : List Entry) → All (IsShotDoing P S L rows) (map shot_of (if bytes_eq s.name shots_name then es else []))
+        → All (IsShotGroupDoing P S L rows) (map shot_group_of (if bytes_eq s.name shot_groups_name then es else [])) → All (λ e. All D (entry_contributions machine place s.name e)) es → All GivesDoing (map (entry_row rows place seat s.name) es)
+    in_entries place seat s es shots groups others =
+        let own = where_named (IsShotDoing P S L rows) shot_of (bytes_eq s.name shots_name) es shots in
+        let grouped = where_named (IsShotGroupDoing P S L rows) shot_group_of (bytes_eq s.name shot_groups_name) es groups in
+        All-map GivesDoing (entry_row rows place seat s.name) es (λ i d within. in_entry_row place seat s.name (get_or es i d) (own i d within) (grouped i d within) (others i d within))
+
+    -- of a section of a mode
+    in_mode_content : (seat : List ℕ → Option Seat) (s : SectionRows) (content : Content) → IsDoing P S L rows (record { name = s.name; content = content }) → All GivesDoing (rows_from rows Mode seat s.name content)
+    unfolding event_players_in coil_players_in variable_players_in shots_in shot_groups_in entry_contributions
+    in_mode_content seat s (entries es) h = in_entries Mode seat s es h.shots h.groups (λ i d within. in_where Mode (device_of s.name (get_or es i d)) (h.devices i d within))
+    in_mode_content seat s (players ps) h = in_players Mode s ps h.players h.coil_players h.variable_players
+    in_mode_content seat s (sections.entry e) h = All-cons GivesDoing (alone Mode s.name e) [] (in_alone Mode s.name e) (All-nil GivesDoing)
+    in_mode_content seat s (sections.listed ws) h = All-nil GivesDoing
 
     -- and of one of the machine
-    in_machine_content : (s : SectionRows) (content : Content) → IsMachineDoing P S L machine (record { name = s.name; content = content }) → All GivesDoing (rows_from Machine s.name content)
-    unfolding switches_in event_players_in coil_players_in variable_players_in flippers_in autofires_in entry_contributions
-    in_machine_content s (entries es) h =
+    in_machine_content : (seat : List ℕ → Option Seat) (s : SectionRows) (content : Content) → IsMachineDoing P S L rows (record { name = s.name; content = content }) → All GivesDoing (rows_from rows Machine seat s.name content)
+    unfolding switches_in event_players_in coil_players_in variable_players_in flippers_in autofires_in shots_in shot_groups_in entry_contributions
+    in_machine_content seat s (entries es) h =
         let switches = where_named (IsSwitchDoing P S L) switch_of (bytes_eq s.name switches_name) es h.switches in
         let flippers = where_named (λ f. IsDeviceDoing P S L (flipper_device machine f)) flipper_of (bytes_eq s.name flippers_name) es h.flippers in
         let autofires = where_named (λ a. IsDeviceDoing P S L (autofire_device machine a)) autofire_of (bytes_eq s.name autofire_coils_name) es h.autofires in
-        let all : IsDoing P S L machine (record { name = s.name; content = entries es }) = h.all in
-        All-map GivesDoing (entry Machine s.name) es (λ i d within.
+        let all : IsDoing P S L rows (record { name = s.name; content = entries es }) = h.all in
+        in_entries Machine seat s es all.shots all.groups (λ i d within.
         let e = get_or es i d in
         in_machine_entry s.name e (switches i d within) (in_machine_device s.name e (flippers i d within) (autofires i d within) (all.devices i d within)))
-    in_machine_content s (players ps) h = let all : IsDoing P S L machine (record { name = s.name; content = players ps }) = h.all in in_players Machine s ps all.players all.coil_players all.variable_players
-    in_machine_content s (sections.entry e) h = All-cons GivesDoing (alone Machine s.name e) [] (in_alone Machine s.name e) (All-nil GivesDoing)
-    in_machine_content s (sections.listed ws) h = All-nil GivesDoing
+    in_machine_content seat s (players ps) h = let all : IsDoing P S L rows (record { name = s.name; content = players ps }) = h.all in in_players Machine s ps all.players all.coil_players all.variable_players
+    in_machine_content seat s (sections.entry e) h = All-cons GivesDoing (alone Machine s.name e) [] (in_alone Machine s.name e) (All-nil GivesDoing)
+    in_machine_content seat s (sections.listed ws) h = All-nil GivesDoing
 
-    in_machine_section : (s : SectionRows) → IsMachineDoing P S L machine s → All GivesDoing (rows_from Machine s.name s.content)
-    in_machine_section s h = in_machine_content s s.content h
-
-    in_mode_rows : (m : ModeRows) → All (IsDoing P S L machine) m.sections → All GivesDoing (mode_rows m)
-    in_mode_rows m h =
-        All-cons GivesDoing (of_mode m.name (mode_settings m.sections)) (rows_in Mode m.sections) (in_mode m.name (mode_settings m.sections))
-        (sections_each GivesDoing (IsDoing P S L machine) Mode in_mode_section m.sections h)
+    in_mode_rows : (n : ℕ) (m : ModeRows) → All (IsDoing P S L rows) m.sections → All GivesDoing (mode_rows rows n m)
+    in_mode_rows n m h =
+        let seat = seat_of Mode n m.sections in
+        All-cons GivesDoing (of_mode m.name (mode_settings m.sections)) (rows_in rows Mode seat m.sections) (in_mode m.name (mode_settings m.sections))
+        (sections_each GivesDoing (IsDoing P S L rows) rows Mode seat (λ s. in_mode_content seat s s.content) m.sections h)
 
   pub all_do : (rows : Rows) → AreDoing P S L rows → All (Does P S L) (contributions_of rows)
   all_do rows h =
-      let Good = GivesDoing rows.machine in
-      let IsModeDoing : ModeRows → Type 0 = λ m. All (IsDoing P S L rows.machine) m.sections in
+      let IsModeDoing : ModeRows → Type 0 = λ m. All (IsDoing P S L rows) m.sections in
       All-flat_map D (row_contributions rows.machine) (rows_of rows)
-      (All-append Good (rows_in Machine rows.machine) (flat_map mode_rows rows.modes) (sections_each Good (IsMachineDoing P S L rows.machine) Machine (in_machine_section rows.machine) rows.machine h.machine)
-      (All-flat_map Good mode_rows rows.modes (All-weaker IsModeDoing (λ m. All Good (mode_rows m)) (in_mode_rows rows.machine) rows.modes h.modes)))
+      (rows_each (GivesDoing rows) (IsMachineDoing P S L rows) IsModeDoing rows (λ seat s. in_machine_content rows seat s s.content) (in_mode_rows rows) h.machine h.modes)

@@ -10,13 +10,14 @@ use Rattle.std.proofs.lemmas.List.Elements.{All-nil, All-cons, All-head, All-tai
 use Rattle.mpf_sections.specs.declared.words.CoilAction.{CoilAction}
 use Rattle.mpf_sections.specs.declared.words.CoilAction.TheVariants as actions
 use Rattle.mpf_values.specs.Events.{Condition, Event}
-use Rattle.mpf_sections.specs.Rows.{Written, Handled, Entry, Player, Switch, EventPlayer, Coil, CoilItem, CoilPlayer, VariableItem, VariablePlayer, GameSettings, Flipper, Autofire, Block, Counter, StepBlock, Control as TimerControl, Timer, ModeSettings, Content, entries, players, SectionRows}
+use Rattle.mpf_sections.specs.Rows.{Written, Handled, Entry, Player, Switch, EventPlayer, Coil, CoilItem, CoilPlayer, VariableItem, VariablePlayer, GameSettings, Flipper, Autofire, Block, Counter, StepBlock, Control as TimerControl, Timer, Shot, ShotGroup, ModeSettings, Content, entries, players, SectionRows}
 use Rattle.mpf_config.specs.Rows.{ModeRows, Rows}
 use Rattle.mpf_sections.specs.Rows as sections
-use Rattle.mpf_sections.specs.Named.{IsName, AllNames, IsNamedHandled, AllNamedEvents, IsNamedEntry, IsNamedPlayer, IsNamedSwitch, IsNamedEventPlayer, IsNamedCoil, IsNamedCoilPlayer, IsNamedVariablePlayer, IsNamedFlipper, IsNamedAutofire, IsNamedBlock, IsNamedCounter, IsNamedStepBlock, IsNamedTimer, AreNamedSettings, IsNamedContent, IsNamed}
+use Rattle.mpf_sections.specs.Named.{IsName, AllNames, IsNamedHandled, AllNamedEvents, IsNamedEntry, IsNamedPlayer, IsNamedSwitch, IsNamedEventPlayer, IsNamedCoil, IsNamedCoilPlayer, IsNamedVariablePlayer, IsNamedFlipper, IsNamedAutofire, IsNamedShot, IsNamedShotGroup, IsNamedBlock, IsNamedCounter, IsNamedStepBlock, IsNamedTimer, AreNamedSettings, IsNamedContent, IsNamed}
 use Rattle.mpf_config.specs.Named.{IsNamedMode}
 use Rattle.mpf_sections.specs.Typed.{switches_name, event_player_name, counters_name, accruals_name, sequences_name, timers_name, switch_of, event_player_of, counter_of, step_block_of, timer_of, mode_settings}
 use Rattle.mpf_sections.specs.TypedCoils.{coils_name, coil_player_name, flippers_name, autofire_coils_name, coil_of, coil_player_of, flipper_of, autofire_of, coils_in}
+use Rattle.mpf_sections.specs.TypedShots.{shots_name, shot_groups_name, shot_of, shot_group_of}
 use Rattle.mpf_sections.specs.TypedGame.{variable_player_name, game_name, variable_player_of, game_of, min_balls_of}
 use Rattle.mpf_sections.specs.Short.{IsGameInRange, IsPulseInRange, IsPowerInRange, IsCoilInRange, IsItemInRange, IsCoilPlayerInRange, IsShortEntry, IsShortPlayer, IsShortBlock, IsShortCounter, IsShortStepBlock, IsShortTimer, IsShortContent, IsShortSection}
 use Rattle.mpf_config.specs.Short.{IsShortMode, AreListsShort}
@@ -24,6 +25,7 @@ use Rattle.mpf_sections.proofs.RowNames.{switch_named, event_player_named, mode_
 use Rattle.mpf_sections.proofs.ShortRows.{event_player_short}
 use Rattle.mpf_sections.proofs.DeviceRows.{counter_named, step_block_named, timer_named, counter_short, step_block_short, timer_in_range}
 use Rattle.mpf_sections.proofs.CoilRows.{coil_named, coil_player_named, flipper_named, autofire_named, coil_in_range, coil_player_short, coil_player_in_range, coils_in_range}
+use Rattle.mpf_sections.proofs.ShotRows.{shot_named, shot_group_named, shot_group_short}
 use Rattle.mpf_sections.proofs.GameRows.{variable_player_named, variable_player_short, game_in_range, min_balls_few}
 use Rattle.plan_contributions.specs.declared.contribution.Aim.{Aim}
 use Rattle.plan_contributions.specs.declared.contribution.Aim.TheVariants.{Run, Start, Stop, Do, On}
@@ -37,16 +39,20 @@ use Rattle.plan_tables.specs.declared.devices.Settings.TheVariants as kinds
 use Rattle.machine_definitions.specs.Definitions.{latest_coil, no_coil, coil_of_name}
 use Rattle.machine_definitions.specs.GameEvents.{game_event_names}
 use Rattle.machine_definitions.specs.Players.{player_event}
+use Rattle.machine_definitions.specs.Shots.{Profile}
 use Rattle.plan_contributions.specs.VariableEntries.{item_change}
 use Rattle.plan_contributions.specs.CoilEntries.{limits_of_coil, defaults_called, own_pulse, own_hold, deed_by, item_effect, flipper_on, flipper_off, flipper_device, autofire_device}
-use Rattle.plan_contributions.specs.DeviceEntries.{Deed, disable, Effect, posts, works, changes, events, device_of, acts, block_acts, block_mentions, block_event, or_own, block_lists, counter_device, step_acts, step_settings, step_device, controlled, timer_event, timer_endings, timer_device}
+use Rattle.plan_contributions.specs.DeviceEntries.{Deed, disable, Effect, posts, works, changes, events, device_of, acts, block_acts, block_mentions, block_event, or_own, block_lists, counter_device, step_acts, step_settings, step_device, controlled, timer_event, timer_endings, timer_device, always}
+use Rattle.plan_contributions.specs.ShotEntries.{Seat, seat_of, rows_after_text, shot_events, group_events, shot_acts, flags, is_enabled, lone_device, Members, group_device}
 use Rattle.plan_tables.specs.declared.entries.ModeEvent.{ModeEvent}
 use Rattle.plan_tables.specs.declared.entries.ModeEvent.TheVariants.{WillStart, Starting, Started, Stopping, Stopped}
 use Rattle.plan_tables.specs.declared.table.Table.{Table}
 use Rattle.plan_tables.specs.declared.table.Table.TheVariants.{Events, Switches, Coils, Variables}
-use Rattle.plan_contributions.specs.Contributions.{Contribution, gives, reads, active, inactive, mode, mode_event, mode_event_name, binds, does, device, does_in, listens, mentions, coil, under, plays, under_where, bound, texts, kind_of, tag_event, active_posts, inactive_posts, switch_contributions, player_contributions, coil_contributions, coil_player_contributions, item_contributions, variable_player_contributions, game_contributions, starter, stopper, stopper_where, later_events, controls, mode_contributions, Device, act_binding, effects_from, listens_from, device_contributions, where_device, Row, entry, alone, player, of_mode, rows_from, rows_in, mode_rows, rows_of, machine_device, machine_entry_contributions, entry_contributions, alone_contributions, player_entry_contributions, row_contributions, given_by, contributions_of}
-use Rattle.plan_contributions.specs.Facts.{ArePlaced, IsOfNames, effects_after, effects_in_after, full, IsRoomy, AreShort, AreLimits, AreRules, IsDeedInRange, IsEffectInRange, IsLimited, IsPlaceOf, IsOfMachine, IsOpenPlace, IsOpenAim, IsOpen, modes_after, AreOpened}
-use Rattle.plan_contributions.proofs.Before.{each_before, each_alone, all_before, all_alone, under_before, All-bound, each_some}
+use Rattle.plan_contributions.specs.Contributions.{Contribution, gives, reads, active, inactive, mode, mode_event, mode_event_name, binds, does, device, does_in, listens, mentions, unknown, coil, under, plays, under_where, bound, texts, kind_of, tag_event, active_posts, inactive_posts, switch_contributions, player_contributions, coil_contributions, coil_player_contributions, item_contributions, variable_player_contributions, game_contributions, starter, stopper, stopper_where, later_events, controls, mode_contributions, Device, act_binding, effects_from, listens_from, device_contributions, where_device, unknown_unless, shot_switch, act_at, seated, shot_contributions, group_contributions, Row, entry, alone, shot, group, player, of_mode, shot_row, group_row, entry_row, rows_from, rows_in, mode_rows, modes_rows, rows_of, machine_device, machine_entry_contributions, entry_contributions, alone_contributions, player_entry_contributions, row_contributions, given_by, contributions_of}
+use Rattle.plan_contributions.specs.Facts.{ArePlaced, IsOfNames, effects_after, effects_in_after, full, IsRoomy, AreShort, AreLimits, AreRules, IsDeedInRange, IsEffectInRange, IsLimited, IsPlaceOf, IsOfMachine, IsPlaced, IsOpenPlace, IsOpenAim, IsOpen, modes_after, AreOpened}
+use Rattle.plan_contributions.proofs.Before.{each_before, each_alone, all_before, all_alone, under_before, All-bound, each_some, All-flat_map}
+use Rattle.plan_contributions.proofs.CoilFacts.{pulse_ranged, hold_ranged, item_ranged, flips_on, flips_off}
+use Rattle.plan_contributions.proofs.ShotFacts.{OfHandled, all_shot_acts, all_group_acts, all_shot_lists, all_group_lists, posts_of_shot, posts_of_group, IsFew, shot_lists_few, group_lists_few, IsShortProfile, IsShortGroup, flags_of, bank_within, IsNamedProfile, profile_named, members_named, profile_short, members_short}
 use Rattle.plan_contributions.proofs.Placed.{ArePlaced-append, ArePlaced-under, ArePlaced-listens, ArePlaced-effects}
 
 -- ---- what contributions are like
@@ -102,28 +108,28 @@ pub record Facts (P : List ℕ → Type 0) (n : ℕ) (Named Short Open : Type 0)
 abbrev pub IsNamedRow : Row → Type 0
 IsNamedRow (entry place section e) = IsNamedEntry e
 IsNamedRow (alone place section e) = IsNamedEntry e
+IsNamedRow (shot place s seat known p) = IsNamedShot s × IsNamedProfile p
+IsNamedRow (group place g m) = IsNamedShotGroup g × IsNamedProfile m.profile
 IsNamedRow (player place section p) = IsNamedPlayer p
 IsNamedRow (of_mode name s) = IsName name × AreNamedSettings s
 
 abbrev pub IsShortRow : Row → Type 0
 IsShortRow (entry place section e) = IsShortEntry 1024 e
 IsShortRow (alone place section e) = IsShortEntry 1024 e
+IsShortRow (shot place s seat known p) = IsShortProfile p
+IsShortRow (group place g m) = IsShortGroup g m
 IsShortRow (player place section p) = IsShortPlayer 1024 p
 IsShortRow (of_mode name s) = Unit {0}
 
 abbrev pub IsOpenRow : ℕ → Row → Type 0
 IsOpenRow n (entry place section e) = IsOpenPlace n place
 IsOpenRow n (alone place section e) = IsOpenPlace n place
+IsOpenRow n (shot place s seat known p) = IsOpenPlace n place
+IsOpenRow n (group place g m) = IsOpenPlace n place
 IsOpenRow n (player place section p) = IsOpenPlace n place
 IsOpenRow n _ = Unit {0}
 
--- what holds of all that each item gives
-pub All-flat_map : {X Y : Type 0} (P : Y → Type 0) (f : X → List Y) (xs : List X) → All (λ x. All P (f x)) xs → All P (flat_map f xs)
-All-flat_map P f [] all = All-nil P
-All-flat_map P f (x ∷ xs) all =
-    All-append P (f x) (flat_map f xs) (All-head (λ z. All P (f z)) x xs all) (All-flat_map P f xs (All-tail (λ z. All P (f z)) x xs all))
-
--- and of all that each makes
+-- what holds of all that each makes
 pub All-each : {X : Type 0} (P : Contribution → Type 0) (make : X → List Contribution) → ((x : X) → All P (make x)) → (xs : List X) → All P (flat_map make xs)
 All-each P make each xs = All-flat_map P make xs (λ i d within. each (get_or xs i d))
 
@@ -281,85 +287,7 @@ All-lists Q R each k (es ∷ rest) h =
     (All-map Q (does_in k) es (All-weaker R (λ e. Q (does_in k e)) (each k) es (All-head (All R) es rest h)))
     (All-lists Q R each (suc k) rest (All-tail (All R) es rest h))
 
--- ---- coils
-
-abbrev IsRanged : Option Coil → Type 0
-IsRanged o = IfSome o IsCoilInRange
-
-latest_ranged : (name : List ℕ) (cs : List Coil) (found : Option Coil) → IsRanged found → All IsCoilInRange cs → IsRanged (fold (latest_coil name) found cs)
-latest_ranged name [] found h all = h
-latest_ranged name (c ∷ cs) found h all = latest_ranged name cs (latest_coil name found c) (by (bytes_eq name c.name.text)) (All-tail IsCoilInRange c cs all)
-  where
-    by : (b : Bool) → IsRanged (if b then Some c else found)
-    by true = All-head IsCoilInRange c cs all
-    by false = h
-
-no_coil_ranged : IsCoilInRange no_coil
-no_coil_ranged = record {
-  pulse_ms = (omega arith, omega arith);
-  max_pulse_ms = (omega arith, omega arith);
-  pulse_power = omega arith;
-  max_pulse_power = omega arith;
-  hold_power = omega arith;
-  max_hold_power = omega arith;
-}
-
--- what is written, or else another
-or_else : {A : Type 0} (Q : A → Type 0) (o : Option A) (other : A) → IfSome o Q → Q other → Q (unwrap_or o other)
-or_else Q None other h is = is
-or_else Q (Some x) other h is = h
-
--- the numbers of the coil of a name are in their ranges
-called_ranged : (machine : List SectionRows) (name : List ℕ) → IsCoilInRange (coil_of_name machine name)
-called_ranged machine name =
-    let cs = flat_map coils_in machine in
-    or_else IsCoilInRange (fold (latest_coil name) None cs) no_coil
-    (latest_ranged name cs None tt (All-flat_map IsCoilInRange coils_in machine (λ i d within. coils_in_range (get_or machine i d)))) no_coil_ranged
-
-pulse_ranged : (machine : List SectionRows) (name : List ℕ) → IsDeedInRange (own_pulse (defaults_called machine name))
-pulse_ranged machine name = let coil = called_ranged machine name in (coil.pulse_ms, coil.pulse_power)
-
-hold_ranged : (machine : List SectionRows) (name : List ℕ) → IsDeedInRange (own_hold (defaults_called machine name))
-hold_ranged machine name = let coil = called_ranged machine name in coil.hold_power
-
-item_ranged : (machine : List SectionRows) (item : CoilItem) → IsItemInRange item → IsEffectInRange (item_effect machine item)
-item_ranged machine item h = by item.action
-  where
-    c : IsCoilInRange (coil_of_name machine item.coil.text)
-    c = called_ranged machine item.coil.text
-
-    by : (action : CoilAction) → IsDeedInRange (deed_by (defaults_called machine item.coil.text) item action)
-    by actions.Pulse = (or_else IsPulseInRange item.pulse_ms _ h.pulse_ms c.pulse_ms, or_else IsPowerInRange item.pulse_power _ h.pulse_power c.pulse_power)
-    by actions.Enable = or_else IsPowerInRange item.hold_power _ h.hold_power c.hold_power
-    by actions.Disable = tt
-
--- what holds of all effects of a flipper
-module _ (Q : Effect → Type 0) (machine : List SectionRows) (main : Written) where
-  one_of_two : (b : Bool) (x y : Deed) → Q (works main.text x) → Q (works main.text y) → Q (works main.text (if b then x else y))
-  one_of_two true x y h k = h
-  one_of_two false x y h k = k
-
-  flips_on : (hold : Option Written) → Q (works main.text (own_pulse (defaults_called machine main.text))) → Q (works main.text (own_hold (defaults_called machine main.text)))
-      → IfSome hold (λ w. Q (works w.text (own_hold (defaults_called machine w.text)))) → All Q (flipper_on machine main hold)
-  flips_on (Some hold) pulsed held other =
-      All-cons Q (works main.text (own_pulse (defaults_called machine main.text))) (works hold.text (own_hold (defaults_called machine hold.text)) ∷ []) pulsed
-      (All-cons Q (works hold.text (own_hold (defaults_called machine hold.text))) [] other (All-nil Q))
-  flips_on None pulsed held other =
-      let c = defaults_called machine main.text in
-      All-cons Q (works main.text (if c.may_hold then own_hold c else own_pulse c)) [] (one_of_two c.may_hold (own_hold c) (own_pulse c) held pulsed) (All-nil Q)
-
-  flips_off : (hold : Option Written) → Q (works main.text disable) → IfSome hold (λ w. Q (works w.text disable)) → All Q (flipper_off machine main hold)
-  flips_off (Some hold) own other = All-cons Q (works hold.text disable) [] other (All-nil Q)
-  flips_off None own other = by (let c = defaults_called machine main.text in c.may_hold)
-    where
-      by : (b : Bool) → All Q (if b then works main.text disable ∷ [] else [])
-      by true = All-cons Q (works main.text disable) [] own (All-nil Q)
-      by false = All-nil Q
-
 -- ---- each section
-
-abbrev IsFew : List Effect → Type 0
-IsFew es = length es ≤ 1024
 
 few_posts : (ns : List (List ℕ)) → length ns ≤ 1024 → IsFew (map posts ns)
 few_posts ns few = omega (arith, few, length-map ns posts)
@@ -462,6 +390,22 @@ short_autofire machine a =
       effects = All-cons (All IsEffectInRange) (own ∷ []) [] (All-cons IsEffectInRange own [] (pulse_ranged machine a.coil.text) (All-nil IsEffectInRange)) (All-nil (All IsEffectInRange));
       place_of = refl;
     }
+
+short_lone : (place : Place) (p : Profile) (s : Shot) → IsShortProfile p → IsRightDevice place (lone_device p s)
+short_lone place p s short = record {
+  lists = shot_lists_few p s.name.text;
+  limits = bank_within p 1 (flags (is_enabled s ∷ [])) false (omega arith) short (flags_of (is_enabled s ∷ []));
+  effects = posts_of_shot IsEffectInRange (λ n. tt) p s.name.text;
+  place_of = tt;
+}
+
+short_group : (place : Place) (g : ShotGroup) (m : Members) → IsShortGroup g m → IsRightDevice place (group_device g m)
+short_group place g m h = record {
+  lists = group_lists_few m.profile g.name.text (texts g.shots);
+  limits = bank_within m.profile (length g.shots) m.enabled true h.shots h.states h.enabled;
+  effects = posts_of_group IsEffectInRange (λ n. tt) m.profile g.name.text (texts g.shots);
+  place_of = tt;
+}
 
 module _ (machine : List SectionRows) (P : List ℕ → Type 0) (of : IsOfNames P) (n : ℕ) where
   all_names : (ws : List Written) → AllNames ws → All P (texts ws)
@@ -721,6 +665,47 @@ module _ (machine : List SectionRows) (P : List ℕ → Type 0) (of : IsOfNames 
         lists = All-cons (All Q) (own ∷ []) [] (All-cons Q own [] h.coil (All-nil Q)) (All-nil (All Q));
       }
 
+  -- what acts on a shot and on a group
+  fit_each : (hs : List Handled) → AllNamedEvents hs → All (OfHandled (IsFitEvent P)) hs
+  fit_each hs h = All-weaker IsNamedHandled (OfHandled (IsFitEvent P)) fit_handled hs h
+
+  fit_shot_acts : (i : ℕ) (s : Shot) → IsNamedShot s → All (λ h. IsFitEvent P h.0) (shot_acts i s)
+  fit_shot_acts i s h =
+      all_shot_acts (IsFitEvent P) i s (by s.switch h.switch) (fit_each s.hits h.hits) (fit_each s.advances h.advances) (fit_each s.resets h.resets) (fit_each s.enables h.enables) (fit_each s.disables h.disables)
+    where
+      by : (o : Option Written) → IfSome o (λ w. IsName w.text) → IfSome o (λ w. IsFitEvent P (always (w.text ++ codes "_active")))
+      by None k = tt
+      by (Some w) k = (of.active w.text k, tt)
+
+  -- what a shot posts in each state
+  fit_in_states : (p : Profile) (name : List ℕ) → IsName name → IsNamedProfile p → All (λ state. All (IsFitEffect P) (map posts (shot_events name p.name state))) p.states
+  fit_in_states p name k h =
+      All-weaker IsName (λ state. All (IsFitEffect P) (map posts (shot_events name p.name state))) (λ state is. fit_posts (shot_events name p.name state) (of.shot name p.name state k h.name is)) p.states h.states
+
+  fit_lone : (p : Profile) (s : Shot) → IsNamedShot s × IsNamedProfile p → IsFitDevice (lone_device p s)
+  fit_lone p s h = record {
+    listens = All-nil IsName;
+    handled = fit_shot_acts 0 s h.0;
+    mentioned = All-nil P;
+    lists = all_shot_lists (All (IsFitEffect P)) p s.name.text (fit_in_states p s.name.text h.0.name h.1);
+  }
+
+  fit_group : (g : ShotGroup) (m : Members) → IsNamedShotGroup g × IsNamedProfile m.profile → IsFitDevice (group_device g m)
+  fit_group g m h =
+      let Q : List Effect → Type 0 = All (IsFitEffect P) in
+      let p = m.profile in
+      let name = g.name.text in
+      record {
+        listens = All-nil IsName;
+        handled = all_group_acts (IsFitEvent P) g (fit_each g.rotates h.0.rotates) (fit_each g.rotates_right h.0.rotates_right) (fit_each g.rotates_left h.0.rotates_left) (fit_each g.resets h.0.resets);
+        mentioned = All-nil P;
+        lists = all_group_lists Q p name (texts g.shots)
+            (All-map (λ own. All (λ state. Q (map posts (shot_events own p.name state))) p.states) (λ (w : Written). w.text) g.shots
+            (All-weaker (λ (w : Written). IsName w.text) (λ w. All (λ state. Q (map posts (shot_events w.text p.name state))) p.states) (λ w k. fit_in_states p w.text k h.1) g.shots h.0.shots))
+            (All-weaker IsName (λ state. Q (map posts (group_events (codes "_hit") name state))) (λ state k. fit_posts (group_events (codes "_hit") name state) (of.group name state h.0.name k).0) p.states h.1.states)
+            (All-weaker IsName (λ state. Q (map posts (group_events (codes "_complete") name state))) (λ state k. fit_posts (group_events (codes "_complete") name state) (of.group name state h.0.name k).1) p.states h.1.states);
+      }
+
   -- ---- modes
 
   short_controls : (holds : Bool) (event : List ℕ) → AreShort 1024 full (stopper_where holds event)
@@ -813,10 +798,24 @@ module _ (machine : List SectionRows) (P : List ℕ → Type 0) (of : IsOfNames 
   none_facts : (Named Short Open : Type 0) → Facts P n Named Short Open []
   none_facts Named Short Open = record { names = λ h. All-nil (IsFit P); lists = λ h. tt; modes = λ h. tt; limits = λ h. All-nil IsRight; acts = tt }
 
+  -- one after the other is like both
+  both : {Named Short Open : Type 0} (cs ds : List Contribution) → Facts P n Named Short Open cs → Facts P n Named Short Open ds → Facts P n Named Short Open (cs ++ ds)
+  both cs ds first other = record {
+    names = λ h. All-append (IsFit P) cs ds (first.names h) (other.names h);
+    lists = λ h. AreShort-append cs ds 1024 full (omega arith) (λ k. omega arith) (first.lists h) (other.lists h);
+    modes = λ h. AreOpened-append cs ds n n (omega arith) (first.modes h) (other.modes h);
+    limits = λ h. All-append IsRight cs ds (first.limits h) (other.limits h);
+    acts = ArePlaced-append cs ds None first.acts other.acts;
+  }
+
   -- one of two
   either : {Named Short Open : Type 0} (b : Bool) (cs ds : List Contribution) → Facts P n Named Short Open cs → Facts P n Named Short Open ds → Facts P n Named Short Open (if b then cs else ds)
   either true cs ds first other = first
   either false cs ds first other = other
+
+  -- neither an effect nor a row, and of no mode
+  abbrev IsPlain : Contribution → Type 0
+  IsPlain c = IsRoomy 1024 full c × IsOpen n c × IsRight c × IsPlaced None c
 
   -- what a device gives, where an entry is one
   abbrev IsGood : Place → Entry → Option Device → Type 0
@@ -907,9 +906,63 @@ module _ (machine : List SectionRows) (P : List ℕ → Type 0) (of : IsOfNames 
       (record { names = λ h. change.names (variable_player_named p h); lists = λ h. change.lists (variable_player_short p h); modes = change.modes; limits = λ h. change.limits (variable_player_short p h); acts = change.acts })
       (none_facts (IsNamedPlayer p) (IsShortPlayer 1024 p) (IsOpenPlace n place))))
 
+  -- ---- shots
+
+  -- something that a setting names, in a table or in none
+  named_facts : (Named Short Open : Type 0) (c : Contribution) → (Named → IsFit P c) → IsPlain c → Facts P n Named Short Open (c ∷ [])
+  named_facts Named Short Open c fit plain = record {
+    names = λ h. All-cons (IsFit P) c [] (fit h) (All-nil (IsFit P));
+    lists = λ h. (plain.0, tt);
+    modes = λ h. (plain.1, tt);
+    limits = λ h. All-cons IsRight c [] plain.2 (All-nil IsRight);
+    acts = (plain.3, tt);
+  }
+
+  unknown_facts : (Named Short Open : Type 0) (known : Bool) → Facts P n Named Short Open (unknown_unless known)
+  unknown_facts Named Short Open true = none_facts Named Short Open
+  unknown_facts Named Short Open false = named_facts Named Short Open unknown (λ h. tt) (tt, tt, (tt, tt), tt)
+
+  shot_switch_facts : (Named Short Open : Type 0) (o : Option Written) → (Named → IfSome o (λ w. IsName w.text)) → Facts P n Named Short Open (shot_switch o)
+  shot_switch_facts Named Short Open None named = none_facts Named Short Open
+  shot_switch_facts Named Short Open (Some w) named = named_facts Named Short Open (mentions Switches w.text) named (tt, tt, (tt, tt), tt)
+
+  seated_facts : (place : Place) (p : Profile) (s : Shot) (seat : Option Seat) → Facts P n (IsNamedShot s × IsNamedProfile p) (IsShortProfile p) (IsOpenPlace n place) (seated place p s seat)
+  seated_facts place p s None =
+      let facts = device_facts place (lone_device p s) (no_listener place) in
+      record { names = λ h. facts.names (fit_lone p s h); lists = λ h. facts.lists (short_lone place p s h); modes = facts.modes; limits = λ h. facts.limits (short_lone place p s h); acts = facts.acts }
+  seated_facts place p s (Some seat) =
+      let acting = shot_acts seat.shot s in
+      let at : Event × Act → List Contribution = act_at place (Some seat.row) in
+      record {
+        names = λ h. All-flat_map (IsFit P) at acting
+            (All-weaker (λ (x : Event × Act). IsFitEvent P x.0) (λ x. All (IsFit P) (at x)) (λ x k. All-bound (IsFit P) x.0 place (On seat.row x.1) k.0 k.1) acting (fit_shot_acts seat.shot s h.0));
+        lists = λ h. all_alone (AreShort 1024 full) at (λ x cs k. (tt, AreShort-under 1024 full x.0.condition cs k)) acting tt;
+        modes = λ h. all_alone (AreOpened n) at (λ x cs k. ((h, tt), AreOpened-under n x.0.condition cs k)) acting tt;
+        limits = λ h. All-each IsRight at (λ x. right_bound x.0 place (On seat.row x.1)) acting;
+        acts = all_alone (ArePlaced None) at (λ x cs k. (tt, ArePlaced-under None x.0.condition cs k)) acting tt;
+      }
+
+  shot_facts : (place : Place) (s : Shot) (seat : Option Seat) (known : Bool) (p : Profile) → Facts P n (IsNamedShot s × IsNamedProfile p) (IsShortProfile p) (IsOpenPlace n place) (shot_contributions place s seat known p)
+  unfolding shot_contributions
+  shot_facts place s seat known p =
+      let Named = IsNamedShot s × IsNamedProfile p in
+      both (unknown_unless known) (shot_switch s.switch ++ seated place p s seat) (unknown_facts Named (IsShortProfile p) (IsOpenPlace n place) known)
+      (both (shot_switch s.switch) (seated place p s seat) (shot_switch_facts Named (IsShortProfile p) (IsOpenPlace n place) s.switch (λ h. h.0.switch)) (seated_facts place p s seat))
+
+  group_facts : (place : Place) (g : ShotGroup) (m : Members) → Facts P n (IsNamedShotGroup g × IsNamedProfile m.profile) (IsShortGroup g m) (IsOpenPlace n place) (group_contributions place g m)
+  unfolding group_contributions
+  group_facts place g m =
+      let facts = device_facts place (group_device g m) (no_listener place) in
+      both (unknown_unless m.all_known) (device_contributions place (group_device g m)) (unknown_facts (IsNamedShotGroup g × IsNamedProfile m.profile) (IsShortGroup g m) (IsOpenPlace n place) m.all_known)
+      (record { names = λ h. facts.names (fit_group g m h); lists = λ h. facts.lists (short_group place g m h); modes = facts.modes; limits = λ h. facts.limits (short_group place g m h); acts = facts.acts })
+
+  -- ---- all rows
+
   row_facts : (r : Row) → Facts P n (IsNamedRow r) (IsShortRow r) (IsOpenRow n r) (row_contributions machine r)
   row_facts (entry place section e) = entry_facts place section e
   row_facts (alone place section e) = alone_facts place section e
+  row_facts (shot place s seat known p) = shot_facts place s seat known p
+  row_facts (group place g m) = group_facts place g m
   row_facts (player place section p) = player_entry_facts place section p
   row_facts (of_mode name s) = mode_facts name s
 
@@ -932,6 +985,8 @@ any_name = record {
   player = λ n k. tt;
   block = λ n k i d within. tt;
   timer = λ n k i d within. tt;
+  shot = λ name profile state h k l i d within. tt;
+  group = λ name state h k. (λ i d within. tt, λ i d within. tt);
 }
 
 -- no effect list that rows give has more posts
@@ -963,61 +1018,106 @@ all_placed machine (r ∷ rs) =
 
 -- ---- the rows of sections
 
+-- what holds of a row of a shot, of a group and of any other entry holds of each entry's row
+pub entry_such : (R : Row → Type 0) (rows : Rows) (place : Place) (seat : List ℕ → Option Seat) (section : List ℕ) (e : Entry) → R (shot_row rows place seat (shot_of e)) → R (group_row rows place seat (shot_group_of e))
+    → R (entry place section e) → R (entry_row rows place seat section e)
+entry_such R rows place seat section e of_shot of_group other = by (bytes_eq section shots_name) (bytes_eq section shot_groups_name)
+  where
+    by : (s g : Bool) → R (if s then shot_row rows place seat (shot_of e) else (if g then group_row rows place seat (shot_group_of e) else entry place section e))
+    by true g = of_shot
+    by false true = of_group
+    by false false = other
+
 -- what holds of each row that stands in a section
-module _ (R : Row → Type 0) (S : SectionRows → Type 0) (place : Place) (each : (s : SectionRows) → S s → All R (rows_from place s.name s.content)) where
-  pub sections_each : (sections : List SectionRows) → All S sections → All R (rows_in place sections)
-  sections_each sections h = All-flat_map R (λ s. rows_from place s.name s.content) sections (All-weaker S (λ s. All R (rows_from place s.name s.content)) each sections h)
+module _ (R : Row → Type 0) (S : SectionRows → Type 0) (rows : Rows) (place : Place) (seat : List ℕ → Option Seat) (each : (s : SectionRows) → S s → All R (rows_from rows place seat s.name s.content)) where
+  pub sections_each : (sections : List SectionRows) → All S sections → All R (rows_in rows place seat sections)
+  sections_each sections h =
+      All-flat_map R (λ s. rows_from rows place seat s.name s.content) sections (All-weaker S (λ s. All R (rows_from rows place seat s.name s.content)) each sections h)
 
-rows_named : (place : Place) (s : SectionRows) → IsNamed s → All IsNamedRow (rows_from place s.name s.content)
-rows_named place s h = by s.content h
-  where
-    by : (content : Content) → IsNamedContent content → All IsNamedRow (rows_from place s.name content)
-    by (entries es) k = All-map IsNamedRow (entry place s.name) es k
-    by (players ps) k = All-map IsNamedRow (player place s.name) ps k
-    by (sections.entry e) k = All-cons IsNamedRow (alone place s.name e) [] k (All-nil IsNamedRow)
-    by (sections.listed ws) k = All-nil IsNamedRow
+-- what holds of each row of modes, one after the other
+module _ (R : Row → Type 0) (M : ModeRows → Type 0) (rows : Rows) (each : (n : ℕ) (m : ModeRows) → M m → All R (mode_rows rows n m)) where
+  pub modes_each : (n : ℕ) (ms : List ModeRows) → All M ms → All R (modes_rows rows n ms)
+  modes_each n [] h = All-nil R
+  modes_each n (m ∷ ms) h =
+      let after = rows_after_text Mode n m.sections in
+      All-append R (mode_rows rows n m) (modes_rows rows after ms) (each n m (All-head M m ms h)) (modes_each after ms (All-tail M m ms h))
 
-rows_short : (place : Place) (s : SectionRows) → IsShortSection s → All IsShortRow (rows_from place s.name s.content)
-rows_short place s h = by s.content h
-  where
-    by : (content : Content) → IsShortContent content → All IsShortRow (rows_from place s.name content)
-    by (entries es) k = All-map IsShortRow (entry place s.name) es k.0
-    by (players ps) k = All-map IsShortRow (player place s.name) ps k.1
-    by (sections.entry e) k = All-map IsShortRow (alone place s.name) (e ∷ []) k.2
-    by (sections.listed ws) k = All-nil IsShortRow
+-- what holds of each row of a configuration
+module _ (R : Row → Type 0) (S : SectionRows → Type 0) (M : ModeRows → Type 0) (rows : Rows) (first : (seat : List ℕ → Option Seat) (s : SectionRows) → S s → All R (rows_from rows Machine seat s.name s.content))
+    (each : (n : ℕ) (m : ModeRows) → M m → All R (mode_rows rows n m)) where
+  pub rows_each : All S rows.machine → All M rows.modes → All R (rows_of rows)
+  rows_each machine modes =
+      let seat = seat_of Machine 0 rows.machine in
+      let after = rows_after_text Machine 0 rows.machine in
+      All-append R (rows_in rows Machine seat rows.machine) (modes_rows rows after rows.modes) (sections_each R S rows Machine seat (first seat) rows.machine machine) (modes_each R M rows each after rows.modes modes)
 
--- each row of a place is open where the place is
-rows_open : (n : ℕ) (place : Place) → IsOpenPlace n place → (name : List ℕ) (content : Content) → All (IsOpenRow n) (rows_from place name content)
-rows_open n place opened name (entries es) = All-map (IsOpenRow n) (entry place name) es (λ i d within. opened)
-rows_open n place opened name (players ps) = All-map (IsOpenRow n) (player place name) ps (λ i d within. opened)
-rows_open n place opened name (sections.entry e) = All-cons (IsOpenRow n) (alone place name e) [] opened (All-nil (IsOpenRow n))
-rows_open n place opened name (sections.listed ws) = All-nil (IsOpenRow n)
+module _ (rows : Rows) (machine : All IsNamed rows.machine) (modes : All IsNamedMode rows.modes) where
+  rows_named : (place : Place) (seat : List ℕ → Option Seat) (s : SectionRows) → IsNamed s → All IsNamedRow (rows_from rows place seat s.name s.content)
+  rows_named place seat s h = by s.content h
+    where
+      entry_named : (e : Entry) → IsNamedEntry e → IsNamedRow (entry_row rows place seat s.name e)
+      entry_named e k =
+          let own = shot_of e in
+          let others = shot_group_of e in
+          entry_such IsNamedRow rows place seat s.name e (shot_named e k, profile_named rows machine modes own.profile.text) (shot_group_named e k, members_named rows machine modes others) k
 
--- what rows of sections give
-sections_open : (machine : List SectionRows) (n : ℕ) (place : Place) → IsOpenPlace n place → (sections : List SectionRows) → AreOpened n (given_by machine (rows_in place sections))
-sections_open machine n place opened sections =
-    all_open machine n (rows_in place sections) (sections_each (IsOpenRow n) (λ s. Unit {0}) place (λ s h. rows_open n place opened s.name s.content) sections (λ i d within. tt))
+      by : (content : Content) → IsNamedContent content → All IsNamedRow (rows_from rows place seat s.name content)
+      by (entries es) k = All-map IsNamedRow (entry_row rows place seat s.name) es (All-weaker IsNamedEntry (λ e. IsNamedRow (entry_row rows place seat s.name e)) entry_named es k)
+      by (players ps) k = All-map IsNamedRow (player place s.name) ps k
+      by (sections.entry e) k = All-cons IsNamedRow (alone place s.name e) [] k (All-nil IsNamedRow)
+      by (sections.listed ws) k = All-nil IsNamedRow
+
+  mode_rows_named : (n : ℕ) (m : ModeRows) → IsNamedMode m → All IsNamedRow (mode_rows rows n m)
+  mode_rows_named n m h =
+      let seat = seat_of Mode n m.sections in
+      All-cons IsNamedRow (of_mode m.name (mode_settings m.sections)) (rows_in rows Mode seat m.sections) (h.name, mode_settings_named m.sections h.sections)
+      (sections_each IsNamedRow IsNamed rows Mode seat (rows_named Mode seat) m.sections h.sections)
+
+  all_rows_named : All IsNamedRow (rows_of rows)
+  all_rows_named = rows_each IsNamedRow IsNamed IsNamedMode rows (rows_named Machine) mode_rows_named machine modes
+
+module _ (rows : Rows) where
+  rows_short : (place : Place) (seat : List ℕ → Option Seat) (s : SectionRows) → IsShortSection s → All IsShortRow (rows_from rows place seat s.name s.content)
+  rows_short place seat s h = by s.content h
+    where
+      entry_short : (e : Entry) → IsShortEntry 1024 e → IsShortRow (entry_row rows place seat s.name e)
+      entry_short e k =
+          let own = shot_of e in
+          let others = shot_group_of e in
+          entry_such IsShortRow rows place seat s.name e (profile_short rows own.profile.text) (members_short rows others (let short = shot_group_short e k in short.shots)) k
+
+      by : (content : Content) → IsShortContent content → All IsShortRow (rows_from rows place seat s.name content)
+      by (entries es) k = All-map IsShortRow (entry_row rows place seat s.name) es (All-weaker (IsShortEntry 1024) (λ e. IsShortRow (entry_row rows place seat s.name e)) entry_short es k.0)
+      by (players ps) k = All-map IsShortRow (player place s.name) ps k.1
+      by (sections.entry e) k = All-map IsShortRow (alone place s.name) (e ∷ []) k.2
+      by (sections.listed ws) k = All-nil IsShortRow
+
+  mode_rows_short : (n : ℕ) (m : ModeRows) → IsShortMode m → All IsShortRow (mode_rows rows n m)
+  mode_rows_short n m h =
+      let seat = seat_of Mode n m.sections in
+      All-cons IsShortRow (of_mode m.name (mode_settings m.sections)) (rows_in rows Mode seat m.sections) tt (sections_each IsShortRow IsShortSection rows Mode seat (rows_short Mode seat) m.sections h)
+
+  all_rows_short : AreListsShort rows → All IsShortRow (rows_of rows)
+  all_rows_short h = rows_each IsShortRow IsShortSection IsShortMode rows (rows_short Machine) mode_rows_short h.0 h.1
+
+  -- each row of a place is open where the place is
+  rows_open : (n : ℕ) (place : Place) → IsOpenPlace n place → (seat : List ℕ → Option Seat) (name : List ℕ) (content : Content) → All (IsOpenRow n) (rows_from rows place seat name content)
+  rows_open n place opened seat name (entries es) =
+      All-map (IsOpenRow n) (entry_row rows place seat name) es (λ i d within. entry_such (IsOpenRow n) rows place seat name (get_or es i d) opened opened opened)
+  rows_open n place opened seat name (players ps) = All-map (IsOpenRow n) (player place name) ps (λ i d within. opened)
+  rows_open n place opened seat name (sections.entry e) = All-cons (IsOpenRow n) (alone place name e) [] opened (All-nil (IsOpenRow n))
+  rows_open n place opened seat name (sections.listed ws) = All-nil (IsOpenRow n)
+
+  -- what rows of sections give
+  sections_open : (n : ℕ) (place : Place) → IsOpenPlace n place → (seat : List ℕ → Option Seat) (sections : List SectionRows) → AreOpened n (given_by rows.machine (rows_in rows place seat sections))
+  sections_open n place opened seat sections =
+      all_open rows.machine n (rows_in rows place seat sections)
+      (sections_each (IsOpenRow n) (λ s. Unit {0}) rows place seat (λ s h. rows_open n place opened seat s.name s.content) sections (λ i d within. tt))
 
 -- ---- the rows of a bundle
 
-mode_rows_named : (m : ModeRows) → IsNamedMode m → All IsNamedRow (mode_rows m)
-mode_rows_named m h =
-    All-cons IsNamedRow (of_mode m.name (mode_settings m.sections)) (rows_in Mode m.sections) (h.name, mode_settings_named m.sections h.sections)
-    (sections_each IsNamedRow IsNamed Mode (rows_named Mode) m.sections h.sections)
-
-mode_rows_short : (m : ModeRows) → IsShortMode m → All IsShortRow (mode_rows m)
-mode_rows_short m h = All-cons IsShortRow (of_mode m.name (mode_settings m.sections)) (rows_in Mode m.sections) tt (sections_each IsShortRow IsShortSection Mode (rows_short Mode) m.sections h)
-
 pub rows_fit : (P : List ℕ → Type 0) → IsOfNames P → (rows : Rows) → All IsNamed rows.machine → All IsNamedMode rows.modes → All (IsFit P) (contributions_of rows)
-rows_fit P of rows machine modes =
-    all_fit rows.machine P of 0 (rows_of rows)
-    (All-append IsNamedRow (rows_in Machine rows.machine) (flat_map mode_rows rows.modes) (sections_each IsNamedRow IsNamed Machine (rows_named Machine) rows.machine machine)
-    (All-flat_map IsNamedRow mode_rows rows.modes (All-weaker IsNamedMode (λ m. All IsNamedRow (mode_rows m)) mode_rows_named rows.modes modes)))
-
-all_rows_short : (rows : Rows) → AreListsShort rows → All IsShortRow (rows_of rows)
-all_rows_short rows h =
-    All-append IsShortRow (rows_in Machine rows.machine) (flat_map mode_rows rows.modes) (sections_each IsShortRow IsShortSection Machine (rows_short Machine) rows.machine h.0)
-    (All-flat_map IsShortRow mode_rows rows.modes (All-weaker IsShortMode (λ m. All IsShortRow (mode_rows m)) mode_rows_short rows.modes h.1))
+rows_fit P of rows machine modes = all_fit rows.machine P of 0 (rows_of rows) (all_rows_named rows machine modes)
 
 pub rows_are_short : (rows : Rows) → AreListsShort rows → AreShort 1024 full (contributions_of rows)
 rows_are_short rows h = all_short rows.machine (rows_of rows) (all_rows_short rows h)
@@ -1035,24 +1135,30 @@ pub rows_are_placed : (rows : Rows) → ArePlaced None (contributions_of rows)
 rows_are_placed rows = all_placed rows.machine (rows_of rows)
 
 -- a mode, and what is of it
-mode_open : (machine : List SectionRows) (n : ℕ) (m : ModeRows) → AreOpened n (given_by machine (mode_rows m))
+mode_open : (rows : Rows) (n before : ℕ) (m : ModeRows) → AreOpened n (given_by rows.machine (mode_rows rows before m))
 unfolding mode_contributions
-mode_open machine n m =
+mode_open rows n before m =
     let s = mode_settings m.sections in
-    let rest = given_by machine (rows_in Mode m.sections) in
-    let first = row_facts machine (λ e. Unit {0}) any_name n (of_mode m.name s) in
+    let seat = seat_of Mode before m.sections in
+    let rest = given_by rows.machine (rows_in rows Mode seat m.sections) in
+    let first = row_facts rows.machine (λ e. Unit {0}) any_name n (of_mode m.name s) in
     let some : 1 ≤ suc n = omega arith in
-    (tt, AreOpened-append (later_events m.name ++ controls s) rest 1 (suc n) some (first.modes tt).1 (sections_open machine 1 Mode (omega arith) m.sections))
+    (tt, AreOpened-append (later_events m.name ++ controls s) rest 1 (suc n) some (first.modes tt).1 (sections_open rows 1 Mode (omega arith) seat m.sections))
 
-modes_open : (machine : List SectionRows) (n : ℕ) (ms : List ModeRows) → AreOpened n (given_by machine (flat_map mode_rows ms))
-modes_open machine n [] = tt
-modes_open machine n (m ∷ ms) =
-    subst (AreOpened n) (sym (flat_map-append (row_contributions machine) (mode_rows m) (flat_map mode_rows ms)))
-    (AreOpened-append (given_by machine (mode_rows m)) (given_by machine (flat_map mode_rows ms)) n n (omega arith) (mode_open machine n m) (modes_open machine n ms))
+modes_open : (rows : Rows) (n before : ℕ) (ms : List ModeRows) → AreOpened n (given_by rows.machine (modes_rows rows before ms))
+modes_open rows n before [] = tt
+modes_open rows n before (m ∷ ms) =
+    let here = mode_rows rows before m in
+    let after = rows_after_text Mode before m.sections in
+    let rest = modes_rows rows after ms in
+    subst (AreOpened n) (sym (flat_map-append (row_contributions rows.machine) here rest))
+    (AreOpened-append (given_by rows.machine here) (given_by rows.machine rest) n n (omega arith) (mode_open rows n before m) (modes_open rows n after ms))
 
 pub rows_are_open : (rows : Rows) → AreOpened 0 (contributions_of rows)
 rows_are_open rows =
-    let first = rows_in Machine rows.machine in
-    let rest = flat_map mode_rows rows.modes in
+    let seat = seat_of Machine 0 rows.machine in
+    let first = rows_in rows Machine seat rows.machine in
+    let after = rows_after_text Machine 0 rows.machine in
+    let rest = modes_rows rows after rows.modes in
     subst (AreOpened 0) (sym (flat_map-append (row_contributions rows.machine) first rest))
-    (AreOpened-append (given_by rows.machine first) (given_by rows.machine rest) 0 0 (omega arith) (sections_open rows.machine 0 Machine tt rows.machine) (modes_open rows.machine 0 rows.modes))
+    (AreOpened-append (given_by rows.machine first) (given_by rows.machine rest) 0 0 (omega arith) (sections_open rows 0 Machine tt seat rows.machine) (modes_open rows 0 after rows.modes))

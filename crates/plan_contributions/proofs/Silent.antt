@@ -1,10 +1,12 @@
--- What contributions tell that only some of them tell: where no row but a coil's tells any of it, no other does.
-use Rattle.std.proofs.Common.{◌≡◌, ℕ, suc, Bool, true, false, if◌then◌else◌, List, [], ◌∷◌, ◌++◌, Option, None, Some, map, refl, ◌∙◌, codes}
+-- What contributions tell that only some of them tell: where none but a coil's and a row's tells any of it, it is the
+-- coils and the rows that are told.
+use Rattle.std.proofs.Common.{◌≡◌, ℕ, suc, Bool, true, false, if◌then◌else◌, List, [], ◌∷◌, ◌++◌, Option, None, Some, map, refl, ◌∙◌, ap, true≢false, codes}
 use Rattle.std.specs.Str.{bytes_eq}
 use Rattle.std.specs.List.{flat_map}
 use Rattle.std.proofs.lemmas.Grind.{flat_map-append}
+use Rattle.std.proofs.lemmas.List.{append-nil}
 use Rattle.mpf_values.specs.Events.{Condition, Event}
-use Rattle.mpf_sections.specs.Rows.{Entry, Player, Switch, EventPlayer, CoilPlayer, VariablePlayer, VariableItem, GameSettings, ModeSettings, SectionRows}
+use Rattle.mpf_sections.specs.Rows.{Written, Entry, Player, Switch, EventPlayer, CoilPlayer, VariablePlayer, VariableItem, GameSettings, Shot, ShotGroup, ModeSettings, SectionRows}
 use Rattle.mpf_sections.specs.TypedGame.{variable_player_name, game_name, variable_player_of, game_of, min_balls_of}
 use Rattle.machine_definitions.specs.GameEvents.{game_event_names}
 use Rattle.machine_definitions.specs.Players.{player_event}
@@ -19,13 +21,15 @@ use Rattle.plan_tables.specs.declared.entries.SwitchKind.{SwitchKind}
 use Rattle.plan_contributions.specs.declared.contribution.Place.{Place}
 use Rattle.plan_contributions.specs.declared.contribution.Place.TheVariants.{Machine, Control, Mode}
 use Rattle.plan_contributions.specs.declared.contribution.Aim.{Aim}
-use Rattle.plan_contributions.specs.declared.contribution.Aim.TheVariants.{Run, Start, Stop, Do}
+use Rattle.plan_contributions.specs.declared.contribution.Aim.TheVariants.{Run, Start, Stop, Do, On}
 use Rattle.plan_tables.specs.declared.table.Table.TheVariants.{Events, Switches}
 use Rattle.plan_contributions.specs.CoilEntries.{item_effect}
-use Rattle.plan_contributions.specs.DeviceEntries.{Effect, posts}
-use Rattle.plan_contributions.specs.Contributions.{Contribution, gives, reads, active, inactive, mode, mode_event, binds, does, device, does_in, listens, mentions, under, plays, under_where, bound, always, kind_of, texts, events, active_posts, inactive_posts, switch_contributions, player_contributions, coil_contributions, coil_player_contributions, item_contributions, variable_player_contributions, game_contributions, starter, stopper, stopper_where, later_events, controls, mode_contributions, Device, act_binding, listens_from, effects_from, device_contributions, where_device, machine_device, machine_entry_contributions, alone_contributions, player_entry_contributions}
+use Rattle.plan_contributions.specs.DeviceEntries.{Effect, posts, device_of}
+use Rattle.machine_definitions.specs.Shots.{Profile}
+use Rattle.plan_contributions.specs.ShotEntries.{Seat, shot_acts, bank_settings, flags, is_enabled, lone_device, Members, group_device}
+use Rattle.plan_contributions.specs.Contributions.{Contribution, gives, reads, active, inactive, mode, mode_event, binds, does, device, does_in, listens, mentions, unknown, under, plays, under_where, bound, always, kind_of, texts, events, active_posts, inactive_posts, switch_contributions, player_contributions, coil_contributions, coil_player_contributions, item_contributions, variable_player_contributions, game_contributions, starter, stopper, stopper_where, later_events, controls, mode_contributions, Device, act_binding, listens_from, effects_from, device_contributions, where_device, machine_device, unknown_unless, shot_switch, act_at, seated, shot_contributions, group_contributions, machine_entry_contributions, entry_contributions, alone_contributions, player_entry_contributions, Row, entry, alone, shot, group, player, of_mode, row_contributions, given_by}
 
--- each contribution but a coil's tells nothing
+-- each contribution but a coil's and a row's tells nothing
 pub record IsSilent {X : Type 0} (tell : Contribution → List X) : Type 0 where
   pub given : (n : List ℕ) → tell (gives Switches n) ≡ []
   pub read : (kind : SwitchKind) → tell (reads kind) ≡ []
@@ -35,10 +39,11 @@ pub record IsSilent {X : Type 0} (tell : Contribution → List X) : Type 0 where
   pub events : (which : ModeEvent) (n : List ℕ) → tell (mode_event which n) ≡ []
   pub bound : (n : List ℕ) (place : Place) (aim : Aim) → tell (binds n place aim) ≡ []
   pub done : (e : Effect) → tell (does e) ≡ []
-  pub rows : (place : Place) (settings : Settings) → tell (device place settings) ≡ []
   pub done_in : (k : ℕ) (e : Effect) → tell (does_in k e) ≡ []
   pub listened : (k : ℕ) (n : List ℕ) → tell (listens k n) ≡ []
   pub mentioned : (n : List ℕ) → tell (mentions Events n) ≡ []
+  pub needed : (n : List ℕ) → tell (mentions Switches n) ≡ []
+  pub missed : tell unknown ≡ []
   pub met : (c : Condition) → tell (under c) ≡ []
   pub played : (min_balls balls_per_game max_players : ℕ) → tell (plays min_balls balls_per_game max_players) ≡ []
 
@@ -68,9 +73,9 @@ module _ {X : Type 0} (tell : Contribution → List X) (silent : IsSilent tell) 
   when true cs ds none other = none
   when false cs ds none other = other
 
-  -- ---- rows
+  -- ---- each row
 
-  pub in_switch : (machine : List SectionRows) (s : Switch) → TellsNone (switch_contributions machine s)
+  in_switch : (machine : List SectionRows) (s : Switch) → TellsNone (switch_contributions machine s)
   unfolding switch_contributions
   in_switch machine s =
       let doing = map active (active_posts s) ++ map inactive (inactive_posts s) in
@@ -120,37 +125,60 @@ module _ {X : Type 0} (tell : Contribution → List X) (silent : IsSilent tell) 
   in_listens k [] = refl
   in_listens k (n ∷ ns) = first (listens k n) (listens_from (suc k) ns) (silent.listened k n) (in_listens (suc k) ns)
 
-  in_device : (place : Place) (d : Device) → TellsNone (device_contributions place d)
+  -- the row of a device
+  abbrev pub told_row : Place → Device → List X
+  told_row place d = tell (device place d.settings)
+
+  in_device : (place : Place) (d : Device) → Tells (device_contributions place d) (told_row place d)
   unfolding device_contributions
   in_device place d =
       let listening = listens_from 0 d.listens in
       let acting = flat_map (act_binding place) d.handled in
       let named = map (mentions Events) d.mentioned in
       let doing = effects_from 0 d.lists in
-      first (device place d.settings) (listening ++ (acting ++ (named ++ doing))) (silent.rows place d.settings)
+      ap (λ l. told_row place d ++ l)
       (both listening (acting ++ (named ++ doing)) (in_listens 0 d.listens)
       (both acting (named ++ doing) (each_all (act_binding place) (λ h. act_silent h) d.handled) (both named doing (each (mentions Events) silent.mentioned d.mentioned) (in_lists 0 d.lists))))
+      ∙ append-nil (told_row place d)
     where
       act_silent : (h : Event × Act) → TellsNone (act_binding place h)
       act_silent h = in_bound h.0 place (Do h.1)
 
-  pub in_where : (place : Place) (o : Option Device) → TellsNone (where_device place o)
+  abbrev pub told_where : Place → Option Device → List X
+  told_where place None = []
+  told_where place (Some d) = told_row place d
+
+  in_where : (place : Place) (o : Option Device) → Tells (where_device place o) (told_where place o)
   in_where place None = refl
   in_where place (Some d) = in_device place d
 
   -- an entry of the machine text tells what a coil does, where it is one
-  pub in_machine_entry : (machine : List SectionRows) (section : List ℕ) (e : Entry) → Tells (machine_entry_contributions machine section e) (if bytes_eq section coils_name then flat_map tell (coil_contributions (coil_of e)) else [])
+  abbrev pub told_machine : List SectionRows → List ℕ → Entry → List X
+  told_machine machine section e =
+      if bytes_eq section coils_name then flat_map tell (coil_contributions (coil_of e)) else (if bytes_eq section switches_name then [] else told_where Machine (machine_device machine section e))
+
+  in_machine_entry : (machine : List SectionRows) (section : List ℕ) (e : Entry) → Tells (machine_entry_contributions machine section e) (told_machine machine section e)
   unfolding machine_entry_contributions
-  in_machine_entry machine section e = by (bytes_eq section coils_name)
+  in_machine_entry machine section e = by (bytes_eq section coils_name) (bytes_eq section switches_name)
     where
-      others : List Contribution
-      others = if bytes_eq section switches_name then switch_contributions machine (switch_of e) else where_device Machine (machine_device machine section e)
+      by : (c s : Bool) → Tells (if c then coil_contributions (coil_of e) else (if s then switch_contributions machine (switch_of e) else where_device Machine (machine_device machine section e)))
+          (if c then flat_map tell (coil_contributions (coil_of e)) else (if s then [] else told_where Machine (machine_device machine section e)))
+      by true s = refl
+      by false true = in_switch machine (switch_of e)
+      by false false = in_where Machine (machine_device machine section e)
 
-      by : (b : Bool) → Tells (if b then coil_contributions (coil_of e) else others) (if b then flat_map tell (coil_contributions (coil_of e)) else [])
-      by true = refl
-      by false = when (bytes_eq section switches_name) (switch_contributions machine (switch_of e)) (where_device Machine (machine_device machine section e)) (in_switch machine (switch_of e)) (in_where Machine (machine_device machine section e))
+  abbrev pub told_entry : List SectionRows → Place → List ℕ → Entry → List X
+  told_entry machine Machine section e = told_machine machine section e
+  told_entry machine Control section e = told_where Control (device_of section e)
+  told_entry machine Mode section e = told_where Mode (device_of section e)
 
-  pub in_player_entry : (machine : List SectionRows) (place : Place) (section : List ℕ) (p : Player) → TellsNone (player_entry_contributions machine place section p)
+  in_entry : (machine : List SectionRows) (place : Place) (section : List ℕ) (e : Entry) → Tells (entry_contributions machine place section e) (told_entry machine place section e)
+  unfolding entry_contributions
+  in_entry machine Machine section e = in_machine_entry machine section e
+  in_entry machine Control section e = in_where Control (device_of section e)
+  in_entry machine Mode section e = in_where Mode (device_of section e)
+
+  in_player_entry : (machine : List SectionRows) (place : Place) (section : List ℕ) (p : Player) → TellsNone (player_entry_contributions machine place section p)
   unfolding player_entry_contributions
   in_player_entry machine place section p =
       let item = coil_player_contributions machine place (coil_player_of p) in
@@ -160,7 +188,7 @@ module _ {X : Type 0} (tell : Contribution → List X) (silent : IsSilent tell) 
       (when (bytes_eq section coil_player_name) item last (in_coil_player machine place (coil_player_of p))
       (when (bytes_eq section variable_player_name) change [] (in_variable_player place (variable_player_of p)) refl))
 
-  pub in_alone : (machine : List SectionRows) (place : Place) (section : List ℕ) (e : Entry) → TellsNone (alone_contributions machine place section e)
+  in_alone : (machine : List SectionRows) (place : Place) (section : List ℕ) (e : Entry) → TellsNone (alone_contributions machine place section e)
   unfolding alone_contributions
   in_alone machine Machine section e = when (bytes_eq section game_name) (game_contributions machine (game_of e)) [] (in_game machine (game_of e)) refl
   in_alone machine Control section e = refl
@@ -188,6 +216,82 @@ module _ {X : Type 0} (tell : Contribution → List X) (silent : IsSilent tell) 
       from : (which : ModeEvent) (cs : List Contribution) → TellsNone cs → TellsNone (mode_event which name ∷ cs)
       from which cs rest = first (mode_event which name) cs (silent.events which name) rest
 
-  pub in_mode : (name : List ℕ) (s : ModeSettings) → TellsNone (mode_contributions name s)
+  in_mode : (name : List ℕ) (s : ModeSettings) → TellsNone (mode_contributions name s)
   unfolding mode_contributions
   in_mode name s = first (mode name s.priority s.game) (later_events name ++ controls s) (silent.modes name s.priority s.game) (both (later_events name) (controls s) (in_later name) (in_controls s))
+
+  -- a shot that has a seat tells nothing, and one that has none tells of its row
+  abbrev pub told_shot : Place → Shot → Option Seat → Profile → List X
+  told_shot place s None p = told_row place (lone_device p s)
+  told_shot place s (Some seat) p = []
+
+  in_seated : (place : Place) (p : Profile) (s : Shot) (seat : Option Seat) → Tells (seated place p s seat) (told_shot place s seat p)
+  in_seated place p s None = in_device place (lone_device p s)
+  in_seated place p s (Some seat) = each_all (act_at place (Some seat.row)) (λ (h : Event × Act). in_bound h.0 place (On seat.row h.1)) (shot_acts seat.shot s)
+
+  -- what is unknown, and the switch of a shot, before others
+  after_none : (cs ds : List Contribution) (xs : List X) → TellsNone cs → Tells ds xs → Tells (cs ++ ds) xs
+  after_none cs ds xs none others = flat_map-append tell cs ds ∙ (λ i. none i ++ others i)
+
+  in_unknown : (known : Bool) → TellsNone (unknown_unless known)
+  in_unknown true = refl
+  in_unknown false = first unknown [] silent.missed refl
+
+  in_shot_switch : (o : Option Written) → TellsNone (shot_switch o)
+  in_shot_switch None = refl
+  in_shot_switch (Some w) = first (mentions Switches w.text) [] (silent.needed w.text) refl
+
+  in_shot : (place : Place) (s : Shot) (seat : Option Seat) (known : Bool) (p : Profile) → Tells (shot_contributions place s seat known p) (told_shot place s seat p)
+  unfolding shot_contributions
+  in_shot place s seat known p =
+      after_none (unknown_unless known) (shot_switch s.switch ++ seated place p s seat) (told_shot place s seat p) (in_unknown known)
+      (after_none (shot_switch s.switch) (seated place p s seat) (told_shot place s seat p) (in_shot_switch s.switch) (in_seated place p s seat))
+
+  in_group : (place : Place) (g : ShotGroup) (m : Members) → Tells (group_contributions place g m) (told_row place (group_device g m))
+  unfolding group_contributions
+  in_group place g m =
+      after_none (unknown_unless m.all_known) (device_contributions place (group_device g m)) (told_row place (group_device g m)) (in_unknown m.all_known) (in_device place (group_device g m))
+
+  -- ---- all rows
+
+  module _ (machine : List SectionRows) where
+    abbrev pub told : Row → List X
+    told (entry place section e) = told_entry machine place section e
+    told (alone place section e) = []
+    told (shot place s seat known p) = told_shot place s seat p
+    told (group place g m) = told_row place (group_device g m)
+    told (player place section p) = []
+    told (of_mode name s) = []
+
+    pub row_tells : (r : Row) → Tells (row_contributions machine r) (told r)
+    row_tells (entry place section e) = in_entry machine place section e
+    row_tells (alone place section e) = in_alone machine place section e
+    row_tells (shot place s seat known p) = in_shot place s seat known p
+    row_tells (group place g m) = in_group place g m
+    row_tells (player place section p) = in_player_entry machine place section p
+    row_tells (of_mode name s) = in_mode name s
+
+    pub rows_tell : (rs : List Row) → Tells (given_by machine rs) (flat_map told rs)
+    rows_tell [] = refl
+    rows_tell (r ∷ rs) = flat_map-append tell (row_contributions machine r) (given_by machine rs) ∙ (λ i. row_tells r i ++ rows_tell rs i)
+
+  -- where rows tell nothing either, no entry does but a coil of the machine text
+  module _ (none : (place : Place) (settings : Settings) → tell (device place settings) ≡ []) (machine : List SectionRows) where
+    pub none_where : (place : Place) (o : Option Device) → told_where place o ≡ []
+    none_where place None = refl
+    none_where place (Some d) = none place d.settings
+
+    pub none_machine : (section : List ℕ) (e : Entry) → bytes_eq section coils_name ≡ false → told_machine machine section e ≡ []
+    none_machine section e other = by (bytes_eq section coils_name) (bytes_eq section switches_name) other
+      where
+        by : (c s : Bool) → c ≡ false → (if c then flat_map tell (coil_contributions (coil_of e)) else (if s then [] else told_where Machine (machine_device machine section e))) ≡ []
+        by true s is = absurd (true≢false is)
+        by false true is = refl
+        by false false is = none_where Machine (machine_device machine section e)
+
+    pub none_mode : (section : List ℕ) (e : Entry) → told_entry machine Mode section e ≡ []
+    none_mode section e = none_where Mode (device_of section e)
+
+    pub none_shot : (place : Place) (s : Shot) (seat : Option Seat) (p : Profile) → told_shot place s seat p ≡ []
+    none_shot place s None p = none place (bank_settings p 1 (flags (is_enabled s ∷ [])) false)
+    none_shot place s (Some seat) p = refl

@@ -1,16 +1,19 @@
 -- What holds of each effect, of each event that a switch posts, and of each switch to which a device listens or which a
 -- setting names: of those of rows, and of those of contributions.
-use Rattle.std.specs.Prelude.{ℕ, List, Option, None, Some}
+use Rattle.std.specs.Prelude.{◌≡◌, ℕ, true, List, Option, None, Some, IfSome, IsSome}
 use Rattle.std.specs.List.{All}
-use Rattle.mpf_sections.specs.Rows.{Switch, EventPlayer, CoilPlayer, VariablePlayer, SectionRows}
+use Rattle.mpf_sections.specs.Rows.{Switch, EventPlayer, CoilPlayer, VariablePlayer, Shot, ShotGroup, SectionRows}
 use Rattle.mpf_sections.specs.TypedGame.{variable_players_in}
 use Rattle.plan_contributions.specs.VariableEntries.{item_change}
 use Rattle.mpf_config.specs.Rows.{ModeRows, Rows}
 use Rattle.mpf_sections.specs.Typed.{entries_in, switches_in, event_players_in}
 use Rattle.mpf_sections.specs.TypedCoils.{coil_players_in, flippers_in, autofires_in}
+use Rattle.mpf_sections.specs.TypedShots.{shots_in, shot_groups_in}
+use Rattle.machine_definitions.specs.Shots.{shot_called, has_profile, profile_of_name}
 use Rattle.plan_tables.specs.declared.table.Table.{Table}
 use Rattle.plan_tables.specs.declared.table.Table.TheVariants.{Events, Switches}
 use Rattle.plan_contributions.specs.DeviceEntries.{texts, Effect, posts, Device, device_of}
+use Rattle.plan_contributions.specs.ShotEntries.{shot_lists, group_lists, members_of}
 use Rattle.plan_contributions.specs.CoilEntries.{item_effect, flipper_device, autofire_device}
 use Rattle.plan_contributions.specs.Contributions.{Contribution, active, inactive, does, does_in, listens, mentions, unknown, active_posts, inactive_posts}
 
@@ -36,11 +39,23 @@ module _ (P : Effect → Type 0) (S L : List ℕ → Type 0) where
   IsEntryDoing None = Unit {0}
   IsEntryDoing (Some d) = IsDeviceDoing d
 
-  -- what coils do is by the sections of the machine text
-  module _ (machine : List SectionRows) where
+  -- what coils and shots do is by the rows of all texts
+  module _ (rows : Rows) where
     -- of all that an entry of `coil_player` does
     abbrev pub IsCoilPlayerDoing : CoilPlayer → Type 0
-    IsCoilPlayerDoing p = All (λ item. P (item_effect machine item)) p.items
+    IsCoilPlayerDoing p = All (λ item. P (item_effect rows.machine item)) p.items
+
+    -- L holds of the name of a shot's switch, if it has one, its profile is defined, and P holds of all that its effect
+    -- lists do
+    pub record IsShotDoing (s : Shot) : Type 0 where
+      pub switch : IfSome s.switch (λ w. L w.text)
+      pub profile : has_profile rows s.profile.text ≡ true
+      pub lists : All (All P) (shot_lists (profile_of_name rows s.profile.text) s.name.text)
+
+    -- all shots of a group are defined, and P holds of all that its effect lists do
+    pub record IsShotGroupDoing (g : ShotGroup) : Type 0 where
+      pub shots : All (λ w. IsSome (shot_called rows w.text)) g.shots
+      pub lists : All (All P) (group_lists (members_of rows g).profile g.name.text (texts g.shots))
 
     -- and of all that a section does, of whichever text
     pub record IsDoing (s : SectionRows) : Type 0 where
@@ -48,18 +63,20 @@ module _ (P : Effect → Type 0) (S L : List ℕ → Type 0) where
       pub variable_players : All IsVariablePlayerDoing (variable_players_in s)
       pub coil_players : All IsCoilPlayerDoing (coil_players_in s)
       pub devices : All (λ e. IsEntryDoing (device_of s.name e)) (entries_in s.content)
+      pub shots : All IsShotDoing (shots_in s)
+      pub groups : All IsShotGroupDoing (shot_groups_in s)
 
     -- or of the machine's
     pub record IsMachineDoing (s : SectionRows) : Type 0 where
       pub all : IsDoing s
       pub switches : All IsSwitchDoing (switches_in s)
-      pub flippers : All (λ f. IsDeviceDoing (flipper_device machine f)) (flippers_in s)
-      pub autofires : All (λ a. IsDeviceDoing (autofire_device machine a)) (autofires_in s)
+      pub flippers : All (λ f. IsDeviceDoing (flipper_device rows.machine f)) (flippers_in s)
+      pub autofires : All (λ a. IsDeviceDoing (autofire_device rows.machine a)) (autofires_in s)
 
   -- each section of the machine and of the modes
   pub record AreDoing (rows : Rows) : Type 0 where
-    pub machine : All (IsMachineDoing rows.machine) rows.machine
-    pub modes : All (λ (m : ModeRows). All (IsDoing rows.machine) m.sections) rows.modes
+    pub machine : All (IsMachineDoing rows) rows.machine
+    pub modes : All (λ (m : ModeRows). All (IsDoing rows) m.sections) rows.modes
 
   -- what a setting names is an event, or a switch of whose name L holds
   abbrev pub IsMention : Table → List ℕ → Type 0

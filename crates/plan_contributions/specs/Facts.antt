@@ -16,6 +16,7 @@ use Rattle.plan_tables.specs.declared.entries.CoilLimits.{CoilLimits}
 use Rattle.plan_tables.specs.declared.entries.ModeEvent.{ModeEvent}
 use Rattle.plan_contributions.specs.DeviceEntries.{Deed, pulse, enable, disable, Effect, posts, works, changes, block_event, block_endings, timer_event, timer_endings}
 use Rattle.plan_contributions.specs.CoilEntries.{limits_of_coil}
+use Rattle.plan_contributions.specs.ShotEntries.{shot_events, group_events}
 use Rattle.plan_contributions.specs.Contributions.{Contribution, mode, mode_event_name, binds, does, device, does_in, listens, coil, plays}
 use Rattle.machine_definitions.specs.GameEvents.{game_event_names}
 use Rattle.machine_definitions.specs.Players.{player_event}
@@ -35,6 +36,8 @@ pub record IsOfNames (P : List ℕ → Type 0) : Type 0 where
   pub player : (n : List ℕ) → IsName n → P (player_event n)
   pub block : (n : List ℕ) → IsName n → All (λ ending. P (block_event n ending)) block_endings
   pub timer : (n : List ℕ) → IsName n → All (λ ending. P (timer_event n ending)) timer_endings
+  pub shot : (name profile state : List ℕ) → IsName name → IsName profile → IsName state → All P (shot_events name profile state)
+  pub group : (name state : List ℕ) → IsName name → IsName state → All P (group_events (codes "_hit") name state) × All P (group_events (codes "_complete") name state)
 
 -- ---- effect lists, settings, modes
 

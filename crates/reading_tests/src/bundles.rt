@@ -4,6 +4,7 @@ use crate::cases::{Subject, assert_rows, utf8};
 use crate::coils::show_coils;
 use crate::devices::show_devices;
 use crate::game::{show_game, show_variables};
+use crate::shots::show_shots;
 use crate::tables::{show_handled, show_handlers, show_names};
 use mpf_config::{
     Config, ConfigFault, EventPlayer, MODES_NAME, ModeText, Section, Switch, as_event_player,
@@ -197,7 +198,8 @@ fn show_section(out: &mut String, section: &Section) -> Result<(), AllocError> {
     }
     show_coils(out, section)?;
     show_variables(out, section)?;
-    show_devices(out, section)
+    show_devices(out, section)?;
+    show_shots(out, section)
 }
 
 fn show_machine(out: &mut String, sections: &[Section]) -> Result<(), AllocError> {

@@ -63,7 +63,8 @@ fn show_coil_player(out: &mut String, player: CoilPlayer<'_>) -> Result<(), Allo
     out.push_str("\n")
 }
 
-fn show_at(out: &mut String, name: NameAt<'_>) -> Result<(), AllocError> {
+/// Adds a name with the line that it is written in.
+pub(crate) fn show_at(out: &mut String, name: NameAt<'_>) -> Result<(), AllocError> {
     write!(out, " {}@{}", utf8(name.text), name.line)
 }
 

@@ -12,6 +12,8 @@ mod devices;
 #[cfg(test)]
 mod game;
 #[cfg(test)]
+mod shots;
+#[cfg(test)]
 mod tables;
 #[cfg(test)]
 mod values;

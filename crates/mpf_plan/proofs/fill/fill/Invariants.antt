@@ -7,4 +7,4 @@ use Rattle.plan_contributions.specs.View.{row_list_view}
 use Rattle.mpf_plan.proofs.fill.fill.Given as goal
 
 abbrev pub invariant-loop-row : goal.invariant-loop-row
-invariant-loop-row l = draft_view l.names l.draft ≡ drafted (name_sets_view l.names) (given_by l.definitions (row_list_view (take l.row-index l.rows)))
+invariant-loop-row l = draft_view l.names l.draft ≡ drafted (name_sets_view l.names) (given_by l.definitions.machine (row_list_view (take l.row-index l.rows)))

@@ -12,8 +12,8 @@ loop-row-init c = record { tables = c.in_ok-no_names.ensures.names; bindings = i
 pub loop-row-preserved : goal.loop-row-preserved
 loop-row-preserved c =
     subst (λ cs. HasFound cs c.note_all.new.found)
-    (row_more c.args.definitions.now c.args.rows.now c.loop-row.row-index c.row-item.result c.loop-row-test.true c.row-item.is c.deref.result.now c.collect_row.new.contributions.items c.deref.ensures.value c.in_ok-collect_row.ensures)
+    (row_more c.args.definitions.now.machine c.args.rows.now c.loop-row.row-index c.row-item.result c.loop-row-test.true c.row-item.is c.deref.result.now c.collect_row.new.contributions.items c.deref.ensures.value c.in_ok-collect_row.ensures)
     (c.in_ok-note_all.ensures _ c.loop-row.invariant)
 
 pub returns : goal.returns
-returns c = subst (λ rs. HasFound (given_by c.args.definitions.now (row_list_view rs)) c.loop-row.found) (take_all c.loop-row.row-index c.args.rows.now c.loop-row-test.false) c.loop-row.invariant
+returns c = subst (λ rs. HasFound (given_by c.args.definitions.now.machine (row_list_view rs)) c.loop-row.found) (take_all c.loop-row.row-index c.args.rows.now c.loop-row-test.false) c.loop-row.invariant

@@ -5,4 +5,4 @@ use Rattle.mpf_plan.specs.Numbering.{HasFound}
 use Rattle.mpf_plan.proofs.numbering.find_names.Given as goal
 
 abbrev pub invariant-loop-row : goal.invariant-loop-row
-invariant-loop-row l = HasFound (given_by l.definitions (row_list_view (take l.row-index l.rows))) l.found
+invariant-loop-row l = HasFound (given_by l.definitions.machine (row_list_view (take l.row-index l.rows))) l.found

@@ -5,4 +5,4 @@ use Rattle.mpf_plan.specs.Numbering.{HoldGivenNames}
 use Rattle.mpf_plan.proofs.numbering.given_names.Given as goal
 
 abbrev pub invariant-loop-row : goal.invariant-loop-row
-invariant-loop-row l = HoldGivenNames (given_by l.definitions (row_list_view (take l.row-index l.rows))) l.sets.items
+invariant-loop-row l = HoldGivenNames (given_by l.definitions.machine (row_list_view (take l.row-index l.rows))) l.sets.items

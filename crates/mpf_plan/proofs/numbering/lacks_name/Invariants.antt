@@ -7,4 +7,4 @@ use Rattle.plan_contributions.specs.View.{row_list_view}
 use Rattle.mpf_plan.proofs.numbering.lacks_name.Given as goal
 
 abbrev pub invariant-loop-row : goal.invariant-loop-row
-invariant-loop-row l = list_any (lacks (λ t. given_names t (given_by l.definitions (row_list_view l.rows)))) (given_by l.definitions (row_list_view (take l.row-index l.rows))) ≡ false
+invariant-loop-row l = list_any (lacks (λ t. given_names t (given_by l.definitions.machine (row_list_view l.rows)))) (given_by l.definitions.machine (row_list_view (take l.row-index l.rows))) ≡ false

@@ -7,15 +7,15 @@ use Rattle.mpf_plan.proofs.numbering.number.Goals as goal
 pub invariant_of-result : goal.invariant_of-result
 invariant_of-result c =
     let rows = row_list_view c.args.rows.now in
-    let cs = given_by c.args.definitions.now rows in
+    let cs = given_by c.args.definitions.now.machine rows in
     let has = c.in_ok-found.ensures in
-    record { count = c.in_ok-found.found.count; fit = kept_fit cs c.in_ok-found.found has (sym (c.first_above.ensures cs has) ∙ c.in_default.is) (nameless c.args.definitions.now rows) }
+    record { count = c.in_ok-found.found.count; fit = kept_fit cs c.in_ok-found.found has (sym (c.first_above.ensures cs has) ∙ c.in_default.is) (nameless c.args.definitions.now.machine rows) }
 
 pub returns : goal.returns
 returns c =
     let rows = row_list_view c.args.rows.now in
-    let cs = given_by c.args.definitions.now rows in
+    let cs = given_by c.args.definitions.now.machine rows in
     let found = c.in_ok-found.found in
     let has = c.in_ok-found.ensures in
     let none = sym (c.first_above.ensures cs has) ∙ c.in_default.is in
-    (sym c.in_ok-lacking.ensures ∙ c.if-lacking.false, (λ i t. names_are_kept cs found has none (nameless c.args.definitions.now rows) t i), none, bindings_fit cs found has none (nameless c.args.definitions.now rows), device_rows_fit cs found has none (nameless c.args.definitions.now rows))
+    (sym c.in_ok-lacking.ensures ∙ c.if-lacking.false, (λ i t. names_are_kept cs found has none (nameless c.args.definitions.now.machine rows) t i), none, bindings_fit cs found has none (nameless c.args.definitions.now.machine rows), device_rows_fit cs found has none (nameless c.args.definitions.now.machine rows))

@@ -1,0 +1,23 @@
+use Rattle.std.proofs.Common.{List, map, length, ap, arith}
+use Rattle.std.specs.List.{filter_map}
+use Rattle.std.proofs.lemmas.List.{length-map}
+use Rattle.mpf_sections.specs.Rows.{Written, ShotProfile}
+use Rattle.mpf_sections.specs.TypedShots.{state_of}
+use Rattle.mpf_sections.specs.View.{entry_view, fields_view}
+use Rattle.mpf_sections.proofs.ShotRows.{shot_profile_short}
+use Rattle.machine_definitions.proofs.shots.profile_of.Goals as goal
+
+pub invariant_of-result : goal.invariant_of-result
+invariant_of-result c =
+    let names = c.in_ok-states_of.field-0.items in
+    let written = filter_map state_of (map fields_view c.as_shot_profile-row.result.states.now) in
+    record {
+      few = omega (
+        arith,
+        length-map names (λ n. n.now),
+        ap length c.in_ok-states_of.ensures,
+        length-map written (λ (w : Written). w.text),
+        ap (λ (p : ShotProfile). length p.states) c.as_shot_profile-row.ensures,
+        shot_profile_short (entry_view c.args.entry.now),
+      );
+    }
