@@ -1,5 +1,9 @@
 pub mod Before
 pub mod DeviceParts
+pub mod SeatParts
+pub mod Flags
+pub mod Known
+pub mod ShotParts
 pub mod Placed
 pub mod Short
 pub mod Opened
