@@ -32,4 +32,6 @@ mod play_rows;
 #[cfg(test)]
 mod row;
 #[cfg(test)]
+mod shot_rows;
+#[cfg(test)]
 mod words;

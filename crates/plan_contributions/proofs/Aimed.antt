@@ -1,20 +1,24 @@
 -- Acts on rows by their numbers are on rows of their own place and of the modes that have come: so it is with what the
--- rows of each text give, and so with all contributions of a configuration.
-use Rattle.std.proofs.Common.{◌≡◌, ℕ, suc, Bool, true, false, if◌then◌else◌, List, [], ◌∷◌, ◌++◌, map, Option, None, Some, refl, sym, ap, subst, codes}
+-- rows of each text give, whose seats are in its own rows, and so with all contributions of a configuration.
+use Rattle.std.proofs.Common.{◌≡◌, ℕ, suc, ◌+◌, ◌-◌, ◌<◌, ◌≤◌, Bool, true, false, if◌then◌else◌, List, [], ◌∷◌, ◌++◌, length, map, Option, None, Some, slice_get, refl, sym, ◌∙◌, ap, subst, arith, codes, length-append}
+use Rattle.std.specs.Prelude.{IfSome}
 use Rattle.std.specs.List.{All, flat_map}
 use Rattle.std.specs.Str.{bytes_eq}
 use Rattle.std.proofs.lemmas.Grind.{flat_map-append}
-use Rattle.std.proofs.lemmas.List.{append_assoc}
-use Rattle.std.proofs.lemmas.List.Elements.{All-nil, All-cons, All-head, All-tail, All-append}
+use Rattle.std.proofs.lemmas.List.{append_assoc, length-map, get_or_append_left, get_or-append_right}
+use Rattle.std.proofs.lemmas.Option.{slice_get-get_or}
+use Rattle.std.proofs.lemmas.List.Elements.{All-nil, All-cons, All-head, All-tail, All-append, All-map}
 use Rattle.mpf_values.specs.Events.{Condition, Event}
-use Rattle.mpf_sections.specs.Rows.{Entry, Player, Switch, EventPlayer, CoilPlayer, VariablePlayer, VariableItem, GameSettings, Flipper, Autofire, ModeSettings, Content, entries, players, SectionRows}
+use Rattle.mpf_sections.specs.Rows.{Written, Entry, Player, Switch, EventPlayer, CoilPlayer, VariablePlayer, VariableItem, GameSettings, Shot, ShotGroup, ModeSettings, Content, entries, players, SectionRows}
 use Rattle.mpf_sections.specs.Rows as sections
 use Rattle.mpf_sections.specs.Typed.{switches_name, event_player_name, switch_of, event_player_of, mode_settings}
 use Rattle.mpf_sections.specs.TypedCoils.{coils_name, coil_player_name, coil_of, coil_player_of}
+use Rattle.mpf_sections.specs.TypedShots.{shot_of, shot_group_of}
 use Rattle.mpf_sections.specs.TypedGame.{variable_player_name, game_name, variable_player_of, game_of, min_balls_of}
 use Rattle.mpf_config.specs.Rows.{ModeRows, Rows}
 use Rattle.machine_definitions.specs.GameEvents.{game_event_names}
 use Rattle.machine_definitions.specs.Players.{player_event}
+use Rattle.machine_definitions.specs.Shots.{Profile, has_profile, profile_of_name}
 use Rattle.plan_tables.specs.declared.devices.Act.{Act}
 use Rattle.plan_tables.specs.declared.entries.ModeEvent.{ModeEvent}
 use Rattle.plan_tables.specs.declared.entries.ModeEvent.TheVariants.{Starting, Started, Stopping, Stopped}
@@ -26,9 +30,13 @@ use Rattle.plan_contributions.specs.declared.contribution.Place.TheVariants.{Mac
 use Rattle.plan_contributions.specs.VariableEntries.{item_change}
 use Rattle.plan_contributions.specs.CoilEntries.{item_effect}
 use Rattle.plan_contributions.specs.DeviceEntries.{texts, events, posts, Device, device_of}
-use Rattle.plan_contributions.specs.Contributions.{Contribution, gives, reads, active, inactive, mode, mode_event, binds, does, device, mentions, under, plays, under_where, bound, always, kind_of, active_posts, inactive_posts, switch_contributions, player_contributions, coil_contributions, coil_player_contributions, item_contributions, variable_player_contributions, game_contributions, later_events, starter, stopper, stopper_where, controls, mode_contributions, act_binding, effects_from, listens_from, device_contributions, where_device, machine_device, machine_entry_contributions, entry_contributions, alone_contributions, player_entry_contributions, entry, player, rows_from, rows_in, mode_rows, row_contributions, given_by, contributions_of}
+use Rattle.plan_contributions.specs.ShotEntries.{Seat, seat_of, rows_after_text, shot_acts, lone_device, Members, group_device, members_of}
+use Rattle.plan_contributions.specs.Contributions.{Contribution, gives, reads, active, inactive, mode, mode_event, binds, does, device, mentions, under, unknown, plays, under_where, bound, always, kind_of, active_posts, inactive_posts, switch_contributions, player_contributions, coil_contributions, coil_player_contributions, item_contributions, variable_player_contributions, game_contributions, later_events, starter, stopper, stopper_where, controls, mode_contributions, act_binding, effects_from, listens_from, device_contributions, where_device, machine_device, machine_entry_contributions, entry_contributions, alone_contributions, player_entry_contributions, unknown_unless, shot_switch, act_at, seated, shot_contributions, group_contributions, Row, alone, player, of_mode, entry_row, rows_from, rows_in, text_rows, mode_rows, modes_rows, row_contributions, given_by, contributions_of}
 use Rattle.plan_contributions.specs.Facts.{row_places, IsAimedAt, AreAimed}
-use Rattle.plan_contributions.proofs.RowFacts.{All-each, All-made, All-listens, All-lists}
+use Rattle.plan_contributions.proofs.Before.{All-every, All-flat_map}
+use Rattle.plan_contributions.proofs.RowFacts.{All-each, All-made, All-listens, All-lists, entry_such, sections_each}
+use Rattle.plan_contributions.proofs.Silent.{row_tells, rows_tell}
+use Rattle.plan_contributions.proofs.SeatFacts.{row_given, silent, IsSeatIn, seat_in, rows_count}
 
 -- What a contribution of a text of this place is like: no mode comes by it, its row is of the place, and what it binds is
 -- aimed so.
@@ -66,13 +74,23 @@ module _ (A : Place → Aim → Type 0) (place : Place) (n : ℕ) where
       by (device own settings) is h = ap (λ l. (own, n) ∷ l) h
       by _ is h = h
 
+  -- and they are as many as the contributions tell of
+  pub places_told : (cs : List Contribution) → All (IsOfText A place) cs → row_places n cs ≡ map (λ p. (p, n)) (flat_map row_given cs)
+  places_told [] own = refl
+  places_told (c ∷ cs) own = by c (All-head (IsOfText A place) c cs own) (places_told cs (All-tail (IsOfText A place) c cs own))
+    where
+      by : (c : Contribution) → IsOfText A place c → row_places n cs ≡ map (λ p. (p, n)) (flat_map row_given cs) → row_places n (c ∷ cs) ≡ map (λ p. (p, n)) (flat_map row_given (c ∷ cs))
+      by (mode name priority game) is h = absurd is
+      by (device own settings) is h = ap (λ l. (own, n) ∷ l) h
+      by _ is h = h
+
 -- where they are aimed at these rows, all are
-pub aimed_before : (rows : List (Place × ℕ)) (n : ℕ) (place : Place) (cs ds : List Contribution) → All (IsOfText (IsAimedAt rows n) place) cs → AreAimed rows n ds → AreAimed rows n (cs ++ ds)
-aimed_before rows n place [] ds own rest = rest
-aimed_before rows n place (c ∷ cs) ds own rest =
-    by c (All-head (IsOfText (IsAimedAt rows n) place) c cs own) (aimed_before rows n place cs ds (All-tail (IsOfText (IsAimedAt rows n) place) c cs own) rest)
+pub aimed_before : (places : List (Place × ℕ)) (n : ℕ) (place : Place) (cs ds : List Contribution) → All (IsOfText (IsAimedAt places n) place) cs → AreAimed places n ds → AreAimed places n (cs ++ ds)
+aimed_before places n place [] ds own rest = rest
+aimed_before places n place (c ∷ cs) ds own rest =
+    by c (All-head (IsOfText (IsAimedAt places n) place) c cs own) (aimed_before places n place cs ds (All-tail (IsOfText (IsAimedAt places n) place) c cs own) rest)
   where
-    by : (c : Contribution) → IsOfText (IsAimedAt rows n) place c → AreAimed rows n (cs ++ ds) → AreAimed rows n (c ∷ cs ++ ds)
+    by : (c : Contribution) → IsOfText (IsAimedAt places n) place c → AreAimed places n (cs ++ ds) → AreAimed places n (c ∷ cs ++ ds)
     by (mode name priority game) is h = absurd is
     by (binds e own aim) is h = (is, h)
     by _ is h = (tt, h)
@@ -143,6 +161,36 @@ module _ (A : Place → Aim → Type 0) (plain : (own : Place) (aim : Aim) → I
   in_where None = All-nil Q
   in_where (Some d) = in_device d
 
+  -- ---- shots
+
+  in_unknown : (known : Bool) → All Q (unknown_unless known)
+  in_unknown true = All-nil Q
+  in_unknown false = All-cons Q unknown [] tt (All-nil Q)
+
+  in_shot_switch : (o : Option Written) → All Q (shot_switch o)
+  in_shot_switch None = All-nil Q
+  in_shot_switch (Some w) = All-cons Q (mentions Switches w.text) [] tt (All-nil Q)
+
+  -- A holds of each act on the seat, if there is one
+  abbrev IsSeated : Option Seat → Type 0
+  IsSeated o = IfSome o (λ s. (act : Act) → A place (On s.row act))
+
+  in_seated : (p : Profile) (s : Shot) (seat : Option Seat) → IsSeated seat → All Q (seated place p s seat)
+  in_seated p s None h = in_device (lone_device p s)
+  in_seated p s (Some seat) h = All-each Q (act_at place (Some seat.row)) (λ (x : Event × Act). in_bound x.0 place (On seat.row x.1) (h x.1)) (shot_acts seat.shot s)
+
+  in_shot : (s : Shot) (seat : Option Seat) (known : Bool) (p : Profile) → IsSeated seat → All Q (shot_contributions place s seat known p)
+  unfolding shot_contributions
+  in_shot s seat known p h =
+      All-append Q (unknown_unless known) (shot_switch s.switch ++ seated place p s seat) (in_unknown known)
+      (All-append Q (shot_switch s.switch) (seated place p s seat) (in_shot_switch s.switch) (in_seated p s seat h))
+
+  in_group : (g : ShotGroup) (m : Members) → All Q (group_contributions place g m)
+  unfolding group_contributions
+  in_group g m = All-append Q (unknown_unless m.all_known) (device_contributions place (group_device g m)) (in_unknown m.all_known) (in_device (group_device g m))
+
+  -- ---- entries
+
   when : (b : Bool) (cs ds : List Contribution) → All Q cs → All Q ds → All Q (if b then cs else ds)
   when true cs ds one other = one
   when false cs ds one other = other
@@ -174,41 +222,42 @@ in_machine_entry A plain machine section e =
     (when A plain Machine (bytes_eq section switches_name) (switch_contributions machine (switch_of e)) others (in_switch A plain Machine machine (switch_of e)) (in_where A plain Machine (machine_device machine section e)))
 
 -- each entry of a text, in a section of this name
-module _ (A : Place → Aim → Type 0) (plain : (own : Place) (aim : Aim) → IsUnnumbered aim → A own aim) (machine : List SectionRows) where
-  in_entry : (place : Place) (section : List ℕ) (e : Entry) → All (IsOfText A place) (entry_contributions machine place section e)
+module _ (A : Place → Aim → Type 0) (plain : (own : Place) (aim : Aim) → IsUnnumbered aim → A own aim) (rows : Rows) where
+  in_entry : (place : Place) (section : List ℕ) (e : Entry) → All (IsOfText A place) (entry_contributions rows.machine place section e)
   unfolding entry_contributions
-  in_entry Machine section e = in_machine_entry A plain machine section e
+  in_entry Machine section e = in_machine_entry A plain rows.machine section e
   in_entry Control section e = in_where A plain Control (device_of section e)
   in_entry Mode section e = in_where A plain Mode (device_of section e)
 
-  -- all that a section gives, or a text
-  module _ (place : Place) where
-    abbrev R : Contribution → Type 0
-    R c = IsOfText A place c
+  -- all that a section gives, or a text, where A holds of each act on a seat
+  module _ (place : Place) (seat : List ℕ → Option Seat) (seats : (name : List ℕ) → IfSome (seat name) (λ s. (act : Act) → A place (On s.row act))) where
+    abbrev R : Row → Type 0
+    R r = All (IsOfText A place) (row_contributions rows.machine r)
 
-    of_section : (section : List ℕ) (content : Content) → All R (given_by machine (rows_from place section content))
-    of_section section (entries es) = each es
-      where
-        each : (es : List Entry) → All R (given_by machine (map (entry place section) es))
-        each [] = All-nil R
-        each (e ∷ es) = All-append R (entry_contributions machine place section e) (given_by machine (map (entry place section) es)) (in_entry place section e) (each es)
-    of_section section (players ps) = each ps
-      where
-        each : (ps : List Player) → All R (given_by machine (map (player place section) ps))
-        each [] = All-nil R
-        each (p ∷ ps) =
-            All-append R (player_entry_contributions machine place section p) (given_by machine (map (player place section) ps)) (in_player_entry A plain place machine place section p) (each ps)
-    of_section section (sections.entry e) = All-append R (alone_contributions machine place section e) [] (in_alone A plain place machine place section e) (All-nil R)
+    of_entry : (section : List ℕ) (e : Entry) → R (entry_row rows place seat section e)
+    of_entry section e =
+        let own = shot_of e in
+        let others = shot_group_of e in
+        entry_such R rows place seat section e (in_shot A plain place own (seat own.name.text) (has_profile rows own.profile.text) (profile_of_name rows own.profile.text) (seats own.name.text))
+        (in_group A plain place others (members_of rows others)) (in_entry place section e)
+
+    of_section : (section : List ℕ) (content : Content) → All R (rows_from rows place seat section content)
+    of_section section (entries es) = All-map R (entry_row rows place seat section) es (All-every (λ e. R (entry_row rows place seat section e)) (of_entry section) es)
+    of_section section (players ps) = All-map R (player place section) ps (All-every (λ p. R (player place section p)) (in_player_entry A plain place rows.machine place section) ps)
+    of_section section (sections.entry e) = All-cons R (alone place section e) [] (in_alone A plain place rows.machine place section e) (All-nil R)
     of_section section (sections.listed ws) = All-nil R
 
-    pub of_text : (ss : List SectionRows) → All R (given_by machine (rows_in place ss))
-    of_text [] = All-nil R
-    of_text (s ∷ ss) =
-        let here = rows_from place s.name s.content in
-        subst (All R) (sym (flat_map-append (row_contributions machine) here (rows_in place ss)))
-        (All-append R (given_by machine here) (given_by machine (rows_in place ss)) (of_section s.name s.content) (of_text ss))
+    pub of_text : (ss : List SectionRows) → All (IsOfText A place) (given_by rows.machine (rows_in rows place seat ss))
+    of_text ss =
+        All-flat_map (IsOfText A place) (row_contributions rows.machine) (rows_in rows place seat ss)
+        (sections_each R (λ s. Unit {0}) rows place seat (λ s h. of_section s.name s.content) ss (All-every (λ s. Unit {0}) (λ s. tt) ss))
 
 -- ---- modes
+
+-- an aim that says no row by its number is right, whatever the rows are
+unnumbered : (places : List (Place × ℕ)) (n : ℕ) (own : Place) (aim : Aim) → IsUnnumbered aim → IsAimedAt places n own aim
+unnumbered places n own (On r act) is = absurd is
+unnumbered places n own _ is = tt
 
 module _ (A : Place → Aim → Type 0) (plain : (own : Place) (aim : Aim) → IsUnnumbered aim → A own aim) where
   abbrev C : Contribution → Type 0
@@ -238,41 +287,106 @@ module _ (A : Place → Aim → Type 0) (plain : (own : Place) (aim : Aim) → I
       event : (which : ModeEvent) (cs : List Contribution) → All C cs → All C (mode_event which name ∷ cs)
       event which cs rest = All-cons C (mode_event which name) cs tt rest
 
--- all rows of a text are of its place, and of the modes that have come
-pub places_of_rows : (n : ℕ) (machine : List SectionRows) (place : Place) (ss : List SectionRows) → All (λ r. r ≡ (place, n)) (row_places n (given_by machine (rows_in place ss)))
-places_of_rows n machine place ss =
-    let any : Place → Aim → Type 0 = λ own aim. Unit {0} in
-    places_of_text any place n (given_by machine (rows_in place ss)) (of_text any (λ own aim is. tt) machine place ss)
+-- ---- a text among others
 
--- ---- acts on rows by their numbers
+-- what is of these rows stands among all
+in_middle : (before own later : List (Place × ℕ)) (n r : ℕ) (x : Place × ℕ) → length before ≡ n → All (λ y. y ≡ x) own → n ≤ r → r < n + length own → slice_get (before ++ (own ++ later)) r ≡ Some x
+in_middle before own later n r x first all from to =
+    slice_get-get_or (before ++ (own ++ later)) r x (omega (arith, length-append before (own ++ later), length-append own later))
+    ∙ ap Some (get_or-append_right before (own ++ later) n r x first from ∙ get_or_append_left own later x (r - n) (omega arith) ∙ all (r - n) x (omega arith))
 
--- an aim that says no row by its number is right, whatever the rows are
-unnumbered : (rows : List (Place × ℕ)) (n : ℕ) (own : Place) (aim : Aim) → IsUnnumbered aim → IsAimedAt rows n own aim
-unnumbered rows n own (On r act) is = absurd is
-unnumbered rows n own _ is = tt
+-- any aim
+abbrev IsAny : Place → Aim → Type 0
+IsAny own aim = Unit {0}
 
-module _ (rows : List (Place × ℕ)) (machine : List SectionRows) where
-  -- what modes give, one after the other
-  modes_aimed : (n : ℕ) (ms : List ModeRows) → AreAimed rows n (given_by machine (flat_map mode_rows ms))
+module _ (rows : Rows) (place : Place) (n : ℕ) (ss : List SectionRows) where
+  abbrev pub text_given : List Contribution
+  text_given = given_by rows.machine (text_rows rows place n ss)
+
+  of_any : All (IsOfText IsAny place) text_given
+  of_any = of_text IsAny (λ own aim is. tt) rows place (seat_of place n ss) (λ name. any_seat (seat_of place n ss name)) ss
+    where
+      any_seat : (o : Option Seat) → IfSome o (λ s. (act : Act) → Unit {0})
+      any_seat None = tt
+      any_seat (Some s) = λ act. tt
+
+  module _ (k : ℕ) where
+    -- its rows are those that are counted
+    places_count : n + length (row_places k text_given) ≡ rows_after_text place n ss
+    places_count =
+        ap (λ l. n + length l) (places_told IsAny place k text_given of_any)
+        ∙ ap (λ i. n + i) (length-map (flat_map row_given text_given) (λ p. (p, k)))
+        ∙ ap (λ (l : List Place). n + length l) (rows_tell row_given silent rows.machine (text_rows rows place n ss))
+        ∙ rows_count place n ss rows
+
+    -- so each act on a seat is on one of them
+    text_aimed : (places before later : List (Place × ℕ)) → length before ≡ n → places ≡ before ++ (row_places k text_given ++ later) → All (IsOfText (IsAimedAt places k) place) text_given
+    text_aimed places before later first all =
+        of_text (IsAimedAt places k) (unnumbered places k) rows place (seat_of place n ss) (λ name. at (seat_of place n ss name) (seat_in place n ss name)) ss
+      where
+        own : List (Place × ℕ)
+        own = row_places k text_given
+
+        at : (o : Option Seat) → IfSome o (IsSeatIn n (rows_after_text place n ss)) → IfSome o (λ s. (act : Act) → IsAimedAt places k place (On s.row act))
+        at None h = tt
+        at (Some s) h = λ act. ap (λ l. slice_get l s.row) all ∙ in_middle before own later n s.row (place, k) first (places_of_text IsAny place k text_given of_any) h.0 (omega (arith, h.1, places_count))
+
+-- ---- all texts
+
+module _ (places : List (Place × ℕ)) (rows : Rows) where
+  -- a mode gives no row of its own
+  mode_places : (n : ℕ) (name : List ℕ) (s : ModeSettings) (text later : List Contribution) → All (IsOfText IsAny Mode) text
+      → row_places n ((mode_contributions name s ++ text) ++ later) ≡ row_places (suc n) text ++ row_places (suc n) later
   unfolding mode_contributions
-  modes_aimed n [] = tt
-  modes_aimed n (m ∷ ms) =
+  mode_places n name s text later own =
+      let first = later_events name ++ controls s in
+      let first_own : All (IsOfText IsAny Mode) first = of_controls IsAny (λ own aim is. tt) name s in
+      let none : row_places (suc n) first ≡ [] =
+      places_told IsAny Mode (suc n) first first_own ∙ ap (map (λ p. (p, suc n))) (row_tells row_given silent rows.machine (of_mode name s)) in
+      ap (row_places (suc n)) (append_assoc first text later)
+      ∙ places_before IsAny Mode (suc n) first (text ++ later) first_own
+      ∙ (λ i. none i ++ places_before IsAny Mode (suc n) text later own i)
+
+  -- what modes give, one after the other
+  modes_aimed : (k n : ℕ) (ms : List ModeRows) (before : List (Place × ℕ)) → length before ≡ n → places ≡ before ++ row_places k (given_by rows.machine (modes_rows rows n ms)) → AreAimed places k (given_by rows.machine (modes_rows rows n ms))
+  unfolding mode_contributions
+  modes_aimed k n [] before first all = tt
+  modes_aimed k n (m ∷ ms) before first all =
       let s = mode_settings m.sections in
-      let text = given_by machine (rows_in Mode m.sections) in
-      let later = given_by machine (flat_map mode_rows ms) in
-      subst (AreAimed rows n) (sym (flat_map-append (row_contributions machine) (mode_rows m) (flat_map mode_rows ms)))
-      (first m.name s text later (aimed_before rows (suc n) Mode text later (of_text (IsAimedAt rows (suc n)) (unnumbered rows (suc n)) machine Mode m.sections) (modes_aimed (suc n) ms)))
+      let after = rows_after_text Mode n m.sections in
+      let text = text_given rows Mode n m.sections in
+      let later = given_by rows.machine (modes_rows rows after ms) in
+      let own = row_places (suc k) text in
+      let rest = row_places (suc k) later in
+      let split : given_by rows.machine (modes_rows rows n (m ∷ ms)) ≡ (mode_contributions m.name s ++ text) ++ later = flat_map-append (row_contributions rows.machine) (mode_rows rows n m) (modes_rows rows after ms) in
+      let so : places ≡ before ++ (own ++ rest) =
+      all ∙ ap (λ cs. before ++ row_places k cs) split ∙ ap (λ l. before ++ l) (mode_places k m.name s text later (of_any rows Mode n m.sections)) in
+      let count : length (before ++ own) ≡ after = length-append before own ∙ ap (λ i. i + length own) first ∙ places_count rows Mode n m.sections (suc k) in
+      subst (AreAimed places k) (sym split)
+      (mode_first m.name s text later (aimed_before places (suc k) Mode text later (text_aimed rows Mode n m.sections (suc k) places before rest first so)
+      (modes_aimed (suc k) after ms (before ++ own) count (so ∙ sym (append_assoc before own rest)))))
     where
       -- a mode, before the rows of its text
-      first : (name : List ℕ) (s : ModeSettings) (text later : List Contribution) → AreAimed rows (suc n) (text ++ later) → AreAimed rows n ((mode_contributions name s ++ text) ++ later)
-      first name s text later rest =
-          (tt, subst (AreAimed rows (suc n)) (sym (append_assoc (later_events name ++ controls s) text later)) (aimed_before rows (suc n) Mode (later_events name ++ controls s) (text ++ later) (of_controls (IsAimedAt rows (suc n)) (unnumbered rows (suc n)) name s) rest))
+      mode_first : (name : List ℕ) (s : ModeSettings) (text later : List Contribution) → AreAimed places (suc k) (text ++ later) → AreAimed places k ((mode_contributions name s ++ text) ++ later)
+      mode_first name s text later rest = (
+        tt,
+        subst (AreAimed places (suc k)) (sym (append_assoc (later_events name ++ controls s) text later))
+            (aimed_before places (suc k) Mode (later_events name ++ controls s) (text ++ later) (of_controls (IsAimedAt places (suc k)) (unnumbered places (suc k)) name s) rest),
+      )
 
 -- whatever the rows of a configuration are
 pub rows_are_aimed : (rows : Rows) → AreAimed (row_places 0 (contributions_of rows)) 0 (contributions_of rows)
 rows_are_aimed rows =
     let places = row_places 0 (contributions_of rows) in
-    let machine = rows_in Machine rows.machine in
-    let modes = flat_map mode_rows rows.modes in
-    subst (AreAimed places 0) (sym (flat_map-append (row_contributions rows.machine) machine modes))
-    (aimed_before places 0 Machine (given_by rows.machine machine) (given_by rows.machine modes) (of_text (IsAimedAt places 0) (unnumbered places 0) rows.machine Machine rows.machine) (modes_aimed places rows.machine 0 rows.modes))
+    let after = rows_after_text Machine 0 rows.machine in
+    let text = text_given rows Machine 0 rows.machine in
+    let later = given_by rows.machine (modes_rows rows after rows.modes) in
+    let own = row_places 0 text in
+    let split : contributions_of rows ≡ text ++ later = flat_map-append (row_contributions rows.machine) (text_rows rows Machine 0 rows.machine) (modes_rows rows after rows.modes) in
+    let so : places ≡ own ++ row_places 0 later = ap (row_places 0) split ∙ places_before IsAny Machine 0 text later (of_any rows Machine 0 rows.machine) in
+    subst (AreAimed places 0) (sym split)
+    (aimed_before places 0 Machine text later (text_aimed rows Machine 0 rows.machine 0 places [] (row_places 0 later) refl so)
+    (modes_aimed places rows 0 after rows.modes own (counted own after (places_count rows Machine 0 rows.machine 0)) so))
+  where
+    counted : (own : List (Place × ℕ)) (after : ℕ) → 0 + length own ≡ after → length own ≡ after
+    counted own after same = omega arith

@@ -1,6 +1,6 @@
 -- What a coil is sent is within its range: the coil that is found by a name says so, or what an item says of it.
-use Rattle.std.proofs.Common.{ℕ, ◌≤◌, Bool, true, false, if◌then◌else◌, List, [], ◌∷◌, get_or, arith}
-use Rattle.std.specs.Prelude.{Option, None, Some, IfSome, fold, unwrap_or}
+use Rattle.std.proofs.Common.{ℕ, Bool, true, false, if◌then◌else◌, List, [], ◌∷◌, get_or, arith}
+use Rattle.std.specs.Prelude.{Option, None, Some, IfSome, fold}
 use Rattle.std.specs.Str.{bytes_eq}
 use Rattle.std.specs.List.{All, flat_map}
 use Rattle.std.proofs.lemmas.List.Elements.{All-nil, All-cons, All-head, All-tail}

@@ -1,30 +1,27 @@
 -- What the contributions of a row are like: proved here once for each section, and all else follows from it.
-use Rattle.std.proofs.Common.{◌≡◌, ℕ, suc, ◌+◌, ◌<◌, ◌≤◌, ◌==◌, Bool, true, false, if◌then◌else◌, List, [], ◌∷◌, ◌++◌, length, map, get_or, refl, sym, ap, subst, arith, codes}
-use Rattle.std.specs.Prelude.{Option, None, Some, IfSome, fold, unwrap_or}
+use Rattle.std.proofs.Common.{◌≡◌, ℕ, suc, ◌<◌, ◌≤◌, Bool, true, false, if◌then◌else◌, List, [], ◌∷◌, ◌++◌, length, map, get_or, refl, sym, subst, arith, codes}
+use Rattle.std.specs.Prelude.{Option, None, Some, IfSome}
 use Rattle.std.specs.Str.{bytes_eq}
 use Rattle.std.specs.List.{All, flat_map}
-use Rattle.std.proofs.lemmas.Bool.{eqb-true}
 use Rattle.std.proofs.lemmas.Grind.{flat_map-append}
 use Rattle.std.proofs.lemmas.List.{length-map}
 use Rattle.std.proofs.lemmas.List.Elements.{All-nil, All-cons, All-head, All-tail, All-append, All-map, All-weaker}
-use Rattle.mpf_sections.specs.declared.words.CoilAction.{CoilAction}
-use Rattle.mpf_sections.specs.declared.words.CoilAction.TheVariants as actions
-use Rattle.mpf_values.specs.Events.{Condition, Event}
+use Rattle.mpf_values.specs.Events.{Event}
 use Rattle.mpf_sections.specs.Rows.{Written, Handled, Entry, Player, Switch, EventPlayer, Coil, CoilItem, CoilPlayer, VariableItem, VariablePlayer, GameSettings, Flipper, Autofire, Block, Counter, StepBlock, Control as TimerControl, Timer, Shot, ShotGroup, ModeSettings, Content, entries, players, SectionRows}
 use Rattle.mpf_config.specs.Rows.{ModeRows, Rows}
 use Rattle.mpf_sections.specs.Rows as sections
 use Rattle.mpf_sections.specs.Named.{IsName, AllNames, IsNamedHandled, AllNamedEvents, IsNamedEntry, IsNamedPlayer, IsNamedSwitch, IsNamedEventPlayer, IsNamedCoil, IsNamedCoilPlayer, IsNamedVariablePlayer, IsNamedFlipper, IsNamedAutofire, IsNamedShot, IsNamedShotGroup, IsNamedBlock, IsNamedCounter, IsNamedStepBlock, IsNamedTimer, AreNamedSettings, IsNamedContent, IsNamed}
 use Rattle.mpf_config.specs.Named.{IsNamedMode}
 use Rattle.mpf_sections.specs.Typed.{switches_name, event_player_name, counters_name, accruals_name, sequences_name, timers_name, switch_of, event_player_of, counter_of, step_block_of, timer_of, mode_settings}
-use Rattle.mpf_sections.specs.TypedCoils.{coils_name, coil_player_name, flippers_name, autofire_coils_name, coil_of, coil_player_of, flipper_of, autofire_of, coils_in}
+use Rattle.mpf_sections.specs.TypedCoils.{coils_name, coil_player_name, flippers_name, autofire_coils_name, coil_of, coil_player_of, flipper_of, autofire_of}
 use Rattle.mpf_sections.specs.TypedShots.{shots_name, shot_groups_name, shot_of, shot_group_of}
 use Rattle.mpf_sections.specs.TypedGame.{variable_player_name, game_name, variable_player_of, game_of, min_balls_of}
-use Rattle.mpf_sections.specs.Short.{IsGameInRange, IsPulseInRange, IsPowerInRange, IsCoilInRange, IsItemInRange, IsCoilPlayerInRange, IsShortEntry, IsShortPlayer, IsShortBlock, IsShortCounter, IsShortStepBlock, IsShortTimer, IsShortContent, IsShortSection}
+use Rattle.mpf_sections.specs.Short.{IsGameInRange, IsCoilInRange, IsItemInRange, IsCoilPlayerInRange, IsShortEntry, IsShortPlayer, IsShortBlock, IsShortCounter, IsShortStepBlock, IsShortTimer, IsShortContent, IsShortSection}
 use Rattle.mpf_config.specs.Short.{IsShortMode, AreListsShort}
 use Rattle.mpf_sections.proofs.RowNames.{switch_named, event_player_named, mode_settings_named}
 use Rattle.mpf_sections.proofs.ShortRows.{event_player_short}
 use Rattle.mpf_sections.proofs.DeviceRows.{counter_named, step_block_named, timer_named, counter_short, step_block_short, timer_in_range}
-use Rattle.mpf_sections.proofs.CoilRows.{coil_named, coil_player_named, flipper_named, autofire_named, coil_in_range, coil_player_short, coil_player_in_range, coils_in_range}
+use Rattle.mpf_sections.proofs.CoilRows.{coil_named, coil_player_named, flipper_named, autofire_named, coil_in_range, coil_player_short, coil_player_in_range}
 use Rattle.mpf_sections.proofs.ShotRows.{shot_named, shot_group_named, shot_group_short}
 use Rattle.mpf_sections.proofs.GameRows.{variable_player_named, variable_player_short, game_in_range, min_balls_few}
 use Rattle.plan_contributions.specs.declared.contribution.Aim.{Aim}
@@ -36,23 +33,24 @@ use Rattle.plan_tables.specs.declared.devices.Act.{Act}
 use Rattle.plan_tables.specs.declared.devices.Act.TheVariants.{Count, Step, Enable, Disable, Reset, Restart}
 use Rattle.plan_tables.specs.declared.devices.Settings.{Settings}
 use Rattle.plan_tables.specs.declared.devices.Settings.TheVariants as kinds
-use Rattle.machine_definitions.specs.Definitions.{latest_coil, no_coil, coil_of_name}
 use Rattle.machine_definitions.specs.GameEvents.{game_event_names}
 use Rattle.machine_definitions.specs.Players.{player_event}
 use Rattle.machine_definitions.specs.Shots.{Profile}
 use Rattle.plan_contributions.specs.VariableEntries.{item_change}
-use Rattle.plan_contributions.specs.CoilEntries.{limits_of_coil, defaults_called, own_pulse, own_hold, deed_by, item_effect, flipper_on, flipper_off, flipper_device, autofire_device}
-use Rattle.plan_contributions.specs.DeviceEntries.{Deed, disable, Effect, posts, works, changes, events, device_of, acts, block_acts, block_mentions, block_event, or_own, block_lists, counter_device, step_acts, step_settings, step_device, controlled, timer_event, timer_endings, timer_device, always}
+use Rattle.plan_contributions.specs.CoilEntries.{limits_of_coil, defaults_called, own_pulse, own_hold, item_effect, flipper_on, flipper_off, flipper_device, autofire_device}
+use Rattle.plan_contributions.specs.DeviceEntries.{disable, Effect, posts, works, changes, events, device_of, acts, block_acts, block_mentions, block_event, or_own, block_lists, counter_device, step_acts, step_settings, step_device, controlled, timer_event, timer_endings, timer_device, always}
 use Rattle.plan_contributions.specs.ShotEntries.{Seat, seat_of, rows_after_text, shot_events, group_events, shot_acts, flags, is_enabled, lone_device, Members, group_device}
 use Rattle.plan_tables.specs.declared.entries.ModeEvent.{ModeEvent}
 use Rattle.plan_tables.specs.declared.entries.ModeEvent.TheVariants.{WillStart, Starting, Started, Stopping, Stopped}
 use Rattle.plan_tables.specs.declared.table.Table.{Table}
 use Rattle.plan_tables.specs.declared.table.Table.TheVariants.{Events, Switches, Coils, Variables}
-use Rattle.plan_contributions.specs.Contributions.{Contribution, gives, reads, active, inactive, mode, mode_event, mode_event_name, binds, does, device, does_in, listens, mentions, unknown, coil, under, plays, under_where, bound, texts, kind_of, tag_event, active_posts, inactive_posts, switch_contributions, player_contributions, coil_contributions, coil_player_contributions, item_contributions, variable_player_contributions, game_contributions, starter, stopper, stopper_where, later_events, controls, mode_contributions, Device, act_binding, effects_from, listens_from, device_contributions, where_device, unknown_unless, shot_switch, act_at, seated, shot_contributions, group_contributions, Row, entry, alone, shot, group, player, of_mode, shot_row, group_row, entry_row, rows_from, rows_in, mode_rows, modes_rows, rows_of, machine_device, machine_entry_contributions, entry_contributions, alone_contributions, player_entry_contributions, row_contributions, given_by, contributions_of}
-use Rattle.plan_contributions.specs.Facts.{ArePlaced, IsOfNames, effects_after, effects_in_after, full, IsRoomy, AreShort, AreLimits, AreRules, IsDeedInRange, IsEffectInRange, IsLimited, IsPlaceOf, IsOfMachine, IsPlaced, IsOpenPlace, IsOpenAim, IsOpen, modes_after, AreOpened}
-use Rattle.plan_contributions.proofs.Before.{each_before, each_alone, all_before, all_alone, under_before, All-bound, each_some, All-flat_map}
+use Rattle.plan_contributions.specs.Contributions.{Contribution, gives, reads, active, inactive, mode, mode_event, mode_event_name, binds, does, device, does_in, listens, mentions, unknown, coil, under, plays, bound, texts, kind_of, tag_event, active_posts, inactive_posts, switch_contributions, player_contributions, coil_contributions, coil_player_contributions, item_contributions, variable_player_contributions, game_contributions, starter, stopper, stopper_where, later_events, controls, mode_contributions, Device, act_binding, effects_from, listens_from, device_contributions, where_device, unknown_unless, shot_switch, act_at, seated, shot_contributions, group_contributions, Row, entry, alone, shot, group, player, of_mode, shot_row, group_row, entry_row, rows_from, rows_in, mode_rows, modes_rows, rows_of, machine_device, machine_entry_contributions, entry_contributions, alone_contributions, player_entry_contributions, row_contributions, given_by, contributions_of}
+use Rattle.plan_contributions.specs.Facts.{ArePlaced, IsOfNames, effects_in_after, full, IsRoomy, AreShort, AreLimits, AreRules, IsDeedInRange, IsEffectInRange, IsLimited, IsPlaceOf, IsOfMachine, IsPlaced, IsOpenPlace, IsOpen, AreOpened}
+use Rattle.plan_contributions.proofs.Before.{each_before, each_alone, all_before, all_alone, All-bound, each_some, All-flat_map}
 use Rattle.plan_contributions.proofs.CoilFacts.{pulse_ranged, hold_ranged, item_ranged, flips_on, flips_off}
+use Rattle.plan_contributions.proofs.Short.{AreShort-append, AreShort-under, AreShort-listens, AreShort-does, AreShort-changes, AreShort-lists}
 use Rattle.plan_contributions.proofs.ShotFacts.{OfHandled, all_shot_acts, all_group_acts, all_shot_lists, all_group_lists, posts_of_shot, posts_of_group, IsFew, shot_lists_few, group_lists_few, IsShortProfile, IsShortGroup, flags_of, bank_within, IsNamedProfile, profile_named, members_named, profile_short, members_short}
+use Rattle.plan_contributions.proofs.Opened.{AreOpened-append, AreOpened-under, AreOpened-listens, AreOpened-lists}
 use Rattle.plan_contributions.proofs.Placed.{ArePlaced-append, ArePlaced-under, ArePlaced-listens, ArePlaced-effects}
 
 -- ---- what contributions are like
@@ -132,142 +130,6 @@ IsOpenRow n _ = Unit {0}
 -- what holds of all that each makes
 pub All-each : {X : Type 0} (P : Contribution → Type 0) (make : X → List Contribution) → ((x : X) → All P (make x)) → (xs : List X) → All P (flat_map make xs)
 All-each P make each xs = All-flat_map P make xs (λ i d within. each (get_or xs i d))
-
--- ---- lists of contributions
-
--- less is there already
-AreShort-fewer : (cs : List Contribution) (m n : ℕ) (f g : ℕ → ℕ) → m ≤ n → ((k : ℕ) → f k ≤ g k) → AreShort n g cs → AreShort m f cs
-AreShort-fewer [] m n f g fewer less h = tt
-AreShort-fewer (c ∷ cs) m n f g fewer less h =
-    (roomy c h.0, AreShort-fewer cs (effects_after m c) (effects_after n c) (effects_in_after f c) (effects_in_after g c) (after c) (in_after c) h.1)
-  where
-    roomy : (x : Contribution) → IsRoomy n g x → IsRoomy m f x
-    roomy (does e) is = omega (arith, fewer, is)
-    roomy (does_in k e) is = omega (arith, less k, is)
-    roomy _ is = tt
-
-    after : (x : Contribution) → effects_after m x ≤ effects_after n x
-    after (binds e place Run) = omega arith
-    after (does e) = omega (arith, fewer)
-    after (device place settings) = omega arith
-    after (does_in k e) = omega arith
-    after _ = fewer
-
-    raised : (b : Bool) (j : ℕ) → (if b then suc (f j) else f j) ≤ (if b then suc (g j) else g j)
-    raised true j = omega (arith, less j)
-    raised false j = less j
-
-    in_after : (x : Contribution) (j : ℕ) → effects_in_after f x j ≤ effects_in_after g x j
-    in_after (does e) j = omega arith
-    in_after (device place settings) j = omega arith
-    in_after (does_in k e) j = raised (j == k) j
-    in_after _ j = less j
-
--- no more is there than may be
-AreShort-append : (cs ds : List Contribution) (n : ℕ) (f : ℕ → ℕ) → n ≤ 1024 → ((k : ℕ) → f k ≤ 1024) → AreShort n f cs → AreShort 1024 full ds → AreShort n f (cs ++ ds)
-AreShort-append [] ds n f few some first then_ = AreShort-fewer ds n 1024 f full few some then_
-AreShort-append (c ∷ cs) ds n f few some first then_ = (first.0, AreShort-append cs ds (effects_after n c) (effects_in_after f c) (after c first.0) (in_after c first.0) first.1 then_)
-  where
-    after : (x : Contribution) → IsRoomy n f x → effects_after n x ≤ 1024
-    after (binds e place Run) is = omega arith
-    after (does e) is = omega (arith, is)
-    after (device place settings) is = omega arith
-    after (does_in k e) is = omega arith
-    after _ is = few
-
-    raised : (k j : ℕ) → f k < 1024 → (b : Bool) → (j == k) ≡ b → (if b then suc (f j) else f j) ≤ 1024
-    raised k j room true same = omega (arith, room, ap f (eqb-true j k same))
-    raised k j room false other = some j
-
-    in_after : (x : Contribution) → IsRoomy n f x → (j : ℕ) → effects_in_after f x j ≤ 1024
-    in_after (does e) is j = omega arith
-    in_after (device place settings) is j = omega arith
-    in_after (does_in k e) is j = raised k j is (j == k) refl
-    in_after _ is j = some j
-
--- a condition, if there is one, before others
-AreShort-under : (n : ℕ) (f : ℕ → ℕ) (condition : Option Condition) (cs : List Contribution) → AreShort n f cs → AreShort n f (under_where condition ++ cs)
-AreShort-under n f condition cs h = under_before (AreShort n f) (λ c ds k. (tt, k)) condition cs h
-
-AreShort-listens : (n : ℕ) (f : ℕ → ℕ) (k : ℕ) (ns : List (List ℕ)) (rest : List Contribution) → AreShort n f rest → AreShort n f (listens_from k ns ++ rest)
-AreShort-listens n f k [] rest h = h
-AreShort-listens n f k (s ∷ ss) rest h = (tt, AreShort-listens n f (suc k) ss rest h)
-
-AreShort-does : {X : Type 0} (effect : X → Effect) (n : ℕ) (f : ℕ → ℕ) (xs : List X) → n + length xs ≤ 1024 → AreShort n f (map (λ x. does (effect x)) xs)
-AreShort-does effect n f [] room = tt
-AreShort-does effect n f (x ∷ xs) room = (omega (arith, room), AreShort-does effect (suc n) full xs (omega (arith, room)))
-
-AreShort-changes : (n : ℕ) (f : ℕ → ℕ) (items : List VariableItem) → n + length items ≤ 1024 → AreShort n f (flat_map item_contributions items)
-AreShort-changes n f [] room = tt
-AreShort-changes n f (x ∷ xs) room = (tt, (omega (arith, room), AreShort-changes (suc n) full xs (omega (arith, room))))
-
--- effects in one list of a row, where those after it are empty
-AreShort-in : (k c : ℕ) (es : List Effect) (rest : List Contribution) → ((n : ℕ) (g : ℕ → ℕ) → ((j : ℕ) → k < j → g j ≤ 0) → AreShort n g rest)
-    → (n : ℕ) (f : ℕ → ℕ) → f k ≤ c → c + length es ≤ 1024 → ((j : ℕ) → k < j → f j ≤ 0) → AreShort n f (map (does_in k) es ++ rest)
-AreShort-in k c [] rest then_ n f few room empty = then_ n f empty
-AreShort-in k c (e ∷ es) rest then_ n f few room empty =
-    (omega (arith, few, room), AreShort-in k (suc c) es rest then_ 1024 (effects_in_after f (does_in k e)) (here (k == k)) (omega (arith, room)) (λ j later. there j later (j == k) refl))
-  where
-    here : (b : Bool) → (if b then suc (f k) else f k) ≤ suc c
-    here true = omega (arith, few)
-    here false = omega (arith, few)
-
-    there : (j : ℕ) → k < j → (b : Bool) → (j == k) ≡ b → (if b then suc (f j) else f j) ≤ 0
-    there j later true same = absurd (omega (arith, later, eqb-true j k same))
-    there j later false other = empty j later
-
--- and in one after the other
-AreShort-lists : (k : ℕ) (lists : List (List Effect)) → All (λ es. length es ≤ 1024) lists → (n : ℕ) (f : ℕ → ℕ) → ((j : ℕ) → k ≤ j → f j ≤ 0) → AreShort n f (effects_from k lists)
-AreShort-lists k [] short n f empty = tt
-AreShort-lists k (es ∷ rest) short n f empty =
-    let room : length es ≤ 1024 = All-head (λ (xs : List Effect). length xs ≤ 1024) es rest short in
-    let later = All-tail (λ (xs : List Effect). length xs ≤ 1024) es rest short in
-    AreShort-in k 0 es (effects_from (suc k) rest) (λ m g none. AreShort-lists (suc k) rest later m g (λ j from. none j (omega (arith, from)))) n f (empty k (omega arith)) (omega (arith, room)) (λ j from. empty j (omega (arith, from)))
-
--- more modes have come
-AreOpened-more : (cs : List Contribution) (m n : ℕ) → m ≤ n → AreOpened m cs → AreOpened n cs
-AreOpened-more [] m n more h = tt
-AreOpened-more (c ∷ cs) m n more h = (opened c h.0, AreOpened-more cs (modes_after m c) (modes_after n c) (after c) h.1)
-  where
-    place_open : (place : Place) → IsOpenPlace m place → IsOpenPlace n place
-    place_open Machine is = tt
-    place_open Control is = omega (arith, more, is)
-    place_open Mode is = omega (arith, more, is)
-
-    aim_open : (aim : Aim) → IsOpenAim m aim → IsOpenAim n aim
-    aim_open Run is = tt
-    aim_open Start is = omega (arith, more, is)
-    aim_open Stop is = omega (arith, more, is)
-    aim_open (Do act) is = tt
-    aim_open (On r act) is = tt
-
-    opened : (x : Contribution) → IsOpen m x → IsOpen n x
-    opened (binds e place aim) is = (place_open place is.0, aim_open aim is.1)
-    opened (device place settings) is = place_open place is
-    opened _ is = tt
-
-    after : (x : Contribution) → modes_after m x ≤ modes_after n x
-    after (mode name priority game) = omega (arith, more)
-    after _ = more
-
-AreOpened-append : (cs ds : List Contribution) (m n : ℕ) → m ≤ n → AreOpened n cs → AreOpened m ds → AreOpened n (cs ++ ds)
-AreOpened-append [] ds m n some first then_ = AreOpened-more ds m n some then_
-AreOpened-append (c ∷ cs) ds m n some first then_ = (first.0, AreOpened-append cs ds m (modes_after n c) (after c) first.1 then_)
-  where
-    after : (x : Contribution) → m ≤ modes_after n x
-    after (mode name priority game) = omega (arith, some)
-    after _ = some
-
-AreOpened-under : (n : ℕ) (condition : Option Condition) (cs : List Contribution) → AreOpened n cs → AreOpened n (under_where condition ++ cs)
-AreOpened-under n condition cs h = under_before (AreOpened n) (λ c ds k. (tt, k)) condition cs h
-
-AreOpened-listens : (n k : ℕ) (ns : List (List ℕ)) (rest : List Contribution) → AreOpened n rest → AreOpened n (listens_from k ns ++ rest)
-AreOpened-listens n k [] rest h = h
-AreOpened-listens n k (s ∷ ss) rest h = (tt, AreOpened-listens n (suc k) ss rest h)
-
-AreOpened-lists : (n k : ℕ) (lists : List (List Effect)) → AreOpened n (effects_from k lists)
-AreOpened-lists n k [] = tt
-AreOpened-lists n k (es ∷ rest) = each_before (AreOpened n) (does_in k) (λ e cs h. (tt, h)) es (effects_from (suc k) rest) (AreOpened-lists n (suc k) rest)
 
 -- what holds of all that is made
 pub All-made : {X : Type 0} (Q : Contribution → Type 0) (make : X → Contribution) → ((x : X) → Q (make x)) → (xs : List X) → All Q (map make xs)

@@ -48,10 +48,15 @@ pub(crate) fn collect_group<'a>(
     row: ShotGroup<'a>,
     members: Members<'a>,
 ) -> Result<(), AllocError>
-    requires few { length row.entry.shots.now ≤ 16 }
-    ensures { OnOk result (contributions_view contributions.new.items ≡ contributions_view contributions.old.items ++ group_contributions place (shot_group_view row.entry) (members_view members)) }
+    requires few { length row.shots.now ≤ 16 }
+    ensures { OnOk result (contributions_view contributions.new.items ≡ contributions_view contributions.old.items ++ group_contributions place (shot_group_view row.entry) (members_view members.entry)) }
 {
-    let settings = bank_settings(members.profile, row.shots.len() as u8, members.enabled, true);
+    let settings = bank_settings(
+        members.profile,
+        row.shots.len() as u8,
+        members.enabled,
+        true,
+    );
     collect_unknown(contributions, members.all_known)?;
     contributions.push(Contribution::Device(place, settings))?;
     collect_group_acts(contributions, place, row)?;
@@ -145,10 +150,34 @@ fn collect_shot_acts<'a>(
 {
     collect_switch_hits(contributions, place, row, Act::Hit(number), shot.switch)?;
     collect_acts_at(contributions, place, row, Act::Hit(number), shot.hits)?;
-    collect_acts_at(contributions, place, row, Act::Advance(number), shot.advances)?;
-    collect_acts_at(contributions, place, row, Act::ResetShot(number), shot.resets)?;
-    collect_acts_at(contributions, place, row, Act::EnableShot(number), shot.enables)?;
-    collect_acts_at(contributions, place, row, Act::DisableShot(number), shot.disables)?;
+    collect_acts_at(
+        contributions,
+        place,
+        row,
+        Act::Advance(number),
+        shot.advances,
+    )?;
+    collect_acts_at(
+        contributions,
+        place,
+        row,
+        Act::ResetShot(number),
+        shot.resets,
+    )?;
+    collect_acts_at(
+        contributions,
+        place,
+        row,
+        Act::EnableShot(number),
+        shot.enables,
+    )?;
+    collect_acts_at(
+        contributions,
+        place,
+        row,
+        Act::DisableShot(number),
+        shot.disables,
+    )?;
     Ok(())
 }
 
@@ -241,8 +270,8 @@ fn collect_shot_lists<'a>(
     name: &'a [u8],
 ) -> Result<u16, AllocError>
     requires few { first ≤ 288 }
-    ensures lists { OnOk result (contributions_view contributions.new.items ≡ contributions_view contributions.old.items ++ effects_from first.entry (shot_lists (profile_view profile.now) name.now)) }
-    ensures next { IfOk result (λ next. next ≡ first.entry + length profile.now.states.items) }
+    ensures lists { OnOk result (contributions_view contributions.new.items ≡ contributions_view contributions.old.items ++ effects_from first (shot_lists (profile_view profile.now) name.now)) }
+    ensures next { IfOk result (λ next. next ≡ first + length profile.now.states.items) }
 {
     let mut number = first;
     for state in &profile.states {
@@ -279,16 +308,30 @@ fn collect_states<'a>(
     end: &'static [u8],
 ) -> Result<u16, AllocError>
     requires few { first ≤ 288 }
-    ensures lists { OnOk result (contributions_view contributions.new.items ≡ contributions_view contributions.old.items ++ effects_from first.entry (state_lists end.now (profile_view profile.now) name.now)) }
-    ensures next { IfOk result (λ next. next ≡ first.entry + length profile.now.states.items) }
+    ensures lists { OnOk result (contributions_view contributions.new.items ≡ contributions_view contributions.old.items ++ effects_from first (state_lists end.now (profile_view profile.now) name.now)) }
+    ensures next { IfOk result (λ next. next ≡ first + length profile.now.states.items) }
 {
     let mut number = first;
     for state in &profile.states {
-        collect_post(contributions, number, joined(name, b"", end))?;
-        collect_post(contributions, number, ending(name, state, end))?;
+        collect_group_list(contributions, number, name, state, end)?;
         number += 1;
     }
     Ok(number)
+}
+
+/// What a group posts in a state, in the effect list of this number.
+fn collect_group_list<'a>(
+    contributions: &mut Vec<Contribution<'a>>,
+    number: u16,
+    name: &'a [u8],
+    state: &'a [u8],
+    end: &'static [u8],
+) -> Result<(), AllocError>
+    ensures { OnOk result (contributions_view contributions.new.items ≡ contributions_view contributions.old.items ++ map (does_in number) (map posts (group_events end.now name.now state.now))) }
+{
+    collect_post(contributions, number, joined(name, b"", end))?;
+    collect_post(contributions, number, ending(name, state, end))?;
+    Ok(())
 }
 
 /// An effect list of the row posts the event.

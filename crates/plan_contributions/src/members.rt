@@ -26,10 +26,7 @@ pub struct Members<'a> {
 }
 
 /// What is known of the shots of a group.
-pub(crate) fn members_of<'a>(
-    definitions: &'a Definitions<'a>,
-    group: ShotGroup<'_>,
-) -> Members<'a>
+pub(crate) fn members_of<'a>(definitions: &'a Definitions<'a>, group: ShotGroup<'_>) -> Members<'a>
     ensures { members_view result ≡ members_of definitions.now (shot_group_view group.entry) }
 {
     Members {

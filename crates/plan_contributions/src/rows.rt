@@ -76,8 +76,8 @@ fn add_mode<'a>(
     before: usize,
     mode: &'a ModeText,
 ) -> Result<usize, AllocError>
-    ensures rows { OnOk result (row_list_view rows.new.items ≡ row_list_view rows.old.items ++ mode_rows definitions.now before.entry (mode_view mode.now)) }
-    ensures after { IfOk result (λ after. after ≡ rows_after_text Mode before.entry (mode_view mode.now).sections) }
+    ensures rows { OnOk result (row_list_view rows.new.items ≡ row_list_view rows.old.items ++ mode_rows definitions.now before (mode_view mode.now)) }
+    ensures after { IfOk result (λ after. after ≡ rows_after_text Mode before (mode_view mode.now).sections) }
 {
     let sections = mode.sections.as_slice();
     rows.push(Row::Mode(&mode.name, mode_settings(sections)))?;
@@ -94,8 +94,8 @@ fn add_text<'a>(
     before: usize,
     sections: &'a [Section],
 ) -> Result<usize, AllocError>
-    ensures rows { OnOk result (row_list_view rows.new.items ≡ row_list_view rows.old.items ++ text_rows definitions.now place before.entry (map section_view sections.now)) }
-    ensures after { IfOk result (λ after. after ≡ rows_after_text place before.entry (map section_view sections.now)) }
+    ensures rows { OnOk result (row_list_view rows.new.items ≡ row_list_view rows.old.items ++ text_rows definitions.now place before (map section_view sections.now)) }
+    ensures after { IfOk result (λ after. after ≡ rows_after_text place before (map section_view sections.now)) }
 {
     let (seats, after) = seats_of(alloc, place, before, sections)?;
     add_sections(rows, definitions, place, &seats, sections)?;

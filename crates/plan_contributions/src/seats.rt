@@ -55,8 +55,8 @@ pub(crate) fn seats_of<'a>(
     before: usize,
     sections: &'a [Section],
 ) -> Result<(Seats<'a>, usize), AllocError>
-    ensures seats { IfOk result (λ r. (name : List ℕ) → found_seat r.0 name ≡ seat_of place before.entry (map section_view sections.now) name) }
-    ensures rows { IfOk result (λ r. r.1 ≡ rows_after_text place before.entry (map section_view sections.now)) }
+    ensures seats { IfOk result (λ r. (name : List ℕ) → found_seat r.0 name ≡ seat_of place before (map section_view sections.now) name) }
+    ensures rows { IfOk result (λ r. r.1 ≡ rows_after_text place before (map section_view sections.now)) }
 {
     let grouped = grouped_shots(alloc, sections)?;
     let mut seats = BTreeMap::new(alloc);
@@ -76,8 +76,8 @@ fn add_section<'a>(
     before: usize,
     section: &'a Section,
 ) -> Result<usize, AllocError>
-    ensures seats { OnOk result ((name : List ℕ) → found_seat seats.new name ≡ fold (latest_seat name) (found_seat seats.old name) (seats_from place (is_found grouped.now) before.entry (section_entries (section_view section.now)))) }
-    ensures rows { IfOk result (λ rows. rows ≡ rows_after_all place (is_found grouped.now) before.entry (section_entries (section_view section.now))) }
+    ensures seats { OnOk result ((name : List ℕ) → found_seat seats.new name ≡ fold (latest_seat name) (found_seat seats.old name) (seats_from place (is_found grouped.now) before (section_entries (section_view section.now)))) }
+    ensures rows { IfOk result (λ rows. rows ≡ rows_after_all place (is_found grouped.now) before (section_entries (section_view section.now))) }
 {
     let mut rows = before;
     for entry in section.content.entries() {
@@ -94,7 +94,7 @@ fn add_entry<'a>(
     section: &[u8],
     entry: &'a Entry,
 ) -> Result<(), AllocError>
-    ensures { OnOk result ((name : List ℕ) → found_seat seats.new name ≡ fold (latest_seat name) (found_seat seats.old name) (entry_seats before.entry (section.now, entry_view entry.now))) }
+    ensures { OnOk result ((name : List ℕ) → found_seat seats.new name ≡ fold (latest_seat name) (found_seat seats.old name) (entry_seats before (section.now, entry_view entry.now))) }
 {
     if section == SHOT_GROUPS_NAME {
         return add_seats(seats, before, as_shot_group(entry).shots);
@@ -103,12 +103,8 @@ fn add_entry<'a>(
 }
 
 /// Adds the seats of the shots that a group lists, whose row has this number.
-fn add_seats<'a>(
-    seats: &mut Seats<'a>,
-    row: usize,
-    shots: &'a [Name],
-) -> Result<(), AllocError>
-    ensures { OnOk result ((name : List ℕ) → found_seat seats.new name ≡ fold (latest_seat name) (found_seat seats.old name) (seats_at row.entry 0 (map name_view shots.now))) }
+fn add_seats<'a>(seats: &mut Seats<'a>, row: usize, shots: &'a [Name]) -> Result<(), AllocError>
+    ensures { OnOk result ((name : List ℕ) → found_seat seats.new name ≡ fold (latest_seat name) (found_seat seats.old name) (seats_at row 0 (map name_view shots.now))) }
 {
     for shot in 0..shots.len() {
         seats.insert(&shots[shot].text, Seat { row, shot })?;
@@ -125,7 +121,7 @@ fn rows_after(
     section: &[u8],
     entry: &Entry,
 ) -> Result<usize, AllocError>
-    ensures { IfOk result (λ rows. rows ≡ rows_after place (is_found grouped.now) before.entry (section.now, entry_view entry.now)) }
+    ensures { IfOk result (λ rows. rows ≡ rows_after place (is_found grouped.now) before (section.now, entry_view entry.now)) }
 {
     if has_row(place, grouped, section, entry) {
         return before.checked_add(1).ok_or(AllocError);

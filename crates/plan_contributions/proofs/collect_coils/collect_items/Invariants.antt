@@ -8,5 +8,5 @@ use Rattle.plan_contributions.proofs.collect_coils.collect_items.Given as goal
 
 abbrev pub invariant-loop-keyed : goal.invariant-loop-keyed
 invariant-loop-keyed l =
-    contributions_view l.contributions.items ++ map (λ item. does (item_effect l.definitions item)) (map coil_item_of (map keyed_view (drop l.keyed-index l.items)))
-    ≡ contributions_view l.initial.contributions.items ++ map (λ item. does (item_effect l.definitions item)) (map coil_item_of (map keyed_view l.items))
+    contributions_view l.contributions.items ++ map (λ item. does (item_effect l.definitions.machine item)) (map coil_item_of (map keyed_view (drop l.keyed-index l.items)))
+    ≡ contributions_view l.initial.contributions.items ++ map (λ item. does (item_effect l.definitions.machine item)) (map coil_item_of (map keyed_view l.items))
