@@ -35,7 +35,13 @@ pub(crate) fn collect_shot<'a>(
     collect_unknown(contributions, known)?;
     collect_switch(contributions, row.switch)?;
     match seat {
-        Some(seat) => collect_shot_acts(contributions, place, Some(seat.row), seat.shot, row),
+        Some(seat) => {
+            let target = Target {
+                place,
+                row: Some(seat.row),
+            };
+            collect_shot_acts(contributions, target, seat.shot, row)
+        }
         None => collect_lone(contributions, place, row, profile),
     }
 }
@@ -51,12 +57,8 @@ pub(crate) fn collect_group<'a>(
     requires few { length row.shots.now ≤ 16 }
     ensures { OnOk result (contributions_view contributions.new.items ≡ contributions_view contributions.old.items ++ group_contributions place (shot_group_view row.entry) (members_view members.entry)) }
 {
-    let settings = bank_settings(
-        members.profile,
-        row.shots.len() as u8,
-        members.enabled,
-        true,
-    );
+    let shots = row.shots.len() as u8;
+    let settings = bank_settings(members.profile, shots, members.enabled, true);
     collect_unknown(contributions, members.all_known)?;
     contributions.push(Contribution::Device(place, settings))?;
     collect_group_acts(contributions, place, row)?;
@@ -98,7 +100,7 @@ fn collect_lone<'a>(
 {
     let settings = bank_settings(profile, 1, first_flag(is_enabled(row)), false);
     contributions.push(Contribution::Device(place, settings))?;
-    collect_shot_acts(contributions, place, None, 0, row)?;
+    collect_shot_acts(contributions, Target { place, row: None }, 0, row)?;
     collect_shot_lists(contributions, 0, profile, &row.name.text)?;
     Ok(())
 }
@@ -128,7 +130,15 @@ fn bank_settings(profile: &Profile<'_>, shots: u8, enabled: [bool; 16], group: b
 
 // ---- events
 
-/// What acts on the row of this number, or where none is given, on the row that came last.
+/// Whose the bindings of a shot's events are, and on which row they act: on that of this number, or
+/// where none is given, on the row that came last.
+#[derive(Clone, Copy)]
+struct Target {
+    place: Place,
+    row: Option<usize>,
+}
+
+/// What an event is to do that acts on the row.
 fn aim_at(row: Option<usize>, act: Act) -> Aim
     ensures { result ≡ aim_at row act }
 {
@@ -141,40 +151,20 @@ fn aim_at(row: Option<usize>, act: Act) -> Aim
 /// What acts on the shot of this number in a bank.
 fn collect_shot_acts<'a>(
     contributions: &mut Vec<Contribution<'a>>,
-    place: Place,
-    row: Option<usize>,
+    target: Target,
     number: usize,
     shot: Shot<'a>,
 ) -> Result<(), AllocError>
-    ensures { OnOk result (contributions_view contributions.new.items ≡ contributions_view contributions.old.items ++ flat_map (act_at place row) (shot_acts number (shot_view shot.entry))) }
+    ensures { OnOk result (contributions_view contributions.new.items ≡ contributions_view contributions.old.items ++ flat_map (act_at target.place target.row) (shot_acts number (shot_view shot.entry))) }
 {
-    collect_switch_hits(contributions, place, row, Act::Hit(number), shot.switch)?;
-    collect_acts_at(contributions, place, row, Act::Hit(number), shot.hits)?;
+    collect_switch_hits(contributions, target, Act::Hit(number), shot.switch)?;
+    collect_acts_at(contributions, target, Act::Hit(number), shot.hits)?;
+    collect_acts_at(contributions, target, Act::Advance(number), shot.advances)?;
+    collect_acts_at(contributions, target, Act::ResetShot(number), shot.resets)?;
+    collect_acts_at(contributions, target, Act::EnableShot(number), shot.enables)?;
     collect_acts_at(
         contributions,
-        place,
-        row,
-        Act::Advance(number),
-        shot.advances,
-    )?;
-    collect_acts_at(
-        contributions,
-        place,
-        row,
-        Act::ResetShot(number),
-        shot.resets,
-    )?;
-    collect_acts_at(
-        contributions,
-        place,
-        row,
-        Act::EnableShot(number),
-        shot.enables,
-    )?;
-    collect_acts_at(
-        contributions,
-        place,
-        row,
+        target,
         Act::DisableShot(number),
         shot.disables,
     )?;
@@ -184,16 +174,16 @@ fn collect_shot_acts<'a>(
 /// The switch of a shot hits it when it becomes active.
 fn collect_switch_hits<'a>(
     contributions: &mut Vec<Contribution<'a>>,
-    place: Place,
-    row: Option<usize>,
+    target: Target,
     hit: Act,
     switch: Option<NameAt<'a>>,
 ) -> Result<(), AllocError>
-    ensures { OnOk result (contributions_view contributions.new.items ≡ contributions_view contributions.old.items ++ flat_map (act_at place row) (switch_hits hit (option_map name_at_view switch.entry))) }
+    ensures { OnOk result (contributions_view contributions.new.items ≡ contributions_view contributions.old.items ++ flat_map (act_at target.place target.row) (switch_hits hit (option_map name_at_view switch.entry))) }
 {
     if let Some(name) = switch {
         let event = joined(name.text, b"", b"_active");
-        contributions.push(Contribution::Binds(event, place, aim_at(row, hit)))?;
+        let aim = aim_at(target.row, hit);
+        contributions.push(Contribution::Binds(event, target.place, aim))?;
     }
     Ok(())
 }
@@ -201,14 +191,14 @@ fn collect_switch_hits<'a>(
 /// Each of the events does this with the row.
 fn collect_acts_at<'a>(
     contributions: &mut Vec<Contribution<'a>>,
-    place: Place,
-    row: Option<usize>,
+    target: Target,
     act: Act,
     handlers: &'a [Handler],
 ) -> Result<(), AllocError>
-    ensures { OnOk result (contributions_view contributions.new.items ≡ contributions_view contributions.old.items ++ flat_map (act_at place row) (acts act (map handler_view handlers.now))) }
+    ensures { OnOk result (contributions_view contributions.new.items ≡ contributions_view contributions.old.items ++ flat_map (act_at target.place target.row) (acts act (map handler_view handlers.now))) }
 {
-    collect_each(contributions, handlers, place, aim_at(row, act))
+    let aim = aim_at(target.row, act);
+    collect_each(contributions, handlers, target.place, aim)
 }
 
 /// What acts on a group.

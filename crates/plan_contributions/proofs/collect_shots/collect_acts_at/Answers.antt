@@ -8,11 +8,11 @@ use Rattle.plan_contributions.proofs.collect_shots.collect_acts_at.Goals as goal
 
 pub returns : goal.returns
 returns c =
-    let place = c.args.place in
-    let row = c.args.row in
+    let place = c.args.target.place in
+    let row = c.args.target.row in
     let act = c.args.act in
     let hs = map handler_view c.args.handlers.now in
     let of_events = flat_map-map (λ e. bound e place (aim_at row act)) (λ h. h.event) hs in
     let of_acts = flat_map-map (act_at place row) (λ h. (h.event, act)) hs in
-    let aimed = ap (λ aim. flat_map (λ e. bound e place aim) (map (λ h. h.event) hs)) c.aim_at.ensures in
+    let aimed = ap (λ aim. flat_map (λ e. bound e place aim) (map (λ h. h.event) hs)) c.aim_at-aim.ensures in
     subst (λ l. OnOk c.collect_each.result (contributions_view c.collect_each.new.contributions.items ≡ contributions_view c.args.contributions.now.items ++ l)) (aimed ∙ of_events ∙ sym of_acts) c.collect_each.ensures

@@ -12,7 +12,7 @@ use Rattle.plan_contributions.proofs.collect_shots.collect_shot_acts.Goals as go
 
 pub returns : goal.returns
 returns c =
-    let f = act_at c.args.place c.args.row in
+    let f = act_at c.args.target.place c.args.target.row in
     let i = c.args.number in
     let shot = c.args.shot in
     let old = contributions_view c.args.contributions.now.items in
