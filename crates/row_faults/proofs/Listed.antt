@@ -1,12 +1,7 @@
 -- What groups list, name by name.
-use Rattle.std.proofs.Common.{◌≡◌, ℕ, Bool, true, false, not, ◌||◌, List, [], ◌∷◌, ◌++◌, map, append_assoc, refl, sym, ap, ◌∙◌}
-use Rattle.std.specs.Borrow.{Bor}
-use Rattle.std.specs.BTreeSet.{BTreeSet}
-use Rattle.std.proofs.lemmas.List.{map-append}
-use Rattle.section_tables.specs.declared.rows.Name.{Name}
-use Rattle.mpf_sections.specs.Rows.{Written, SectionRows}
+use Rattle.std.proofs.Common.{◌≡◌, ℕ, Bool, true, false, List, [], ◌∷◌, ◌++◌, append_assoc, refl, sym, ap, ◌∙◌}
+use Rattle.mpf_sections.specs.Rows.{Written}
 use Rattle.mpf_config.specs.Rows.{Rows}
-use Rattle.machine_definitions.specs.Found.{is_found}
 use Rattle.row_faults.specs.ShotFaults.{Listed, taken_with, taken_after, kept_if, is_misplaced, misplaced}
 
 kept-append : (b : Bool) (w : Written) (ws others : List Written) → kept_if b w (ws ++ others) ≡ kept_if b w ws ++ others

@@ -307,7 +307,7 @@ no_faults_sound rows none =
     let each : All (ModeHasNone modes rows) rows.modes = modes-none modes rows later rows.modes parts.1 in
     let text_of = λ (m : ModeRows). mode_text_name m.name in
     let all = All-each IsCoilSound coils_in machine
-        (All-weaker (HasNone modes rows (is_own_shot machine) machine_name) (λ s. All IsCoilSound (coils_in s)) (coils-sound modes rows (is_own_shot machine) machine_name) machine own) in
+    (All-weaker (HasNone modes rows (is_own_shot machine) machine_name) (λ s. All IsCoilSound (coils_in s)) (coils-sound modes rows (is_own_shot machine) machine_name) machine own) in
     record {
       posts = record {
         machine = text-free modes rows (is_own_shot machine) machine_name machine own;

@@ -64,14 +64,7 @@ fn faults_of_texts<'a>(
         MACHINE_NAME,
         machine,
     )?;
-    add_modes(
-        alloc,
-        &mut faults,
-        &mut taken,
-        modes,
-        &definitions,
-        texts,
-    )?;
+    add_modes(alloc, &mut faults, &mut taken, modes, &definitions, texts)?;
     Ok(faults)
 }
 

@@ -179,11 +179,7 @@ fn note_shots<'a>(
 }
 
 /// Adds a name, where it is misplaced.
-fn note_if<'a>(
-    names: &mut Vec<&'a Name>,
-    misplaced: bool,
-    name: &'a Name,
-) -> Result<(), AllocError>
+fn note_if<'a>(names: &mut Vec<&'a Name>, misplaced: bool, name: &'a Name) -> Result<(), AllocError>
     ensures { OnOk result (written_view names.new.items ≡ written_view names.old.items ++ kept_if misplaced (name_view name.now) []) }
 {
     if misplaced {

@@ -1,4 +1,4 @@
-use Rattle.std.proofs.Common.{◌≡◌, ◌++◌, ℕ, Bool, List, map, drop, ◌+◌, append_assoc, ap, ◌∙◌}
+use Rattle.std.proofs.Common.{◌++◌, ℕ, Bool, List, map, drop, ◌+◌, append_assoc, ap, ◌∙◌}
 use Rattle.mpf_sections.specs.View.{section_view}
 use Rattle.machine_definitions.specs.Found.{is_found}
 use Rattle.machine_definitions.proofs.Finding.{next-is}

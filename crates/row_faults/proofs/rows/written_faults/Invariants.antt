@@ -10,9 +10,9 @@ abbrev pub invariant-loop-section : goal.invariant-loop-section
 invariant-loop-section l =
     record {
       found :
-        row_faults_view l.faults.items ++ written_faults (keys_view l.known.modes.now) l.known.definitions.now (is_found l.known.own.now) (is_found l.taken) l.text (map section_view (drop l.section-index l.sections))
-        ≡ written_faults (keys_view l.known.modes.now) l.known.definitions.now (is_found l.known.own.now) (is_found l.initial.taken) l.text (map section_view l.sections);
+          row_faults_view l.faults.items ++ written_faults (keys_view l.known.modes.now) l.known.definitions.now (is_found l.known.own.now) (is_found l.taken) l.text (map section_view (drop l.section-index l.sections))
+          ≡ written_faults (keys_view l.known.modes.now) l.known.definitions.now (is_found l.known.own.now) (is_found l.initial.taken) l.text (map section_view l.sections);
       taken :
-        taken_after (is_found l.taken) (listed_of l.known.definitions.now (map section_view (drop l.section-index l.sections)))
-        ≡ taken_after (is_found l.initial.taken) (listed_of l.known.definitions.now (map section_view l.sections));
+          taken_after (is_found l.taken) (listed_of l.known.definitions.now (map section_view (drop l.section-index l.sections)))
+          ≡ taken_after (is_found l.initial.taken) (listed_of l.known.definitions.now (map section_view l.sections));
     }

@@ -1,7 +1,7 @@
-use Rattle.std.proofs.Common.{◌≡◌, ◌++◌, List, map, drop, ◌+◌, sym, ap, ◌∙◌}
+use Rattle.std.proofs.Common.{◌++◌, List, map, drop, ◌+◌, ap, ◌∙◌}
 use Rattle.std.specs.List.{flat_map}
 use Rattle.mpf_sections.specs.TypedShots.{shot_group_of}
-use Rattle.mpf_sections.specs.View.{entry_view, shot_group_view}
+use Rattle.mpf_sections.specs.View.{entry_view}
 use Rattle.machine_definitions.specs.Found.{is_found}
 use Rattle.machine_definitions.proofs.Finding.{next-is}
 use Rattle.row_faults.specs.ShotFaults.{listed_by, taken_after, misplaced}

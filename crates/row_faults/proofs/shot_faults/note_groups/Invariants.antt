@@ -11,9 +11,9 @@ abbrev pub invariant-loop-group : goal.invariant-loop-group
 invariant-loop-group l =
     record {
       noted :
-        written_view l.names.items ++ misplaced l.definitions (is_found l.own) (is_found l.taken) (flat_map (listed_by l.definitions) (map shot_group_of (map entry_view (drop l.group-index l.groups))))
-        ≡ written_view l.initial.names.items ++ misplaced l.definitions (is_found l.own) (is_found l.initial.taken) (flat_map (listed_by l.definitions) (map shot_group_of (map entry_view l.groups)));
+          written_view l.names.items ++ misplaced l.definitions (is_found l.own) (is_found l.taken) (flat_map (listed_by l.definitions) (map shot_group_of (map entry_view (drop l.group-index l.groups))))
+          ≡ written_view l.initial.names.items ++ misplaced l.definitions (is_found l.own) (is_found l.initial.taken) (flat_map (listed_by l.definitions) (map shot_group_of (map entry_view l.groups)));
       taken :
-        taken_after (is_found l.taken) (flat_map (listed_by l.definitions) (map shot_group_of (map entry_view (drop l.group-index l.groups))))
-        ≡ taken_after (is_found l.initial.taken) (flat_map (listed_by l.definitions) (map shot_group_of (map entry_view l.groups)));
+          taken_after (is_found l.taken) (flat_map (listed_by l.definitions) (map shot_group_of (map entry_view (drop l.group-index l.groups))))
+          ≡ taken_after (is_found l.initial.taken) (flat_map (listed_by l.definitions) (map shot_group_of (map entry_view l.groups)));
     }

@@ -1,4 +1,4 @@
-use Rattle.std.proofs.Common.{◌≡◌, ◌++◌, ◌||◌, ℕ, Bool, List, [], ◌∷◌, map, option_map, drop, ◌+◌, sym, ap, ◌∙◌}
+use Rattle.std.proofs.Common.{◌≡◌, ◌++◌, ◌||◌, ℕ, Bool, List, [], ◌∷◌, map, option_map, drop, ◌+◌, ap, ◌∙◌}
 use Rattle.std.specs.Str.{bytes_eq}
 use Rattle.mpf_sections.specs.View.{name_view, shot_view}
 use Rattle.machine_definitions.specs.Found.{is_found}
@@ -19,7 +19,7 @@ loop-name-preserved c =
     let listed = λ (names : List _). listed_after first (map name_view names) in
     let rest = listed (drop (l.name-index + 1) c.args.listed.now) in
     let judged = c.is_misplaced-misplaced.ensures name.line
-        ∙ ap (λ (text : List ℕ). is_misplaced rows own (is_found l.taken) (record { first = first; shot = record { line = name.line; text = text } })) c.deref.ensures.value in
+    ∙ ap (λ (text : List ℕ). is_misplaced rows own (is_found l.taken) (record { first = first; shot = record { line = name.line; text = text } })) c.deref.ensures.value in
     let noted = c.in_ok-note_if.ensures ∙ ap (λ (b : Bool). written_view l.names.items ++ kept_if b name []) judged in
     let taken : is_found c.insert.new.self ≡ taken_with it (is_found l.taken) =
     λ i q. (took-name l.taken c.insert.new.self c.deref-in-loop-name.result c.in_ok-insert.ensures.updates q ∙ ap (λ key. is_found l.taken q || bytes_eq q key) c.deref-in-loop-name.ensures.value) i in

@@ -9,9 +9,9 @@ abbrev pub invariant-loop-name : goal.invariant-loop-name
 invariant-loop-name l =
     record {
       noted :
-        written_view l.names.items ++ misplaced l.definitions (is_found l.own) (is_found l.taken) (listed_after (option_map shot_view l.first) (map name_view (drop l.name-index l.listed)))
-        ≡ written_view l.initial.names.items ++ misplaced l.definitions (is_found l.own) (is_found l.initial.taken) (listed_after (option_map shot_view l.first) (map name_view l.listed));
+          written_view l.names.items ++ misplaced l.definitions (is_found l.own) (is_found l.taken) (listed_after (option_map shot_view l.first) (map name_view (drop l.name-index l.listed)))
+          ≡ written_view l.initial.names.items ++ misplaced l.definitions (is_found l.own) (is_found l.initial.taken) (listed_after (option_map shot_view l.first) (map name_view l.listed));
       taken :
-        taken_after (is_found l.taken) (listed_after (option_map shot_view l.first) (map name_view (drop l.name-index l.listed)))
-        ≡ taken_after (is_found l.initial.taken) (listed_after (option_map shot_view l.first) (map name_view l.listed));
+          taken_after (is_found l.taken) (listed_after (option_map shot_view l.first) (map name_view (drop l.name-index l.listed)))
+          ≡ taken_after (is_found l.initial.taken) (listed_after (option_map shot_view l.first) (map name_view l.listed));
     }
