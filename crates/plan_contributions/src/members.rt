@@ -13,8 +13,8 @@ use machine_definitions::{Definitions, Profile};
 use mpf_config::{Name, Shot, ShotGroup};
 use mpf_sections::tables::DEFAULT_PROFILE;
 
-/// What other entries say of the shots of a group. Of a shot that nothing defines anything serves,
-/// for then there is no plan.
+/// What other entries say of the shots of a group. Where nothing defines a shot, any value will do:
+/// there is no plan then.
 #[derive(Clone, Copy)]
 pub struct Members<'d, 'a> {
     /// Whether each is enabled at first, by its number in the group.
@@ -26,7 +26,10 @@ pub struct Members<'d, 'a> {
 }
 
 /// What is known of the shots of a group.
-pub(crate) fn members_of<'d, 'a>(definitions: &'d Definitions<'a>, group: ShotGroup<'_>) -> Members<'d, 'a>
+pub(crate) fn members_of<'d, 'a>(
+    definitions: &'d Definitions<'a>,
+    group: ShotGroup<'_>,
+) -> Members<'d, 'a>
     ensures { members_view result ≡ members_of definitions.now (shot_group_view group.entry) }
 {
     Members {
