@@ -24,8 +24,8 @@ use Rattle.config_checker.proofs.ReadBack.{found_is_accepted, found-plan}
 digits-few : (n : ℕ) → n ≤ greatest → length (decimal n) ≤ 5
 digits-few n low = length-decimal-le 5 n (omega arith) (omega (arith, low)) (omega (arith, low))
 
--- so the line of an event with a name of at most 84 bytes has at most 97
-line-few : (e : List ℕ × ℕ) → length e.0 ≤ 84 → e.1 ≤ greatest → length (event_line e) ≤ 97
+-- so the line of an event with a name of at most 198 bytes has at most 211
+line-few : (e : List ℕ × ℕ) → length e.0 ≤ 198 → e.1 ≤ greatest → length (event_line e) ≤ 211
 line-few e few low =
     let digits = digits-few e.1 low in
     let named = length-append (codes "event ") e.0 in
@@ -41,21 +41,21 @@ bound-few bound low =
     let ended = length-append (codes "bound " ++ decimal bound) (10 ∷ []) in
     omega (arith, digits, stated, ended)
 
-lines-few : (events : List (List ℕ × ℕ)) → All (λ e. length e.0 ≤ 84) events → All (λ e. e.1 ≤ greatest) events → length (event_lines events) ≤ length events * 97
+lines-few : (events : List (List ℕ × ℕ)) → All (λ e. length e.0 ≤ 198) events → All (λ e. e.1 ≤ greatest) events → length (event_lines events) ≤ length events * 211
 lines-few events names weights =
-    let each : All (λ e. length (event_line e) ≤ 97) events = λ i d within. line-few (get_or events i d) (names i d within) (weights i d within) in
+    let each : All (λ e. length (event_line e) ≤ 211) events = λ i d within. line-few (get_or events i d) (names i d within) (weights i d within) in
     let whole = length-flat_map event_line events in
-    let few = sum_by-le (λ e. length (event_line e)) 97 events each in
+    let few = sum_by-le (λ e. length (event_line e)) 211 events each in
     omega (arith, whole, few)
 
--- Names of at most 84 bytes make a text of at most 2^20.
-text-few : (c : CheckedView) → IsAccepted c → All (λ name. length name ≤ 84) c.plan.events → length (certificate_text c) ≤ 2 ^ 20
+-- Names of at most 198 bytes make a text of at most 2^20.
+text-few : (c : CheckedView) → IsAccepted c → All (λ name. length name ≤ 198) c.plan.events → length (certificate_text c) ≤ 2 ^ 20
 text-few c accepted few =
     let count = accepted.verified.count in
     let events = zip c.plan.events c.weights in
     let firsts = firsts-zip c.plan.events c.weights count in
     let seconds = seconds-zip c.plan.events c.weights count in
-    let names = all_seen (λ (e : List ℕ × ℕ). e.0) (λ name. length name ≤ 84) events (subst (All (λ name. length name ≤ 84)) (sym firsts) few) in
+    let names = all_seen (λ (e : List ℕ × ℕ). e.0) (λ name. length name ≤ 198) events (subst (All (λ name. length name ≤ 198)) (sym firsts) few) in
     let weights = all_seen (λ (e : List ℕ × ℕ). e.1) (λ w. w ≤ greatest) events (subst (All (λ w. w ≤ greatest)) (sym seconds) accepted.verified.limit.weights_within) in
     let many : length events ≡ length c.plan.events = sym (length-map events (λ (e : List ℕ × ℕ). e.0)) ∙ ap length firsts in
     let limit : length c.plan.events ≤ 4096 = accepted.valid.event_limit in
@@ -69,4 +69,4 @@ text-few c accepted few =
 -- Where the rows are those of a bundle, the certificate of what is accepted is not longer than that.
 pub certificate-few : (rows : Rows) (bundle : List ℕ) (c : CheckedView) → rows_at bundle ≡ Ok rows → checked_at rows ≡ Ok c → length (certificate_text c) ≤ 2 ^ 20
 certificate-few rows bundle c read is =
-    text-few c (found_is_accepted rows (rows_are_short bundle rows read) (rows_are_few bundle rows read) c is) (subst (λ (p : PlanView). All (λ name. length name ≤ 84) p.events) (sym (found-plan rows c is)) (events_are_few bundle rows read))
+    text-few c (found_is_accepted rows (rows_are_short bundle rows read) (rows_are_few bundle rows read) c is) (subst (λ (p : PlanView). All (λ name. length name ≤ 198) p.events) (sym (found-plan rows c is)) (events_are_few bundle rows read))

@@ -2,7 +2,7 @@
 use Rattle.std.proofs.Common.{◌≡◌, ◌≢◌, ℕ, ◌+◌, ◌<◌, ◌≤◌, Bool, true, ◌&&◌, ◌||◌, eqb, nat_lt, List, [], ◌∷◌, ◌++◌, length, Ok, refl, ap, arith, length-append, codes}
 use Rattle.std.specs.List.{All, list_all}
 use Rattle.std.proofs.lemmas.Bool.{ne_eqb, or_from, not_from_false, and_parts, ltb-true}
-use Rattle.std.proofs.lemmas.List.Elements.{All-nil, All-cons, All-append, All-weaker}
+use Rattle.std.proofs.lemmas.List.Elements.{All-nil, All-cons, All-append, All-weaker, All-from_recursion}
 use Rattle.std.proofs.lemmas.List.Sums.{AllPass-from_list_all}
 use Rattle.yaml_bytes.specs.Bytes.{is_blank}
 use Rattle.mpf_config.specs.Rows.{Rows}
@@ -16,6 +16,7 @@ use Rattle.machine_definitions.specs.GameEvents.{game_event_names}
 use Rattle.machine_definitions.specs.Players.{player_event}
 use Rattle.plan_contributions.specs.Contributions.{event_ending, mode_event_name}
 use Rattle.plan_contributions.specs.DeviceEntries.{block_event, block_endings, timer_event, timer_endings}
+use Rattle.plan_contributions.specs.ShotEntries.{shot_events, group_events}
 use Rattle.mpf_plan.specs.PlanOf.{plan_of}
 use Rattle.mpf_plan.proofs.EventNames.{event_names}
 use Rattle.config_checker.specs.CertificateOf.{is_in_word, IsWord}
@@ -33,15 +34,16 @@ AllInWord text = All (λ b. is_in_word b ≡ true) text
 name-in_word : (name : List ℕ) → IsName name → AllInWord name
 name-in_word name h = All-weaker (λ b. (b ≢ 32) × (b ≢ 9) × (b ≢ 10)) (λ b. is_in_word b ≡ true) byte-in_word name (name_bytes name h)
 
--- what the name of an event is: a word of at most 84 bytes, as many as `logicblock_`, a name's 64 and `_complete` are
+-- what the name of an event is: a word of at most 198 bytes, as many as the names of a shot, of its profile and of a state are, each of 64, with
+-- `_` before the second and the third, and `_hit`
 record IsEventWord (text : List ℕ) : Type 0 where
   word : IsWord text
-  few : length text ≤ 84
+  few : length text ≤ 198
 
-some-word : (text : List ℕ) → 0 < length text → length text ≤ 84 → AllInWord text → IsEventWord text
+some-word : (text : List ℕ) → 0 < length text → length text ≤ 198 → AllInWord text → IsEventWord text
 some-word text some few letters = record { word = record { some = λ none. omega (arith, some, ap length none); letters = letters }; few = few }
 
-joined-word : (front behind : List ℕ) → 0 < length front → length front + length behind ≤ 84 → AllInWord front → AllInWord behind → IsEventWord (front ++ behind)
+joined-word : (front behind : List ℕ) → 0 < length front → length front + length behind ≤ 198 → AllInWord front → AllInWord behind → IsEventWord (front ++ behind)
 joined-word front behind some few first last =
     let both = length-append front behind in
     some-word (front ++ behind) (omega (arith, some, both)) (omega (arith, few, both)) (All-append (λ b. is_in_word b ≡ true) front behind first last)
@@ -114,17 +116,66 @@ player-word name h =
     let few = h.few in
     joined-word (codes "player_") name (omega arith) (omega (arith, few)) (AllPass-from_list_all is_in_word (codes "player_") refl) (name-in_word name h)
 
+-- ---- what is made of several names
+
+-- what is in a word: some bytes, at most so many, and neither a blank nor a line end among them
+record IsPart (most : ℕ) (text : List ℕ) : Type 0 where
+  some : 0 < length text
+  few : length text ≤ most
+  letters : AllInWord text
+
+name-part : (name : List ℕ) → IsName name → IsPart 64 name
+name-part name h = record { some = h.some; few = h.few; letters = name-in_word name h }
+
+underscore : IsPart 1 (codes "_")
+underscore = record { some = omega arith; few = omega arith; letters = AllPass-from_list_all is_in_word (codes "_") refl }
+
+hit : IsPart 4 (codes "_hit")
+hit = record { some = omega arith; few = omega arith; letters = AllPass-from_list_all is_in_word (codes "_hit") refl }
+
+complete : IsPart 9 (codes "_complete")
+complete = record { some = omega arith; few = omega arith; letters = AllPass-from_list_all is_in_word (codes "_complete") refl }
+
+-- one part after the other
+joined : {m n : ℕ} {front behind : List ℕ} → IsPart m front → IsPart n behind → IsPart (m + n) (front ++ behind)
+joined {front = front} {behind = behind} first last =
+    let both = length-append front behind in
+    let some = first.some in
+    let few = first.few in
+    let more = last.few in
+    record { some = omega (arith, some, both); few = omega (arith, few, more, both); letters = All-append (λ b. is_in_word b ≡ true) front behind first.letters last.letters }
+
+part-word : {most : ℕ} {text : List ℕ} → most ≤ 198 → IsPart most text → IsEventWord text
+part-word {text = text} within part = let few = part.few in some-word text part.some (omega (arith, few, within)) part.letters
+
+-- what a shot posts in a state of its profile
+shot-words : (name profile state : List ℕ) → IsName name → IsName profile → IsName state → All IsEventWord (shot_events name profile state)
+shot-words name profile state n p s =
+    let own = name-part name n in
+    let of_profile = joined (joined own underscore) (name-part profile p) in
+    let of_both = joined (joined of_profile underscore) (name-part state s) in
+    let of_state = joined (joined own underscore) (name-part state s) in
+    All-from_recursion IsEventWord (shot_events name profile state)
+    (part-word (omega arith) (joined own hit), (part-word (omega arith) (joined of_profile hit), (part-word (omega arith) (joined of_both hit), (part-word (omega arith) (joined of_state hit), tt))))
+
+-- what a group posts in a state, with an ending
+group-words : (most : ℕ) (ending name state : List ℕ) → most ≤ 9 → IsPart most ending → IsName name → IsName state → All IsEventWord (group_events ending name state)
+group-words most ending name state short end n s =
+    let own = name-part name n in
+    let of_state = joined (joined own underscore) (name-part state s) in
+    All-from_recursion IsEventWord (group_events ending name state) (part-word (omega (arith, short)) (joined own end), (part-word (omega (arith, short)) (joined of_state end), tt))
+
 -- the events of the game, by looking at each
 is_short_word : List ℕ → Bool
-is_short_word text = (nat_lt 0 (length text) && nat_lt (length text) 85) && list_all is_in_word text
+is_short_word text = (nat_lt 0 (length text) && nat_lt (length text) 199) && list_all is_in_word text
 
 short-word : (text : List ℕ) → is_short_word text ≡ true → IsEventWord text
 unfolding is_short_word
 short-word text h =
-    let parts = and_parts (nat_lt 0 (length text) && nat_lt (length text) 85) (list_all is_in_word text) h in
-    let sizes = and_parts (nat_lt 0 (length text)) (nat_lt (length text) 85) parts.0 in
+    let parts = and_parts (nat_lt 0 (length text) && nat_lt (length text) 199) (list_all is_in_word text) h in
+    let sizes = and_parts (nat_lt 0 (length text)) (nat_lt (length text) 199) parts.0 in
     let some : 0 < length text = ltb-true 0 (length text) sizes.0 in
-    let few : length text < 85 = ltb-true (length text) 85 sizes.1 in
+    let few : length text < 199 = ltb-true (length text) 199 sizes.1 in
     some-word text some (omega (arith, few)) (AllPass-from_list_all is_in_word text parts.1)
 
 game-words : All IsEventWord game_event_names
@@ -147,10 +198,12 @@ module _ (bundle : List ℕ) (rows : Rows) (read : rows_at bundle ≡ Ok rows) w
     player = player-word;
     block = block-words;
     timer = timer-words;
+    shot = shot-words;
+    group = λ name state n s. (group-words 4 (codes "_hit") name state (omega arith) hit n s, group-words 9 (codes "_complete") name state (omega arith) complete n s);
   }) rows (rows_are_named bundle rows read) (modes_are_named bundle rows read)
 
   pub events_are_words : All IsWord (plan_of rows).events
   events_are_words = All-weaker IsEventWord IsWord (λ name h. h.word) (plan_of rows).events events_are_named
 
-  pub events_are_few : All (λ name. length name ≤ 84) (plan_of rows).events
-  events_are_few = All-weaker IsEventWord (λ name. length name ≤ 84) (λ name h. h.few) (plan_of rows).events events_are_named
+  pub events_are_few : All (λ name. length name ≤ 198) (plan_of rows).events
+  events_are_few = All-weaker IsEventWord (λ name. length name ≤ 198) (λ name h. h.few) (plan_of rows).events events_are_named

@@ -1,39 +1,48 @@
--- The events that switches, blocks and timers post by their own names are not reserved.
-use Rattle.std.proofs.Common.{◌≡◌, ℕ, ◌==◌, Bool, true, false, ◌||◌, List, [], ◌∷◌, ◌++◌, codes, refl, sym, ap, ◌∙◌, true≢false}
-use Rattle.std.specs.List.{list_any}
+-- The events that switches, blocks, timers, shots and groups of shots post by their own names are not reserved.
+use Rattle.std.proofs.Common.{◌≡◌, ℕ, ◌+◌, ◌*◌, ◌==◌, Bool, true, false, ◌||◌, List, [], ◌∷◌, ◌++◌, codes, refl, sym, ap, ◌∙◌, true≢false}
+use Rattle.std.specs.List.{All, list_any}
 use Rattle.std.specs.Str.{bytes_eq}
 use Rattle.std.proofs.lemmas.Bool.{eq-eqb}
+use Rattle.std.proofs.lemmas.List.Elements.{All-from_recursion}
 use Rattle.std.proofs.lemmas.Slice.Eq.{bytes_eq-Decides}
 use Rattle.yaml_subset.specs.Keys.{is_among}
 use Rattle.mpf_config.specs.Rows.{Rows}
 use Rattle.plan_contributions.specs.DeviceEntries.{block_event, timer_event}
+use Rattle.plan_contributions.specs.ShotEntries.{shot_events, group_events}
 use Rattle.machine_definitions.specs.GameEvents.{reserved_game_events}
 use Rattle.row_faults.specs.Reserved.{events_of_modes, mode_names, is_reserved}
 
--- ---- names of switches
+-- ---- the first and the last bytes of names
 
--- the first and the last byte of a name
+-- the first byte of a name
 abbrev first_of : List ℕ → ℕ
 first_of [] = 0
 first_of (x ∷ xs) = x
 
-abbrev last_from : ℕ → List ℕ → ℕ
-last_from d [] = d
-last_from d (x ∷ xs) = last_from x xs
+-- the last two bytes of a text, as one number, where these two stand before it
+abbrev last_two : ℕ → ℕ → List ℕ → ℕ
+last_two x y [] = x * 256 + y
+last_two x y (z ∷ zs) = last_two y z zs
 
-last-is : (front : List ℕ) (d y : ℕ) (ys : List ℕ) → last_from d (front ++ y ∷ ys) ≡ last_from y ys
-last-is [] d y ys = refl
-last-is (x ∷ front) d y ys = last-is front x y ys
+-- those of a name
+abbrev end_of : List ℕ → ℕ
+end_of name = last_two 0 0 name
 
--- a byte that no event has there
-not_among : (byte_of : List ℕ → ℕ) (name : List ℕ) (events : List (List ℕ)) → list_any (λ e. byte_of e == byte_of name) events ≡ false → is_among events name ≡ false
-not_among byte_of name [] h = refl
-not_among byte_of name (e ∷ es) h = by (byte_of e == byte_of name) (bytes_eq e name) refl refl (not_among byte_of name es) h
+last_two-is : (front : List ℕ) (x y v w : ℕ) (ws : List ℕ) → last_two x y (front ++ v ∷ w ∷ ws) ≡ last_two v w ws
+last_two-is [] x y v w ws = refl
+last_two-is (z ∷ front) x y v w ws = last_two-is front y z v w ws
+
+-- bytes that no event has there
+not_among : (bytes_of : List ℕ → ℕ) (name : List ℕ) (events : List (List ℕ)) → list_any (λ e. bytes_of e == bytes_of name) events ≡ false → is_among events name ≡ false
+not_among bytes_of name [] h = refl
+not_among bytes_of name (e ∷ es) h = by (bytes_of e == bytes_of name) (bytes_eq e name) refl refl (not_among bytes_of name es) h
   where
-    by : (same equal : Bool) → byte_of e == byte_of name ≡ same → bytes_eq e name ≡ equal → (list_any (λ x. byte_of x == byte_of name) es ≡ false → is_among es name ≡ false) → (same || list_any (λ x. byte_of x == byte_of name) es) ≡ false → (equal || is_among es name) ≡ false
+    by : (same equal : Bool) → bytes_of e == bytes_of name ≡ same → bytes_eq e name ≡ equal → (list_any (λ x. bytes_of x == bytes_of name) es ≡ false → is_among es name ≡ false) → (same || list_any (λ x. bytes_of x == bytes_of name) es) ≡ false → (equal || is_among es name) ≡ false
     by true equal p q rest r = absurd (true≢false r)
-    by false true p q rest r = absurd (true≢false (sym (eq-eqb (byte_of e) (byte_of name) (ap byte_of ((bytes_eq-Decides e name).0 q))) ∙ p))
+    by false true p q rest r = absurd (true≢false (sym (eq-eqb (bytes_of e) (bytes_of name) (ap bytes_of ((bytes_eq-Decides e name).0 q))) ∙ p))
     by false false p q rest r = rest r
+
+-- ---- names with a first byte of their own
 
 -- a name that begins with a byte with which no event of a game begins, nor one of a mode
 first-other : (byte : ℕ) → (109 == byte) ≡ false → (ws : List (List ℕ)) → list_any (λ e. first_of e == byte) (events_of_modes ws) ≡ false
@@ -46,32 +55,65 @@ begins-free rows byte rest no_game no_mode =
     let mode : is_among (events_of_modes (mode_names rows)) (byte ∷ rest) ≡ false = not_among first_of (byte ∷ rest) (events_of_modes (mode_names rows)) (first-other byte no_mode (mode_names rows)) in
     λ i. game i || mode i
 
--- the events of blocks, and of timers
+-- the events of blocks, of timers and of tags
 pub block-free : (name ending : List ℕ) (rows : Rows) → is_reserved rows (block_event name ending) ≡ false
 block-free name ending rows = begins-free rows 108 _ refl refl
 
 pub timer-free : (name ending : List ℕ) (rows : Rows) → is_reserved rows (timer_event name ending) ≡ false
 timer-free name ending rows = begins-free rows 116 _ refl refl
 
-module _ (front : List ℕ) where
-  last-other : (ws : List (List ℕ)) → list_any (λ e. last_from 0 e == 101) (events_of_modes ws) ≡ false
+pub tag-free : (name : List ℕ) (rows : Rows) → is_reserved rows (codes "sw_" ++ name) ≡ false
+tag-free name rows = begins-free rows 115 _ refl refl
+
+-- ---- names with last bytes of their own
+
+-- the events of modes end with `rt`, `ng` or `ed`
+module _ (two : ℕ) (no_start : (end_of (codes "rt") == two) ≡ false) (no_ing : (end_of (codes "ng") == two) ≡ false) (no_ed : (end_of (codes "ed") == two) ≡ false) where
+  last-other : (ws : List (List ℕ)) → list_any (λ e. end_of e == two) (events_of_modes ws) ≡ false
   last-other [] = refl
   last-other (w ∷ ws) =
-      rw (last-is w 95 95 (codes "will_start"), last-is w 95 95 (codes "starting"), last-is w 95 95 (codes "started"), last-is w 95 95 (codes "stopping"), last-is w 95 95 (codes "stopped")) (last-other ws)
+      rw (last_two-is w 101 95 95 119 (codes "ill_start"), last_two-is w 101 95 95 115 (codes "tarting"), last_two-is w 101 95 95 115 (codes "tarted"), last_two-is w 101 95 95 115 (codes "topping"), last_two-is w 101 95 95 115 (codes "topped"))
+      (rw (no_start, no_ing, no_ed) (last-other ws))
 
-  ends-free : (rows : Rows) (name : List ℕ) → last_from 0 name ≡ 101 → is_reserved rows name ≡ false
-  ends-free rows name is =
-      let game : is_among reserved_game_events name ≡ false = not_among (last_from 0) name reserved_game_events (rw is refl) in
-      let mode : is_among (events_of_modes (mode_names rows)) name ≡ false =
-      not_among (last_from 0) name (events_of_modes (mode_names rows)) (rw is (last-other (mode_names rows))) in
-      λ i. game i || mode i
+-- a name that ends with two bytes with which no event of a game ends, nor one of a mode
+ends-free : (rows : Rows) (name ending : List ℕ) → end_of name ≡ end_of ending → list_any (λ e. end_of e == end_of ending) reserved_game_events ≡ false
+    → (end_of (codes "rt") == end_of ending) ≡ false → (end_of (codes "ng") == end_of ending) ≡ false → (end_of (codes "ed") == end_of ending) ≡ false → is_reserved rows name ≡ false
+ends-free rows name ending is no_game no_start no_ing no_ed =
+    let game : is_among reserved_game_events name ≡ false = not_among end_of name reserved_game_events (rw is no_game) in
+    let mode : is_among (events_of_modes (mode_names rows)) name ≡ false =
+    not_among end_of name (events_of_modes (mode_names rows)) (rw is (last-other (end_of ending) no_start no_ing no_ed (mode_names rows))) in
+    λ i. game i || mode i
 
-  -- the event of a switch that becomes active, or inactive, and that of a tag
-  pub active-free : (rows : Rows) → is_reserved rows (front ++ codes "_active") ≡ false
-  active-free rows = ends-free rows (front ++ codes "_active") (last-is front 0 95 (codes "active"))
+module _ (front : List ℕ) (rows : Rows) where
+  -- the event of a switch that becomes active, or inactive
+  pub active-free : is_reserved rows (front ++ codes "_active") ≡ false
+  active-free = ends-free rows (front ++ codes "_active") (codes "ve") (last_two-is front 0 0 95 97 (codes "ctive")) refl refl refl refl
 
-  pub inactive-free : (rows : Rows) → is_reserved rows (front ++ codes "_inactive") ≡ false
-  inactive-free rows = ends-free rows (front ++ codes "_inactive") (last-is front 0 95 (codes "inactive"))
+  pub inactive-free : is_reserved rows (front ++ codes "_inactive") ≡ false
+  inactive-free = ends-free rows (front ++ codes "_inactive") (codes "ve") (last_two-is front 0 0 95 105 (codes "nactive")) refl refl refl refl
 
-  pub tag-free : (rows : Rows) → is_reserved rows (codes "sw_" ++ front) ≡ false
-  tag-free rows = begins-free rows 115 _ refl refl
+  -- the events of shots, and of groups of them
+  pub hit-free : is_reserved rows (front ++ codes "_hit") ≡ false
+  hit-free = ends-free rows (front ++ codes "_hit") (codes "it") (last_two-is front 0 0 95 104 (codes "it")) refl refl refl refl
+
+  pub complete-free : is_reserved rows (front ++ codes "_complete") ≡ false
+  complete-free = ends-free rows (front ++ codes "_complete") (codes "te") (last_two-is front 0 0 95 99 (codes "omplete")) refl refl refl refl
+
+-- all that a shot posts in a state, and a group
+module _ (rows : Rows) where
+  abbrev IsFreeName : List ℕ → Type 0
+  IsFreeName name = is_reserved rows name ≡ false
+
+  pub shot-free : (name profile state : List ℕ) → All IsFreeName (shot_events name profile state)
+  shot-free name profile state =
+      All-from_recursion IsFreeName (shot_events name profile state) (
+        hit-free name rows,
+        (hit-free (name ++ codes "_" ++ profile) rows, (hit-free (name ++ codes "_" ++ profile ++ codes "_" ++ state) rows, (hit-free (name ++ codes "_" ++ state) rows, tt))),
+      )
+
+  pub group_hit-free : (name state : List ℕ) → All IsFreeName (group_events (codes "_hit") name state)
+  group_hit-free name state = All-from_recursion IsFreeName (group_events (codes "_hit") name state) (hit-free name rows, (hit-free (name ++ codes "_" ++ state) rows, tt))
+
+  pub group_complete-free : (name state : List ℕ) → All IsFreeName (group_events (codes "_complete") name state)
+  group_complete-free name state =
+      All-from_recursion IsFreeName (group_events (codes "_complete") name state) (complete-free name rows, (complete-free (name ++ codes "_" ++ state) rows, tt))

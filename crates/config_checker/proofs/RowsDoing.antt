@@ -1,28 +1,32 @@
--- What sound rows do: they post nothing reserved, by a variable neither, each deed is within the limits of its coil, and each switch to which a
--- device listens is defined.
+-- What sound rows do: they post nothing reserved, by a variable neither, each deed is within the limits of its coil, each switch to which a
+-- device listens or which a shot has is defined, and so is each profile, and each shot that a group lists.
 use Rattle.std.proofs.Common.{◌≡◌, ℕ, Bool, true, false, ◌||◌, if◌then◌else◌, List, [], ◌∷◌, ◌++◌, map, get_or, codes, refl, sym, true≢false}
 use Rattle.std.specs.Prelude.{Option, Some, None}
 use Rattle.std.specs.Str.{bytes_eq}
 use Rattle.std.specs.List.{All, flat_map}
 use Rattle.std.proofs.lemmas.List.Elements.{All-nil, All-cons, All-head, All-tail, All-append, All-map, All-weaker, All-from_get_or}
-use Rattle.mpf_sections.specs.Rows.{Written, Entry, Switch, CoilPlayer, VariablePlayer, Block, Flipper, Autofire, SectionRows}
+use Rattle.mpf_sections.specs.Rows.{Written, Entry, Switch, CoilPlayer, VariablePlayer, Block, Flipper, Autofire, Shot, ShotGroup, SectionRows}
 use Rattle.mpf_sections.specs.TypedGame.{variable_players_in}
 use Rattle.machine_definitions.specs.Players.{player_event, is_set_by_game}
 use Rattle.plan_contributions.specs.VariableEntries.{item_change}
 use Rattle.mpf_config.specs.Rows.{Rows}
 use Rattle.mpf_sections.specs.Typed.{counters_name, accruals_name, sequences_name, timers_name, counter_of, step_block_of, timer_of, entries_in, switches_in, event_players_in, counters_in, accruals_in, sequences_in}
 use Rattle.mpf_sections.specs.TypedCoils.{coil_players_in, flippers_in, autofires_in}
+use Rattle.mpf_sections.specs.TypedShots.{shots_in, shot_groups_in}
 use Rattle.plan_tables.specs.declared.devices.StepSettings.{StepSettings}
 use Rattle.plan_tables.specs.declared.devices.Settings.{Settings}
 use Rattle.plan_tables.specs.declared.devices.Settings.TheVariants as kinds
 use Rattle.machine_definitions.specs.Definitions.{has_switch}
+use Rattle.machine_definitions.specs.Shots.{Profile, profile_of_name}
 use Rattle.plan_contributions.specs.DeviceEntries.{Effect, posts, works, changes, Device, counter_device, step_device, step_settings, timer_device, device_of, block_event, or_own, block_lists, timer_event, timer_endings, timer_lists}
 use Rattle.plan_contributions.specs.CoilEntries.{item_effect, flipper_device, autofire_device}
+use Rattle.plan_contributions.specs.ShotEntries.{shot_events, group_events, shot_lists, state_lists, group_lists, members_of}
 use Rattle.plan_contributions.specs.Contributions.{texts, tag_event}
-use Rattle.plan_contributions.specs.Doing.{IsSwitchDoing, IsPlayerDoing, IsDeviceDoing, IsEntryDoing, IsCoilPlayerDoing, IsVariablePlayerDoing, IsDoing, IsMachineDoing, AreDoing}
+use Rattle.plan_contributions.specs.Doing.{IsSwitchDoing, IsPlayerDoing, IsDeviceDoing, IsEntryDoing, IsCoilPlayerDoing, IsVariablePlayerDoing, IsShotDoing, IsShotGroupDoing, IsDoing, IsMachineDoing, AreDoing}
+use Rattle.plan_contributions.proofs.Before.{All-flat_map}
 use Rattle.row_faults.specs.Reserved.{is_reserved, switch_posts, player_posts, block_posts, counter_posts, step_posts, posts_in, posts_of}
-use Rattle.row_faults.specs.Sound.{ChangesNothingBarred, IsChangeFree, IsItemSound, IsCoilPlayerSound, IsFlipperSound, IsAutofireSound, IsSectionSound, IsSound}
-use Rattle.config_checker.proofs.FreeNames.{active-free, inactive-free, tag-free, block-free, timer-free}
+use Rattle.row_faults.specs.Sound.{ChangesNothingBarred, IsChangeFree, IsItemSound, IsCoilPlayerSound, IsFlipperSound, IsAutofireSound, IsShotSound, IsShotGroupSound, IsSectionSound, IsSound}
+use Rattle.config_checker.proofs.FreeNames.{active-free, inactive-free, tag-free, block-free, timer-free, shot-free, group_hit-free, group_complete-free}
 use Rattle.config_checker.proofs.CoilDeeds.{IsDeedSound, item_deed, flipper_doing, autofire_doing}
 
 -- ---- parts of lists
@@ -80,7 +84,7 @@ module _ (rows : Rows) where
         All-cons IsUnreserved (s.name.text ++ codes "_inactive") (texts s.deactivated) (inactive-free s.name.text rows) (written-free s.deactivated parts.1),
       )
 
-  coil_player-doing : (p : CoilPlayer) → IsCoilPlayerSound rows.machine p → IsCoilPlayerDoing IsFine IsUnreserved IsThere rows.machine p
+  coil_player-doing : (p : CoilPlayer) → IsCoilPlayerSound rows.machine p → IsCoilPlayerDoing IsFine IsUnreserved IsThere rows p
   coil_player-doing p h = All-weaker (IsItemSound rows.machine) (λ item. IsFine (item_effect rows.machine item)) (λ item sound. item_deed rows.machine item sound) p.items h
 
   -- ---- variables
@@ -168,9 +172,40 @@ module _ (rows : Rows) where
     listens = All-cons IsThere a.switch.text [] h.switch (All-nil IsThere);
   }
 
+  -- ---- shots and groups of them
+
+  -- what the effect lists of a shot, or of a group, post in each state of a profile
+  each_state : (p : Profile) (events : List ℕ → List (List ℕ)) → ((state : List ℕ) → All IsUnreserved (events state)) → All (All IsFine) (map (λ state. map posts (events state)) p.states)
+  each_state p events free =
+      All-map (All IsFine) (λ state. map posts (events state)) p.states
+      (λ i d within. All-map IsFine posts (events (get_or p.states i d)) (free (get_or p.states i d)))
+
+  shot-lists : (p : Profile) (name : List ℕ) → All (All IsFine) (shot_lists p name)
+  shot-lists p name = each_state p (shot_events name p.name) (shot-free rows name p.name)
+
+  shot-doing : (s : Shot) → IsShotSound rows s → IsShotDoing IsFine IsUnreserved IsThere rows s
+  shot-doing s h = record {
+    switch = h.switch;
+    profile = h.profile;
+    lists = shot-lists (profile_of_name rows s.profile.text) s.name.text;
+  }
+
+  group-lists : (p : Profile) (name : List ℕ) (shots : List (List ℕ)) → All (All IsFine) (group_lists p name shots)
+  group-lists p name shots =
+      let hit = state_lists (codes "_hit") p name in
+      let complete = state_lists (codes "_complete") p name in
+      All-append (All IsFine) (flat_map (shot_lists p) shots ++ hit) complete
+      (All-append (All IsFine) (flat_map (shot_lists p) shots) hit
+      (All-flat_map (All IsFine) (shot_lists p) shots (λ i d within. shot-lists p (get_or shots i d)))
+      (each_state p (group_events (codes "_hit") name) (group_hit-free rows name)))
+      (each_state p (group_events (codes "_complete") name) (group_complete-free rows name))
+
+  group-doing : (g : ShotGroup) → IsShotGroupSound rows g → IsShotGroupDoing IsFine IsUnreserved IsThere rows g
+  group-doing g h = record { shots = h; lists = group-lists (members_of rows g).profile g.name.text (texts g.shots) }
+
   -- ---- sections
 
-  module _ (s : SectionRows) (free : All IsFreePost (posts_in s)) (changing : ChangesNothingBarred rows s) (sound : IsSectionSound rows.machine s) where
+  module _ (s : SectionRows) (free : All IsFreePost (posts_in s)) (changing : ChangesNothingBarred rows s) (sound : IsSectionSound rows s) where
     section-parts : All IsFreePost (flat_map switch_posts (switches_in s)) × All IsFreePost (flat_map player_posts (event_players_in s)) × All IsFreePost (flat_map counter_posts (counters_in s))
         × All IsFreePost (flat_map step_posts (accruals_in s)) × All IsFreePost (flat_map step_posts (sequences_in s))
     section-parts =
@@ -184,16 +219,18 @@ module _ (rows : Rows) where
         let parts = all-parts IsFreePost switches players rest.0 in
         (parts.0, parts.1, rest.1, more.1, last.1)
 
-    section-doing : IsDoing IsFine IsUnreserved IsThere rows.machine s
+    section-doing : IsDoing IsFine IsUnreserved IsThere rows s
     section-doing = record {
       players = All-weaker (λ x. All IsFreePost (player_posts x)) (IsPlayerDoing IsFine IsUnreserved IsThere) (λ p k. written-free p.posts k) (event_players_in s)
           (all-each IsFreePost player_posts (event_players_in s) section-parts.1);
       variable_players = All-weaker (λ p. All (IsChangeFree rows) p.items) (IsVariablePlayerDoing IsFine IsUnreserved IsThere) variable_player-doing (variable_players_in s) changing;
-      coil_players = All-weaker (IsCoilPlayerSound rows.machine) (IsCoilPlayerDoing IsFine IsUnreserved IsThere rows.machine) coil_player-doing (coil_players_in s) sound.coil_players;
+      coil_players = All-weaker (IsCoilPlayerSound rows.machine) (IsCoilPlayerDoing IsFine IsUnreserved IsThere rows) coil_player-doing (coil_players_in s) sound.coil_players;
       devices = entries-doing s section-parts.2 section-parts.3 section-parts.4;
+      shots = All-weaker (IsShotSound rows) (IsShotDoing IsFine IsUnreserved IsThere rows) shot-doing (shots_in s) sound.shots;
+      groups = All-weaker (IsShotGroupSound rows) (IsShotGroupDoing IsFine IsUnreserved IsThere rows) group-doing (shot_groups_in s) sound.groups;
     }
 
-    machine-doing : IsMachineDoing IsFine IsUnreserved IsThere rows.machine s
+    machine-doing : IsMachineDoing IsFine IsUnreserved IsThere rows s
     machine-doing = record {
       all = section-doing;
       switches = All-weaker (λ x. All IsFreePost (switch_posts x)) (IsSwitchDoing IsFine IsUnreserved IsThere) switch-doing (switches_in s) (all-each IsFreePost switch_posts (switches_in s) section-parts.0);
@@ -202,14 +239,14 @@ module _ (rows : Rows) where
     }
 
   -- each section of a list
-  each-doing : (R : SectionRows → Type 0) → ((s : SectionRows) → All IsFreePost (posts_in s) → ChangesNothingBarred rows s → IsSectionSound rows.machine s → R s)
-      → (ss : List SectionRows) → All IsFreePost (posts_of ss) → All (ChangesNothingBarred rows) ss → All (IsSectionSound rows.machine) ss → All R ss
+  each-doing : (R : SectionRows → Type 0) → ((s : SectionRows) → All IsFreePost (posts_in s) → ChangesNothingBarred rows s → IsSectionSound rows s → R s)
+      → (ss : List SectionRows) → All IsFreePost (posts_of ss) → All (ChangesNothingBarred rows) ss → All (IsSectionSound rows) ss → All R ss
   each-doing R make ss free changing sound =
       let all = all-each IsFreePost posts_in ss free in
       λ i d within. make (get_or ss i d) (all i d within) (changing i d within) (sound i d within)
 
   pub rows_doing : IsSound rows → AreDoing IsFine IsUnreserved IsThere rows
   rows_doing h = record {
-    machine = each-doing (IsMachineDoing IsFine IsUnreserved IsThere rows.machine) machine-doing rows.machine h.posts.machine h.changes h.machine;
-    modes = λ i d within. each-doing (IsDoing IsFine IsUnreserved IsThere rows.machine) section-doing (get_or rows.modes i d).sections (h.posts.modes i d within) (h.mode_changes i d within) (h.modes i d within);
+    machine = each-doing (IsMachineDoing IsFine IsUnreserved IsThere rows) machine-doing rows.machine h.posts.machine h.changes h.machine;
+    modes = λ i d within. each-doing (IsDoing IsFine IsUnreserved IsThere rows) section-doing (get_or rows.modes i d).sections (h.posts.modes i d within) (h.mode_changes i d within) (h.modes i d within);
   }

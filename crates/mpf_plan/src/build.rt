@@ -26,11 +26,13 @@ use std::alloc::Global;
 /// of `variable_player` the event that it handles, then for each of its items the event of the
 /// variable and the variable. A device uses the switch to which it listens, if there is one, then
 /// the events that it handles, then those that its settings name, then what its effect lists post
-/// and the coils with which they do something. The game uses its events in the order of
-/// [`plan_tables::GAME_EVENTS`]. A mode uses its five events in the order of
-/// [`plan_tables::ModeEvents`], then the events that start it, then those that stop it. The rows of
-/// its text come after these. Where an event is handled under a condition, the variable of the
-/// condition is used right after it.
+/// and the coils with which they do something. So does a group of shots: its effect lists are those
+/// of its shots, in the order in which it lists them, then its own. A shot uses its switch, then
+/// the events that it handles; where no group lists it, it then uses what its effect lists post. The
+/// game uses its events in the order of [`plan_tables::GAME_EVENTS`]. A mode uses its five events in
+/// the order of [`plan_tables::ModeEvents`], then the events that start it, then those that stop it.
+/// The rows of its text come after these. Where an event is handled under a condition, the variable
+/// of the condition is used right after it.
 ///
 /// When a switch becomes active, it posts `NAME_active`, then `sw_TAG` for each of its tags, then
 /// its `events_when_activated`. When it becomes inactive, it posts `NAME_inactive`, then its
@@ -62,10 +64,19 @@ use std::alloc::Global;
 /// flipper is what it does with its coils while its switch is active, and the second ends that; that
 /// of an autofire coil pulses the coil.
 ///
+/// Each entry of `shot_groups` is such a row too, a bank of shots, and so is each entry of `shots`
+/// that no group of its text lists: a bank of one. The profile of a bank is that of its first shot.
+/// `NAME_active` of a shot's switch and its `hit_events` are bound to a hit of the shot, then its
+/// other events to what they do with it. These bindings stand where the shot is written, and act on
+/// the row of its bank. Those that rotate and reset a group stand at the group. A shot has an
+/// effect list for each state of the profile, which posts `NAME_hit`, `NAME_PROFILE_hit`,
+/// `NAME_PROFILE_STATE_hit` and `NAME_STATE_hit`. A group has two for each state: one posts
+/// `NAME_hit` and `NAME_STATE_hit`, the other `NAME_complete` and `NAME_STATE_complete`.
+///
 /// # Errors
 ///
 /// - `NoSuchName`: a switch or a coil is named that no entry of the machine text has, or a setting
-///   names something else that nothing has.
+///   names something else that nothing has: a profile or a shot.
 /// - `Limit`: a table is above its limit; the first such table in the order of `Table` is reported.
 /// - `NoMemory`: memory ran out.
 pub fn plan(alloc: Global, config: &Config) -> Result<Plan, PlanFault>

@@ -167,7 +167,7 @@ lone_device p s = record {
 }
 
 -- What is known of a group: a flag for each of its shots that says whether it is enabled at first, whether all are defined,
--- and the profile of the first. Of a shot that nothing defines anything serves, for then there is no plan.
+-- and the profile of the first. Where nothing defines a shot, any value will do: there is no plan then.
 pub record Members : Type 0 where
   pub enabled : List Bool
   pub all_known : Bool

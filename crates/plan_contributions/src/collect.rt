@@ -36,7 +36,7 @@ use std::alloc::AllocError;
 pub fn collect_row<'a>(
     contributions: &mut Vec<Contribution<'a>>,
     definitions: &Definitions<'_>,
-    row: Row<'a>,
+    row: Row<'_, 'a>,
 ) -> Result<(), AllocError>
     ensures { OnOk result (contributions_view contributions.new.items ≡ row_contributions definitions.now.machine (row_view row.entry)) }
 {

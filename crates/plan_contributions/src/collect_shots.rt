@@ -52,7 +52,7 @@ pub(crate) fn collect_group<'a>(
     contributions: &mut Vec<Contribution<'a>>,
     place: Place,
     row: ShotGroup<'a>,
-    members: Members<'a>,
+    members: Members<'_, 'a>,
 ) -> Result<(), AllocError>
     requires few { length row.shots.now ≤ 16 }
     ensures { OnOk result (contributions_view contributions.new.items ≡ contributions_view contributions.old.items ++ group_contributions place (shot_group_view row.entry) (members_view members.entry)) }

@@ -13,20 +13,23 @@ use machine_definitions::{Definitions, Profile};
 use mpf_config::{Name, Shot, ShotGroup};
 use mpf_sections::tables::DEFAULT_PROFILE;
 
-/// What other entries say of the shots of a group. Of a shot that nothing defines anything serves,
-/// for then there is no plan.
+/// What other entries say of the shots of a group. Where nothing defines a shot, any value will do:
+/// there is no plan then.
 #[derive(Clone, Copy)]
-pub struct Members<'a> {
+pub struct Members<'d, 'a> {
     /// Whether each is enabled at first, by its number in the group.
     pub enabled: [bool; 16],
     /// Whether all are defined.
     pub all_known: bool,
     /// The profile of the first.
-    pub profile: &'a Profile<'a>,
+    pub profile: &'d Profile<'a>,
 }
 
 /// What is known of the shots of a group.
-pub(crate) fn members_of<'a>(definitions: &'a Definitions<'a>, group: ShotGroup<'_>) -> Members<'a>
+pub(crate) fn members_of<'d, 'a>(
+    definitions: &'d Definitions<'a>,
+    group: ShotGroup<'_>,
+) -> Members<'d, 'a>
     ensures { members_view result ≡ members_of definitions.now (shot_group_view group.entry) }
 {
     Members {
@@ -76,7 +79,7 @@ fn are_known(definitions: &Definitions<'_>, shots: &[Name]) -> bool
 }
 
 /// The profile of the first of these shots.
-fn first_profile<'a>(definitions: &'a Definitions<'a>, shots: &[Name]) -> &'a Profile<'a>
+fn first_profile<'d, 'a>(definitions: &'d Definitions<'a>, shots: &[Name]) -> &'d Profile<'a>
     ensures { profile_view result.now ≡ first_profile definitions.now (map name_view shots.now) }
 {
     match shots.first() {
@@ -85,7 +88,7 @@ fn first_profile<'a>(definitions: &'a Definitions<'a>, shots: &[Name]) -> &'a Pr
     }
 }
 
-fn profile_if<'a>(definitions: &'a Definitions<'a>, shot: Option<Shot<'_>>) -> &'a Profile<'a>
+fn profile_if<'d, 'a>(definitions: &'d Definitions<'a>, shot: Option<Shot<'_>>) -> &'d Profile<'a>
     ensures { profile_view result.now ≡ profile_if definitions.now (option_map shot_view shot.entry) }
 {
     match shot {

@@ -22,15 +22,15 @@ use std::alloc::{AllocError, Global};
 
 /// A row of a text.
 #[derive(Clone, Copy)]
-pub enum Row<'a> {
+pub enum Row<'d, 'a> {
     /// An entry in the section of this name, whose bindings have this place.
     Entry(Place, &'a [u8], &'a Entry),
     /// The one entry that the section of this name is, in a text of this place.
     Alone(Place, &'a [u8], &'a Entry),
     /// A shot, with its seat if it has one, whether its profile is defined, and its profile.
-    Shot(Place, &'a Entry, Option<Seat>, bool, &'a Profile<'a>),
+    Shot(Place, &'a Entry, Option<Seat>, bool, &'d Profile<'a>),
     /// A group, with what is known of its shots.
-    Group(Place, &'a Entry, Members<'a>),
+    Group(Place, &'a Entry, Members<'d, 'a>),
     /// An entry of a player in the section of this name, whose bindings have this place.
     Player(Place, &'a [u8], &'a Player),
     /// A mode by its name, with what its text says of it.
@@ -44,15 +44,15 @@ pub enum Row<'a> {
 /// # Errors
 ///
 /// Memory ran out.
-pub fn rows_of<'a>(
+pub fn rows_of<'d, 'a>(
     alloc: Global,
-    definitions: &'a Definitions<'a>,
-) -> Result<Vec<Row<'a>>, AllocError>
+    definitions: &'d Definitions<'a>,
+) -> Result<Vec<Row<'d, 'a>>, AllocError>
     ensures { IfOk result (λ rows. row_list_view rows.items ≡ rows_of definitions.now) }
 {
     let config = definitions.config();
     let modes: &'a [ModeText] = config.modes.as_slice();
-    let mut rows: Vec<Row<'a>> = Vec::new(alloc);
+    let mut rows: Vec<Row<'d, 'a>> = Vec::new(alloc);
     let mut before = add_text(
         alloc,
         &mut rows,
@@ -69,10 +69,10 @@ pub fn rows_of<'a>(
 
 /// Adds a mode, and then the rows of its text, before which come so many rows of devices. Returns
 /// how many come before the next text.
-fn add_mode<'a>(
+fn add_mode<'d, 'a>(
     alloc: Global,
-    rows: &mut Vec<Row<'a>>,
-    definitions: &'a Definitions<'a>,
+    rows: &mut Vec<Row<'d, 'a>>,
+    definitions: &'d Definitions<'a>,
     before: usize,
     mode: &'a ModeText,
 ) -> Result<usize, AllocError>
@@ -86,10 +86,10 @@ fn add_mode<'a>(
 
 /// Adds the rows of a text, before which come so many rows of devices. Returns how many come before
 /// the next text.
-fn add_text<'a>(
+fn add_text<'d, 'a>(
     alloc: Global,
-    rows: &mut Vec<Row<'a>>,
-    definitions: &'a Definitions<'a>,
+    rows: &mut Vec<Row<'d, 'a>>,
+    definitions: &'d Definitions<'a>,
     place: Place,
     before: usize,
     sections: &'a [Section],
@@ -103,9 +103,9 @@ fn add_text<'a>(
 }
 
 /// Adds the rows of sections, as written.
-fn add_sections<'a>(
-    rows: &mut Vec<Row<'a>>,
-    definitions: &'a Definitions<'a>,
+fn add_sections<'d, 'a>(
+    rows: &mut Vec<Row<'d, 'a>>,
+    definitions: &'d Definitions<'a>,
     place: Place,
     seats: &Seats<'a>,
     sections: &'a [Section],
@@ -118,9 +118,9 @@ fn add_sections<'a>(
     Ok(())
 }
 
-fn add_rows<'a>(
-    rows: &mut Vec<Row<'a>>,
-    definitions: &'a Definitions<'a>,
+fn add_rows<'d, 'a>(
+    rows: &mut Vec<Row<'d, 'a>>,
+    definitions: &'d Definitions<'a>,
     place: Place,
     seats: &Seats<'a>,
     section: &'a Section,
@@ -140,9 +140,9 @@ fn add_rows<'a>(
     }
 }
 
-fn add_entries<'a>(
-    rows: &mut Vec<Row<'a>>,
-    definitions: &'a Definitions<'a>,
+fn add_entries<'d, 'a>(
+    rows: &mut Vec<Row<'d, 'a>>,
+    definitions: &'d Definitions<'a>,
     place: Place,
     seats: &Seats<'a>,
     section: &'a [u8],
@@ -156,8 +156,8 @@ fn add_entries<'a>(
     Ok(())
 }
 
-fn add_players<'a>(
-    rows: &mut Vec<Row<'a>>,
+fn add_players<'d, 'a>(
+    rows: &mut Vec<Row<'d, 'a>>,
     place: Place,
     section: &'a [u8],
     players: &'a [Player],
@@ -171,13 +171,13 @@ fn add_players<'a>(
 }
 
 /// The row of an entry in the section of this name.
-fn entry_row<'a>(
-    definitions: &'a Definitions<'a>,
+fn entry_row<'d, 'a>(
+    definitions: &'d Definitions<'a>,
     place: Place,
     seats: &Seats<'a>,
     section: &'a [u8],
     entry: &'a Entry,
-) -> Row<'a>
+) -> Row<'d, 'a>
     ensures { row_view result ≡ entry_row definitions.now place (found_seat seats.now) section.now (entry_view entry.now) }
 {
     if section == SHOTS_NAME {
@@ -190,12 +190,12 @@ fn entry_row<'a>(
 }
 
 /// That of a shot.
-fn shot_row<'a>(
-    definitions: &'a Definitions<'a>,
+fn shot_row<'d, 'a>(
+    definitions: &'d Definitions<'a>,
     place: Place,
     seats: &Seats<'a>,
     entry: &'a Entry,
-) -> Row<'a>
+) -> Row<'d, 'a>
     ensures { row_view result ≡ shot_row definitions.now place (found_seat seats.now) (shot_of (entry_view entry.now)) }
 {
     let shot = as_shot(entry);

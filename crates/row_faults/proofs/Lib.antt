@@ -1,4 +1,6 @@
 pub mod ByLine
 pub mod RowFaults
+pub mod Listed
 pub mod None
+pub mod Called
 pub mod Sound

@@ -55,3 +55,18 @@ once-none (f ∷ fs) e = absurd (filled f _ e)
 pub All-each : {X Y : Type 0} (P : Y → Type 0) (f : X → List Y) (xs : List X) → All (λ x. All P (f x)) xs → All P (flat_map f xs)
 All-each P f [] h = All-nil P
 All-each P f (x ∷ xs) h = All-append P (f x) (flat_map f xs) (All-head (λ y. All P (f y)) x xs h) (All-each P f xs (All-tail (λ y. All P (f y)) x xs h))
+
+-- the same the other way round
+All-front : {X : Type 0} (P : X → Type 0) (xs ys : List X) → All P (xs ++ ys) → All P xs × All P ys
+All-front P [] ys h = (All-nil P, h)
+All-front P (x ∷ xs) ys h =
+    let rest = All-front P xs ys (All-tail P x (xs ++ ys) h) in
+    (All-cons P x xs (All-head P x (xs ++ ys) h) rest.0, rest.1)
+
+pub each-All : {X Y : Type 0} (P : Y → Type 0) (f : X → List Y) (xs : List X) → All P (flat_map f xs) → All (λ x. All P (f x)) xs
+each-All P f [] h = All-nil (λ x. All P (f x))
+each-All P f (x ∷ xs) h = let both = All-front P (f x) (flat_map f xs) h in All-cons (λ x. All P (f x)) x xs both.0 (each-All P f xs both.1)
+
+pub map-All : {X Y : Type 0} (P : Y → Type 0) (f : X → Y) (xs : List X) → All P (map f xs) → All (λ x. P (f x)) xs
+map-All P f [] h = All-nil (λ x. P (f x))
+map-All P f (x ∷ xs) h = All-cons (λ x. P (f x)) x xs (All-head P (f x) (map f xs) h) (map-All P f xs (All-tail P (f x) (map f xs) h))

@@ -21,12 +21,14 @@ use Rattle.mpf_config.specs.BundleText.{machine_name, mode_text_name}
 use Rattle.mpf_sections.specs.Typed.{timers_in}
 use Rattle.mpf_sections.specs.Rows.{VariableItem, VariablePlayer}
 use Rattle.mpf_sections.specs.TypedGame.{variable_players_in}
+use Rattle.mpf_sections.specs.TypedShots.{shots_in}
 use Rattle.machine_definitions.specs.GameEvents.{reserved_game_events}
 use Rattle.machine_definitions.specs.Players.{player_event, is_set_by_game}
 use Rattle.row_faults.specs.declared.fault.RowFaultKind.TheVariants.{Name}
 use Rattle.row_faults.specs.CoilFaults.{fault_if}
 use Rattle.row_faults.specs.Reserved.{mode_events, events_of_modes, posts_in}
-use Rattle.row_faults.specs.RowFaults.{fault_line, fault_number, ordered_by, reserved_fault, starts_at_end, timer_fault, coil_faults_in, faults_by, listed_once}
+use Rattle.row_faults.specs.RowFaults.{fault_line, fault_number, ordered_by, name_fault, starts_at_end, timer_fault, coil_faults_in, section_faults, written_faults, text_faults, mode_faults, is_none_taken, faults_by, listed_once}
+use Rattle.row_faults.specs.ShotFaults.{shot_faults, listed_in, listed_of, is_own_shot, taken_after, misplaced}
 use Rattle.row_faults.specs.View.{row_fault_view, row_faults_view}
 
 -- ---- sets
@@ -118,17 +120,42 @@ barred_by test v = is_set_by_game v || (is_among reserved_game_events (player_ev
 abbrev variables_by : (List ℕ → Bool) → List ℕ → SectionRows → List RowFaultView
 variables_by test text s = flat_map (λ (p : VariablePlayer). flat_map (λ (i : VariableItem). fault_if (barred_by test i.variable.text) Name text i.variable) p.items) (variable_players_in s)
 
-abbrev texts_by : (List ℕ → Bool) → List SectionRows → List ℕ → List SectionRows → List RowFaultView
-texts_by test machine text sections =
-    ordered_by fault_line (ordered_by fault_number (flat_map (λ (s : SectionRows). map (reserved_fault text) (filter (λ w. is_among reserved_game_events w.text || test w.text) (posts_in s))
-    ++ variables_by test text s ++ coil_faults_in machine text s ++ map (timer_fault text) (filter starts_at_end (timers_in s))) sections))
-
-abbrev all_by : (List ℕ → Bool) → Rows → List RowFaultView
-all_by test rows = texts_by test rows.machine machine_name rows.machine ++ flat_map (λ (m : ModeRows). texts_by test rows.machine (mode_text_name m.name) m.sections) rows.modes
+abbrev section_by : (List ℕ → Bool) → Rows → (is_own is_taken : List ℕ → Bool) → List ℕ → SectionRows → List RowFaultView
+section_by test rows is_own is_taken text s =
+    map (name_fault text) (filter (λ w. is_among reserved_game_events w.text || test w.text) (posts_in s))
+    ++ variables_by test text s
+    ++ coil_faults_in rows.machine text s
+    ++ flat_map (shot_faults rows text) (shots_in s)
+    ++ map (name_fault text) (misplaced rows is_own is_taken (listed_in rows s))
+    ++ map (timer_fault text) (filter starts_at_end (timers_in s))
 
 -- only what is among the events of modes matters
-pub same_faults : (modes others : List (List ℕ)) (rows : Rows) → ((q : List ℕ) → is_among modes q ≡ is_among others q) → faults_by modes rows ≡ faults_by others rows
-same_faults modes others rows same = ap (λ (test : List ℕ → Bool). all_by test rows) (λ i q. same q i)
+module _ (modes others : List (List ℕ)) (rows : Rows) (same : (q : List ℕ) → is_among modes q ≡ is_among others q) where
+  same_section : (is_own is_taken : List ℕ → Bool) (text : List ℕ) (s : SectionRows) → section_faults modes rows is_own is_taken text s ≡ section_faults others rows is_own is_taken text s
+  same_section is_own is_taken text s = ap (λ (test : List ℕ → Bool). section_by test rows is_own is_taken text s) (λ i q. same q i)
+
+  same_written : (is_own is_taken : List ℕ → Bool) (text : List ℕ) (ss : List SectionRows) → written_faults modes rows is_own is_taken text ss ≡ written_faults others rows is_own is_taken text ss
+  same_written is_own is_taken text [] = refl
+  same_written is_own is_taken text (s ∷ ss) =
+      let later = taken_after is_taken (listed_in rows s) in
+      ap (λ (fs : List RowFaultView). fs ++ written_faults modes rows is_own later text ss) (same_section is_own is_taken text s)
+      ∙ ap (λ (fs : List RowFaultView). section_faults others rows is_own is_taken text s ++ fs) (same_written is_own later text ss)
+
+  same_text : (is_taken : List ℕ → Bool) (text : List ℕ) (sections : List SectionRows) → text_faults modes rows is_taken text sections ≡ text_faults others rows is_taken text sections
+  same_text is_taken text sections = ap (λ (fs : List RowFaultView). ordered_by fault_line (ordered_by fault_number fs)) (same_written (is_own_shot sections) is_taken text sections)
+
+  same_modes : (is_taken : List ℕ → Bool) (ms : List ModeRows) → mode_faults modes rows is_taken ms ≡ mode_faults others rows is_taken ms
+  same_modes is_taken [] = refl
+  same_modes is_taken (m ∷ ms) =
+      let later = taken_after is_taken (listed_of rows m.sections) in
+      ap (λ (fs : List RowFaultView). fs ++ mode_faults modes rows later ms) (same_text is_taken (mode_text_name m.name) m.sections)
+      ∙ ap (λ (fs : List RowFaultView). text_faults others rows is_taken (mode_text_name m.name) m.sections ++ fs) (same_modes later ms)
+
+  pub same_faults : faults_by modes rows ≡ faults_by others rows
+  same_faults =
+      let later = taken_after is_none_taken (listed_of rows rows.machine) in
+      ap (λ (fs : List RowFaultView). fs ++ mode_faults modes rows later rows.modes) (same_text is_none_taken machine_name rows.machine)
+      ∙ ap (λ (fs : List RowFaultView). text_faults others rows is_none_taken machine_name rows.machine ++ fs) (same_modes later rows.modes)
 
 -- ---- the events of modes, of two lists of names
 

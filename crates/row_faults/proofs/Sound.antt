@@ -1,29 +1,33 @@
 -- Rows without faults are sound.
-use Rattle.std.proofs.Common.{◌≡◌, ℕ, ◌≤◌, nat_lt, get_or, Bool, true, false, not, ◌&&◌, ◌||◌, List, [], ◌++◌, map, filter, Option, Some, None, IfSome, unwrap_or, refl}
+use Rattle.std.proofs.Common.{◌≡◌, ℕ, ◌≤◌, nat_lt, get_or, Bool, true, false, not, ◌&&◌, ◌||◌, List, [], ◌∷◌, ◌++◌, map, filter, Option, Some, None, IfSome, is_some, unwrap_or, refl}
 use Rattle.std.specs.Option.{is_none}
 use Rattle.std.specs.List.{All, flat_map}
 use Rattle.std.proofs.lemmas.Bool.{ltb-false, not-false}
-use Rattle.std.proofs.lemmas.List.Elements.{All-weaker}
+use Rattle.std.proofs.lemmas.List.Elements.{All-nil, All-cons, All-weaker}
 use Rattle.mpf_sections.specs.declared.words.CoilAction.{CoilAction}
 use Rattle.mpf_sections.specs.declared.words.CoilAction.TheVariants.{Pulse, Enable, Disable}
-use Rattle.mpf_sections.specs.Rows.{Written, Coil, CoilItem, CoilPlayer, Flipper, Autofire, VariableItem, VariablePlayer, SectionRows}
+use Rattle.mpf_sections.specs.Rows.{Written, Coil, CoilItem, CoilPlayer, Flipper, Autofire, VariableItem, VariablePlayer, Shot, ShotGroup, SectionRows}
 use Rattle.mpf_sections.specs.Typed.{timers_in}
 use Rattle.mpf_sections.specs.TypedCoils.{coils_in, coil_players_in, flippers_in, autofires_in}
 use Rattle.mpf_sections.specs.TypedGame.{variable_players_in}
+use Rattle.mpf_sections.specs.TypedShots.{shots_in, shot_groups_in}
 use Rattle.row_faults.specs.VariableFaults.{is_barred, variable_item_faults, variable_player_faults, variable_faults}
 use Rattle.mpf_sections.specs.Short.{IsPulseInRange, IsCoilInRange, IsItemInRange, IsCoilPlayerInRange}
 use Rattle.mpf_sections.proofs.CoilRows.{coils_in_range, coil_players_in_range}
 use Rattle.mpf_config.specs.Rows.{ModeRows, Rows}
 use Rattle.mpf_config.specs.BundleText.{machine_name, mode_text_name}
 use Rattle.machine_definitions.specs.Definitions.{coil_called, has_switch}
+use Rattle.machine_definitions.specs.Shots.{shot_called, has_profile}
 use Rattle.machine_definitions.proofs.Called.{called-such}
 use Rattle.row_faults.specs.declared.fault.RowFaultKind.{RowFaultKind}
 use Rattle.row_faults.specs.declared.fault.RowFaultKind.TheVariants.{Name, PulseLimit, PowerLimit, HoldNotAllowed}
 use Rattle.row_faults.specs.Reserved.{events_of_modes, mode_names, is_reserved_by, posts_in, posts_of, reserved_among}
 use Rattle.row_faults.specs.CoilFaults.{fault_at, fault_if, is_above, is_enable, coil_name_faults, switch_name_faults, coil_faults, item_faults_by, item_faults, coil_player_faults, hold_faults_by, hold_faults, flipper_faults, autofire_faults}
-use Rattle.row_faults.specs.RowFaults.{fault_line, fault_number, ordered_by, reserved_fault, starts_at_end, timer_fault, coil_faults_in, section_faults, text_faults, mode_faults, faults_by, row_faults}
-use Rattle.row_faults.specs.Sound.{ChangesNothingBarred, IsHoldWithin, IsCoilSound, IsCoilSuch, IsActionWithin, IsItemSound, IsCoilPlayerSound, IsFlipperSound, IsAutofireSound, IsSectionSound, IsSound}
-use Rattle.row_faults.proofs.None.{filled, map-none, append-none, flat_map-none, filter-none, ordered-none, once-none, All-each}
+use Rattle.row_faults.specs.RowFaults.{fault_line, fault_number, ordered_by, name_fault, starts_at_end, timer_fault, coil_faults_in, section_faults, written_faults, text_faults, mode_faults, is_none_taken, faults_by, row_faults}
+use Rattle.row_faults.specs.ShotFaults.{shot_switch_faults, shot_faults, Listed, first_shot, listed_by, listed_in, listed_of, is_own_shot, are_of_two_profiles, is_misplaced, taken_with, taken_after, kept_if, misplaced}
+use Rattle.row_faults.specs.Sound.{ChangesNothingBarred, IsHoldWithin, IsCoilSound, IsCoilSuch, IsActionWithin, IsItemSound, IsCoilPlayerSound, IsFlipperSound, IsAutofireSound, IsShotSound, IsShotGroupSound, IsSectionSound, IsSound}
+use Rattle.row_faults.proofs.None.{filled, map-none, append-none, flat_map-none, filter-none, ordered-none, once-none, All-each, each-All, map-All}
+use Rattle.row_faults.proofs.Called.{machine-called, mode-called}
 
 -- ---- tests that find nothing
 
@@ -140,51 +144,99 @@ module _ (machine : List SectionRows) (all : All IsCoilSound (flat_map coils_in 
       let parts = append-none (coil_name_faults machine text a.coil) (switch_name_faults machine text a.switch) e in
       record { coil = named-sound a.coil parts.0; switch = switch-sound a.switch parts.1 }
 
+-- ---- shots, and the shots that groups list
+
+shot-sound : (rows : Rows) (text : List ℕ) (s : Shot) → shot_faults rows text s ≡ [] → IsShotSound rows s
+shot-sound rows text s e =
+    let parts = append-none (shot_switch_faults rows.machine text s.switch) (fault_if (not (has_profile rows s.profile.text)) Name text s.profile) e in
+    record { switch = hit-sound s.switch parts.0; profile = not-false (has_profile rows s.profile.text) (fault_if-none _ Name text s.profile parts.1) }
+  where
+    hit-sound : (o : Option Written) → shot_switch_faults rows.machine text o ≡ [] → IfSome o (λ w. has_switch rows.machine w.text ≡ true)
+    hit-sound None e = tt
+    hit-sound (Some w) e = not-false (has_switch rows.machine w.text) (fault_if-none _ Name text w e)
+
+kept-none : (b : Bool) (w : Written) (ws : List Written) → kept_if b w ws ≡ [] → (b ≡ false) × (ws ≡ [])
+kept-none true w ws e = absurd (filled w ws e)
+kept-none false w ws e = (refl, e)
+
+-- groups in which no name is misplaced list shots of their own text
+listed-own : (rows : Rows) (is_own is_taken : List ℕ → Bool) (ls : List Listed) → misplaced rows is_own is_taken ls ≡ [] → All (λ l. is_own l.shot.text ≡ true) ls
+listed-own rows is_own is_taken [] e = All-nil (λ l. is_own l.shot.text ≡ true)
+listed-own rows is_own is_taken (l ∷ ls) e =
+    let both = kept-none (is_misplaced rows is_own is_taken l) l.shot (misplaced rows is_own (taken_with l is_taken) ls) e in
+    let front = or-none (not (is_own l.shot.text) || is_taken l.shot.text) (are_of_two_profiles l.first (shot_called rows l.shot.text)) both.0 in
+    let other = or-none (not (is_own l.shot.text)) (is_taken l.shot.text) front.0 in
+    All-cons (λ l. is_own l.shot.text ≡ true) l ls (not-false (is_own l.shot.text) other.0) (listed-own rows is_own (taken_with l is_taken) ls both.1)
+
+module _ (rows : Rows) (is_own : List ℕ → Bool) (called : (name : List ℕ) → is_own name ≡ true → is_some (shot_called rows name) ≡ true) where
+  group-sound : (g : ShotGroup) → All (λ l. is_own l.shot.text ≡ true) (listed_by rows g) → IsShotGroupSound rows g
+  group-sound g own =
+      All-weaker (λ w. is_own w.text ≡ true) (λ w. is_some (shot_called rows w.text) ≡ true) (λ w e. called w.text e) g.shots
+      (map-All (λ l. is_own l.shot.text ≡ true) (λ w. record { first = first_shot rows g.shots; shot = w }) g.shots own)
+
+  groups-sound : (s : SectionRows) → All (λ l. is_own l.shot.text ≡ true) (listed_in rows s) → All (IsShotGroupSound rows) (shot_groups_in s)
+  groups-sound s own =
+      All-weaker (λ g. All (λ l. is_own l.shot.text ≡ true) (listed_by rows g)) (IsShotGroupSound rows) group-sound (shot_groups_in s)
+      (each-All (λ l. is_own l.shot.text ≡ true) (listed_by rows) (shot_groups_in s) own)
+
 -- ---- sections
 
-module _ (modes : List (List ℕ)) (machine : List SectionRows) (text : List ℕ) where
-  -- of a section without faults the parts are none
+module _ (modes : List (List ℕ)) (rows : Rows) (is_own : List ℕ → Bool) (text : List ℕ) where
+  -- of a section without faults the parts are none, and its groups list shots of its own text
   record HasNone (s : SectionRows) : Type 0 where
     pub posts : reserved_among modes (posts_in s) ≡ []
     pub variables : All (λ p. variable_player_faults modes text p ≡ []) (variable_players_in s)
     pub coils : All (λ c. coil_faults text c ≡ []) (coils_in s)
-    pub players : All (λ p. coil_player_faults machine text p ≡ []) (coil_players_in s)
-    pub flippers : All (λ f. flipper_faults machine text f ≡ []) (flippers_in s)
-    pub autofires : All (λ a. autofire_faults machine text a ≡ []) (autofires_in s)
+    pub players : All (λ p. coil_player_faults rows.machine text p ≡ []) (coil_players_in s)
+    pub flippers : All (λ f. flipper_faults rows.machine text f ≡ []) (flippers_in s)
+    pub autofires : All (λ a. autofire_faults rows.machine text a ≡ []) (autofires_in s)
+    pub shots : All (λ t. shot_faults rows text t ≡ []) (shots_in s)
+    pub listed : All (λ l. is_own l.shot.text ≡ true) (listed_in rows s)
 
-  section-none : (s : SectionRows) → section_faults modes machine text s ≡ [] → HasNone s
-  section-none s e =
-      let posts = map (reserved_fault text) (reserved_among modes (posts_in s)) in
+  section-none : (is_taken : List ℕ → Bool) (s : SectionRows) → section_faults modes rows is_own is_taken text s ≡ [] → HasNone s
+  section-none is_taken s e =
+      let machine = rows.machine in
+      let posts = map (name_fault text) (reserved_among modes (posts_in s)) in
       let coils = flat_map (coil_faults text) (coils_in s) in
       let players = flat_map (coil_player_faults machine text) (coil_players_in s) in
       let flippers = flat_map (flipper_faults machine text) (flippers_in s) in
       let autofires = flat_map (autofire_faults machine text) (autofires_in s) in
       let variables = variable_faults modes text s in
-      let all = append-none ((posts ++ variables) ++ coil_faults_in machine text s) (map (timer_fault text) (filter starts_at_end (timers_in s))) e in
-      let front = append-none (posts ++ variables) (coil_faults_in machine text s) all.0 in
+      let shots = flat_map (shot_faults rows text) (shots_in s) in
+      let names = misplaced rows is_own is_taken (listed_in rows s) in
+      let all = append-none ((((posts ++ variables) ++ coil_faults_in machine text s) ++ shots) ++ map (name_fault text) names) (map (timer_fault text) (filter starts_at_end (timers_in s))) e in
+      let most = append-none (((posts ++ variables) ++ coil_faults_in machine text s) ++ shots) (map (name_fault text) names) all.0 in
+      let more = append-none ((posts ++ variables) ++ coil_faults_in machine text s) shots most.0 in
+      let front = append-none (posts ++ variables) (coil_faults_in machine text s) more.0 in
       let events = append-none posts variables front.0 in
       let last = append-none ((coils ++ players) ++ flippers) autofires front.1 in
       let third = append-none (coils ++ players) flippers last.0 in
       let first = append-none coils players third.0 in
       record {
-        posts = map-none (reserved_fault text) (reserved_among modes (posts_in s)) events.0;
+        posts = map-none (name_fault text) (reserved_among modes (posts_in s)) events.0;
         variables = flat_map-none (variable_player_faults modes text) (variable_players_in s) events.1;
         coils = flat_map-none (coil_faults text) (coils_in s) first.0;
         players = flat_map-none (coil_player_faults machine text) (coil_players_in s) first.1;
         flippers = flat_map-none (flipper_faults machine text) (flippers_in s) third.1;
         autofires = flat_map-none (autofire_faults machine text) (autofires_in s) last.1;
+        shots = flat_map-none (shot_faults rows text) (shots_in s) more.1;
+        listed = listed-own rows is_own is_taken (listed_in rows s) (map-none (name_fault text) names most.1);
       }
 
   coils-sound : (s : SectionRows) → HasNone s → All IsCoilSound (coils_in s)
   coils-sound s h = λ i d within. coil-sound text (get_or (coils_in s) i d) (coils_in_range s i d within) (h.coils i d within)
 
-  section-sound : All IsCoilSound (flat_map coils_in machine) → (s : SectionRows) → HasNone s → IsSectionSound machine s
-  section-sound all s h = record {
-    coils = coils-sound s h;
-    coil_players = λ i d within. player-sound machine all text (get_or (coil_players_in s) i d) (coil_players_in_range s i d within) (h.players i d within);
-    flippers = λ i d within. flipper-sound machine all text (get_or (flippers_in s) i d) (h.flippers i d within);
-    autofires = λ i d within. autofire-sound machine all text (get_or (autofires_in s) i d) (h.autofires i d within);
-  }
+  section-sound : All IsCoilSound (flat_map coils_in rows.machine) → ((name : List ℕ) → is_own name ≡ true → is_some (shot_called rows name) ≡ true) → (s : SectionRows) → HasNone s → IsSectionSound rows s
+  section-sound all called s h =
+      let machine = rows.machine in
+      record {
+        coils = coils-sound s h;
+        coil_players = λ i d within. player-sound machine all text (get_or (coil_players_in s) i d) (coil_players_in_range s i d within) (h.players i d within);
+        flippers = λ i d within. flipper-sound machine all text (get_or (flippers_in s) i d) (h.flippers i d within);
+        autofires = λ i d within. autofire-sound machine all text (get_or (autofires_in s) i d) (h.autofires i d within);
+        shots = λ i d within. shot-sound rows text (get_or (shots_in s) i d) (h.shots i d within);
+        groups = groups-sound rows is_own called s h.listed;
+      }
 
   -- no variable is changed that no row may change
   item-free : (item : VariableItem) → variable_item_faults modes text item ≡ [] → is_barred modes item.variable.text ≡ false
@@ -199,11 +251,12 @@ module _ (modes : List (List ℕ)) (machine : List SectionRows) (text : List ℕ
   section-free s h =
       All-weaker (λ p. variable_player_faults modes text p ≡ []) (λ p. All (λ item. is_barred modes item.variable.text ≡ false) p.items) player-free (variable_players_in s) h.variables
 
-  text-none : (sections : List SectionRows) → text_faults modes machine text sections ≡ [] → All HasNone sections
-  text-none sections e =
-      let all = flat_map (section_faults modes machine text) sections in
-      let none = flat_map-none (section_faults modes machine text) sections (ordered-none fault_number all (ordered-none fault_line (ordered_by fault_number all) e)) in
-      All-weaker (λ s. section_faults modes machine text s ≡ []) HasNone section-none sections none
+  sections-none : (is_taken : List ℕ → Bool) (ss : List SectionRows) → written_faults modes rows is_own is_taken text ss ≡ [] → All HasNone ss
+  sections-none is_taken [] e = All-nil HasNone
+  sections-none is_taken (s ∷ ss) e =
+      let later = taken_after is_taken (listed_in rows s) in
+      let both = append-none (section_faults modes rows is_own is_taken text s) (written_faults modes rows is_own later text ss) e in
+      All-cons HasNone s ss (section-none is_taken s both.0) (sections-none later ss both.1)
 
   -- no post of the sections is reserved
   text-free : (sections : List SectionRows) → All HasNone sections → All (λ w. is_reserved_by modes w.text ≡ false) (posts_of sections)
@@ -213,26 +266,56 @@ module _ (modes : List (List ℕ)) (machine : List SectionRows) (text : List ℕ
 
 -- ---- all texts
 
+module _ (modes : List (List ℕ)) (rows : Rows) where
+  -- no section of a text has faults
+  abbrev TextHasNone : List ℕ → List SectionRows → Type 0
+  TextHasNone text sections = All (HasNone modes rows (is_own_shot sections) text) sections
+
+  text-none : (is_taken : List ℕ → Bool) (text : List ℕ) (sections : List SectionRows) → text_faults modes rows is_taken text sections ≡ [] → TextHasNone text sections
+  text-none is_taken text sections e =
+      let all = written_faults modes rows (is_own_shot sections) is_taken text sections in
+      sections-none modes rows (is_own_shot sections) text is_taken sections (ordered-none fault_number all (ordered-none fault_line (ordered_by fault_number all) e))
+
+  abbrev ModeHasNone : ModeRows → Type 0
+  ModeHasNone m = TextHasNone (mode_text_name m.name) m.sections
+
+  modes-none : (is_taken : List ℕ → Bool) (ms : List ModeRows) → mode_faults modes rows is_taken ms ≡ [] → All ModeHasNone ms
+  modes-none is_taken [] e = All-nil ModeHasNone
+  modes-none is_taken (m ∷ ms) e =
+      let later = taken_after is_taken (listed_of rows m.sections) in
+      let both = append-none (text_faults modes rows is_taken (mode_text_name m.name) m.sections) (mode_faults modes rows later ms) e in
+      All-cons ModeHasNone m ms (text-none is_taken (mode_text_name m.name) m.sections both.0) (modes-none later ms both.1)
+
+  text-sound : All IsCoilSound (flat_map coils_in rows.machine) → (text : List ℕ) (sections : List SectionRows) → ((name : List ℕ) → is_own_shot sections name ≡ true → is_some (shot_called rows name) ≡ true) → TextHasNone text sections
+      → All (IsSectionSound rows) sections
+  text-sound all text sections called h =
+      All-weaker (HasNone modes rows (is_own_shot sections) text) (IsSectionSound rows) (section-sound modes rows (is_own_shot sections) text all called) sections h
+
+  text-changes : (text : List ℕ) (sections : List SectionRows) → TextHasNone text sections → All (λ s. All (λ p. All (λ item. is_barred modes item.variable.text ≡ false) p.items) (variable_players_in s)) sections
+  text-changes text sections h =
+      All-weaker (HasNone modes rows (is_own_shot sections) text) (λ s. All (λ p. All (λ item. is_barred modes item.variable.text ≡ false) p.items) (variable_players_in s))
+      (section-free modes rows (is_own_shot sections) text) sections h
+
 pub no_faults_sound : (rows : Rows) → row_faults rows ≡ [] → IsSound rows
 unfolding row_faults
 no_faults_sound rows none =
     let modes = events_of_modes (mode_names rows) in
     let machine = rows.machine in
-    let parts = append-none (text_faults modes machine machine_name machine) (flat_map (mode_faults modes machine) rows.modes) (once-none (faults_by modes rows) none) in
-    let own = text-none modes machine machine_name machine parts.0 in
-    let each = flat_map-none (mode_faults modes machine) rows.modes parts.1 in
+    let later = taken_after is_none_taken (listed_of rows machine) in
+    let parts = append-none (text_faults modes rows is_none_taken machine_name machine) (mode_faults modes rows later rows.modes) (once-none (faults_by modes rows) none) in
+    let own : TextHasNone modes rows machine_name machine = text-none modes rows is_none_taken machine_name machine parts.0 in
+    let each : All (ModeHasNone modes rows) rows.modes = modes-none modes rows later rows.modes parts.1 in
     let text_of = λ (m : ModeRows). mode_text_name m.name in
-    let all = All-each IsCoilSound coils_in machine (All-weaker (HasNone modes machine machine_name) (λ s. All IsCoilSound (coils_in s)) (coils-sound modes machine machine_name) machine own) in
+    let all = All-each IsCoilSound coils_in machine
+    (All-weaker (HasNone modes rows (is_own_shot machine) machine_name) (λ s. All IsCoilSound (coils_in s)) (coils-sound modes rows (is_own_shot machine) machine_name) machine own) in
     record {
       posts = record {
-        machine = text-free modes machine machine_name machine own;
-        modes = All-weaker (λ m. mode_faults modes machine m ≡ []) (λ m. All (λ w. is_reserved_by modes w.text ≡ false) (posts_of m.sections))
-            (λ m e. text-free modes machine (text_of m) m.sections (text-none modes machine (text_of m) m.sections e)) rows.modes each;
+        machine = text-free modes rows (is_own_shot machine) machine_name machine own;
+        modes = All-weaker (ModeHasNone modes rows) (λ m. All (λ w. is_reserved_by modes w.text ≡ false) (posts_of m.sections))
+            (λ m h. text-free modes rows (is_own_shot m.sections) (text_of m) m.sections h) rows.modes each;
       };
-      changes = All-weaker (HasNone modes machine machine_name) (ChangesNothingBarred rows) (section-free modes machine machine_name) machine own;
-      mode_changes = All-weaker (λ m. mode_faults modes machine m ≡ []) (λ m. All (ChangesNothingBarred rows) m.sections)
-          (λ m e. All-weaker (HasNone modes machine (text_of m)) (ChangesNothingBarred rows) (section-free modes machine (text_of m)) m.sections (text-none modes machine (text_of m) m.sections e)) rows.modes each;
-      machine = All-weaker (HasNone modes machine machine_name) (IsSectionSound machine) (section-sound modes machine machine_name all) machine own;
-      modes = All-weaker (λ m. mode_faults modes machine m ≡ []) (λ m. All (IsSectionSound machine) m.sections)
-          (λ m e. All-weaker (HasNone modes machine (text_of m)) (IsSectionSound machine) (section-sound modes machine (text_of m) all) m.sections (text-none modes machine (text_of m) m.sections e)) rows.modes each;
+      changes = text-changes modes rows machine_name machine own;
+      mode_changes = All-weaker (ModeHasNone modes rows) (λ m. All (ChangesNothingBarred rows) m.sections) (λ m h. text-changes modes rows (text_of m) m.sections h) rows.modes each;
+      machine = text-sound modes rows all machine_name machine (λ name. machine-called name rows) own;
+      modes = λ i d within. text-sound modes rows all (text_of (get_or rows.modes i d)) (get_or rows.modes i d).sections (λ name. mode-called name rows i d within) (each i d within);
     }

@@ -58,6 +58,7 @@ pub struct RowFault {
     pub text: Vec<u8>,
     /// The line of what is at fault, counted from 1.
     pub line: u32,
-    /// The name that is at fault: that of the event, the coil, the switch or the timer.
+    /// The name that is at fault: that of the event, the variable, the coil, the switch, the
+    /// profile, the shot or the timer.
     pub name: Vec<u8>,
 }

@@ -45,16 +45,17 @@ pub fn faults_of_rows(alloc: Global, config: &Config) -> Result<Vec<RowFault>, A
 }
 
 /// The faults of all texts: of the machine text, then of the modes' in their order.
-fn faults_of_texts(
+fn faults_of_texts<'a>(
     alloc: Global,
     modes: &ModeEvents,
-    config: &Config,
+    config: &'a Config,
 ) -> Result<Vec<RowFault>, AllocError>
     ensures { IfOk result (λ faults. row_faults_view faults.items ≡ faults_by (keys_view modes.now) (rows_view config.now)) }
 {
     let definitions = Definitions::new(alloc, config)?;
-    let mut taken = BTreeSet::new(alloc);
-    let machine = config.machine.sections.as_slice();
+    let machine: &'a [Section] = config.machine.sections.as_slice();
+    let texts: &'a [ModeText] = config.modes.as_slice();
+    let mut taken: Shots<'a> = BTreeSet::new(alloc);
     let mut faults = faults_of_text(
         alloc,
         &mut taken,
@@ -63,14 +64,7 @@ fn faults_of_texts(
         MACHINE_NAME,
         machine,
     )?;
-    add_modes(
-        alloc,
-        &mut faults,
-        &mut taken,
-        modes,
-        &definitions,
-        &config.modes,
-    )?;
+    add_modes(alloc, &mut faults, &mut taken, modes, &definitions, texts)?;
     Ok(faults)
 }
 
@@ -131,17 +125,17 @@ fn faults_of_text<'a>(
 /// What faults of a text depend on: the events of modes, what entries define, and the shots that the
 /// text itself defines.
 #[derive(Clone, Copy)]
-struct Known<'k> {
+struct Known<'k, 'd, 'o> {
     modes: &'k ModeEvents,
-    definitions: &'k Definitions<'k>,
-    own: &'k Shots<'k>,
+    definitions: &'k Definitions<'d>,
+    own: &'k Shots<'o>,
 }
 
 /// The faults of the sections of the text of this name, as written.
 fn written_faults<'a>(
     alloc: Global,
     taken: &mut Shots<'a>,
-    known: Known<'_>,
+    known: Known<'_, '_, '_>,
     text: &[u8],
     sections: &'a [Section],
 ) -> Result<Vec<RowFault>, AllocError>
@@ -176,7 +170,7 @@ fn add_section<'a>(
     alloc: Global,
     faults: &mut Vec<RowFault>,
     taken: &mut Shots<'a>,
-    known: Known<'_>,
+    known: Known<'_, '_, '_>,
     text: &[u8],
     section: &'a Section,
 ) -> Result<(), AllocError>

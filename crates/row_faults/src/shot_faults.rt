@@ -91,8 +91,9 @@ pub(crate) fn misplaced_shots<'a>(
     ensures names { IfOk result (λ names. written_view names.items ≡ misplaced definitions.now (is_found own.now) (is_found taken.old) (listed_in definitions.now (section_view section.now))) }
     ensures taken { IfOk result (λ _. is_found taken.new ≡ taken_after (is_found taken.old) (listed_in definitions.now (section_view section.now))) }
 {
-    let mut names = Vec::new(alloc);
-    note_groups(&mut names, taken, definitions, own, section.shot_groups())?;
+    let groups: &'a [Entry] = section.shot_groups();
+    let mut names: Vec<&'a Name> = Vec::new(alloc);
+    note_groups(&mut names, taken, definitions, own, groups)?;
     Ok(names)
 }
 
@@ -178,11 +179,7 @@ fn note_shots<'a>(
 }
 
 /// Adds a name, where it is misplaced.
-fn note_if<'a>(
-    names: &mut Vec<&'a Name>,
-    misplaced: bool,
-    name: &'a Name,
-) -> Result<(), AllocError>
+fn note_if<'a>(names: &mut Vec<&'a Name>, misplaced: bool, name: &'a Name) -> Result<(), AllocError>
     ensures { OnOk result (written_view names.new.items ≡ written_view names.old.items ++ kept_if misplaced (name_view name.now) []) }
 {
     if misplaced {
@@ -201,9 +198,16 @@ fn is_misplaced(
 ) -> bool
     ensures { (line : ℕ) → result ≡ is_misplaced definitions.now (is_found own.now) (is_found taken.now) (record { first = option_map shot_view first.entry; shot = record { line = line; text = name.now } }) }
 {
-    !own.contains(name)
-        || taken.contains(name)
+    !has_name(own, name)
+        || has_name(taken, name)
         || are_of_two_profiles(first, definitions.shot(name))
+}
+
+/// Whether one of these names is this one.
+fn has_name(names: &Shots<'_>, name: &[u8]) -> bool
+    ensures { result ≡ is_found names.now name.now }
+{
+    names.contains(name)
 }
 
 /// Whether two shots have different profiles.

@@ -11,7 +11,7 @@ use Rattle.mpf_plan.proofs.Drafted.{entries_count, coils_count}
 use Rattle.mpf_plan.proofs.Planned.{refused_exact, refused_limit, rows_within, is_plan, is_planned, is_valid, modes_few, acts_few, lists_within}
 use Rattle.mpf_plan.proofs.build.plan.Goals as goal
 
-machine_of : Rows → List SectionRows
+abbrev machine_of : Rows → List SectionRows
 machine_of rows = rows.machine
 
 pub returns-in_err-names-clause-exact : goal.returns-in_err-names-clause-exact

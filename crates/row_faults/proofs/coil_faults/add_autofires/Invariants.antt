@@ -8,5 +8,5 @@ use Rattle.row_faults.proofs.coil_faults.add_autofires.Given as goal
 
 abbrev pub invariant-loop-entry : goal.invariant-loop-entry
 invariant-loop-entry l =
-    row_faults_view l.faults.items ++ flat_map (autofire_faults l.definitions l.text) (map autofire_of (map entry_view (drop l.entry-index l.entries)))
-    ≡ row_faults_view l.initial.faults.items ++ flat_map (autofire_faults l.definitions l.text) (map autofire_of (map entry_view l.entries))
+    row_faults_view l.faults.items ++ flat_map (autofire_faults l.definitions.machine l.text) (map autofire_of (map entry_view (drop l.entry-index l.entries)))
+    ≡ row_faults_view l.initial.faults.items ++ flat_map (autofire_faults l.definitions.machine l.text) (map autofire_of (map entry_view l.entries))

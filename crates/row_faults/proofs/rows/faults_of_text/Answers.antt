@@ -1,16 +1,14 @@
-use Rattle.std.proofs.Common.{◌≡◌, List, map, append-nil, ◌++◌, sym, ap, ◌∙◌}
-use Rattle.std.specs.List.{flat_map}
-use Rattle.std.proofs.lemmas.List.{drop_all}
-use Rattle.mpf_sections.specs.declared.section.Section.{Section}
+use Rattle.std.proofs.Common.{◌≡◌, ℕ, Bool, List, map, ap, ◌∙◌}
 use Rattle.mpf_sections.specs.View.{section_view}
-use Rattle.row_faults.specs.RowFaults.{fault_line, fault_number, ordered_by, section_faults}
-use Rattle.row_faults.specs.View.{keys_view, row_faults_view}
+use Rattle.machine_definitions.specs.Found.{is_found}
+use Rattle.row_faults.specs.RowFaults.{fault_line, fault_number, ordered_by, written_faults}
+use Rattle.row_faults.specs.ShotFaults.{is_own_shot}
+use Rattle.row_faults.specs.View.{keys_view}
 use Rattle.row_faults.proofs.rows.faults_of_text.Goals as goal
 
-pub returns : goal.returns
-returns c =
-    let given = c.loop-section.faults.items in
-    let each = section_faults (keys_view c.args.modes.now) c.args.definitions.now c.args.text.now in
-    let none = ap (λ (rest : List Section). row_faults_view given ++ flat_map each (map section_view rest)) (drop_all c.loop-section.section-index c.args.sections.now c.loop-section-test.false) in
-    let all : row_faults_view given ≡ flat_map each (map section_view c.args.sections.now) = sym (append-nil (row_faults_view given)) ∙ sym none ∙ c.loop-section.invariant in
-    c.in_ok-sort_by_line.ensures ∙ ap (ordered_by fault_line) (c.in_ok-sort_by_number.ensures ∙ ap (ordered_by fault_number) all)
+pub returns-clause-faults : goal.returns-clause-faults
+returns-clause-faults c =
+    let sections = map section_view c.args.sections.now in
+    let own : is_found c.in_ok-own.own ≡ is_own_shot sections = λ i name. c.in_ok-own.ensures name i in
+    let written = c.in_ok-faults.ensures.faults ∙ ap (λ (test : List ℕ → Bool). written_faults (keys_view c.args.modes.now) c.args.definitions.now test (is_found c.args.taken.now) c.args.text.now sections) own in
+    c.in_ok-sort_by_line.ensures ∙ ap (ordered_by fault_line) (c.in_ok-sort_by_number.ensures ∙ ap (ordered_by fault_number) written)
