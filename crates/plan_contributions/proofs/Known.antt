@@ -27,8 +27,8 @@ module _ {X Y : Type 0} (view : X → Y) (o : Option X) (called : Option Y) (see
   pub known : none ≡ false → is_some called ≡ true
   known e = ap is_some (sym seen) ∙ is_some-map view o ∙ not-false (is_some o) none is e
 
-  pub unknown_one : none ≡ true → is_some called ≡ false
-  unknown_one e = ap is_some (sym seen) ∙ is_some-map view o ∙ not-true (is_some o) none is e
+  pub missing : none ≡ true → is_some called ≡ false
+  missing e = ap is_some (sym seen) ∙ is_some-map view o ∙ not-true (is_some o) none is e
 
 -- one name, and then the others
 module _ (f : Written → Bool) (names : List Name) (i : ℕ) (d : Name) (within : i < length names) (is : d ≡ get_or names i d) where

@@ -3,7 +3,7 @@ use Rattle.std.specs.Prelude.{is_some}
 use Rattle.mpf_sections.specs.Rows.{Written}
 use Rattle.mpf_sections.specs.View.{shot_view}
 use Rattle.machine_definitions.specs.Shots.{shot_called}
-use Rattle.plan_contributions.proofs.Known.{known, unknown_one, all_next, not_all}
+use Rattle.plan_contributions.proofs.Known.{known, missing, all_next, not_all}
 use Rattle.plan_contributions.proofs.members.are_known.Goals as goal
 
 pub loop-shot-preserved : goal.loop-shot-preserved
@@ -17,5 +17,5 @@ pub returns-then-is_none : goal.returns-then-is_none
 returns-then-is_none c =
     let l = c.loop-shot in
     let rows = c.args.definitions.now in
-    let missing = unknown_one shot_view c.shot.result _ (c.shot.ensures ∙ ap (shot_called rows) c.deref.ensures.value) c.is_none.result c.is_none.ensures c.if-is_none.true in
-    not_all (λ (w : Written). is_some (shot_called rows w.text)) c.args.shots.now l.shot-index c.shot-item.result c.loop-shot-test.true c.shot-item.is missing ∙ l.invariant
+    let gone = missing shot_view c.shot.result _ (c.shot.ensures ∙ ap (shot_called rows) c.deref.ensures.value) c.is_none.result c.is_none.ensures c.if-is_none.true in
+    not_all (λ (w : Written). is_some (shot_called rows w.text)) c.args.shots.now l.shot-index c.shot-item.result c.loop-shot-test.true c.shot-item.is gone ∙ l.invariant
