@@ -188,7 +188,7 @@ event g_unlit_complete 1
 event g_lit_complete 1
 
 === a group that hits its own shot
-Each completion could hit a shot again.
+Each completion hits a shot, which could complete the group again.
 --- check
 @ config/config.yaml
 #config_version=6
@@ -198,7 +198,7 @@ shots:
 shot_groups:
   g: {shots: [x, y]}
 => Refused
-fault 8 Cycle g_lit_complete x_hit
+fault 8 Cycle g_lit_complete
 no
 
 === a group that resets itself
