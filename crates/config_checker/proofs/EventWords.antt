@@ -34,8 +34,8 @@ AllInWord text = All (λ b. is_in_word b ≡ true) text
 name-in_word : (name : List ℕ) → IsName name → AllInWord name
 name-in_word name h = All-weaker (λ b. (b ≢ 32) × (b ≢ 9) × (b ≢ 10)) (λ b. is_in_word b ≡ true) byte-in_word name (name_bytes name h)
 
--- what the name of an event is: a word of at most 198 bytes, as many as the names of a shot, of its profile and of a state are, each of 64, with
--- `_` before the second and the third, and `_hit`
+-- what the name of an event is: a word of at most 198 bytes, as many as the names of a shot, of its profile and of a
+-- state are, each of 64, with `_` before the second and the third, and `_hit`
 record IsEventWord (text : List ℕ) : Type 0 where
   word : IsWord text
   few : length text ≤ 198

@@ -1,5 +1,6 @@
--- What sound rows do: they post nothing reserved, by a variable neither, each deed is within the limits of its coil, each switch to which a
--- device listens or which a shot has is defined, and so is each profile, and each shot that a group lists.
+-- What sound rows do: they post nothing reserved, by a variable neither, each deed is within the limits of its coil,
+-- each switch to which a device listens or which a shot has is defined, and so is each profile, and each shot that a
+-- group lists.
 use Rattle.std.proofs.Common.{◌≡◌, ℕ, Bool, true, false, ◌||◌, if◌then◌else◌, List, [], ◌∷◌, ◌++◌, map, get_or, codes, refl, sym, true≢false}
 use Rattle.std.specs.Prelude.{Option, Some, None}
 use Rattle.std.specs.Str.{bytes_eq}

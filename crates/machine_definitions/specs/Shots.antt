@@ -21,8 +21,8 @@ shot_called rows name = fold (latest_shot name) None (flat_map shots_in (all_sec
 
 -- ---- profiles
 
--- A profile: its name, the names of its states, first to last, whether a hit advances a shot to the next one, and whether
--- the first one comes after the last.
+-- A profile: its name, the names of its states, first to last, whether a hit advances a shot to the next one, and
+-- whether the first one comes after the last.
 pub record Profile : Type 0 where
   pub name : List ℕ
   pub states : List (List ℕ)

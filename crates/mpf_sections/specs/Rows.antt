@@ -154,8 +154,8 @@ pub record Shot : Type 0 where
   pub enables : List Handled
   pub disables : List Handled
 
--- an entry of `shot_groups`: its shots, and the events that rotate their states, rotate them to the right and to the left,
--- and reset them
+-- an entry of `shot_groups`: its shots, and the events that rotate their states, rotate them to the right and to the
+-- left, and reset them
 pub record ShotGroup : Type 0 where
   pub name : Written
   pub shots : List Written

@@ -1,5 +1,5 @@
--- The rows of devices that a text gives, as many as are counted before it is read, and the seats of its shots, which are in
--- these rows.
+-- The rows of devices that a text gives, as many as are counted before it is read, and the seats of its shots, which
+-- are in these rows.
 use Rattle.std.proofs.Common.{◌≡◌, ℕ, suc, ◌+◌, ◌<◌, ◌≤◌, Bool, true, false, ◌||◌, not, if◌then◌else◌, List, [], ◌∷◌, ◌++◌, length, map, refl, sym, ◌∙◌, ap, subst, arith, length-append}
 use Rattle.std.specs.Prelude.{Option, None, Some, IfSome, is_some, fold}
 use Rattle.std.specs.Str.{bytes_eq}

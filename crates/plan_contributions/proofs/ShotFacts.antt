@@ -1,5 +1,5 @@
--- What holds of shots and of groups of them: of what acts on them, of their effect lists and settings, and of the profiles
--- that are found by name.
+-- What holds of shots and of groups of them: of what acts on them, of their effect lists and settings, and of the
+-- profiles that are found by name.
 use Rattle.std.proofs.Common.{◌≡◌, ℕ, ◌≤◌, Bool, true, false, if◌then◌else◌, List, [], ◌∷◌, ◌++◌, length, map, replicate, refl, arith, codes, length-append}
 use Rattle.std.specs.Prelude.{Option, None, Some, IfSome, fold}
 use Rattle.std.specs.Str.{bytes_eq}

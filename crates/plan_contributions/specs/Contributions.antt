@@ -250,9 +250,9 @@ group_contributions place g m = unknown_unless m.all_known ++ device_contributio
 
 -- ---- rows
 
--- An entry in the section of this name, or the one that the section is; a shot, with its seat if it has one, whether its
--- profile is known, and its profile; a group, with what is known of its shots; or an entry of a player, whose bindings have
--- this place; or a mode by its name, with what its text says of it.
+-- An entry in the section of this name, or the one that the section is; a shot, with its seat if it has one, whether
+-- its profile is known, and its profile; a group, with what is known of its shots; or an entry of a player, whose
+-- bindings have this place; or a mode by its name, with what its text says of it.
 pub data Row : Type 0 where
   entry : Place → List ℕ → Entry → Row
   alone : Place → List ℕ → Entry → Row

@@ -102,8 +102,8 @@ shot_events name profile state =
 abbrev pub shot_lists : Profile → List ℕ → List (List Effect)
 shot_lists p name = map (λ state. map posts (shot_events name p.name state)) p.states
 
--- what a group posts in a state, with one ending when a shot of it is hit, and with another when all its shots have come to
--- the state
+-- what a group posts in a state, with one ending when a shot of it is hit, and with another when all its shots have
+-- come to the state
 abbrev pub group_events : List ℕ → List ℕ → List ℕ → List (List ℕ)
 group_events ending name state = (name ++ ending) ∷ (name ++ codes "_" ++ state ++ ending) ∷ []
 
@@ -166,8 +166,8 @@ lone_device p s = record {
   lists = shot_lists p s.name.text;
 }
 
--- What is known of a group: a flag for each of its shots that says whether it is enabled at first, whether all are defined,
--- and the profile of the first. Where nothing defines a shot, any value will do: there is no plan then.
+-- What is known of a group: a flag for each of its shots that says whether it is enabled at first, whether all are
+-- defined, and the profile of the first. Where nothing defines a shot, any value will do: there is no plan then.
 pub record Members : Type 0 where
   pub enabled : List Bool
   pub all_known : Bool

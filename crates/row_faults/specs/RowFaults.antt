@@ -46,8 +46,8 @@ coil_faults_in machine text s =
     ++ flat_map (autofire_faults machine text) (autofires_in s)
 
 -- The faults of a section of a text, as written: its posts of reserved events, those of what it says of variables, of
--- coils and of shots, the shots that its groups may not list, and its timers that start at their end. A section is of one
--- kind, so at most one of these lists has any.
+-- coils and of shots, the shots that its groups may not list, and its timers that start at their end. A section is of
+-- one kind, so at most one of these lists has any.
 abbrev pub section_faults : List (List ℕ) → Rows → (is_own is_taken : List ℕ → Bool) → List ℕ → SectionRows → List RowFaultView
 section_faults modes rows is_own is_taken text s =
     map (name_fault text) (reserved_among modes (posts_in s))
@@ -83,8 +83,8 @@ fault_line f = f.line
 abbrev pub fault_number : RowFaultView → ℕ
 fault_number f = row_fault_number f.kind
 
--- the faults of a text, by line, on one line by number, and those of one line and number as written; groups of texts before
--- it list the shots that are taken
+-- the faults of a text, by line, on one line by number, and those of one line and number as written; groups of texts
+-- before it list the shots that are taken
 abbrev pub text_faults : List (List ℕ) → Rows → (is_taken : List ℕ → Bool) → List ℕ → List SectionRows → List RowFaultView
 text_faults modes rows is_taken text sections =
     ordered_by fault_line (ordered_by fault_number (written_faults modes rows (is_own_shot sections) is_taken text sections))

@@ -1,5 +1,5 @@
--- What is wrong with shots, and with the shots that groups list. Here `rows` are those of all texts, and `text` is the name
--- of the text.
+-- What is wrong with shots, and with the shots that groups list. Here `rows` are those of all texts, and `text` is the
+-- name of the text.
 use Rattle.std.specs.Prelude.{ℕ, Bool, true, false, not, ◌||◌, List, [], ◌∷◌, ◌++◌, map, Option, Some, None}
 use Rattle.std.specs.List.{flat_map, list_any}
 use Rattle.std.specs.Str.{bytes_eq}
@@ -56,9 +56,9 @@ abbrev pub are_of_two_profiles : Option Shot → Option Shot → Bool
 are_of_two_profiles (Some s) (Some t) = not (bytes_eq s.profile.text t.profile.text)
 are_of_two_profiles _ _ = false
 
--- Whether a group may not list this shot: the group's text does not define it, a group lists it before, or it has another
--- profile than the group's first shot. Here `is_own` says of a name whether the text defines it, and `is_taken` whether a
--- group lists it before.
+-- Whether a group may not list this shot: the group's text does not define it, a group lists it before, or it has
+-- another profile than the group's first shot. Here `is_own` says of a name whether the text defines it, and `is_taken`
+-- whether a group lists it before.
 abbrev pub is_misplaced : Rows → (is_own is_taken : List ℕ → Bool) → Listed → Bool
 is_misplaced rows is_own is_taken l =
     (not (is_own l.shot.text) || is_taken l.shot.text) || are_of_two_profiles l.first (shot_called rows l.shot.text)

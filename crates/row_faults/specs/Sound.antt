@@ -1,5 +1,5 @@
--- What holds of rows without faults: nothing that they say of a coil goes past its limits, and the coils, switches, shots
--- and profiles of which they speak are defined. Here `machine` is the sections of the machine text.
+-- What holds of rows without faults: nothing that they say of a coil goes past its limits, and the coils, switches,
+-- shots and profiles of which they speak are defined. Here `machine` is the sections of the machine text.
 use Rattle.std.specs.Prelude.{◌≡◌, ℕ, ◌≤◌, true, false, Some, IfSome, IsSome, List, unwrap_or}
 use Rattle.std.specs.List.{All}
 use Rattle.mpf_sections.specs.declared.words.CoilAction.{CoilAction}
