@@ -59,7 +59,7 @@ HasShots rows shots = (name : List ℕ) → found_shot shots name ≡ shot_calle
 abbrev pub HasProfiles : Rows → BTreeMap (Bor (List ℕ)) profiles.Profile → Type 0
 HasProfiles rows found = (name : List ℕ) → found_profile found name ≡ profile_called rows name
 
--- all of it
+-- what all fields of `Definitions` hold, where it is of these rows
 pub record IsDefined (rows : Rows) (coils : BTreeMap (Bor (List ℕ)) coil_rows.Coil) (switches quick : BTreeSet (Bor (List ℕ))) (shots : BTreeMap (Bor (List ℕ)) shot_rows.Shot)
     (found : BTreeMap (Bor (List ℕ)) profiles.Profile) (standard : profiles.Profile) : Type 0 where
   pub coils_found : HasCoils rows.machine coils

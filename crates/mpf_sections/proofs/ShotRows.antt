@@ -138,7 +138,7 @@ shot_group_few e = few_short (listed_names (slice_get e.values 0))
 pub shot_group_short : (e : Entry) → IsShortEntry 1024 e → IsShortShotGroup (shot_group_of e)
 unfolding shot_group_of
 shot_group_short e h = record {
-  shots = few_short (listed_names (slice_get e.values 0));
+  shots = shot_group_few e;
   rotates = few_events e 1 h;
   rotates_right = few_events e 2 h;
   rotates_left = few_events e 3 h;

@@ -14,34 +14,34 @@ few xs = if nat_le (length xs) 16 then xs else []
 
 -- ---- `shots`
 
-abbrev shot_events : List ℕ → Entry → List Handled
-shot_events key e = listed_events (setting_of tables.shots key e.values)
+abbrev shot_handlers : List ℕ → Entry → List Handled
+shot_handlers key e = listed_events (setting_of tables.shots key e.values)
 
 unfoldable pub shot_of : Entry → Shot
 shot_of e = record {
   name = e.name;
   switch = name_in (text_of (setting_of tables.shots (codes "switch") e.values));
-  hits = shot_events (codes "hit_events") e;
+  hits = shot_handlers (codes "hit_events") e;
   profile = unwrap_or (name_in (text_of (setting_of tables.shots (codes "profile") e.values))) (written_at 0 default_profile);
-  advances = shot_events (codes "advance_events") e;
-  resets = shot_events (codes "reset_events") e;
-  enables = shot_events (codes "enable_events") e;
-  disables = shot_events (codes "disable_events") e;
+  advances = shot_handlers (codes "advance_events") e;
+  resets = shot_handlers (codes "reset_events") e;
+  enables = shot_handlers (codes "enable_events") e;
+  disables = shot_handlers (codes "disable_events") e;
 }
 
 -- ---- `shot_groups`
 
-abbrev group_events : List ℕ → Entry → List Handled
-group_events key e = listed_events (setting_of tables.shot_groups key e.values)
+abbrev group_handlers : List ℕ → Entry → List Handled
+group_handlers key e = listed_events (setting_of tables.shot_groups key e.values)
 
 unfoldable pub shot_group_of : Entry → ShotGroup
 shot_group_of e = record {
   name = e.name;
   shots = few (listed_names (setting_of tables.shot_groups (codes "shots") e.values));
-  rotates = group_events (codes "rotate_events") e;
-  rotates_right = group_events (codes "rotate_right_events") e;
-  rotates_left = group_events (codes "rotate_left_events") e;
-  resets = group_events (codes "reset_events") e;
+  rotates = group_handlers (codes "rotate_events") e;
+  rotates_right = group_handlers (codes "rotate_right_events") e;
+  rotates_left = group_handlers (codes "rotate_left_events") e;
+  resets = group_handlers (codes "reset_events") e;
 }
 
 -- ---- `shot_profiles`

@@ -34,11 +34,11 @@ first_shot rows [] = None
 first_shot rows (w ∷ ws) = shot_called rows w.text
 
 -- names that a group lists whose first shot is this one
-abbrev pub listed_after : Option Shot → List Written → List Listed
-listed_after first ws = map (λ w. record { first = first; shot = w }) ws
+abbrev pub listed_with : Option Shot → List Written → List Listed
+listed_with first ws = map (λ w. record { first = first; shot = w }) ws
 
 abbrev pub listed_by : Rows → ShotGroup → List Listed
-listed_by rows g = listed_after (first_shot rows g.shots) g.shots
+listed_by rows g = listed_with (first_shot rows g.shots) g.shots
 
 -- all that the groups of a section list, and those of a text, as written
 abbrev pub listed_in : Rows → SectionRows → List Listed

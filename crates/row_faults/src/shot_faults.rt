@@ -6,7 +6,7 @@ ghost use Rattle.std.specs.Str.{bytes_eq};
 ghost use Rattle.mpf_sections.specs.TypedShots.{shot_of, shot_group_of};
 ghost use Rattle.mpf_sections.specs.View.{name_view, name_at_view, entry_view, section_view, shot_view, shot_group_view};
 ghost use Rattle.machine_definitions.specs.Found.{is_found};
-ghost use Rattle.row_faults.specs.ShotFaults.{shot_switch_faults, shot_faults, first_shot, listed_after, listed_by, listed_in, is_own_shot, are_of_two_profiles, is_misplaced, taken_after, kept_if, misplaced};
+ghost use Rattle.row_faults.specs.ShotFaults.{shot_switch_faults, shot_faults, first_shot, listed_with, listed_by, listed_in, is_own_shot, are_of_two_profiles, is_misplaced, taken_after, kept_if, misplaced};
 ghost use Rattle.row_faults.specs.View.{row_faults_view, written_view};
 
 use crate::adding::add_if;
@@ -167,8 +167,8 @@ fn note_shots<'a>(
     first: Option<Shot<'_>>,
     listed: &'a [Name],
 ) -> Result<(), AllocError>
-    ensures names { OnOk result (written_view names.new.items ≡ written_view names.old.items ++ misplaced definitions.now (is_found own.now) (is_found taken.old) (listed_after (option_map shot_view first.entry) (map name_view listed.now))) }
-    ensures taken { OnOk result (is_found taken.new ≡ taken_after (is_found taken.old) (listed_after (option_map shot_view first.entry) (map name_view listed.now))) }
+    ensures names { OnOk result (written_view names.new.items ≡ written_view names.old.items ++ misplaced definitions.now (is_found own.now) (is_found taken.old) (listed_with (option_map shot_view first.entry) (map name_view listed.now))) }
+    ensures taken { OnOk result (is_found taken.new ≡ taken_after (is_found taken.old) (listed_with (option_map shot_view first.entry) (map name_view listed.now))) }
 {
     for name in listed {
         let misplaced = is_misplaced(taken, definitions, own, first, &name.text);

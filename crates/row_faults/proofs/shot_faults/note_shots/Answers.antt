@@ -3,7 +3,7 @@ use Rattle.std.specs.Str.{bytes_eq}
 use Rattle.mpf_sections.specs.View.{name_view, shot_view}
 use Rattle.machine_definitions.specs.Found.{is_found}
 use Rattle.machine_definitions.proofs.Finding.{took-name, next-is}
-use Rattle.row_faults.specs.ShotFaults.{Listed, listed_after, taken_with, taken_after, kept_if, is_misplaced, misplaced}
+use Rattle.row_faults.specs.ShotFaults.{Listed, listed_with, taken_with, taken_after, kept_if, is_misplaced, misplaced}
 use Rattle.row_faults.specs.View.{written_view}
 use Rattle.row_faults.proofs.Listed.{noted-more, taken-more}
 use Rattle.row_faults.proofs.shot_faults.note_shots.Goals as goal
@@ -16,7 +16,7 @@ loop-name-preserved c =
     let first = option_map shot_view c.args.first in
     let name = name_view c.name-item.result in
     let it : Listed = record { first = first; shot = name } in
-    let listed = λ (names : List _). listed_after first (map name_view names) in
+    let listed = λ (names : List _). listed_with first (map name_view names) in
     let rest = listed (drop (l.name-index + 1) c.args.listed.now) in
     let judged = c.is_misplaced-misplaced.ensures name.line
     ∙ ap (λ (text : List ℕ). is_misplaced rows own (is_found l.taken) (record { first = first; shot = record { line = name.line; text = text } })) c.deref.ensures.value in
