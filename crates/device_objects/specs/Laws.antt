@@ -1,6 +1,8 @@
 -- What holds of every step of a device.
-use Rattle.std.specs.Prelude.{◌≡◌, ℕ, ◌<◌, ◌≤◌, ◌⊎◌, None, Some, IsSome, IfSome, List, length, Contains}
+use Rattle.std.specs.Prelude.{◌≡◌, ℕ, ◌<◌, ◌≤◌, ◌⊎◌, true, Option, None, Some, IsSome, IfSome, List, length, Contains, drop}
+use Rattle.std.specs.Option.{option_map_or}
 use Rattle.std.specs.List.{All}
+use Rattle.plan_tables.specs.declared.devices.BallSettings.{BallSettings}
 use Rattle.plan_tables.specs.declared.devices.BankSettings.{BankSettings}
 use Rattle.plan_tables.specs.declared.devices.Settings.{Settings}
 use Rattle.plan_tables.specs.declared.devices.Settings.TheVariants as kinds
@@ -9,15 +11,36 @@ use Rattle.device_objects.specs.declared.device.Call.{Call}
 use Rattle.device_objects.specs.declared.device.Call.TheVariants as calls
 use Rattle.device_objects.specs.declared.state.World.{World}
 use Rattle.device_objects.specs.declared.state.BankSlot.{BankSlot}
+use Rattle.device_objects.specs.declared.state.BallState.{BallState}
+use Rattle.device_objects.specs.declared.state.Eject.{Eject}
+use Rattle.device_objects.specs.declared.state.Eject.TheVariants.{Idle, Pulsing, Away}
 use Rattle.device_objects.specs.declared.state.DeviceState.{DeviceState}
 use Rattle.device_objects.specs.declared.state.DeviceState.TheVariants as states
-use Rattle.device_objects.specs.DeviceStep.{first_state, due_of, device_step}
-use Rattle.device_objects.specs.Outcomes.{outcomes, silent}
+use Rattle.device_objects.specs.BallDevice.{empty}
+use Rattle.device_objects.specs.DeviceStep.{first_state, due_of, part_due, device_step}
+use Rattle.device_objects.specs.Outcomes.{may_eject, outcomes, silent}
 
 -- a slot of a bank: with as many flags as its settings have, and 16 states, each one of the profile
 abbrev pub HasBankShape : BankSettings → BankSlot → Type 0
 HasBankShape b slot =
     (length slot.enabled ≡ length b.enabled) × (length slot.states ≡ 16) × All (λ s. s ≤ b.last_state) slot.states
+
+-- the number of an attempt: from 1 to that of the last, or to 1,000
+abbrev pub IsAttempt : BallSettings → ℕ → Type 0
+IsAttempt d number = (1 ≤ number) × (number ≤ option_map_or (λ most. most) d.max_attempts 1000)
+
+-- only a coil makes an attempt, and without coil or hand no ball is on its way
+abbrev pub IsEjectOf : BallSettings → Eject → Type 0
+IsEjectOf d Idle = Unit {0}
+IsEjectOf d (Pulsing a) = (d.has_coil ≡ true) × IsAttempt d a.number
+IsEjectOf d (Away a) = (may_eject d ≡ true) × IsAttempt d a.number
+
+-- the state of a ball device: 16 ball switches, of which those that it does not have are empty
+pub record HasBallShape (d : BallSettings) (s : BallState) : Type 0 where
+  pub switches : length s.switches ≡ 16
+  pub unused : All (λ b. b ≡ empty) (drop d.switches s.switches)
+  pub eject : IsEjectOf d s.eject
+  pub wanted : s.wanted ≤ 255
 
 -- a state of the shape that the settings ask for: of their kind, with four slots, and 16 marks in each of an accrual
 abbrev pub HasShape : Settings → DeviceState → Type 0
@@ -28,6 +51,7 @@ HasShape (kinds.Timer t) (states.Timer s) = Unit {0}
 HasShape (kinds.Bank b) (states.Bank slots) = (length slots ≡ 4) × All (HasBankShape b) slots
 HasShape kinds.Flipper (states.Flipper s) = Unit {0}
 HasShape kinds.Autofire (states.Autofire s) = Unit {0}
+HasShape (kinds.BallDevice d) (states.BallDevice s) = HasBallShape d s
 HasShape _ _ = ⊥
 
 -- The first state has the shape of its settings, and each step leaves it so.
@@ -60,12 +84,24 @@ pub record IsAnswer (settings : Settings) (call : Call) (lists : List ℕ) : Typ
 abbrev pub OutcomesComeAbout : Type 0
 OutcomesComeAbout = (settings : Settings) (call : Call) → IsWithinLimits settings → All (IsAnswer settings call) (outcomes settings call)
 
--- What a step arms is due after the moment of the step. So is a device that has been called because it was due.
+-- A device is due at the first of the moments at which its parts are due. Those are the parts below 17.
+pub record DevicesAreDueWithTheirParts : Type 0 where
+  pub none : (state : DeviceState) → due_of state ≡ None → (k : ℕ) → part_due state k ≡ None
+  pub first : (state : DeviceState) → IfSome (due_of state) (λ due. (k other : ℕ) → part_due state k ≡ Some other → due ≤ other)
+  pub few : (settings : Settings) (state : DeviceState) (k : ℕ) → HasShape settings state → 17 ≤ k → part_due state k ≡ None
+
+-- a part of the device is due at this moment, and later or not at all after a step to another state
+pub record IsDone (now due : ℕ) (state next : DeviceState) : Type 0 where
+  pub part : ℕ
+  pub due : part_due state part ≡ Some due
+  pub done : IfSome (part_due next part) (λ later. now < later)
+
+-- What a step arms is due after the moment of the step. When a device fires, one of its parts that were due is done.
 pub record ArmsLaterMoments : Type 0 where
   pub step : (settings : Settings) (call : Call) (now : ℕ) (world : World) (state : DeviceState) → IsWithinLimits settings
-      → (due : ℕ) → due_of (device_step settings call now world state).0 ≡ Some due → (due_of state ≡ Some due) ⊎ (now < due)
+      → (k due : ℕ) → part_due (device_step settings call now world state).0 k ≡ Some due → (part_due state k ≡ Some due) ⊎ (now < due)
   pub fired : (settings : Settings) (now : ℕ) (world : World) (state : DeviceState) → IsWithinLimits settings → HasShape settings state
-      → IfSome (due_of (device_step settings calls.Fire now world state).0) (λ due. now < due)
+      → IfSome (due_of state) (λ due. IsDone now due state (device_step settings calls.Fire now world state).0)
 
 -- Every list that a device answers is one of its row.
 abbrev pub OutcomesAreOfTheRow : Type 0

@@ -7,6 +7,7 @@ pub mod Timer
 pub mod Bank
 pub mod Flipper
 pub mod Autofire
+pub mod BallDevice
 pub mod DeviceStep
 pub mod Outcomes
 pub mod Laws

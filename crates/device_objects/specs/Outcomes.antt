@@ -1,5 +1,5 @@
 -- The lists that a call of a device can answer, whatever its state.
-use Rattle.std.specs.Prelude.{ℕ, suc, ◌==◌, nat_lt, Bool, not, ◌&&◌, is_some, if◌then◌else◌, List, [], ◌∷◌, ◌++◌}
+use Rattle.std.specs.Prelude.{ℕ, suc, ◌==◌, nat_lt, nat_le, Bool, not, ◌&&◌, ◌||◌, is_some, if◌then◌else◌, List, [], ◌∷◌, ◌++◌}
 use Rattle.std.specs.List.{flat_map, range_with_len}
 use Rattle.plan_tables.specs.declared.devices.Act.{Act}
 use Rattle.plan_tables.specs.declared.devices.Act.TheVariants as acts
@@ -8,6 +8,7 @@ use Rattle.plan_tables.specs.declared.devices.CounterSettings.{CounterSettings}
 use Rattle.plan_tables.specs.declared.devices.StepSettings.{StepSettings}
 use Rattle.plan_tables.specs.declared.devices.TimerSettings.{TimerSettings}
 use Rattle.plan_tables.specs.declared.devices.BankSettings.{BankSettings}
+use Rattle.plan_tables.specs.declared.devices.BallSettings.{BallSettings}
 use Rattle.plan_tables.specs.declared.devices.Settings.{Settings}
 use Rattle.plan_tables.specs.declared.devices.Settings.TheVariants as kinds
 use Rattle.plan_tables.specs.Devices.{state_count}
@@ -21,6 +22,7 @@ use Rattle.device_objects.specs.Timer as timer
 use Rattle.device_objects.specs.Bank.{next_state, hit_lists, group_complete}
 use Rattle.device_objects.specs.Flipper.{on, off}
 use Rattle.device_objects.specs.Autofire.{fires}
+use Rattle.device_objects.specs.BallDevice.{entered, attempted, left, lost, failed, given_up, confirmed, may_try_again}
 
 -- no list at all
 abbrev pub silent : List (List ℕ)
@@ -122,6 +124,45 @@ abbrev pub of_autofire : Act → List (List ℕ)
 of_autofire (acts.SwitchOn i) = of_switch i fires
 of_autofire _ = silent
 
+-- whether a ball device can begin to eject a ball in some state
+abbrev pub may_begin : BallSettings → Bool
+may_begin d = d.has_coil && nat_lt 0 d.switches
+
+-- whether a ball can be on its way from it in some state
+abbrev pub may_eject : BallSettings → Bool
+may_eject d = d.has_coil || d.mechanical
+
+-- these lists, after which it can begin to eject a ball, or not
+abbrev pub ending : BallSettings → List ℕ → List (List ℕ)
+ending d lists = lists ∷ only_if (may_begin d) ((lists ++ attempted ∷ []) ∷ [])
+
+-- a ball switch counts: a ball has entered, has left, or is lost
+abbrev pub of_count : BallSettings → List (List ℕ)
+of_count d = ending d (entered ∷ []) ++ only_if (may_eject d) ((left ∷ []) ∷ []) ++ (lost ∷ []) ∷ []
+
+-- an attempt is over: there is another one, if its number can be that of one before the last; or it can be the last
+abbrev pub of_attempt : BallSettings → List (List ℕ)
+of_attempt d =
+    only_if (may_try_again d.max_attempts 1) ((failed ∷ attempted ∷ []) ∷ [])
+    ++ only_if (is_some d.max_attempts) ((failed ∷ []) ∷ [])
+
+abbrev pub of_ball_fire : BallSettings → List (List ℕ)
+of_ball_fire d =
+    only_if (nat_lt 0 d.switches) (of_count d)
+    ++ only_if d.has_coil (of_attempt d)
+    ++ only_if (may_eject d) (ending d (given_up d.target))
+
+abbrev pub of_ball_act : BallSettings → Act → List (List ℕ)
+of_ball_act d acts.Confirm = [] ∷ only_if (may_eject d) (ending d (confirmed d.target))
+of_ball_act d (acts.Request n) = [] ∷ only_if (d.trough && (may_begin d && nat_le n 255)) ((attempted ∷ []) ∷ [])
+of_ball_act d _ = silent
+
+abbrev pub of_ball_device : BallSettings → Call → List (List ℕ)
+of_ball_device d calls.ModeStart = silent
+of_ball_device d calls.ModeStop = silent
+of_ball_device d calls.Fire = of_ball_fire d
+of_ball_device d (calls.Act act) = of_ball_act d act
+
 -- what a device that is never due answers to its acts; it is silent when its mode starts and stops
 abbrev pub by_act : (Act → List (List ℕ)) → Call → List (List ℕ)
 by_act answers calls.ModeStart = silent
@@ -138,3 +179,4 @@ outcomes (kinds.Timer t) call = of_timer t call
 outcomes (kinds.Bank b) call = by_act (of_bank b) call
 outcomes kinds.Flipper call = by_act of_flipper call
 outcomes kinds.Autofire call = by_act of_autofire call
+outcomes (kinds.BallDevice d) call = of_ball_device d call

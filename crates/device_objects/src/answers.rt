@@ -5,14 +5,16 @@ ghost use Rattle.plan_tables.specs.Devices.{IsWithinLimits};
 ghost use Rattle.plan_tables.specs.declared.devices.Settings.TheVariants as kinds;
 ghost use Rattle.arrayvec.specs.ArrayVec.{array_vec_len};
 ghost use Rattle.device_objects.specs.declared.device.Call.TheVariants as calls;
-ghost use Rattle.device_objects.specs.Outcomes.{can_complete, hit_completing, of_accrual, of_autofire, of_bank, of_block, of_change, of_counter, of_flipper, of_hit, of_hit_in, of_sequence, of_switch, of_timer, of_timer_act, only_if, outcomes, resetting, silent, timer_completing};
+ghost use Rattle.device_objects.specs.BallDevice.{confirmed, given_up};
+ghost use Rattle.device_objects.specs.Outcomes.{can_complete, hit_completing, ending, may_begin, may_eject, of_accrual, of_attempt, of_autofire, of_ball_act, of_ball_device, of_ball_fire, of_bank, of_block, of_change, of_count, of_counter, of_flipper, of_hit, of_hit_in, of_sequence, of_switch, of_timer, of_timer_act, only_if, outcomes, resetting, silent, timer_completing};
 
 use crate::bank::{group_complete, hit_lists, next_state};
 use crate::device::{Call, Outcome};
 use crate::values::{clamped, is_at_end};
 use arrayvec::ArrayVec;
 use plan_tables::{
-    Act, BankSettings, BlockSettings, CounterSettings, Settings, StepSettings, TimerSettings,
+    Act, BallSettings, BallTarget, BankSettings, BlockSettings, CounterSettings, Settings,
+    StepSettings, TimerSettings,
 };
 
 /// What a call of a device can answer, whatever the device's state: most of a shot that is hit, which
@@ -32,6 +34,7 @@ pub fn outcomes(settings: &Settings, call: Call) -> Outcomes
         (Settings::Bank(bank), Call::Act(act)) => of_bank(bank, act),
         (Settings::Flipper, Call::Act(act)) => of_flipper(act),
         (Settings::Autofire, Call::Act(act)) => of_autofire(act),
+        (Settings::BallDevice(device), call) => of_ball_device(device, call),
         (_, Call::Fire) => none(),
         _ => silent(),
     }
@@ -263,5 +266,121 @@ fn of_autofire(act: Act) -> Outcomes
     match act {
         Act::SwitchOn(switch) => of_switch(switch, 0),
         _ => silent(),
+    }
+}
+
+/// Whether a ball device can begin to eject a ball in some state.
+fn may_begin(device: &BallSettings) -> bool
+    ensures { result ≡ may_begin device.now }
+{
+    device.has_coil && device.switches > 0
+}
+
+/// Whether a ball can be on its way from the device in some state.
+fn may_eject(device: &BallSettings) -> bool
+    ensures { result ≡ may_eject device.now }
+{
+    device.has_coil || device.mechanical
+}
+
+/// These lists, after which the device can begin to eject a ball, or not.
+fn with_ending(all: Outcomes, device: &BallSettings, lists: &[u16]) -> Outcomes
+    requires room { array_vec_len all + 2 ≤ 33 }
+    requires short { length lists.now ≤ 2 }
+    ensures answers { map (λ o. o.items) result.items ≡ map (λ o. o.items) all.items ++ ending device.now lists.now }
+    ensures count { array_vec_len result ≤ array_vec_len all + 2 }
+{
+    let all = with(all, lists);
+    if !may_begin(device) {
+        return all;
+    }
+    let mut begins = Outcome::new();
+    let _ = begins.try_extend_from_slice(lists);
+    begins.push(1);
+    with(all, &begins)
+}
+
+/// A ball switch counts: a ball has entered, has left, or is lost.
+fn of_count(device: &BallSettings) -> Outcomes
+    ensures answers { map (λ o. o.items) result.items ≡ of_count device.now }
+    ensures count { array_vec_len result ≤ 4 }
+{
+    let entered = with_ending(none(), device, &[0]);
+    let left = with_if(entered, may_eject(device), &[2]);
+    with(left, &[3])
+}
+
+/// An attempt is over, and another one begins, or it was the last.
+fn with_attempt(all: Outcomes, device: &BallSettings) -> Outcomes
+    requires room { array_vec_len all + 2 ≤ 33 }
+    ensures answers { map (λ o. o.items) result.items ≡ map (λ o. o.items) all.items ++ of_attempt device.now }
+    ensures count { array_vec_len result ≤ array_vec_len all + 2 }
+{
+    let goes_on = match device.max_attempts {
+        None => true,
+        Some(most) => 1 < most,
+    };
+    let all = with_if(all, goes_on, &[6, 1]);
+    with_if(all, device.max_attempts.is_some(), &[6])
+}
+
+/// The time is over in which a ball on its way was to arrive.
+fn given_up(device: &BallSettings) -> &'static [u16]
+    ensures lists { result.now ≡ given_up device.now.target }
+    ensures short { length result.now ≤ 2 }
+{
+    match device.target {
+        BallTarget::Playfield => &[5, 4],
+        BallTarget::Device(_) => &[5, 6],
+    }
+}
+
+/// A ball on its way has arrived.
+fn confirmed(device: &BallSettings) -> &'static [u16]
+    ensures lists { result.now ≡ confirmed device.now.target }
+    ensures short { length result.now ≤ 2 }
+{
+    match device.target {
+        BallTarget::Playfield => &[5, 4],
+        BallTarget::Device(_) => &[4],
+    }
+}
+
+fn of_ball_fire(device: &BallSettings) -> Outcomes
+    ensures { map (λ o. o.items) result.items ≡ of_ball_fire device.now }
+{
+    let mut all = none();
+    if device.switches > 0 {
+        all = of_count(device);
+    }
+    if device.has_coil {
+        all = with_attempt(all, device);
+    }
+    if may_eject(device) {
+        all = with_ending(all, device, given_up(device));
+    }
+    all
+}
+
+fn of_ball_act(device: &BallSettings, act: Act) -> Outcomes
+    ensures { map (λ o. o.items) result.items ≡ of_ball_act device.now act }
+{
+    match act {
+        Act::Confirm if may_eject(device) => with_ending(silent(), device, confirmed(device)),
+        Act::Request(balls) => {
+            let begins = device.trough && may_begin(device) && balls <= 255;
+            with_if(silent(), begins, &[1])
+        }
+        _ => silent(),
+    }
+}
+
+fn of_ball_device(device: &BallSettings, call: Call) -> Outcomes
+    ensures { map (λ o. o.items) result.items ≡ of_ball_device device.now call }
+{
+    match call {
+        Call::ModeStart | Call::ModeStop => silent(),
+        Call::Fire => of_ball_fire(device),
+        Call::Act(act) => of_ball_act(device, act),
     }
 }

@@ -4,8 +4,8 @@ ghost use Rattle.std.specs.Prelude.{◌≡◌};
 ghost use Rattle.device_objects.specs.DeviceStep.{first_state};
 
 use crate::state::{
-    AccrualSlot, AutofireState, BankSlot, CounterSlot, DeviceState, FlipperState, SequenceSlot,
-    TimerState,
+    AccrualSlot, AutofireState, BallState, BallSwitch, BankSlot, CounterSlot, DeviceState, Eject,
+    FlipperState, SequenceSlot, TimerState,
 };
 use plan_tables::Settings;
 
@@ -44,5 +44,13 @@ pub fn first_state(settings: &Settings) -> DeviceState
             on: false,
         }),
         Settings::Autofire => DeviceState::Autofire(AutofireState { enabled: false }),
+        Settings::BallDevice(_) => DeviceState::BallDevice(BallState {
+            switches: [BallSwitch {
+                counted: false,
+                due: None,
+            }; 16],
+            eject: Eject::Idle,
+            wanted: 0,
+        }),
     }
 }

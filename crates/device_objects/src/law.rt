@@ -1,6 +1,6 @@
 //! What holds of every step of a device.
 
-ghost use Rattle.device_objects.specs.Laws.{AnswersAreOutcomes, ArmsLaterMoments, NothingIsDue, OutcomesAreOfTheRow, OutcomesComeAbout, StatesKeepTheirShape, StopsAreSilent};
+ghost use Rattle.device_objects.specs.Laws.{AnswersAreOutcomes, ArmsLaterMoments, DevicesAreDueWithTheirParts, NothingIsDue, OutcomesAreOfTheRow, OutcomesComeAbout, StatesKeepTheirShape, StopsAreSilent};
 
 /// The first state of a device has the shape of its row, and each step leaves it so.
 ///
@@ -30,7 +30,16 @@ pub fn outcomes_are_of_the_row()
     ensures { OutcomesAreOfTheRow }
 {}
 
-/// What a step arms is due after the moment of the step. So is a device that was due and has fired.
+/// A device is due at the first of the moments at which its parts are due. No device has more than 17
+/// parts: the ball switches of a ball device, and its attempt to eject a ball.
+///
+/// It does nothing: its contract is the law, over all states.
+pub fn devices_are_due_with_their_parts()
+    ensures { DevicesAreDueWithTheirParts }
+{}
+
+/// What a step arms is due after the moment of the step. When a device fires, one of its parts that
+/// were due is done: it is due later, or not at all.
 ///
 /// It does nothing: its contract is the law, over all steps.
 pub fn arms_later_moments()

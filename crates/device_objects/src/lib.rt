@@ -16,6 +16,6 @@ pub use device::{Call, Device, Outcome};
 pub use first::first_state;
 pub use same::{is_same_row, is_same_state};
 pub use state::{
-    AccrualSlot, AutofireState, BankSlot, CounterSlot, DeviceState, FlipperState, SequenceSlot,
-    TimerState, World,
+    AccrualSlot, Attempt, AutofireState, BallState, BallSwitch, BankSlot, CounterSlot, DeviceState,
+    Eject, FlipperState, SequenceSlot, TimerState, World,
 };

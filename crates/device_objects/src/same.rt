@@ -3,12 +3,12 @@
 ghost use Rattle.std.specs.Prelude.{◌≡◌, ◌↔◌, IsTrue};
 
 use crate::state::{
-    AccrualSlot, AutofireState, BankSlot, CounterSlot, DeviceState, FlipperState, SequenceSlot,
-    TimerState,
+    AccrualSlot, Attempt, AutofireState, BallState, BallSwitch, BankSlot, CounterSlot, DeviceState,
+    Eject, FlipperState, SequenceSlot, TimerState,
 };
 use plan_tables::{
-    BankSettings, BlockSettings, CounterSettings, DeviceRow, Direction, Owner, Settings,
-    StepSettings, TimerSettings,
+    BallSettings, BallTarget, BankSettings, BlockSettings, CounterSettings, DeviceRow, Direction,
+    Owner, Settings, StepSettings, TimerSettings,
 };
 
 /// Whether two rows are the same.
@@ -32,6 +32,7 @@ pub fn is_same_state(a: &DeviceState, b: &DeviceState) -> bool
         (DeviceState::Bank(a), DeviceState::Bank(b)) => are_same_banks(a, b),
         (DeviceState::Flipper(a), DeviceState::Flipper(b)) => is_same_flipper(a, b),
         (DeviceState::Autofire(a), DeviceState::Autofire(b)) => is_same_autofire(a, b),
+        (DeviceState::BallDevice(a), DeviceState::BallDevice(b)) => is_same_ball_state(a, b),
         _ => false,
     }
 }
@@ -104,6 +105,31 @@ fn is_same_bank_kind(a: &BankSettings, b: &BankSettings) -> bool
         && a.group == b.group
 }
 
+fn is_same_target(a: BallTarget, b: BallTarget) -> bool
+    ensures { IsTrue result ↔ (a ≡ b) }
+{
+    match (a, b) {
+        (BallTarget::Playfield, BallTarget::Playfield) => true,
+        (BallTarget::Device(a), BallTarget::Device(b)) => a.0 == b.0,
+        _ => false,
+    }
+}
+
+fn is_same_ball_kind(a: &BallSettings, b: &BallSettings) -> bool
+    ensures { IsTrue result ↔ (a.now ≡ b.now) }
+{
+    a.switches == b.switches
+        && a.entrance_delay == b.entrance_delay
+        && a.exit_delay == b.exit_delay
+        && is_same_target(a.target, b.target)
+        && a.has_coil == b.has_coil
+        && a.mechanical == b.mechanical
+        && a.timeout == b.timeout
+        && a.max_attempts == b.max_attempts
+        && a.trough == b.trough
+        && a.home == b.home
+}
+
 fn is_same_settings(a: &Settings, b: &Settings) -> bool
     ensures { IsTrue result ↔ (a.now ≡ b.now) }
 {
@@ -115,6 +141,7 @@ fn is_same_settings(a: &Settings, b: &Settings) -> bool
         (Settings::Bank(a), Settings::Bank(b)) => is_same_bank_kind(a, b),
         (Settings::Flipper, Settings::Flipper) => true,
         (Settings::Autofire, Settings::Autofire) => true,
+        (Settings::BallDevice(a), Settings::BallDevice(b)) => is_same_ball_kind(a, b),
         _ => false,
     }
 }
@@ -173,6 +200,48 @@ fn is_same_autofire(a: &AutofireState, b: &AutofireState) -> bool
     ensures { IsTrue result ↔ (a.now ≡ b.now) }
 {
     a.enabled == b.enabled
+}
+
+fn is_same_ball_switch(a: &BallSwitch, b: &BallSwitch) -> bool
+    ensures { IsTrue result ↔ (a.now ≡ b.now) }
+{
+    a.counted == b.counted && a.due == b.due
+}
+
+fn are_same_ball_switches(a: &[BallSwitch; 16], b: &[BallSwitch; 16]) -> bool
+    ensures { IsTrue result ↔ (a.now ≡ b.now) }
+{
+    for i in 0..16 {
+        if !is_same_ball_switch(&a[i], &b[i]) {
+            return false;
+        }
+    }
+    true
+}
+
+fn is_same_attempt(a: &Attempt, b: &Attempt) -> bool
+    ensures { IsTrue result ↔ (a.now ≡ b.now) }
+{
+    a.number == b.number && a.timeout == b.timeout
+}
+
+fn is_same_eject(a: &Eject, b: &Eject) -> bool
+    ensures { IsTrue result ↔ (a.now ≡ b.now) }
+{
+    match (a, b) {
+        (Eject::Idle, Eject::Idle) => true,
+        (Eject::Pulsing(a), Eject::Pulsing(b)) => is_same_attempt(a, b),
+        (Eject::Away(a), Eject::Away(b)) => is_same_attempt(a, b),
+        _ => false,
+    }
+}
+
+fn is_same_ball_state(a: &BallState, b: &BallState) -> bool
+    ensures { IsTrue result ↔ (a.now ≡ b.now) }
+{
+    are_same_ball_switches(&a.switches, &b.switches)
+        && is_same_eject(&a.eject, &b.eject)
+        && a.wanted == b.wanted
 }
 
 fn are_same_counters(a: &[CounterSlot; 4], b: &[CounterSlot; 4]) -> bool

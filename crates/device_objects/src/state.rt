@@ -80,6 +80,45 @@ pub struct AutofireState {
     pub enabled: bool,
 }
 
+/// What a ball device remembers of one of its ball switches.
+#[derive(Clone, Copy)]
+pub struct BallSwitch {
+    /// Whether it holds a ball that counts.
+    pub counted: bool,
+    /// The moment at which the opposite will count, if the switch stays as it is.
+    pub due: Option<u64>,
+}
+
+/// An attempt to eject a ball.
+#[derive(Clone, Copy)]
+pub struct Attempt {
+    /// Its number: the first is 1.
+    pub number: u16,
+    /// The moment at which it is over, if nothing has ended it before.
+    pub timeout: u64,
+}
+
+/// How far a ball device has come with ejecting a ball.
+#[derive(Clone, Copy)]
+pub enum Eject {
+    /// It ejects none.
+    Idle,
+    /// Its coil was pulsed, and the ball is to leave.
+    Pulsing(Attempt),
+    /// The ball has left, and is to arrive.
+    Away(Attempt),
+}
+
+/// What a ball device remembers.
+#[derive(Clone, Copy)]
+pub struct BallState {
+    /// Its ball switches, by their numbers. Those that it does not have stay as they were at first.
+    pub switches: [BallSwitch; 16],
+    pub eject: Eject,
+    /// How many balls a trough is still to eject.
+    pub wanted: u8,
+}
+
 /// What a device remembers. A persistent block and a bank of shots have a slot for each player;
 /// another block uses only the first.
 #[derive(Clone, Copy)]
@@ -91,4 +130,5 @@ pub enum DeviceState {
     Bank([BankSlot; 4]),
     Flipper(FlipperState),
     Autofire(AutofireState),
+    BallDevice(BallState),
 }

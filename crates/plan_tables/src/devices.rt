@@ -82,6 +82,40 @@ pub struct BankSettings {
     pub group: bool,
 }
 
+/// Where the balls go that a ball device ejects.
+#[derive(Clone, Copy, Debug)]
+pub enum BallTarget {
+    /// Onto the playfield.
+    Playfield,
+    /// Into the ball device of this row.
+    Device(RowId),
+}
+
+/// A ball device, such as a trough or a plunger: it has room for a ball at each of its ball switches.
+#[derive(Clone, Copy)]
+pub struct BallSettings {
+    /// How many ball switches it has: at most 16.
+    pub switches: u8,
+    /// For so many milliseconds a ball switch has to be active before its ball counts: at least 1.
+    pub entrance_delay: u32,
+    /// For so many milliseconds a ball switch has to be inactive before its ball counts as gone: at least 1.
+    pub exit_delay: u32,
+    /// Where the balls go that it ejects.
+    pub target: BallTarget,
+    /// Whether it has a coil that ejects a ball.
+    pub has_coil: bool,
+    /// Whether a ball may be ejected without its coil, as by a plunger that is pulled by hand.
+    pub mechanical: bool,
+    /// After so many milliseconds an attempt to eject a ball is over: at least 1.
+    pub timeout: u32,
+    /// How many attempts it makes to eject a ball, from 1 to 1,000; none: until the ball has left.
+    pub max_attempts: Option<u16>,
+    /// Whether it ejects balls only on request: it is tagged `trough`.
+    pub trough: bool,
+    /// Whether its balls count as being at home when a game is to begin: it is tagged `trough` or `home`.
+    pub home: bool,
+}
+
 /// Of which kind a device is, and its settings.
 #[derive(Clone, Copy)]
 pub enum Settings {
@@ -94,6 +128,7 @@ pub enum Settings {
     Flipper,
     /// An autofire coil. Which coil it is stands in its effect list.
     Autofire,
+    BallDevice(BallSettings),
 }
 
 impl Settings {
@@ -112,6 +147,7 @@ impl Settings {
             Settings::Bank(bank) => bank.list_count(),
             Settings::Flipper => 2,
             Settings::Autofire => 1,
+            Settings::BallDevice(_) => 7,
         }
     }
 }

@@ -11,8 +11,8 @@ pub mod tables;
 mod works;
 
 pub use devices::{
-    Act, BankSettings, BlockSettings, CounterSettings, DeviceRow, Direction, RowId, Settings,
-    StepSettings, TimerSettings,
+    Act, BallSettings, BallTarget, BankSettings, BlockSettings, CounterSettings, DeviceRow,
+    Direction, RowId, Settings, StepSettings, TimerSettings,
 };
 pub use entries::{
     Action, Binding, BindingId, CoilId, CoilLimits, Condition, Contact, EventId, GAME_EVENTS,

@@ -1,0 +1,4 @@
+pub mod Kind
+pub mod Ledger
+pub mod Bookings
+pub mod Laws

@@ -1,0 +1,192 @@
+//! How a device ejects balls.
+
+ghost use Rattle.std.specs.Prelude.{◌≡◌, ◌<◌, ◌≤◌, ◌^◌, ◌++◌, length};
+ghost use Rattle.arrayvec.specs.ArrayVec.{array_vec_len};
+ghost use Rattle.device_objects.specs.BallDevice.{attempt, begin, can_begin, confirm, confirmed, ended, given_up, gone, may_try_again, requested, stuck, time_out};
+
+use crate::switches::has_ball;
+use device_objects::{Attempt, BallState, Eject, Outcome};
+use plan_tables::{BallSettings, BallTarget};
+
+/// The list of a ball that has entered.
+pub(crate) const ENTERED: u16 = 0;
+/// The list of an attempt to eject a ball.
+const ATTEMPTED: u16 = 1;
+/// The list of an ejected ball that has left.
+const LEFT: u16 = 2;
+/// The list of a ball that has left and was not ejected.
+const LOST: u16 = 3;
+/// The list of an ejected ball that is where it should be.
+const SUCCEEDED: u16 = 4;
+/// The list of a ball that was on its way and is on the playfield.
+const ARRIVED: u16 = 5;
+/// The list of an attempt that has failed.
+const FAILED: u16 = 6;
+
+/// An answer with these lists.
+pub(crate) fn answer(lists: &[u16]) -> Outcome
+    requires { length lists.now ≤ 4 }
+    ensures lists { result.items ≡ lists.now }
+    ensures count { array_vec_len result ≡ length lists.now }
+{
+    let mut outcome = Outcome::new();
+    let _ = outcome.try_extend_from_slice(lists);
+    outcome
+}
+
+/// It attempts to eject a ball; the attempt has this number.
+fn attempt(settings: &BallSettings, state: &mut BallState, number: u16, now: u64)
+    requires { now < 2 ^ 40 }
+    ensures { state.new ≡ (attempt settings.now number now state.old).0 }
+{
+    state.eject = Eject::Pulsing(Attempt {
+        number,
+        timeout: now + u64::from(settings.timeout),
+    });
+}
+
+/// Whether it can begin to eject a ball.
+fn can_begin(settings: &BallSettings, state: &BallState) -> bool
+    ensures { result ≡ can_begin settings.now state.now }
+{
+    let idle = match state.eject {
+        Eject::Idle => true,
+        Eject::Pulsing(_) | Eject::Away(_) => false,
+    };
+    idle && has_ball(state) && settings.has_coil && (!settings.trough || state.wanted > 0)
+}
+
+/// It begins to eject a ball, if it can. Adds its list to the answer.
+pub(crate) fn begin(settings: &BallSettings, state: &mut BallState, now: u64, lists: Outcome) -> Outcome
+    requires moment { now < 2 ^ 40 }
+    requires room { array_vec_len lists ≤ 3 }
+    ensures state { state.new ≡ (begin settings.now now state.old).0 }
+    ensures lists { result.items ≡ lists.items ++ (begin settings.now now state.old).1 }
+{
+    let mut lists = lists;
+    if can_begin(settings, state) {
+        attempt(settings, state, 1, now);
+        lists.push(ATTEMPTED);
+    }
+    lists
+}
+
+/// Whether it may attempt once more after an attempt of this number.
+fn may_try_again(settings: &BallSettings, number: u16) -> bool
+    ensures { result ≡ may_try_again settings.now.max_attempts number }
+{
+    match settings.max_attempts {
+        None => true,
+        Some(most) => number < most,
+    }
+}
+
+/// An attempt is over before the ball has left: it tries again, or gives up.
+fn stuck(settings: &BallSettings, state: &mut BallState, now: u64, over: Attempt) -> Outcome
+    requires { now < 2 ^ 40 }
+    ensures state { state.new ≡ (stuck settings.now now over state.old).0 }
+    ensures lists { result.items ≡ (stuck settings.now now over state.old).1 }
+{
+    if may_try_again(settings, over.number) {
+        let next = if over.number < 1000 { over.number + 1 } else { 1000 };
+        attempt(settings, state, next, now);
+        return answer(&[FAILED, ATTEMPTED]);
+    }
+    state.eject = Eject::Idle;
+    state.wanted = 0;
+    answer(&[FAILED])
+}
+
+/// The eject is over: a trough is to eject one ball fewer.
+fn end(state: &mut BallState)
+    ensures { state.new ≡ ended state.old }
+{
+    state.eject = Eject::Idle;
+    state.wanted = state.wanted.saturating_sub(1);
+}
+
+/// The lists of a ball that should have arrived by now.
+fn given_up(target: BallTarget) -> Outcome
+    ensures lists { result.items ≡ given_up target }
+    ensures count { array_vec_len result ≤ 2 }
+{
+    match target {
+        BallTarget::Playfield => answer(&[ARRIVED, SUCCEEDED]),
+        BallTarget::Device(_) => answer(&[ARRIVED, FAILED]),
+    }
+}
+
+/// The lists of a ball that has arrived.
+fn confirmed(target: BallTarget) -> Outcome
+    ensures lists { result.items ≡ confirmed target }
+    ensures count { array_vec_len result ≤ 2 }
+{
+    match target {
+        BallTarget::Playfield => answer(&[ARRIVED, SUCCEEDED]),
+        BallTarget::Device(_) => answer(&[SUCCEEDED]),
+    }
+}
+
+/// The time of an attempt is over.
+pub(crate) fn time_out(settings: &BallSettings, state: &mut BallState, now: u64) -> Outcome
+    requires { now < 2 ^ 40 }
+    ensures state { state.new ≡ (time_out settings.now now state.old.eject state.old).0 }
+    ensures lists { result.items ≡ (time_out settings.now now state.old.eject state.old).1 }
+{
+    match state.eject {
+        Eject::Idle => Outcome::new(),
+        Eject::Pulsing(over) => stuck(settings, state, now, over),
+        Eject::Away(_) => {
+            end(state);
+            begin(settings, state, now, given_up(settings.target))
+        }
+    }
+}
+
+/// A ball that is on its way has arrived.
+pub(crate) fn confirm(settings: &BallSettings, state: &mut BallState, now: u64) -> Outcome
+    requires { now < 2 ^ 40 }
+    ensures state { state.new ≡ (confirm settings.now now state.old.eject state.old).0 }
+    ensures lists { result.items ≡ (confirm settings.now now state.old.eject state.old).1 }
+{
+    match state.eject {
+        Eject::Idle | Eject::Pulsing(_) => Outcome::new(),
+        Eject::Away(_) => {
+            end(state);
+            begin(settings, state, now, confirmed(settings.target))
+        }
+    }
+}
+
+/// A ball counts no more: the one that is ejected has left, or one is lost.
+pub(crate) fn gone(settings: &BallSettings, state: &mut BallState, now: u64) -> Outcome
+    requires { now < 2 ^ 40 }
+    ensures state { state.new ≡ (gone settings.now now state.old.eject state.old).0 }
+    ensures lists { result.items ≡ (gone settings.now now state.old.eject state.old).1 }
+{
+    match state.eject {
+        Eject::Pulsing(attempt) => {
+            state.eject = Eject::Away(attempt);
+            answer(&[LEFT])
+        }
+        Eject::Idle if settings.mechanical => {
+            let timeout = now + u64::from(settings.timeout);
+            state.eject = Eject::Away(Attempt { number: 1, timeout });
+            answer(&[LEFT])
+        }
+        Eject::Idle | Eject::Away(_) => answer(&[LOST]),
+    }
+}
+
+/// A trough is to eject so many balls more.
+pub(crate) fn request(settings: &BallSettings, state: &mut BallState, balls: usize, now: u64) -> Outcome
+    requires { now < 2 ^ 40 }
+    ensures state { state.new ≡ (requested settings.now balls now state.old).0 }
+    ensures lists { result.items ≡ (requested settings.now balls now state.old).1 }
+{
+    if !settings.trough || balls > usize::from(255 - state.wanted) {
+        return Outcome::new();
+    }
+    state.wanted += balls as u8;
+    begin(settings, state, now, Outcome::new())
+}

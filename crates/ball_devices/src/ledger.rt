@@ -1,0 +1,193 @@
+//! The ledger of all known balls.
+
+use crate::booking::Origin;
+use plan_tables::{BallTarget, Plan, RowId};
+use std::alloc::{AllocError, Global};
+use std::marker::Model;
+
+/// The ledger of all known balls: how many lie in each device, are on their way to each target, and
+/// are on the playfield. Together they are all that are known, at most 2^32.
+///
+/// A ball becomes known when it enters a device and none was on its way there, or on the playfield.
+/// Known balls stay known.
+#[derive(Drop)]
+pub struct BallLedger {
+    known: u64,
+    counted: Vec<u64>,
+    coming: Vec<u64>,
+    leaving: u64,
+    playfield: u64,
+    /// All that are on their way: those of `coming`, and `leaving`.
+    in_transit: u64,
+}
+
+impl Model for BallLedger {
+    ghost use Rattle.std.specs.Prelude.{◌≡◌};
+    ghost use Rattle.ball_devices.specs.Ledger.{Ledger, IsLedger, all_in_transit};
+
+    ghost Value = { Ledger };
+
+    ghost view = { λ l. record { known = l.known; counted = l.counted.items; coming = l.coming.items; leaving = l.leaving; playfield = l.playfield } };
+
+    ghost invariant = { λ l.
+        IsLedger (record { known = l.known; counted = l.counted.items; coming = l.coming.items; leaving = l.leaving; playfield = l.playfield })
+        × (l.in_transit ≡ all_in_transit (record { known = l.known; counted = l.counted.items; coming = l.coming.items; leaving = l.leaving; playfield = l.playfield })) };
+}
+
+impl BallLedger {
+    ghost use Rattle.std.specs.Prelude.{◌≡◌, ◌<◌, ◌^◌, length, IfOk};
+    ghost use Rattle.ball_devices.specs.Ledger.{IsLedger, no_balls, counted_in, transit_to, all_counted, all_in_transit, origin_of, entered, left, lost, arrived};
+    ghost use Rattle.ball_devices.specs.Bookings.{IsTargetThere};
+
+    /// The ledger of a plan's devices. No ball is known. Only this call takes memory.
+    ///
+    /// # Errors
+    ///
+    /// `AllocError`: memory ran out.
+    pub fn new(alloc: Global, plan: &Plan) -> Result<BallLedger, AllocError>
+        ensures empty { IfOk result (λ l. l ≡ no_balls plan.now) }
+        ensures ledger { IfOk result (λ l. IsLedger l) }
+    {
+        let rows = plan.rows().len();
+        Ok(BallLedger {
+            known: 0,
+            counted: vec![in alloc; 0; rows]?,
+            coming: vec![in alloc; 0; rows]?,
+            leaving: 0,
+            playfield: 0,
+            in_transit: 0,
+        })
+    }
+
+    /// A ball enters a device: one that was on its way to the device, else one from the playfield,
+    /// else a new one. Reports which.
+    pub fn enter(&mut self, device: RowId) -> Origin
+        requires device { device.0 < length self.old.counted }
+        requires room { self.old.known < 2 ^ 32 }
+        ensures state { self.new ≡ entered device self.old }
+        ensures origin { result ≡ origin_of device self.old }
+        ensures ledger { IsLedger self.new }
+    {
+        let origin = self.origin(device);
+        let number = device.0 as usize;
+        match origin {
+            Origin::Awaited => {
+                self.coming[number] -= 1;
+                self.in_transit -= 1;
+            }
+            Origin::Found => self.playfield -= 1,
+            Origin::New => self.known += 1,
+        }
+        self.counted[number] += 1;
+        origin
+    }
+
+    /// Where a ball comes from that enters the device now.
+    fn origin(&self, device: RowId) -> Origin
+        requires { device.0 < length self.now.counted }
+        ensures { result ≡ origin_of device self.now }
+    {
+        if self.coming[device.0 as usize] > 0 {
+            Origin::Awaited
+        } else if self.playfield > 0 {
+            Origin::Found
+        } else {
+            Origin::New
+        }
+    }
+
+    /// A ball leaves a device, which has one, and is on its way to the target.
+    pub fn left(&mut self, device: RowId, target: BallTarget)
+        requires device { device.0 < length self.old.counted }
+        requires target { IsTargetThere (length self.old.counted) target }
+        requires ball { 0 < counted_in self.old device }
+        ensures state { self.new ≡ left device target self.old }
+        ensures ledger { IsLedger self.new }
+    {
+        self.counted[device.0 as usize] -= 1;
+        match target {
+            BallTarget::Playfield => self.leaving += 1,
+            BallTarget::Device(to) => self.coming[to.0 as usize] += 1,
+        }
+        self.in_transit += 1;
+    }
+
+    /// A ball leaves a device, which has one, and is on the playfield, though it was not ejected.
+    pub fn lost(&mut self, device: RowId)
+        requires device { device.0 < length self.old.counted }
+        requires ball { 0 < counted_in self.old device }
+        ensures state { self.new ≡ lost device self.old }
+        ensures ledger { IsLedger self.new }
+    {
+        self.counted[device.0 as usize] -= 1;
+        self.playfield += 1;
+    }
+
+    /// A ball that was on its way to the target is on the playfield.
+    pub fn arrived(&mut self, target: BallTarget)
+        requires target { IsTargetThere (length self.old.counted) target }
+        requires ball { 0 < transit_to self.old target }
+        ensures state { self.new ≡ arrived target self.old }
+        ensures ledger { IsLedger self.new }
+    {
+        match target {
+            BallTarget::Playfield => self.leaving -= 1,
+            BallTarget::Device(to) => self.coming[to.0 as usize] -= 1,
+        }
+        self.in_transit -= 1;
+        self.playfield += 1;
+    }
+
+    /// How many balls are known: at most 2^32.
+    pub fn known(&self) -> u64
+        ensures known { result ≡ self.now.known }
+        ensures ledger { IsLedger self.now }
+    {
+        self.known
+    }
+
+    /// How many balls lie in a device.
+    pub fn counted(&self, device: RowId) -> u64
+        requires { device.0 < length self.now.counted }
+        ensures counted { result ≡ counted_in self.now device }
+        ensures ledger { IsLedger self.now }
+    {
+        self.counted[device.0 as usize]
+    }
+
+    /// How many balls are on their way to a target.
+    pub fn transit(&self, target: BallTarget) -> u64
+        requires { IsTargetThere (length self.now.counted) target }
+        ensures transit { result ≡ transit_to self.now target }
+        ensures ledger { IsLedger self.now }
+    {
+        match target {
+            BallTarget::Playfield => self.leaving,
+            BallTarget::Device(to) => self.coming[to.0 as usize],
+        }
+    }
+
+    /// How many balls are on the playfield.
+    pub fn playfield(&self) -> u64
+        ensures playfield { result ≡ self.now.playfield }
+        ensures ledger { IsLedger self.now }
+    {
+        self.playfield
+    }
+
+    /// How many balls lie in devices, in all.
+    pub fn all_counted(&self) -> u64
+        ensures counted { result ≡ all_counted self.now }
+        ensures ledger { IsLedger self.now }
+    {
+        self.known - self.in_transit - self.playfield
+    }
+
+    /// How many balls are on their way, in all.
+    pub fn all_in_transit(&self) -> u64
+        ensures transit { result ≡ all_in_transit self.now }
+        ensures ledger { IsLedger self.now }
+    {
+        self.in_transit
+    }
+}

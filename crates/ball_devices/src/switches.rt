@@ -1,0 +1,122 @@
+//! The ball switches of a device.
+
+ghost use Rattle.std.specs.Prelude.{◌≡◌, ◌<◌, ◌^◌, option_map, IfSome};
+ghost use Rattle.device_objects.specs.BallDevice.{due_of, earlier, first_due, has_ball, noted, sooner, switched, timeout_of, turned};
+
+use device_objects::{BallState, BallSwitch, Eject};
+use plan_tables::BallSettings;
+
+/// A moment, and the number of a ball switch that is due then.
+pub(crate) type Due = (u64, usize);
+
+/// Whether a ball counts in the device.
+pub(crate) fn has_ball(state: &BallState) -> bool
+    ensures { result ≡ has_ball state.now }
+{
+    state.switches.iter().any(|switch| switch.counted)
+}
+
+/// Of two moments the first; of equal ones the first again.
+fn sooner(a: Option<Due>, b: Option<Due>) -> Option<Due>
+    ensures { result ≡ sooner a b }
+{
+    match (a, b) {
+        (None, _) => b,
+        (_, None) => a,
+        (Some(one), Some(other)) => if one.0 <= other.0 { a } else { b },
+    }
+}
+
+/// The moment at which a ball switch is due, with its number, if it is due.
+fn due_with(number: usize, due: Option<u64>) -> Option<Due>
+    ensures { result ≡ option_map (λ moment. (moment, number)) due }
+{
+    let moment = due?;
+    Some((moment, number))
+}
+
+/// The ball switch that is due first, and the moment.
+pub(crate) fn first_due(state: &BallState) -> Option<Due>
+    ensures first { result ≡ first_due state.now }
+    ensures within { IfSome result (λ due. due.1 < 16) }
+{
+    let mut first = None;
+    for (number, switch) in state.switches.iter().enumerate() {
+        first = sooner(first, due_with(number, switch.due));
+    }
+    first
+}
+
+/// The moment at which the attempt to eject is over, if there is one.
+pub(crate) fn timeout_of(eject: &Eject) -> Option<u64>
+    ensures { result ≡ timeout_of eject.now }
+{
+    match eject {
+        Eject::Idle => None,
+        Eject::Pulsing(attempt) | Eject::Away(attempt) => Some(attempt.timeout),
+    }
+}
+
+/// The first of two moments.
+fn earlier(a: Option<u64>, b: Option<u64>) -> Option<u64>
+    ensures { result ≡ earlier a b }
+{
+    match (a, b) {
+        (None, _) => b,
+        (_, None) => a,
+        (Some(one), Some(other)) => Some(one.min(other)),
+    }
+}
+
+/// The moment of a ball switch that is due.
+fn moment_of(first: Option<Due>) -> Option<u64>
+    ensures { result ≡ option_map (λ a. a.0) first }
+{
+    let due = first?;
+    Some(due.0)
+}
+
+/// The moment at which the device is due.
+pub(crate) fn due_of(state: &BallState) -> Option<u64>
+    ensures { result ≡ due_of state.now }
+{
+    earlier(moment_of(first_due(state)), timeout_of(&state.eject))
+}
+
+/// A ball switch has become active, or inactive.
+fn noted(settings: &BallSettings, active: bool, now: u64, switch: BallSwitch) -> BallSwitch
+    requires { now < 2 ^ 40 }
+    ensures { result ≡ noted settings.now active now switch }
+{
+    let delay = if active {
+        settings.entrance_delay
+    } else {
+        settings.exit_delay
+    };
+    let due = if switch.counted == active {
+        None
+    } else {
+        Some(now + u64::from(delay))
+    };
+    BallSwitch { due, ..switch }
+}
+
+/// The ball switch of this number has become active, or inactive.
+pub(crate) fn switch_to(settings: &BallSettings, state: &mut BallState, number: usize, active: bool, now: u64)
+    requires { now < 2 ^ 40 }
+    ensures { state.new ≡ switched settings.now number active now state.old }
+{
+    if number < usize::from(settings.switches) && number < 16 {
+        state.switches[number] = noted(settings, active, now, state.switches[number]);
+    }
+}
+
+/// For a ball switch the opposite counts from now on.
+pub(crate) fn turned(switch: BallSwitch) -> BallSwitch
+    ensures { result ≡ turned switch }
+{
+    BallSwitch {
+        counted: !switch.counted,
+        due: None,
+    }
+}

@@ -1,0 +1,241 @@
+-- A ball device, such as a trough or a plunger. Balls lie in it, one at each ball switch that counts, and it ejects them
+-- one at a time.
+use Rattle.std.specs.Prelude.{ℕ, zero, suc, ◌+◌, ◌-◌, ◌==◌, nat_lt, nat_le, min, Bool, true, false, not, ◌&&◌, ◌||◌, is_some, if◌then◌else◌, Option, None, Some, List, [], ◌∷◌, ◌++◌, map, option_map, replicate, slice_index_or, slice_set}
+use Rattle.std.specs.List.{list_any}
+use Rattle.plan_tables.specs.declared.devices.Act.{Act}
+use Rattle.plan_tables.specs.declared.devices.Act.TheVariants as acts
+use Rattle.plan_tables.specs.declared.devices.BallTarget.{BallTarget}
+use Rattle.plan_tables.specs.declared.devices.BallTarget.TheVariants as targets
+use Rattle.plan_tables.specs.declared.devices.BallSettings.{BallSettings}
+use Rattle.device_objects.specs.declared.device.Call.{Call}
+use Rattle.device_objects.specs.declared.device.Call.TheVariants as calls
+use Rattle.device_objects.specs.declared.state.Attempt.{Attempt}
+use Rattle.device_objects.specs.declared.state.BallSwitch.{BallSwitch}
+use Rattle.device_objects.specs.declared.state.BallState.{BallState}
+use Rattle.device_objects.specs.declared.state.Eject.{Eject}
+use Rattle.device_objects.specs.declared.state.Eject.TheVariants.{Idle, Pulsing, Away}
+
+-- ---- the lists of a ball device
+
+-- a ball has entered it
+abbrev pub entered : ℕ
+entered = 0
+
+-- it attempts to eject a ball
+abbrev pub attempted : ℕ
+attempted = 1
+
+-- the ball that it ejects has left
+abbrev pub left : ℕ
+left = 2
+
+-- a ball has left that it does not eject
+abbrev pub lost : ℕ
+lost = 3
+
+-- the ball that it has ejected is where it should be
+abbrev pub succeeded : ℕ
+succeeded = 4
+
+-- a ball that was on its way is on the playfield
+abbrev pub arrived : ℕ
+arrived = 5
+
+-- an attempt has failed
+abbrev pub failed : ℕ
+failed = 6
+
+-- ---- the state
+
+-- a ball switch that holds no ball
+abbrev pub empty : BallSwitch
+empty = record { counted = false; due = None }
+
+-- at first no ball counts, nothing is due, and nothing is ejected
+abbrev pub first_state : BallState
+first_state = record { switches = replicate 16 empty; eject = Idle; wanted = 0 }
+
+-- the ball switch of a number
+abbrev pub switch_at : BallState → ℕ → BallSwitch
+switch_at s i = slice_index_or s.switches i empty
+
+abbrev pub set_switch : ℕ → BallSwitch → BallState → BallState
+set_switch i b s = record s { switches = slice_set s.switches i b }
+
+-- whether a ball counts in it
+abbrev pub has_ball : BallState → Bool
+has_ball s = list_any (λ b. b.counted) s.switches
+
+-- ---- what is due
+
+-- of two moments, each with the number of a ball switch, the first; of equal ones the first again
+abbrev pub sooner : Option (ℕ × ℕ) → Option (ℕ × ℕ) → Option (ℕ × ℕ)
+sooner None b = b
+sooner (Some a) None = Some a
+sooner (Some a) (Some b) = if nat_le a.0 b.0 then Some a else Some b
+
+-- of these ball switches, numbered from i on, the one that is due first, with the moment
+abbrev pub first_due_from : ℕ → List BallSwitch → Option (ℕ × ℕ)
+first_due_from i [] = None
+first_due_from i (b ∷ bs) = sooner (option_map (λ due. (due, i)) b.due) (first_due_from (suc i) bs)
+
+abbrev pub first_due : BallState → Option (ℕ × ℕ)
+first_due s = first_due_from 0 s.switches
+
+-- the moment at which the attempt is over, if there is one
+abbrev pub timeout_of : Eject → Option ℕ
+timeout_of Idle = None
+timeout_of (Pulsing a) = Some a.timeout
+timeout_of (Away a) = Some a.timeout
+
+-- the first of two moments
+abbrev pub earlier : Option ℕ → Option ℕ → Option ℕ
+earlier None b = b
+earlier (Some a) None = Some a
+earlier (Some a) (Some b) = Some (min a b)
+
+-- the moment at which the device is due
+abbrev pub due_of : BallState → Option ℕ
+due_of s = earlier (option_map (λ a. a.0) (first_due s)) (timeout_of s.eject)
+
+-- When its parts are due: part 0 is the attempt, and the others are the ball switches.
+abbrev pub part_due : BallState → ℕ → Option ℕ
+part_due s zero = timeout_of s.eject
+part_due s (suc i) = (switch_at s i).due
+
+-- ---- ejecting
+
+-- it attempts to eject a ball, for the time that its settings give
+abbrev pub attempt : BallSettings → ℕ → ℕ → BallState → BallState × List ℕ
+attempt d number now s = (record s { eject = Pulsing (record { number = number; timeout = now + d.timeout }) }, attempted ∷ [])
+
+abbrev pub is_idle : Eject → Bool
+is_idle Idle = true
+is_idle (Pulsing a) = false
+is_idle (Away a) = false
+
+-- whether it can begin to eject a ball: it ejects none, has one, and has a coil; a trough has also been asked for one
+abbrev pub can_begin : BallSettings → BallState → Bool
+can_begin d s = is_idle s.eject && (has_ball s && (d.has_coil && (not d.trough || nat_lt 0 s.wanted)))
+
+-- it begins to eject a ball, if it can
+abbrev pub begin : BallSettings → ℕ → BallState → BallState × List ℕ
+begin d now s = if can_begin d s then attempt d 1 now s else (s, [])
+
+-- lists that come before those of an answer
+abbrev pub after : List ℕ → BallState × List ℕ → BallState × List ℕ
+after lists answer = (answer.0, lists ++ answer.1)
+
+-- the eject is over: a trough is to eject one ball fewer
+abbrev pub ended : BallState → BallState
+ended s = record s { eject = Idle; wanted = s.wanted - 1 }
+
+-- whether a device may attempt once more after an attempt of this number
+abbrev pub may_try_again : Option ℕ → ℕ → Bool
+may_try_again None number = true
+may_try_again (Some most) number = nat_lt number most
+
+-- an attempt is over before the ball has left: it tries again, or gives up
+abbrev pub stuck : BallSettings → ℕ → Attempt → BallState → BallState × List ℕ
+stuck d now a s =
+    if may_try_again d.max_attempts a.number
+    then after (failed ∷ []) (attempt d (min (suc a.number) 1000) now s)
+    else (record s { eject = Idle; wanted = 0 }, failed ∷ [])
+
+-- the time is over in which a ball on its way was to arrive: it is on the playfield
+abbrev pub given_up : BallTarget → List ℕ
+given_up targets.Playfield = arrived ∷ succeeded ∷ []
+given_up (targets.Device r) = arrived ∷ failed ∷ []
+
+-- a ball on its way has arrived
+abbrev pub confirmed : BallTarget → List ℕ
+confirmed targets.Playfield = arrived ∷ succeeded ∷ []
+confirmed (targets.Device r) = succeeded ∷ []
+
+abbrev pub time_out : BallSettings → ℕ → Eject → BallState → BallState × List ℕ
+time_out d now Idle s = (s, [])
+time_out d now (Pulsing a) s = stuck d now a s
+time_out d now (Away a) s = after (given_up d.target) (begin d now (ended s))
+
+abbrev pub confirm : BallSettings → ℕ → Eject → BallState → BallState × List ℕ
+confirm d now Idle s = (s, [])
+confirm d now (Pulsing a) s = (s, [])
+confirm d now (Away a) s = after (confirmed d.target) (begin d now (ended s))
+
+-- ---- ball switches
+
+-- for how long a ball switch has to be active, or inactive, before that counts
+abbrev pub delay : BallSettings → Bool → ℕ
+delay d active = if active then d.entrance_delay else d.exit_delay
+
+-- whether a ball switch that is active, or inactive, counts otherwise
+abbrev pub counts_otherwise : Bool → BallSwitch → Bool
+counts_otherwise active b = if active then not b.counted else b.counted
+
+-- a ball switch has become active, or inactive
+abbrev pub noted : BallSettings → Bool → ℕ → BallSwitch → BallSwitch
+noted d active now b = record b { due = if counts_otherwise active b then Some (now + delay d active) else None }
+
+abbrev pub switched : BallSettings → ℕ → Bool → ℕ → BallState → BallState
+switched d i active now s = if nat_lt i d.switches then set_switch i (noted d active now (switch_at s i)) s else s
+
+-- the opposite counts from now on
+abbrev pub turned : BallSwitch → BallSwitch
+turned b = record { counted = not b.counted; due = None }
+
+-- a ball counts no more: the one that is ejected has left, or one is lost
+abbrev pub gone : BallSettings → ℕ → Eject → BallState → BallState × List ℕ
+gone d now Idle s =
+    if d.mechanical
+    then (record s { eject = Away (record { number = 1; timeout = now + d.timeout }) }, left ∷ [])
+    else (s, lost ∷ [])
+gone d now (Pulsing a) s = (record s { eject = Away a }, left ∷ [])
+gone d now (Away a) s = (s, lost ∷ [])
+
+-- what a ball switch is counts from now on: a ball has entered, or is gone
+abbrev pub count : BallSettings → ℕ → ℕ → BallState → BallState × List ℕ
+count d now i s =
+    let t = set_switch i (turned (switch_at s i)) s in
+    if (switch_at s i).counted then gone d now s.eject t else after (entered ∷ []) (begin d now t)
+
+-- ---- steps
+
+-- whether the attempt is over before the first ball switch is due
+abbrev pub is_timeout_first : Option (ℕ × ℕ) → Option ℕ → Bool
+is_timeout_first first None = false
+is_timeout_first None (Some timeout) = true
+is_timeout_first (Some a) (Some timeout) = nat_lt timeout a.0
+
+-- a ball switch that is due counts
+abbrev pub count_due : BallSettings → ℕ → Option (ℕ × ℕ) → BallState → BallState × List ℕ
+count_due d now None s = (s, [])
+count_due d now (Some a) s = count d now a.1 s
+
+-- what is due first is done; where both are due at one moment, a ball switch before the attempt's end
+abbrev pub fire : BallSettings → ℕ → BallState → BallState × List ℕ
+fire d now s =
+    if is_timeout_first (first_due s) (timeout_of s.eject)
+    then time_out d now s.eject s
+    else count_due d now (first_due s) s
+
+-- a trough is to eject so many balls more, at most 255
+abbrev pub requested : BallSettings → ℕ → ℕ → BallState → BallState × List ℕ
+requested d n now s =
+    if d.trough && nat_le (s.wanted + n) 255 then begin d now (record s { wanted = s.wanted + n }) else (s, [])
+
+abbrev pub act_step : BallSettings → Act → ℕ → BallState → BallState × List ℕ
+act_step d (acts.SwitchOn i) now s = (switched d i true now s, [])
+act_step d (acts.SwitchOff i) now s = (switched d i false now s, [])
+act_step d acts.Confirm now s = confirm d now s.eject s
+act_step d (acts.Request n) now s = requested d n now s
+act_step d _ now s = (s, [])
+
+-- it is taken out of the machine: nothing is due any more, and nothing is ejected
+abbrev pub halted : BallState → BallState
+halted s = record { switches = map (λ b. record b { due = None }) s.switches; eject = Idle; wanted = 0 }
+
+abbrev pub ball_step : BallSettings → Call → ℕ → BallState → BallState × List ℕ
+ball_step d calls.ModeStart now s = (s, [])
+ball_step d calls.ModeStop now s = (halted s, [])
+ball_step d calls.Fire now s = fire d now s
+ball_step d (calls.Act act) now s = act_step d act now s
