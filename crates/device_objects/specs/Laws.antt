@@ -87,6 +87,7 @@ OutcomesComeAbout = (settings : Settings) (call : Call) → IsWithinLimits setti
 -- A device is due at the first of the moments at which its parts are due. Those are the parts below 17.
 pub record DevicesAreDueWithTheirParts : Type 0 where
   pub none : (state : DeviceState) → due_of state ≡ None → (k : ℕ) → part_due state k ≡ None
+  pub one : (state : DeviceState) → IfSome (due_of state) (λ due. (k : ℕ) × (part_due state k ≡ Some due))
   pub first : (state : DeviceState) → IfSome (due_of state) (λ due. (k other : ℕ) → part_due state k ≡ Some other → due ≤ other)
   pub few : (settings : Settings) (state : DeviceState) (k : ℕ) → HasShape settings state → 17 ≤ k → part_due state k ≡ None
 

@@ -1,5 +1,5 @@
 -- What is due: only a stimulus alters that, and no alarm comes late.
-use Rattle.std.proofs.Common.{◌≡◌, ℕ, ℤ, ◌≤◌, ◌<◌, ◌⊎◌, Option, None, Some, List, [], ◌∷◌, length, slice_set, refl, ap, sym, subst, ◌∙◌, inl, inr, arith}
+use Rattle.std.proofs.Common.{◌≡◌, ℕ, ℤ, ◌≤◌, ◌<◌, ◌⊎◌, Option, None, Some, IfSome, List, [], ◌∷◌, length, slice_set, refl, ap, sym, subst, ◌∙◌, inl, inr, arith}
 use Rattle.std.proofs.lemmas.Bool.{cases_eq, cases_lt}
 use Rattle.std.proofs.lemmas.Option.{none-some}
 use Rattle.std.proofs.lemmas.List.{get_or_past, get_or-map, get_or-set_same, get_or-set_other, length-map, length-replicate, length-set}
@@ -22,9 +22,9 @@ use Rattle.device_objects.specs.declared.device.Call.{Call}
 use Rattle.device_objects.specs.declared.device.Call.TheVariants as calls
 use Rattle.device_objects.specs.declared.state.DeviceState.{DeviceState}
 use Rattle.device_objects.specs.DeviceStep as devices
-use Rattle.device_objects.specs.Laws.{HasShape}
 use Rattle.device_objects.proofs.Shapes.{states_keep_their_shape}
-use Rattle.device_objects.proofs.Moments.{arms-later, fired-later, first-quiet}
+use Rattle.device_objects.specs.Laws.{HasShape, IsDone}
+use Rattle.device_objects.proofs.Moments.{arms-later, fired-done, first-quiet, devices_are_due_with_their_parts}
 use Rattle.switch_core.specs.SwitchStep.{idle}
 use Rattle.switch_core.specs.Switches.{SwitchesView, IsComplete, due_of, after_change, reported_by_change, accept, reported}
 use Rattle.switch_core.proofs.DueMoments.{changes_arm_later, accept-due, accept-done, idle-nothing_due}
@@ -33,19 +33,23 @@ use Rattle.written_machine.specs.Machine.{Machine, set_switches, set_device, set
 use Rattle.written_machine.specs.Devices.{HasDevices}
 use Rattle.written_machine.specs.EventStep.{taken, EventStep, EventSteps}
 use Rattle.written_machine.specs.PlanOrder.{settled}
-use Rattle.written_machine.specs.Run.{Source, switch, device, source_due, IsNothingLate, IsNextAlarm, Stimulus, Change, Alarm, Wait, moment_of, IsAllowed, arrived, begin, IsRun}
+use Rattle.written_machine.specs.AlarmsEnd.{IsPartDone}
+use Rattle.written_machine.specs.Run.{Source, switch, device, source_due, part_due, IsNothingLate, IsNextAlarm, Stimulus, Change, Alarm, Wait, moment_of, IsAllowed, arrived, begin, IsRun}
 use Rattle.cascade_rank.specs.Cost.{Cost}
 use Rattle.written_machine.specs.Moves.{Move, Wrote, Sent, Switched, Began, Ended, Marked, Turned, Asked, Varied, Stepped, do_move, Does, TakesPart, Begins, IsMachine, ordinary, working, MayWork}
-use Rattle.written_machine.proofs.Does.{start-by, stop-by, does-keeps, off-has_coils, HasStates, moment-move, moment-does, has_states-does, switches-does}
+use Rattle.written_machine.proofs.Does.{start-by, stop-by, does-keeps, due-row, off-has_coils, HasStates, moment-move, moment-does, has_states-does, switches-does}
 use Rattle.written_machine.proofs.Parts.{does-call, does-accepted, does-if_accepted, does-begin, does-before, does-after}
 use Rattle.written_machine.proofs.Keeps.{step-keeps, steps-keep, run-keeps}
 use Rattle.written_machine.proofs.PlanSteps.{plan_steps-event_steps}
 
 -- ---- what is due of devices
 
--- a device that is due was due before, or is due later than this moment
+-- a part of a device that is due was due before, or is due later than this moment
 abbrev pub IsLater : Machine → Machine → Type 0
-IsLater s t = (r : RowId) (due : ℕ) → devices.due_of (device_at t r) ≡ Some due → (devices.due_of (device_at s r) ≡ Some due) ⊎ (s.moment < due)
+IsLater s t = (r : RowId) (k due : ℕ) → devices.part_due (device_at t r) k ≡ Some due → (devices.part_due (device_at s r) k ≡ Some due) ⊎ (s.moment < due)
+
+if_some : (P : ℕ → Type 0) (o : Option ℕ) (x : ℕ) → IfSome o P → o ≡ Some x → P x
+if_some P o x h is = subst (λ (o : Option ℕ). IfSome o P) is h
 
 same-devices : {X : Type 0} (f : X → Machine → Machine) → ((x : X) (s : Machine) → (f x s).devices ≡ s.devices) → (xs : List X) (s : Machine) → (all_do f xs s).devices ≡ s.devices
 same-devices f each [] s = refl
@@ -72,13 +76,13 @@ module _ (plan : PlanView) where
       (λ k t. same-devices (do_action plan (row_at plan r).owner) (action-devices (row_at plan r).owner) (actions_at plan (list_of_row plan r k)) t) lists s
 
   -- of a device that is called the next state is kept, where there is such a device
-  turned-at : (call : Call) (r : RowId) (s : Machine) → (device_at (set_device r (called plan call r s).0 s) r ≡ (called plan call r s).0) ⊎ (devices.due_of (device_at (set_device r (called plan call r s).0 s) r) ≡ None)
+  turned-at : (call : Call) (r : RowId) (s : Machine) → (device_at (set_device r (called plan call r s).0 s) r ≡ (called plan call r s).0) ⊎ ((k : ℕ) → devices.part_due (device_at (set_device r (called plan call r s).0 s) r) k ≡ None)
   turned-at call r s =
       elim (cases_lt r.0 (length s.devices)) [
         | inl there ↦ inl (get_or-set_same s.devices r.0 (called plan call r s).0 (devices.first_state no_row.settings) there)
         | inr past ↦
             let new = slice_set s.devices r.0 (called plan call r s).0 in
-            inr (ap devices.due_of (get_or_past new r.0 (devices.first_state no_row.settings) (omega (arith, past, length-set s.devices r.0 (called plan call r s).0))))
+            inr (λ k. ap (λ state. devices.part_due state k) (get_or_past new r.0 (devices.first_state no_row.settings) (omega (arith, past, length-set s.devices r.0 (called plan call r s).0))))
       ]
 
   module _ (valid : IsValid plan) where
@@ -90,47 +94,48 @@ module _ (plan : PlanView) where
         ]
 
     later-turned : (call : Call) (r : RowId) (s : Machine) → IsLater s (set_device r (called plan call r s).0 s)
-    later-turned call r s q due is =
+    later-turned call r s q k due is =
         elim (cases_eq q.0 r.0) [
           | inl same ↦
-              subst (λ (n : ℕ). (devices.due_of (device_state s.devices (record { 0 = n })) ≡ Some due) ⊎ (s.moment < due)) (sym same)
-              (at (subst (λ (n : ℕ). devices.due_of (device_state new (record { 0 = n })) ≡ Some due) same is))
-          | inr other ↦ inl (sym (ap devices.due_of (get_or-set_other s.devices r.0 q.0 (called plan call r s).0 (devices.first_state no_row.settings) other)) ∙ is)
+              subst (λ (n : ℕ). (devices.part_due (device_state s.devices (record { 0 = n })) k ≡ Some due) ⊎ (s.moment < due)) (sym same)
+              (at (subst (λ (n : ℕ). devices.part_due (device_state new (record { 0 = n })) k ≡ Some due) same is))
+          | inr other ↦
+              inl (sym (ap (λ state. devices.part_due state k) (get_or-set_other s.devices r.0 q.0 (called plan call r s).0 (devices.first_state no_row.settings) other)) ∙ is)
         ]
       where
         new : List DeviceState
         new = slice_set s.devices r.0 (called plan call r s).0
 
-        at : devices.due_of (device_state new r) ≡ Some due → (devices.due_of (device_at s r) ≡ Some due) ⊎ (s.moment < due)
+        at : devices.part_due (device_state new r) k ≡ Some due → (devices.part_due (device_at s r) k ≡ Some due) ⊎ (s.moment < due)
         at here =
             elim (turned-at call r s) [
-              | inl next ↦ arms-later (row_at plan r).settings call s.moment (world_of s) (device_at s r) (limits r) due (sym (ap devices.due_of next) ∙ here)
-              | inr none ↦ absurd (none-some due (sym none ∙ here))
+              | inl next ↦ arms-later (row_at plan r).settings call s.moment (world_of s) (device_at s r) (limits r) k due (sym (ap (λ state. devices.part_due state k) next) ∙ here)
+              | inr none ↦ absurd (none-some due (sym (none k) ∙ here))
             ]
 
     later-move : (x : Move) (s : Machine) → IsLater s (do_move plan x s)
-    later-move (Wrote owner what) s = λ r due is. inl is
-    later-move (Sent owner e) s = λ r due is. inl is
-    later-move (Switched n state) s = λ r due is. inl is
-    later-move (Began m) s = start-by plan m s (IsLater s) (λ r due is. inl is) (λ r due is. inl is)
-    later-move (Ended m) s = stop-by plan m s (IsLater s) (λ r due is. inl is) (λ r due is. inl is)
-    later-move (Marked m state) s = λ r due is. inl is
+    later-move (Wrote owner what) s = λ r k due is. inl is
+    later-move (Sent owner e) s = λ r k due is. inl is
+    later-move (Switched n state) s = λ r k due is. inl is
+    later-move (Began m) s = start-by plan m s (IsLater s) (λ r k due is. inl is) (λ r k due is. inl is)
+    later-move (Ended m) s = stop-by plan m s (IsLater s) (λ r k due is. inl is) (λ r k due is. inl is)
+    later-move (Marked m state) s = λ r k due is. inl is
     later-move (Turned call r) s = later-turned call r s
-    later-move (Asked owner command) s = λ r due is. inl is
-    later-move (Varied v value) s = λ r due is. inl is
-    later-move (Stepped which) s = λ r due is. inl is
+    later-move (Asked owner command) s = λ r k due is. inl is
+    later-move (Varied v value) s = λ r k due is. inl is
+    later-move (Stepped which) s = λ r k due is. inl is
 
     later-then : (s m t : Machine) → m.moment ≡ s.moment → IsLater s m → IsLater m t → IsLater s t
-    later-then s m t here one next r due is =
-        elim (next r due is) [
-          | inl old ↦ one r due old
+    later-then s m t here one next r k due is =
+        elim (next r k due is) [
+          | inl old ↦ one r k due old
           | inr later ↦ inr (omega (arith, here, later))
         ]
 
     pub later-does : {may : Move → Type 0} {c : Cost} {s t : Machine} → Does plan may c s t → IsLater s t
     later-does {may} {c} {s} {t} d =
         (does-keeps plan may (λ u. (u.moment ≡ s.moment) × IsLater s u)
-        (λ x u allowed h. (moment-move plan x u ∙ h.0, later-then s u (do_move plan x u) h.0 h.1 (later-move x u))) d (refl, λ r due is. inl is)).1
+        (λ x u allowed h. (moment-move plan x u ∙ h.0, later-then s u (do_move plan x u) h.0 h.1 (later-move x u))) d (refl, λ r k due is. inl is)).1
 
 -- ---- event steps change neither a switch nor the moment
 
@@ -163,7 +168,7 @@ module _ (plan : PlanView) where
         later-on m t d h = (moment-does plan d ∙ h.0, later-then plan valid s m t h.0 h.1 (later-does plan valid d))
 
     pub later-steps : (n : ℕ) (s t : Machine) → EventSteps plan n s t → IsLater s t
-    later-steps n s t steps = (steps-keep plan (λ before m. (m.moment ≡ s.moment) × IsLater s m) (λ before. later-step s) [] n s t steps (refl, λ r due is. inl is)).1
+    later-steps n s t steps = (steps-keep plan (λ before m. (m.moment ≡ s.moment) × IsLater s m) (λ before. later-step s) [] n s t steps (refl, λ r k due is. inl is)).1
 
   pub switches-steps : (n : ℕ) (s t : Machine) → EventSteps plan n s t → t.switches ≡ s.switches
   switches-steps n s t steps = (still-steps n s t steps).0
@@ -227,66 +232,112 @@ module _ (plan : PlanView) where
 pub switch_due-same : (s t : Machine) → s.switches ≡ t.switches → (n : SwitchId) → source_due s (switch n) ≡ source_due t (switch n)
 switch_due-same s t e n = ap (λ (v : SwitchesView). due_of v n) e
 
+-- what is due of a source is due of one of its parts
+source-part : (s : Machine) (source : Source) (due : ℕ) → source_due s source ≡ Some due → (k : ℕ) × (part_due s source k ≡ Some due)
+source-part s (switch n) due is = (0, is)
+source-part s (device r) due is =
+    let state = device_at s r in
+    if_some (λ (d : ℕ). (k : ℕ) × (devices.part_due state k ≡ Some d)) (devices.due_of state) due (devices_are_due_with_their_parts.one state) is
+
+-- and where nothing is due before a moment, no part is
+parts-after : (m : ℕ) (s : Machine) → ((source : Source) (due : ℕ) → source_due s source ≡ Some due → m ≤ due)
+    → (source : Source) (k due : ℕ) → part_due s source k ≡ Some due → m ≤ due
+parts-after m s h (switch n) k due is = h (switch n) due is
+parts-after m s h (device r) k due is = by (devices.due_of (device_at s r)) refl
+  where
+    by : (o : Option ℕ) → devices.due_of (device_at s r) ≡ o → m ≤ due
+    by None none = absurd (none-some due (sym (devices_are_due_with_their_parts.none (device_at s r) none k) ∙ is))
+    by (Some first) some =
+        let state = device_at s r in
+        let on = h (device r) first some in
+        let before = if_some (λ (d : ℕ). (j other : ℕ) → devices.part_due state j ≡ Some other → d ≤ other) (devices.due_of state) first (devices_are_due_with_their_parts.first state) some k due is in
+        omega (arith, on, before)
+
 module _ (plan : PlanView) (valid : IsValid plan) where
   -- what is due after event steps was due before, or is due later
-  steps-arm_later : (n : ℕ) (s t : Machine) → EventSteps plan n s t → (source : Source) (due : ℕ) → source_due t source ≡ Some due → (source_due s source ≡ Some due) ⊎ (s.moment < due)
-  steps-arm_later n s t steps (switch m) due is = inl (sym (switch_due-same t s (switches-steps plan n s t steps) m) ∙ is)
-  steps-arm_later n s t steps (device r) due is = later-steps plan valid n s t steps r due is
+  steps-arm_later : (n : ℕ) (s t : Machine) → EventSteps plan n s t → (source : Source) (k due : ℕ) → part_due t source k ≡ Some due
+      → (part_due s source k ≡ Some due) ⊎ (s.moment < due)
+  steps-arm_later n s t steps (switch m) k due is = inl (sym (switch_due-same t s (switches-steps plan n s t steps) m) ∙ is)
+  steps-arm_later n s t steps (device r) k due is = later-steps plan valid n s t steps r k due is
 
   -- what a stimulus leaves due was due before it, or is due after its moment
-  begin-arms_later : (stimulus : Stimulus) (s : Machine) (source : Source) (due : ℕ) → source_due (begin plan stimulus s) source ≡ Some due → (source_due s source ≡ Some due) ⊎ (moment_of stimulus < due)
-  begin-arms_later (Change at n level) s (switch m) due is =
+  begin-arms_later : (stimulus : Stimulus) (s : Machine) (source : Source) (k due : ℕ) → part_due (begin plan stimulus s) source k ≡ Some due
+      → (part_due s source k ≡ Some due) ⊎ (moment_of stimulus < due)
+  begin-arms_later (Change at n level) s (switch m) k due is =
       changes_arm_later n level at s.switches m due (ap (λ (v : SwitchesView). due_of v m) (sym (switches-begin plan (Change at n level) s)) ∙ is)
-  begin-arms_later (Alarm at (switch n)) s (switch m) due is =
+  begin-arms_later (Alarm at (switch n)) s (switch m) k due is =
       inl (accept-due n s.switches m due (ap (λ (v : SwitchesView). due_of v m) (sym (switches-begin plan (Alarm at (switch n)) s)) ∙ is))
-  begin-arms_later (Alarm at (device r)) s (switch m) due is =
+  begin-arms_later (Alarm at (device r)) s (switch m) k due is =
       inl (ap (λ (v : SwitchesView). due_of v m) (sym (switches-begin plan (Alarm at (device r)) s)) ∙ is)
-  begin-arms_later (Wait at) s (switch m) due is = inl is
-  begin-arms_later stimulus s (device r) due is = later-does plan valid (does-begin plan stimulus s) r due is
+  begin-arms_later (Wait at) s (switch m) k due is = inl is
+  begin-arms_later stimulus s (device r) k due is = later-does plan valid (does-begin plan stimulus s) r k due is
 
   -- and so do its event steps
   pub arms_later : (stimulus : Stimulus) (s : Machine) (n : ℕ) (t : Machine) → EventSteps plan n (begin plan stimulus s) t
-      → (source : Source) (due : ℕ) → source_due t source ≡ Some due → (source_due s source ≡ Some due) ⊎ (moment_of stimulus < due)
-  arms_later stimulus s n t steps source due is =
-      elim (steps-arm_later n (begin plan stimulus s) t steps source due is) [
-        | inl begun ↦ begin-arms_later stimulus s source due begun
+      → (source : Source) (k due : ℕ) → part_due t source k ≡ Some due → (part_due s source k ≡ Some due) ⊎ (moment_of stimulus < due)
+  arms_later stimulus s n t steps source k due is =
+      elim (steps-arm_later n (begin plan stimulus s) t steps source k due is) [
+        | inl begun ↦ begin-arms_later stimulus s source k due begun
         | inr later ↦ inr (omega (arith, moment-begin plan stimulus s, later))
       ]
 
-  begin-done : (at : ℕ) (source : Source) (s : Machine) → HasDevices plan s.devices → (due : ℕ) → source_due (begin plan (Alarm at source) s) source ≡ Some due → at < due
-  begin-done at (switch n) s has due is =
-      absurd (none-some due (sym (accept-done n s.switches) ∙ ap (λ (v : SwitchesView). due_of v n) (sym (switches-begin plan (Alarm at (switch n)) s)) ∙ is))
-  begin-done at (device r) s has due is =
-      let fires = called plan calls.Fire r (arrived at s) in
-      let fired = set_device r fires.0 (arrived at s) in
-      let here : devices.due_of (device_at fired r) ≡ Some due = ap (λ ds. devices.due_of (device_state ds r)) (sym (answer-devices plan r fires.1 fired)) ∙ is in
-      elim (cases_lt r.0 (length plan.rows)) [
-        | inl there ↦
-            elim (turned-at plan calls.Fire r (arrived at s)) [
-              | inl next ↦ fired-later (row_at plan r).settings at (world_of s) (device_at s r) (limits plan valid r) (has.shapes r there) due (sym (ap devices.due_of next) ∙ here)
-              | inr none ↦ absurd (none-some due (sym none ∙ here))
-            ]
-        | inr past ↦
-            let count = has.count in
-            let beyond : length (slice_set s.devices r.0 fires.0) ≤ r.0 = omega (arith, past, count, length-set s.devices r.0 fires.0) in
-            absurd (none-some due (sym (ap devices.due_of (get_or_past (slice_set s.devices r.0 fires.0) r.0 (devices.first_state no_row.settings) beyond)) ∙ here))
+  -- a part that is due is one of the first 17
+  part-few : (r : RowId) (s : Machine) (k due : ℕ) → HasDevices plan s.devices → r.0 < length plan.rows → devices.part_due (device_at s r) k ≡ Some due → k < 17
+  part-few r s k due has there is =
+      elim (cases_lt k 17) [
+        | inl few ↦ few
+        | inr many ↦ absurd (none-some due (sym (devices_are_due_with_their_parts.few (row_at plan r).settings (device_at s r) k (has.shapes r there) many) ∙ is))
       ]
 
-  -- an alarm that came is not due any more at its moment
-  pub alarm-done : (at : ℕ) (source : Source) (s : Machine) (n : ℕ) (t : Machine) → HasDevices plan s.devices → EventSteps plan n (begin plan (Alarm at source) s) t → (due : ℕ) → source_due t source ≡ Some due → at < due
-  alarm-done at source s n t has steps due is =
-      elim (steps-arm_later n (begin plan (Alarm at source) s) t steps source due is) [
-        | inl begun ↦ begin-done at source s has due begun
-        | inr later ↦ omega (arith, moment-begin plan (Alarm at source) s, later)
-      ]
+  begin-done : (at : ℕ) (source : Source) (s : Machine) → HasDevices plan s.devices → source_due s source ≡ Some at → IsPartDone at source s (begin plan (Alarm at source) s)
+  begin-done at (switch n) s has is = record {
+    part = 0;
+    few = omega arith;
+    due = is;
+    done = λ later after.
+        absurd (none-some later (sym (accept-done n s.switches) ∙ ap (λ (v : SwitchesView). due_of v n) (sym (switches-begin plan (Alarm at (switch n)) s)) ∙ after));
+  }
+  begin-done at (device r) s has is =
+      let state = device_at s r in
+      let fires = called plan calls.Fire r (arrived at s) in
+      let fired = set_device r fires.0 (arrived at s) in
+      let there = due-row plan s r at has is in
+      let done = if_some (λ (d : ℕ). IsDone at d state fires.0) (devices.due_of state) at (fired-done (row_at plan r).settings at (world_of s) state (limits plan valid r) (has.shapes r there)) is in
+      let within : r.0 < length s.devices = let count = has.count in omega (arith, there, count) in
+      let next : device_at fired r ≡ fires.0 = get_or-set_same s.devices r.0 fires.0 (devices.first_state no_row.settings) within in
+      let now : device_at (begin plan (Alarm at (device r)) s) r ≡ fires.0 = ap (λ ds. device_state ds r) (answer-devices plan r fires.1 fired) ∙ next in
+      record {
+        part = done.part;
+        few = part-few r s done.part at has there done.due;
+        due = done.due;
+        done = λ later after.
+            if_some (λ (l : ℕ). at < l) (devices.part_due fires.0 done.part) later done.done (ap (λ st. devices.part_due st done.part) (sym now) ∙ after);
+      }
+
+  -- after an alarm and its event steps the part whose alarm it was is done
+  pub alarm-done : (at : ℕ) (source : Source) (s : Machine) (n : ℕ) (t : Machine) → HasDevices plan s.devices → source_due s source ≡ Some at
+      → EventSteps plan n (begin plan (Alarm at source) s) t → IsPartDone at source s t
+  alarm-done at source s n t has is steps =
+      let begun = begin-done at source s has is in
+      record {
+        part = begun.part;
+        few = begun.few;
+        due = begun.due;
+        done = λ later after.
+            elim (steps-arm_later n (begin plan (Alarm at source) s) t steps source begun.part later after) [
+              | inl before ↦ begun.done later before
+              | inr past ↦ omega (arith, moment-begin plan (Alarm at source) s, past)
+            ];
+      }
 
   -- ---- no alarm is late
 
   pub not_late-steps : (n : ℕ) (s t : Machine) → EventSteps plan n s t → IsNothingLate s → IsNothingLate t
   not_late-steps n s t steps h source due is =
       let here = (still-steps plan n s t steps).1 in
-      elim (steps-arm_later n s t steps source due is) [
-        | inl old ↦ let on_time = h source due old in omega (arith, on_time, here)
+      let (k, part) = source-part t source due is in
+      elim (steps-arm_later n s t steps source k due part) [
+        | inl old ↦ let on_time = parts-after s.moment s h source k due old in omega (arith, on_time, here)
         | inr later ↦ omega (arith, later, here)
       ]
 
@@ -306,8 +357,9 @@ module _ (plan : PlanView) (valid : IsValid plan) where
 
   pub not_late-begin : (stimulus : Stimulus) (s : Machine) → ((source : Source) (due : ℕ) → source_due s source ≡ Some due → moment_of stimulus ≤ due) → IsNothingLate (begin plan stimulus s)
   not_late-begin stimulus s first source due is =
-      elim (begin-arms_later stimulus s source due is) [
-        | inl old ↦ omega (arith, first source due old, moment-begin plan stimulus s)
+      let (k, part) = source-part (begin plan stimulus s) source due is in
+      elim (begin-arms_later stimulus s source k due part) [
+        | inl old ↦ omega (arith, parts-after (moment_of stimulus) s first source k due old, moment-begin plan stimulus s)
         | inr later ↦ omega (arith, moment-begin plan stimulus s)
       ]
 

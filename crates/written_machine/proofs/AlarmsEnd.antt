@@ -1,6 +1,8 @@
--- Playing the next alarm again and again comes to an end: each source comes at most once at each moment.
+-- Playing the next alarm again and again comes to an end: each part of a source comes at most once at each moment.
 use Rattle.std.proofs.Common.{◌≡◌, ℕ, zero, suc, ◌+◌, ◌-◌, ◌*◌, ◌≤◌, ◌<◌, ◌⊎◌, Bool, true, false, if◌then◌else◌, nat_le, Option, Some, None, List, [], ◌∷◌, ◌++◌, length, length-append, map, Contains, refl, ap, sym, ◌∙◌, subst, inl, inr, arith}
 use Rattle.std.specs.Option.{option_map_or}
+use Rattle.std.specs.List.{range_with_len}
+use Rattle.std.proofs.lemmas.List.FromFn.{get_or-range_with_len}
 use Rattle.std.proofs.lemmas.Bool.{cases_lt, cond_both, leb-true, le-leb, lt-leb}
 use Rattle.std.proofs.lemmas.List.{length-map, get_or-map, get_or_append_left, get_or-append-add}
 use Rattle.plan_tables.specs.PlanView.{PlanView, row_numbers}
@@ -12,8 +14,8 @@ use Rattle.switch_core.proofs.Lists.{due-within}
 use Rattle.written_machine.specs.declared.line.Line.{Line}
 use Rattle.written_machine.specs.Machine.{Machine}
 use Rattle.written_machine.specs.PlanOrder.{settled}
-use Rattle.written_machine.specs.Run.{Source, switch, device, source_due, IsNoAlarmDueBy, IsNothingLate, IsNextAlarm, Stimulus, Alarm, begin, IsReached}
-use Rattle.written_machine.specs.NextAlarm.{next_alarm, source_count, most_alarms}
+use Rattle.written_machine.specs.Run.{Source, switch, device, source_due, part_due, IsNoAlarmDueBy, IsNothingLate, IsNextAlarm, Stimulus, Alarm, begin, IsReached}
+use Rattle.written_machine.specs.NextAlarm.{next_alarm, source_count, part_count, most_alarms}
 use Rattle.written_machine.specs.AlarmsBy.{due_by, alarms_by, state_after}
 use Rattle.written_machine.specs.AlarmsEnd.{AlarmsEnd}
 use Rattle.written_machine.proofs.PlanSteps.{IsSteps, plan_steps-are_steps}
@@ -24,58 +26,72 @@ use Rattle.written_machine.proofs.Reached.{reached-not_late, reached-has_states}
 
 -- ---- counting
 
-abbrev count : {X : Type 0} → (X → Bool) → List X → ℕ
-count p [] = 0
-count p (x ∷ xs) = (if p x then 1 else 0) + count p xs
+-- all of these, added up
+abbrev total : {X : Type 0} → (X → ℕ) → List X → ℕ
+total f [] = 0
+total f (x ∷ xs) = f x + total f xs
 
-count-length : {X : Type 0} (p : X → Bool) (xs : List X) → count p xs ≤ length xs
-count-length p [] = omega arith
-count-length p (x ∷ xs) =
-    let one : (if p x then 1 else 0) ≤ 1 = cond_both (p x) 1 0 (λ n. n ≤ 1) (λ _. omega arith) (λ _. omega arith) in
-    omega (arith, one, count-length p xs)
+total-most : {X : Type 0} (f : X → ℕ) (m : ℕ) → ((x : X) → f x ≤ m) → (xs : List X) → total f xs ≤ m * length xs
+total-most f m most [] = omega arith
+total-most f m most (x ∷ xs) = omega (arith, most x, total-most f m most xs)
 
-one-no_more : (b c : Bool) → (c ≡ true → b ≡ true) → (if c then 1 else 0) ≤ (if b then 1 else 0)
-one-no_more true true h = omega arith
-one-no_more true false h = omega arith
-one-no_more false true h = let never = h refl in cc
-one-no_more false false h = omega arith
+module _ {X : Type 0} (f g : X → ℕ) (less : (x : X) → g x ≤ f x) where
+  total-no_more : (xs : List X) → total g xs ≤ total f xs
+  total-no_more [] = omega arith
+  total-no_more (x ∷ xs) = omega (arith, less x, total-no_more xs)
 
-module _ {X : Type 0} (p q : X → Bool) (weaker : (x : X) → q x ≡ true → p x ≡ true) where
-  count-no_more : (xs : List X) → count q xs ≤ count p xs
-  count-no_more [] = omega arith
-  count-no_more (x ∷ xs) = omega (arith, one-no_more (p x) (q x) (weaker x), count-no_more xs)
+  -- where one of them is less, so is the whole
+  total-fewer : (xs : List X) (x : X) → Contains xs x → g x + 1 ≤ f x → total g xs + 1 ≤ total f xs
+  total-fewer [] x (k, l, is) fewer = absurd (omega arith)
+  total-fewer (y ∷ ys) x (zero, l, is) fewer =
+      let here : g y + 1 ≤ f y = subst (λ (z : X). g z + 1 ≤ f z) (sym is) fewer in
+      omega (arith, here, total-no_more ys)
+  total-fewer (y ∷ ys) x (suc k, l, is) fewer = omega (arith, less y, total-fewer ys x (k, omega arith, is) fewer)
 
-  -- one that passed passes no more
-  count-fewer : (xs : List X) (x : X) → Contains xs x → p x ≡ true → q x ≡ false → count q xs + 1 ≤ count p xs
-  count-fewer [] x (k, l, is) was now = absurd (omega arith)
-  count-fewer (y ∷ ys) x (zero, l, is) was now =
-      let passed : p y ≡ true = ap p is ∙ was in
-      let fails : q y ≡ false = ap q is ∙ now in
-      rw passed (rw fails (omega (arith, count-no_more ys)))
-  count-fewer (y ∷ ys) x (suc k, l, is) was now =
-      omega (arith, one-no_more (p y) (q y) (weaker y), count-fewer ys x (k, omega arith, is) was now)
+abbrev flag : Bool → ℕ
+flag b = if b then 1 else 0
 
--- ---- sources that are due by a moment
+flag-most : (b : Bool) → flag b ≤ 1
+flag-most true = omega arith
+flag-most false = omega arith
 
-abbrev is_source_due : ℕ → Machine → Source → Bool
-is_source_due at s source = option_map_or (λ (due : ℕ). nat_le due at) (source_due s source) false
+flag-no_more : (b c : Bool) → (c ≡ true → b ≡ true) → flag c ≤ flag b
+flag-no_more true true h = omega arith
+flag-no_more true false h = omega arith
+flag-no_more false true h = let never = h refl in cc
+flag-no_more false false h = omega arith
 
-source_due-yes : (at due : ℕ) (s : Machine) (source : Source) → source_due s source ≡ Some due → due ≤ at → is_source_due at s source ≡ true
-source_due-yes at due s source is by = ap (λ (o : Option ℕ). option_map_or (λ (d : ℕ). nat_le d at) o false) is ∙ le-leb due at by
+flag-fewer : (b c : Bool) → b ≡ true → c ≡ false → flag c + 1 ≤ flag b
+flag-fewer b c was now = rw was (rw now (omega arith))
 
-source_due-is : (at : ℕ) (s : Machine) (source : Source) → is_source_due at s source ≡ true → (due : ℕ) × (source_due s source ≡ Some due) × (due ≤ at)
-source_due-is at s source h = by (source_due s source) refl h
+-- ---- parts that are due by a moment
+
+abbrev is_part_due : ℕ → Machine → Source → ℕ → Bool
+is_part_due at s source k = option_map_or (λ (due : ℕ). nat_le due at) (part_due s source k) false
+
+part_due-yes : (at due : ℕ) (s : Machine) (source : Source) (k : ℕ) → part_due s source k ≡ Some due → due ≤ at → is_part_due at s source k ≡ true
+part_due-yes at due s source k is by = ap (λ (o : Option ℕ). option_map_or (λ (d : ℕ). nat_le d at) o false) is ∙ le-leb due at by
+
+part_due-is : (at : ℕ) (s : Machine) (source : Source) (k : ℕ) → is_part_due at s source k ≡ true → (due : ℕ) × (part_due s source k ≡ Some due) × (due ≤ at)
+part_due-is at s source k h = by (part_due s source k) refl h
   where
-    by : (o : Option ℕ) → source_due s source ≡ o → option_map_or (λ (d : ℕ). nat_le d at) o false ≡ true → (due : ℕ) × (source_due s source ≡ Some due) × (due ≤ at)
+    by : (o : Option ℕ) → part_due s source k ≡ o → option_map_or (λ (d : ℕ). nat_le d at) o false ≡ true → (due : ℕ) × (part_due s source k ≡ Some due) × (due ≤ at)
     by None is h = cc
     by (Some due) is h = (due, is, leb-true due at h)
 
-source_due-no : (at : ℕ) (s : Machine) (source : Source) → ((due : ℕ) → source_due s source ≡ Some due → at < due) → is_source_due at s source ≡ false
-source_due-no at s source later = by (source_due s source) refl
+part_due-no : (at : ℕ) (s : Machine) (source : Source) (k : ℕ) → ((due : ℕ) → part_due s source k ≡ Some due → at < due) → is_part_due at s source k ≡ false
+part_due-no at s source k later = by (part_due s source k) refl
   where
-    by : (o : Option ℕ) → source_due s source ≡ o → option_map_or (λ (d : ℕ). nat_le d at) o false ≡ false
+    by : (o : Option ℕ) → part_due s source k ≡ o → option_map_or (λ (d : ℕ). nat_le d at) o false ≡ false
     by None is = refl
     by (Some due) is = lt-leb due at (later due is)
+
+-- how many parts of a source are due
+abbrev due_parts : ℕ → Machine → Source → ℕ
+due_parts at s source = total (λ k. flag (is_part_due at s source k)) (range_with_len 0 17)
+
+due_parts-most : (at : ℕ) (s : Machine) (source : Source) → due_parts at s source ≤ 17
+due_parts-most at s source = total-most (λ k. flag (is_part_due at s source k)) 1 (λ k. flag-most (is_part_due at s source k)) (range_with_len 0 17)
 
 module _ (plan : PlanView) (bound : ℕ) where
   abbrev of_switches : List Source
@@ -125,9 +141,12 @@ module _ (plan : PlanView) (bound : ℕ) where
     not_late : IsNothingLate s
     switches : HasStates plan s
 
-  -- how many sources are due at the moment of the state
+  -- how many parts are due at the moment of the state
   abbrev due_now : Machine → ℕ
-  due_now s = count (is_source_due s.moment s) sources
+  due_now s = total (due_parts s.moment s) sources
+
+  due_now-most : (s : Machine) → due_now s ≤ part_count plan
+  due_now-most s = omega (arith, total-most (due_parts s.moment s) 17 (due_parts-most s.moment s) sources, sources-count)
 
   module _ (at : ℕ) (source : Source) (s : Machine) (next : IsNextAlarm s at source) where
     steps : IsSteps plan bound (begin plan (Alarm at source) s) (after_alarm at source s)
@@ -142,23 +161,34 @@ module _ (plan : PlanView) (bound : ℕ) where
       switches = has_states-after plan (Alarm at source) s steps.count (after_alarm at source s) steps.steps going.switches;
     }
 
-    -- where it comes at the moment of the state, one source fewer is due then
+    -- where it comes at the moment of the state, one part fewer is due then
     alarm-fewer : IsValid plan → IsGoing s → at ≡ s.moment → due_now (after_alarm at source s) + 1 ≤ due_now s
     alarm-fewer valid going same =
         let t = after_alarm at source s in
         let here : t.moment ≡ s.moment = alarm-moment ∙ same in
-        let fewer = count-fewer (is_source_due s.moment s) (is_source_due s.moment t) weaker sources source (sources-all s source at going.switches next.due)
-        (source_due-yes s.moment at s source next.due (omega (arith, same)))
-        (source_due-no s.moment t source (λ due is. let later = alarm-done plan valid at source s steps.count t going.switches.devices steps.steps due is in omega (arith, later, same))) in
-        subst (λ (m : ℕ). count (is_source_due m t) sources + 1 ≤ due_now s) (sym here) fewer
+        let done = alarm-done plan valid at source s steps.count t going.switches.devices next.due steps.steps in
+        let was = part_due-yes s.moment at s source done.part done.due (omega (arith, same)) in
+        let now = part_due-no s.moment t source done.part (λ due is. let later = done.done due is in omega (arith, later, same)) in
+        let listed : Contains (range_with_len 0 17) done.part = (done.part, done.few, omega (arith, get_or-range_with_len 0 17 done.part done.part done.few)) in
+        let of_source = total-fewer (λ k. flag (is_part_due s.moment s source k)) (λ k. flag (is_part_due s.moment t source k)) (no_more source) (range_with_len 0 17) done.part listed
+        (flag-fewer (is_part_due s.moment s source done.part) (is_part_due s.moment t source done.part) was now) in
+        let fewer = total-fewer (due_parts s.moment s) (due_parts s.moment t) each sources source (sources-all s source at going.switches next.due) of_source in
+        subst (λ (m : ℕ). total (due_parts m t) sources + 1 ≤ due_now s) (sym here) fewer
       where
-        weaker : (other : Source) → is_source_due s.moment (after_alarm at source s) other ≡ true → is_source_due s.moment s other ≡ true
-        weaker other h =
-            let (due, is, by) = source_due-is s.moment (after_alarm at source s) other h in
-            elim (arms_later plan valid (Alarm at source) s steps.count (after_alarm at source s) steps.steps other due is) [
-              | inl old ↦ source_due-yes s.moment due s other old by
+        weaker : (other : Source) (k : ℕ) → is_part_due s.moment (after_alarm at source s) other k ≡ true → is_part_due s.moment s other k ≡ true
+        weaker other k h =
+            let (due, is, by) = part_due-is s.moment (after_alarm at source s) other k h in
+            elim (arms_later plan valid (Alarm at source) s steps.count (after_alarm at source s) steps.steps other k due is) [
+              | inl old ↦ part_due-yes s.moment due s other k old by
               | inr later ↦ absurd (omega (arith, later, by, same))
             ]
+
+        no_more : (other : Source) (k : ℕ) → flag (is_part_due s.moment (after_alarm at source s) other k) ≤ flag (is_part_due s.moment s other k)
+        no_more other k = flag-no_more (is_part_due s.moment s other k) (is_part_due s.moment (after_alarm at source s) other k) (weaker other k)
+
+        each : (other : Source) → due_parts s.moment (after_alarm at source s) other ≤ due_parts s.moment s other
+        each other =
+            total-no_more (λ k. flag (is_part_due s.moment s other k)) (λ k. flag (is_part_due s.moment (after_alarm at source s) other k)) (no_more other) (range_with_len 0 17)
 
   -- ---- alarms, one after another
 
@@ -197,8 +227,8 @@ module _ (plan : PlanView) (bound : ℕ) where
         by None is = inr (due_by-none s until is)
         by (Some a) is = let (next, on_time) = due_by-some s until a.0 a.1 is in inl (a.0, a.1, next, on_time)
 
-    -- so many moments are left, and at this one so many sources are due
-    ends : IsValid plan → (k moments few : ℕ) (s : Machine) → IsGoing s → until ≤ s.moment + moments → due_now s ≤ few → moments * (source_count plan + 1) + few ≤ k → LeavesNothing until k s
+    -- so many moments are left, and at this one so many parts are due
+    ends : IsValid plan → (k moments few : ℕ) (s : Machine) → IsGoing s → until ≤ s.moment + moments → due_now s ≤ few → moments * (part_count plan + 1) + few ≤ k → LeavesNothing until k s
     ends valid zero zero few s going reach due fuel =
         elim (due-cases s) [
           | inr nothing ↦ leaves-none zero s nothing
@@ -207,7 +237,7 @@ module _ (plan : PlanView) (bound : ℕ) where
               let fewer = alarm-fewer at source s next valid going (omega (arith, not_before, by, reach)) in
               absurd (omega (arith, fewer, due, fuel))
         ]
-    ends valid zero (suc moments) few s going reach due fuel = absurd (none_left (source_count plan) moments few fuel)
+    ends valid zero (suc moments) few s going reach due fuel = absurd (none_left (part_count plan) moments few fuel)
       where
         none_left : (n moments few : ℕ) → suc moments * (n + 1) + few ≤ 0 → ⊥
         none_left n moments few h = omega (arith, h)
@@ -227,12 +257,11 @@ module _ (plan : PlanView) (bound : ℕ) where
               ]
         ]
       where
-        elsewhere : (k moments few at : ℕ) (s t : Machine) → s.moment < at → at ≤ until → until ≤ s.moment + moments → moments * (source_count plan + 1) + few ≤ suc k → IsGoing t → t.moment ≡ at
-            → ((moments few : ℕ) (s : Machine) → IsGoing s → until ≤ s.moment + moments → due_now s ≤ few → moments * (source_count plan + 1) + few ≤ k → LeavesNothing until k s) → LeavesNothing until k t
+        elsewhere : (k moments few at : ℕ) (s t : Machine) → s.moment < at → at ≤ until → until ≤ s.moment + moments → moments * (part_count plan + 1) + few ≤ suc k → IsGoing t → t.moment ≡ at
+            → ((moments few : ℕ) (s : Machine) → IsGoing s → until ≤ s.moment + moments → due_now s ≤ few → moments * (part_count plan + 1) + few ≤ k → LeavesNothing until k s) → LeavesNothing until k t
         elsewhere k zero few at s t later by reach fuel on here again = absurd (omega (arith, later, by, reach))
         elsewhere k (suc moments) few at s t later by reach fuel on here again =
-            let most = count-length (is_source_due t.moment t) sources in
-            again moments (source_count plan) t on (omega (arith, later, reach, here)) (omega (arith, most, sources-count)) (room (source_count plan) moments few k fuel)
+            again moments (part_count plan) t on (omega (arith, later, reach, here)) (due_now-most t) (room (part_count plan) moments few k fuel)
           where
             room : (n moments few k : ℕ) → suc moments * (n + 1) + few ≤ suc k → moments * (n + 1) + n ≤ k
             room n moments few k h = omega (arith, h)
@@ -242,9 +271,8 @@ module _ (plan : PlanView) (bound : ℕ) where
         elim (cases_lt until s.moment) [
           | inl past ↦ leaves-none (most_alarms plan until s) s (λ source due is. let on = going.not_late source due is in omega (arith, on, past))
           | inr here ↦
-              let most = count-length (is_source_due s.moment s) sources in
-              ends valid (most_alarms plan until s) (until - s.moment) (source_count plan) s going (omega (arith, here)) (omega (arith, most, sources-count))
-              (enough (source_count plan) until s.moment here)
+              ends valid (most_alarms plan until s) (until - s.moment) (part_count plan) s going (omega (arith, here)) (due_now-most s)
+              (enough (part_count plan) until s.moment here)
         ]
       where
         more : (n moments left : ℕ) → left ≡ suc moments → moments * (n + 1) + n ≤ left * (n + 1)

@@ -6,7 +6,7 @@ use Rattle.written_machine.specs.Devices.{HasDevices}
 use Rattle.written_machine.specs.declared.line.Line.{Line}
 use Rattle.written_machine.specs.Machine.{Machine}
 use Rattle.written_machine.specs.EventStep.{EventSteps}
-use Rattle.written_machine.specs.Run.{Source, source_due, IsNoAlarmDueBy, Stimulus, Alarm, moment_of, begin, IsReached}
+use Rattle.written_machine.specs.Run.{Source, source_due, part_due, IsNoAlarmDueBy, Stimulus, Alarm, moment_of, begin, IsReached}
 use Rattle.written_machine.specs.NextAlarm.{most_alarms}
 use Rattle.written_machine.specs.AlarmsBy.{alarms_by, state_after}
 
@@ -14,13 +14,20 @@ use Rattle.written_machine.specs.AlarmsBy.{alarms_by, state_after}
 abbrev pub StimuliArmLater : Type 0
 StimuliArmLater =
     (plan : PlanView) (stimulus : Stimulus) (s : Machine) (n : ℕ) (t : Machine) → IsValid plan → EventSteps plan n (begin plan stimulus s) t
-    → (source : Source) (due : ℕ) → source_due t source ≡ Some due → (source_due s source ≡ Some due) ⊎ (moment_of stimulus < due)
+    → (source : Source) (k due : ℕ) → part_due t source k ≡ Some due → (part_due s source k ≡ Some due) ⊎ (moment_of stimulus < due)
 
--- The source of an alarm, if it is due after that, is due later than the alarm came.
+-- a part of the source was due at the moment, and is due later or not at all in another state
+pub record IsPartDone (at : ℕ) (source : Source) (s t : Machine) : Type 0 where
+  pub part : ℕ
+  pub few : part < 17
+  pub due : part_due s source part ≡ Some at
+  pub done : (later : ℕ) → part_due t source part ≡ Some later → at < later
+
+-- An alarm is that of a part of its source, which is due later after that, or not at all.
 abbrev pub AlarmsAreDone : Type 0
 AlarmsAreDone =
-    (plan : PlanView) (at : ℕ) (source : Source) (s : Machine) (n : ℕ) (t : Machine) → IsValid plan → HasDevices plan s.devices → EventSteps plan n (begin plan (Alarm at source) s) t
-    → (due : ℕ) → source_due t source ≡ Some due → at < due
+    (plan : PlanView) (at : ℕ) (source : Source) (s : Machine) (n : ℕ) (t : Machine) → IsValid plan → HasDevices plan s.devices
+    → source_due s source ≡ Some at → EventSteps plan n (begin plan (Alarm at source) s) t → IsPartDone at source s t
 
 -- So after the alarms that come by a moment, of which there are no more than `most_alarms`, nothing is due by it.
 abbrev pub AlarmsEnd : Type 0

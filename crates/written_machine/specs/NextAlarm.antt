@@ -33,7 +33,11 @@ is_due_by at s = option_map_or (λ a. nat_le a.0 at) (next_alarm s) false
 abbrev pub source_count : PlanView → ℕ
 source_count plan = length plan.switches + length plan.rows
 
--- No more alarms can come up to the moment: what comes at a moment arms nothing for that moment, so that each source
--- comes at most once at each.
+-- how many parts they have at most: no source has more than 17
+abbrev pub part_count : PlanView → ℕ
+part_count plan = 17 * source_count plan
+
+-- No more alarms can come up to the moment: what comes at a moment arms nothing for that moment, so that each part of a
+-- source comes at most once at each.
 abbrev pub most_alarms : PlanView → ℕ → Machine → ℕ
-most_alarms plan until s = (until + 1 - s.moment) * (source_count plan + 1)
+most_alarms plan until s = (until + 1 - s.moment) * (part_count plan + 1)

@@ -22,6 +22,12 @@ abbrev pub source_due : Machine → Source → Option ℕ
 source_due s (switch n) = due_of s.switches n
 source_due s (device r) = devices.due_of (device_at s r)
 
+-- When the parts of a source are due, by their numbers: `source_due` is the first of these moments. A switch has one part,
+-- whatever the number.
+abbrev pub part_due : Machine → Source → ℕ → Option ℕ
+part_due s (switch n) k = due_of s.switches n
+part_due s (device r) k = devices.part_due (device_at s r) k
+
 -- of two sources that are due at one moment, the first does not come after the other: switches come before devices, and
 -- each by number
 abbrev pub IsNotAfter : Source → Source → Type 0

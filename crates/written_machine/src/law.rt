@@ -20,10 +20,11 @@ pub fn accepted_is_good()
 
 /// The law of alarms, for every valid plan. A stimulus and its event steps arm nothing for its own
 /// moment or an earlier one: what is due after them was due before, or is due later (`arms_later`).
-/// The source of an alarm, if it is due again, is due later than the alarm came, where each device
-/// has a state of its kind (`done`), as it has in every run (`shapes`). So each source comes at most
-/// once at each moment, and alarms come to an end: in a run of the plan, after at most as many
-/// alarms as `most_alarms` says, none is due by the moment (`end`).
+/// An alarm is that of one part of its source, such as one ball switch of a ball device. If that part
+/// is due again, it is due later than the alarm came, where each device has a state of its kind
+/// (`done`), as it has in every run (`shapes`). So each part comes at most once at each moment, and
+/// alarms come to an end: in a run of the plan, after at most as many alarms as `most_alarms` says,
+/// none is due by the moment (`end`).
 ///
 /// It does nothing: its contract is the law, over the written machine.
 pub fn alarms_end()

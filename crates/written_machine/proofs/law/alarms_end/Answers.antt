@@ -7,7 +7,7 @@ pub returns-clause-arms_later : goal.returns-clause-arms_later
 returns-clause-arms_later c = λ plan stimulus s n t valid steps. arms_later plan valid stimulus s n t steps
 
 pub returns-clause-done : goal.returns-clause-done
-returns-clause-done c = λ plan at source s n t valid has steps. alarm-done plan valid at source s n t has steps
+returns-clause-done c = λ plan at source s n t valid has due steps. alarm-done plan valid at source s n t has due steps
 
 pub returns-clause-end : goal.returns-clause-end
 returns-clause-end c = alarms_end
