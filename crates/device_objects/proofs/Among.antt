@@ -49,7 +49,8 @@ pub by : {x y : List ℕ} {xs : List (List ℕ)} → x ≡ y → In y xs → In 
 by is at = rw is at
 
 -- an answer that is one of two
-pub either : {S : Type 0} {xs : List (List ℕ)} (test : Bool) (x y : S × List ℕ) → (test ≡ true → In x.1 xs) → (test ≡ false → In y.1 xs)
+pub either : {S : Type 0} {xs : List (List ℕ)} (test : Bool) (x y : S × List ℕ) → (test ≡ true → In x.1 xs)
+    → (test ≡ false → In y.1 xs)
     → In (if test then x else y).1 xs
 either true x y first second = first refl
 either false x y first second = second refl
@@ -62,7 +63,8 @@ none P k d below = absurd (omega (arith, below))
 pub one : {X : Type 0} (P : X → Type 0) (x : X) → P x → All P (x ∷ [])
 one P x holds = All-cons P x [] holds (none P)
 
-pub all_if : (P : List ℕ → Type 0) (holds : Bool) (xs : List (List ℕ)) → (holds ≡ true → All P xs) → All P (only_if holds xs)
+pub all_if : (P : List ℕ → Type 0) (holds : Bool) (xs : List (List ℕ)) → (holds ≡ true → All P xs)
+    → All P (only_if holds xs)
 all_if P true xs all = all refl
 all_if P false xs all = none P
 

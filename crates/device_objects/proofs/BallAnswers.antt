@@ -26,7 +26,8 @@ use Rattle.device_objects.proofs.BallShapes.{can_begin-parts, ended-shape, first
 -- ---- moments
 
 -- what is due first is there
-timeout-some : (first : Option (ℕ × ℕ)) (timeout : Option ℕ) → is_timeout_first first timeout ≡ true → is_some timeout ≡ true
+timeout-some : (first : Option (ℕ × ℕ)) (timeout : Option ℕ) → is_timeout_first first timeout ≡ true
+    → is_some timeout ≡ true
 timeout-some first None is = absurd (false≢true is)
 timeout-some first (Some t) is = refl
 
@@ -49,7 +50,8 @@ some_switch zero bs unused counts =
 some_switch (suc n) bs unused counts = lt-ltb 0 (suc n) (omega arith)
 
 -- an attempt may follow one of this number, so also the first; or there is a last one
-may_follow_first : (most : Option ℕ) (number : ℕ) → 1 ≤ number → may_try_again most number ≡ true → may_try_again most 1 ≡ true
+may_follow_first : (most : Option ℕ) (number : ℕ) → 1 ≤ number → may_try_again most number ≡ true
+    → may_try_again most 1 ≡ true
 may_follow_first None number low may = refl
 may_follow_first (Some most) number low may =
     let below : number < most = ltb-true number most may in lt-ltb 1 most (omega (arith, low, below))
@@ -153,12 +155,15 @@ module _ (d : BallSettings) where
 
   either_request : (n : ℕ) (asked can : Bool) (x y z : BallState)
       → (asked ≡ true → can ≡ true → (d.trough && (may_begin d && nat_le n 255)) ≡ true)
-      → In (if◌then◌else◌ {A = BallState × List ℕ} asked (if can then (x, attempted ∷ []) else (y, [])) (z, [])).1 (of_ball_act d (acts.Request n))
-  either_request n true true x y z may = there (if_holds (d.trough && (may_begin d && nat_le n 255)) (may refl refl) here)
+      → In (if◌then◌else◌ {A = BallState × List ℕ} asked (if can then (x, attempted ∷ []) else (y, [])) (z, [])).1
+      (of_ball_act d (acts.Request n))
+  either_request n true true x y z may =
+      there (if_holds (d.trough && (may_begin d && nat_le n 255)) (may refl refl) here)
   either_request n true false x y z may = here
   either_request n false can x y z may = here
 
-  requested-in : (n now : ℕ) (s : BallState) → HasBallShape d s → In (requested d n now s).1 (of_ball_act d (acts.Request n))
+  requested-in : (n now : ℕ) (s : BallState) → HasBallShape d s
+      → In (requested d n now s).1 (of_ball_act d (acts.Request n))
   requested-in n now s shape =
       let t : BallState = record s { wanted = s.wanted + n } in
       either_request n (d.trough && nat_le (s.wanted + n) 255) (can_begin d t) (attempt d 1 now t).0 t s

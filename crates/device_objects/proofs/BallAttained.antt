@@ -97,7 +97,8 @@ module _ (d : BallSettings) (limits : IsWithinLimits (kinds.BallDevice d)) where
   abbrev gone_off : BallSwitch → ℕ → BallState
   gone_off b wanted = state_with b (Away (over 1)) wanted
 
-  ending-comes : (call : Call) (lists : List ℕ) → may_eject d ≡ true → MayCome call (states.BallDevice (gone_off empty 0))
+  ending-comes : (call : Call) (lists : List ℕ) → may_eject d ≡ true
+      → MayCome call (states.BallDevice (gone_off empty 0))
       → MayCome call (states.BallDevice (gone_off full 2))
       → (ball_step d call 0 (gone_off empty 0)).1 ≡ lists ++ []
       → (ball_step d call 0 (gone_off full 2)).1 ≡ lists ++ (begin d 0 (ended (gone_off full 2))).1
@@ -150,8 +151,8 @@ module _ (d : BallSettings) (limits : IsWithinLimits (kinds.BallDevice d)) where
       elim (cases_Bool d.mechanical) [
         | inl hand ↦
             answered calls.Fire (lost ∷ []) (state_with emptying (Away (over 1)) 0)
-            (shape_with emptying (Away (over 1)) 0 some (or_right d.has_coil d.mechanical hand, first_attempt d) (omega arith))
-            refl refl
+            (shape_with emptying (Away (over 1)) 0 some (or_right d.has_coil d.mechanical hand, first_attempt d)
+            (omega arith)) refl refl
         | inr none ↦
             let s : BallState = state_with emptying Idle 0 in
             let t : BallState = set_switch 0 (turned emptying) s in
@@ -195,7 +196,8 @@ module _ (d : BallSettings) (limits : IsWithinLimits (kinds.BallDevice d)) where
       (all_if Answer (is_some d.max_attempts) ((failed ∷ []) ∷ [])
       (λ some. one Answer (failed ∷ []) (gives_up (last_attempt d.max_attempts limits.attempts some))))
     where
-      gives_up : (n : ℕ) × (1 ≤ n) × (n ≤ max 1 (option_map_or (λ m. m) d.max_attempts 1000)) × (may_try_again d.max_attempts n ≡ false)
+      gives_up : (n : ℕ) × (1 ≤ n) × (n ≤ max 1 (option_map_or (λ m. m) d.max_attempts 1000))
+          × (may_try_again d.max_attempts n ≡ false)
           → IsAnswer (kinds.BallDevice d) calls.Fire (failed ∷ [])
       gives_up last =
           let s : BallState = bare (Pulsing (over last.0)) in
@@ -258,7 +260,8 @@ module _ (d : BallSettings) (limits : IsWithinLimits (kinds.BallDevice d)) where
   act-comes : (act : Act) → All (IsAnswer (kinds.BallDevice d) (calls.Act act)) (of_ball_act d act)
   act-comes acts.Confirm =
       let Answer : List ℕ → Type 0 = IsAnswer (kinds.BallDevice d) (calls.Act acts.Confirm) in
-      All-cons Answer [] (only_if (may_eject d) (ending d (confirmed d.target))) (quiet (calls.Act acts.Confirm) tt refl)
+      All-cons Answer [] (only_if (may_eject d) (ending d (confirmed d.target)))
+      (quiet (calls.Act acts.Confirm) tt refl)
       (all_if Answer (may_eject d) (ending d (confirmed d.target))
       (λ may. ending-comes (calls.Act acts.Confirm) (confirmed d.target) may tt tt refl refl))
   act-comes (acts.Request n) =
@@ -267,9 +270,11 @@ module _ (d : BallSettings) (limits : IsWithinLimits (kinds.BallDevice d)) where
       All-cons Answer [] (only_if begins ((attempted ∷ []) ∷ [])) (refused n)
       (all_if Answer begins ((attempted ∷ []) ∷ []) (λ is. one Answer (attempted ∷ []) (request-comes n is)))
   act-comes (acts.SwitchOn i) =
-      one (IsAnswer (kinds.BallDevice d) (calls.Act (acts.SwitchOn i))) [] (quiet (calls.Act (acts.SwitchOn i)) tt refl)
+      one (IsAnswer (kinds.BallDevice d) (calls.Act (acts.SwitchOn i))) []
+      (quiet (calls.Act (acts.SwitchOn i)) tt refl)
   act-comes (acts.SwitchOff i) =
-      one (IsAnswer (kinds.BallDevice d) (calls.Act (acts.SwitchOff i))) [] (quiet (calls.Act (acts.SwitchOff i)) tt refl)
+      one (IsAnswer (kinds.BallDevice d) (calls.Act (acts.SwitchOff i))) []
+      (quiet (calls.Act (acts.SwitchOff i)) tt refl)
   act-comes act = one (IsAnswer (kinds.BallDevice d) (calls.Act act)) [] (quiet (calls.Act act) tt refl)
 
   pub ball-comes : (call : Call) → All (IsAnswer (kinds.BallDevice d) call) (of_ball_device d call)

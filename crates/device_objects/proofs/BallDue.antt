@@ -19,7 +19,9 @@ sooner-is_one (Some x) (Some y) a is = one_of (nat_le x.0 y.0) is
 
 first_here : (i : ℕ) (due : Option ℕ) (a : ℕ × ℕ) → option_map (λ t. (t, i)) due ≡ Some a → (a.1 ≡ i) × (due ≡ Some a.0)
 first_here i None a is = absurd (none-some a is)
-first_here i (Some t) a is = let same : (t, i) ≡ a = same_Some (t, i) a is in (ap (λ p. p.1) (sym same), ap (λ p. Some p.0) same)
+first_here i (Some t) a is =
+    let same : (t, i) ≡ a = same_Some (t, i) a is in
+    (ap (λ p. p.1) (sym same), ap (λ p. Some p.0) same)
 
 -- the ball switch of this number is due at this moment, where they are numbered from i on
 abbrev pub IsDueAt : ℕ → List BallSwitch → ℕ × ℕ → Type 0
@@ -46,7 +48,8 @@ least a b false is = (b, refl, omega (arith, leb-false a.0 b.0 is), omega arith)
 abbrev pub IsDueBy : Option (ℕ × ℕ) → ℕ → Type 0
 IsDueBy first t = (c : ℕ × ℕ) × (first ≡ Some c) × (c.0 ≤ t)
 
-sooner-by_first : (due : Option ℕ) (i t : ℕ) (y : Option (ℕ × ℕ)) → due ≡ Some t → IsDueBy (sooner (option_map (λ m. (m, i)) due) y) t
+sooner-by_first : (due : Option ℕ) (i t : ℕ) (y : Option (ℕ × ℕ)) → due ≡ Some t
+    → IsDueBy (sooner (option_map (λ m. (m, i)) due) y) t
 sooner-by_first None i t y is = absurd (none-some t is)
 sooner-by_first (Some m) i t None is = ((m, i), refl, let same : m ≡ t = same_Some m t is in omega (arith, same))
 sooner-by_first (Some m) i t (Some b) is =
@@ -63,11 +66,13 @@ sooner-by_second (Some a) (Some b) t by =
     let l = least a b (nat_le a.0 b.0) refl in
     (l.0, l.1, omega (arith, l.3, moment, by.2))
 
-pub first_due-is_first : (i : ℕ) (bs : List BallSwitch) (j t : ℕ) → (get_or bs j empty).due ≡ Some t → IsDueBy (first_due_from i bs) t
+pub first_due-is_first : (i : ℕ) (bs : List BallSwitch) (j t : ℕ) → (get_or bs j empty).due ≡ Some t
+    → IsDueBy (first_due_from i bs) t
 first_due-is_first i [] j t is = absurd (none-some t is)
 first_due-is_first i (b ∷ bs) zero t is = sooner-by_first b.due i t (first_due_from (suc i) bs) is
 first_due-is_first i (b ∷ bs) (suc j) t is =
-    sooner-by_second (option_map (λ m. (m, i)) b.due) (first_due_from (suc i) bs) t (first_due-is_first (suc i) bs j t is)
+    sooner-by_second (option_map (λ m. (m, i)) b.due) (first_due_from (suc i) bs) t
+    (first_due-is_first (suc i) bs j t is)
 
 -- ---- none is due
 

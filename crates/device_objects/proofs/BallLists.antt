@@ -57,7 +57,8 @@ module _ (d : BallSettings) where
       All-append AreLists (ending d (entered ∷ []) ++ leaves) ((lost ∷ []) ∷ [])
       (All-append AreLists (ending d (entered ∷ [])) leaves
       (ending-lists (entered ∷ []) (one_list entered (omega arith)))
-      (all_if AreLists (may_eject d) ((left ∷ []) ∷ []) (λ may. one AreLists (left ∷ []) (one_list left (omega arith)))))
+      (all_if AreLists (may_eject d) ((left ∷ []) ∷ [])
+      (λ may. one AreLists (left ∷ []) (one_list left (omega arith)))))
       (one AreLists (lost ∷ []) (one_list lost (omega arith)))
 
   attempt-lists : All AreLists (of_attempt d)
@@ -137,7 +138,8 @@ module _ (d : BallSettings) where
   counted-lists : (now i : ℕ) (s : BallState) → AreLists (count d now i s).1
   counted-lists now i s =
       let t : BallState = set_switch i (turned (switch_at s i)) s in
-      either (switch_at s i).counted (gone d now s.eject t) (after (entered ∷ []) (begin d now t)) (gone-lists now s.eject t)
+      either (switch_at s i).counted (gone d now s.eject t) (after (entered ∷ []) (begin d now t))
+      (gone-lists now s.eject t)
       (and_then (entered ∷ []) (begin d now t).1 (one_list entered (omega arith)) (begin-lists now t))
 
   count_due-lists : (now : ℕ) (first : Option (ℕ × ℕ)) (s : BallState) → AreLists (count_due d now first s).1

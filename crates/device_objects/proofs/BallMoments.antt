@@ -112,7 +112,8 @@ module _ (d : BallSettings) (now : ℕ) (limits : IsBallDeviceWithin d) (old : B
   delay-some true = limits.entrance
   delay-some false = limits.exit
 
-  noted-later : (active otherwise : Bool) (due : ℕ) → (if otherwise then Some (now + delay d active) else None) ≡ Some due → now < due
+  noted-later : (active otherwise : Bool) (due : ℕ)
+      → (if otherwise then Some (now + delay d active) else None) ≡ Some due → now < due
   noted-later active true due is =
       let same : now + delay d active ≡ due = same_Some (now + delay d active) due is in
       omega (arith, delay-some active, same)
@@ -147,8 +148,10 @@ module _ (d : BallSettings) (now : ℕ) (limits : IsBallDeviceWithin d) (old : B
 
 pub ball-arms_later : (d : BallSettings) (call : Call) (now : ℕ) (s : BallState) → IsBallDeviceWithin d → (k due : ℕ)
     → part_due (ball_step d call now s).0 k ≡ Some due → (part_due s k ≡ Some due) ⊎ (now < due)
-ball-arms_later d call now s limits zero due is = (step-later d now limits s call s ((λ i m at. inl at), (λ m at. inl at))).1 due is
-ball-arms_later d call now s limits (suc i) due is = (step-later d now limits s call s ((λ j m at. inl at), (λ m at. inl at))).0 i due is
+ball-arms_later d call now s limits zero due is =
+    (step-later d now limits s call s ((λ i m at. inl at), (λ m at. inl at))).1 due is
+ball-arms_later d call now s limits (suc i) due is =
+    (step-later d now limits s call s ((λ j m at. inl at), (λ m at. inl at))).0 i due is
 
 -- ---- what is due first is a part
 
@@ -158,7 +161,8 @@ switch-is_due s a is =
     let number : a.1 ≡ at.0 = omega (arith, at.1) in
     ap (λ k. (get_or s.switches k empty).due) number ∙ at.2
 
-part-one : (s : BallState) (first : Option (ℕ × ℕ)) (timeout : Option ℕ) → first_due s ≡ first → timeout_of s.eject ≡ timeout
+part-one : (s : BallState) (first : Option (ℕ × ℕ)) (timeout : Option ℕ) → first_due s ≡ first
+    → timeout_of s.eject ≡ timeout
     → IfSome (earlier (option_map (λ a. a.0) first) timeout) (λ due. (k : ℕ) × (part_due s k ≡ Some due))
 part-one s None None at over = tt
 part-one s None (Some t) at over = (0, over)
@@ -193,7 +197,8 @@ module _ (d : BallSettings) (now : ℕ) (limits : IsBallDeviceWithin d) where
   armed_after : now < now + d.timeout
   armed_after = omega (arith, limits.timeout)
 
-  time_out-after : (eject : Eject) (s : BallState) → is_some (timeout_of eject) ≡ true → IsAfter (time_out d now eject s).0.eject
+  time_out-after : (eject : Eject) (s : BallState) → is_some (timeout_of eject) ≡ true
+      → IsAfter (time_out d now eject s).0.eject
   time_out-after Idle s some = absurd (false≢true some)
   time_out-after (Pulsing a) s some =
       either_after (may_try_again d.max_attempts a.number)
@@ -203,7 +208,8 @@ module _ (d : BallSettings) (now : ℕ) (limits : IsBallDeviceWithin d) where
       either_after (can_begin d (ended s)) (attempt d 1 now (ended s)) (ended s, []) armed_after tt
 
   -- no step but the switch's own writes to it
-  either_switches : (bs : List BallSwitch) (test : Bool) (x y : BallState × List ℕ) → x.0.switches ≡ bs → y.0.switches ≡ bs
+  either_switches : (bs : List BallSwitch) (test : Bool) (x y : BallState × List ℕ) → x.0.switches ≡ bs
+      → y.0.switches ≡ bs
       → (if test then x else y).0.switches ≡ bs
   either_switches bs true x y first second = first
   either_switches bs false x y first second = second
@@ -233,7 +239,8 @@ module _ (d : BallSettings) (now : ℕ) (limits : IsBallDeviceWithin d) where
       → IsDone now due (states.BallDevice s) (states.BallDevice (count d now a.1 s).0)
   count-done s a due is same =
       let quiet : (switch_at (count d now a.1 s).0 a.1).due ≡ None =
-      ap (λ bs. (get_or bs a.1 empty).due) (counted-switches a.1 s) ∙ turned-quiet s.switches a.1 (turned (switch_at s a.1)) refl in
+      ap (λ bs. (get_or bs a.1 empty).due) (counted-switches a.1 s)
+      ∙ turned-quiet s.switches a.1 (turned (switch_at s a.1)) refl in
       record {
         part = suc a.1;
         due = switch-is_due s a is ∙ ap Some (sym same);
@@ -241,10 +248,12 @@ module _ (d : BallSettings) (now : ℕ) (limits : IsBallDeviceWithin d) where
       }
 
   -- of both, that is done which is due first
-  first-done : (s : BallState) (first : Option (ℕ × ℕ)) (timeout : Option ℕ) → first_due s ≡ first → timeout_of s.eject ≡ timeout
+  first-done : (s : BallState) (first : Option (ℕ × ℕ)) (timeout : Option ℕ) → first_due s ≡ first
+      → timeout_of s.eject ≡ timeout
       → IfSome (earlier (option_map (λ a. a.0) first) timeout)
       (λ due. IsDone now due (states.BallDevice s)
-      (states.BallDevice (if is_timeout_first first timeout then time_out d now s.eject s else count_due d now first s).0))
+      (states.BallDevice
+      (if is_timeout_first first timeout then time_out d now s.eject s else count_due d now first s).0))
   first-done s None None at over = tt
   first-done s None (Some t) at over = timeout-done s t t over refl
   first-done s (Some a) None at over = count-done s a a.0 at refl
@@ -253,8 +262,10 @@ module _ (d : BallSettings) (now : ℕ) (limits : IsBallDeviceWithin d) where
       one_of : (test : Bool) → nat_lt t a.0 ≡ test
           → IsDone now (min a.0 t) (states.BallDevice s)
           (states.BallDevice (if test then time_out d now s.eject s else count d now a.1 s).0)
-      one_of true is = timeout-done s t (min a.0 t) over (let before : t < a.0 = ltb-true t a.0 is in omega (arith, before))
-      one_of false is = count-done s a (min a.0 t) at (let before : a.0 ≤ t = ltb-false t a.0 is in omega (arith, before))
+      one_of true is =
+          timeout-done s t (min a.0 t) over (let before : t < a.0 = ltb-true t a.0 is in omega (arith, before))
+      one_of false is =
+          count-done s a (min a.0 t) at (let before : a.0 ≤ t = ltb-false t a.0 is in omega (arith, before))
 
 pub ball-fired : (d : BallSettings) (now : ℕ) (s : BallState) → IsBallDeviceWithin d
     → IfSome (due_of s) (λ due. IsDone now due (states.BallDevice s) (states.BallDevice (fire d now s).0))
@@ -271,7 +282,8 @@ no_moment : (first : Option (ℕ × ℕ)) → option_map (λ a. a.0) first ≡ N
 no_moment None is = refl
 no_moment (Some a) is = absurd (none-some a.0 (sym is))
 
-none-due : (bs : List BallSwitch) (i : ℕ) (due : Option ℕ) → first_due_from 0 bs ≡ None → (get_or bs i empty).due ≡ due → due ≡ None
+none-due : (bs : List BallSwitch) (i : ℕ) (due : Option ℕ) → first_due_from 0 bs ≡ None → (get_or bs i empty).due ≡ due
+    → due ≡ None
 none-due bs i None none is = refl
 none-due bs i (Some t) none is = let c = first_due-is_first 0 bs i t is in absurd (none-some c.0 (sym none ∙ c.1))
 
@@ -290,7 +302,8 @@ part-is s zero other is = inl is
 part-is s (suc i) other is = inr (first_due-is_first 0 s.switches i other is)
 
 first-is_least : (first : Option (ℕ × ℕ)) (timeout : Option ℕ)
-    → IfSome (earlier (option_map (λ a. a.0) first) timeout) (λ due. (other : ℕ) → IsPart first timeout other → due ≤ other)
+    → IfSome (earlier (option_map (λ a. a.0) first) timeout)
+    (λ due. (other : ℕ) → IsPart first timeout other → due ≤ other)
 first-is_least None None = tt
 first-is_least None (Some t) = λ other part. elim part [
   | inl is ↦ (let same : t ≡ other = same_Some t other is in omega (arith, same))
@@ -305,7 +318,8 @@ first-is_least (Some a) (Some t) = λ other part. elim part [
   | inr at ↦ (let same : a.0 ≡ at.0.0 = ap (λ p. p.0) (same_Some a at.0 at.1) in omega (arith, same, at.2))
 ]
 
-pub ball-parts_first : (s : BallState) → IfSome (due_of s) (λ due. (k other : ℕ) → part_due s k ≡ Some other → due ≤ other)
+pub ball-parts_first : (s : BallState)
+    → IfSome (due_of s) (λ due. (k other : ℕ) → part_due s k ≡ Some other → due ≤ other)
 ball-parts_first s =
     IfSome_then (due_of s) (first-is_least (first_due s) (timeout_of s.eject))
     (λ due least k other is. least other (part-is s k other is))

@@ -38,7 +38,8 @@ unused_at n bs i unused past =
     ]
 
 -- one that is due is one that the device has
-pub due-within : (n : ℕ) (bs : List BallSwitch) (i t : ℕ) → AreEmpty (drop n bs) → (get_or bs i empty).due ≡ Some t → i < n
+pub due-within : (n : ℕ) (bs : List BallSwitch) (i t : ℕ) → AreEmpty (drop n bs)
+    → (get_or bs i empty).due ≡ Some t → i < n
 due-within n bs i t unused is =
     elim (cases_lt i n) [
       | inl within ↦ within
@@ -67,7 +68,8 @@ module _ (d : BallSettings) where
   with_eject s eject wanted shape of few =
       record { switches = shape.switches; unused = shape.unused; eject = of; wanted = few }
 
-  pub with_switch : (i : ℕ) (b : BallSwitch) (s : BallState) → i < d.switches → HasBallShape d s → HasBallShape d (set_switch i b s)
+  pub with_switch : (i : ℕ) (b : BallSwitch) (s : BallState) → i < d.switches → HasBallShape d s
+      → HasBallShape d (set_switch i b s)
   with_switch i b s within shape = record {
     switches = length-set s.switches i b ∙ shape.switches;
     unused = All-same (λ c. c ≡ empty) (drop d.switches (set s.switches i b)) (drop d.switches s.switches)
@@ -107,7 +109,8 @@ module _ (d : BallSettings) where
   attempt-shape : (number now : ℕ) (s : BallState) → d.has_coil ≡ true → IsAttempt d number → HasBallShape d s
       → HasBallShape d (attempt d number now s).0
   attempt-shape number now s coil is shape =
-      with_eject s (Pulsing (record { number = number; timeout = now + d.timeout })) s.wanted shape (coil, is) shape.wanted
+      with_eject s (Pulsing (record { number = number; timeout = now + d.timeout })) s.wanted shape (coil, is)
+      shape.wanted
 
   begin-shape : (now : ℕ) (s : BallState) → HasBallShape d s → HasBallShape d (begin d now s).0
   begin-shape now s shape =
@@ -133,7 +136,8 @@ module _ (d : BallSettings) where
   time_out-shape now (Pulsing a) s is shape = stuck-shape now a s is.0 shape
   time_out-shape now (Away a) s is shape = begin-shape now (ended s) (ended-shape s shape)
 
-  confirm-shape : (now : ℕ) (eject : Eject) (s : BallState) → HasBallShape d s → HasBallShape d (confirm d now eject s).0
+  confirm-shape : (now : ℕ) (eject : Eject) (s : BallState) → HasBallShape d s
+      → HasBallShape d (confirm d now eject s).0
   confirm-shape now Idle s shape = shape
   confirm-shape now (Pulsing a) s shape = shape
   confirm-shape now (Away a) s shape = begin-shape now (ended s) (ended-shape s shape)
@@ -153,8 +157,8 @@ module _ (d : BallSettings) where
   gone-shape now Idle s is shape =
       let first : Attempt = record { number = 1; timeout = now + d.timeout } in
       one_answer d.mechanical (record s { eject = Away first }, left ∷ []) (s, lost ∷ [])
-      (λ hand. with_eject s (Away first) s.wanted shape (or_right d.has_coil d.mechanical hand, first_attempt) shape.wanted)
-      shape
+      (λ hand. with_eject s (Away first) s.wanted shape (or_right d.has_coil d.mechanical hand, first_attempt)
+      shape.wanted) shape
   gone-shape now (Pulsing a) s is shape =
       with_eject s (Away a) s.wanted shape (or_left d.has_coil d.mechanical is.0, is.1) shape.wanted
   gone-shape now (Away a) s is shape = shape
@@ -196,8 +200,8 @@ module _ (d : BallSettings) where
   halted-shape : (s : BallState) → HasBallShape d s → HasBallShape d (halted s)
   halted-shape s shape = record {
     switches = length-map s.switches not_due ∙ shape.switches;
-    unused = All-same (λ b. b ≡ empty) (drop d.switches (map not_due s.switches)) (map not_due (drop d.switches s.switches))
-        (drop-map not_due d.switches s.switches) (not_due-empty (drop d.switches s.switches) shape.unused);
+    unused = All-same (λ b. b ≡ empty) (drop d.switches (map not_due s.switches))
+        (map not_due (drop d.switches s.switches)) (drop-map not_due d.switches s.switches) (not_due-empty (drop d.switches s.switches) shape.unused);
     eject = tt;
     wanted = omega arith;
   }
@@ -209,7 +213,8 @@ module _ (d : BallSettings) where
   act-shape (acts.Request n) now s shape = requested-shape n now s shape
   act-shape _ now s shape = shape
 
-  pub ball_step-shape : (call : Call) (now : ℕ) (s : BallState) → HasBallShape d s → HasBallShape d (ball_step d call now s).0
+  pub ball_step-shape : (call : Call) (now : ℕ) (s : BallState) → HasBallShape d s
+      → HasBallShape d (ball_step d call now s).0
   ball_step-shape calls.ModeStart now s shape = shape
   ball_step-shape calls.ModeStop now s shape = halted-shape s shape
   ball_step-shape calls.Fire now s shape = fire-shape now s shape

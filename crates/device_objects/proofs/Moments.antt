@@ -66,11 +66,14 @@ module _ (t : TimerSettings) (now : ℕ) (some : 1 ≤ t.interval) (Before : ℕ
 -- ---- what a step arms
 
 -- a part is due after the moment of the step, or was due before it
-pub arms-later : (settings : Settings) (call : Call) (now : ℕ) (world : World) (state : DeviceState) → IsWithinLimits settings
-    → (k due : ℕ) → part_due (device_step settings call now world state).0 k ≡ Some due → (part_due state k ≡ Some due) ⊎ (now < due)
-arms-later (kinds.Timer t) call now world (states.Timer s) limits zero due is = timer-later t now limits.0 (λ d. s.due ≡ Some d) call s (λ d same. inl same) due is
+pub arms-later : (settings : Settings) (call : Call) (now : ℕ) (world : World) (state : DeviceState)
+    → IsWithinLimits settings → (k due : ℕ) → part_due (device_step settings call now world state).0 k ≡ Some due
+    → (part_due state k ≡ Some due) ⊎ (now < due)
+arms-later (kinds.Timer t) call now world (states.Timer s) limits zero due is =
+    timer-later t now limits.0 (λ d. s.due ≡ Some d) call s (λ d same. inl same) due is
 arms-later (kinds.Timer t) call now world (states.Timer s) limits (suc k) due is = absurd (none-some due is)
-arms-later (kinds.BallDevice d) call now world (states.BallDevice s) limits k due is = ball-arms_later d call now s limits k due is
+arms-later (kinds.BallDevice d) call now world (states.BallDevice s) limits k due is =
+    ball-arms_later d call now s limits k due is
 arms-later (kinds.Counter c) call now world (states.Counter slots) limits k due is = absurd (none-some due is)
 arms-later (kinds.Accrual a) call now world (states.Accrual slots) limits k due is = absurd (none-some due is)
 arms-later (kinds.Bank b) call now world (states.Bank slots) limits k due is = absurd (none-some due is)
@@ -91,11 +94,15 @@ timer-fired : (t : TimerSettings) (now : ℕ) (s : TimerState) → 1 ≤ t.inter
 timer-fired t now s some =
     let next : TimerState = (timer.timer_step t calls.Fire now s).0 in
     let later : (m : ℕ) → next.due ≡ Some m → now < m =
-    (λ m is. elim (ticked-later t now some (λ d. ⊥) (record s { value = moved t.direction (pos 1) s.value }) m is) [ inl never ↦ absurd never | inr after ↦ after ]) in
+    (λ m is. elim (ticked-later t now some (λ d. ⊥) (record s { value = moved t.direction (pos 1) s.value }) m is) [
+      | inl never ↦ absurd never
+      | inr after ↦ after
+    ]) in
     if_some s.due (λ due. IsDone now due (states.Timer s) (states.Timer next))
     (λ due is. record { part = 0; due = is; done = if_some next.due (λ m. now < m) later })
 
-pub fired-done : (settings : Settings) (now : ℕ) (world : World) (state : DeviceState) → IsWithinLimits settings → HasShape settings state
+pub fired-done : (settings : Settings) (now : ℕ) (world : World) (state : DeviceState) → IsWithinLimits settings
+    → HasShape settings state
     → IfSome (due_of state) (λ due. IsDone now due state (device_step settings calls.Fire now world state).0)
 fired-done (kinds.Timer t) now world (states.Timer s) limits shape = timer-fired t now s limits.0
 fired-done (kinds.BallDevice d) now world (states.BallDevice s) limits shape = ball-fired d now s limits
@@ -125,12 +132,14 @@ parts-none _ is k = refl
 
 -- while it is, one is due at the same moment
 pub parts-one : (state : DeviceState) → IfSome (due_of state) (λ due. (k : ℕ) × (part_due state k ≡ Some due))
-parts-one (states.Timer s) = if_some s.due (λ due. (k : ℕ) × (part_due (states.Timer s) k ≡ Some due)) (λ due is. (0, is))
+parts-one (states.Timer s) =
+    if_some s.due (λ due. (k : ℕ) × (part_due (states.Timer s) k ≡ Some due)) (λ due is. (0, is))
 parts-one (states.BallDevice s) = ball-parts_one s
 parts-one _ = tt
 
 -- no part is due before the device is
-pub parts-first : (state : DeviceState) → IfSome (due_of state) (λ due. (k other : ℕ) → part_due state k ≡ Some other → due ≤ other)
+pub parts-first : (state : DeviceState)
+    → IfSome (due_of state) (λ due. (k other : ℕ) → part_due state k ≡ Some other → due ≤ other)
 parts-first (states.Timer s) = IfSome_then s.due (timer-part s.due) (λ due least. elim [
   | zero ↦ (λ other is. least other is)
   | suc k ↦ (λ other is. absurd (none-some other is))
@@ -139,7 +148,8 @@ parts-first (states.BallDevice s) = ball-parts_first s
 parts-first _ = tt
 
 -- no part from 17 on is due
-pub parts-few : (settings : Settings) (state : DeviceState) (k : ℕ) → HasShape settings state → 17 ≤ k → part_due state k ≡ None
+pub parts-few : (settings : Settings) (state : DeviceState) (k : ℕ) → HasShape settings state → 17 ≤ k
+    → part_due state k ≡ None
 parts-few (kinds.Timer t) (states.Timer s) zero shape past = absurd (omega (arith, past))
 parts-few (kinds.Timer t) (states.Timer s) (suc k) shape past = refl
 parts-few (kinds.BallDevice d) (states.BallDevice s) k shape past = ball-parts_few s k shape.switches past

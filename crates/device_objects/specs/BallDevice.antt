@@ -1,5 +1,5 @@
--- A ball device, such as a trough or a plunger. Balls lie in it, one at each ball switch that counts, and it ejects them
--- one at a time.
+-- A ball device, such as a trough or a plunger. Balls lie in it, one at each ball switch that counts, and it ejects
+-- them one at a time.
 use Rattle.std.specs.Prelude.{ℕ, zero, suc, ◌+◌, ◌-◌, nat_lt, nat_le, min, Bool, true, false, not, ◌&&◌, ◌||◌, if◌then◌else◌, Option, None, Some, List, [], ◌∷◌, ◌++◌, map, option_map, replicate, slice_index_or, slice_set}
 use Rattle.std.specs.List.{list_any}
 use Rattle.plan_tables.specs.declared.devices.Act.{Act}
@@ -107,7 +107,8 @@ part_due s (suc i) = (switch_at s i).due
 
 -- it attempts to eject a ball, for the time that its settings give
 abbrev pub attempt : BallSettings → ℕ → ℕ → BallState → BallState × List ℕ
-attempt d number now s = (record s { eject = Pulsing (record { number = number; timeout = now + d.timeout }) }, attempted ∷ [])
+attempt d number now s =
+    (record s { eject = Pulsing (record { number = number; timeout = now + d.timeout }) }, attempted ∷ [])
 
 abbrev pub is_idle : Eject → Bool
 is_idle Idle = true
