@@ -93,8 +93,13 @@ module _ (bs : List Booking) (l : Ledger) (rows : length l.coming ≡ length l.c
     entered-transit Awaited some Playfield there =
         omega (arith, has.transit Playfield there, count-more (is_start_for Playfield) bs (Entered d Awaited), count-more (is_end_for Playfield) bs (Entered d Awaited))
     entered-transit Awaited some (Device e) there =
-        omega (arith, has.transit (Device e) there, count-more (is_start_for (Device e)) bs (Entered d Awaited), count-more (is_end_for (Device e)) bs (Entered d Awaited),
-        read-less l.coming e.0 d.0 (omega arith) some)
+        omega (
+          arith,
+          has.transit (Device e) there,
+          count-more (is_start_for (Device e)) bs (Entered d Awaited),
+          count-more (is_end_for (Device e)) bs (Entered d Awaited),
+          read-less l.coming e.0 d.0 (omega arith) some,
+        )
     entered-transit Found says Playfield there =
         omega (arith, has.transit Playfield there, count-more (is_start_for Playfield) bs (Entered d Found), count-more (is_end_for Playfield) bs (Entered d Found))
     entered-transit Found says (Device e) there =
@@ -155,8 +160,13 @@ module _ (bs : List Booking) (l : Ledger) (rows : length l.coming ≡ length l.c
     left-transit (Device f) Playfield to_there there =
         omega (arith, has.transit Playfield there, count-more (is_start_for Playfield) bs (Left d (Device f)), count-more (is_end_for Playfield) bs (Left d (Device f)))
     left-transit (Device f) (Device e) to_there there =
-        omega (arith, has.transit (Device e) there, count-more (is_start_for (Device e)) bs (Left d (Device f)), count-more (is_end_for (Device e)) bs (Left d (Device f)),
-        read-more l.coming e.0 f.0 (omega (arith, to_there)))
+        omega (
+          arith,
+          has.transit (Device e) there,
+          count-more (is_start_for (Device e)) bs (Left d (Device f)),
+          count-more (is_end_for (Device e)) bs (Left d (Device f)),
+          read-more l.coming e.0 f.0 (omega (arith, to_there)),
+        )
 
     left-booked : (to : BallTarget) → IsTargetThere (length l.counted) to → HasBooked (bs ++ Left d to ∷ []) (left d to l)
     left-booked Playfield to_there = record {
@@ -198,8 +208,13 @@ module _ (bs : List Booking) (l : Ledger) (rows : length l.coming ≡ length l.c
   arrived-transit (Device f) Playfield to_there some there =
       omega (arith, has.transit Playfield there, count-more (is_start_for Playfield) bs (Arrived (Device f)), count-more (is_end_for Playfield) bs (Arrived (Device f)))
   arrived-transit (Device f) (Device e) to_there some there =
-      omega (arith, has.transit (Device e) there, count-more (is_start_for (Device e)) bs (Arrived (Device f)), count-more (is_end_for (Device e)) bs (Arrived (Device f)),
-      read-less l.coming e.0 f.0 (omega (arith, to_there)) some)
+      omega (
+        arith,
+        has.transit (Device e) there,
+        count-more (is_start_for (Device e)) bs (Arrived (Device f)),
+        count-more (is_end_for (Device e)) bs (Arrived (Device f)),
+        read-less l.coming e.0 f.0 (omega (arith, to_there)) some,
+      )
 
   arrived-counted : (to : BallTarget) (e : RowId) → e.0 < length l.counted
       → count_by (is_entry_into e) (bs ++ Arrived to ∷ []) ≡ counted_in l e + count_by (is_exit_from e) (bs ++ Arrived to ∷ [])
