@@ -1,7 +1,6 @@
 //! The ball switches of a device.
 
 ghost use Rattle.std.specs.Prelude.{◌≡◌, ◌<◌, ◌^◌, length, option_map, slice_index_or, slice_set, IfSome};
-ghost use Rattle.std.specs.List.{list_any};
 ghost use Rattle.device_objects.specs.BallDevice.{due_of, earlier, empty, first_due, first_due_from, has_ball, noted, sooner, switched, timeout_of, turned};
 
 use device_objects::{BallState, BallSwitch, Eject};
@@ -10,18 +9,11 @@ use plan_tables::BallSettings;
 /// A moment, and the number of a ball switch that is due then.
 pub(crate) type Due = (u64, usize);
 
-/// Whether a ball counts at one of these ball switches.
-fn is_counted_at(switches: &[BallSwitch]) -> bool
-    ensures { result ≡ list_any (λ b. b.counted) switches.now }
-{
-    switches.iter().any(|switch| switch.counted)
-}
-
 /// Whether a ball counts in the device.
 pub(crate) fn has_ball(state: &BallState) -> bool
     ensures { result ≡ has_ball state.now }
 {
-    is_counted_at(&state.switches)
+    state.switches.iter().any(|switch| switch.counted)
 }
 
 /// Of two moments the first; of equal ones the first again.
