@@ -57,7 +57,12 @@ fn can_begin(settings: &BallSettings, state: &BallState) -> bool
 }
 
 /// It begins to eject a ball, if it can. Adds its list to the answer.
-pub(crate) fn begin(settings: &BallSettings, state: &mut BallState, now: u64, lists: Outcome) -> Outcome
+pub(crate) fn begin(
+    settings: &BallSettings,
+    state: &mut BallState,
+    now: u64,
+    lists: Outcome,
+) -> Outcome
     requires moment { now < 2 ^ 40 }
     requires room { array_vec_len lists ≤ 3 }
     ensures state { state.new ≡ (begin settings.now now state.old).0 }
@@ -88,7 +93,11 @@ fn stuck(settings: &BallSettings, state: &mut BallState, now: u64, over: Attempt
     ensures lists { result.items ≡ (stuck settings.now now over state.old).1 }
 {
     if may_try_again(settings, over.number) {
-        let next = if over.number < 1000 { over.number + 1 } else { 1000 };
+        let next = if over.number < 1000 {
+            over.number + 1
+        } else {
+            1000
+        };
         attempt(settings, state, next, now);
         return answer(&[FAILED, ATTEMPTED]);
     }
@@ -179,7 +188,12 @@ pub(crate) fn gone(settings: &BallSettings, state: &mut BallState, now: u64) -> 
 }
 
 /// A trough is to eject so many balls more.
-pub(crate) fn request(settings: &BallSettings, state: &mut BallState, balls: usize, now: u64) -> Outcome
+pub(crate) fn request(
+    settings: &BallSettings,
+    state: &mut BallState,
+    balls: usize,
+    now: u64,
+) -> Outcome
     requires { now < 2 ^ 40 }
     ensures state { state.new ≡ (requested settings.now balls now state.old).0 }
     ensures lists { result.items ≡ (requested settings.now balls now state.old).1 }

@@ -104,7 +104,8 @@ impl BallLedger {
         ensures state { self.new ≡ left device target self.old }
         ensures ledger { IsLedger self.new }
     {
-        self.counted[device.0 as usize] -= 1;
+        let from = device.0 as usize;
+        self.counted[from] -= 1;
         match target {
             BallTarget::Playfield => self.leaving += 1,
             BallTarget::Device(to) => self.coming[to.0 as usize] += 1,
@@ -119,8 +120,9 @@ impl BallLedger {
         ensures state { self.new ≡ lost device self.old }
         ensures ledger { IsLedger self.new }
     {
-        self.counted[device.0 as usize] -= 1;
+        let number = device.0 as usize;
         self.playfield += 1;
+        self.counted[number] -= 1;
     }
 
     /// A ball that was on its way to the target is on the playfield.
