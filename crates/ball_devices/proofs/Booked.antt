@@ -14,7 +14,7 @@ use Rattle.ball_devices.specs.declared.booking.Booking.{Booking}
 use Rattle.ball_devices.specs.declared.booking.Booking.TheVariants.{Entered, Left, Lost, Arrived}
 use Rattle.ball_devices.specs.Ledger.{Ledger, no_balls, counted_in, transit_to, set_counted, origin_of, taken, left, lost, arrived, IsLedger}
 use Rattle.ball_devices.specs.Bookings.{LedgerCall, Enter, Leave, Lose, Arrive, after_call, booked, IsTargetThere, MayBook, after_calls, booked_by, MayBookAll, is_new_entry, is_found_entry, is_entry_into, is_exit_from, is_start_for, is_end_for, is_loose, HasBooked, origin_after}
-use Rattle.ball_devices.specs.Laws.{BallsAreSomewhere, LedgersAreByBookings, OriginsAreByBookings}
+use Rattle.ball_devices.specs.Laws.{BallsAreSomewhere, LedgersFollowBookings, OriginsFollowBookings}
 use Rattle.ball_devices.proofs.Ledgers.{Says, origin-says, new-is, call-is, calls-are}
 
 -- ---- one number more, one less, and one booking more
@@ -69,7 +69,7 @@ there-in n m (Device d) same there = omega (arith, there)
 
 -- ---- a booking keeps what follows from bookings
 
-module _ (bs : List Booking) (l : Ledger) (rows : length l.coming ≡ length l.counted) (has : HasBooked bs l) where
+module _ (bs : List Booking) (l : Ledger) (rows : length l.to_devices ≡ length l.counted) (has : HasBooked bs l) where
   -- the target is there after a number is set
   was-there : (d : RowId) (n : ℕ) (target : BallTarget) → IsTargetThere (length (slice_set l.counted d.0 n)) target → IsTargetThere (length l.counted) target
   was-there d n target there = there-in (length (slice_set l.counted d.0 n)) (length l.counted) target (length-set l.counted d.0 n) there
@@ -98,7 +98,7 @@ module _ (bs : List Booking) (l : Ledger) (rows : length l.coming ≡ length l.c
           has.transit (Device e) there,
           count-more (is_start_for (Device e)) bs (Entered d Awaited),
           count-more (is_end_for (Device e)) bs (Entered d Awaited),
-          read-less l.coming e.0 d.0 (omega arith) some,
+          read-less l.to_devices e.0 d.0 (omega arith) some,
         )
     entered-transit Found says Playfield there =
         omega (arith, has.transit Playfield there, count-more (is_start_for Playfield) bs (Entered d Found), count-more (is_end_for Playfield) bs (Entered d Found))
@@ -165,7 +165,7 @@ module _ (bs : List Booking) (l : Ledger) (rows : length l.coming ≡ length l.c
           has.transit (Device e) there,
           count-more (is_start_for (Device e)) bs (Left d (Device f)),
           count-more (is_end_for (Device e)) bs (Left d (Device f)),
-          read-more l.coming e.0 f.0 (omega (arith, to_there)),
+          read-more l.to_devices e.0 f.0 (omega (arith, to_there)),
         )
 
     left-booked : (to : BallTarget) → IsTargetThere (length l.counted) to → HasBooked (bs ++ Left d to ∷ []) (left d to l)
@@ -213,7 +213,7 @@ module _ (bs : List Booking) (l : Ledger) (rows : length l.coming ≡ length l.c
         has.transit (Device e) there,
         count-more (is_start_for (Device e)) bs (Arrived (Device f)),
         count-more (is_end_for (Device e)) bs (Arrived (Device f)),
-        read-less l.coming e.0 f.0 (omega (arith, to_there)) some,
+        read-less l.to_devices e.0 f.0 (omega (arith, to_there)) some,
       )
 
   arrived-counted : (to : BallTarget) (e : RowId) → e.0 < length l.counted
@@ -273,8 +273,8 @@ none-booked plan = record {
 pub balls_are_somewhere : BallsAreSomewhere
 balls_are_somewhere plan calls may = let is = calls-are calls (no_balls plan) (new-is plan) may in is.balanced
 
-pub ledgers_are_by_bookings : LedgersAreByBookings
-ledgers_are_by_bookings plan calls may = calls-booked calls [] (no_balls plan) (new-is plan) may (none-booked plan)
+pub ledgers_follow_bookings : LedgersFollowBookings
+ledgers_follow_bookings plan calls may = calls-booked calls [] (no_balls plan) (new-is plan) may (none-booked plan)
 
 -- ---- where the next ball comes from
 
@@ -310,7 +310,7 @@ origin-booked bs l d has within =
     (some-left (transit_to l (Device d)) (count_by (is_start_for (Device d)) bs) (count_by (is_end_for (Device d)) bs) (has.transit (Device d) within))
     (some-left l.playfield (count_by is_loose bs) (count_by is_found_entry bs) has.playfield)
 
-pub origins_are_by_bookings : OriginsAreByBookings
+pub origins_are_by_bookings : OriginsFollowBookings
 origins_are_by_bookings plan calls d may within =
-    origin-booked (booked_by calls (no_balls plan)) (after_calls calls (no_balls plan)) d (ledgers_are_by_bookings plan calls may)
+    origin-booked (booked_by calls (no_balls plan)) (after_calls calls (no_balls plan)) d (ledgers_follow_bookings plan calls may)
     (omega (arith, calls-rows calls (no_balls plan), length-replicate {A = ℕ} (length plan.rows) 0))

@@ -31,18 +31,18 @@ total-none n = omega (arith, sum_by-replicate (λ (k : ℕ). k) n 0)
 
 -- what an origin says of how many are on their way to the device, and on the playfield
 abbrev pub Says : Origin → ℕ → ℕ → Type 0
-Says Awaited coming playfield = 0 < coming
-Says Found coming playfield = (coming ≡ 0) × (0 < playfield)
-Says New coming playfield = (coming ≡ 0) × (playfield ≡ 0)
+Says Awaited to_devices playfield = 0 < to_devices
+Says Found to_devices playfield = (to_devices ≡ 0) × (0 < playfield)
+Says New to_devices playfield = (to_devices ≡ 0) × (playfield ≡ 0)
 
 pub origin-says : (d : RowId) (l : Ledger) → Says (origin_of d l) (transit_to l (Device d)) l.playfield
 origin-says d l =
-    let coming = transit_to l (Device d) in
-    cond_both (nat_lt 0 coming) Awaited (cond (nat_lt 0 l.playfield) Found New) (λ o. Says o coming l.playfield)
-    (λ e. ltb-true 0 coming e)
+    let to_devices = transit_to l (Device d) in
+    cond_both (nat_lt 0 to_devices) Awaited (cond (nat_lt 0 l.playfield) Found New) (λ o. Says o to_devices l.playfield)
+    (λ e. ltb-true 0 to_devices e)
     (λ e.
-    let none = ltb-false 0 coming e in
-    cond_both (nat_lt 0 l.playfield) Found New (λ o. Says o coming l.playfield)
+    let none = ltb-false 0 to_devices e in
+    cond_both (nat_lt 0 l.playfield) Found New (λ o. Says o to_devices l.playfield)
     (λ f. (omega arith, ltb-true 0 l.playfield f))
     (λ f. let no_more = ltb-false 0 l.playfield f in (omega arith, omega arith)))
 
@@ -58,9 +58,9 @@ new-is plan = record {
 module _ (l : Ledger) (is : IsLedger l) where
   pub entered-from : (d : RowId) (o : Origin) → Says o (transit_to l (Device d)) l.playfield → d.0 < length l.counted → l.known < 2 ^ 32 → IsLedger (set_counted d (counted_in l d + 1) (taken d o l))
   entered-from d Awaited some within room = record {
-    balanced = omega (arith, total-more l.counted d.0 within, total-less l.coming d.0 (omega (arith, is.rows)) some);
+    balanced = omega (arith, total-more l.counted d.0 within, total-less l.to_devices d.0 (omega (arith, is.rows)) some);
     few = is.few;
-    rows = omega (arith, is.rows, length-set l.coming d.0 (slice_index_or l.coming d.0 0 - 1), length-set l.counted d.0 (slice_index_or l.counted d.0 0 + 1));
+    rows = omega (arith, is.rows, length-set l.to_devices d.0 (slice_index_or l.to_devices d.0 0 - 1), length-set l.counted d.0 (slice_index_or l.counted d.0 0 + 1));
   }
   entered-from d Found says within room = record {
     balanced = omega (arith, says.1, total-more l.counted d.0 within);
@@ -83,9 +83,9 @@ module _ (l : Ledger) (is : IsLedger l) where
     rows = omega (arith, is.rows, length-set l.counted d.0 (slice_index_or l.counted d.0 0 - 1));
   }
   left-is d (Device to) within there some = record {
-    balanced = omega (arith, total-less l.counted d.0 within some, total-more l.coming to.0 (omega (arith, is.rows, there)));
+    balanced = omega (arith, total-less l.counted d.0 within some, total-more l.to_devices to.0 (omega (arith, is.rows, there)));
     few = is.few;
-    rows = omega (arith, is.rows, length-set l.coming to.0 (slice_index_or l.coming to.0 0 + 1), length-set l.counted d.0 (slice_index_or l.counted d.0 0 - 1));
+    rows = omega (arith, is.rows, length-set l.to_devices to.0 (slice_index_or l.to_devices to.0 0 + 1), length-set l.counted d.0 (slice_index_or l.counted d.0 0 - 1));
   }
 
   pub lost-is : (d : RowId) → d.0 < length l.counted → 0 < counted_in l d → IsLedger (lost d l)
@@ -102,9 +102,9 @@ module _ (l : Ledger) (is : IsLedger l) where
     rows = is.rows;
   }
   arrived-is (Device to) there some = record {
-    balanced = omega (arith, total-less l.coming to.0 (omega (arith, is.rows, there)) some);
+    balanced = omega (arith, total-less l.to_devices to.0 (omega (arith, is.rows, there)) some);
     few = is.few;
-    rows = omega (arith, is.rows, length-set l.coming to.0 (slice_index_or l.coming to.0 0 - 1));
+    rows = omega (arith, is.rows, length-set l.to_devices to.0 (slice_index_or l.to_devices to.0 0 - 1));
   }
 
 -- ---- all calls

@@ -94,7 +94,7 @@ abbrev pub is_entry_into : RowId → Booking → Bool
 is_entry_into d (Entered e origin) = d.0 == e.0
 is_entry_into d _ = false
 
--- a ball has gone from the device, to where it should or not
+-- a ball has left the device, ejected or not
 abbrev pub is_exit_from : RowId → Booking → Bool
 is_exit_from d (Left e target) = d.0 == e.0
 is_exit_from d (Lost e) = d.0 == e.0
@@ -110,13 +110,13 @@ is_end_for target (Entered d origin) = is_awaited origin && is_target target (De
 is_end_for target (Arrived other) = is_target target other
 is_end_for target _ = false
 
--- a ball is on the playfield now
+-- a ball has come onto the playfield
 abbrev pub is_loose : Booking → Bool
 is_loose (Lost d) = true
 is_loose (Arrived target) = true
 is_loose _ = false
 
--- The ledger has booked just this. Each number in it is a count of bookings, less another one.
+-- What the bookings make of the ledger: each number is a count of bookings, less another one where balls go away again.
 pub record HasBooked (bookings : List Booking) (l : Ledger) : Type 0 where
   pub known : l.known ≡ count_by is_new_entry bookings
   pub counted : (d : RowId) → d.0 < length l.counted → count_by (is_entry_into d) bookings ≡ counted_in l d + count_by (is_exit_from d) bookings

@@ -2,7 +2,7 @@
 
 ghost use Rattle.std.specs.Prelude.{◌≡◌, ◌<◌, ◌≤◌, ◌^◌, ◌++◌, length};
 ghost use Rattle.arrayvec.specs.ArrayVec.{array_vec_len};
-ghost use Rattle.device_objects.specs.BallDevice.{attempt, begin, can_begin, confirm, confirmed, ended, given_up, gone, may_try_again, requested, stuck, time_out};
+ghost use Rattle.device_objects.specs.BallDevice.{attempt, begin, can_begin, confirm, confirmed, ended, overdue, gone, may_try_again, requested, stuck, time_out};
 
 use crate::switches::has_ball;
 use device_objects::{Attempt, BallState, Eject, Outcome};
@@ -115,8 +115,8 @@ fn end(state: &mut BallState)
 }
 
 /// The lists of a ball that should have arrived by now.
-fn given_up(target: BallTarget) -> Outcome
-    ensures lists { result.items ≡ given_up target }
+fn overdue(target: BallTarget) -> Outcome
+    ensures lists { result.items ≡ overdue target }
     ensures count { array_vec_len result ≤ 2 }
 {
     match target {
@@ -147,7 +147,7 @@ pub(crate) fn time_out(settings: &BallSettings, state: &mut BallState, now: u64)
         Eject::Pulsing(over) => stuck(settings, state, now, over),
         Eject::Away(_) => {
             end(state);
-            begin(settings, state, now, given_up(settings.target))
+            begin(settings, state, now, overdue(settings.target))
         }
     }
 }

@@ -17,7 +17,7 @@ use Rattle.device_objects.specs.declared.state.BallState.{BallState}
 use Rattle.device_objects.specs.declared.state.Eject.{Eject}
 use Rattle.device_objects.specs.declared.state.Eject.TheVariants.{Idle, Pulsing, Away}
 use Rattle.device_objects.specs.declared.state.DeviceState.TheVariants as states
-use Rattle.device_objects.specs.BallDevice.{empty, switch_at, set_switch, first_due, timeout_of, earlier, is_timeout_first, entered, attempted, left, lost, failed, attempt, can_begin, begin, after, ended, stuck, may_try_again, given_up, confirmed, time_out, confirm, turned, gone, count, count_due, fire, requested, act_step, ball_step}
+use Rattle.device_objects.specs.BallDevice.{empty, switch_at, set_switch, first_due, timeout_of, earlier, is_timeout_first, entered, attempted, left, lost, failed, attempt, can_begin, begin, after, ended, stuck, may_try_again, overdue, confirmed, time_out, confirm, turned, gone, count, count_due, fire, requested, act_step, ball_step}
 use Rattle.device_objects.specs.Laws.{IsAttempt, IsEjectOf, HasBallShape, MayCome}
 use Rattle.device_objects.specs.Outcomes.{only_if, may_begin, may_eject, ending, of_count, of_attempt, of_ball_fire, of_ball_act, outcomes}
 use Rattle.device_objects.proofs.Among.{In, here, there, at_last, at_left, at_right, if_holds, by, either}
@@ -119,18 +119,18 @@ module _ (d : BallSettings) where
       → HasBallShape d (ended s) → In (time_out d now eject s).1 (of_ball_fire d)
   time_out-in now Idle s is due shape = absurd (false≢true due)
   time_out-in now (Pulsing a) s is due shape =
-      at_left (only_if (may_eject d) (ending d (given_up d.target)))
+      at_left (only_if (may_eject d) (ending d (overdue d.target)))
       (at_right (only_if (nat_lt 0 d.switches) (of_count d)) (if_holds d.has_coil is.0 (stuck-in now a s is.1)))
   time_out-in now (Away a) s is due shape =
       at_right (only_if (nat_lt 0 d.switches) (of_count d) ++ only_if d.has_coil (of_attempt d))
-      (if_holds (may_eject d) is.0 (ending-in (given_up d.target) now (ended s) (may_begin-from (ended s) shape)))
+      (if_holds (may_eject d) is.0 (ending-in (overdue d.target) now (ended s) (may_begin-from (ended s) shape)))
 
   count_due-in : (now : ℕ) (first : Option (ℕ × ℕ)) (s : BallState) → first_due s ≡ first → is_some first ≡ true
       → HasBallShape d s → In (count_due d now first s).1 (of_ball_fire d)
   count_due-in now None s is due shape = absurd (false≢true due)
   count_due-in now (Some a) s is due shape =
       let within : a.1 < d.switches = first_due-within d s a shape is in
-      at_left (only_if (may_eject d) (ending d (given_up d.target)))
+      at_left (only_if (may_eject d) (ending d (overdue d.target)))
       (at_left (only_if d.has_coil (of_attempt d))
       (if_holds (nat_lt 0 d.switches) (lt-ltb 0 d.switches (omega (arith, within))) (count-in now a.1 s within shape)))
 

@@ -18,7 +18,7 @@ use Rattle.device_objects.specs.declared.state.BallState.{BallState}
 use Rattle.device_objects.specs.declared.state.Eject.{Eject}
 use Rattle.device_objects.specs.declared.state.Eject.TheVariants.{Idle, Pulsing, Away}
 use Rattle.device_objects.specs.declared.state.DeviceState.TheVariants as states
-use Rattle.device_objects.specs.BallDevice.{empty, first_state, set_switch, turned, entered, attempted, left, lost, failed, attempt, can_begin, begin, after, ended, may_try_again, given_up, confirmed, ball_step}
+use Rattle.device_objects.specs.BallDevice.{empty, first_state, set_switch, turned, entered, attempted, left, lost, failed, attempt, can_begin, begin, after, ended, may_try_again, overdue, confirmed, ball_step}
 use Rattle.device_objects.specs.Laws.{IsEjectOf, HasBallShape, IsAnswer, MayCome}
 use Rattle.device_objects.specs.Outcomes.{only_if, may_begin, may_eject, ending, of_count, of_attempt, of_ball_fire, of_ball_act, of_ball_device}
 use Rattle.device_objects.proofs.Among.{one, all_if, if_true, if_false}
@@ -210,12 +210,12 @@ module _ (d : BallSettings) (limits : IsWithinLimits (kinds.BallDevice d)) where
       let Answer : List ℕ → Type 0 = IsAnswer (kinds.BallDevice d) calls.Fire in
       let counts : List (List ℕ) = only_if (nat_lt 0 d.switches) (of_count d) in
       let attempts : List (List ℕ) = only_if d.has_coil (of_attempt d) in
-      All-append Answer (counts ++ attempts) (only_if (may_eject d) (ending d (given_up d.target)))
+      All-append Answer (counts ++ attempts) (only_if (may_eject d) (ending d (overdue d.target)))
       (All-append Answer counts attempts
       (all_if Answer (nat_lt 0 d.switches) (of_count d) (λ some. count-comes (ltb-true 0 d.switches some)))
       (all_if Answer d.has_coil (of_attempt d) (λ coil. attempt-comes coil)))
-      (all_if Answer (may_eject d) (ending d (given_up d.target))
-      (λ may. ending-comes calls.Fire (given_up d.target) may refl refl refl refl))
+      (all_if Answer (may_eject d) (ending d (overdue d.target))
+      (λ may. ending-comes calls.Fire (overdue d.target) may refl refl refl refl))
 
   -- ---- acts
 

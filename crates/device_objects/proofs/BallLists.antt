@@ -13,7 +13,7 @@ use Rattle.device_objects.specs.declared.state.Attempt.{Attempt}
 use Rattle.device_objects.specs.declared.state.BallState.{BallState}
 use Rattle.device_objects.specs.declared.state.Eject.{Eject}
 use Rattle.device_objects.specs.declared.state.Eject.TheVariants.{Idle, Pulsing, Away}
-use Rattle.device_objects.specs.BallDevice.{switch_at, set_switch, first_due, timeout_of, is_timeout_first, entered, attempted, left, lost, failed, succeeded, arrived, attempt, can_begin, begin, after, ended, stuck, may_try_again, given_up, confirmed, time_out, confirm, turned, gone, count, count_due, fire, requested, act_step, ball_step}
+use Rattle.device_objects.specs.BallDevice.{switch_at, set_switch, first_due, timeout_of, is_timeout_first, entered, attempted, left, lost, failed, succeeded, arrived, attempt, can_begin, begin, after, ended, stuck, may_try_again, overdue, confirmed, time_out, confirm, turned, gone, count, count_due, fire, requested, act_step, ball_step}
 use Rattle.device_objects.specs.Outcomes.{only_if, may_begin, may_eject, ending, of_count, of_attempt, of_ball_fire, of_ball_act, of_ball_device}
 use Rattle.device_objects.proofs.Among.{none, one, all_if}
 
@@ -33,9 +33,9 @@ two_lists j k low l = All-cons (λ i. i < 7) j (k ∷ []) low (one_list k l)
 and_then : (xs ys : List ℕ) → AreLists xs → AreLists ys → AreLists (xs ++ ys)
 and_then xs ys first second = All-append (λ k. k < 7) xs ys first second
 
-given_up-lists : (target : BallTarget) → AreLists (given_up target)
-given_up-lists targets.Playfield = two_lists arrived succeeded (omega arith) (omega arith)
-given_up-lists (targets.Device r) = two_lists arrived failed (omega arith) (omega arith)
+overdue-lists : (target : BallTarget) → AreLists (overdue target)
+overdue-lists targets.Playfield = two_lists arrived succeeded (omega arith) (omega arith)
+overdue-lists (targets.Device r) = two_lists arrived failed (omega arith) (omega arith)
 
 confirmed-lists : (target : BallTarget) → AreLists (confirmed target)
 confirmed-lists targets.Playfield = two_lists arrived succeeded (omega arith) (omega arith)
@@ -74,12 +74,12 @@ module _ (d : BallSettings) where
   fire_outcomes-lists =
       let counts : List (List ℕ) = only_if (nat_lt 0 d.switches) (of_count d) in
       let attempts : List (List ℕ) = only_if d.has_coil (of_attempt d) in
-      All-append AreLists (counts ++ attempts) (only_if (may_eject d) (ending d (given_up d.target)))
+      All-append AreLists (counts ++ attempts) (only_if (may_eject d) (ending d (overdue d.target)))
       (All-append AreLists counts attempts
       (all_if AreLists (nat_lt 0 d.switches) (of_count d) (λ some. count-lists))
       (all_if AreLists d.has_coil (of_attempt d) (λ coil. attempt-lists)))
-      (all_if AreLists (may_eject d) (ending d (given_up d.target))
-      (λ may. ending-lists (given_up d.target) (given_up-lists d.target)))
+      (all_if AreLists (may_eject d) (ending d (overdue d.target))
+      (λ may. ending-lists (overdue d.target) (overdue-lists d.target)))
 
   act_outcomes-lists : (act : Act) → All AreLists (of_ball_act d act)
   act_outcomes-lists acts.Confirm =
@@ -119,7 +119,7 @@ module _ (d : BallSettings) where
   time_out-lists now Idle s = no_list
   time_out-lists now (Pulsing a) s = stuck-lists now a s
   time_out-lists now (Away a) s =
-      and_then (given_up d.target) (begin d now (ended s)).1 (given_up-lists d.target) (begin-lists now (ended s))
+      and_then (overdue d.target) (begin d now (ended s)).1 (overdue-lists d.target) (begin-lists now (ended s))
 
   confirm-lists : (now : ℕ) (eject : Eject) (s : BallState) → AreLists (confirm d now eject s).1
   confirm-lists now Idle s = no_list
