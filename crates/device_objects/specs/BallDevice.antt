@@ -1,6 +1,6 @@
--- A ball device, such as a trough or a plunger. Balls lie in it, one at each ball switch that counts, and it ejects them
--- one at a time.
-use Rattle.std.specs.Prelude.{ℕ, zero, suc, ◌+◌, ◌-◌, ◌==◌, nat_lt, nat_le, min, Bool, true, false, not, ◌&&◌, ◌||◌, is_some, if◌then◌else◌, Option, None, Some, List, [], ◌∷◌, ◌++◌, map, option_map, replicate, slice_index_or, slice_set}
+-- A ball device, such as a trough or a plunger. Balls lie in it, one at each ball switch that counts, and it ejects
+-- them one at a time.
+use Rattle.std.specs.Prelude.{ℕ, zero, suc, ◌+◌, ◌-◌, nat_lt, nat_le, min, Bool, true, false, not, ◌&&◌, ◌||◌, if◌then◌else◌, Option, None, Some, List, [], ◌∷◌, ◌++◌, map, option_map, replicate, slice_index_or, slice_set}
 use Rattle.std.specs.List.{list_any}
 use Rattle.plan_tables.specs.declared.devices.Act.{Act}
 use Rattle.plan_tables.specs.declared.devices.Act.TheVariants as acts
@@ -107,7 +107,8 @@ part_due s (suc i) = (switch_at s i).due
 
 -- it attempts to eject a ball, for the time that its settings give
 abbrev pub attempt : BallSettings → ℕ → ℕ → BallState → BallState × List ℕ
-attempt d number now s = (record s { eject = Pulsing (record { number = number; timeout = now + d.timeout }) }, attempted ∷ [])
+attempt d number now s =
+    (record s { eject = Pulsing (record { number = number; timeout = now + d.timeout }) }, attempted ∷ [])
 
 abbrev pub is_idle : Eject → Bool
 is_idle Idle = true
@@ -230,9 +231,13 @@ act_step d acts.Confirm now s = confirm d now s.eject s
 act_step d (acts.Request n) now s = requested d n now s
 act_step d _ now s = (s, [])
 
+-- a ball switch at which nothing is due any more
+abbrev pub not_due : BallSwitch → BallSwitch
+not_due b = record b { due = None }
+
 -- it is taken out of the machine: nothing is due any more, and nothing is ejected
 abbrev pub halted : BallState → BallState
-halted s = record { switches = map (λ b. record b { due = None }) s.switches; eject = Idle; wanted = 0 }
+halted s = record { switches = map not_due s.switches; eject = Idle; wanted = 0 }
 
 abbrev pub ball_step : BallSettings → Call → ℕ → BallState → BallState × List ℕ
 ball_step d calls.ModeStart now s = (s, [])
