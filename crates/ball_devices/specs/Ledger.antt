@@ -17,6 +17,16 @@ pub record Ledger : Type 0 where
   pub leaving : ℕ
   pub playfield : ℕ
 
+-- a ledger with these numbers
+abbrev pub ledger_of : ℕ → List ℕ → List ℕ → ℕ → ℕ → Ledger
+ledger_of known counted coming leaving playfield = record {
+  known = known;
+  counted = counted;
+  coming = coming;
+  leaving = leaving;
+  playfield = playfield;
+}
+
 -- at first no ball is known
 abbrev pub no_balls : PlanView → Ledger
 no_balls plan = record {
