@@ -44,18 +44,22 @@ abbrev pub IsFirstSoFar : List BallSwitch → ℕ → Option (ℕ × ℕ) → Ty
 IsFirstSoFar bs i first = sooner first (first_due_from i (drop i bs)) ≡ first_due_from 0 bs
 
 first_due_from-next : (bs : List BallSwitch) (i : ℕ) (d : BallSwitch) → i < length bs
-    → first_due_from i (drop i bs) ≡ sooner (option_map (λ due. (due, i)) (get_or bs i d).due) (first_due_from (i + 1) (drop (i + 1) bs))
+    → first_due_from i (drop i bs)
+    ≡ sooner (option_map (λ due. (due, i)) (get_or bs i d).due) (first_due_from (i + 1) (drop (i + 1) bs))
 first_due_from-next bs i d within =
     ap (first_due_from i) (drop_more bs i d within)
-    ∙ ap (λ (k : ℕ). sooner (option_map (λ due. (due, i)) (get_or bs i d).due) (first_due_from k (drop (i + 1) bs))) (sym (add-one i))
+    ∙ ap (λ (k : ℕ). sooner (option_map (λ due. (due, i)) (get_or bs i d).due) (first_due_from k (drop (i + 1) bs)))
+    (sym (add-one i))
 
-pub first-more : (bs : List BallSwitch) (i : ℕ) (first : Option (ℕ × ℕ)) (d : BallSwitch) → i < length bs → IsFirstSoFar bs i first
+pub first-more : (bs : List BallSwitch) (i : ℕ) (first : Option (ℕ × ℕ)) (d : BallSwitch) → i < length bs
+    → IsFirstSoFar bs i first
     → IsFirstSoFar bs (i + 1) (sooner first (option_map (λ due. (due, i)) (get_or bs i d).due))
 first-more bs i first d within so_far =
     sooner-assoc first (option_map (λ due. (due, i)) (get_or bs i d).due) (first_due_from (i + 1) (drop (i + 1) bs))
     ∙ (sym (ap (sooner first) (first_due_from-next bs i d within)) ∙ so_far)
 
-pub first-all : (bs : List BallSwitch) (i : ℕ) (first : Option (ℕ × ℕ)) → length bs ≤ i → IsFirstSoFar bs i first → first ≡ first_due_from 0 bs
+pub first-all : (bs : List BallSwitch) (i : ℕ) (first : Option (ℕ × ℕ)) → length bs ≤ i → IsFirstSoFar bs i first
+    → first ≡ first_due_from 0 bs
 first-all bs i first past so_far =
     sym (ap (λ rest. sooner first (first_due_from i rest)) (drop_all i bs past) ∙ sooner-none first) ∙ so_far
 
@@ -64,9 +68,11 @@ first-all bs i first past so_far =
 sooner-either : (P : ℕ × ℕ → Type 0) (a b : Option (ℕ × ℕ)) → IfSome a P → IfSome b P → IfSome (sooner a b) P
 sooner-either P None b of_a of_b = of_b
 sooner-either P (Some a) None of_a of_b = of_a
-sooner-either P (Some a) (Some b) of_a of_b = cond_both (nat_le a.0 b.0) (Some a) (Some b) (λ o. IfSome o P) (λ _. of_a) (λ _. of_b)
+sooner-either P (Some a) (Some b) of_a of_b =
+    cond_both (nat_le a.0 b.0) (Some a) (Some b) (λ o. IfSome o P) (λ _. of_a) (λ _. of_b)
 
-numbered : (P : ℕ × ℕ → Type 0) (i : ℕ) (due : Option ℕ) → ((moment : ℕ) → P (moment, i)) → IfSome (option_map (λ moment. (moment, i)) due) P
+numbered : (P : ℕ × ℕ → Type 0) (i : ℕ) (due : Option ℕ) → ((moment : ℕ) → P (moment, i))
+    → IfSome (option_map (λ moment. (moment, i)) due) P
 numbered P i None h = tt
 numbered P i (Some moment) h = h moment
 

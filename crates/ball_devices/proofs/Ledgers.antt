@@ -1,5 +1,5 @@
 -- Each call keeps what holds of every ledger.
-use Rattle.std.proofs.Common.{◌≡◌, ℕ, ◌+◌, ◌-◌, ◌<◌, ◌≤◌, ◌^◌, nat_lt, cond, List, [], ◌∷◌, length, replicate, slice_index_or, slice_set, refl, arith}
+use Rattle.std.proofs.Common.{◌≡◌, ℕ, ◌+◌, ◌-◌, ◌<◌, ◌≤◌, ◌^◌, nat_lt, cond, List, [], ◌∷◌, length, replicate, slice_index_or, slice_set, refl, sym, ◌∙◌, arith}
 use Rattle.std.proofs.lemmas.Bool.{cond_both, ltb-true, ltb-false}
 use Rattle.std.proofs.lemmas.List.{length-set}
 use Rattle.std.proofs.lemmas.List.Sums.{sum_by-set, get_or-le-sum_by}
@@ -15,10 +15,12 @@ use Rattle.ball_devices.specs.Bookings.{LedgerCall, Enter, Leave, Lose, Arrive, 
 
 -- ---- totals
 
-pub total-more : (xs : List ℕ) (i : ℕ) → i < length xs → total (slice_set xs i (slice_index_or xs i 0 + 1)) ≡ total xs + 1
+pub total-more : (xs : List ℕ) (i : ℕ) → i < length xs
+    → total (slice_set xs i (slice_index_or xs i 0 + 1)) ≡ total xs + 1
 total-more xs i within = omega (arith, sum_by-set (λ n. n) xs i (slice_index_or xs i 0 + 1) 0 within)
 
-pub total-less : (xs : List ℕ) (i : ℕ) → i < length xs → 0 < slice_index_or xs i 0 → total (slice_set xs i (slice_index_or xs i 0 - 1)) + 1 ≡ total xs
+pub total-less : (xs : List ℕ) (i : ℕ) → i < length xs → 0 < slice_index_or xs i 0
+    → total (slice_set xs i (slice_index_or xs i 0 - 1)) + 1 ≡ total xs
 total-less xs i within some = omega (arith, sum_by-set (λ n. n) xs i (slice_index_or xs i 0 - 1) 0 within)
 
 pub at_most_total : (xs : List ℕ) (i : ℕ) → i < length xs → slice_index_or xs i 0 ≤ total xs
@@ -56,11 +58,14 @@ new-is plan = record {
 }
 
 module _ (l : Ledger) (is : IsLedger l) where
-  pub entered-from : (d : RowId) (o : Origin) → Says o (transit_to l (Device d)) l.playfield → d.0 < length l.counted → l.known < 2 ^ 32 → IsLedger (set_counted d (counted_in l d + 1) (taken d o l))
+  pub entered-from : (d : RowId) (o : Origin) → Says o (transit_to l (Device d)) l.playfield
+      → d.0 < length l.counted → l.known < 2 ^ 32 → IsLedger (set_counted d (counted_in l d + 1) (taken d o l))
   entered-from d Awaited some within room = record {
     balanced = omega (arith, total-more l.counted d.0 within, total-less l.to_devices d.0 (omega (arith, is.rows)) some);
     few = is.few;
-    rows = omega (arith, is.rows, length-set l.to_devices d.0 (slice_index_or l.to_devices d.0 0 - 1), length-set l.counted d.0 (slice_index_or l.counted d.0 0 + 1));
+    rows =
+        length-set l.to_devices d.0 (slice_index_or l.to_devices d.0 0 - 1) ∙ is.rows
+        ∙ sym (length-set l.counted d.0 (slice_index_or l.counted d.0 0 + 1));
   }
   entered-from d Found says within room = record {
     balanced = omega (arith, says.1, total-more l.counted d.0 within);
@@ -76,7 +81,8 @@ module _ (l : Ledger) (is : IsLedger l) where
   pub entered-is : (d : RowId) → d.0 < length l.counted → l.known < 2 ^ 32 → IsLedger (entered d l)
   entered-is d within room = entered-from d (origin_of d l) (origin-says d l) within room
 
-  pub left-is : (d : RowId) (target : BallTarget) → d.0 < length l.counted → IsTargetThere (length l.counted) target → 0 < counted_in l d → IsLedger (left d target l)
+  pub left-is : (d : RowId) (target : BallTarget) → d.0 < length l.counted
+      → IsTargetThere (length l.counted) target → 0 < counted_in l d → IsLedger (left d target l)
   left-is d Playfield within there some = record {
     balanced = omega (arith, total-less l.counted d.0 within some);
     few = is.few;
@@ -85,7 +91,9 @@ module _ (l : Ledger) (is : IsLedger l) where
   left-is d (Device to) within there some = record {
     balanced = omega (arith, total-less l.counted d.0 within some, total-more l.to_devices to.0 (omega (arith, is.rows, there)));
     few = is.few;
-    rows = omega (arith, is.rows, length-set l.to_devices to.0 (slice_index_or l.to_devices to.0 0 + 1), length-set l.counted d.0 (slice_index_or l.counted d.0 0 - 1));
+    rows =
+        length-set l.to_devices to.0 (slice_index_or l.to_devices to.0 0 + 1) ∙ is.rows
+        ∙ sym (length-set l.counted d.0 (slice_index_or l.counted d.0 0 - 1));
   }
 
   pub lost-is : (d : RowId) → d.0 < length l.counted → 0 < counted_in l d → IsLedger (lost d l)

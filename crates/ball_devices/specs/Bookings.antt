@@ -119,7 +119,8 @@ is_loose _ = false
 -- What the bookings make of the ledger: each number is a count of bookings, less another one where balls go away again.
 pub record HasBooked (bookings : List Booking) (l : Ledger) : Type 0 where
   pub known : l.known ≡ count_by is_new_entry bookings
-  pub counted : (d : RowId) → d.0 < length l.counted → count_by (is_entry_into d) bookings ≡ counted_in l d + count_by (is_exit_from d) bookings
+  pub counted : (d : RowId) → d.0 < length l.counted
+      → count_by (is_entry_into d) bookings ≡ counted_in l d + count_by (is_exit_from d) bookings
   pub transit : (target : BallTarget) → IsTargetThere (length l.counted) target
       → count_by (is_start_for target) bookings ≡ transit_to l target + count_by (is_end_for target) bookings
   pub playfield : count_by is_loose bookings ≡ l.playfield + count_by is_found_entry bookings

@@ -8,7 +8,8 @@ use Rattle.ball_devices.specs.Bookings.{LedgerCall, HasBooked, MayBookAll, after
 -- Each known ball is in a device, on its way, or on the playfield.
 abbrev pub BallsAreSomewhere : Type 0
 BallsAreSomewhere =
-    (plan : PlanView) (calls : List LedgerCall) → MayBookAll calls (no_balls plan) → IsBalanced (after_calls calls (no_balls plan))
+    (plan : PlanView) (calls : List LedgerCall) → MayBookAll calls (no_balls plan)
+    → IsBalanced (after_calls calls (no_balls plan))
 
 -- Each number of the ledger follows from what it has booked.
 abbrev pub LedgersFollowBookings : Type 0

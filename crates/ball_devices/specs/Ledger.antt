@@ -17,6 +17,16 @@ pub record Ledger : Type 0 where
   pub to_playfield : ℕ
   pub playfield : ℕ
 
+-- a ledger with these numbers
+abbrev pub ledger_of : ℕ → List ℕ → List ℕ → ℕ → ℕ → Ledger
+ledger_of known counted to_devices to_playfield playfield = record {
+  known = known;
+  counted = counted;
+  to_devices = to_devices;
+  to_playfield = to_playfield;
+  playfield = playfield;
+}
+
 -- at first no ball is known
 abbrev pub no_balls : PlanView → Ledger
 no_balls plan = record {

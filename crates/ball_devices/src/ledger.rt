@@ -23,15 +23,15 @@ pub struct BallLedger {
 
 impl Model for BallLedger {
     ghost use Rattle.std.specs.Prelude.{◌≡◌};
-    ghost use Rattle.ball_devices.specs.Ledger.{Ledger, IsLedger, all_in_transit};
+    ghost use Rattle.ball_devices.specs.Ledger.{Ledger, IsLedger, all_in_transit, ledger_of};
 
     ghost Value = { Ledger };
 
-    ghost view = { λ l. record { known = l.known; counted = l.counted.items; to_devices = l.to_devices.items; to_playfield = l.to_playfield; playfield = l.playfield } };
+    ghost view = { λ l. ledger_of l.known l.counted.items l.to_devices.items l.to_playfield l.playfield };
 
     ghost invariant = { λ l.
-        IsLedger (record { known = l.known; counted = l.counted.items; to_devices = l.to_devices.items; to_playfield = l.to_playfield; playfield = l.playfield })
-        × (l.in_transit ≡ all_in_transit (record { known = l.known; counted = l.counted.items; to_devices = l.to_devices.items; to_playfield = l.to_playfield; playfield = l.playfield })) };
+        IsLedger (ledger_of l.known l.counted.items l.to_devices.items l.to_playfield l.playfield)
+        × (l.in_transit ≡ all_in_transit (ledger_of l.known l.counted.items l.to_devices.items l.to_playfield l.playfield)) };
 }
 
 impl BallLedger {

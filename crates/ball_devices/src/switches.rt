@@ -112,7 +112,8 @@ fn noted(settings: &BallSettings, active: bool, now: u64, switch: BallSwitch) ->
 /// The ball switch of this number, if there is one, has become active, or inactive.
 fn note(settings: &BallSettings, switches: &mut [BallSwitch], number: usize, active: bool, now: u64)
     requires { now < 2 ^ 40 }
-    ensures { switches.new ≡ slice_set switches.old number (noted settings.now active now (slice_index_or switches.old number empty)) }
+    ensures { switches.new
+        ≡ slice_set switches.old number (noted settings.now active now (slice_index_or switches.old number empty)) }
 {
     if number < switches.len() {
         switches[number] = noted(settings, active, now, switches[number]);

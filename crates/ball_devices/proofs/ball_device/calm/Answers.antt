@@ -4,4 +4,6 @@ use Rattle.ball_devices.proofs.Calm.{calm-more}
 use Rattle.ball_devices.proofs.ball_device.calm.Goals as goal
 
 pub loop-switch-preserved : goal.loop-switch-preserved
-loop-switch-preserved c = calm-more c.args.switches.now c.loop-switch.switches c.loop-switch.switch-index empty (omega (arith, c.loop-switch-test.true, c.loop-switch.auto.switches)) c.loop-switch.invariant
+loop-switch-preserved c =
+    let l = c.loop-switch in
+    calm-more c.args.switches.now l.switches l.switch-index empty (omega (arith, c.loop-switch-test.true, l.auto.switches)) l.invariant
