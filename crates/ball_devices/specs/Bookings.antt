@@ -1,15 +1,14 @@
 -- What the ledger has booked, and what follows from that alone.
-use Rattle.std.specs.Prelude.{◌≡◌, ℕ, ◌+◌, ◌==◌, ◌<◌, ◌^◌, nat_lt, Bool, true, false, ◌&&◌, if◌then◌else◌, List, [], ◌∷◌, ◌++◌, length}
+use Rattle.std.specs.Prelude.{◌≡◌, ℕ, ◌+◌, ◌==◌, ◌<◌, ◌^◌, nat_lt, Bool, true, false, ◌&&◌, if◌then◌else◌, List, [], ◌∷◌, length}
 use Rattle.std.specs.List.{count_by}
 use Rattle.plan_tables.specs.declared.devices.RowId.{RowId}
 use Rattle.plan_tables.specs.declared.devices.BallTarget.{BallTarget}
 use Rattle.plan_tables.specs.declared.devices.BallTarget.TheVariants.{Playfield, Device}
-use Rattle.plan_tables.specs.PlanView.{PlanView}
-use Rattle.ball_devices.specs.declared.ledger.Origin.{Origin}
-use Rattle.ball_devices.specs.declared.ledger.Origin.TheVariants.{Awaited, Found, New}
+use Rattle.ball_devices.specs.declared.booking.Origin.{Origin}
+use Rattle.ball_devices.specs.declared.booking.Origin.TheVariants.{Awaited, Found, New}
 use Rattle.ball_devices.specs.declared.booking.Booking.{Booking}
 use Rattle.ball_devices.specs.declared.booking.Booking.TheVariants.{Entered, Left, Lost, Arrived}
-use Rattle.ball_devices.specs.Ledger.{Ledger, no_balls, counted_in, transit_to, origin_of, entered, left, lost, arrived}
+use Rattle.ball_devices.specs.Ledger.{Ledger, counted_in, transit_to, origin_of, entered, left, lost, arrived}
 
 -- ---- the calls of a ledger
 
@@ -95,7 +94,7 @@ abbrev pub is_entry_into : RowId → Booking → Bool
 is_entry_into d (Entered e origin) = d.0 == e.0
 is_entry_into d _ = false
 
--- a ball has gone from the device, to where it should or not
+-- a ball has left the device, ejected or not
 abbrev pub is_exit_from : RowId → Booking → Bool
 is_exit_from d (Left e target) = d.0 == e.0
 is_exit_from d (Lost e) = d.0 == e.0
@@ -111,16 +110,17 @@ is_end_for target (Entered d origin) = is_awaited origin && is_target target (De
 is_end_for target (Arrived other) = is_target target other
 is_end_for target _ = false
 
--- a ball is on the playfield now
+-- a ball has come onto the playfield
 abbrev pub is_loose : Booking → Bool
 is_loose (Lost d) = true
 is_loose (Arrived target) = true
 is_loose _ = false
 
--- The ledger has booked just this. Each number in it is a count of bookings, less another one.
+-- What the bookings make of the ledger: each number is a count of bookings, less another one where balls go away again.
 pub record HasBooked (bookings : List Booking) (l : Ledger) : Type 0 where
   pub known : l.known ≡ count_by is_new_entry bookings
-  pub counted : (d : RowId) → d.0 < length l.counted → count_by (is_entry_into d) bookings ≡ counted_in l d + count_by (is_exit_from d) bookings
+  pub counted : (d : RowId) → d.0 < length l.counted
+      → count_by (is_entry_into d) bookings ≡ counted_in l d + count_by (is_exit_from d) bookings
   pub transit : (target : BallTarget) → IsTargetThere (length l.counted) target
       → count_by (is_start_for target) bookings ≡ transit_to l target + count_by (is_end_for target) bookings
   pub playfield : count_by is_loose bookings ≡ l.playfield + count_by is_found_entry bookings

@@ -1,29 +1,39 @@
 -- The ledger of balls: where each known ball is, and what each booking does.
-use Rattle.std.specs.Prelude.{◌≡◌, ℕ, ◌+◌, ◌-◌, ◌<◌, ◌≤◌, ◌^◌, nat_lt, if◌then◌else◌, List, length, replicate, slice_index_or, slice_set}
+use Rattle.std.specs.Prelude.{◌≡◌, ℕ, ◌+◌, ◌-◌, ◌≤◌, ◌^◌, nat_lt, if◌then◌else◌, List, length, replicate, slice_index_or, slice_set}
 use Rattle.std.specs.List.{sum_by}
 use Rattle.plan_tables.specs.declared.devices.RowId.{RowId}
 use Rattle.plan_tables.specs.declared.devices.BallTarget.{BallTarget}
 use Rattle.plan_tables.specs.declared.devices.BallTarget.TheVariants.{Playfield, Device}
 use Rattle.plan_tables.specs.PlanView.{PlanView}
-use Rattle.ball_devices.specs.declared.ledger.Origin.{Origin}
-use Rattle.ball_devices.specs.declared.ledger.Origin.TheVariants.{Awaited, Found, New}
+use Rattle.ball_devices.specs.declared.booking.Origin.{Origin}
+use Rattle.ball_devices.specs.declared.booking.Origin.TheVariants.{Awaited, Found, New}
 
 -- how many balls are known; how many of them lie in the device of each row, are on their way to it, are on their way to
 -- the playfield, and are on the playfield
 pub record Ledger : Type 0 where
   pub known : ℕ
   pub counted : List ℕ
-  pub coming : List ℕ
-  pub leaving : ℕ
+  pub to_devices : List ℕ
+  pub to_playfield : ℕ
   pub playfield : ℕ
+
+-- a ledger with these numbers
+abbrev pub ledger_of : ℕ → List ℕ → List ℕ → ℕ → ℕ → Ledger
+ledger_of known counted to_devices to_playfield playfield = record {
+  known = known;
+  counted = counted;
+  to_devices = to_devices;
+  to_playfield = to_playfield;
+  playfield = playfield;
+}
 
 -- at first no ball is known
 abbrev pub no_balls : PlanView → Ledger
 no_balls plan = record {
   known = 0;
   counted = replicate (length plan.rows) 0;
-  coming = replicate (length plan.rows) 0;
-  leaving = 0;
+  to_devices = replicate (length plan.rows) 0;
+  to_playfield = 0;
   playfield = 0;
 }
 
@@ -33,18 +43,18 @@ counted_in l d = slice_index_or l.counted d.0 0
 
 -- how many are on their way to a target
 abbrev pub transit_to : Ledger → BallTarget → ℕ
-transit_to l Playfield = l.leaving
-transit_to l (Device d) = slice_index_or l.coming d.0 0
+transit_to l Playfield = l.to_playfield
+transit_to l (Device d) = slice_index_or l.to_devices d.0 0
 
--- how many lie in devices, and how many are on their way, in all
 abbrev pub total : List ℕ → ℕ
 total numbers = sum_by (λ n. n) numbers
 
+-- how many lie in devices, and how many are on their way, in all
 abbrev pub all_counted : Ledger → ℕ
 all_counted l = total l.counted
 
 abbrev pub all_in_transit : Ledger → ℕ
-all_in_transit l = total l.coming + l.leaving
+all_in_transit l = total l.to_devices + l.to_playfield
 
 -- ---- one change each
 
@@ -52,16 +62,16 @@ abbrev pub set_counted : RowId → ℕ → Ledger → Ledger
 set_counted d n l = record l { counted = slice_set l.counted d.0 n }
 
 abbrev pub set_transit : BallTarget → ℕ → Ledger → Ledger
-set_transit Playfield n l = record l { leaving = n }
-set_transit (Device d) n l = record l { coming = slice_set l.coming d.0 n }
+set_transit Playfield n l = record l { to_playfield = n }
+set_transit (Device d) n l = record l { to_devices = slice_set l.to_devices d.0 n }
 
 -- ---- bookings
 
--- where a ball comes from that enters a device: from the way to it, else from the playfield, else it is a new one
+-- Where a ball that enters a device comes from: one on its way to the device, else one on the playfield, else a new one.
 abbrev pub origin_of : RowId → Ledger → Origin
 origin_of d l = if nat_lt 0 (transit_to l (Device d)) then Awaited else (if nat_lt 0 l.playfield then Found else New)
 
--- it is there no more
+-- The ball is taken from where it was; a new one becomes known.
 abbrev pub taken : RowId → Origin → Ledger → Ledger
 taken d Awaited l = set_transit (Device d) (transit_to l (Device d) - 1) l
 taken d Found l = record l { playfield = l.playfield - 1 }
@@ -75,7 +85,7 @@ entered d l = set_counted d (counted_in l d + 1) (taken d (origin_of d l) l)
 abbrev pub left : RowId → BallTarget → Ledger → Ledger
 left d target l = set_transit target (transit_to l target + 1) (set_counted d (counted_in l d - 1) l)
 
--- a ball leaves a device that should not have
+-- a ball leaves a device unasked
 abbrev pub lost : RowId → Ledger → Ledger
 lost d l = set_counted d (counted_in l d - 1) (record l { playfield = l.playfield + 1 })
 
@@ -92,4 +102,4 @@ IsBalanced l = l.known ≡ all_counted l + all_in_transit l + l.playfield
 pub record IsLedger (l : Ledger) : Type 0 where
   pub balanced : IsBalanced l
   pub few : l.known ≤ 2 ^ 32
-  pub rows : length l.coming ≡ length l.counted
+  pub rows : length l.to_devices ≡ length l.counted

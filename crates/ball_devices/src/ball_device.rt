@@ -1,8 +1,8 @@
 //! A ball device.
 
-ghost use Rattle.std.specs.Prelude.{◌≡◌, ◌<◌, ◌^◌, option_map};
+ghost use Rattle.std.specs.Prelude.{◌≡◌, ◌<◌, ◌^◌, map};
 ghost use Rattle.plan_tables.specs.declared.devices.Settings.TheVariants as kinds;
-ghost use Rattle.device_objects.specs.BallDevice.{act_step, count, empty, fire, first_due, first_state, halted, is_timeout_first, timeout_of};
+ghost use Rattle.device_objects.specs.BallDevice.{act_step, count, empty, fire, first_state as first_balls, halted, is_timeout_first, not_due};
 
 use crate::ejects::{ENTERED, answer, begin, confirm, gone, request, time_out};
 use crate::switches::{Due, due_of, first_due, switch_to, timeout_of, turned};
@@ -81,7 +81,7 @@ impl Device for BallDevice {
 
 /// The state at first: no ball counts, nothing is due, and nothing is ejected.
 fn first_state() -> BallState
-    ensures { result ≡ first_state }
+    ensures { result ≡ first_balls }
 {
     let empty = BallSwitch {
         counted: false,
@@ -94,13 +94,20 @@ fn first_state() -> BallState
     }
 }
 
+/// None of these ball switches is due any more.
+fn calm(switches: &mut [BallSwitch])
+    ensures { switches.new ≡ map not_due switches.old }
+{
+    for switch in switches.iter_mut() {
+        switch.due = None;
+    }
+}
+
 /// The device is taken out of the machine: nothing is due any more, and nothing is ejected.
 fn halt(state: &mut BallState)
     ensures { state.new ≡ halted state.old }
 {
-    for switch in &mut state.switches {
-        switch.due = None;
-    }
+    calm(&mut state.switches);
     state.eject = Eject::Idle;
     state.wanted = 0;
 }

@@ -2,7 +2,7 @@
 
 ghost use Rattle.std.specs.Prelude.{◌≡◌, ◌<◌, ◌≤◌, ◌^◌, ◌++◌, length};
 ghost use Rattle.arrayvec.specs.ArrayVec.{array_vec_len};
-ghost use Rattle.device_objects.specs.BallDevice.{attempt, begin, can_begin, confirm, confirmed, ended, given_up, gone, may_try_again, requested, stuck, time_out};
+ghost use Rattle.device_objects.specs.BallDevice.{attempt, begin, can_begin, confirm, confirmed, ended, overdue, gone, may_try_again, requested, stuck, time_out};
 
 use crate::switches::has_ball;
 use device_objects::{Attempt, BallState, Eject, Outcome};
@@ -57,7 +57,12 @@ fn can_begin(settings: &BallSettings, state: &BallState) -> bool
 }
 
 /// It begins to eject a ball, if it can. Adds its list to the answer.
-pub(crate) fn begin(settings: &BallSettings, state: &mut BallState, now: u64, lists: Outcome) -> Outcome
+pub(crate) fn begin(
+    settings: &BallSettings,
+    state: &mut BallState,
+    now: u64,
+    lists: Outcome,
+) -> Outcome
     requires moment { now < 2 ^ 40 }
     requires room { array_vec_len lists ≤ 3 }
     ensures state { state.new ≡ (begin settings.now now state.old).0 }
@@ -88,7 +93,11 @@ fn stuck(settings: &BallSettings, state: &mut BallState, now: u64, over: Attempt
     ensures lists { result.items ≡ (stuck settings.now now over state.old).1 }
 {
     if may_try_again(settings, over.number) {
-        let next = if over.number < 1000 { over.number + 1 } else { 1000 };
+        let next = if over.number < 1000 {
+            over.number + 1
+        } else {
+            1000
+        };
         attempt(settings, state, next, now);
         return answer(&[FAILED, ATTEMPTED]);
     }
@@ -106,8 +115,8 @@ fn end(state: &mut BallState)
 }
 
 /// The lists of a ball that should have arrived by now.
-fn given_up(target: BallTarget) -> Outcome
-    ensures lists { result.items ≡ given_up target }
+fn overdue(target: BallTarget) -> Outcome
+    ensures lists { result.items ≡ overdue target }
     ensures count { array_vec_len result ≤ 2 }
 {
     match target {
@@ -138,7 +147,7 @@ pub(crate) fn time_out(settings: &BallSettings, state: &mut BallState, now: u64)
         Eject::Pulsing(over) => stuck(settings, state, now, over),
         Eject::Away(_) => {
             end(state);
-            begin(settings, state, now, given_up(settings.target))
+            begin(settings, state, now, overdue(settings.target))
         }
     }
 }
@@ -179,7 +188,12 @@ pub(crate) fn gone(settings: &BallSettings, state: &mut BallState, now: u64) -> 
 }
 
 /// A trough is to eject so many balls more.
-pub(crate) fn request(settings: &BallSettings, state: &mut BallState, balls: usize, now: u64) -> Outcome
+pub(crate) fn request(
+    settings: &BallSettings,
+    state: &mut BallState,
+    balls: usize,
+    now: u64,
+) -> Outcome
     requires { now < 2 ^ 40 }
     ensures state { state.new ≡ (requested settings.now balls now state.old).0 }
     ensures lists { result.items ≡ (requested settings.now balls now state.old).1 }

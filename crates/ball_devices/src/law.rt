@@ -1,8 +1,8 @@
 //! What holds of a ledger after every list of calls.
 
-ghost use Rattle.ball_devices.specs.Laws.{BallsAreSomewhere, LedgersAreByBookings, OriginsAreByBookings};
+ghost use Rattle.ball_devices.specs.Laws.{BallsAreSomewhere, LedgersFollowBookings, OriginsFollowBookings};
 
-/// The law of known balls, for every list of calls on a new ledger that may come: each known ball is in a
+/// The law of known balls, for every list of calls that may come on a new ledger: each known ball is in a
 /// device, on its way, or on the playfield.
 ///
 /// It does nothing: its contract is the law, over the steps that the calls take.
@@ -14,7 +14,7 @@ pub fn balls_are_somewhere()
 /// has booked. So is where the next ball comes from.
 ///
 /// It does nothing: its contract is the law, over the steps that the calls take.
-pub fn ledgers_are_by_bookings()
-    ensures numbers { LedgersAreByBookings }
-    ensures origins { OriginsAreByBookings }
+pub fn ledgers_follow_bookings()
+    ensures numbers { LedgersFollowBookings }
+    ensures origins { OriginsFollowBookings }
 {}

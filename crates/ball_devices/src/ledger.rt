@@ -14,24 +14,24 @@ use std::marker::Model;
 pub struct BallLedger {
     known: u64,
     counted: Vec<u64>,
-    coming: Vec<u64>,
-    leaving: u64,
+    to_devices: Vec<u64>,
+    to_playfield: u64,
     playfield: u64,
-    /// All that are on their way: those of `coming`, and `leaving`.
+    /// All that are on their way: those of `to_devices`, and `to_playfield`.
     in_transit: u64,
 }
 
 impl Model for BallLedger {
     ghost use Rattle.std.specs.Prelude.{◌≡◌};
-    ghost use Rattle.ball_devices.specs.Ledger.{Ledger, IsLedger, all_in_transit};
+    ghost use Rattle.ball_devices.specs.Ledger.{Ledger, IsLedger, all_in_transit, ledger_of};
 
     ghost Value = { Ledger };
 
-    ghost view = { λ l. record { known = l.known; counted = l.counted.items; coming = l.coming.items; leaving = l.leaving; playfield = l.playfield } };
+    ghost view = { λ l. ledger_of l.known l.counted.items l.to_devices.items l.to_playfield l.playfield };
 
     ghost invariant = { λ l.
-        IsLedger (record { known = l.known; counted = l.counted.items; coming = l.coming.items; leaving = l.leaving; playfield = l.playfield })
-        × (l.in_transit ≡ all_in_transit (record { known = l.known; counted = l.counted.items; coming = l.coming.items; leaving = l.leaving; playfield = l.playfield })) };
+        IsLedger (ledger_of l.known l.counted.items l.to_devices.items l.to_playfield l.playfield)
+        × (l.in_transit ≡ all_in_transit (ledger_of l.known l.counted.items l.to_devices.items l.to_playfield l.playfield)) };
 }
 
 impl BallLedger {
@@ -52,8 +52,8 @@ impl BallLedger {
         Ok(BallLedger {
             known: 0,
             counted: vec![in alloc; 0; rows]?,
-            coming: vec![in alloc; 0; rows]?,
-            leaving: 0,
+            to_devices: vec![in alloc; 0; rows]?,
+            to_playfield: 0,
             playfield: 0,
             in_transit: 0,
         })
@@ -72,7 +72,7 @@ impl BallLedger {
         let number = device.0 as usize;
         match origin {
             Origin::Awaited => {
-                self.coming[number] -= 1;
+                self.to_devices[number] -= 1;
                 self.in_transit -= 1;
             }
             Origin::Found => self.playfield -= 1,
@@ -87,7 +87,7 @@ impl BallLedger {
         requires { device.0 < length self.now.counted }
         ensures { result ≡ origin_of device self.now }
     {
-        if self.coming[device.0 as usize] > 0 {
+        if self.to_devices[device.0 as usize] > 0 {
             Origin::Awaited
         } else if self.playfield > 0 {
             Origin::Found
@@ -104,10 +104,11 @@ impl BallLedger {
         ensures state { self.new ≡ left device target self.old }
         ensures ledger { IsLedger self.new }
     {
-        self.counted[device.0 as usize] -= 1;
+        let from = device.0 as usize;
+        self.counted[from] -= 1;
         match target {
-            BallTarget::Playfield => self.leaving += 1,
-            BallTarget::Device(to) => self.coming[to.0 as usize] += 1,
+            BallTarget::Playfield => self.to_playfield += 1,
+            BallTarget::Device(to) => self.to_devices[to.0 as usize] += 1,
         }
         self.in_transit += 1;
     }
@@ -119,8 +120,9 @@ impl BallLedger {
         ensures state { self.new ≡ lost device self.old }
         ensures ledger { IsLedger self.new }
     {
-        self.counted[device.0 as usize] -= 1;
+        let number = device.0 as usize;
         self.playfield += 1;
+        self.counted[number] -= 1;
     }
 
     /// A ball that was on its way to the target is on the playfield.
@@ -131,8 +133,8 @@ impl BallLedger {
         ensures ledger { IsLedger self.new }
     {
         match target {
-            BallTarget::Playfield => self.leaving -= 1,
-            BallTarget::Device(to) => self.coming[to.0 as usize] -= 1,
+            BallTarget::Playfield => self.to_playfield -= 1,
+            BallTarget::Device(to) => self.to_devices[to.0 as usize] -= 1,
         }
         self.in_transit -= 1;
         self.playfield += 1;
@@ -162,8 +164,8 @@ impl BallLedger {
         ensures ledger { IsLedger self.now }
     {
         match target {
-            BallTarget::Playfield => self.leaving,
-            BallTarget::Device(to) => self.coming[to.0 as usize],
+            BallTarget::Playfield => self.to_playfield,
+            BallTarget::Device(to) => self.to_devices[to.0 as usize],
         }
     }
 

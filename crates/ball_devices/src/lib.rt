@@ -10,5 +10,5 @@ mod switches;
 
 pub use ball_device::BallDevice;
 pub use booking::{Booking, Origin};
-pub use law::{balls_are_somewhere, ledgers_are_by_bookings};
+pub use law::{balls_are_somewhere, ledgers_follow_bookings};
 pub use ledger::BallLedger;

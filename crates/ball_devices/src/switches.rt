@@ -1,7 +1,7 @@
 //! The ball switches of a device.
 
-ghost use Rattle.std.specs.Prelude.{◌≡◌, ◌<◌, ◌^◌, option_map, IfSome};
-ghost use Rattle.device_objects.specs.BallDevice.{due_of, earlier, first_due, has_ball, noted, sooner, switched, timeout_of, turned};
+ghost use Rattle.std.specs.Prelude.{◌≡◌, ◌<◌, ◌^◌, length, option_map, slice_index_or, slice_set, IfSome};
+ghost use Rattle.device_objects.specs.BallDevice.{due_of, earlier, empty, first_due, first_due_from, has_ball, noted, sooner, switched, timeout_of, turned};
 
 use device_objects::{BallState, BallSwitch, Eject};
 use plan_tables::BallSettings;
@@ -35,16 +35,24 @@ fn due_with(number: usize, due: Option<u64>) -> Option<Due>
     Some((moment, number))
 }
 
+/// The one of these ball switches that is due first, and the moment.
+fn first_of(switches: &[BallSwitch]) -> Option<Due>
+    ensures first { result ≡ first_due_from 0 switches.now }
+    ensures within { IfSome result (λ due. due.1 < length switches.now) }
+{
+    let mut first = None;
+    for (number, switch) in switches.iter().enumerate() {
+        first = sooner(first, due_with(number, switch.due));
+    }
+    first
+}
+
 /// The ball switch that is due first, and the moment.
 pub(crate) fn first_due(state: &BallState) -> Option<Due>
     ensures first { result ≡ first_due state.now }
     ensures within { IfSome result (λ due. due.1 < 16) }
 {
-    let mut first = None;
-    for (number, switch) in state.switches.iter().enumerate() {
-        first = sooner(first, due_with(number, switch.due));
-    }
-    first
+    first_of(&state.switches)
 }
 
 /// The moment at which the attempt to eject is over, if there is one.
@@ -101,13 +109,30 @@ fn noted(settings: &BallSettings, active: bool, now: u64, switch: BallSwitch) ->
     BallSwitch { due, ..switch }
 }
 
-/// The ball switch of this number has become active, or inactive.
-pub(crate) fn switch_to(settings: &BallSettings, state: &mut BallState, number: usize, active: bool, now: u64)
+/// The ball switch of this number, if there is one, has become active, or inactive.
+fn note(settings: &BallSettings, switches: &mut [BallSwitch], number: usize, active: bool, now: u64)
+    requires { now < 2 ^ 40 }
+    ensures { switches.new
+        ≡ slice_set switches.old number (noted settings.now active now (slice_index_or switches.old number empty)) }
+{
+    if number < switches.len() {
+        switches[number] = noted(settings, active, now, switches[number]);
+    }
+}
+
+/// The device's ball switch of this number has become active, or inactive.
+pub(crate) fn switch_to(
+    settings: &BallSettings,
+    state: &mut BallState,
+    number: usize,
+    active: bool,
+    now: u64,
+)
     requires { now < 2 ^ 40 }
     ensures { state.new ≡ switched settings.now number active now state.old }
 {
-    if number < usize::from(settings.switches) && number < 16 {
-        state.switches[number] = noted(settings, active, now, state.switches[number]);
+    if number < usize::from(settings.switches) {
+        note(settings, &mut state.switches, number, active, now);
     }
 }
 

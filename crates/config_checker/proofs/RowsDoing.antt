@@ -21,7 +21,8 @@ use Rattle.machine_definitions.specs.Definitions.{has_switch}
 use Rattle.machine_definitions.specs.Shots.{Profile, profile_of_name}
 use Rattle.plan_contributions.specs.DeviceEntries.{Effect, posts, works, changes, Device, counter_device, step_device, step_settings, timer_device, device_of, block_event, or_own, block_lists, timer_event, timer_endings, timer_lists}
 use Rattle.plan_contributions.specs.CoilEntries.{item_effect, flipper_device, autofire_device}
-use Rattle.plan_contributions.specs.ShotEntries.{shot_events, group_events, shot_lists, state_lists, group_lists, members_of}
+use Rattle.plan_contributions.specs.ShotEntries.{shot_events, group_events, shot_lists, state_lists, group_lists}
+use Rattle.plan_rows.specs.Members.{members_of}
 use Rattle.plan_contributions.specs.Contributions.{texts, tag_event}
 use Rattle.plan_contributions.specs.Doing.{IsSwitchDoing, IsPlayerDoing, IsDeviceDoing, IsEntryDoing, IsCoilPlayerDoing, IsVariablePlayerDoing, IsShotDoing, IsShotGroupDoing, IsDoing, IsMachineDoing, AreDoing}
 use Rattle.plan_contributions.proofs.Before.{All-flat_map}

@@ -1,9 +1,9 @@
 -- What devices answer is among their outcomes.
-use Rattle.std.proofs.Common.{◌≡◌, ℕ, zero, ◌==◌, suc, ◌+◌, nat_lt, nat_le, ◌<◌, ◌≤◌, Bool, true, false, Option, None, Some, List, [], ◌∷◌, ◌++◌, length, take, slice_get, slice_set, if◌then◌else◌, is_some, refl, sym, ap, subst, ◌⊎◌, inl, inr, ◌∙◌, ◌&&◌, not, zero-le, suc-le-suc, ℤ, pos, ◌+ℤ◌, ◌-ℤ◌, arith}
-use Rattle.std.specs.List.{All, Contains, flat_map, list_all, range_with_len}
+use Rattle.std.proofs.Common.{◌≡◌, ℕ, zero, ◌==◌, suc, nat_lt, nat_le, ◌<◌, Bool, true, false, Option, None, Some, List, [], ◌∷◌, ◌++◌, length, take, slice_get, slice_set, if◌then◌else◌, is_some, refl, sym, ap, ◌∙◌, ◌&&◌, not, ℤ, pos, ◌+ℤ◌, ◌-ℤ◌, arith}
+use Rattle.std.specs.List.{list_all, range_with_len}
 use Rattle.std.proofs.lemmas.List.{append-nil}
 use Rattle.std.proofs.lemmas.Option.{none-some}
-use Rattle.std.proofs.lemmas.Bool.{and_from, and_parts, cases_eq, eq-eqb, leb-true, ltb-true, lt-ltb, false≢true, true≢false}
+use Rattle.std.proofs.lemmas.Bool.{and_from, and_parts, eq-eqb, leb-true, ltb-true, lt-ltb, false≢true, true≢false}
 use Rattle.plan_tables.specs.declared.devices.BankSettings.{BankSettings}
 use Rattle.plan_tables.specs.declared.devices.BlockSettings.{BlockSettings}
 use Rattle.plan_tables.specs.declared.devices.CounterSettings.{CounterSettings}
@@ -26,7 +26,7 @@ use Rattle.device_objects.specs.declared.state.AutofireState.{AutofireState}
 use Rattle.device_objects.specs.declared.state.DeviceState.TheVariants as states
 use Rattle.device_objects.specs.declared.state.World.{World}
 use Rattle.device_objects.specs.Values.{clamped, is_at_end, moved}
-use Rattle.device_objects.specs.Slots.{slot_in_use, updated}
+use Rattle.device_objects.specs.Slots.{updated}
 use Rattle.device_objects.specs.Counter as counter
 use Rattle.device_objects.specs.Accrual as accrual
 use Rattle.device_objects.specs.Sequence as sequence
@@ -35,58 +35,10 @@ use Rattle.device_objects.specs.Bank as bank
 use Rattle.device_objects.specs.Flipper as flipper
 use Rattle.device_objects.specs.Autofire as autofire
 use Rattle.device_objects.specs.Laws.{MayCome, AnswersAreOutcomes}
-use Rattle.device_objects.specs.Outcomes.{silent, only_if, completing, going_on, resetting, of_counter, of_accrual, of_sequence, of_timer, of_timer_act, can_complete, hit_completing, of_hit_in, of_hit, of_bank, of_switch, of_flipper, of_autofire, timer_completing, outcomes}
+use Rattle.device_objects.specs.Outcomes.{silent, only_if, completing, going_on, resetting, of_counter, of_accrual, of_sequence, of_timer, of_timer_act, of_hit_in, of_hit, of_bank, of_switch, of_flipper, of_autofire, timer_completing, outcomes}
 use Rattle.device_objects.proofs.Slots.{in_use-answers}
-use Rattle.device_objects.proofs.Shapes.{current-shape}
-
--- ---- lists of answers
-
-pub data In {X : Type 0} (x : X) : List X → Type 0 where
-  here : {xs : List X} → In x (x ∷ xs)
-  there : {y : X} {xs : List X} → In x xs → In x (y ∷ xs)
-
-pub contains : {X : Type 0} {x : X} {xs : List X} → In x xs → Contains xs x
-contains here = (0, suc-le-suc zero-le, refl)
-contains (there at) = let rest = contains at in (suc rest.0, suc-le-suc rest.1, rest.2)
-
-at_last : {X : Type 0} {y : X} (xs : List X) → In y (xs ++ y ∷ [])
-at_last [] = here
-at_last (x ∷ xs) = there (at_last xs)
-
-at_left : {X : Type 0} {x : X} {xs : List X} (ys : List X) → In x xs → In x (xs ++ ys)
-at_left ys here = here
-at_left ys (there at) = there (at_left ys at)
-
-at_right : {X : Type 0} {x : X} (xs : List X) {ys : List X} → In x ys → In x (xs ++ ys)
-at_right [] at = at
-at_right (x ∷ xs) at = there (at_right xs at)
-
-in_range : (a n k : ℕ) → a ≤ k → k < a + n → In k (range_with_len a n)
-in_range a zero k low high = absurd (omega (arith, low, high))
-in_range a (suc n) k low high =
-    elim (cases_eq a k) [
-      | inl same ↦ subst (λ j. In k (j ∷ range_with_len (a + 1) n)) (sym same) here
-      | inr other ↦ there (in_range (a + 1) n k (omega (arith, low, other)) (omega (arith, high)))
-    ]
-
-in_flat_map : {A X : Type 0} (f : A → List X) {a : A} {x : X} {among : List A} → In a among → In x (f a)
-    → In x (flat_map f among)
-in_flat_map f {among = []} never at = elim never [ ]
-in_flat_map f {among = b ∷ bs} here at = at_left (flat_map f bs) at
-in_flat_map f {among = b ∷ bs} (there found) at = at_right (f b) (in_flat_map f found at)
-
-if_holds : {x : List ℕ} {xs : List (List ℕ)} (holds : Bool) → holds ≡ true → In x xs → In x (only_if holds xs)
-if_holds true is at = at
-if_holds false is at = absurd (false≢true is)
-
-by : {x y : List ℕ} {xs : List (List ℕ)} → x ≡ y → In y xs → In x xs
-by is at = rw is at
-
--- an answer that is one of two
-either : {S : Type 0} {xs : List (List ℕ)} (test : Bool) (x y : S × List ℕ) → (test ≡ true → In x.1 xs) → (test ≡ false → In y.1 xs)
-    → In (if test then x else y).1 xs
-either true x y first second = first refl
-either false x y first second = second refl
+use Rattle.device_objects.proofs.Among.{In, here, there, contains, at_last, in_range, in_flat_map, if_holds, by, either}
+use Rattle.device_objects.proofs.BallAnswers.{ball-in}
 
 -- ---- values
 
@@ -385,4 +337,6 @@ answers_are_outcomes (kinds.Bank b) call now world (states.Bank slots) shape may
     contains (bank-in b call world slots shape.0 may)
 answers_are_outcomes kinds.Flipper call now world (states.Flipper s) shape may = contains (flipper-in call s may)
 answers_are_outcomes kinds.Autofire call now world (states.Autofire s) shape may = contains (autofire-in call s may)
+answers_are_outcomes (kinds.BallDevice d) call now world (states.BallDevice s) shape may =
+    contains (ball-in d call now s shape may)
 answers_are_outcomes _ call now world _ shape may = elim shape [ ]

@@ -1,5 +1,5 @@
 -- Each outcome is the answer of some state.
-use Rattle.std.proofs.Common.{◌≡◌, ◌≢◌, ◌⊎◌, inl, inr, ℕ, zero, ◌==◌, suc, ◌+◌, nat_lt, nat_le, ◌<◌, ◌≤◌, Bool, true, false, Option, None, Some, List, [], ◌∷◌, ◌++◌, length, replicate, take, get_or, slice_get, slice_set, if◌then◌else◌, is_some, refl, sym, ap, not, ◌∙◌, ◌&&◌, ℤ, pos, neg_ℤ, ◌+ℤ◌, ◌-ℤ◌, arith}
+use Rattle.std.proofs.Common.{◌≡◌, ◌≢◌, ◌⊎◌, inl, inr, ℕ, zero, ◌==◌, suc, nat_lt, nat_le, ◌<◌, ◌≤◌, Bool, true, false, Option, None, Some, List, [], ◌∷◌, ◌++◌, length, replicate, take, get_or, slice_get, slice_set, if◌then◌else◌, is_some, refl, sym, ap, not, ◌∙◌, ◌&&◌, ℤ, pos, neg_ℤ, ◌+ℤ◌, ◌-ℤ◌, arith}
 use Rattle.std.specs.List.{All, list_all}
 use Rattle.std.specs.Prelude.{int_le}
 use Rattle.std.specs.Prelude.{◌≤ℤ◌}
@@ -41,6 +41,8 @@ use Rattle.device_objects.specs.Flipper as flipper
 use Rattle.device_objects.specs.Autofire as autofire
 use Rattle.device_objects.specs.DeviceStep.{first_state, device_step}
 use Rattle.device_objects.proofs.Flat.{All-flat_map_range}
+use Rattle.device_objects.proofs.Among.{none, one, all_if, by_test, if_true, if_false}
+use Rattle.device_objects.proofs.BallAttained.{ball-comes}
 use Rattle.device_objects.proofs.Shapes.{first-shape, next-within}
 use Rattle.device_objects.proofs.Answered.{completed-is}
 use Rattle.device_objects.specs.Laws.{HasBankShape, IsAnswer, MayCome, OutcomesComeAbout}
@@ -77,32 +79,6 @@ goes_on_at Up (Some end) by within =
 goes_on_at Down (Some end) by within =
     let from = moved_to Down by (end +ℤ pos 1) (omega (arith, ints, within.0)) (omega (arith, ints, within.1)) in
     (from.0, ap (λ v. int_le v end) from.1 ∙ (let e : int_le (end +ℤ pos 1) end ≡ false = grind (arith, ints) in e))
-
--- ---- lists of answers
-
-none : {X : Type 0} (P : X → Type 0) → All P []
-none P k d below = absurd (omega (arith, below))
-
-one : {X : Type 0} (P : X → Type 0) (x : X) → P x → All P (x ∷ [])
-one P x holds = All-cons P x [] holds (none P)
-
-all_if : (P : List ℕ → Type 0) (holds : Bool) (xs : List (List ℕ)) → (holds ≡ true → All P xs) → All P (only_if holds xs)
-all_if P true xs all = all refl
-all_if P false xs all = none P
-
-by_test : (P : List ℕ → Type 0) (test : Bool) (xs ys : List (List ℕ)) → (test ≡ true → All P xs)
-    → (test ≡ false → All P ys)
-    → All P (if test then xs else ys)
-by_test P true xs ys first second = first refl
-by_test P false xs ys first second = second refl
-
-if_true : {S : Type 0} (test : Bool) (x y : S × List ℕ) → test ≡ true → (if test then x else y).1 ≡ x.1
-if_true true x y is = refl
-if_true false x y is = absurd (false≢true is)
-
-if_false : {S : Type 0} (test : Bool) (x y : S × List ℕ) → test ≡ false → (if test then x else y).1 ≡ y.1
-if_false true x y is = absurd (true≢false is)
-if_false false x y is = refl
 
 -- ---- slots
 
@@ -645,3 +621,4 @@ outcomes_come_about kinds.Autofire (calls.Act act) limits = autofire_acts act
 outcomes_come_about kinds.Autofire calls.ModeStart limits = one (IsAnswer kinds.Autofire calls.ModeStart) [] (first_answer kinds.Autofire calls.ModeStart [] tt refl)
 outcomes_come_about kinds.Autofire calls.ModeStop limits = one (IsAnswer kinds.Autofire calls.ModeStop) [] (first_answer kinds.Autofire calls.ModeStop [] tt refl)
 outcomes_come_about kinds.Autofire calls.Fire limits = none (IsAnswer kinds.Autofire calls.Fire)
+outcomes_come_about (kinds.BallDevice d) call limits = ball-comes d limits call

@@ -1,8 +1,15 @@
 pub mod Marks
 pub mod Slots
 pub mod Flat
+pub mod Among
+pub mod BallDue
+pub mod BallShapes
 pub mod Shapes
+pub mod BallAnswers
 pub mod Answered
+pub mod BallAttained
 pub mod Attained
+pub mod BallMoments
 pub mod Moments
+pub mod BallLists
 pub mod Lists

@@ -35,9 +35,11 @@ use Rattle.device_objects.specs.Flipper as flipper
 use Rattle.device_objects.specs.Autofire as autofire
 use Rattle.device_objects.specs.Bank.{next_state, shot_hit, group_hit, group_complete, hit_lists, current, slot_step, bank_step}
 use Rattle.device_objects.specs.DeviceStep.{device_step}
-use Rattle.device_objects.specs.Laws.{HasShape, OutcomesAreOfTheRow}
-use Rattle.device_objects.specs.Outcomes.{silent, only_if, can_complete, hit_completing, of_hit_in, of_hit, of_bank, outcomes}
-use Rattle.device_objects.proofs.Answered.{contains, bank_slot-in}
+use Rattle.device_objects.specs.Laws.{OutcomesAreOfTheRow}
+use Rattle.device_objects.specs.Outcomes.{only_if, can_complete, hit_completing, of_hit_in, of_hit, of_bank, outcomes}
+use Rattle.device_objects.proofs.Among.{contains}
+use Rattle.device_objects.proofs.Answered.{bank_slot-in}
+use Rattle.device_objects.proofs.BallLists.{ball_outcomes-lists, ball_step-lists}
 use Rattle.device_objects.proofs.Flat.{All-flat_map_range}
 use Rattle.device_objects.proofs.Shapes.{next-within}
 
@@ -294,6 +296,7 @@ outcomes_of_row (kinds.Timer t) call = search rules
 outcomes_of_row (kinds.Bank b) call = bank-all_below b call
 outcomes_of_row kinds.Flipper call = search rules
 outcomes_of_row kinds.Autofire call = search rules
+outcomes_of_row (kinds.BallDevice d) call = ball_outcomes-lists d call
 
 -- and what a device answers
 pub lists_are_of_the_row : (settings : Settings) (call : Call) (now : ℕ) (world : World) (state : DeviceState) → All (λ k. k < list_count settings) (device_step settings call now world state).1
@@ -304,4 +307,5 @@ lists_are_of_the_row (kinds.Timer t) call now world (states.Timer s) = timer-bel
 lists_are_of_the_row (kinds.Bank b) call now world (states.Bank slots) = bank-lists b call world slots
 lists_are_of_the_row kinds.Flipper call now world (states.Flipper s) = flipper-below call s
 lists_are_of_the_row kinds.Autofire call now world (states.Autofire s) = autofire-below call s
+lists_are_of_the_row (kinds.BallDevice d) call now world (states.BallDevice s) = ball_step-lists d call now s
 lists_are_of_the_row settings call now world state = none (list_count settings)

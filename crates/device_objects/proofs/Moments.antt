@@ -1,6 +1,6 @@
 -- When devices are due.
-use Rattle.std.proofs.Common.{◌≡◌, ℕ, ◌+◌, ◌<◌, ◌≤◌, ◌⊎◌, inl, inr, Bool, true, false, if◌then◌else◌, None, Some, List, [], ◌∷◌, pos, ◌+ℤ◌, ◌-ℤ◌, refl, arith}
-use Rattle.std.proofs.lemmas.Option.{none-some, same_Some}
+use Rattle.std.proofs.Common.{◌≡◌, ℕ, zero, suc, ◌+◌, ◌<◌, ◌≤◌, ◌⊎◌, inl, inr, Bool, true, false, if◌then◌else◌, Option, None, Some, IfSome, List, [], ◌∷◌, pos, ◌+ℤ◌, ◌-ℤ◌, refl, arith}
+use Rattle.std.proofs.lemmas.Option.{IfSome_then, none-some, same_Some}
 use Rattle.plan_tables.specs.declared.devices.Act.{Act}
 use Rattle.plan_tables.specs.declared.devices.Act.TheVariants as acts
 use Rattle.plan_tables.specs.declared.devices.TimerSettings.{TimerSettings}
@@ -15,8 +15,9 @@ use Rattle.device_objects.specs.declared.state.DeviceState.TheVariants as states
 use Rattle.device_objects.specs.declared.state.World.{World}
 use Rattle.device_objects.specs.Values.{clamped, is_at_end, moved}
 use Rattle.device_objects.specs.Timer as timer
-use Rattle.device_objects.specs.DeviceStep.{due_of, first_state, device_step}
-use Rattle.device_objects.specs.Laws.{HasShape}
+use Rattle.device_objects.specs.DeviceStep.{due_of, part_due, first_state, device_step}
+use Rattle.device_objects.specs.Laws.{ArmsLaterMoments, DevicesAreDueWithTheirParts, HasShape, IsDone, NothingIsDue}
+use Rattle.device_objects.proofs.BallMoments.{ball-arms_later, ball-fired, ball-parts_none, ball-parts_one, ball-parts_first, ball-parts_few, ball-stopped_quiet}
 
 -- a timer that is due at a moment at which it was due before, or later than now
 module _ (t : TimerSettings) (now : ℕ) (some : 1 ≤ t.interval) (Before : ℕ → Type 0) where
@@ -62,30 +63,108 @@ module _ (t : TimerSettings) (now : ℕ) (some : 1 ≤ t.interval) (Before : ℕ
   timer-later calls.Fire s h = ticked-later (record s { value = moved t.direction (pos 1) s.value })
   timer-later (calls.Act act) s h = act-later act s h
 
--- what a step arms is due after the moment of the step
-pub arms-later : (settings : Settings) (call : Call) (now : ℕ) (world : World) (state : DeviceState) → IsWithinLimits settings
-    → (due : ℕ) → due_of (device_step settings call now world state).0 ≡ Some due → (due_of state ≡ Some due) ⊎ (now < due)
-arms-later (kinds.Timer t) call now world (states.Timer s) limits due is = timer-later t now limits.0 (λ d. s.due ≡ Some d) call s (λ d same. inl same) due is
-arms-later (kinds.Counter c) call now world (states.Counter slots) limits due is = absurd (none-some due is)
-arms-later (kinds.Accrual a) call now world (states.Accrual slots) limits due is = absurd (none-some due is)
-arms-later (kinds.Bank b) call now world (states.Bank slots) limits due is = absurd (none-some due is)
-arms-later (kinds.Sequence q) call now world (states.Sequence slots) limits due is = absurd (none-some due is)
-arms-later kinds.Flipper call now world (states.Flipper s) limits due is = absurd (none-some due is)
-arms-later kinds.Autofire call now world (states.Autofire s) limits due is = absurd (none-some due is)
-arms-later _ call now world _ limits due is = inl is
+-- ---- what a step arms
 
--- and so is a device that has fired
-pub fired-later : (settings : Settings) (now : ℕ) (world : World) (state : DeviceState) → IsWithinLimits settings → HasShape settings state
-    → (due : ℕ) → due_of (device_step settings calls.Fire now world state).0 ≡ Some due → now < due
-fired-later (kinds.Timer t) now world (states.Timer s) limits shape due is =
-    elim (ticked-later t now limits.0 (λ d. ⊥) (record s { value = moved t.direction (pos 1) s.value }) due is) [ inl never ↦ absurd never | inr later ↦ later ]
-fired-later (kinds.Counter c) now world (states.Counter slots) limits shape due is = absurd (none-some due is)
-fired-later (kinds.Accrual a) now world (states.Accrual slots) limits shape due is = absurd (none-some due is)
-fired-later (kinds.Bank b) now world (states.Bank slots) limits shape due is = absurd (none-some due is)
-fired-later (kinds.Sequence q) now world (states.Sequence slots) limits shape due is = absurd (none-some due is)
-fired-later kinds.Flipper now world (states.Flipper s) limits shape due is = absurd (none-some due is)
-fired-later kinds.Autofire now world (states.Autofire s) limits shape due is = absurd (none-some due is)
-fired-later _ now world _ limits shape due is = elim shape [ ]
+-- a part is due after the moment of the step, or was due before it
+pub arms-later : (settings : Settings) (call : Call) (now : ℕ) (world : World) (state : DeviceState)
+    → IsWithinLimits settings → (k due : ℕ) → part_due (device_step settings call now world state).0 k ≡ Some due
+    → (part_due state k ≡ Some due) ⊎ (now < due)
+arms-later (kinds.Timer t) call now world (states.Timer s) limits zero due is =
+    timer-later t now limits.0 (λ d. s.due ≡ Some d) call s (λ d same. inl same) due is
+arms-later (kinds.Timer t) call now world (states.Timer s) limits (suc k) due is = absurd (none-some due is)
+arms-later (kinds.BallDevice d) call now world (states.BallDevice s) limits k due is =
+    ball-arms_later d call now s limits k due is
+arms-later (kinds.Counter c) call now world (states.Counter slots) limits k due is = absurd (none-some due is)
+arms-later (kinds.Accrual a) call now world (states.Accrual slots) limits k due is = absurd (none-some due is)
+arms-later (kinds.Bank b) call now world (states.Bank slots) limits k due is = absurd (none-some due is)
+arms-later (kinds.Sequence q) call now world (states.Sequence slots) limits k due is = absurd (none-some due is)
+arms-later kinds.Flipper call now world (states.Flipper s) limits k due is = absurd (none-some due is)
+arms-later kinds.Autofire call now world (states.Autofire s) limits k due is = absurd (none-some due is)
+arms-later _ call now world _ limits k due is = inl is
+
+-- ---- what is done when a device fires
+
+if_some : (o : Option ℕ) (P : ℕ → Type 0) → ((m : ℕ) → o ≡ Some m → P m) → IfSome o P
+if_some None P each = tt
+if_some (Some m) P each = each m refl
+
+-- a timer that has ticked is due later, if at all
+timer-fired : (t : TimerSettings) (now : ℕ) (s : TimerState) → 1 ≤ t.interval
+    → IfSome s.due (λ due. IsDone now due (states.Timer s) (states.Timer (timer.timer_step t calls.Fire now s).0))
+timer-fired t now s some =
+    let next : TimerState = (timer.timer_step t calls.Fire now s).0 in
+    let later : (m : ℕ) → next.due ≡ Some m → now < m =
+    (λ m is. elim (ticked-later t now some (λ d. ⊥) (record s { value = moved t.direction (pos 1) s.value }) m is) [
+      | inl never ↦ absurd never
+      | inr after ↦ after
+    ]) in
+    if_some s.due (λ due. IsDone now due (states.Timer s) (states.Timer next))
+    (λ due is. record { part = 0; due = is; done = if_some next.due (λ m. now < m) later })
+
+pub fired-done : (settings : Settings) (now : ℕ) (world : World) (state : DeviceState) → IsWithinLimits settings
+    → HasShape settings state
+    → IfSome (due_of state) (λ due. IsDone now due state (device_step settings calls.Fire now world state).0)
+fired-done (kinds.Timer t) now world (states.Timer s) limits shape = timer-fired t now s limits.0
+fired-done (kinds.BallDevice d) now world (states.BallDevice s) limits shape = ball-fired d now s limits
+fired-done (kinds.Counter c) now world (states.Counter slots) limits shape = tt
+fired-done (kinds.Accrual a) now world (states.Accrual slots) limits shape = tt
+fired-done (kinds.Bank b) now world (states.Bank slots) limits shape = tt
+fired-done (kinds.Sequence q) now world (states.Sequence slots) limits shape = tt
+fired-done kinds.Flipper now world (states.Flipper s) limits shape = tt
+fired-done kinds.Autofire now world (states.Autofire s) limits shape = tt
+fired-done _ now world _ limits shape = elim shape [ ]
+
+pub arms_later_moments : ArmsLaterMoments
+arms_later_moments = record { step = arms-later; fired = fired-done }
+
+-- ---- parts
+
+timer-part : (due : Option ℕ) → IfSome due (λ m. (other : ℕ) → due ≡ Some other → m ≤ other)
+timer-part None = tt
+timer-part (Some m) = λ other is. (let same : m ≡ other = same_Some m other is in omega (arith, same))
+
+-- while a device is not due, none of its parts is
+pub parts-none : (state : DeviceState) → due_of state ≡ None → (k : ℕ) → part_due state k ≡ None
+parts-none (states.Timer s) is zero = is
+parts-none (states.Timer s) is (suc k) = refl
+parts-none (states.BallDevice s) is k = ball-parts_none s is k
+parts-none _ is k = refl
+
+-- while it is, one is due at the same moment
+pub parts-one : (state : DeviceState) → IfSome (due_of state) (λ due. (k : ℕ) × (part_due state k ≡ Some due))
+parts-one (states.Timer s) =
+    if_some s.due (λ due. (k : ℕ) × (part_due (states.Timer s) k ≡ Some due)) (λ due is. (0, is))
+parts-one (states.BallDevice s) = ball-parts_one s
+parts-one _ = tt
+
+-- no part is due before the device is
+pub parts-first : (state : DeviceState)
+    → IfSome (due_of state) (λ due. (k other : ℕ) → part_due state k ≡ Some other → due ≤ other)
+parts-first (states.Timer s) = IfSome_then s.due (timer-part s.due) (λ due least. elim [
+  | zero ↦ (λ other is. least other is)
+  | suc k ↦ (λ other is. absurd (none-some other is))
+])
+parts-first (states.BallDevice s) = ball-parts_first s
+parts-first _ = tt
+
+-- no part from 17 on is due
+pub parts-few : (settings : Settings) (state : DeviceState) (k : ℕ) → HasShape settings state → 17 ≤ k
+    → part_due state k ≡ None
+parts-few (kinds.Timer t) (states.Timer s) zero shape past = absurd (omega (arith, past))
+parts-few (kinds.Timer t) (states.Timer s) (suc k) shape past = refl
+parts-few (kinds.BallDevice d) (states.BallDevice s) k shape past = ball-parts_few s k shape.switches past
+parts-few (kinds.Counter c) (states.Counter slots) k shape past = refl
+parts-few (kinds.Accrual a) (states.Accrual slots) k shape past = refl
+parts-few (kinds.Bank b) (states.Bank slots) k shape past = refl
+parts-few (kinds.Sequence q) (states.Sequence slots) k shape past = refl
+parts-few kinds.Flipper (states.Flipper s) k shape past = refl
+parts-few kinds.Autofire (states.Autofire s) k shape past = refl
+parts-few _ _ k shape past = elim shape [ ]
+
+pub devices_are_due_with_their_parts : DevicesAreDueWithTheirParts
+devices_are_due_with_their_parts = record { none = parts-none; one = parts-one; first = parts-first; few = parts-few }
+
+-- ---- when nothing is due
 
 -- at first nothing is due
 pub first-quiet : (settings : Settings) → due_of (first_state settings) ≡ None
@@ -96,6 +175,7 @@ first-quiet (kinds.Timer t) = refl
 first-quiet (kinds.Bank b) = refl
 first-quiet kinds.Flipper = refl
 first-quiet kinds.Autofire = refl
+first-quiet (kinds.BallDevice d) = refl
 
 -- nor when the device's mode has stopped; and to that it answers nothing
 pub stopped-quiet : (settings : Settings) (now : ℕ) (world : World) (state : DeviceState) → HasShape settings state → due_of (device_step settings calls.ModeStop now world state).0 ≡ None
@@ -106,6 +186,7 @@ stopped-quiet (kinds.Bank b) now world (states.Bank slots) shape = refl
 stopped-quiet (kinds.Sequence q) now world (states.Sequence slots) shape = refl
 stopped-quiet kinds.Flipper now world (states.Flipper s) shape = refl
 stopped-quiet kinds.Autofire now world (states.Autofire s) shape = refl
+stopped-quiet (kinds.BallDevice d) now world (states.BallDevice s) shape = ball-stopped_quiet s
 stopped-quiet _ now world _ shape = elim shape [ ]
 
 pub stopped-silent : (settings : Settings) (now : ℕ) (world : World) (state : DeviceState) → (device_step settings calls.ModeStop now world state).1 ≡ []
@@ -116,4 +197,8 @@ stopped-silent (kinds.Timer t) now world (states.Timer s) = refl
 stopped-silent (kinds.Bank b) now world (states.Bank slots) = refl
 stopped-silent kinds.Flipper now world (states.Flipper s) = refl
 stopped-silent kinds.Autofire now world (states.Autofire s) = refl
+stopped-silent (kinds.BallDevice d) now world (states.BallDevice s) = refl
 stopped-silent _ now world _ = refl
+
+pub nothing_is_due : NothingIsDue
+nothing_is_due = record { first = first-quiet; stopped = stopped-quiet }

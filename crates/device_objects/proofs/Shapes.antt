@@ -1,7 +1,7 @@
 -- States keep their kind.
 use Rattle.std.proofs.Common.{◌≡◌, ℕ, suc, ◌-◌, ◌<◌, ◌≤◌, Bool, true, false, Option, None, Some, List, [], ◌++◌, length, take, drop, replicate, slice_get, slice_set, nat_lt, nat_le, if◌then◌else◌, refl, ◌∙◌, ◌&&◌, arith}
 use Rattle.std.specs.List.{All}
-use Rattle.std.proofs.lemmas.Bool.{ltb-true, ltb-false}
+use Rattle.std.proofs.lemmas.Bool.{ltb-true}
 use Rattle.std.proofs.lemmas.List.{length-set, length-take, length-drop, length-append}
 use Rattle.std.proofs.lemmas.List.Elements.{All-replicate, All-set, All-append, All-take, All-drop}
 use Rattle.plan_tables.specs.declared.devices.BankSettings.{BankSettings}
@@ -28,6 +28,7 @@ use Rattle.device_objects.specs.Bank as bank
 use Rattle.device_objects.specs.DeviceStep.{first_state, device_step}
 use Rattle.device_objects.specs.Laws.{HasBankShape, HasShape, StatesKeepTheirShape}
 use Rattle.device_objects.proofs.Slots.{step_in_use-length, step_in_use-all, All-at}
+use Rattle.device_objects.proofs.BallShapes.{first_ball-shape, ball_step-shape}
 
 -- slots of which the first may begin anew
 pub anew-length : {S : Type 0} (keep : Bool) (slots : List S) (first : S) → length (if keep then slots else slice_set slots 0 first) ≡ length slots
@@ -234,6 +235,7 @@ first-shape (kinds.Timer t) = tt
 first-shape (kinds.Bank b) = (refl, All-replicate (HasBankShape b) 4 (bank.first_slot b 0) (first_slot-shape b 0))
 first-shape kinds.Flipper = tt
 first-shape kinds.Autofire = tt
+first-shape (kinds.BallDevice d) = first_ball-shape d
 
 step-shape : (settings : Settings) (call : Call) (now : ℕ) (world : World) (state : DeviceState) → HasShape settings state → HasShape settings (device_step settings call now world state).0
 step-shape (kinds.Counter c) call now world (states.Counter slots) four = counter_step-length c call now world slots ∙ four
@@ -244,6 +246,7 @@ step-shape (kinds.Bank b) call now world (states.Bank slots) shape =
     (bank_step-length b call world slots ∙ shape.0, bank_step-shape b call world slots shape.1)
 step-shape kinds.Flipper call now world (states.Flipper s) shape = tt
 step-shape kinds.Autofire call now world (states.Autofire s) shape = tt
+step-shape (kinds.BallDevice d) call now world (states.BallDevice s) shape = ball_step-shape d call now s shape
 step-shape _ call now world _ shape = elim shape [ ]
 
 pub states_keep_their_shape : StatesKeepTheirShape

@@ -1,6 +1,6 @@
--- A ball device, such as a trough or a plunger. Balls lie in it, one at each ball switch that counts, and it ejects them
--- one at a time.
-use Rattle.std.specs.Prelude.{ℕ, zero, suc, ◌+◌, ◌-◌, ◌==◌, nat_lt, nat_le, min, Bool, true, false, not, ◌&&◌, ◌||◌, is_some, if◌then◌else◌, Option, None, Some, List, [], ◌∷◌, ◌++◌, map, option_map, replicate, slice_index_or, slice_set}
+-- A ball device, such as a trough or a plunger. A ball lies at each ball switch that is counted. The device ejects one
+-- ball at a time.
+use Rattle.std.specs.Prelude.{ℕ, zero, suc, ◌+◌, ◌-◌, nat_lt, nat_le, min, Bool, true, false, not, ◌&&◌, ◌||◌, if◌then◌else◌, Option, None, Some, List, [], ◌∷◌, ◌++◌, map, option_map, replicate, slice_index_or, slice_set}
 use Rattle.std.specs.List.{list_any}
 use Rattle.plan_tables.specs.declared.devices.Act.{Act}
 use Rattle.plan_tables.specs.declared.devices.Act.TheVariants as acts
@@ -29,7 +29,7 @@ attempted = 1
 abbrev pub left : ℕ
 left = 2
 
--- a ball has left that it does not eject
+-- a ball has left that was not being ejected
 abbrev pub lost : ℕ
 lost = 3
 
@@ -62,13 +62,13 @@ switch_at s i = slice_index_or s.switches i empty
 abbrev pub set_switch : ℕ → BallSwitch → BallState → BallState
 set_switch i b s = record s { switches = slice_set s.switches i b }
 
--- whether a ball counts in it
+-- whether a ball lies in it
 abbrev pub has_ball : BallState → Bool
 has_ball s = list_any (λ b. b.counted) s.switches
 
 -- ---- what is due
 
--- of two moments, each with the number of a ball switch, the first; of equal ones the first again
+-- The earlier of two moments, each with the number of its ball switch; of equal ones the first argument.
 abbrev pub sooner : Option (ℕ × ℕ) → Option (ℕ × ℕ) → Option (ℕ × ℕ)
 sooner None b = b
 sooner (Some a) None = Some a
@@ -98,7 +98,7 @@ earlier (Some a) (Some b) = Some (min a b)
 abbrev pub due_of : BallState → Option ℕ
 due_of s = earlier (option_map (λ a. a.0) (first_due s)) (timeout_of s.eject)
 
--- When its parts are due: part 0 is the attempt, and the others are the ball switches.
+-- When its parts are due: part 0 is the attempt, and part i + 1 is ball switch i.
 abbrev pub part_due : BallState → ℕ → Option ℕ
 part_due s zero = timeout_of s.eject
 part_due s (suc i) = (switch_at s i).due
@@ -107,7 +107,8 @@ part_due s (suc i) = (switch_at s i).due
 
 -- it attempts to eject a ball, for the time that its settings give
 abbrev pub attempt : BallSettings → ℕ → ℕ → BallState → BallState × List ℕ
-attempt d number now s = (record s { eject = Pulsing (record { number = number; timeout = now + d.timeout }) }, attempted ∷ [])
+attempt d number now s =
+    (record s { eject = Pulsing (record { number = number; timeout = now + d.timeout }) }, attempted ∷ [])
 
 abbrev pub is_idle : Eject → Bool
 is_idle Idle = true
@@ -142,12 +143,12 @@ stuck d now a s =
     then after (failed ∷ []) (attempt d (min (suc a.number) 1000) now s)
     else (record s { eject = Idle; wanted = 0 }, failed ∷ [])
 
--- the time is over in which a ball on its way was to arrive: it is on the playfield
-abbrev pub given_up : BallTarget → List ℕ
-given_up targets.Playfield = arrived ∷ succeeded ∷ []
-given_up (targets.Device r) = arrived ∷ failed ∷ []
+-- The ball on its way did not arrive in time: it counts as being on the playfield.
+abbrev pub overdue : BallTarget → List ℕ
+overdue targets.Playfield = arrived ∷ succeeded ∷ []
+overdue (targets.Device r) = arrived ∷ failed ∷ []
 
--- a ball on its way has arrived
+-- the ball on its way is where it should be: in the target device, or on the playfield
 abbrev pub confirmed : BallTarget → List ℕ
 confirmed targets.Playfield = arrived ∷ succeeded ∷ []
 confirmed (targets.Device r) = succeeded ∷ []
@@ -155,7 +156,7 @@ confirmed (targets.Device r) = succeeded ∷ []
 abbrev pub time_out : BallSettings → ℕ → Eject → BallState → BallState × List ℕ
 time_out d now Idle s = (s, [])
 time_out d now (Pulsing a) s = stuck d now a s
-time_out d now (Away a) s = after (given_up d.target) (begin d now (ended s))
+time_out d now (Away a) s = after (overdue d.target) (begin d now (ended s))
 
 abbrev pub confirm : BallSettings → ℕ → Eject → BallState → BallState × List ℕ
 confirm d now Idle s = (s, [])
@@ -168,7 +169,7 @@ confirm d now (Away a) s = after (confirmed d.target) (begin d now (ended s))
 abbrev pub delay : BallSettings → Bool → ℕ
 delay d active = if active then d.entrance_delay else d.exit_delay
 
--- whether a ball switch that is active, or inactive, counts otherwise
+-- whether the level of a ball switch differs from what is counted
 abbrev pub counts_otherwise : Bool → BallSwitch → Bool
 counts_otherwise active b = if active then not b.counted else b.counted
 
@@ -192,7 +193,7 @@ gone d now Idle s =
 gone d now (Pulsing a) s = (record s { eject = Away a }, left ∷ [])
 gone d now (Away a) s = (s, lost ∷ [])
 
--- what a ball switch is counts from now on: a ball has entered, or is gone
+-- the level of a ball switch is counted from now on: a ball has entered, or is gone
 abbrev pub count : BallSettings → ℕ → ℕ → BallState → BallState × List ℕ
 count d now i s =
     let t = set_switch i (turned (switch_at s i)) s in
@@ -218,7 +219,7 @@ fire d now s =
     then time_out d now s.eject s
     else count_due d now (first_due s) s
 
--- a trough is to eject so many balls more, at most 255
+-- A trough is to eject this many more balls. A request that would make more than 255 is ignored.
 abbrev pub requested : BallSettings → ℕ → ℕ → BallState → BallState × List ℕ
 requested d n now s =
     if d.trough && nat_le (s.wanted + n) 255 then begin d now (record s { wanted = s.wanted + n }) else (s, [])
@@ -230,9 +231,13 @@ act_step d acts.Confirm now s = confirm d now s.eject s
 act_step d (acts.Request n) now s = requested d n now s
 act_step d _ now s = (s, [])
 
+-- a ball switch at which nothing is due any more
+abbrev pub not_due : BallSwitch → BallSwitch
+not_due b = record b { due = None }
+
 -- it is taken out of the machine: nothing is due any more, and nothing is ejected
 abbrev pub halted : BallState → BallState
-halted s = record { switches = map (λ b. record b { due = None }) s.switches; eject = Idle; wanted = 0 }
+halted s = record { switches = map not_due s.switches; eject = Idle; wanted = 0 }
 
 abbrev pub ball_step : BallSettings → Call → ℕ → BallState → BallState × List ℕ
 ball_step d calls.ModeStart now s = (s, [])

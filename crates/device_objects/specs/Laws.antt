@@ -1,5 +1,5 @@
 -- What holds of every step of a device.
-use Rattle.std.specs.Prelude.{◌≡◌, ℕ, ◌<◌, ◌≤◌, ◌⊎◌, true, Option, None, Some, IsSome, IfSome, List, length, Contains, drop}
+use Rattle.std.specs.Prelude.{◌≡◌, ℕ, ◌<◌, ◌≤◌, max, ◌⊎◌, true, None, Some, IsSome, IfSome, List, length, Contains, drop}
 use Rattle.std.specs.Option.{option_map_or}
 use Rattle.std.specs.List.{All}
 use Rattle.plan_tables.specs.declared.devices.BallSettings.{BallSettings}
@@ -25,11 +25,11 @@ abbrev pub HasBankShape : BankSettings → BankSlot → Type 0
 HasBankShape b slot =
     (length slot.enabled ≡ length b.enabled) × (length slot.states ≡ 16) × All (λ s. s ≤ b.last_state) slot.states
 
--- the number of an attempt: from 1 to that of the last, or to 1,000
+-- The number of an attempt is at least 1, and at most the limit, or 1,000 if there is none.
 abbrev pub IsAttempt : BallSettings → ℕ → Type 0
-IsAttempt d number = (1 ≤ number) × (number ≤ option_map_or (λ most. most) d.max_attempts 1000)
+IsAttempt d number = (1 ≤ number) × (number ≤ max 1 (option_map_or (λ most. most) d.max_attempts 1000))
 
--- only a coil makes an attempt, and without coil or hand no ball is on its way
+-- Only a device with a coil can be Pulsing. Only one with a coil, or with a mechanical eject, can be Away.
 abbrev pub IsEjectOf : BallSettings → Eject → Type 0
 IsEjectOf d Idle = Unit {0}
 IsEjectOf d (Pulsing a) = (d.has_coil ≡ true) × IsAttempt d a.number
@@ -84,17 +84,17 @@ pub record IsAnswer (settings : Settings) (call : Call) (lists : List ℕ) : Typ
 abbrev pub OutcomesComeAbout : Type 0
 OutcomesComeAbout = (settings : Settings) (call : Call) → IsWithinLimits settings → All (IsAnswer settings call) (outcomes settings call)
 
--- A device is due at the first of the moments at which its parts are due. Those are the parts below 17.
+-- A device is due at the first of the moments at which its parts are due. Only parts 0 to 16 are ever due.
 pub record DevicesAreDueWithTheirParts : Type 0 where
   pub none : (state : DeviceState) → due_of state ≡ None → (k : ℕ) → part_due state k ≡ None
   pub one : (state : DeviceState) → IfSome (due_of state) (λ due. (k : ℕ) × (part_due state k ≡ Some due))
   pub first : (state : DeviceState) → IfSome (due_of state) (λ due. (k other : ℕ) → part_due state k ≡ Some other → due ≤ other)
   pub few : (settings : Settings) (state : DeviceState) (k : ℕ) → HasShape settings state → 17 ≤ k → part_due state k ≡ None
 
--- a part of the device is due at this moment, and later or not at all after a step to another state
-pub record IsDone (now due : ℕ) (state next : DeviceState) : Type 0 where
+-- A part was due at this moment. In the next state it is due later than now, or not at all.
+pub record IsDone (now moment : ℕ) (state next : DeviceState) : Type 0 where
   pub part : ℕ
-  pub due : part_due state part ≡ Some due
+  pub due : part_due state part ≡ Some moment
   pub done : IfSome (part_due next part) (λ later. now < later)
 
 -- What a step arms is due after the moment of the step. When a device fires, one of its parts that were due is done.

@@ -22,7 +22,7 @@ use Rattle.device_objects.specs.Timer as timer
 use Rattle.device_objects.specs.Bank.{next_state, hit_lists, group_complete}
 use Rattle.device_objects.specs.Flipper.{on, off}
 use Rattle.device_objects.specs.Autofire.{fires}
-use Rattle.device_objects.specs.BallDevice.{entered, attempted, left, lost, failed, given_up, confirmed, may_try_again}
+use Rattle.device_objects.specs.BallDevice.{entered, attempted, left, lost, failed, overdue, confirmed, may_try_again}
 
 -- no list at all
 abbrev pub silent : List (List ℕ)
@@ -132,7 +132,7 @@ may_begin d = d.has_coil && nat_lt 0 d.switches
 abbrev pub may_eject : BallSettings → Bool
 may_eject d = d.has_coil || d.mechanical
 
--- these lists, after which it can begin to eject a ball, or not
+-- these lists, alone or followed by a new attempt
 abbrev pub ending : BallSettings → List ℕ → List (List ℕ)
 ending d lists = lists ∷ only_if (may_begin d) ((lists ++ attempted ∷ []) ∷ [])
 
@@ -140,7 +140,7 @@ ending d lists = lists ∷ only_if (may_begin d) ((lists ++ attempted ∷ []) �
 abbrev pub of_count : BallSettings → List (List ℕ)
 of_count d = ending d (entered ∷ []) ++ only_if (may_eject d) ((left ∷ []) ∷ []) ++ (lost ∷ []) ∷ []
 
--- an attempt is over: there is another one, if its number can be that of one before the last; or it can be the last
+-- An attempt has failed. Another one follows, unless only one is allowed. If there is a limit, it may also be the last.
 abbrev pub of_attempt : BallSettings → List (List ℕ)
 of_attempt d =
     only_if (may_try_again d.max_attempts 1) ((failed ∷ attempted ∷ []) ∷ [])
@@ -150,7 +150,7 @@ abbrev pub of_ball_fire : BallSettings → List (List ℕ)
 of_ball_fire d =
     only_if (nat_lt 0 d.switches) (of_count d)
     ++ only_if d.has_coil (of_attempt d)
-    ++ only_if (may_eject d) (ending d (given_up d.target))
+    ++ only_if (may_eject d) (ending d (overdue d.target))
 
 abbrev pub of_ball_act : BallSettings → Act → List (List ℕ)
 of_ball_act d acts.Confirm = [] ∷ only_if (may_eject d) (ending d (confirmed d.target))

@@ -5,7 +5,7 @@ ghost use Rattle.plan_tables.specs.Devices.{IsWithinLimits};
 ghost use Rattle.plan_tables.specs.declared.devices.Settings.TheVariants as kinds;
 ghost use Rattle.arrayvec.specs.ArrayVec.{array_vec_len};
 ghost use Rattle.device_objects.specs.declared.device.Call.TheVariants as calls;
-ghost use Rattle.device_objects.specs.BallDevice.{confirmed, given_up};
+ghost use Rattle.device_objects.specs.BallDevice.{confirmed, overdue};
 ghost use Rattle.device_objects.specs.Outcomes.{can_complete, hit_completing, ending, may_begin, may_eject, of_accrual, of_attempt, of_autofire, of_ball_act, of_ball_device, of_ball_fire, of_bank, of_block, of_change, of_count, of_counter, of_flipper, of_hit, of_hit_in, of_sequence, of_switch, of_timer, of_timer_act, only_if, outcomes, resetting, silent, timer_completing};
 
 use crate::bank::{group_complete, hit_lists, next_state};
@@ -325,8 +325,8 @@ fn with_attempt(all: Outcomes, device: &BallSettings) -> Outcomes
 }
 
 /// The time is over in which a ball on its way was to arrive.
-fn given_up(device: &BallSettings) -> &'static [u16]
-    ensures lists { result.now ≡ given_up device.now.target }
+fn overdue(device: &BallSettings) -> &'static [u16]
+    ensures lists { result.now ≡ overdue device.now.target }
     ensures short { length result.now ≤ 2 }
 {
     match device.target {
@@ -357,7 +357,7 @@ fn of_ball_fire(device: &BallSettings) -> Outcomes
         all = with_attempt(all, device);
     }
     if may_eject(device) {
-        all = with_ending(all, device, given_up(device));
+        all = with_ending(all, device, overdue(device));
     }
     all
 }

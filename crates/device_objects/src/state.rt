@@ -83,9 +83,9 @@ pub struct AutofireState {
 /// What a ball device remembers of one of its ball switches.
 #[derive(Clone, Copy)]
 pub struct BallSwitch {
-    /// Whether it holds a ball that counts.
+    /// Whether a ball counts as lying at it.
     pub counted: bool,
-    /// The moment at which the opposite will count, if the switch stays as it is.
+    /// The moment at which `counted` changes, if the switch stays as it is.
     pub due: Option<u64>,
 }
 
@@ -103,16 +103,16 @@ pub struct Attempt {
 pub enum Eject {
     /// It ejects none.
     Idle,
-    /// Its coil was pulsed, and the ball is to leave.
+    /// Its coil was pulsed, and the ball has not left yet.
     Pulsing(Attempt),
-    /// The ball has left, and is to arrive.
+    /// The ball has left, and has not arrived yet.
     Away(Attempt),
 }
 
 /// What a ball device remembers.
 #[derive(Clone, Copy)]
 pub struct BallState {
-    /// Its ball switches, by their numbers. Those that it does not have stay as they were at first.
+    /// Its ball switches, by their numbers. Those that it does not have stay empty.
     pub switches: [BallSwitch; 16],
     pub eject: Eject,
     /// How many balls a trough is still to eject.

@@ -6,7 +6,7 @@ use Rattle.std.proofs.lemmas.List.{length_push, length-set, length-map, length-a
 use Rattle.std.proofs.lemmas.List.Elements.{All-head, All-tail}
 use Rattle.std.proofs.lemmas.List.Sums.{sum_by-cons}
 use Rattle.mpf_sections.specs.Rows.{SectionRows}
-use Rattle.plan_contributions.specs.declared.rows.Row as rows
+use Rattle.plan_rows.specs.declared.rows.Row as rows
 use Rattle.plan_contributions.specs.declared.contribution.Aim.{Aim}
 use Rattle.plan_contributions.specs.declared.contribution.Aim.TheVariants.{Run}
 use Rattle.plan_contributions.specs.declared.contribution.Contribution as contributions
@@ -21,7 +21,7 @@ use Rattle.plan_tables.specs.declared.entries.Listener.{Listener}
 use Rattle.plan_tables.specs.declared.entries.CoilLimits.{CoilLimits}
 use Rattle.plan_tables.specs.declared.devices.DeviceRow.{DeviceRow}
 use Rattle.plan_tables.specs.declared.devices.Settings.{Settings}
-use Rattle.plan_contributions.specs.declared.contribution.Place.{Place}
+use Rattle.plan_rows.specs.declared.place.Place.{Place}
 use Rattle.plan_tables.specs.Devices.{list_count}
 use Rattle.plan_tables.specs.declared.table.Table.{Table}
 use Rattle.plan_tables.specs.declared.table.Table.TheVariants.{Events, Bindings, Switches, Coils, Variables, Rows}
@@ -33,7 +33,8 @@ use Rattle.mpf_plan.specs.Uses.{Names, names_from, number_among}
 use Rattle.mpf_plan.specs.PlanOf.{DraftView, event_of, action_of, last_switch, with_given, new_mode, with_event_in, next_binding, lists_for, with_binding, with_list_for, with_one_more, next_row, next_list, with_device, next_listener, heard_by, with_listener, first_of_last, limited_to, with_coil, condition_of, conditioned, last_conditioned, with_condition, rules_of, with_game, with_contribution, named_switch, named_coil, blank, drafted, plan_from}
 use Rattle.plan_tables.specs.Inside.{name_sets_view, mode_entry_view}
 use Rattle.mpf_plan.specs.Inside.{limited_coils, draft_view}
-use Rattle.plan_contributions.specs.View.{contribution_view, contributions_view, row_view, row_list_view}
+use Rattle.plan_contributions.specs.View.{contribution_view, contributions_view}
+use Rattle.plan_rows.specs.View.{row_view, row_list_view}
 use Rattle.mpf_plan.specs.Numbering.{bindings_given, binding_count, rows_given, row_count, modes_given, mode_count, lists_given, lists_count}
 use Rattle.plan_tables.proofs.RowLists.{few_lists}
 use Rattle.plan_contributions.specs.Facts.{IsLimited}

@@ -11,7 +11,8 @@ use Rattle.plan_tables.specs.declared.table.Table.{Table}
 use Rattle.plan_tables.specs.declared.table.Table.TheVariants.{Bindings, Rows}
 use Rattle.plan_tables.specs.declared.names.NameTable.{NameTable}
 use Rattle.mpf_plan.specs.declared.first_uses.Found.{Found}
-use Rattle.plan_contributions.specs.Contributions.{Contribution, Row, given_by}
+use Rattle.plan_contributions.specs.Contributions.{Contribution, given_by}
+use Rattle.plan_rows.specs.Rows.{Row}
 use Rattle.plan_contributions.specs.UsedNames.{used, name_in_table, uses}
 use Rattle.mpf_plan.specs.Uses.{first_uses, names_from}
 use Rattle.plan_tables.specs.Limits.{entry_count, limit_of, order_of, tables_in_order, first_above}

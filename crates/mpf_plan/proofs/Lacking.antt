@@ -12,13 +12,13 @@ use Rattle.std.proofs.lemmas.List.Sums.{fold-append}
 use Rattle.std.proofs.lemmas.Slice.Eq.{bytes_eq-Decides}
 use Rattle.indexmap.specs.IndexSet.{IndexSet}
 use Rattle.mpf_sections.specs.Rows.{SectionRows}
-use Rattle.plan_contributions.specs.declared.rows.Row as rows
+use Rattle.plan_rows.specs.declared.rows.Row as rows
 use Rattle.plan_tables.specs.declared.table.Table.{Table}
 use Rattle.plan_contributions.specs.Contributions.{Contribution, row_contributions, given_by}
 use Rattle.mpf_plan.specs.Uses.{first_uses, is_to_be_given, is_lacking}
 use Rattle.plan_contributions.specs.UsedNames.{given, name_in_table, given_names}
 use Rattle.plan_tables.specs.Limits.{order_of, tables_in_order}
-use Rattle.plan_contributions.specs.View.{row_view, row_list_view}
+use Rattle.plan_rows.specs.View.{row_view, row_list_view}
 use Rattle.plan_tables.specs.NamesKept.{names_of}
 use Rattle.mpf_plan.specs.Numbering.{with_name, HoldGivenNames}
 use Rattle.mpf_plan.proofs.Firsts.{with_names-all}

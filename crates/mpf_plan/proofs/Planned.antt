@@ -7,7 +7,7 @@ use Rattle.mpf_sections.specs.Rows.{SectionRows}
 use Rattle.mpf_config.specs.Rows.{Rows}
 use Rattle.mpf_config.specs.Short.{AreListsShort}
 use Rattle.mpf_config.specs.FewModes.{AreFewModes}
-use Rattle.plan_contributions.specs.declared.rows.Row as found
+use Rattle.plan_rows.specs.declared.rows.Row as found
 use Rattle.plan_tables.specs.declared.names.NameSets.{NameSets}
 use Rattle.mpf_plan.specs.declared.draft.Draft.{Draft}
 use Rattle.plan_tables.specs.declared.table.Table.{Table}
@@ -16,12 +16,13 @@ use Rattle.mpf_plan.specs.declared.fault.PlanFault.{PlanFault}
 use Rattle.mpf_plan.specs.declared.fault.PlanFault.TheVariants as faults
 use Rattle.plan_tables.specs.PlanView.{PlanView}
 use Rattle.plan_tables.specs.Valid.{IsBindingWithin, IsValid}
-use Rattle.plan_contributions.specs.Contributions.{Contribution, rows_of, given_by, contributions_of}
+use Rattle.plan_contributions.specs.Contributions.{Contribution, given_by, contributions_of}
+use Rattle.plan_rows.specs.Rows.{rows_of}
 use Rattle.mpf_plan.specs.Uses.{lacks_name}
 use Rattle.plan_tables.specs.Limits.{entry_count, limit_of, first_above}
 use Rattle.mpf_plan.specs.PlanOf.{drafted, plan_from, plan_of, plan_at, GivesPlan, IsExceeded}
 use Rattle.plan_tables.specs.Inside.{name_sets_view, tables_view}
-use Rattle.plan_contributions.specs.View.{row_list_view}
+use Rattle.plan_rows.specs.View.{row_list_view}
 use Rattle.plan_contributions.specs.Facts.{row_places, AreAimed}
 use Rattle.plan_contributions.proofs.Aimed.{rows_are_aimed}
 use Rattle.mpf_plan.specs.Inside.{IsActNumbered, draft_view}

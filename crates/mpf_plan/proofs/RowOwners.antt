@@ -12,7 +12,7 @@ use Rattle.plan_tables.specs.declared.entries.Owner.{Owner}
 use Rattle.plan_tables.specs.PlanView.{PlanView, no_row}
 use Rattle.plan_contributions.specs.declared.contribution.Aim.{Aim}
 use Rattle.plan_contributions.specs.declared.contribution.Aim.TheVariants.{On}
-use Rattle.plan_contributions.specs.declared.contribution.Place.{Place}
+use Rattle.plan_rows.specs.declared.place.Place.{Place}
 use Rattle.plan_contributions.specs.Contributions.{Contribution, gives, mode, mode_event, binds, device}
 use Rattle.plan_contributions.specs.Facts.{modes_after, row_place, row_places, IsAimed, AreAimed}
 use Rattle.mpf_plan.specs.Uses.{Names, number_among}

@@ -5,8 +5,8 @@ use Rattle.std.specs.List.{All, flat_map}
 use Rattle.std.proofs.lemmas.List.Elements.{All-nil, All-cons, All-append}
 use Rattle.mpf_values.specs.Events.{Condition, Event}
 use Rattle.mpf_sections.specs.Rows.{Written, Switch, EventPlayer, CoilPlayer, ModeSettings, SectionRows}
-use Rattle.plan_contributions.specs.declared.contribution.Place.{Place}
-use Rattle.plan_contributions.specs.declared.contribution.Place.TheVariants.{Control}
+use Rattle.plan_rows.specs.declared.place.Place.{Place}
+use Rattle.plan_rows.specs.declared.place.Place.TheVariants.{Control}
 use Rattle.plan_contributions.specs.declared.contribution.Aim.{Aim}
 use Rattle.plan_contributions.specs.declared.contribution.Aim.TheVariants.{Run, Start, Stop, Do}
 use Rattle.plan_tables.specs.declared.devices.Act.{Act}

@@ -28,8 +28,8 @@ use Rattle.plan_tables.specs.declared.devices.DeviceRow.{DeviceRow}
 use Rattle.plan_tables.specs.declared.devices.RowId.{RowId}
 use Rattle.plan_tables.specs.declared.devices.Settings.{Settings}
 use Rattle.plan_tables.specs.Devices.{list_count}
-use Rattle.plan_contributions.specs.declared.contribution.Place.{Place}
-use Rattle.plan_contributions.specs.declared.contribution.Place.TheVariants.{Machine, Control, Mode}
+use Rattle.plan_rows.specs.declared.place.Place.{Place}
+use Rattle.plan_rows.specs.declared.place.Place.TheVariants.{Machine, Control, Mode}
 use Rattle.plan_contributions.specs.declared.contribution.Aim.{Aim}
 use Rattle.plan_contributions.specs.declared.contribution.Aim.TheVariants.{Run, Start, Stop, Do, On}
 use Rattle.plan_tables.specs.declared.table.Table.{Table}

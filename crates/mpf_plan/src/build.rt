@@ -11,7 +11,7 @@ use crate::fill::fill;
 use crate::numbering::number;
 use machine_definitions::Definitions;
 use mpf_config::config::Config;
-use plan_contributions::rows_of;
+use plan_rows::rows_of;
 use plan_tables::tables::{Plan, Tables};
 use std::alloc::Global;
 

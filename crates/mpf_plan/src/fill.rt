@@ -8,7 +8,8 @@ ghost use Rattle.machine_definitions.specs.GameEvents.{game_event_names};
 ghost use Rattle.plan_contributions.specs.Contributions.{gives, active, inactive, mode, mode_event, binds, does, does_in, listens, coil, under, plays, given_by};
 ghost use Rattle.mpf_plan.specs.PlanOf.{event_of, coil_of, variable_of, last_conditioned, action_with, action_of, owner_at, priority_at, with_switch, with_kind, with_active, with_inactive, first_event, with_event, last_with_event, last_mode, last_row, next_binding, last_priority, lists_for, with_one_more, last_with, next_row, with_device, first_of_last, with_contribution, next_listener, with_listener, limited_to, named_switch, named_coil, blank, drafted, next_list, with_action_in};
 ghost use Rattle.plan_tables.specs.Inside.{name_sets_view, mode_entry_view, action_lists, switches_view};
-ghost use Rattle.plan_contributions.specs.View.{parts_text, deed_view, effect_view, contribution_view, contributions_view, row_list_view};
+ghost use Rattle.plan_contributions.specs.View.{parts_text, deed_view, effect_view, contribution_view, contributions_view};
+ghost use Rattle.plan_rows.specs.View.{row_list_view};
 ghost use Rattle.mpf_plan.specs.Inside.{limited_coils, IsRowNumbered, IsActNumbered, draft_view};
 ghost use Rattle.mpf_plan.specs.Numbering.{binding_count, lists_count, mode_count, row_count};
 ghost use Rattle.plan_tables.specs.PlanView.{no_switch, no_coil};
@@ -18,9 +19,9 @@ use crate::draft::Draft;
 use crate::numbering::number_among;
 use machine_definitions::{Definitions, GAME_EVENT_NAMES};
 use plan_contributions::{
-    Aim, Contribution, Deed, Effect, Parts, Place, Row, collect_row, mode_event_name, player_event,
-    whole,
+    Aim, Contribution, Deed, Effect, Parts, collect_row, mode_event_name, player_event, whole,
 };
+use plan_rows::{Place, Row};
 use plan_tables::Comparison;
 use plan_tables::devices::{DeviceRow, RowId, Settings};
 use plan_tables::entries::{

@@ -8,14 +8,16 @@ ghost use Rattle.plan_contributions.specs.UsedNames.{given_names};
 ghost use Rattle.mpf_plan.specs.Uses.{number_among, is_to_be_given, is_unknown, lacks, lacks_name};
 ghost use Rattle.mpf_plan.specs.PlanOf.{plan_from};
 ghost use Rattle.plan_tables.specs.NamesKept.{names_of};
-ghost use Rattle.plan_contributions.specs.View.{parts_text, contribution_view, contributions_view, row_list_view};
+ghost use Rattle.plan_contributions.specs.View.{parts_text, contribution_view, contributions_view};
+ghost use Rattle.plan_rows.specs.View.{row_list_view};
 ghost use Rattle.mpf_plan.specs.Numbering.{with_name, IsNameTableOf, AreNameTablesOf, bindings_given, rows_given, IsCount, HoldGivenNames, HasFound, Numbered};
 ghost use Rattle.plan_tables.specs.Inside.{name_sets_view};
 
 use crate::fault::PlanFault;
 use crate::first_uses::Found;
 use machine_definitions::Definitions;
-use plan_contributions::{Contribution, Parts, Row, collect_row, given, used, write_name};
+use plan_contributions::{Contribution, Parts, collect_row, given, used, write_name};
+use plan_rows::Row;
 use plan_tables::names::{NameHashing, NameSet, NameSets, NameTable};
 use plan_tables::table::{TABLES, Table};
 use std::alloc::{AllocError, Global};

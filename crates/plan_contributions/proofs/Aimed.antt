@@ -25,13 +25,16 @@ use Rattle.plan_tables.specs.declared.entries.ModeEvent.TheVariants.{Starting, S
 use Rattle.plan_tables.specs.declared.table.Table.TheVariants.{Events, Switches}
 use Rattle.plan_contributions.specs.declared.contribution.Aim.{Aim}
 use Rattle.plan_contributions.specs.declared.contribution.Aim.TheVariants.{Run, Start, Stop, Do, On}
-use Rattle.plan_contributions.specs.declared.contribution.Place.{Place}
-use Rattle.plan_contributions.specs.declared.contribution.Place.TheVariants.{Machine, Control, Mode}
+use Rattle.plan_rows.specs.declared.place.Place.{Place}
+use Rattle.plan_rows.specs.declared.place.Place.TheVariants.{Machine, Control, Mode}
 use Rattle.plan_contributions.specs.VariableEntries.{item_change}
 use Rattle.plan_contributions.specs.CoilEntries.{item_effect}
 use Rattle.plan_contributions.specs.DeviceEntries.{texts, events, posts, Device, device_of}
-use Rattle.plan_contributions.specs.ShotEntries.{Seat, seat_of, rows_after_text, shot_acts, lone_device, Members, group_device, members_of}
-use Rattle.plan_contributions.specs.Contributions.{Contribution, gives, reads, active, inactive, mode, mode_event, binds, does, device, mentions, under, unknown, plays, under_where, bound, always, kind_of, active_posts, inactive_posts, switch_contributions, player_contributions, coil_contributions, coil_player_contributions, item_contributions, variable_player_contributions, game_contributions, later_events, starter, stopper, stopper_where, controls, mode_contributions, act_binding, effects_from, listens_from, device_contributions, where_device, machine_device, machine_entry_contributions, entry_contributions, alone_contributions, player_entry_contributions, unknown_unless, shot_switch, act_at, seated, shot_contributions, group_contributions, Row, alone, player, of_mode, entry_row, rows_from, rows_in, text_rows, mode_rows, modes_rows, row_contributions, given_by, contributions_of}
+use Rattle.plan_contributions.specs.ShotEntries.{shot_acts, lone_device, group_device}
+use Rattle.plan_rows.specs.Seats.{Seat, seat_of, rows_after_text}
+use Rattle.plan_rows.specs.Members.{Members, members_of}
+use Rattle.plan_contributions.specs.Contributions.{Contribution, gives, reads, active, inactive, mode, mode_event, binds, does, device, mentions, under, unknown, plays, under_where, bound, always, kind_of, active_posts, inactive_posts, switch_contributions, player_contributions, coil_contributions, coil_player_contributions, item_contributions, variable_player_contributions, game_contributions, later_events, starter, stopper, stopper_where, controls, mode_contributions, act_binding, effects_from, listens_from, device_contributions, where_device, machine_device, machine_entry_contributions, entry_contributions, alone_contributions, player_entry_contributions, unknown_unless, shot_switch, act_at, seated, shot_contributions, group_contributions, row_contributions, given_by, contributions_of}
+use Rattle.plan_rows.specs.Rows.{Row, alone, player, of_mode, entry_row, rows_from, rows_in, text_rows, mode_rows, modes_rows}
 use Rattle.plan_contributions.specs.Facts.{row_places, IsAimedAt, AreAimed}
 use Rattle.plan_contributions.proofs.Before.{All-every, All-flat_map}
 use Rattle.plan_contributions.proofs.RowFacts.{All-each, All-made, All-listens, All-lists, entry_such, sections_each}

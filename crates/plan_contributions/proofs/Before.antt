@@ -6,7 +6,7 @@ use Rattle.std.proofs.lemmas.List.{append_assoc}
 use Rattle.std.proofs.lemmas.List.Elements.{All-nil, All-cons, All-head, All-tail, All-append}
 use Rattle.mpf_values.specs.Events.{Condition, Event}
 use Rattle.plan_contributions.specs.declared.contribution.Aim.{Aim}
-use Rattle.plan_contributions.specs.declared.contribution.Place.{Place}
+use Rattle.plan_rows.specs.declared.place.Place.{Place}
 use Rattle.plan_contributions.specs.Contributions.{Contribution, binds, under, under_where, bound}
 
 module _ (Q : List Contribution → Type 0) where

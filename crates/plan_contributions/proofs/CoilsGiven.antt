@@ -14,11 +14,12 @@ use Rattle.mpf_config.specs.Rows.{ModeRows, Rows}
 use Rattle.plan_tables.specs.declared.devices.Settings.{Settings}
 use Rattle.plan_tables.specs.declared.entries.CoilLimits.{CoilLimits}
 use Rattle.machine_definitions.specs.Shots.{profile_of_name}
-use Rattle.plan_contributions.specs.declared.contribution.Place.{Place}
-use Rattle.plan_contributions.specs.declared.contribution.Place.TheVariants.{Machine, Mode}
+use Rattle.plan_rows.specs.declared.place.Place.{Place}
+use Rattle.plan_rows.specs.declared.place.Place.TheVariants.{Machine, Mode}
 use Rattle.plan_contributions.specs.CoilEntries.{limits_of_coil}
-use Rattle.plan_contributions.specs.ShotEntries.{Seat, seat_of, rows_after_text}
-use Rattle.plan_contributions.specs.Contributions.{device, coil_contributions, Row, entry, player, entry_row, rows_from, rows_in, mode_rows, modes_rows, rows_of, contributions_of}
+use Rattle.plan_rows.specs.Seats.{Seat, seat_of, rows_after_text}
+use Rattle.plan_contributions.specs.Contributions.{device, coil_contributions, contributions_of}
+use Rattle.plan_rows.specs.Rows.{Row, entry, player, entry_row, rows_from, rows_in, mode_rows, modes_rows, rows_of}
 use Rattle.plan_contributions.specs.Facts.{given_coil, AreCoilsOf}
 use Rattle.plan_contributions.proofs.RowFacts.{entry_such}
 use Rattle.plan_contributions.proofs.Silent.{IsSilent, told, rows_tell, none_machine, none_mode, none_shot}

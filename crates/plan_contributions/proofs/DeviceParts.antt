@@ -16,7 +16,7 @@ use Rattle.plan_tables.specs.declared.table.Table.TheVariants.{Events}
 use Rattle.plan_contributions.specs.declared.contribution.Contribution as contributions
 use Rattle.plan_contributions.specs.declared.contribution.Contribution.TheVariants as contribution
 use Rattle.plan_contributions.specs.declared.contribution.Parts.{Parts}
-use Rattle.plan_contributions.specs.declared.contribution.Place.{Place}
+use Rattle.plan_rows.specs.declared.place.Place.{Place}
 use Rattle.plan_contributions.specs.DeviceEntries.{device_of, step_settings, step_device, timer_device, acts, step_acts, controlled, Effect, posts}
 use Rattle.plan_contributions.specs.declared.contribution.Effect.TheVariants as effect
 use Rattle.plan_contributions.specs.Contributions.{Contribution, device, does_in, mentions, Device, act_binding, effects_from, listens_from, device_contributions}

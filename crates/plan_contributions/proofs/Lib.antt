@@ -1,8 +1,5 @@
 pub mod Before
 pub mod DeviceParts
-pub mod SeatParts
-pub mod Flags
-pub mod Known
 pub mod ShotParts
 pub mod Placed
 pub mod Short

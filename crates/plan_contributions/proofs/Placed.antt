@@ -7,8 +7,8 @@ use Rattle.std.proofs.lemmas.Option.{none-some}
 use Rattle.mpf_values.specs.Events.{Condition}
 use Rattle.plan_contributions.specs.declared.contribution.Aim.{Aim}
 use Rattle.plan_contributions.specs.declared.contribution.Aim.TheVariants.{Run, Start, Stop, Do, On}
-use Rattle.plan_contributions.specs.declared.contribution.Place.{Place}
-use Rattle.plan_contributions.specs.declared.contribution.Place.TheVariants.{Machine}
+use Rattle.plan_rows.specs.declared.place.Place.{Place}
+use Rattle.plan_rows.specs.declared.place.Place.TheVariants.{Machine}
 use Rattle.plan_contributions.specs.DeviceEntries.{Effect}
 use Rattle.plan_contributions.specs.Contributions.{Contribution, mode, binds, device, does_in, effects_from, listens, listens_from, under_where}
 use Rattle.plan_contributions.specs.Facts.{row_after, IsPlacedAim, IsPlaced, ArePlaced}

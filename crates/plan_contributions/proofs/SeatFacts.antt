@@ -18,12 +18,13 @@ use Rattle.mpf_sections.specs.TypedShots.{shots_name, shot_groups_name, shot_of,
 use Rattle.mpf_config.specs.Rows.{Rows}
 use Rattle.machine_definitions.specs.Shots.{profile_of_name}
 use Rattle.plan_tables.specs.declared.devices.Settings.TheVariants as kinds
-use Rattle.plan_contributions.specs.declared.contribution.Place.{Place}
-use Rattle.plan_contributions.specs.declared.contribution.Place.TheVariants.{Machine, Control, Mode}
+use Rattle.plan_rows.specs.declared.place.Place.{Place}
+use Rattle.plan_rows.specs.declared.place.Place.TheVariants.{Machine, Control, Mode}
 use Rattle.plan_contributions.specs.CoilEntries.{flipper_device, autofire_device}
 use Rattle.plan_contributions.specs.DeviceEntries.{counter_device, step_settings, step_device, timer_device, device_of}
-use Rattle.plan_contributions.specs.ShotEntries.{section_entries, text_entries, lists_shot, is_grouped, row_sections, has_row, rows_after, rows_after_all, Seat, seats_at, entry_seats, seats_from, latest_seat, seat_of, rows_after_text}
-use Rattle.plan_contributions.specs.Contributions.{Contribution, device, coil_contributions, machine_device, Row, entry, player, shot_row, group_row, entry_row, rows_from, rows_in, text_rows}
+use Rattle.plan_rows.specs.Seats.{section_entries, text_entries, lists_shot, is_grouped, row_sections, has_row, rows_after, rows_after_all, Seat, seats_at, entry_seats, seats_from, latest_seat, seat_of, rows_after_text}
+use Rattle.plan_contributions.specs.Contributions.{Contribution, device, coil_contributions, machine_device}
+use Rattle.plan_rows.specs.Rows.{Row, entry, player, shot_row, group_row, entry_row, rows_from, rows_in, text_rows}
 use Rattle.plan_contributions.proofs.Silent.{IsSilent, told_shot, told_where, told_machine, told}
 
 -- ---- the rows that contributions give

@@ -20,7 +20,8 @@ use Rattle.plan_tables.specs.Devices.{IsWithinLimits}
 use Rattle.plan_tables.specs.declared.devices.Act.{Act}
 use Rattle.plan_tables.specs.declared.devices.Act.TheVariants.{Reset, Hit, Advance, ResetShot, EnableShot, DisableShot, RotateRight, RotateLeft}
 use Rattle.plan_contributions.specs.DeviceEntries.{Effect, posts, always, acts}
-use Rattle.plan_contributions.specs.ShotEntries.{shot_events, shot_lists, group_events, state_lists, group_lists, switch_hits, shot_acts, group_acts, flags, bank_settings, Members, profile_if, first_profile, members_of}
+use Rattle.plan_contributions.specs.ShotEntries.{shot_events, shot_lists, group_events, state_lists, group_lists, switch_hits, shot_acts, group_acts, bank_settings}
+use Rattle.plan_rows.specs.Members.{flags, Members, profile_if, first_profile, members_of}
 use Rattle.plan_contributions.proofs.Before.{All-every, All-flat_map, or_else}
 
 -- ---- what acts on them

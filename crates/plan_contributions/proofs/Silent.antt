@@ -18,16 +18,19 @@ use Rattle.plan_tables.specs.declared.devices.Settings.{Settings}
 use Rattle.plan_tables.specs.declared.entries.ModeEvent.{ModeEvent}
 use Rattle.plan_tables.specs.declared.entries.ModeEvent.TheVariants.{Starting, Started, Stopping, Stopped}
 use Rattle.plan_tables.specs.declared.entries.SwitchKind.{SwitchKind}
-use Rattle.plan_contributions.specs.declared.contribution.Place.{Place}
-use Rattle.plan_contributions.specs.declared.contribution.Place.TheVariants.{Machine, Control, Mode}
+use Rattle.plan_rows.specs.declared.place.Place.{Place}
+use Rattle.plan_rows.specs.declared.place.Place.TheVariants.{Machine, Control, Mode}
 use Rattle.plan_contributions.specs.declared.contribution.Aim.{Aim}
 use Rattle.plan_contributions.specs.declared.contribution.Aim.TheVariants.{Run, Start, Stop, Do, On}
 use Rattle.plan_tables.specs.declared.table.Table.TheVariants.{Events, Switches}
 use Rattle.plan_contributions.specs.CoilEntries.{item_effect}
 use Rattle.plan_contributions.specs.DeviceEntries.{Effect, posts, device_of}
 use Rattle.machine_definitions.specs.Shots.{Profile}
-use Rattle.plan_contributions.specs.ShotEntries.{Seat, shot_acts, bank_settings, flags, is_enabled, lone_device, Members, group_device}
-use Rattle.plan_contributions.specs.Contributions.{Contribution, gives, reads, active, inactive, mode, mode_event, binds, does, device, does_in, listens, mentions, unknown, under, plays, under_where, bound, always, kind_of, texts, events, active_posts, inactive_posts, switch_contributions, player_contributions, coil_contributions, coil_player_contributions, item_contributions, variable_player_contributions, game_contributions, starter, stopper, stopper_where, later_events, controls, mode_contributions, Device, act_binding, listens_from, effects_from, device_contributions, where_device, machine_device, unknown_unless, shot_switch, act_at, seated, shot_contributions, group_contributions, machine_entry_contributions, entry_contributions, alone_contributions, player_entry_contributions, Row, entry, alone, shot, group, player, of_mode, row_contributions, given_by}
+use Rattle.plan_contributions.specs.ShotEntries.{shot_acts, bank_settings, lone_device, group_device}
+use Rattle.plan_rows.specs.Seats.{Seat}
+use Rattle.plan_rows.specs.Members.{flags, is_enabled, Members}
+use Rattle.plan_contributions.specs.Contributions.{Contribution, gives, reads, active, inactive, mode, mode_event, binds, does, device, does_in, listens, mentions, unknown, under, plays, under_where, bound, always, kind_of, texts, events, active_posts, inactive_posts, switch_contributions, player_contributions, coil_contributions, coil_player_contributions, item_contributions, variable_player_contributions, game_contributions, starter, stopper, stopper_where, later_events, controls, mode_contributions, Device, act_binding, listens_from, effects_from, device_contributions, where_device, machine_device, unknown_unless, shot_switch, act_at, seated, shot_contributions, group_contributions, machine_entry_contributions, entry_contributions, alone_contributions, player_entry_contributions, row_contributions, given_by}
+use Rattle.plan_rows.specs.Rows.{Row, entry, alone, shot, group, player, of_mode}
 
 -- each contribution but a coil's and a row's tells nothing
 pub record IsSilent {X : Type 0} (tell : Contribution → List X) : Type 0 where

@@ -12,10 +12,11 @@ use Rattle.mpf_sections.specs.Rows as sections
 use Rattle.mpf_sections.specs.Typed.{switches_name, switch_of, switches_in}
 use Rattle.mpf_config.specs.Rows.{Rows}
 use Rattle.plan_tables.specs.declared.table.Table.TheVariants.{Switches}
-use Rattle.plan_contributions.specs.declared.contribution.Place.TheVariants.{Machine}
+use Rattle.plan_rows.specs.declared.place.Place.TheVariants.{Machine}
 use Rattle.machine_definitions.specs.Definitions.{has_switch}
-use Rattle.plan_contributions.specs.Contributions.{Contribution, switch_contributions, machine_entry_contributions, entry_contributions, Row, entry_row, rows_from, rows_in, modes_rows, row_contributions, given_by, contributions_of}
-use Rattle.plan_contributions.specs.ShotEntries.{Seat, seat_of, rows_after_text}
+use Rattle.plan_contributions.specs.Contributions.{Contribution, switch_contributions, machine_entry_contributions, entry_contributions, row_contributions, given_by, contributions_of}
+use Rattle.plan_rows.specs.Rows.{Row, entry_row, rows_from, rows_in, modes_rows}
+use Rattle.plan_rows.specs.Seats.{Seat, seat_of, rows_after_text}
 use Rattle.plan_contributions.specs.UsedNames.{given_names}
 
 -- of two lists one has it

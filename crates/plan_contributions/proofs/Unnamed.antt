@@ -9,11 +9,12 @@ use Rattle.mpf_sections.specs.TypedCoils.{coils_name, coil_of}
 use Rattle.plan_tables.specs.declared.devices.Settings.{Settings}
 use Rattle.plan_tables.specs.declared.table.Table.{Table}
 use Rattle.plan_tables.specs.declared.table.Table.TheVariants.{Events, Bindings, Switches, Coils, Variables, Rows}
-use Rattle.plan_contributions.specs.declared.contribution.Place.{Place}
-use Rattle.plan_contributions.specs.declared.contribution.Place.TheVariants.{Machine, Control, Mode}
+use Rattle.plan_rows.specs.declared.place.Place.{Place}
+use Rattle.plan_rows.specs.declared.place.Place.TheVariants.{Machine, Control, Mode}
 use Rattle.plan_contributions.specs.DeviceEntries.{Effect, posts, works, changes}
 use Rattle.plan_contributions.specs.DeviceEntries.{device_of}
-use Rattle.plan_contributions.specs.Contributions.{Contribution, mode_event_name, device, coil_contributions, machine_device, Row, entry, alone, shot, group, player, of_mode, given_by}
+use Rattle.plan_contributions.specs.Contributions.{Contribution, mode_event_name, device, coil_contributions, machine_device, given_by}
+use Rattle.plan_rows.specs.Rows.{Row, entry, alone, shot, group, player, of_mode}
 use Rattle.plan_contributions.specs.UsedNames.{used_by, used, name_in_table, uses}
 use Rattle.plan_contributions.proofs.Silent.{IsSilent, told_where, told_machine, told_entry, told, rows_tell, none_where, none_machine, none_shot}
 

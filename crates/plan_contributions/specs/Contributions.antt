@@ -19,8 +19,8 @@ use Rattle.plan_tables.specs.declared.entries.Contact.TheVariants.{NormallyOpen,
 use Rattle.plan_tables.specs.declared.entries.SwitchKind.{SwitchKind}
 use Rattle.plan_tables.specs.declared.entries.ModeEvent.{ModeEvent}
 use Rattle.plan_tables.specs.declared.entries.ModeEvent.TheVariants.{WillStart, Starting, Started, Stopping, Stopped}
-use Rattle.plan_contributions.specs.declared.contribution.Place.{Place}
-use Rattle.plan_contributions.specs.declared.contribution.Place.TheVariants.{Machine, Control, Mode}
+use Rattle.plan_rows.specs.declared.place.Place.{Place}
+use Rattle.plan_rows.specs.declared.place.Place.TheVariants.{Machine, Control, Mode}
 use Rattle.plan_contributions.specs.declared.contribution.Aim.{Aim}
 use Rattle.plan_contributions.specs.declared.contribution.Aim.TheVariants.{Run, Start, Stop, Do, On}
 use Rattle.plan_tables.specs.declared.devices.Settings.{Settings}
@@ -33,9 +33,12 @@ use Rattle.plan_contributions.specs.CoilEntries.{limits_of_coil, item_effect, fl
 use Rattle.mpf_sections.specs.Rows.{Coil, CoilPlayer, Shot, ShotGroup}
 use Rattle.mpf_sections.specs.TypedShots.{shots_name, shot_groups_name, shot_of, shot_group_of}
 use Rattle.machine_definitions.specs.Shots.{Profile, has_profile, profile_of_name}
-use Rattle.plan_contributions.specs.ShotEntries.{Seat, seat_of, rows_after_text, shot_acts, lone_device, group_device, Members, members_of}
+use Rattle.plan_contributions.specs.ShotEntries.{shot_acts, lone_device, group_device}
+use Rattle.plan_rows.specs.Seats.{Seat, seat_of, rows_after_text}
+use Rattle.plan_rows.specs.Members.{Members, members_of}
 use Rattle.mpf_sections.specs.TypedCoils.{coils_name, coil_player_name, flippers_name, autofire_coils_name, coil_of, coil_player_of, flipper_of, autofire_of}
 use Rattle.plan_tables.specs.declared.entries.CoilLimits.{CoilLimits}
+use Rattle.plan_rows.specs.Rows.{Row, entry, alone, shot, group, player, of_mode, rows_of}
 
 -- One thing that a row gives: an entry of a table, by its name; how the last given switch is read; an event that this
 -- switch posts when it becomes active, or inactive; a mode by its name, with its priority, and whether it starts only
@@ -249,58 +252,6 @@ unfoldable pub group_contributions : Place → ShotGroup → Members → List Co
 group_contributions place g m = unknown_unless m.all_known ++ device_contributions place (group_device g m)
 
 -- ---- rows
-
--- An entry in the section of this name, or the one that the section is; a shot, with its seat if it has one, whether
--- its profile is known, and its profile; a group, with what is known of its shots; or an entry of a player, whose
--- bindings have this place; or a mode by its name, with what its text says of it.
-pub data Row : Type 0 where
-  entry : Place → List ℕ → Entry → Row
-  alone : Place → List ℕ → Entry → Row
-  shot : Place → Shot → Option Seat → Bool → Profile → Row
-  group : Place → ShotGroup → Members → Row
-  player : Place → List ℕ → Player → Row
-  of_mode : List ℕ → ModeSettings → Row
-
--- Here `seat` says of a name which seat the shot of this name has, if it has one.
-module _ (rows : Rows) (place : Place) (seat : List ℕ → Option Seat) where
-  abbrev pub shot_row : Shot → Row
-  shot_row s = shot place s (seat s.name.text) (has_profile rows s.profile.text) (profile_of_name rows s.profile.text)
-
-  abbrev pub group_row : ShotGroup → Row
-  group_row g = group place g (members_of rows g)
-
-  -- an entry in the section of this name
-  abbrev pub entry_row : List ℕ → Entry → Row
-  entry_row section e =
-      if bytes_eq section shots_name then shot_row (shot_of e)
-      else (if bytes_eq section shot_groups_name then group_row (shot_group_of e) else entry place section e)
-
-  abbrev pub rows_from : List ℕ → Content → List Row
-  rows_from name (entries es) = map (entry_row name) es
-  rows_from name (players ps) = map (player place name) ps
-  rows_from name (single e) = alone place name e ∷ []
-  rows_from name (listed ws) = []
-
-  -- the rows of sections, as written
-  abbrev pub rows_in : List SectionRows → List Row
-  rows_in sections = flat_map (λ s. rows_from s.name s.content) sections
-
--- the rows of a text, where so many rows of devices come before it
-abbrev pub text_rows : Rows → Place → ℕ → List SectionRows → List Row
-text_rows rows place n sections = rows_in rows place (seat_of place n sections) sections
-
--- a mode, and then the rows of its text
-abbrev pub mode_rows : Rows → ℕ → ModeRows → List Row
-mode_rows rows n m = of_mode m.name (mode_settings m.sections) ∷ text_rows rows Mode n m.sections
-
--- these modes, one after the other
-abbrev pub modes_rows : Rows → ℕ → List ModeRows → List Row
-modes_rows rows n [] = []
-modes_rows rows n (m ∷ ms) = mode_rows rows n m ++ modes_rows rows (rows_after_text Mode n m.sections) ms
-
--- the rows of the machine, and then those of one mode after the other
-abbrev pub rows_of : Rows → List Row
-rows_of rows = text_rows rows Machine 0 rows.machine ++ modes_rows rows (rows_after_text Machine 0 rows.machine) rows.modes
 
 -- the device of an entry of the machine text, whatever its kind
 abbrev pub machine_device : List SectionRows → List ℕ → Entry → Option Device

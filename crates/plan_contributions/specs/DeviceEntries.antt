@@ -18,6 +18,7 @@ use Rattle.plan_tables.specs.declared.devices.Settings.{Settings}
 use Rattle.plan_tables.specs.declared.devices.Settings.TheVariants as kinds
 use Rattle.plan_tables.specs.declared.devices.Act.{Act}
 use Rattle.plan_tables.specs.declared.devices.Act.TheVariants.{Count, Step, Enable, Disable, Reset, Restart, Start, Stop, Pause, Add, Subtract, Jump}
+use Rattle.plan_rows.specs.Members.{is_none}
 
 abbrev pub texts : List Written → List (List ℕ)
 texts ws = map (λ w. w.text) ws
@@ -62,10 +63,6 @@ direction_in_plan written.Up = Up
 direction_in_plan written.Down = Down
 
 -- ---- logic blocks
-
-abbrev pub is_none : {X : Type 0} → List X → Bool
-is_none [] = true
-is_none (x ∷ xs) = false
 
 -- a block is enabled at first where no event enables it
 abbrev pub block_settings : Block → BlockSettings

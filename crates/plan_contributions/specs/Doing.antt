@@ -13,7 +13,8 @@ use Rattle.machine_definitions.specs.Shots.{shot_called, has_profile, profile_of
 use Rattle.plan_tables.specs.declared.table.Table.{Table}
 use Rattle.plan_tables.specs.declared.table.Table.TheVariants.{Events, Switches}
 use Rattle.plan_contributions.specs.DeviceEntries.{texts, Effect, posts, Device, device_of}
-use Rattle.plan_contributions.specs.ShotEntries.{shot_lists, group_lists, members_of}
+use Rattle.plan_contributions.specs.ShotEntries.{shot_lists, group_lists}
+use Rattle.plan_rows.specs.Members.{members_of}
 use Rattle.plan_contributions.specs.CoilEntries.{item_effect, flipper_device, autofire_device}
 use Rattle.plan_contributions.specs.Contributions.{Contribution, active, inactive, does, does_in, listens, mentions, unknown, active_posts, inactive_posts}
 

@@ -7,8 +7,8 @@ use Rattle.mpf_sections.specs.Short.{IsPulseInRange, IsPowerInRange}
 use Rattle.mpf_sections.specs.TypedCoils.{coils_in}
 use Rattle.plan_contributions.specs.declared.contribution.Aim.{Aim}
 use Rattle.plan_contributions.specs.declared.contribution.Aim.TheVariants.{Run, Start, Stop, Do, On}
-use Rattle.plan_contributions.specs.declared.contribution.Place.{Place}
-use Rattle.plan_contributions.specs.declared.contribution.Place.TheVariants.{Machine, Control, Mode}
+use Rattle.plan_rows.specs.declared.place.Place.{Place}
+use Rattle.plan_rows.specs.declared.place.Place.TheVariants.{Machine, Control, Mode}
 use Rattle.plan_tables.specs.Devices.{IsWithinLimits}
 use Rattle.plan_tables.specs.declared.devices.Settings.{Settings}
 use Rattle.plan_tables.specs.declared.devices.Settings.TheVariants.{Flipper, Autofire}

@@ -14,78 +14,11 @@ use Rattle.plan_tables.specs.declared.devices.Act.{Act}
 use Rattle.plan_tables.specs.declared.devices.Act.TheVariants.{Reset, Hit, Advance, ResetShot, EnableShot, DisableShot, RotateRight, RotateLeft}
 use Rattle.plan_tables.specs.declared.devices.Settings.{Settings}
 use Rattle.plan_tables.specs.declared.devices.Settings.TheVariants as kinds
-use Rattle.plan_contributions.specs.declared.contribution.Place.{Place}
-use Rattle.plan_contributions.specs.declared.contribution.Place.TheVariants.{Machine, Control, Mode}
-use Rattle.plan_contributions.specs.DeviceEntries.{Effect, posts, Device, always, acts, is_none, texts}
-
--- ---- which row a shot is in
-
--- the entries of a section, each with the section's name, and those of a text
-abbrev pub section_entries : SectionRows → List (List ℕ × Entry)
-section_entries s = map (λ e. (s.name, e)) (entries_in s.content)
-
-abbrev pub text_entries : List SectionRows → List (List ℕ × Entry)
-text_entries sections = flat_map section_entries sections
-
--- whether a group lists a shot of this name, and whether one of the groups of a text does
-abbrev pub lists_shot : List ℕ → ShotGroup → Bool
-lists_shot name g = list_any (λ w. bytes_eq name w.text) g.shots
-
-abbrev pub is_grouped : List SectionRows → List ℕ → Bool
-is_grouped sections name = list_any (lists_shot name) (flat_map shot_groups_in sections)
-
--- the sections whose entries each have a row, in a text of this place; beside them there are shots
-abbrev pub row_sections : Place → List (List ℕ)
-row_sections Machine =
-    flippers_name ∷ autofire_coils_name ∷ counters_name ∷ accruals_name ∷ sequences_name ∷ timers_name ∷ shot_groups_name ∷ []
-row_sections Control = counters_name ∷ accruals_name ∷ sequences_name ∷ timers_name ∷ shot_groups_name ∷ []
-row_sections Mode = counters_name ∷ accruals_name ∷ sequences_name ∷ timers_name ∷ shot_groups_name ∷ []
-
--- Here `grouped` says of a name whether a group of the text lists the shot of this name.
-module _ (place : Place) (grouped : List ℕ → Bool) where
-  -- whether an entry of a text has a row: a shot has one of its own where no group of the text lists it
-  abbrev pub has_row : List ℕ × Entry → Bool
-  has_row e = if bytes_eq e.0 shots_name then not (grouped e.1.name.text) else is_among (row_sections place) e.0
-
-  -- how many rows come before the entry after this one
-  abbrev pub rows_after : ℕ → List ℕ × Entry → ℕ
-  rows_after n e = if has_row e then suc n else n
-
-  -- and after these
-  abbrev pub rows_after_all : ℕ → List (List ℕ × Entry) → ℕ
-  rows_after_all n es = fold rows_after n es
-
--- The seat of a shot in a group: the number of the group's row, and that of the shot in the group.
-pub record Seat : Type 0 where
-  pub row : ℕ
-  pub shot : ℕ
-
--- the seats in the row of this number that a group lists, from this seat on
-abbrev pub seats_at : ℕ → ℕ → List Written → List (List ℕ × Seat)
-seats_at row i [] = []
-seats_at row i (w ∷ ws) = (w.text, record { row = row; shot = i }) ∷ seats_at row (suc i) ws
-
--- the seats that an entry has, where so many rows come before it
-abbrev pub entry_seats : ℕ → List ℕ × Entry → List (List ℕ × Seat)
-entry_seats n e = if bytes_eq e.0 shot_groups_name then seats_at n 0 (shot_group_of e.1).shots else []
-
--- and that these entries have
-abbrev pub seats_from : Place → (List ℕ → Bool) → ℕ → List (List ℕ × Entry) → List (List ℕ × Seat)
-seats_from place grouped n [] = []
-seats_from place grouped n (e ∷ es) = entry_seats n e ++ seats_from place grouped (rows_after place grouped n e) es
-
--- the seat of the shot of this name, if it has one; of two the later
-abbrev pub latest_seat : List ℕ → Option Seat → List ℕ × Seat → Option Seat
-latest_seat name found s = if bytes_eq name s.0 then Some s.1 else found
-
--- the same in a text, where so many rows come before it
-abbrev pub seat_of : Place → ℕ → List SectionRows → List ℕ → Option Seat
-seat_of place n sections name =
-    fold (latest_seat name) None (seats_from place (is_grouped sections) n (text_entries sections))
-
--- how many rows come before the text after this one
-abbrev pub rows_after_text : Place → ℕ → List SectionRows → ℕ
-rows_after_text place n sections = rows_after_all place (is_grouped sections) n (text_entries sections)
+use Rattle.plan_rows.specs.declared.place.Place.{Place}
+use Rattle.plan_rows.specs.declared.place.Place.TheVariants.{Machine, Control, Mode}
+use Rattle.plan_contributions.specs.DeviceEntries.{Effect, posts, Device, always, acts, texts}
+use Rattle.plan_rows.specs.Members.{is_none}
+use Rattle.plan_rows.specs.Members.{is_enabled, flags, Members}
 
 -- ---- effect lists
 
@@ -138,10 +71,6 @@ group_acts g = acts RotateRight g.rotates ++ acts RotateRight g.rotates_right ++
 
 -- ---- devices
 
--- a flag for each of 16 shots, of which these are the first and no other is set
-abbrev pub flags : List Bool → List Bool
-flags bs = take 16 (bs ++ replicate 16 false)
-
 abbrev pub bank_settings : Profile → ℕ → List Bool → Bool → Settings
 bank_settings p shots enabled group = kinds.Bank (record {
   shots = shots;
@@ -151,10 +80,6 @@ bank_settings p shots enabled group = kinds.Bank (record {
   loops = p.loops;
   group = group;
 })
-
--- a shot is enabled at first where no event enables it
-abbrev pub is_enabled : Shot → Bool
-is_enabled s = is_none s.enables
 
 -- a shot that is in no group: a bank of one
 abbrev pub lone_device : Profile → Shot → Device
@@ -166,13 +91,6 @@ lone_device p s = record {
   lists = shot_lists p s.name.text;
 }
 
--- What is known of a group: a flag for each of its shots that says whether it is enabled at first, whether all are
--- defined, and the profile of the first. Where nothing defines a shot, any value will do: there is no plan then.
-pub record Members : Type 0 where
-  pub enabled : List Bool
-  pub all_known : Bool
-  pub profile : Profile
-
 abbrev pub group_device : ShotGroup → Members → Device
 group_device g m = record {
   settings = bank_settings m.profile (length g.shots) m.enabled true;
@@ -180,25 +98,4 @@ group_device g m = record {
   handled = group_acts g;
   mentioned = [];
   lists = group_lists m.profile g.name.text (texts g.shots);
-}
-
--- ---- what is known of a group
-
-abbrev pub is_enabled_if : Option Shot → Bool
-is_enabled_if None = false
-is_enabled_if (Some s) = is_enabled s
-
-abbrev pub profile_if : Rows → Option Shot → Profile
-profile_if rows None = profile_of_name rows default_profile
-profile_if rows (Some s) = profile_of_name rows s.profile.text
-
-abbrev pub first_profile : Rows → List Written → Profile
-first_profile rows [] = profile_if rows None
-first_profile rows (w ∷ ws) = profile_if rows (shot_called rows w.text)
-
-abbrev pub members_of : Rows → ShotGroup → Members
-members_of rows g = record {
-  enabled = flags (map (λ w. is_enabled_if (shot_called rows w.text)) g.shots);
-  all_known = list_all (λ w. is_some (shot_called rows w.text)) g.shots;
-  profile = first_profile rows g.shots;
 }

@@ -3,7 +3,8 @@
 ghost use Rattle.std.specs.Prelude.{◌≡◌, ◌++◌, map, OnOk};
 ghost use Rattle.mpf_sections.specs.View.{switch_view as switch_row_view, event_player_view, mode_settings_view, entry_view, player_view, name_view};
 ghost use Rattle.plan_contributions.specs.Contributions.{active, inactive, does, posts, texts, contact_of, is_quick, kind_of, tag_event, active_posts, inactive_posts, switch_contributions, player_contributions, stopper_where, later_events, controls, mode_contributions, machine_entry_contributions, entry_contributions, alone_contributions, player_entry_contributions, row_contributions};
-ghost use Rattle.plan_contributions.specs.View.{contributions_view, row_view};
+ghost use Rattle.plan_contributions.specs.View.{contributions_view};
+ghost use Rattle.plan_rows.specs.View.{row_view};
 
 use crate::collect_bound::{collect_bound, collect_each};
 use crate::collect_coils::{collect_autofire, collect_coil, collect_coil_player, collect_flipper};
@@ -11,8 +12,7 @@ use crate::collect_devices::collect_device;
 use crate::collect_game::collect_game;
 use crate::collect_shots::{collect_group, collect_shot};
 use crate::collect_variables::collect_variable_player;
-use crate::contribution::{Aim, Contribution, Effect, Place, joined, whole};
-use crate::rows::Row;
+use crate::contribution::{Aim, Contribution, Effect, joined, whole};
 use machine_definitions::Definitions;
 use mpf_config::config::Contact as WrittenContact;
 use mpf_config::{
@@ -21,6 +21,7 @@ use mpf_config::{
     VARIABLE_PLAYER_NAME, as_autofire, as_coil, as_coil_player, as_event_player, as_flipper,
     as_game, as_shot, as_shot_group, as_switch, as_variable_player,
 };
+use plan_rows::{Place, Row};
 use plan_tables::entries::{Contact, ModeEvent, SwitchKind};
 use plan_tables::table::Table;
 use std::alloc::AllocError;

@@ -6,8 +6,9 @@ ghost use Rattle.mpf_sections.specs.View.{handler_view, handled_at_view};
 ghost use Rattle.plan_contributions.specs.Contributions.{events, bound};
 ghost use Rattle.plan_contributions.specs.View.{contributions_view};
 
-use crate::contribution::{Aim, Contribution, Place, whole};
+use crate::contribution::{Aim, Contribution, whole};
 use mpf_config::{HandledAt, Handler, as_handled};
+use plan_rows::Place;
 use std::alloc::AllocError;
 
 /// The event is bound, under its condition.

@@ -6,16 +6,17 @@ ghost use Rattle.mpf_sections.specs.TypedCoils.{coil_item_of};
 ghost use Rattle.mpf_sections.specs.View.{keyed_view, coil_view, coil_item_view, name_at_view, coil_player_view, flipper_view, autofire_view};
 ghost use Rattle.plan_contributions.specs.CoilEntries.{limits_of_coil, defaults_called, own_pulse, own_hold, deed_by, item_effect, flipper_on, flipper_off, flipper_device, autofire_device};
 ghost use Rattle.plan_contributions.specs.Contributions.{does, does_in, effects_from, device_contributions, coil_contributions, coil_player_contributions};
-ghost use Rattle.plan_contributions.specs.declared.contribution.Place.TheVariants.{Machine};
+ghost use Rattle.plan_rows.specs.declared.place.Place.TheVariants.{Machine};
 ghost use Rattle.plan_contributions.specs.View.{deed_view, defaults_view, contributions_view};
 
 use crate::collect_bound::collect_bound;
 use crate::collect_devices::collect_acts;
-use crate::contribution::{Aim, Contribution, Deed, Effect, Place};
+use crate::contribution::{Aim, Contribution, Deed, Effect};
 use machine_definitions::Definitions;
 use mpf_config::{
     Autofire, Coil, CoilAction, CoilItem, CoilPlayer, Flipper, Keyed, NameAt, as_coil_item,
 };
+use plan_rows::Place;
 use plan_tables::devices::{Act, Settings};
 use plan_tables::entries::CoilLimits;
 use std::alloc::AllocError;

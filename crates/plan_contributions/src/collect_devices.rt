@@ -4,18 +4,20 @@ ghost use Rattle.std.specs.Prelude.{◌≡◌, ◌++◌, [], map, OnOk};
 ghost use Rattle.std.specs.List.{flat_map};
 ghost use Rattle.mpf_sections.specs.Typed.{control_of, controls_of, with_control};
 ghost use Rattle.mpf_sections.specs.View.{name_view, handler_view, handlers_view, fields_view, entry_view, block_view, counter_view, step_block_view, timer_view};
-ghost use Rattle.plan_contributions.specs.DeviceEntries.{acts, direction_in_plan, is_none, block_settings, block_acts, block_mentions, block_event, or_own, block_lists, counter_settings, counter_device, step_acts, step_settings, step_device, control_act, controlled, timer_event, timer_lists, timer_settings, timer_device, device_of};
+ghost use Rattle.plan_contributions.specs.DeviceEntries.{acts, direction_in_plan, block_settings, block_acts, block_mentions, block_event, or_own, block_lists, counter_settings, counter_device, step_acts, step_settings, step_device, control_act, controlled, timer_event, timer_lists, timer_settings, timer_device, device_of};
+ghost use Rattle.plan_rows.specs.Members.{is_none};
 ghost use Rattle.plan_contributions.specs.Contributions.{mentions, does_in, effects_from, posts, texts, act_binding, device_contributions, where_device};
 ghost use Rattle.plan_contributions.specs.View.{parts_text, contributions_view};
 ghost use Rattle.plan_tables.specs.declared.table.Table.TheVariants.{Events};
 
 use crate::collect_bound::{collect_bound, collect_each};
-use crate::contribution::{Aim, Contribution, Effect, Parts, Place, joined, whole};
+use crate::contribution::{Aim, Contribution, Effect, Parts, joined, whole};
 use mpf_config::config::{ControlAction, Direction as WrittenDirection};
 use mpf_config::{
     ACCRUALS_NAME, Block, COUNTERS_NAME, Counter, Entry, Fields, Handler, Name, SEQUENCES_NAME,
     StepBlock, TIMERS_NAME, Timer, as_control, as_counter, as_step_block, as_timer,
 };
+use plan_rows::{Place, is_none};
 use plan_tables::devices::{
     Act, BlockSettings, CounterSettings, Direction, Settings, StepSettings, TimerSettings,
 };
@@ -82,15 +84,6 @@ pub(crate) fn collect_acts<'a>(
 }
 
 // ---- logic blocks
-
-pub(crate) fn is_none<T>(items: &[T]) -> bool
-    ensures { result ≡ is_none items.now }
-{
-    match items {
-        [] => true,
-        _ => false,
-    }
-}
 
 fn block_settings(block: Block<'_>) -> BlockSettings
     ensures { result ≡ block_settings (block_view block.entry) }

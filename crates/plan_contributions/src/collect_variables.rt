@@ -9,9 +9,10 @@ ghost use Rattle.plan_contributions.specs.Contributions.{item_contributions, var
 ghost use Rattle.plan_contributions.specs.View.{contributions_view, effect_view};
 
 use crate::collect_bound::collect_bound;
-use crate::contribution::{Aim, Contribution, Effect, Place, player_event};
+use crate::contribution::{Aim, Contribution, Effect, player_event};
 use mpf_config::config::VariableAction as WrittenAction;
 use mpf_config::{Keyed, VariableItem, VariablePlayer, as_variable_item};
+use plan_rows::Place;
 use plan_tables::entries::VariableAction;
 use plan_tables::table::Table;
 use std::alloc::AllocError;

@@ -6,6 +6,7 @@ ghost use Rattle.plan_contributions.specs.Contributions.{event_ending, mode_even
 ghost use Rattle.machine_definitions.specs.Players.{player_event};
 ghost use Rattle.plan_contributions.specs.View.{parts_text, named_view, effect_view, contribution_view};
 
+use plan_rows::Place;
 use plan_tables::Comparison;
 use plan_tables::devices::{Act, Settings};
 use plan_tables::entries::{CoilLimits, ModeEvent, SwitchKind, VariableAction};
@@ -22,17 +23,6 @@ pub struct Parts<'a> {
     pub fourth: &'a [u8],
     pub fifth: &'a [u8],
     pub sixth: &'a [u8],
-}
-
-/// Whose a binding is.
-#[derive(Clone, Copy)]
-pub enum Place {
-    /// The machine's, at priority 0.
-    Machine,
-    /// The machine's, at the priority of the mode that came last: it starts or stops that mode.
-    Control,
-    /// That of the mode that came last.
-    Mode,
 }
 
 /// What a binding is to do.

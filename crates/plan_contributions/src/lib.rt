@@ -1,5 +1,4 @@
-//! What a configuration gives to a plan: its rows in plan order, and what each of them contributes,
-//! by names.
+//! What a configuration gives to a plan: what each of its rows contributes, by names.
 //!
 //! This layer stands between the rows of texts and the tables of a plan. Each section says here what
 //! its entries give. Whoever makes a plan goes over contributions alone, whatever section they come
@@ -14,16 +13,10 @@ mod collect_game;
 mod collect_shots;
 mod collect_variables;
 pub mod contribution;
-pub mod members;
-pub mod rows;
-pub mod seats;
 
 pub use collect::collect_row;
 pub use collect_devices::direction_in_plan;
 pub use contribution::{
-    Aim, Contribution, Deed, Effect, Parts, Place, given, joined, mode_event_name, player_event,
-    used, whole, write_name,
+    Aim, Contribution, Deed, Effect, Parts, given, joined, mode_event_name, player_event, used,
+    whole, write_name,
 };
-pub use members::Members;
-pub use rows::{Row, rows_of};
-pub use seats::Seat;

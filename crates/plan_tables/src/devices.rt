@@ -82,7 +82,7 @@ pub struct BankSettings {
     pub group: bool,
 }
 
-/// Where the balls go that a ball device ejects.
+/// Where a ball device ejects its balls to.
 #[derive(Clone, Copy, Debug)]
 pub enum BallTarget {
     /// Onto the playfield.
@@ -96,17 +96,18 @@ pub enum BallTarget {
 pub struct BallSettings {
     /// How many ball switches it has: at most 16.
     pub switches: u8,
-    /// For so many milliseconds a ball switch has to be active before its ball counts: at least 1.
+    /// How many milliseconds a ball switch has to be active before its ball counts: at least 1.
     pub entrance_delay: u32,
-    /// For so many milliseconds a ball switch has to be inactive before its ball counts as gone: at least 1.
+    /// How many milliseconds a ball switch has to be inactive before its ball is gone: at least 1.
     pub exit_delay: u32,
-    /// Where the balls go that it ejects.
+    /// Where it ejects its balls to.
     pub target: BallTarget,
     /// Whether it has a coil that ejects a ball.
     pub has_coil: bool,
-    /// Whether a ball may be ejected without its coil, as by a plunger that is pulled by hand.
+    /// Whether a ball that leaves while none is ejected counts as ejected, as from a plunger that is pulled by
+    /// hand.
     pub mechanical: bool,
-    /// After so many milliseconds an attempt to eject a ball is over: at least 1.
+    /// An attempt to eject a ball is over after this many milliseconds: at least 1.
     pub timeout: u32,
     /// How many attempts it makes to eject a ball, from 1 to 1,000; none: until the ball has left.
     pub max_attempts: Option<u16>,

@@ -1,4 +1,4 @@
-use Rattle.std.proofs.Common.{◌≡◌, ℕ, suc, ◌+◌, [], ◌∷◌, ◌++◌, sym, ap, ◌∙◌, add-one, arith}
+use Rattle.std.proofs.Common.{◌≡◌, suc, [], ◌∷◌, ◌++◌, sym, ap, ◌∙◌, add-one, arith}
 use Rattle.std.specs.List.{flat_map, range_with_len}
 use Rattle.device_objects.specs.Outcomes.{of_hit_in}
 use Rattle.device_objects.proofs.Flat.{flat_map_range-suc}

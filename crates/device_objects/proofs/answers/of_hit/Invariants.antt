@@ -1,4 +1,4 @@
-use Rattle.std.proofs.Common.{◌≡◌, ℕ, ◌+◌, ◌*◌, ◌≤◌, [], ◌∷◌, map}
+use Rattle.std.proofs.Common.{◌≡◌, ◌+◌, ◌*◌, ◌≤◌, [], ◌∷◌, map}
 use Rattle.std.specs.List.{flat_map, range_with_len}
 use Rattle.arrayvec.specs.ArrayVec.{array_vec_len}
 use Rattle.device_objects.specs.Outcomes.{of_hit_in}

@@ -4,8 +4,9 @@ use Rattle.std.proofs.lemmas.Result.{err_from_is_err_and}
 use Rattle.mpf_sections.specs.Rows.{SectionRows}
 use Rattle.mpf_config.specs.Rows.{Rows}
 use Rattle.mpf_config.specs.View.{rows_view}
-use Rattle.plan_contributions.specs.Contributions.{given_by, rows_of}
-use Rattle.plan_contributions.specs.View.{row_list_view}
+use Rattle.plan_contributions.specs.Contributions.{given_by}
+use Rattle.plan_rows.specs.Rows.{rows_of}
+use Rattle.plan_rows.specs.View.{row_list_view}
 use Rattle.mpf_plan.specs.Numbering.{row_count}
 use Rattle.mpf_plan.proofs.Drafted.{entries_count, coils_count}
 use Rattle.mpf_plan.proofs.Planned.{refused_exact, refused_limit, rows_within, is_plan, is_planned, is_valid, modes_few, acts_few, lists_within}

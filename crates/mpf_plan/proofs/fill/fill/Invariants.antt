@@ -3,7 +3,7 @@ use Rattle.plan_contributions.specs.Contributions.{given_by}
 use Rattle.mpf_plan.specs.PlanOf.{drafted}
 use Rattle.plan_tables.specs.Inside.{name_sets_view}
 use Rattle.mpf_plan.specs.Inside.{draft_view}
-use Rattle.plan_contributions.specs.View.{row_list_view}
+use Rattle.plan_rows.specs.View.{row_list_view}
 use Rattle.mpf_plan.proofs.fill.fill.Given as goal
 
 abbrev pub invariant-loop-row : goal.invariant-loop-row

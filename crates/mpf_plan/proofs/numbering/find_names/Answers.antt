@@ -1,7 +1,7 @@
 use Rattle.std.proofs.Common.{inr, refl, subst, arith}
 use Rattle.std.proofs.lemmas.List.{take_all}
 use Rattle.plan_contributions.specs.Contributions.{given_by}
-use Rattle.plan_contributions.specs.View.{row_list_view}
+use Rattle.plan_rows.specs.View.{row_list_view}
 use Rattle.mpf_plan.specs.Numbering.{HasFound}
 use Rattle.mpf_plan.proofs.Collected.{row_more}
 use Rattle.mpf_plan.proofs.numbering.find_names.Goals as goal

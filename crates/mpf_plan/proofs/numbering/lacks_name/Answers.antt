@@ -6,7 +6,8 @@ use Rattle.std.proofs.lemmas.List.Folds.{list_any-append}
 use Rattle.plan_contributions.specs.Contributions.{Contribution, given_by}
 use Rattle.plan_contributions.specs.UsedNames.{given_names}
 use Rattle.mpf_plan.specs.Uses.{lacks}
-use Rattle.plan_contributions.specs.View.{contributions_view, row_list_view}
+use Rattle.plan_contributions.specs.View.{contributions_view}
+use Rattle.plan_rows.specs.View.{row_list_view}
 use Rattle.mpf_plan.specs.Numbering.{HoldGivenNames}
 use Rattle.mpf_plan.proofs.Collected.{row_is, row_more}
 use Rattle.mpf_plan.proofs.Lacking.{any_row}

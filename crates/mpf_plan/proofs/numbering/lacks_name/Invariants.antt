@@ -3,7 +3,7 @@ use Rattle.std.specs.List.{list_any}
 use Rattle.plan_contributions.specs.Contributions.{given_by}
 use Rattle.plan_contributions.specs.UsedNames.{given_names}
 use Rattle.mpf_plan.specs.Uses.{lacks}
-use Rattle.plan_contributions.specs.View.{row_list_view}
+use Rattle.plan_rows.specs.View.{row_list_view}
 use Rattle.mpf_plan.proofs.numbering.lacks_name.Given as goal
 
 abbrev pub invariant-loop-row : goal.invariant-loop-row

@@ -1,0 +1,4 @@
+pub mod Ledgers
+pub mod Booked
+pub mod FirstDue
+pub mod Calm

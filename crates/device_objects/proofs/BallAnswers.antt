@@ -1,0 +1,191 @@
+-- What ball devices answer is among their outcomes.
+use Rattle.std.proofs.Common.{◌≡◌, ℕ, zero, suc, ◌+◌, ◌<◌, ◌≤◌, min, Bool, true, false, Option, None, Some, is_some, List, [], ◌∷◌, ◌++◌, ◌&&◌, drop, option_map, nat_lt, nat_le, if◌then◌else◌, refl, sym, ap, ◌∙◌, arith}
+use Rattle.std.specs.List.{All, list_any}
+use Rattle.std.proofs.lemmas.Bool.{and_from, and_parts, leb-true, le-leb, lt-ltb, ltb-true, or_left, or_right, false≢true, true≢false}
+use Rattle.std.proofs.lemmas.List.{append-nil}
+use Rattle.std.proofs.lemmas.List.Elements.{All-weaker}
+use Rattle.std.proofs.lemmas.List.Folds.{list_any_none}
+use Rattle.plan_tables.specs.declared.devices.Act.{Act}
+use Rattle.plan_tables.specs.declared.devices.Act.TheVariants as acts
+use Rattle.plan_tables.specs.declared.devices.BallSettings.{BallSettings}
+use Rattle.plan_tables.specs.declared.devices.Settings.TheVariants as kinds
+use Rattle.device_objects.specs.declared.device.Call.{Call}
+use Rattle.device_objects.specs.declared.device.Call.TheVariants as calls
+use Rattle.device_objects.specs.declared.state.Attempt.{Attempt}
+use Rattle.device_objects.specs.declared.state.BallSwitch.{BallSwitch}
+use Rattle.device_objects.specs.declared.state.BallState.{BallState}
+use Rattle.device_objects.specs.declared.state.Eject.{Eject}
+use Rattle.device_objects.specs.declared.state.Eject.TheVariants.{Idle, Pulsing, Away}
+use Rattle.device_objects.specs.declared.state.DeviceState.TheVariants as states
+use Rattle.device_objects.specs.BallDevice.{empty, switch_at, set_switch, first_due, timeout_of, earlier, is_timeout_first, entered, attempted, left, lost, failed, attempt, can_begin, begin, after, ended, stuck, may_try_again, overdue, confirmed, time_out, confirm, turned, gone, count, count_due, fire, requested, act_step, ball_step}
+use Rattle.device_objects.specs.Laws.{IsAttempt, IsEjectOf, HasBallShape, MayCome}
+use Rattle.device_objects.specs.Outcomes.{only_if, may_begin, may_eject, ending, of_count, of_attempt, of_ball_fire, of_ball_act, outcomes}
+use Rattle.device_objects.proofs.Among.{In, here, there, at_last, at_left, at_right, if_holds, by, either}
+use Rattle.device_objects.proofs.BallShapes.{can_begin-parts, ended-shape, first_due-within, with_switch}
+
+-- ---- moments
+
+-- what is due first is there
+timeout-some : (first : Option (ℕ × ℕ)) (timeout : Option ℕ) → is_timeout_first first timeout ≡ true
+    → is_some timeout ≡ true
+timeout-some first None is = absurd (false≢true is)
+timeout-some first (Some t) is = refl
+
+first-some : (first : Option (ℕ × ℕ)) (timeout : Option ℕ) → is_timeout_first first timeout ≡ false
+    → is_some (earlier (option_map (λ a. a.0) first) timeout) ≡ true → is_some first ≡ true
+first-some None None is may = may
+first-some None (Some t) is may = absurd (true≢false is)
+first-some (Some a) timeout is may = refl
+
+-- ---- balls and attempts
+
+-- where a ball counts, the device has a ball switch
+some_switch : (n : ℕ) (bs : List BallSwitch) → All (λ b. b ≡ empty) (drop n bs) → list_any (λ b. b.counted) bs ≡ true
+    → nat_lt 0 n ≡ true
+some_switch zero bs unused counts =
+    let nowhere : list_any (λ (b : BallSwitch). b.counted) bs ≡ false =
+    list_any_none (λ b. b.counted) bs
+    (All-weaker (λ b. b ≡ empty) (λ b. b.counted ≡ false) (λ b is. ap (λ c. c.counted) is) bs unused) in
+    absurd (true≢false (sym counts ∙ nowhere))
+some_switch (suc n) bs unused counts = lt-ltb 0 (suc n) (omega arith)
+
+-- an attempt may follow one of this number, so also the first; or there is a last one
+may_follow_first : (most : Option ℕ) (number : ℕ) → 1 ≤ number → may_try_again most number ≡ true
+    → may_try_again most 1 ≡ true
+may_follow_first None number low may = refl
+may_follow_first (Some most) number low may =
+    let below : number < most = ltb-true number most may in lt-ltb 1 most (omega (arith, low, below))
+
+has_last : (most : Option ℕ) (number : ℕ) → may_try_again most number ≡ false → is_some most ≡ true
+has_last None number may = absurd (true≢false may)
+has_last (Some most) number may = refl
+
+module _ (d : BallSettings) where
+  -- these lists, after which it begins to eject a ball, or not
+  either_ending : (lists : List ℕ) (can : Bool) (x y : BallState) → (can ≡ true → may_begin d ≡ true)
+      → In (lists ++ (if◌then◌else◌ {A = BallState × List ℕ} can (x, attempted ∷ []) (y, [])).1) (ending d lists)
+  either_ending lists true x y may = there (if_holds (may_begin d) (may refl) here)
+  either_ending lists false x y may = by (append-nil lists) here
+
+  may_begin-from : (s : BallState) → HasBallShape d s → can_begin d s ≡ true → may_begin d ≡ true
+  may_begin-from s shape can =
+      let parts = can_begin-parts d s can in
+      and_from d.has_coil (nat_lt 0 d.switches) parts.1 (some_switch d.switches s.switches shape.unused parts.0)
+
+  ending-in : (lists : List ℕ) (now : ℕ) (s : BallState) → (can_begin d s ≡ true → may_begin d ≡ true)
+      → In (after lists (begin d now s)).1 (ending d lists)
+  ending-in lists now s may = either_ending lists (can_begin d s) (attempt d 1 now s).0 s may
+
+  -- ---- a ball switch counts
+
+  left-in : may_eject d ≡ true → In (left ∷ []) (of_count d)
+  left-in may =
+      at_left ((lost ∷ []) ∷ []) (at_right (ending d (entered ∷ [])) (if_holds (may_eject d) may here))
+
+  lost-in : In (lost ∷ []) (of_count d)
+  lost-in = at_last (ending d (entered ∷ []) ++ only_if (may_eject d) ((left ∷ []) ∷ []))
+
+  gone-in : (now : ℕ) (eject : Eject) (s : BallState) → IsEjectOf d eject → In (gone d now eject s).1 (of_count d)
+  gone-in now Idle s is =
+      let first : Attempt = record { number = 1; timeout = now + d.timeout } in
+      either d.mechanical (record s { eject = Away first }, left ∷ []) (s, lost ∷ [])
+      (λ hand. left-in (or_right d.has_coil d.mechanical hand)) (λ none. lost-in)
+  gone-in now (Pulsing a) s is = left-in (or_left d.has_coil d.mechanical is.0)
+  gone-in now (Away a) s is = lost-in
+
+  count-in : (now i : ℕ) (s : BallState) → i < d.switches → HasBallShape d s → In (count d now i s).1 (of_count d)
+  count-in now i s within shape =
+      let t : BallState = set_switch i (turned (switch_at s i)) s in
+      let still : HasBallShape d t = with_switch d i (turned (switch_at s i)) s within shape in
+      either (switch_at s i).counted (gone d now s.eject t) (after (entered ∷ []) (begin d now t))
+      (λ counted. gone-in now s.eject t shape.eject)
+      (λ not. at_left ((lost ∷ []) ∷ [])
+      (at_left (only_if (may_eject d) ((left ∷ []) ∷ [])) (ending-in (entered ∷ []) now t (may_begin-from t still))))
+
+  -- ---- an attempt is over
+
+  stuck-in : (now : ℕ) (a : Attempt) (s : BallState) → IsAttempt d a.number → In (stuck d now a s).1 (of_attempt d)
+  stuck-in now a s is =
+      let again : List (List ℕ) = only_if (may_try_again d.max_attempts 1) ((failed ∷ attempted ∷ []) ∷ []) in
+      let last : List (List ℕ) = only_if (is_some d.max_attempts) ((failed ∷ []) ∷ []) in
+      either (may_try_again d.max_attempts a.number)
+      (after (failed ∷ []) (attempt d (min (suc a.number) 1000) now s))
+      (record s { eject = Idle; wanted = 0 }, failed ∷ [])
+      (λ may. at_left last
+      (if_holds (may_try_again d.max_attempts 1) (may_follow_first d.max_attempts a.number is.0 may) here))
+      (λ not. at_right again (if_holds (is_some d.max_attempts) (has_last d.max_attempts a.number not) here))
+
+  time_out-in : (now : ℕ) (eject : Eject) (s : BallState) → IsEjectOf d eject → is_some (timeout_of eject) ≡ true
+      → HasBallShape d (ended s) → In (time_out d now eject s).1 (of_ball_fire d)
+  time_out-in now Idle s is due shape = absurd (false≢true due)
+  time_out-in now (Pulsing a) s is due shape =
+      at_left (only_if (may_eject d) (ending d (overdue d.target)))
+      (at_right (only_if (nat_lt 0 d.switches) (of_count d)) (if_holds d.has_coil is.0 (stuck-in now a s is.1)))
+  time_out-in now (Away a) s is due shape =
+      at_right (only_if (nat_lt 0 d.switches) (of_count d) ++ only_if d.has_coil (of_attempt d))
+      (if_holds (may_eject d) is.0 (ending-in (overdue d.target) now (ended s) (may_begin-from (ended s) shape)))
+
+  count_due-in : (now : ℕ) (first : Option (ℕ × ℕ)) (s : BallState) → first_due s ≡ first → is_some first ≡ true
+      → HasBallShape d s → In (count_due d now first s).1 (of_ball_fire d)
+  count_due-in now None s is due shape = absurd (false≢true due)
+  count_due-in now (Some a) s is due shape =
+      let within : a.1 < d.switches = first_due-within d s a shape is in
+      at_left (only_if (may_eject d) (ending d (overdue d.target)))
+      (at_left (only_if d.has_coil (of_attempt d))
+      (if_holds (nat_lt 0 d.switches) (lt-ltb 0 d.switches (omega (arith, within))) (count-in now a.1 s within shape)))
+
+  fire-in : (now : ℕ) (s : BallState) → HasBallShape d s → MayCome calls.Fire (states.BallDevice s)
+      → In (fire d now s).1 (of_ball_fire d)
+  fire-in now s shape may =
+      let first : Option (ℕ × ℕ) = first_due s in
+      let timeout : Option ℕ = timeout_of s.eject in
+      either (is_timeout_first first timeout) (time_out d now s.eject s) (count_due d now first s)
+      (λ is. time_out-in now s.eject s shape.eject (timeout-some first timeout is) (ended-shape d s shape))
+      (λ is. count_due-in now first s refl (first-some first timeout is may) shape)
+
+  -- ---- acts
+
+  confirm-in : (now : ℕ) (eject : Eject) (s : BallState) → IsEjectOf d eject → HasBallShape d (ended s)
+      → In (confirm d now eject s).1 (of_ball_act d acts.Confirm)
+  confirm-in now Idle s is shape = here
+  confirm-in now (Pulsing a) s is shape = here
+  confirm-in now (Away a) s is shape =
+      there (if_holds (may_eject d) is.0
+      (ending-in (confirmed d.target) now (ended s) (may_begin-from (ended s) shape)))
+
+  either_request : (n : ℕ) (asked can : Bool) (x y z : BallState)
+      → (asked ≡ true → can ≡ true → (d.trough && (may_begin d && nat_le n 255)) ≡ true)
+      → In (if◌then◌else◌ {A = BallState × List ℕ} asked (if can then (x, attempted ∷ []) else (y, [])) (z, [])).1
+      (of_ball_act d (acts.Request n))
+  either_request n true true x y z may =
+      there (if_holds (d.trough && (may_begin d && nat_le n 255)) (may refl refl) here)
+  either_request n true false x y z may = here
+  either_request n false can x y z may = here
+
+  requested-in : (n now : ℕ) (s : BallState) → HasBallShape d s
+      → In (requested d n now s).1 (of_ball_act d (acts.Request n))
+  requested-in n now s shape =
+      let t : BallState = record s { wanted = s.wanted + n } in
+      either_request n (d.trough && nat_le (s.wanted + n) 255) (can_begin d t) (attempt d 1 now t).0 t s
+      (λ asked can.
+      let parts = and_parts d.trough (nat_le (s.wanted + n) 255) asked in
+      let few : s.wanted + n ≤ 255 = leb-true (s.wanted + n) 255 parts.1 in
+      let begins = can_begin-parts d t can in
+      and_from d.trough (may_begin d && nat_le n 255) parts.0
+      (and_from (may_begin d) (nat_le n 255)
+      (and_from d.has_coil (nat_lt 0 d.switches) begins.1 (some_switch d.switches s.switches shape.unused begins.0))
+      (le-leb n 255 (omega (arith, few)))))
+
+  act-in : (act : Act) (now : ℕ) (s : BallState) → HasBallShape d s → In (act_step d act now s).1 (of_ball_act d act)
+  act-in (acts.SwitchOn i) now s shape = here
+  act-in (acts.SwitchOff i) now s shape = here
+  act-in acts.Confirm now s shape = confirm-in now s.eject s shape.eject (ended-shape d s shape)
+  act-in (acts.Request n) now s shape = requested-in n now s shape
+  act-in _ now s shape = here
+
+  pub ball-in : (call : Call) (now : ℕ) (s : BallState) → HasBallShape d s → MayCome call (states.BallDevice s)
+      → In (ball_step d call now s).1 (outcomes (kinds.BallDevice d) call)
+  ball-in calls.ModeStart now s shape may = here
+  ball-in calls.ModeStop now s shape may = here
+  ball-in calls.Fire now s shape may = fire-in now s shape may
+  ball-in (calls.Act act) now s shape may = act-in act now s shape

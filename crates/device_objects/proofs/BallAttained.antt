@@ -1,0 +1,284 @@
+-- Each outcome of a ball device is the answer of some state.
+use Rattle.std.proofs.Common.{◌≡◌, ℕ, zero, suc, ◌+◌, ◌<◌, ◌≤◌, min, max, inl, inr, Bool, true, false, Option, None, Some, is_some, List, [], ◌∷◌, ◌++◌, ◌&&◌, ◌||◌, not, drop, replicate, nat_lt, nat_le, refl, ap, ◌∙◌, arith}
+use Rattle.std.specs.List.{All}
+use Rattle.std.specs.Option.{option_map_or}
+use Rattle.std.proofs.lemmas.Bool.{and_from, and_left, and_parts, cases_Bool, cases_eq, le-leb, le-ltb, leb-true, lt-ltb, ltb-true, or_cases, or_right, false≢true}
+use Rattle.std.proofs.lemmas.List.{append-nil}
+use Rattle.std.proofs.lemmas.List.Elements.{All-append, All-cons, All-drop, All-replicate}
+use Rattle.plan_tables.specs.declared.devices.Act.{Act}
+use Rattle.plan_tables.specs.declared.devices.Act.TheVariants as acts
+use Rattle.plan_tables.specs.declared.devices.BallSettings.{BallSettings}
+use Rattle.plan_tables.specs.declared.devices.Settings.TheVariants as kinds
+use Rattle.plan_tables.specs.Devices.{IsAttemptsWithin, IsWithinLimits}
+use Rattle.device_objects.specs.declared.device.Call.{Call}
+use Rattle.device_objects.specs.declared.device.Call.TheVariants as calls
+use Rattle.device_objects.specs.declared.state.Attempt.{Attempt}
+use Rattle.device_objects.specs.declared.state.BallSwitch.{BallSwitch}
+use Rattle.device_objects.specs.declared.state.BallState.{BallState}
+use Rattle.device_objects.specs.declared.state.Eject.{Eject}
+use Rattle.device_objects.specs.declared.state.Eject.TheVariants.{Idle, Pulsing, Away}
+use Rattle.device_objects.specs.declared.state.DeviceState.TheVariants as states
+use Rattle.device_objects.specs.BallDevice.{empty, first_state, set_switch, turned, entered, attempted, left, lost, failed, attempt, can_begin, begin, after, ended, may_try_again, overdue, confirmed, ball_step}
+use Rattle.device_objects.specs.Laws.{IsEjectOf, HasBallShape, IsAnswer, MayCome}
+use Rattle.device_objects.specs.Outcomes.{only_if, may_begin, may_eject, ending, of_count, of_attempt, of_ball_fire, of_ball_act, of_ball_device}
+use Rattle.device_objects.proofs.Among.{one, all_if, if_true, if_false}
+use Rattle.device_objects.proofs.BallShapes.{first_attempt, first_ball-shape}
+
+-- ---- states
+
+-- a ball switch that is due, and one with a ball
+abbrev filling : BallSwitch
+filling = record { counted = false; due = Some 0 }
+
+abbrev emptying : BallSwitch
+emptying = record { counted = true; due = Some 0 }
+
+abbrev full : BallSwitch
+full = record { counted = true; due = None }
+
+-- a state with this first ball switch
+abbrev state_with : BallSwitch → Eject → ℕ → BallState
+state_with b eject wanted = record { switches = b ∷ replicate 15 empty; eject = eject; wanted = wanted }
+
+-- an attempt of this number that is over
+abbrev over : ℕ → Attempt
+over number = record { number = number; timeout = 0 }
+
+unused : (n : ℕ) (b : BallSwitch) → (0 < n) → All (λ c. c ≡ empty) (drop n (b ∷ replicate 15 empty))
+unused zero b some = absurd (omega (arith, some))
+unused (suc n) b some = All-drop (λ c. c ≡ empty) n (replicate 15 empty) (All-replicate (λ c. c ≡ empty) 15 empty refl)
+
+-- the number of the last attempt, where there is one
+last_attempt : (most : Option ℕ) → IsAttemptsWithin most → is_some most ≡ true
+    → (n : ℕ) × (1 ≤ n) × (n ≤ max 1 (option_map_or (λ m. m) most 1000)) × (may_try_again most n ≡ false)
+last_attempt None within some = absurd (false≢true some)
+last_attempt (Some most) within some = (most, within.0, omega arith, le-ltb most most (omega arith))
+
+module _ (d : BallSettings) (limits : IsWithinLimits (kinds.BallDevice d)) where
+  answered : (call : Call) (lists : List ℕ) (s : BallState) → HasBallShape d s → MayCome call (states.BallDevice s)
+      → (ball_step d call 0 s).1 ≡ lists → IsAnswer (kinds.BallDevice d) call lists
+  answered call lists s shape may answers = record {
+    now = 0;
+    world = record { games = 0; player = 0 };
+    state = states.BallDevice s;
+    shape = shape;
+    may_come = may;
+    answer = answers;
+  }
+
+  shape_with : (b : BallSwitch) (eject : Eject) (wanted : ℕ) → 0 < d.switches → IsEjectOf d eject → wanted ≤ 255
+      → HasBallShape d (state_with b eject wanted)
+  shape_with b eject wanted some of few =
+      record { switches = refl; unused = unused d.switches b some; eject = of; wanted = few }
+
+  -- a device with no ball
+  abbrev bare : Eject → BallState
+  bare eject = state_with empty eject 0
+
+  bare-shape : (eject : Eject) → IsEjectOf d eject → HasBallShape d (bare eject)
+  bare-shape eject of = record {
+    switches = refl;
+    unused = All-drop (λ c. c ≡ empty) d.switches (replicate 16 empty) (All-replicate (λ c. c ≡ empty) 16 empty refl);
+    eject = of;
+    wanted = omega arith;
+  }
+
+  began : (s : BallState) → can_begin d s ≡ true → (begin d 0 s).1 ≡ attempted ∷ []
+  began s can = if_true (can_begin d s) (attempt d 1 0 s) (s, []) can
+
+  did_not : (s : BallState) → can_begin d s ≡ false → (begin d 0 s).1 ≡ []
+  did_not s cannot = if_false (can_begin d s) (attempt d 1 0 s) (s, []) cannot
+
+  -- a device with a coil can eject a ball that it has, of which a trough wants one
+  can : d.has_coil ≡ true → (wanted : Bool) → wanted ≡ true → (d.has_coil && (not d.trough || wanted)) ≡ true
+  can coil wanted is = and_from d.has_coil (not d.trough || wanted) coil (or_right (not d.trough) wanted is)
+
+  -- these lists are answered at the end of an eject, after which the device begins another, or not
+  abbrev gone_off : BallSwitch → ℕ → BallState
+  gone_off b wanted = state_with b (Away (over 1)) wanted
+
+  ending-comes : (call : Call) (lists : List ℕ) → may_eject d ≡ true
+      → MayCome call (states.BallDevice (gone_off empty 0))
+      → MayCome call (states.BallDevice (gone_off full 2))
+      → (ball_step d call 0 (gone_off empty 0)).1 ≡ lists ++ []
+      → (ball_step d call 0 (gone_off full 2)).1 ≡ lists ++ (begin d 0 (ended (gone_off full 2))).1
+      → All (IsAnswer (kinds.BallDevice d) call) (ending d lists)
+  ending-comes call lists may bare_may full_may bare_is full_is =
+      let Answer : List ℕ → Type 0 = IsAnswer (kinds.BallDevice d) call in
+      let t : BallState = ended (gone_off full 2) in
+      All-cons Answer lists (only_if (may_begin d) ((lists ++ attempted ∷ []) ∷ []))
+      (answered call lists (gone_off empty 0) (bare-shape (Away (over 1)) (may, first_attempt d)) bare_may
+      (bare_is ∙ append-nil lists))
+      (all_if Answer (may_begin d) ((lists ++ attempted ∷ []) ∷ [])
+      (λ begins.
+      let parts = and_parts d.has_coil (nat_lt 0 d.switches) begins in
+      one Answer (lists ++ attempted ∷ [])
+      (answered call (lists ++ attempted ∷ []) (gone_off full 2)
+      (shape_with full (Away (over 1)) 2 (ltb-true 0 d.switches parts.1) (may, first_attempt d) (omega arith)) full_may
+      (full_is ∙ ap (λ more. lists ++ more) (began t (can parts.0 true refl))))))
+
+  -- ---- a ball switch counts
+
+  entered-comes : 0 < d.switches → IsAnswer (kinds.BallDevice d) calls.Fire (entered ∷ [])
+  entered-comes some =
+      elim (cases_Bool d.has_coil) [
+        | inl coil ↦
+            answered calls.Fire (entered ∷ []) (state_with filling (Pulsing (over 1)) 0)
+            (shape_with filling (Pulsing (over 1)) 0 some (coil, first_attempt d) (omega arith)) refl refl
+        | inr none ↦
+            let s : BallState = state_with filling Idle 0 in
+            answered calls.Fire (entered ∷ []) s (shape_with filling Idle 0 some tt (omega arith)) refl
+            (ap (λ more. entered ∷ more)
+            (did_not (set_switch 0 (turned filling) s) (and_left d.has_coil (not d.trough || false) none)))
+      ]
+
+  left-comes : 0 < d.switches → may_eject d ≡ true → IsAnswer (kinds.BallDevice d) calls.Fire (left ∷ [])
+  left-comes some may =
+      elim (or_cases d.has_coil d.mechanical may) [
+        | inl coil ↦
+            answered calls.Fire (left ∷ []) (state_with emptying (Pulsing (over 1)) 0)
+            (shape_with emptying (Pulsing (over 1)) 0 some (coil, first_attempt d) (omega arith)) refl refl
+        | inr hand ↦
+            let s : BallState = state_with emptying Idle 0 in
+            let t : BallState = set_switch 0 (turned emptying) s in
+            let first : Attempt = record { number = 1; timeout = 0 + d.timeout } in
+            answered calls.Fire (left ∷ []) s (shape_with emptying Idle 0 some tt (omega arith)) refl
+            (if_true d.mechanical (record t { eject = Away first }, left ∷ []) (t, lost ∷ []) hand)
+      ]
+
+  lost-comes : 0 < d.switches → IsAnswer (kinds.BallDevice d) calls.Fire (lost ∷ [])
+  lost-comes some =
+      elim (cases_Bool d.mechanical) [
+        | inl hand ↦
+            answered calls.Fire (lost ∷ []) (state_with emptying (Away (over 1)) 0)
+            (shape_with emptying (Away (over 1)) 0 some (or_right d.has_coil d.mechanical hand, first_attempt d)
+            (omega arith)) refl refl
+        | inr none ↦
+            let s : BallState = state_with emptying Idle 0 in
+            let t : BallState = set_switch 0 (turned emptying) s in
+            let first : Attempt = record { number = 1; timeout = 0 + d.timeout } in
+            answered calls.Fire (lost ∷ []) s (shape_with emptying Idle 0 some tt (omega arith)) refl
+            (if_false d.mechanical (record t { eject = Away first }, left ∷ []) (t, lost ∷ []) none)
+      ]
+
+  count-comes : 0 < d.switches → All (IsAnswer (kinds.BallDevice d) calls.Fire) (of_count d)
+  count-comes some =
+      let Answer : List ℕ → Type 0 = IsAnswer (kinds.BallDevice d) calls.Fire in
+      let begins : List (List ℕ) = only_if (may_begin d) ((entered ∷ attempted ∷ []) ∷ []) in
+      let leaves : List (List ℕ) = only_if (may_eject d) ((left ∷ []) ∷ []) in
+      let s : BallState = state_with filling Idle 1 in
+      All-append Answer (ending d (entered ∷ []) ++ leaves) ((lost ∷ []) ∷ [])
+      (All-append Answer (ending d (entered ∷ [])) leaves
+      (All-cons Answer (entered ∷ []) begins (entered-comes some)
+      (all_if Answer (may_begin d) ((entered ∷ attempted ∷ []) ∷ [])
+      (λ may.
+      let parts = and_parts d.has_coil (nat_lt 0 d.switches) may in
+      one Answer (entered ∷ attempted ∷ [])
+      (answered calls.Fire (entered ∷ attempted ∷ []) s (shape_with filling Idle 1 some tt (omega arith)) refl
+      (ap (λ more. entered ∷ more) (began (set_switch 0 (turned filling) s) (can parts.0 true refl)))))))
+      (all_if Answer (may_eject d) ((left ∷ []) ∷ []) (λ may. one Answer (left ∷ []) (left-comes some may))))
+      (one Answer (lost ∷ []) (lost-comes some))
+
+  -- ---- an attempt is over
+
+  attempt-comes : d.has_coil ≡ true → All (IsAnswer (kinds.BallDevice d) calls.Fire) (of_attempt d)
+  attempt-comes coil =
+      let Answer : List ℕ → Type 0 = IsAnswer (kinds.BallDevice d) calls.Fire in
+      All-append Answer (only_if (may_try_again d.max_attempts 1) ((failed ∷ attempted ∷ []) ∷ []))
+      (only_if (is_some d.max_attempts) ((failed ∷ []) ∷ []))
+      (all_if Answer (may_try_again d.max_attempts 1) ((failed ∷ attempted ∷ []) ∷ [])
+      (λ may.
+      let s : BallState = bare (Pulsing (over 1)) in
+      one Answer (failed ∷ attempted ∷ [])
+      (answered calls.Fire (failed ∷ attempted ∷ []) s (bare-shape (Pulsing (over 1)) (coil, first_attempt d)) refl
+      (if_true (may_try_again d.max_attempts 1) (after (failed ∷ []) (attempt d 2 0 s))
+      (record s { eject = Idle; wanted = 0 }, failed ∷ []) may))))
+      (all_if Answer (is_some d.max_attempts) ((failed ∷ []) ∷ [])
+      (λ some. one Answer (failed ∷ []) (gives_up (last_attempt d.max_attempts limits.attempts some))))
+    where
+      gives_up : (n : ℕ) × (1 ≤ n) × (n ≤ max 1 (option_map_or (λ m. m) d.max_attempts 1000))
+          × (may_try_again d.max_attempts n ≡ false)
+          → IsAnswer (kinds.BallDevice d) calls.Fire (failed ∷ [])
+      gives_up last =
+          let s : BallState = bare (Pulsing (over last.0)) in
+          answered calls.Fire (failed ∷ []) s (bare-shape (Pulsing (over last.0)) (coil, (last.1, last.2))) refl
+          (if_false (may_try_again d.max_attempts last.0) (after (failed ∷ []) (attempt d (min (suc last.0) 1000) 0 s))
+          (record s { eject = Idle; wanted = 0 }, failed ∷ []) last.3)
+
+  fire-comes : All (IsAnswer (kinds.BallDevice d) calls.Fire) (of_ball_fire d)
+  fire-comes =
+      let Answer : List ℕ → Type 0 = IsAnswer (kinds.BallDevice d) calls.Fire in
+      let counts : List (List ℕ) = only_if (nat_lt 0 d.switches) (of_count d) in
+      let attempts : List (List ℕ) = only_if d.has_coil (of_attempt d) in
+      All-append Answer (counts ++ attempts) (only_if (may_eject d) (ending d (overdue d.target)))
+      (All-append Answer counts attempts
+      (all_if Answer (nat_lt 0 d.switches) (of_count d) (λ some. count-comes (ltb-true 0 d.switches some)))
+      (all_if Answer d.has_coil (of_attempt d) (λ coil. attempt-comes coil)))
+      (all_if Answer (may_eject d) (ending d (overdue d.target))
+      (λ may. ending-comes calls.Fire (overdue d.target) may refl refl refl refl))
+
+  -- ---- acts
+
+  quiet : (call : Call) → MayCome call (states.BallDevice first_state) → (ball_step d call 0 first_state).1 ≡ []
+      → IsAnswer (kinds.BallDevice d) call []
+  quiet call may answers = answered call [] first_state (first_ball-shape d) may answers
+
+  -- a request that changes nothing, as there is no ball
+  refused : (n : ℕ) → IsAnswer (kinds.BallDevice d) (calls.Act (acts.Request n)) []
+  refused n =
+      let asked : Bool = d.trough && nat_le (0 + n) 255 in
+      let t : BallState = record first_state { wanted = 0 + n } in
+      elim (cases_Bool asked) [
+        | inl is ↦ quiet (calls.Act (acts.Request n)) tt (if_true asked (begin d 0 t) (first_state, []) is)
+        | inr is ↦ quiet (calls.Act (acts.Request n)) tt (if_false asked (begin d 0 t) (first_state, []) is)
+      ]
+
+  -- a request of n balls, before which so many are wanted
+  granted : (n wanted : ℕ) → may_begin d ≡ true → d.trough ≡ true → wanted + n ≤ 255 → 0 < wanted + n
+      → IsAnswer (kinds.BallDevice d) (calls.Act (acts.Request n)) (attempted ∷ [])
+  granted n wanted begins trough few some =
+      let parts = and_parts d.has_coil (nat_lt 0 d.switches) begins in
+      let s : BallState = state_with full Idle wanted in
+      let t : BallState = record s { wanted = wanted + n } in
+      answered (calls.Act (acts.Request n)) (attempted ∷ []) s
+      (shape_with full Idle wanted (ltb-true 0 d.switches parts.1) tt (omega (arith, few))) tt
+      (if_true (d.trough && nat_le (wanted + n) 255) (begin d 0 t) (s, [])
+      (and_from d.trough (nat_le (wanted + n) 255) trough (le-leb (wanted + n) 255 few))
+      ∙ began t (can parts.0 (nat_lt 0 (wanted + n)) (lt-ltb 0 (wanted + n) some)))
+
+  request-comes : (n : ℕ) → (d.trough && (may_begin d && nat_le n 255)) ≡ true
+      → IsAnswer (kinds.BallDevice d) (calls.Act (acts.Request n)) (attempted ∷ [])
+  request-comes n is =
+      let parts = and_parts d.trough (may_begin d && nat_le n 255) is in
+      let more = and_parts (may_begin d) (nat_le n 255) parts.1 in
+      let few : n ≤ 255 = leb-true n 255 more.1 in
+      elim (cases_eq n 0) [
+        | inl none ↦ granted n 1 more.0 parts.0 (omega (arith, none)) (omega arith)
+        | inr some ↦ granted n 0 more.0 parts.0 (omega (arith, few)) (omega (arith, some))
+      ]
+
+  act-comes : (act : Act) → All (IsAnswer (kinds.BallDevice d) (calls.Act act)) (of_ball_act d act)
+  act-comes acts.Confirm =
+      let Answer : List ℕ → Type 0 = IsAnswer (kinds.BallDevice d) (calls.Act acts.Confirm) in
+      All-cons Answer [] (only_if (may_eject d) (ending d (confirmed d.target)))
+      (quiet (calls.Act acts.Confirm) tt refl)
+      (all_if Answer (may_eject d) (ending d (confirmed d.target))
+      (λ may. ending-comes (calls.Act acts.Confirm) (confirmed d.target) may tt tt refl refl))
+  act-comes (acts.Request n) =
+      let Answer : List ℕ → Type 0 = IsAnswer (kinds.BallDevice d) (calls.Act (acts.Request n)) in
+      let begins : Bool = d.trough && (may_begin d && nat_le n 255) in
+      All-cons Answer [] (only_if begins ((attempted ∷ []) ∷ [])) (refused n)
+      (all_if Answer begins ((attempted ∷ []) ∷ []) (λ is. one Answer (attempted ∷ []) (request-comes n is)))
+  act-comes (acts.SwitchOn i) =
+      one (IsAnswer (kinds.BallDevice d) (calls.Act (acts.SwitchOn i))) []
+      (quiet (calls.Act (acts.SwitchOn i)) tt refl)
+  act-comes (acts.SwitchOff i) =
+      one (IsAnswer (kinds.BallDevice d) (calls.Act (acts.SwitchOff i))) []
+      (quiet (calls.Act (acts.SwitchOff i)) tt refl)
+  act-comes act = one (IsAnswer (kinds.BallDevice d) (calls.Act act)) [] (quiet (calls.Act act) tt refl)
+
+  pub ball-comes : (call : Call) → All (IsAnswer (kinds.BallDevice d) call) (of_ball_device d call)
+  ball-comes calls.ModeStart = one (IsAnswer (kinds.BallDevice d) calls.ModeStart) [] (quiet calls.ModeStart tt refl)
+  ball-comes calls.ModeStop = one (IsAnswer (kinds.BallDevice d) calls.ModeStop) [] (quiet calls.ModeStop tt refl)
+  ball-comes calls.Fire = fire-comes
+  ball-comes (calls.Act act) = act-comes act

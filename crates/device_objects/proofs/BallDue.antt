@@ -1,0 +1,86 @@
+-- Which ball switch of a ball device is due first.
+use Rattle.std.proofs.Common.{◌≡◌, ℕ, zero, suc, ◌+◌, ◌≤◌, ◌⊎◌, inl, inr, Bool, true, false, Option, None, Some, List, [], ◌∷◌, map, option_map, get_or, nat_le, if◌then◌else◌, refl, sym, ap, arith}
+use Rattle.std.proofs.lemmas.Bool.{leb-true, leb-false}
+use Rattle.std.proofs.lemmas.Option.{none-some, same_Some}
+use Rattle.device_objects.specs.declared.state.BallSwitch.{BallSwitch}
+use Rattle.device_objects.specs.BallDevice.{empty, sooner, first_due_from, not_due}
+
+-- ---- what is first is due
+
+-- of two moments the sooner is one of them
+sooner-is_one : (x y : Option (ℕ × ℕ)) (a : ℕ × ℕ) → sooner x y ≡ Some a → (x ≡ Some a) ⊎ (y ≡ Some a)
+sooner-is_one None y a is = inr is
+sooner-is_one (Some x) None a is = inl is
+sooner-is_one (Some x) (Some y) a is = one_of (nat_le x.0 y.0) is
+  where
+    one_of : (test : Bool) → (if test then Some x else Some y) ≡ Some a → (Some x ≡ Some a) ⊎ (Some y ≡ Some a)
+    one_of true same = inl same
+    one_of false same = inr same
+
+first_here : (i : ℕ) (due : Option ℕ) (a : ℕ × ℕ) → option_map (λ t. (t, i)) due ≡ Some a → (a.1 ≡ i) × (due ≡ Some a.0)
+first_here i None a is = absurd (none-some a is)
+first_here i (Some t) a is =
+    let same : (t, i) ≡ a = same_Some (t, i) a is in
+    (ap (λ p. p.1) (sym same), ap (λ p. Some p.0) same)
+
+-- the ball switch of this number is due at this moment, where they are numbered from i on
+abbrev pub IsDueAt : ℕ → List BallSwitch → ℕ × ℕ → Type 0
+IsDueAt i bs a = (j : ℕ) × (a.1 ≡ i + j) × ((get_or bs j empty).due ≡ Some a.0)
+
+pub first_due-is_due : (i : ℕ) (bs : List BallSwitch) (a : ℕ × ℕ) → first_due_from i bs ≡ Some a → IsDueAt i bs a
+first_due-is_due i [] a is = absurd (none-some a is)
+first_due-is_due i (b ∷ bs) a is =
+    elim (sooner-is_one (option_map (λ due. (due, i)) b.due) (first_due_from (suc i) bs) a is) [
+      | inl here ↦ let at = first_here i b.due a here in (0, omega (arith, at.0), at.1)
+      | inr there ↦
+          let at = first_due-is_due (suc i) bs a there in
+          (suc at.0, omega (arith, at.1), at.2)
+    ]
+
+-- ---- and no other is due before it
+
+least : (a b : ℕ × ℕ) (test : Bool) → nat_le a.0 b.0 ≡ test
+    → (c : ℕ × ℕ) × ((if test then Some a else Some b) ≡ Some c) × (c.0 ≤ a.0) × (c.0 ≤ b.0)
+least a b true is = (a, refl, omega arith, leb-true a.0 b.0 is)
+least a b false is = (b, refl, omega (arith, leb-false a.0 b.0 is), omega arith)
+
+-- these are due at this moment or before
+abbrev pub IsDueBy : Option (ℕ × ℕ) → ℕ → Type 0
+IsDueBy first t = (c : ℕ × ℕ) × (first ≡ Some c) × (c.0 ≤ t)
+
+sooner-by_first : (due : Option ℕ) (i t : ℕ) (y : Option (ℕ × ℕ)) → due ≡ Some t
+    → IsDueBy (sooner (option_map (λ m. (m, i)) due) y) t
+sooner-by_first None i t y is = absurd (none-some t is)
+sooner-by_first (Some m) i t None is = ((m, i), refl, let same : m ≡ t = same_Some m t is in omega (arith, same))
+sooner-by_first (Some m) i t (Some b) is =
+    let same : m ≡ t = same_Some m t is in
+    let l = least (m, i) b (nat_le m b.0) refl in
+    (l.0, l.1, omega (arith, l.2, same))
+
+sooner-by_second : (x y : Option (ℕ × ℕ)) (t : ℕ) → IsDueBy y t → IsDueBy (sooner x y) t
+sooner-by_second None y t by = by
+sooner-by_second (Some a) None t by = absurd (none-some by.0 by.1)
+sooner-by_second (Some a) (Some b) t by =
+    let same : b ≡ by.0 = same_Some b by.0 by.1 in
+    let moment : b.0 ≡ by.0.0 = ap (λ p. p.0) same in
+    let l = least a b (nat_le a.0 b.0) refl in
+    (l.0, l.1, omega (arith, l.3, moment, by.2))
+
+pub first_due-is_first : (i : ℕ) (bs : List BallSwitch) (j t : ℕ) → (get_or bs j empty).due ≡ Some t
+    → IsDueBy (first_due_from i bs) t
+first_due-is_first i [] j t is = absurd (none-some t is)
+first_due-is_first i (b ∷ bs) zero t is = sooner-by_first b.due i t (first_due_from (suc i) bs) is
+first_due-is_first i (b ∷ bs) (suc j) t is =
+    sooner-by_second (option_map (λ m. (m, i)) b.due) (first_due_from (suc i) bs) t
+    (first_due-is_first (suc i) bs j t is)
+
+-- ---- none is due
+
+pub first_due-none : (i : ℕ) (bs : List BallSwitch) → first_due_from i (map not_due bs) ≡ None
+first_due-none i [] = refl
+first_due-none i (b ∷ bs) = first_due-none (suc i) bs
+
+pub not_due-none : (bs : List BallSwitch) (i : ℕ) → (get_or (map not_due bs) i empty).due ≡ None
+not_due-none [] i = refl
+not_due-none (b ∷ bs) zero = refl
+not_due-none (b ∷ bs) (suc i) = not_due-none bs i

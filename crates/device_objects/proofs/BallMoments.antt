@@ -1,0 +1,334 @@
+-- When ball devices are due.
+use Rattle.std.proofs.Common.{◌≡◌, ℕ, zero, suc, ◌+◌, ◌<◌, ◌≤◌, min, ◌⊎◌, inl, inr, Bool, true, false, Option, None, Some, IfSome, is_some, List, [], ◌∷◌, ◌&&◌, length, get_or, set, option_map, nat_lt, nat_le, if◌then◌else◌, refl, sym, ap, ◌∙◌, arith}
+use Rattle.std.proofs.lemmas.Bool.{cases_lt, ltb-true, ltb-false, false≢true}
+use Rattle.std.proofs.lemmas.List.{get_or_past}
+use Rattle.std.proofs.lemmas.Option.{IfSome_then, MatchOption-from_none, none-some, same_Some}
+use Rattle.plan_tables.specs.declared.devices.Act.{Act}
+use Rattle.plan_tables.specs.declared.devices.Act.TheVariants as acts
+use Rattle.plan_tables.specs.declared.devices.BallSettings.{BallSettings}
+use Rattle.plan_tables.specs.Devices.{IsBallDeviceWithin}
+use Rattle.device_objects.specs.declared.device.Call.{Call}
+use Rattle.device_objects.specs.declared.device.Call.TheVariants as calls
+use Rattle.device_objects.specs.declared.state.Attempt.{Attempt}
+use Rattle.device_objects.specs.declared.state.BallSwitch.{BallSwitch}
+use Rattle.device_objects.specs.declared.state.BallState.{BallState}
+use Rattle.device_objects.specs.declared.state.Eject.{Eject}
+use Rattle.device_objects.specs.declared.state.Eject.TheVariants.{Idle, Pulsing, Away}
+use Rattle.device_objects.specs.declared.state.DeviceState.TheVariants as states
+use Rattle.device_objects.specs.BallDevice.{empty, switch_at, set_switch, first_due, first_due_from, timeout_of, earlier, due_of, part_due, is_timeout_first, entered, left, lost, failed, attempt, can_begin, begin, after, ended, stuck, may_try_again, time_out, confirm, delay, counts_otherwise, noted, switched, turned, gone, count, count_due, fire, requested, act_step, halted, ball_step}
+use Rattle.device_objects.specs.Laws.{IsDone}
+use Rattle.device_objects.proofs.BallDue.{not_due-none, first_due-none, first_due-is_due, first_due-is_first}
+
+-- ---- what a step arms
+
+-- a ball switch after one was written: the one written, or as it was
+after_set : (bs : List BallSwitch) (i j : ℕ) (b : BallSwitch)
+    → (get_or (set bs i b) j empty ≡ b) ⊎ (get_or (set bs i b) j empty ≡ get_or bs j empty)
+after_set [] i j b = inr refl
+after_set (c ∷ bs) zero zero b = inl refl
+after_set (c ∷ bs) zero (suc j) b = inr refl
+after_set (c ∷ bs) (suc i) zero b = inr refl
+after_set (c ∷ bs) (suc i) (suc j) b = after_set bs i j b
+
+module _ (d : BallSettings) (now : ℕ) (limits : IsBallDeviceWithin d) (old : BallState) where
+  -- the parts are due when they were before, or later than now
+  abbrev IsEjectLater : Eject → Type 0
+  IsEjectLater e = (due : ℕ) → timeout_of e ≡ Some due → (timeout_of old.eject ≡ Some due) ⊎ (now < due)
+
+  abbrev AreSwitchesLater : List BallSwitch → Type 0
+  AreSwitchesLater bs =
+      (i due : ℕ) → (get_or bs i empty).due ≡ Some due → ((get_or old.switches i empty).due ≡ Some due) ⊎ (now < due)
+
+  abbrev IsLater : BallState → Type 0
+  IsLater s = AreSwitchesLater s.switches × IsEjectLater s.eject
+
+  either : (test : Bool) (x y : BallState × List ℕ) → IsLater x.0 → IsLater y.0 → IsLater (if test then x else y).0
+  either true x y first second = first
+  either false x y first second = second
+
+  one_state : (test : Bool) (x y : BallState) → IsLater x → IsLater y → IsLater (if test then x else y)
+  one_state true x y first second = first
+  one_state false x y first second = second
+
+  idle : IsEjectLater Idle
+  idle due is = absurd (none-some due is)
+
+  armed : (due : ℕ) → Some (now + d.timeout) ≡ Some due → (timeout_of old.eject ≡ Some due) ⊎ (now < due)
+  armed due is =
+      inr (let same : now + d.timeout ≡ due = same_Some (now + d.timeout) due is in omega (arith, limits.timeout, same))
+
+  begin-later : (s : BallState) → IsLater s → IsLater (begin d now s).0
+  begin-later s h = either (can_begin d s) (attempt d 1 now s) (s, []) (h.0, armed) h
+
+  stuck-later : (a : Attempt) (s : BallState) → IsLater s → IsLater (stuck d now a s).0
+  stuck-later a s h =
+      either (may_try_again d.max_attempts a.number)
+      (after (failed ∷ []) (attempt d (min (suc a.number) 1000) now s))
+      (record s { eject = Idle; wanted = 0 }, failed ∷ []) (h.0, armed) (h.0, idle)
+
+  time_out-later : (eject : Eject) (s : BallState) → IsLater s → IsLater (time_out d now eject s).0
+  time_out-later Idle s h = h
+  time_out-later (Pulsing a) s h = stuck-later a s h
+  time_out-later (Away a) s h = begin-later (ended s) (h.0, idle)
+
+  confirm-later : (eject : Eject) (s : BallState) → IsLater s → IsLater (confirm d now eject s).0
+  confirm-later Idle s h = h
+  confirm-later (Pulsing a) s h = h
+  confirm-later (Away a) s h = begin-later (ended s) (h.0, idle)
+
+  gone-later : (eject : Eject) (s : BallState) → IsEjectLater eject → IsLater s → IsLater (gone d now eject s).0
+  gone-later Idle s e h =
+      let first : Attempt = record { number = 1; timeout = now + d.timeout } in
+      either d.mechanical (record s { eject = Away first }, left ∷ []) (s, lost ∷ []) (h.0, armed) h
+  gone-later (Pulsing a) s e h = (h.0, e)
+  gone-later (Away a) s e h = h
+
+  set-later : (i : ℕ) (b : BallSwitch) (bs : List BallSwitch) → ((due : ℕ) → b.due ≡ Some due → now < due)
+      → AreSwitchesLater bs → AreSwitchesLater (set bs i b)
+  set-later i b bs later h j due is =
+      elim (after_set bs i j b) [
+        | inl new ↦ inr (later due (sym (ap (λ c. c.due) new) ∙ is))
+        | inr same ↦ h j due (sym (ap (λ c. c.due) same) ∙ is)
+      ]
+
+  count-later : (i : ℕ) (s : BallState) → IsLater s → IsLater (count d now i s).0
+  count-later i s h =
+      let b : BallSwitch = turned (switch_at s i) in
+      let t : BallState = set_switch i b s in
+      let still : IsLater t = (set-later i b s.switches (λ due is. absurd (none-some due is)) h.0, h.1) in
+      either (switch_at s i).counted (gone d now s.eject t) (after (entered ∷ []) (begin d now t))
+      (gone-later s.eject t h.1 still) (begin-later t still)
+
+  count_due-later : (first : Option (ℕ × ℕ)) (s : BallState) → IsLater s → IsLater (count_due d now first s).0
+  count_due-later None s h = h
+  count_due-later (Some a) s h = count-later a.1 s h
+
+  fire-later : (s : BallState) → IsLater s → IsLater (fire d now s).0
+  fire-later s h =
+      either (is_timeout_first (first_due s) (timeout_of s.eject)) (time_out d now s.eject s)
+      (count_due d now (first_due s) s) (time_out-later s.eject s h) (count_due-later (first_due s) s h)
+
+  delay-some : (active : Bool) → 1 ≤ delay d active
+  delay-some true = limits.entrance
+  delay-some false = limits.exit
+
+  noted-later : (active otherwise : Bool) (due : ℕ)
+      → (if otherwise then Some (now + delay d active) else None) ≡ Some due → now < due
+  noted-later active true due is =
+      let same : now + delay d active ≡ due = same_Some (now + delay d active) due is in
+      omega (arith, delay-some active, same)
+  noted-later active false due is = absurd (none-some due is)
+
+  switched-later : (i : ℕ) (active : Bool) (s : BallState) → IsLater s → IsLater (switched d i active now s)
+  switched-later i active s h =
+      let b : BallSwitch = noted d active now (switch_at s i) in
+      one_state (nat_lt i d.switches) (set_switch i b s) s
+      (set-later i b s.switches (noted-later active (counts_otherwise active (switch_at s i))) h.0, h.1) h
+
+  requested-later : (n : ℕ) (s : BallState) → IsLater s → IsLater (requested d n now s).0
+  requested-later n s h =
+      let t : BallState = record s { wanted = s.wanted + n } in
+      either (d.trough && nat_le (s.wanted + n) 255) (begin d now t) (s, []) (begin-later t h) h
+
+  act-later : (act : Act) (s : BallState) → IsLater s → IsLater (act_step d act now s).0
+  act-later (acts.SwitchOn i) s h = switched-later i true s h
+  act-later (acts.SwitchOff i) s h = switched-later i false s h
+  act-later acts.Confirm s h = confirm-later s.eject s h
+  act-later (acts.Request n) s h = requested-later n s h
+  act-later _ s h = h
+
+  halted-later : (s : BallState) → IsLater (halted s)
+  halted-later s = ((λ i due is. absurd (none-some due (sym (not_due-none s.switches i) ∙ is))), idle)
+
+  step-later : (call : Call) (s : BallState) → IsLater s → IsLater (ball_step d call now s).0
+  step-later calls.ModeStart s h = h
+  step-later calls.ModeStop s h = halted-later s
+  step-later calls.Fire s h = fire-later s h
+  step-later (calls.Act act) s h = act-later act s h
+
+pub ball-arms_later : (d : BallSettings) (call : Call) (now : ℕ) (s : BallState) → IsBallDeviceWithin d → (k due : ℕ)
+    → part_due (ball_step d call now s).0 k ≡ Some due → (part_due s k ≡ Some due) ⊎ (now < due)
+ball-arms_later d call now s limits zero due is =
+    (step-later d now limits s call s ((λ i m at. inl at), (λ m at. inl at))).1 due is
+ball-arms_later d call now s limits (suc i) due is =
+    (step-later d now limits s call s ((λ j m at. inl at), (λ m at. inl at))).0 i due is
+
+-- ---- what is due first is a part
+
+switch-is_due : (s : BallState) (a : ℕ × ℕ) → first_due s ≡ Some a → (switch_at s a.1).due ≡ Some a.0
+switch-is_due s a is =
+    let at = first_due-is_due 0 s.switches a is in
+    let number : a.1 ≡ at.0 = omega (arith, at.1) in
+    ap (λ k. (get_or s.switches k empty).due) number ∙ at.2
+
+part-one : (s : BallState) (first : Option (ℕ × ℕ)) (timeout : Option ℕ) → first_due s ≡ first
+    → timeout_of s.eject ≡ timeout
+    → IfSome (earlier (option_map (λ a. a.0) first) timeout) (λ due. (k : ℕ) × (part_due s k ≡ Some due))
+part-one s None None at over = tt
+part-one s None (Some t) at over = (0, over)
+part-one s (Some a) None at over = (suc a.1, switch-is_due s a at)
+part-one s (Some a) (Some t) at over =
+    elim (cases_lt t a.0) [
+      | inl before ↦ (0, over ∙ ap Some (omega (arith, before)))
+      | inr after ↦ (suc a.1, switch-is_due s a at ∙ ap Some (omega (arith, after)))
+    ]
+
+pub ball-parts_one : (s : BallState) → IfSome (due_of s) (λ due. (k : ℕ) × (part_due s k ≡ Some due))
+ball-parts_one s = part-one s (first_due s) (timeout_of s.eject) refl refl
+
+-- ---- what is done when it fires
+
+-- a ball switch that has been turned is not due
+turned-quiet : (bs : List BallSwitch) (i : ℕ) (b : BallSwitch) → b.due ≡ None → (get_or (set bs i b) i empty).due ≡ None
+turned-quiet [] i b is = refl
+turned-quiet (c ∷ bs) zero b is = is
+turned-quiet (c ∷ bs) (suc i) b is = turned-quiet bs i b is
+
+module _ (d : BallSettings) (now : ℕ) (limits : IsBallDeviceWithin d) where
+  -- an eject that is over later than now, if at all
+  abbrev IsAfter : Eject → Type 0
+  IsAfter e = IfSome (timeout_of e) (λ later. now < later)
+
+  either_after : (test : Bool) (x y : BallState × List ℕ) → IsAfter x.0.eject → IsAfter y.0.eject
+      → IsAfter (if test then x else y).0.eject
+  either_after true x y first second = first
+  either_after false x y first second = second
+
+  armed_after : now < now + d.timeout
+  armed_after = omega (arith, limits.timeout)
+
+  time_out-after : (eject : Eject) (s : BallState) → is_some (timeout_of eject) ≡ true
+      → IsAfter (time_out d now eject s).0.eject
+  time_out-after Idle s some = absurd (false≢true some)
+  time_out-after (Pulsing a) s some =
+      either_after (may_try_again d.max_attempts a.number)
+      (after (failed ∷ []) (attempt d (min (suc a.number) 1000) now s))
+      (record s { eject = Idle; wanted = 0 }, failed ∷ []) armed_after tt
+  time_out-after (Away a) s some =
+      either_after (can_begin d (ended s)) (attempt d 1 now (ended s)) (ended s, []) armed_after tt
+
+  -- no step but the switch's own writes to it
+  either_switches : (bs : List BallSwitch) (test : Bool) (x y : BallState × List ℕ) → x.0.switches ≡ bs
+      → y.0.switches ≡ bs
+      → (if test then x else y).0.switches ≡ bs
+  either_switches bs true x y first second = first
+  either_switches bs false x y first second = second
+
+  gone-switches : (eject : Eject) (s : BallState) → (gone d now eject s).0.switches ≡ s.switches
+  gone-switches Idle s =
+      let first : Attempt = record { number = 1; timeout = now + d.timeout } in
+      either_switches s.switches d.mechanical (record s { eject = Away first }, left ∷ []) (s, lost ∷ []) refl refl
+  gone-switches (Pulsing a) s = refl
+  gone-switches (Away a) s = refl
+
+  counted-switches : (i : ℕ) (s : BallState) → (count d now i s).0.switches ≡ set s.switches i (turned (switch_at s i))
+  counted-switches i s =
+      let t : BallState = set_switch i (turned (switch_at s i)) s in
+      either_switches t.switches (switch_at s i).counted (gone d now s.eject t) (after (entered ∷ []) (begin d now t))
+      (gone-switches s.eject t) (either_switches t.switches (can_begin d t) (attempt d 1 now t) (t, []) refl refl)
+
+  timeout-done : (s : BallState) (t due : ℕ) → timeout_of s.eject ≡ Some t → due ≡ t
+      → IsDone now due (states.BallDevice s) (states.BallDevice (time_out d now s.eject s).0)
+  timeout-done s t due is same = record {
+    part = 0;
+    due = is ∙ ap Some (sym same);
+    done = time_out-after s.eject s (ap is_some is);
+  }
+
+  count-done : (s : BallState) (a : ℕ × ℕ) (due : ℕ) → first_due s ≡ Some a → due ≡ a.0
+      → IsDone now due (states.BallDevice s) (states.BallDevice (count d now a.1 s).0)
+  count-done s a due is same =
+      let quiet : (switch_at (count d now a.1 s).0 a.1).due ≡ None =
+      ap (λ bs. (get_or bs a.1 empty).due) (counted-switches a.1 s)
+      ∙ turned-quiet s.switches a.1 (turned (switch_at s a.1)) refl in
+      record {
+        part = suc a.1;
+        due = switch-is_due s a is ∙ ap Some (sym same);
+        done = MatchOption-from_none (switch_at (count d now a.1 s).0 a.1).due (λ later. now < later) quiet;
+      }
+
+  -- of both, that is done which is due first
+  first-done : (s : BallState) (first : Option (ℕ × ℕ)) (timeout : Option ℕ) → first_due s ≡ first
+      → timeout_of s.eject ≡ timeout
+      → IfSome (earlier (option_map (λ a. a.0) first) timeout)
+      (λ due. IsDone now due (states.BallDevice s)
+      (states.BallDevice
+      (if is_timeout_first first timeout then time_out d now s.eject s else count_due d now first s).0))
+  first-done s None None at over = tt
+  first-done s None (Some t) at over = timeout-done s t t over refl
+  first-done s (Some a) None at over = count-done s a a.0 at refl
+  first-done s (Some a) (Some t) at over = one_of (nat_lt t a.0) refl
+    where
+      one_of : (test : Bool) → nat_lt t a.0 ≡ test
+          → IsDone now (min a.0 t) (states.BallDevice s)
+          (states.BallDevice (if test then time_out d now s.eject s else count d now a.1 s).0)
+      one_of true is =
+          timeout-done s t (min a.0 t) over (let before : t < a.0 = ltb-true t a.0 is in omega (arith, before))
+      one_of false is =
+          count-done s a (min a.0 t) at (let before : a.0 ≤ t = ltb-false t a.0 is in omega (arith, before))
+
+pub ball-fired : (d : BallSettings) (now : ℕ) (s : BallState) → IsBallDeviceWithin d
+    → IfSome (due_of s) (λ due. IsDone now due (states.BallDevice s) (states.BallDevice (fire d now s).0))
+ball-fired d now s limits = first-done d now limits s (first_due s) (timeout_of s.eject) refl refl
+
+-- ---- its parts
+
+earlier-none : (x y : Option ℕ) → earlier x y ≡ None → (x ≡ None) × (y ≡ None)
+earlier-none None y is = (refl, is)
+earlier-none (Some a) None is = absurd (none-some a (sym is))
+earlier-none (Some a) (Some b) is = absurd (none-some (min a b) (sym is))
+
+no_moment : (first : Option (ℕ × ℕ)) → option_map (λ a. a.0) first ≡ None → first ≡ None
+no_moment None is = refl
+no_moment (Some a) is = absurd (none-some a.0 (sym is))
+
+none-due : (bs : List BallSwitch) (i : ℕ) (due : Option ℕ) → first_due_from 0 bs ≡ None → (get_or bs i empty).due ≡ due
+    → due ≡ None
+none-due bs i None none is = refl
+none-due bs i (Some t) none is = let c = first_due-is_first 0 bs i t is in absurd (none-some c.0 (sym none ∙ c.1))
+
+pub ball-parts_none : (s : BallState) → due_of s ≡ None → (k : ℕ) → part_due s k ≡ None
+ball-parts_none s is zero = (earlier-none (option_map (λ a. a.0) (first_due s)) (timeout_of s.eject) is).1
+ball-parts_none s is (suc i) =
+    none-due s.switches i (switch_at s i).due
+    (no_moment (first_due s) (earlier-none (option_map (λ a. a.0) (first_due s)) (timeout_of s.eject) is).0) refl
+
+-- a part that is due is the attempt, or is due when the first ball switch is, or later
+abbrev IsPart : Option (ℕ × ℕ) → Option ℕ → ℕ → Type 0
+IsPart first timeout other = (timeout ≡ Some other) ⊎ ((c : ℕ × ℕ) × (first ≡ Some c) × (c.0 ≤ other))
+
+part-is : (s : BallState) (k other : ℕ) → part_due s k ≡ Some other → IsPart (first_due s) (timeout_of s.eject) other
+part-is s zero other is = inl is
+part-is s (suc i) other is = inr (first_due-is_first 0 s.switches i other is)
+
+first-is_least : (first : Option (ℕ × ℕ)) (timeout : Option ℕ)
+    → IfSome (earlier (option_map (λ a. a.0) first) timeout)
+    (λ due. (other : ℕ) → IsPart first timeout other → due ≤ other)
+first-is_least None None = tt
+first-is_least None (Some t) = λ other part. elim part [
+  | inl is ↦ (let same : t ≡ other = same_Some t other is in omega (arith, same))
+  | inr at ↦ absurd (none-some at.0 at.1)
+]
+first-is_least (Some a) None = λ other part. elim part [
+  | inl is ↦ absurd (none-some other is)
+  | inr at ↦ (let same : a.0 ≡ at.0.0 = ap (λ p. p.0) (same_Some a at.0 at.1) in omega (arith, same, at.2))
+]
+first-is_least (Some a) (Some t) = λ other part. elim part [
+  | inl is ↦ (let same : t ≡ other = same_Some t other is in omega (arith, same))
+  | inr at ↦ (let same : a.0 ≡ at.0.0 = ap (λ p. p.0) (same_Some a at.0 at.1) in omega (arith, same, at.2))
+]
+
+pub ball-parts_first : (s : BallState)
+    → IfSome (due_of s) (λ due. (k other : ℕ) → part_due s k ≡ Some other → due ≤ other)
+ball-parts_first s =
+    IfSome_then (due_of s) (first-is_least (first_due s) (timeout_of s.eject))
+    (λ due least k other is. least other (part-is s k other is))
+
+pub ball-parts_few : (s : BallState) (k : ℕ) → length s.switches ≡ 16 → 17 ≤ k → part_due s k ≡ None
+ball-parts_few s zero long past = absurd (omega (arith, past))
+ball-parts_few s (suc i) long past = ap (λ b. b.due) (get_or_past s.switches i empty (omega (arith, long, past)))
+
+-- ---- when its mode has stopped
+
+pub ball-stopped_quiet : (s : BallState) → due_of (halted s) ≡ None
+ball-stopped_quiet s = ap (λ first. earlier (option_map (λ (a : ℕ × ℕ). a.0) first) None) (first_due-none 0 s.switches)

@@ -1,0 +1,48 @@
+-- What other entries say of the shots of a group.
+use Rattle.std.proofs.Common.{◌≡◌, true, false, ◌&&◌, ℕ, ◌+◌, ◌<◌, Bool, List, [], ◌∷◌, length, map, drop, get_or, Option, None, Some, option_map, refl, sym, ap, ◌∙◌}
+use Rattle.std.specs.Prelude.{is_some, not, slice_get}
+use Rattle.std.specs.List.{list_all}
+use Rattle.std.proofs.lemmas.Option.{same_Some}
+use Rattle.section_tables.specs.declared.rows.Name.{Name}
+use Rattle.mpf_sections.specs.Rows.{Written}
+use Rattle.mpf_sections.specs.View.{name_view}
+use Rattle.mpf_config.specs.Rows.{Rows}
+use Rattle.machine_definitions.specs.Shots.{shot_called}
+use Rattle.machine_definitions.proofs.Finding.{next-is}
+use Rattle.plan_rows.specs.Members.{profile_if, first_profile}
+
+-- whether something is found, of what is found
+pub is_some-map : {X Y : Type 0} (f : X → Y) (o : Option X) → is_some (option_map f o) ≡ is_some o
+is_some-map f None = refl
+is_some-map f (Some x) = refl
+
+not-false : (a b : Bool) → a ≡ not b → b ≡ false → a ≡ true
+not-false a b e is = e ∙ ap not is
+
+not-true : (a b : Bool) → a ≡ not b → b ≡ true → a ≡ false
+not-true a b e is = e ∙ ap not is
+
+-- something is found under a name, or nothing is
+module _ {X Y : Type 0} (view : X → Y) (o : Option X) (called : Option Y) (seen : option_map view o ≡ called) (none : Bool) (is : is_some o ≡ not none) where
+  pub known : none ≡ false → is_some called ≡ true
+  known e = ap is_some (sym seen) ∙ is_some-map view o ∙ not-false (is_some o) none is e
+
+  pub missing : none ≡ true → is_some called ≡ false
+  missing e = ap is_some (sym seen) ∙ is_some-map view o ∙ not-true (is_some o) none is e
+
+-- one name, and then the others
+module _ (f : Written → Bool) (names : List Name) (i : ℕ) (d : Name) (within : i < length names) (is : d ≡ get_or names i d) where
+  pub all_next : f (name_view d) ≡ true → list_all f (map name_view (drop (i + 1) names)) ≡ list_all f (map name_view (drop i names))
+  all_next holds = ap (λ b. b && list_all f (map name_view (drop (i + 1) names))) (sym holds) ∙ next-is (λ l. list_all f (map name_view l)) names i d within is
+
+  pub not_all : f (name_view d) ≡ false → false ≡ list_all f (map name_view (drop i names))
+  not_all fails = ap (λ b. b && list_all f (map name_view (drop (i + 1) names))) (sym fails) ∙ next-is (λ l. list_all f (map name_view l)) names i d within is
+
+-- the profile of the first
+pub first_there : (rows : Rows) (names : List Name) (n : Name) → slice_get names 0 ≡ Some n → profile_if rows (shot_called rows (name_view n).text) ≡ first_profile rows (map name_view names)
+first_there rows [] n e = absurd cc
+first_there rows (x ∷ xs) n e = ap (λ (m : Name). profile_if rows (shot_called rows (name_view m).text)) (sym (same_Some x n e))
+
+pub none_there : (rows : Rows) (names : List Name) → slice_get names 0 ≡ None → profile_if rows None ≡ first_profile rows (map name_view names)
+none_there rows [] e = refl
+none_there rows (x ∷ xs) e = absurd cc

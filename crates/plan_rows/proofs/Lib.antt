@@ -1,0 +1,3 @@
+mod SeatParts
+mod Flags
+mod Known

@@ -1,0 +1,28 @@
+use Rattle.std.proofs.Common.{◌+◌, ℕ, drop, Option, ap, ◌∙◌}
+use Rattle.mpf_sections.specs.View.{entry_view, section_view}
+use Rattle.machine_definitions.specs.Found.{is_found}
+use Rattle.plan_rows.specs.Seats.{Seat, rows_after, rows_after_all, entry_seats, seats_from}
+use Rattle.plan_rows.specs.View.{found_seat}
+use Rattle.plan_rows.proofs.SeatParts.{seat_after, entries_of, entry_next, entry_rows_next}
+use Rattle.plan_rows.proofs.seats.add_section.Goals as goal
+
+pub loop-entry-preserved : goal.loop-entry-preserved
+loop-entry-preserved c =
+    let l = c.loop-entry in
+    let place = c.args.place in
+    let grouped = is_found c.args.grouped.now in
+    let section = (section_view c.args.section.now).name in
+    let es = c.entries-entry-items.result.now in
+    let e = c.entry-item.result in
+    let later = entries_of section (drop (l.entry-index + 1) es) in
+    let rows = c.in_ok-rows.ensures ∙ ap (λ s. rows_after place grouped l.rows (s, entry_view e)) c.deref-in-loop-entry.ensures.value in
+    record {
+      seats = λ name.
+          let found = found_seat l.seats name in
+          let here = c.in_ok-add_entry.ensures name ∙ ap (λ s. seat_after name found (entry_seats l.rows (s, entry_view e))) c.deref.ensures.value in
+          ap (λ (o : Option Seat). seat_after name o (seats_from place grouped c.in_ok-rows.rows later)) here
+          ∙ ap (λ (n : ℕ). seat_after name (seat_after name found (entry_seats l.rows (section, entry_view e))) (seats_from place grouped n later)) rows
+          ∙ entry_next place grouped name section found l.rows es l.entry-index e c.loop-entry-test.true c.entry-item.is
+          ∙ l.invariant.seats name;
+      rows = ap (λ (n : ℕ). rows_after_all place grouped n later) rows ∙ entry_rows_next place grouped section l.rows es l.entry-index e c.loop-entry-test.true c.entry-item.is ∙ l.invariant.rows;
+    }

@@ -1,0 +1,13 @@
+use Rattle.std.proofs.Common.{sym, ap, ◌∙◌}
+use Rattle.std.specs.Prelude.{not}
+use Rattle.mpf_sections.specs.View.{entry_view}
+use Rattle.machine_definitions.specs.Found.{is_found}
+use Rattle.machine_definitions.proofs.Finding.{name-found}
+use Rattle.plan_rows.proofs.SeatParts.{shot_has_row}
+use Rattle.plan_rows.proofs.seats.has_row.Goals as goal
+
+pub returns-then-eq : goal.returns-then-eq
+returns-then-eq c =
+    let grouped = c.args.grouped.now in
+    ap not (c.contains.ensures ∙ name-found grouped c.as_slice.result.now ∙ ap (is_found grouped) c.as_slice.ensures.value)
+    ∙ shot_has_row c.args.place (is_found grouped) c.args.section.now (entry_view c.args.entry.now) (sym c.eq.ensures ∙ c.if-eq.true)

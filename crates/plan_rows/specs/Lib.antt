@@ -1,0 +1,4 @@
+pub mod Seats
+pub mod Members
+pub mod Rows
+pub mod View

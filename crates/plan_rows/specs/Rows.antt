@@ -1,0 +1,66 @@
+-- The rows of a configuration, in plan order.
+use Rattle.std.specs.Prelude.{ℕ, Bool, if◌then◌else◌, List, [], ◌∷◌, ◌++◌, map, Option}
+use Rattle.std.specs.List.{flat_map}
+use Rattle.std.specs.Str.{bytes_eq}
+use Rattle.mpf_sections.specs.Rows.{Entry, Player, ModeSettings, Content, entries, players, entry as single, listed, SectionRows}
+use Rattle.mpf_config.specs.Rows.{ModeRows, Rows}
+use Rattle.mpf_sections.specs.Typed.{mode_settings}
+use Rattle.plan_rows.specs.declared.place.Place.{Place}
+use Rattle.plan_rows.specs.declared.place.Place.TheVariants.{Machine, Mode}
+use Rattle.mpf_sections.specs.Rows.{Shot, ShotGroup}
+use Rattle.mpf_sections.specs.TypedShots.{shots_name, shot_groups_name, shot_of, shot_group_of}
+use Rattle.machine_definitions.specs.Shots.{Profile, has_profile, profile_of_name}
+use Rattle.plan_rows.specs.Seats.{Seat, seat_of, rows_after_text}
+use Rattle.plan_rows.specs.Members.{Members, members_of}
+
+-- An entry in the section of this name, or the one that the section is; a shot, with its seat if it has one, whether
+-- its profile is known, and its profile; a group, with what is known of its shots; or an entry of a player, whose
+-- bindings have this place; or a mode by its name, with what its text says of it.
+pub data Row : Type 0 where
+  entry : Place → List ℕ → Entry → Row
+  alone : Place → List ℕ → Entry → Row
+  shot : Place → Shot → Option Seat → Bool → Profile → Row
+  group : Place → ShotGroup → Members → Row
+  player : Place → List ℕ → Player → Row
+  of_mode : List ℕ → ModeSettings → Row
+
+-- Here `seat` says of a name which seat the shot of this name has, if it has one.
+module _ (rows : Rows) (place : Place) (seat : List ℕ → Option Seat) where
+  abbrev pub shot_row : Shot → Row
+  shot_row s = shot place s (seat s.name.text) (has_profile rows s.profile.text) (profile_of_name rows s.profile.text)
+
+  abbrev pub group_row : ShotGroup → Row
+  group_row g = group place g (members_of rows g)
+
+  -- an entry in the section of this name
+  abbrev pub entry_row : List ℕ → Entry → Row
+  entry_row section e =
+      if bytes_eq section shots_name then shot_row (shot_of e)
+      else (if bytes_eq section shot_groups_name then group_row (shot_group_of e) else entry place section e)
+
+  abbrev pub rows_from : List ℕ → Content → List Row
+  rows_from name (entries es) = map (entry_row name) es
+  rows_from name (players ps) = map (player place name) ps
+  rows_from name (single e) = alone place name e ∷ []
+  rows_from name (listed ws) = []
+
+  -- the rows of sections, as written
+  abbrev pub rows_in : List SectionRows → List Row
+  rows_in sections = flat_map (λ s. rows_from s.name s.content) sections
+
+-- the rows of a text, where so many rows of devices come before it
+abbrev pub text_rows : Rows → Place → ℕ → List SectionRows → List Row
+text_rows rows place n sections = rows_in rows place (seat_of place n sections) sections
+
+-- a mode, and then the rows of its text
+abbrev pub mode_rows : Rows → ℕ → ModeRows → List Row
+mode_rows rows n m = of_mode m.name (mode_settings m.sections) ∷ text_rows rows Mode n m.sections
+
+-- these modes, one after the other
+abbrev pub modes_rows : Rows → ℕ → List ModeRows → List Row
+modes_rows rows n [] = []
+modes_rows rows n (m ∷ ms) = mode_rows rows n m ++ modes_rows rows (rows_after_text Mode n m.sections) ms
+
+-- the rows of the machine, and then those of one mode after the other
+abbrev pub rows_of : Rows → List Row
+rows_of rows = text_rows rows Machine 0 rows.machine ++ modes_rows rows (rows_after_text Machine 0 rows.machine) rows.modes

@@ -1,0 +1,210 @@
+//! The rows of a configuration, in plan order.
+
+ghost use Rattle.std.specs.Prelude.{◌≡◌, ◌++◌, map, IfOk, OnOk};
+ghost use Rattle.mpf_sections.specs.TypedShots.{shot_of};
+ghost use Rattle.mpf_sections.specs.View.{section_view, entry_view, player_view};
+ghost use Rattle.mpf_config.specs.View.{mode_view, rows_view};
+ghost use Rattle.plan_rows.specs.Rows.{player, shot_row, entry_row, rows_from, rows_in, text_rows, mode_rows, rows_of};
+ghost use Rattle.plan_rows.specs.Seats.{rows_after_text};
+ghost use Rattle.plan_rows.specs.declared.place.Place.TheVariants.{Mode};
+ghost use Rattle.plan_rows.specs.View.{found_seat, row_view, row_list_view};
+
+use crate::members::{Members, members_of};
+use crate::place::Place;
+use crate::seats::{Seat, Seats, seats_of};
+use machine_definitions::{Definitions, Profile};
+use mpf_config::config::ModeText;
+use mpf_config::{
+    Content, Entry, ModeSettings, Player, SHOT_GROUPS_NAME, SHOTS_NAME, Section, as_shot,
+    as_shot_group, mode_settings,
+};
+use std::alloc::{AllocError, Global};
+
+/// A row of a text.
+#[derive(Clone, Copy)]
+pub enum Row<'d, 'a> {
+    /// An entry in the section of this name, whose bindings have this place.
+    Entry(Place, &'a [u8], &'a Entry),
+    /// The one entry that the section of this name is, in a text of this place.
+    Alone(Place, &'a [u8], &'a Entry),
+    /// A shot, with its seat if it has one, whether its profile is defined, and its profile.
+    Shot(Place, &'a Entry, Option<Seat>, bool, &'d Profile<'a>),
+    /// A group, with what is known of its shots.
+    Group(Place, &'a Entry, Members<'d, 'a>),
+    /// An entry of a player in the section of this name, whose bindings have this place.
+    Player(Place, &'a [u8], &'a Player),
+    /// A mode by its name, with what its text says of it.
+    Mode(&'a [u8], ModeSettings<'a>),
+}
+
+/// The rows of the machine text, and then those of one mode after the other, in the order of the
+/// modes. The rows of a text come as its sections and entries are written; a mode itself comes
+/// before the rows of its text.
+///
+/// # Errors
+///
+/// Memory ran out.
+pub fn rows_of<'d, 'a>(
+    alloc: Global,
+    definitions: &'d Definitions<'a>,
+) -> Result<Vec<Row<'d, 'a>>, AllocError>
+    ensures { IfOk result (λ rows. row_list_view rows.items ≡ rows_of definitions.now) }
+{
+    let config = definitions.config();
+    let modes: &'a [ModeText] = config.modes.as_slice();
+    let mut rows: Vec<Row<'d, 'a>> = Vec::new(alloc);
+    let mut before = add_text(
+        alloc,
+        &mut rows,
+        definitions,
+        Place::Machine,
+        0,
+        &config.machine.sections,
+    )?;
+    for mode in modes {
+        before = add_mode(alloc, &mut rows, definitions, before, mode)?;
+    }
+    Ok(rows)
+}
+
+/// Adds a mode, and then the rows of its text, before which come so many rows of devices. Returns
+/// how many come before the next text.
+fn add_mode<'d, 'a>(
+    alloc: Global,
+    rows: &mut Vec<Row<'d, 'a>>,
+    definitions: &'d Definitions<'a>,
+    before: usize,
+    mode: &'a ModeText,
+) -> Result<usize, AllocError>
+    ensures rows { OnOk result (row_list_view rows.new.items ≡ row_list_view rows.old.items ++ mode_rows definitions.now before (mode_view mode.now)) }
+    ensures after { IfOk result (λ after. after ≡ rows_after_text Mode before (mode_view mode.now).sections) }
+{
+    let sections = mode.sections.as_slice();
+    rows.push(Row::Mode(&mode.name, mode_settings(sections)))?;
+    add_text(alloc, rows, definitions, Place::Mode, before, sections)
+}
+
+/// Adds the rows of a text, before which come so many rows of devices. Returns how many come before
+/// the next text.
+fn add_text<'d, 'a>(
+    alloc: Global,
+    rows: &mut Vec<Row<'d, 'a>>,
+    definitions: &'d Definitions<'a>,
+    place: Place,
+    before: usize,
+    sections: &'a [Section],
+) -> Result<usize, AllocError>
+    ensures rows { OnOk result (row_list_view rows.new.items ≡ row_list_view rows.old.items ++ text_rows definitions.now place before (map section_view sections.now)) }
+    ensures after { IfOk result (λ after. after ≡ rows_after_text place before (map section_view sections.now)) }
+{
+    let (seats, after) = seats_of(alloc, place, before, sections)?;
+    add_sections(rows, definitions, place, &seats, sections)?;
+    Ok(after)
+}
+
+/// Adds the rows of sections, as written.
+fn add_sections<'d, 'a>(
+    rows: &mut Vec<Row<'d, 'a>>,
+    definitions: &'d Definitions<'a>,
+    place: Place,
+    seats: &Seats<'a>,
+    sections: &'a [Section],
+) -> Result<(), AllocError>
+    ensures { OnOk result (row_list_view rows.new.items ≡ row_list_view rows.old.items ++ rows_in definitions.now place (found_seat seats.now) (map section_view sections.now)) }
+{
+    for section in sections {
+        add_rows(rows, definitions, place, seats, section)?;
+    }
+    Ok(())
+}
+
+fn add_rows<'d, 'a>(
+    rows: &mut Vec<Row<'d, 'a>>,
+    definitions: &'d Definitions<'a>,
+    place: Place,
+    seats: &Seats<'a>,
+    section: &'a Section,
+) -> Result<(), AllocError>
+    ensures { OnOk result (row_list_view rows.new.items ≡ row_list_view rows.old.items ++ rows_from definitions.now place (found_seat seats.now) (section_view section.now).name (section_view section.now).content) }
+{
+    match &section.content {
+        Content::Entries(entries) => {
+            add_entries(rows, definitions, place, seats, &section.name, entries)
+        }
+        Content::Players(players) => add_players(rows, place, &section.name, players),
+        Content::Entry(entry) => {
+            rows.push(Row::Alone(place, &section.name, entry))?;
+            Ok(())
+        }
+        Content::Names(_) => Ok(()),
+    }
+}
+
+fn add_entries<'d, 'a>(
+    rows: &mut Vec<Row<'d, 'a>>,
+    definitions: &'d Definitions<'a>,
+    place: Place,
+    seats: &Seats<'a>,
+    section: &'a [u8],
+    entries: &'a [Entry],
+) -> Result<(), AllocError>
+    ensures { OnOk result (row_list_view rows.new.items ≡ row_list_view rows.old.items ++ map (entry_row definitions.now place (found_seat seats.now) section.now) (map entry_view entries.now)) }
+{
+    for entry in entries {
+        rows.push(entry_row(definitions, place, seats, section, entry))?;
+    }
+    Ok(())
+}
+
+fn add_players<'d, 'a>(
+    rows: &mut Vec<Row<'d, 'a>>,
+    place: Place,
+    section: &'a [u8],
+    players: &'a [Player],
+) -> Result<(), AllocError>
+    ensures { OnOk result (row_list_view rows.new.items ≡ row_list_view rows.old.items ++ map (player place section.now) (map player_view players.now)) }
+{
+    for player in players {
+        rows.push(Row::Player(place, section, player))?;
+    }
+    Ok(())
+}
+
+/// The row of an entry in the section of this name.
+fn entry_row<'d, 'a>(
+    definitions: &'d Definitions<'a>,
+    place: Place,
+    seats: &Seats<'a>,
+    section: &'a [u8],
+    entry: &'a Entry,
+) -> Row<'d, 'a>
+    ensures { row_view result ≡ entry_row definitions.now place (found_seat seats.now) section.now (entry_view entry.now) }
+{
+    if section == SHOTS_NAME {
+        return shot_row(definitions, place, seats, entry);
+    }
+    if section == SHOT_GROUPS_NAME {
+        return Row::Group(place, entry, members_of(definitions, as_shot_group(entry)));
+    }
+    Row::Entry(place, section, entry)
+}
+
+/// That of a shot.
+fn shot_row<'d, 'a>(
+    definitions: &'d Definitions<'a>,
+    place: Place,
+    seats: &Seats<'a>,
+    entry: &'a Entry,
+) -> Row<'d, 'a>
+    ensures { row_view result ≡ shot_row definitions.now place (found_seat seats.now) (shot_of (entry_view entry.now)) }
+{
+    let shot = as_shot(entry);
+    let profile = shot.profile.text;
+    Row::Shot(
+        place,
+        entry,
+        seats.get(shot.name.text.as_slice()).copied(),
+        definitions.has_profile(profile),
+        definitions.profile(profile),
+    )
+}
