@@ -45,6 +45,18 @@ MayBook (Leave d target) l = (d.0 < length l.counted) × IsTargetThere (length l
 MayBook (Lose d) l = (d.0 < length l.counted) × (0 < counted_in l d)
 MayBook (Arrive target) l = IsTargetThere (length l.counted) target × (0 < transit_to l target)
 
+-- the same, computed
+abbrev pub is_target_there : ℕ → BallTarget → Bool
+is_target_there rows Playfield = true
+is_target_there rows (Device d) = nat_lt d.0 rows
+
+abbrev pub can_book : LedgerCall → Ledger → Bool
+can_book (Enter d) l = nat_lt d.0 (length l.counted) && nat_lt l.known (2 ^ 32)
+can_book (Leave d target) l =
+    nat_lt d.0 (length l.counted) && (is_target_there (length l.counted) target && nat_lt 0 (counted_in l d))
+can_book (Lose d) l = nat_lt d.0 (length l.counted) && nat_lt 0 (counted_in l d)
+can_book (Arrive target) l = is_target_there (length l.counted) target && nat_lt 0 (transit_to l target)
+
 abbrev pub after_calls : List LedgerCall → Ledger → Ledger
 after_calls [] l = l
 after_calls (c ∷ cs) l = after_calls cs (after_call c l)
