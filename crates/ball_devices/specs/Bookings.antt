@@ -32,11 +32,6 @@ booked (Leave d target) l = Left d target
 booked (Lose d) l = Lost d
 booked (Arrive target) l = Arrived target
 
--- a target of the plan
-abbrev pub IsTargetThere : ℕ → BallTarget → Type 0
-IsTargetThere rows Playfield = Unit {0}
-IsTargetThere rows (Device d) = d.0 < rows
-
 -- the call may come: its device and target are there, a ball that leaves or arrives is there to do so, and fewer than
 -- 2^32 balls are known when one enters
 abbrev pub MayBook : LedgerCall → Ledger → Type 0
@@ -71,12 +66,6 @@ MayBookAll [] l = Unit {0}
 MayBookAll (c ∷ cs) l = MayBook c l × MayBookAll cs (after_call c l)
 
 -- ---- what follows from bookings
-
-abbrev pub is_target : BallTarget → BallTarget → Bool
-is_target Playfield Playfield = true
-is_target Playfield (Device d) = false
-is_target (Device d) Playfield = false
-is_target (Device d) (Device e) = d.0 == e.0
 
 abbrev pub is_new : Origin → Bool
 is_new Awaited = false
