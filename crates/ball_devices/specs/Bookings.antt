@@ -4,6 +4,8 @@ use Rattle.std.specs.List.{count_by}
 use Rattle.plan_tables.specs.declared.devices.RowId.{RowId}
 use Rattle.plan_tables.specs.declared.devices.BallTarget.{BallTarget}
 use Rattle.plan_tables.specs.declared.devices.BallTarget.TheVariants.{Playfield, Device}
+use Rattle.plan_tables.specs.PlanView.{is_target}
+use Rattle.plan_tables.specs.Valid.{IsTargetThere}
 use Rattle.ball_devices.specs.declared.booking.Origin.{Origin}
 use Rattle.ball_devices.specs.declared.booking.Origin.TheVariants.{Awaited, Found, New}
 use Rattle.ball_devices.specs.declared.booking.Booking.{Booking}
