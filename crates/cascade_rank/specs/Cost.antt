@@ -74,54 +74,54 @@ cost_of_drain plan drain = if drain then cost_of_post (game_event plan BallDrain
 
 -- An action of a coil costs its line, whether its command is sent or skipped. One of a variable costs its line and the
 -- post that follows it, whether the variable changes or not. A booking costs its line. A ball that enters a device costs
--- also the post of its event, and the dearer of the two that may follow: that it drains, or that its sender is told,
+-- also the post of its event, and the dearer of the two that may follow: that it drains, or that its sender is confirm_cost,
 -- which costs this.
 abbrev pub cost_of_action_by : PlanView → (RowId → Cost) → Action → Cost
-cost_of_action_by plan told (Post e) = cost_of_post e
-cost_of_action_by plan told (Pulse coil ms power) = Lines 1
-cost_of_action_by plan told (Enable coil power) = Lines 1
-cost_of_action_by plan told (Disable coil) = Lines 1
-cost_of_action_by plan told (Change v action n e) = Both (Lines 1) (cost_of_post e)
-cost_of_action_by plan told (Enter r e drain) = Both (Lines 1) (Both (cost_of_post e) (Greater (cost_of_drain plan drain) (told r)))
-cost_of_action_by plan told (Leave r) = Lines 1
-cost_of_action_by plan told (Lose r) = Lines 1
-cost_of_action_by plan told (Arrive r) = Lines 1
+cost_of_action_by plan confirm_cost (Post e) = cost_of_post e
+cost_of_action_by plan confirm_cost (Pulse coil ms power) = Lines 1
+cost_of_action_by plan confirm_cost (Enable coil power) = Lines 1
+cost_of_action_by plan confirm_cost (Disable coil) = Lines 1
+cost_of_action_by plan confirm_cost (Change v action n e) = Both (Lines 1) (cost_of_post e)
+cost_of_action_by plan confirm_cost (Enter r e drain) = Both (Lines 1) (Both (cost_of_post e) (Greater (cost_of_drain plan drain) (confirm_cost r)))
+cost_of_action_by plan confirm_cost (Leave r) = Lines 1
+cost_of_action_by plan confirm_cost (Lose r) = Lines 1
+cost_of_action_by plan confirm_cost (Arrive r) = Lines 1
 
 -- the actions of an effect list
 abbrev pub cost_of_list_by : PlanView → (RowId → Cost) → ListId → Cost
-cost_of_list_by plan told l = each_of (cost_of_action_by plan told) (actions_at plan l)
+cost_of_list_by plan confirm_cost l = each_of (cost_of_action_by plan confirm_cost) (actions_at plan l)
 
 -- the effect lists of a row that a device answers, one after another
 abbrev pub cost_of_answer_by : PlanView → (RowId → Cost) → RowId → List ℕ → Cost
-cost_of_answer_by plan told r lists = each_of (λ k. cost_of_list_by plan told (list_of_row plan r k)) lists
+cost_of_answer_by plan confirm_cost r lists = each_of (λ k. cost_of_list_by plan confirm_cost (list_of_row plan r k)) lists
 
 -- a call of a device costs the dearest of what it can answer, whatever the device's state
 abbrev pub cost_of_call_by : PlanView → (RowId → Cost) → RowId → Call → Cost
-cost_of_call_by plan told r call = dearest_of (cost_of_answer_by plan told r) (outcomes (row_at plan r).settings call)
+cost_of_call_by plan confirm_cost r call = dearest_of (cost_of_answer_by plan confirm_cost r) (outcomes (row_at plan r).settings call)
 
--- what a device does that is told of an arrival tells nobody else
-abbrev pub nobody_told : RowId → Cost
-nobody_told r = Lines 0
+-- what a device does that is confirm_cost of an arrival tells nobody else
+abbrev pub no_confirm_cost : RowId → Cost
+no_confirm_cost r = Lines 0
 
--- a ball has arrived at the target: the dearest of the devices that may be told
+-- a ball has arrived at the target: the dearest of the devices that may be confirm_cost
 abbrev pub cost_of_arrival : PlanView → BallTarget → Cost
-cost_of_arrival plan target = dearest_of (λ r. cost_of_call_by plan nobody_told r (calls.Act Confirm)) (feeders_of plan target)
+cost_of_arrival plan target = dearest_of (λ r. cost_of_call_by plan no_confirm_cost r (calls.Act Confirm)) (feeders_of plan target)
 
 -- at a device
-abbrev pub sender_told : PlanView → RowId → Cost
-sender_told plan r = cost_of_arrival plan (Device r)
+abbrev pub entry_confirm_cost : PlanView → RowId → Cost
+entry_confirm_cost plan r = cost_of_arrival plan (Device r)
 
 abbrev pub cost_of_action : PlanView → Action → Cost
-cost_of_action plan a = cost_of_action_by plan (sender_told plan) a
+cost_of_action plan a = cost_of_action_by plan (entry_confirm_cost plan) a
 
 abbrev pub cost_of_list : PlanView → ListId → Cost
-cost_of_list plan l = cost_of_list_by plan (sender_told plan) l
+cost_of_list plan l = cost_of_list_by plan (entry_confirm_cost plan) l
 
 abbrev pub cost_of_answer : PlanView → RowId → List ℕ → Cost
-cost_of_answer plan r lists = cost_of_answer_by plan (sender_told plan) r lists
+cost_of_answer plan r lists = cost_of_answer_by plan (entry_confirm_cost plan) r lists
 
 abbrev pub cost_of_call : PlanView → RowId → Call → Cost
-cost_of_call plan r call = cost_of_call_by plan (sender_told plan) r call
+cost_of_call plan r call = cost_of_call_by plan (entry_confirm_cost plan) r call
 
 abbrev pub cost_of_target : PlanView → Target → Cost
 cost_of_target plan (Run l) = cost_of_list plan l
@@ -172,7 +172,7 @@ cost_of_releases plan (Game which) = Lines 0
 abbrev pub cost_of_choice : PlanView → List GameEvent → Cost
 cost_of_choice plan posts = each_of (λ which. cost_of_post (game_event plan which)) posts
 
--- a line for each player there can be, where all scores are told
+-- a line for each player there can be, where all scores are confirm_cost
 abbrev pub cost_of_scores : PlanView → GameEvent → Cost
 cost_of_scores plan which = Lines (if tells_scores which then most_players plan.game else 0)
 
@@ -206,9 +206,9 @@ abbrev pub cost_of_listener : PlanView → Bool → Listener → Cost
 cost_of_listener plan active l = cost_of_call plan l.row (calls.Act (act_of_listener active l))
 
 -- a ball that presses the switch may have arrived on the playfield
-abbrev pub cost_of_pressing : PlanView → SwitchId → Bool → Cost
-cost_of_pressing plan switch active =
-    if active && (switch_at plan switch).on_playfield then cost_of_arrival plan Playfield else Lines 0
+abbrev pub cost_of_playfield_switch : PlanView → SwitchId → Bool → Cost
+cost_of_playfield_switch plan switch active =
+    if active && (switch_at plan switch).confirms_playfield then cost_of_arrival plan Playfield else Lines 0
 
 -- To accept a switch as active or inactive costs its line, the acts of the devices that listen to it, that a ball arrives
 -- on the playfield, and its posts.
@@ -216,7 +216,7 @@ abbrev pub cost_of_acceptance : PlanView → SwitchId → Bool → Cost
 cost_of_acceptance plan switch active =
     Both (Lines 1)
     (Both (each_of (cost_of_listener plan active) (listeners_of plan switch))
-    (Both (cost_of_pressing plan switch active) (each_of cost_of_post (posts_of plan switch active))))
+    (Both (cost_of_playfield_switch plan switch active) (each_of cost_of_post (posts_of plan switch active))))
 
 -- the dearer of the two
 abbrev pub cost_of_switch : PlanView → SwitchId → Cost

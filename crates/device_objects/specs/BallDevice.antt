@@ -115,11 +115,11 @@ is_idle Idle = true
 is_idle (Pulsing a) = false
 is_idle (Away a) = false
 
--- whether a ball that it has ejected is on its way
-abbrev pub is_on_way : Eject → Bool
-is_on_way Idle = false
-is_on_way (Pulsing a) = false
-is_on_way (Away a) = true
+-- whether the ball that it ejects has left, and has not arrived yet
+abbrev pub is_away : Eject → Bool
+is_away Idle = false
+is_away (Pulsing a) = false
+is_away (Away a) = true
 
 -- whether it can begin to eject a ball: it ejects none, has one, and has a coil; a trough has also been asked for one
 abbrev pub can_begin : BallSettings → BallState → Bool

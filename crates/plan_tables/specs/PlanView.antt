@@ -47,7 +47,7 @@ pub record PlanSwitch : Type 0 where
   pub name : List ℕ
   pub kind : SwitchKind
   pub listeners : List Listener
-  pub on_playfield : Bool
+  pub confirms_playfield : Bool
   pub active : List EventId
   pub inactive : List EventId
 
@@ -57,7 +57,7 @@ switch_posts active s = if active then s.active else s.inactive
 
 -- in place of a switch where there is none
 abbrev pub no_switch : PlanSwitch
-no_switch = record { name = []; kind = record { contact = NormallyOpen; quick = false }; listeners = []; on_playfield = false; active = []; inactive = [] }
+no_switch = record { name = []; kind = record { contact = NormallyOpen; quick = false }; listeners = []; confirms_playfield = false; active = []; inactive = [] }
 
 -- what a device is told when the switch to which it listens becomes active, or inactive
 abbrev pub act_of_listener : Bool → Listener → Act

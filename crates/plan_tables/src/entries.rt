@@ -257,8 +257,9 @@ pub enum Action {
         number: i64,
         event: EventId,
     },
-    /// A ball enters the ball device, and the event goes to the end of the queue. If it was on its way
-    /// there, the device that ejected it is told so. If not, and `drain` holds, the ball has drained.
+    /// A ball enters the ball device, and the event goes to the end of the queue. If the ball was on its
+    /// way there, the device that ejected it is told so. If it was not, `drain` holds and the game is in
+    /// phase Ball, `ball_drain` is posted.
     Enter {
         device: RowId,
         event: EventId,
@@ -268,7 +269,7 @@ pub enum Action {
     Leave {
         device: RowId,
     },
-    /// A ball leaves the ball device that it does not eject: it is on the playfield.
+    /// A ball leaves the ball device without being ejected, and is on the playfield.
     Lose {
         device: RowId,
     },
@@ -339,8 +340,8 @@ pub struct SwitchEntry {
     pub kind: SwitchKind,
     /// The devices that listen to it, in the order of their rows.
     pub listeners: Vec<Listener>,
-    /// Whether a ball that presses it is on the playfield: it is tagged `playfield_active`.
-    pub on_playfield: bool,
+    /// Whether a ball that presses it has arrived on the playfield: it is tagged `playfield_active`.
+    pub confirms_playfield: bool,
     /// What it posts, in order, when it becomes active.
     pub active: Vec<EventId>,
     /// What it posts, in order, when it becomes inactive.

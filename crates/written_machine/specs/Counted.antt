@@ -22,6 +22,20 @@ booked_at _ = []
 abbrev pub bookings : List Line → List Booking
 bookings trace = flat_map (λ l. booked_at l.happening) trace
 
+-- Wherever a ball has entered a device in a trace, it came from where the bookings before it say.
+abbrev pub AreOriginsRight : List Line → Type 0
+AreOriginsRight trace =
+    (before : List Line) (line : Line) (after : List Line) (r : RowId) (origin : Origin) (counts : BallCounts)
+    → trace ≡ before ++ line ∷ after → line.happening ≡ lines.Balls (Entered r origin) counts → origin ≡ origin_after (bookings before) r
+
+-- Wherever a line tells of all balls, its counts are those of the bookings up to it.
+abbrev pub AreCountsRight : PlanView → List Line → Type 0
+AreCountsRight plan trace =
+    (before : List Line) (line : Line) (after : List Line) (booking : Booking) (counts : BallCounts)
+    → trace ≡ before ++ line ∷ after → line.happening ≡ lines.Balls booking counts
+    → (l : Ledger) → length l.counted ≡ length plan.rows → length l.to_devices ≡ length plan.rows
+    → HasBooked (bookings before ++ booking ∷ []) l → counts ≡ counts_of l
+
 -- ---- ball switches
 
 -- that a switch was accepted as active or inactive, and when

@@ -69,11 +69,15 @@ pub record IsBounded (c : CheckedView) : Type 0 where
 
 -- In every run of the plan the ledger says where the known balls are.
 pub record AreBallsKnown (c : CheckedView) : Type 0 where
-  -- Each of its numbers follows from what it has booked, and each known ball is in a device, on its way, or on the
-  -- playfield.
+  -- Each of its numbers follows from what it has booked, and where each ball came from that entered a device follows from
+  -- what was booked before. Each known ball is in a device, on its way, or on the playfield.
   pub booked : InEveryRun c.plan (λ stimuli trace s. HasBooked (bookings trace) s.ledger)
+  pub rows : InEveryRun c.plan (λ stimuli trace s. length s.ledger.counted ≡ length c.plan.rows)
+  pub origins : InEveryRun c.plan (λ stimuli trace s. AreOriginsRight trace)
   pub somewhere : InEveryRun c.plan (λ stimuli trace s. IsBalanced s.ledger)
-  -- As many are on their way to a target as there are devices from which one is on its way there.
+  -- What a line says of all balls is what the ledger says when it has booked what the line tells.
+  pub told : InEveryRun c.plan (λ stimuli trace s. AreCountsRight c.plan trace)
+  -- As many balls are in transit to a target as devices are Away to it.
   pub away : InEveryRun c.plan (λ stimuli trace s.
       (target : BallTarget) → IsTargetThere (length c.plan.rows) target →
       transit_to s.ledger target ≡ count_by (λ r. is_away (device_at s r)) (feeders_of c.plan target))

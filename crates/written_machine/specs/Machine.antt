@@ -32,7 +32,7 @@ use Rattle.device_objects.specs.declared.device.Call.TheVariants as calls
 use Rattle.device_objects.specs.declared.state.DeviceState.{DeviceState}
 use Rattle.device_objects.specs.declared.state.World.{World}
 use Rattle.device_objects.specs.declared.state.DeviceState.TheVariants as states
-use Rattle.device_objects.specs.BallDevice.{is_on_way}
+use Rattle.device_objects.specs.BallDevice.{is_away}
 use Rattle.device_objects.specs.DeviceStep.{device_step, first_state}
 use Rattle.ball_devices.specs.declared.booking.Origin.{Origin}
 use Rattle.ball_devices.specs.declared.booking.Origin.TheVariants.{Awaited, Found, New}
@@ -202,19 +202,19 @@ change_variable plan owner v action n e s =
 abbrev pub counts_of : Ledger → BallCounts
 counts_of l = record { known = l.known; counted = all_counted l; transit = all_in_transit l; playfield = l.playfield }
 
--- The ledger books something, and there is a line. What it cannot book it does not: no run of an accepted plan asks for
--- that.
+-- The ledger books something, and there is a line. Where the ledger may not book it, nothing happens; in runs of accepted
+-- plans it always may.
 abbrev pub book : Owner → LedgerCall → Machine → Machine
 book owner call s =
     if can_book call s.ledger
     then write owner (lines.Balls (booked call s.ledger) (counts_of (after_call call s.ledger))) (set_ledger (after_call call s.ledger) s)
     else s
 
--- an event of the game is posted, where a ball is in play and this holds
+-- `ball_drain` is posted where `drain` holds and the game is in phase Ball
 abbrev pub drain_if : PlanView → Owner → Bool → Machine → Machine
 drain_if plan owner drain s = if drain && is_ball_on s.game.phase then post owner (game_event plan BallDrain) s else s
 
--- a ball that has entered a device, and where it came from: who has sent it is told, or else it may have drained
+-- After a ball has entered a device: where it was on its way there, that is confirmed; else it may have drained.
 abbrev pub after_entry : PlanView → (RowId → Machine → Machine) → Owner → RowId → Bool → Origin → Machine → Machine
 after_entry plan confirm owner r drain Awaited s = confirm r s
 after_entry plan confirm owner r drain Found s = drain_if plan owner drain s
@@ -227,7 +227,7 @@ enter_ball plan confirm owner r e drain s =
 
 -- ---- effect lists
 
--- An action, where `confirm` tells the sender of a ball that it has entered the device of a row.
+-- An action, where `confirm` tells the device that has ejected a ball that it has entered the device of a row.
 abbrev pub do_action_by : PlanView → (RowId → Machine → Machine) → Owner → Action → Machine → Machine
 do_action_by plan confirm owner (Post e) s = post owner e s
 do_action_by plan confirm owner (Pulse coil ms power) s = ask_coil owner (commands.Pulse coil ms power) s
@@ -270,43 +270,43 @@ call_device_by plan confirm call r s = do_answer_by plan confirm r (called plan 
 
 -- ---- balls that have arrived
 
--- whether a ball is on its way from a device
-abbrev pub is_away : DeviceState → Bool
-is_away (states.BallDevice s) = is_on_way s.eject
-is_away _ = false
+-- whether a device is Away: the ball that it has ejected is on its way
+abbrev pub is_device_away : DeviceState → Bool
+is_device_away (states.BallDevice s) = is_away s.eject
+is_device_away _ = false
 
--- the first device from which a ball is on its way to the target
+-- the first device that is Away to the target
 abbrev pub first_away : PlanView → BallTarget → Machine → Option RowId
-first_away plan target s = find (λ r. is_away (device_at s r)) (feeders_of plan target)
+first_away plan target s = find (λ r. is_device_away (device_at s r)) (feeders_of plan target)
 
--- nobody is told: what a device does that is told of an arrival tells nobody else
-abbrev pub tell_nobody : RowId → Machine → Machine
-tell_nobody r s = s
+-- nobody is told: the lists of a device that is told of an arrival confirm nothing
+abbrev pub no_confirm : RowId → Machine → Machine
+no_confirm r s = s
 
--- a device is told that the ball that it has ejected has arrived
-abbrev pub tell_arrival : PlanView → Option RowId → Machine → Machine
-tell_arrival plan None s = s
-tell_arrival plan (Some r) s = call_device_by plan tell_nobody (calls.Act Confirm) r s
+-- a device is told that its ball has arrived
+abbrev pub confirm_of : PlanView → Option RowId → Machine → Machine
+confirm_of plan None s = s
+confirm_of plan (Some r) s = call_device_by plan no_confirm (calls.Act Confirm) r s
 
--- so is the first from which a ball is on its way to the target
-abbrev pub tell_first : PlanView → BallTarget → Machine → Machine
-tell_first plan target s = tell_arrival plan (first_away plan target s) s
+-- The first device Away to the target is told that its ball has arrived. If there is none, nothing happens.
+abbrev pub confirm_first_away : PlanView → BallTarget → Machine → Machine
+confirm_first_away plan target s = confirm_of plan (first_away plan target s) s
 
--- one from which a ball was on its way to a device
-abbrev pub tell_sender : PlanView → RowId → Machine → Machine
-tell_sender plan r s = tell_first plan (Device r) s
+-- A ball has entered this device: the first device Away to it is told.
+abbrev pub confirm_entry : PlanView → RowId → Machine → Machine
+confirm_entry plan r s = confirm_first_away plan (Device r) s
 
 abbrev pub do_action : PlanView → Owner → Action → Machine → Machine
-do_action plan owner a s = do_action_by plan (tell_sender plan) owner a s
+do_action plan owner a s = do_action_by plan (confirm_entry plan) owner a s
 
 abbrev pub do_list : PlanView → Owner → ListId → Machine → Machine
-do_list plan owner l s = do_list_by plan (tell_sender plan) owner l s
+do_list plan owner l s = do_list_by plan (confirm_entry plan) owner l s
 
 abbrev pub do_answer : PlanView → RowId → List ℕ → Machine → Machine
-do_answer plan r lists s = do_answer_by plan (tell_sender plan) r lists s
+do_answer plan r lists s = do_answer_by plan (confirm_entry plan) r lists s
 
 abbrev pub call_device : PlanView → Call → RowId → Machine → Machine
-call_device plan call r s = call_device_by plan (tell_sender plan) call r s
+call_device plan call r s = call_device_by plan (confirm_entry plan) call r s
 
 -- all devices of a mode are called, in the order of their rows
 abbrev pub call_devices : PlanView → Call → ModeId → Machine → Machine
@@ -352,7 +352,7 @@ abbrev pub ask_trough : PlanView → Option RowId → Machine → Machine
 ask_trough plan None s = s
 ask_trough plan (Some r) s = call_device plan (calls.Act (Request 1)) r s
 
--- so is the first trough, where this holds
+-- Where `asks` holds, the first trough is asked for one ball more.
 abbrev pub ask_ball : PlanView → Bool → Machine → Machine
 ask_ball plan asks s = if asks then ask_trough plan (first_trough plan) s else s
 
@@ -375,16 +375,16 @@ tell_listener plan active l s = call_device plan (calls.Act (act_of_listener act
 abbrev pub tell_listeners : PlanView → Acceptance → Machine → Machine
 tell_listeners plan a s = all_do (tell_listener plan a.active) (listeners_of plan a.switch) s
 
--- a ball that presses a switch is on the playfield: where the switch says so, one that was on its way there has arrived
-abbrev pub tell_playfield : PlanView → Acceptance → Machine → Machine
-tell_playfield plan a s = if a.active && (switch_at plan a.switch).on_playfield then tell_first plan Playfield s else s
+-- A ball that presses a switch tagged `playfield_active` is on the playfield: the first device Away to it is told.
+abbrev pub confirm_on_playfield : PlanView → Acceptance → Machine → Machine
+confirm_on_playfield plan a s = if a.active && (switch_at plan a.switch).confirms_playfield then confirm_first_away plan Playfield s else s
 
 -- A switch was accepted as active or inactive: its line is written, the devices that listen to it are told, and then its
 -- events are posted. Before these a ball may have arrived on the playfield.
 abbrev pub do_accepted : PlanView → Acceptance → Machine → Machine
 do_accepted plan a s =
     all_do (post owners.Machine) (posts_of plan a.switch a.active)
-    (tell_playfield plan a (tell_listeners plan a (write owners.Machine (lines.Switch a.switch a.active) s)))
+    (confirm_on_playfield plan a (tell_listeners plan a (write owners.Machine (lines.Switch a.switch a.active) s)))
 
 abbrev pub do_if_accepted : PlanView → Option Acceptance → Machine → Machine
 do_if_accepted plan None s = s
