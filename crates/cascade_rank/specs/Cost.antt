@@ -74,8 +74,8 @@ cost_of_drain plan drain = if drain then cost_of_post (game_event plan BallDrain
 
 -- An action of a coil costs its line, whether its command is sent or skipped. One of a variable costs its line and the
 -- post that follows it, whether the variable changes or not. A booking costs its line. A ball that enters a device costs
--- also the post of its event, and the dearer of the two that may follow: that it drains, or that its sender is confirm_cost,
--- which costs this.
+-- also the post of its event, and the dearer of the two that may follow: that it drains, or that the device that
+-- ejected it is told, at the cost that `confirm_cost` gives.
 abbrev pub cost_of_action_by : PlanView → (RowId → Cost) → Action → Cost
 cost_of_action_by plan confirm_cost (Post e) = cost_of_post e
 cost_of_action_by plan confirm_cost (Pulse coil ms power) = Lines 1
@@ -99,11 +99,11 @@ cost_of_answer_by plan confirm_cost r lists = each_of (λ k. cost_of_list_by pla
 abbrev pub cost_of_call_by : PlanView → (RowId → Cost) → RowId → Call → Cost
 cost_of_call_by plan confirm_cost r call = dearest_of (cost_of_answer_by plan confirm_cost r) (outcomes (row_at plan r).settings call)
 
--- what a device does that is confirm_cost of an arrival tells nobody else
+-- the lists of a device that is told of an arrival confirm nothing
 abbrev pub no_confirm_cost : RowId → Cost
 no_confirm_cost r = Lines 0
 
--- a ball has arrived at the target: the dearest of the devices that may be confirm_cost
+-- a ball has arrived at the target: the dearest of the devices that may be told
 abbrev pub cost_of_arrival : PlanView → BallTarget → Cost
 cost_of_arrival plan target = dearest_of (λ r. cost_of_call_by plan no_confirm_cost r (calls.Act Confirm)) (feeders_of plan target)
 
@@ -172,7 +172,7 @@ cost_of_releases plan (Game which) = Lines 0
 abbrev pub cost_of_choice : PlanView → List GameEvent → Cost
 cost_of_choice plan posts = each_of (λ which. cost_of_post (game_event plan which)) posts
 
--- a line for each player there can be, where all scores are confirm_cost
+-- a line for each player there can be, where all scores are told
 abbrev pub cost_of_scores : PlanView → GameEvent → Cost
 cost_of_scores plan which = Lines (if tells_scores which then most_players plan.game else 0)
 
