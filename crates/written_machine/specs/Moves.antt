@@ -182,11 +182,11 @@ ordinary plan by switches = record { by = by; posts = IsFreeThere plan; switches
 abbrev pub MayHandle : PlanView → Machine → Move → Type 0
 MayHandle plan s = MayDo plan (ordinary plan (TakesPart s) ⊥)
 
--- who speaks at the beginning of a stimulus: at the alarm of a device the device's owner, else the machine
+-- who speaks at the beginning of a stimulus: the machine, and at the alarm of a device its owner too
 abbrev pub Begins : PlanView → Stimulus → Owner → Type 0
 Begins plan (Change at n level) owner = IsMachine owner
 Begins plan (Alarm at (switch n)) owner = IsMachine owner
-Begins plan (Alarm at (device r)) owner = owner ≡ (row_at plan r).owner
+Begins plan (Alarm at (device r)) owner = (owner ≡ (row_at plan r).owner) ⊎ IsMachine owner
 Begins plan (Wait at) owner = IsMachine owner
 
 -- what a stimulus may do
