@@ -9,8 +9,8 @@ use crate::switches::{Due, due_of, first_due, switch_to, timeout_of, turned};
 use device_objects::{BallState, BallSwitch, Device, DeviceState, Eject, Outcome, World};
 use plan_tables::{Act, BallSettings, DeviceRow, Settings};
 
-/// A ball device, such as a trough or a plunger. Balls lie in it, one at each ball switch that counts,
-/// and it ejects them one at a time.
+/// A ball device, such as a trough or a plunger. A ball lies at each ball switch that is counted. The
+/// device ejects one ball at a time.
 #[derive(Drop)]
 pub struct BallDevice {
     row: DeviceRow,
@@ -79,7 +79,7 @@ impl Device for BallDevice {
     }
 }
 
-/// The state at first: no ball counts, nothing is due, and nothing is ejected.
+/// The state at first: no ball is counted, nothing is due, and nothing is ejected.
 fn first_state() -> BallState
     ensures { result ≡ first_balls }
 {
@@ -112,7 +112,7 @@ fn halt(state: &mut BallState)
     state.wanted = 0;
 }
 
-/// What a ball switch is counts from now on: a ball has entered, or is gone.
+/// The level of a ball switch is counted from now on: a ball has entered, or is gone.
 fn count(settings: &BallSettings, state: &mut BallState, number: usize, now: u64) -> Outcome
     requires number { number < 16 }
     requires moment { now < 2 ^ 40 }

@@ -2,7 +2,7 @@
 
 use plan_tables::{BallTarget, RowId};
 
-/// Where a ball comes from that enters a device.
+/// Where a ball that enters a device comes from.
 #[derive(Clone, Copy, Debug)]
 pub enum Origin {
     /// It was on its way to the device.

@@ -114,7 +114,7 @@ fn end(state: &mut BallState)
     state.wanted = state.wanted.saturating_sub(1);
 }
 
-/// The lists of a ball that should have arrived by now.
+/// The lists of a ball that did not arrive in time.
 fn overdue(target: BallTarget) -> Outcome
     ensures lists { result.items ≡ overdue target }
     ensures count { array_vec_len result ≤ 2 }
@@ -125,7 +125,7 @@ fn overdue(target: BallTarget) -> Outcome
     }
 }
 
-/// The lists of a ball that has arrived.
+/// The lists of a ball that is where it should be: in the target device, or on the playfield.
 fn confirmed(target: BallTarget) -> Outcome
     ensures lists { result.items ≡ confirmed target }
     ensures count { array_vec_len result ≤ 2 }
@@ -167,7 +167,7 @@ pub(crate) fn confirm(settings: &BallSettings, state: &mut BallState, now: u64) 
     }
 }
 
-/// A ball counts no more: the one that is ejected has left, or one is lost.
+/// A ball is counted no more: the one that is ejected has left, or one is lost.
 pub(crate) fn gone(settings: &BallSettings, state: &mut BallState, now: u64) -> Outcome
     requires { now < 2 ^ 40 }
     ensures state { state.new ≡ (gone settings.now now state.old.eject state.old).0 }
@@ -187,7 +187,7 @@ pub(crate) fn gone(settings: &BallSettings, state: &mut BallState, now: u64) -> 
     }
 }
 
-/// A trough is to eject so many balls more.
+/// A trough is to eject this many more balls. A request that would make more than 255 is ignored.
 pub(crate) fn request(
     settings: &BallSettings,
     state: &mut BallState,

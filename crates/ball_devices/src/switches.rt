@@ -9,14 +9,14 @@ use plan_tables::BallSettings;
 /// A moment, and the number of a ball switch that is due then.
 pub(crate) type Due = (u64, usize);
 
-/// Whether a ball counts in the device.
+/// Whether a ball lies in the device.
 pub(crate) fn has_ball(state: &BallState) -> bool
     ensures { result ≡ has_ball state.now }
 {
     state.switches.iter().any(|switch| switch.counted)
 }
 
-/// Of two moments the first; of equal ones the first again.
+/// The earlier of two moments, each with the number of its ball switch; of equal ones the first argument.
 fn sooner(a: Option<Due>, b: Option<Due>) -> Option<Due>
     ensures { result ≡ sooner a b }
 {
@@ -136,7 +136,7 @@ pub(crate) fn switch_to(
     }
 }
 
-/// For a ball switch the opposite counts from now on.
+/// The opposite is counted at a ball switch from now on.
 pub(crate) fn turned(switch: BallSwitch) -> BallSwitch
     ensures { result ≡ turned switch }
 {
