@@ -11,7 +11,8 @@ use Rattle.plan_tables.specs.PlanView.{PlanView}
 use Rattle.ball_devices.specs.declared.booking.Origin.{Origin}
 use Rattle.ball_devices.specs.declared.booking.Origin.TheVariants.{Awaited, Found, New}
 use Rattle.ball_devices.specs.Ledger.{Ledger, no_balls, counted_in, transit_to, total, set_counted, origin_of, taken, entered, left, lost, arrived, IsLedger}
-use Rattle.ball_devices.specs.Bookings.{LedgerCall, Enter, Leave, Lose, Arrive, after_call, IsTargetThere, MayBook, after_calls, MayBookAll}
+use Rattle.ball_devices.specs.Bookings.{LedgerCall, Enter, Leave, Lose, Arrive, after_call, MayBook, after_calls, MayBookAll}
+use Rattle.plan_tables.specs.Valid.{IsTargetThere}
 
 -- ---- totals
 

@@ -4,6 +4,8 @@ use Rattle.std.specs.List.{count_by}
 use Rattle.plan_tables.specs.declared.devices.RowId.{RowId}
 use Rattle.plan_tables.specs.declared.devices.BallTarget.{BallTarget}
 use Rattle.plan_tables.specs.declared.devices.BallTarget.TheVariants.{Playfield, Device}
+use Rattle.plan_tables.specs.PlanView.{is_target}
+use Rattle.plan_tables.specs.Valid.{IsTargetThere}
 use Rattle.ball_devices.specs.declared.booking.Origin.{Origin}
 use Rattle.ball_devices.specs.declared.booking.Origin.TheVariants.{Awaited, Found, New}
 use Rattle.ball_devices.specs.declared.booking.Booking.{Booking}
@@ -32,11 +34,6 @@ booked (Leave d target) l = Left d target
 booked (Lose d) l = Lost d
 booked (Arrive target) l = Arrived target
 
--- a target of the plan
-abbrev pub IsTargetThere : ℕ → BallTarget → Type 0
-IsTargetThere rows Playfield = Unit {0}
-IsTargetThere rows (Device d) = d.0 < rows
-
 -- the call may come: its device and target are there, a ball that leaves or arrives is there to do so, and fewer than
 -- 2^32 balls are known when one enters
 abbrev pub MayBook : LedgerCall → Ledger → Type 0
@@ -44,6 +41,18 @@ MayBook (Enter d) l = (d.0 < length l.counted) × (l.known < 2 ^ 32)
 MayBook (Leave d target) l = (d.0 < length l.counted) × IsTargetThere (length l.counted) target × (0 < counted_in l d)
 MayBook (Lose d) l = (d.0 < length l.counted) × (0 < counted_in l d)
 MayBook (Arrive target) l = IsTargetThere (length l.counted) target × (0 < transit_to l target)
+
+-- the same, computed
+abbrev pub is_target_there : ℕ → BallTarget → Bool
+is_target_there rows Playfield = true
+is_target_there rows (Device d) = nat_lt d.0 rows
+
+abbrev pub can_book : LedgerCall → Ledger → Bool
+can_book (Enter d) l = nat_lt d.0 (length l.counted) && nat_lt l.known (2 ^ 32)
+can_book (Leave d target) l =
+    nat_lt d.0 (length l.counted) && (is_target_there (length l.counted) target && nat_lt 0 (counted_in l d))
+can_book (Lose d) l = nat_lt d.0 (length l.counted) && nat_lt 0 (counted_in l d)
+can_book (Arrive target) l = is_target_there (length l.counted) target && nat_lt 0 (transit_to l target)
 
 abbrev pub after_calls : List LedgerCall → Ledger → Ledger
 after_calls [] l = l
@@ -59,12 +68,6 @@ MayBookAll [] l = Unit {0}
 MayBookAll (c ∷ cs) l = MayBook c l × MayBookAll cs (after_call c l)
 
 -- ---- what follows from bookings
-
-abbrev pub is_target : BallTarget → BallTarget → Bool
-is_target Playfield Playfield = true
-is_target Playfield (Device d) = false
-is_target (Device d) Playfield = false
-is_target (Device d) (Device e) = d.0 == e.0
 
 abbrev pub is_new : Origin → Bool
 is_new Awaited = false

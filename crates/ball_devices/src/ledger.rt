@@ -37,7 +37,7 @@ impl Model for BallLedger {
 impl BallLedger {
     ghost use Rattle.std.specs.Prelude.{◌≡◌, ◌<◌, ◌^◌, length, IfOk};
     ghost use Rattle.ball_devices.specs.Ledger.{IsLedger, no_balls, counted_in, transit_to, all_counted, all_in_transit, origin_of, entered, left, lost, arrived};
-    ghost use Rattle.ball_devices.specs.Bookings.{IsTargetThere};
+    ghost use Rattle.plan_tables.specs.Valid.{IsTargetThere};
 
     /// The ledger of a plan's devices. No ball is known. Only this call takes memory.
     ///

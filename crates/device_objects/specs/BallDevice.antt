@@ -115,6 +115,12 @@ is_idle Idle = true
 is_idle (Pulsing a) = false
 is_idle (Away a) = false
 
+-- whether the ball that it ejects has left, and has not arrived yet
+abbrev pub is_away : Eject → Bool
+is_away Idle = false
+is_away (Pulsing a) = false
+is_away (Away a) = true
+
 -- whether it can begin to eject a ball: it ejects none, has one, and has a coil; a trough has also been asked for one
 abbrev pub can_begin : BallSettings → BallState → Bool
 can_begin d s = is_idle s.eject && (has_ball s && (d.has_coil && (not d.trough || nat_lt 0 s.wanted)))

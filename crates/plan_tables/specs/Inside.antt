@@ -31,6 +31,7 @@ switch_entry_view e = record {
   name = e.0;
   kind = e.1.kind;
   listeners = e.1.listeners.items;
+  confirms_playfield = e.1.confirms_playfield;
   active = e.1.active.items;
   inactive = e.1.inactive.items;
 }

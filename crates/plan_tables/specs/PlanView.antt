@@ -1,5 +1,6 @@
 -- A plan, apart from where it lies in memory.
-use Rattle.std.specs.Prelude.{ℕ, suc, ◌+◌, ◌==◌, List, [], ◌∷◌, ◌++◌, Bool, true, false, Option, Some, None, if◌then◌else◌, length, map, filter, slice_get, slice_index_or, position, option_map}
+use Rattle.std.specs.Prelude.{ℕ, suc, ◌+◌, ◌==◌, List, [], ◌∷◌, ◌++◌, Bool, true, false, Option, Some, None, if◌then◌else◌, length, map, filter, find, slice_get, slice_index_or, position, option_map, unwrap_or}
+use Rattle.std.specs.Option.{option_map_or}
 use Rattle.std.specs.List.{range_with_len, flat_map, list_any}
 use Rattle.std.specs.Str.{bytes_eq}
 use Rattle.plan_tables.specs.declared.entries.Contact.TheVariants.{NormallyOpen}
@@ -35,13 +36,18 @@ use Rattle.plan_tables.specs.declared.devices.RowId.{RowId}
 use Rattle.plan_tables.specs.declared.devices.Act.{Act}
 use Rattle.plan_tables.specs.declared.devices.Act.TheVariants.{SwitchOn, SwitchOff}
 use Rattle.plan_tables.specs.declared.devices.DeviceRow.{DeviceRow}
-use Rattle.plan_tables.specs.declared.devices.Settings.TheVariants.{Accrual}
+use Rattle.plan_tables.specs.declared.devices.BallTarget.{BallTarget}
+use Rattle.plan_tables.specs.declared.devices.BallTarget.TheVariants as targets
+use Rattle.plan_tables.specs.declared.devices.Settings.{Settings}
+use Rattle.plan_tables.specs.declared.devices.Settings.TheVariants.{Accrual, BallDevice}
 
--- a switch: its name, how it is read, which devices listen to it, and what it posts when it becomes active and inactive
+-- a switch: its name, how it is read, which devices listen to it, whether a ball that presses it is on the playfield, and
+-- what it posts when it becomes active and inactive
 pub record PlanSwitch : Type 0 where
   pub name : List ℕ
   pub kind : SwitchKind
   pub listeners : List Listener
+  pub confirms_playfield : Bool
   pub active : List EventId
   pub inactive : List EventId
 
@@ -51,7 +57,7 @@ switch_posts active s = if active then s.active else s.inactive
 
 -- in place of a switch where there is none
 abbrev pub no_switch : PlanSwitch
-no_switch = record { name = []; kind = record { contact = NormallyOpen; quick = false }; listeners = []; active = []; inactive = [] }
+no_switch = record { name = []; kind = record { contact = NormallyOpen; quick = false }; listeners = []; confirms_playfield = false; active = []; inactive = [] }
 
 -- what a device is told when the switch to which it listens becomes active, or inactive
 abbrev pub act_of_listener : Bool → Listener → Act
@@ -261,6 +267,52 @@ rows_of plan owner = filter (λ r. is_owner owner (row_at plan r).owner) (row_nu
 -- an effect list of a row, by its number in the row
 abbrev pub list_of_row : PlanView → RowId → ℕ → ListId
 list_of_row plan r k = record { 0 = (slice_index_or plan.row_lists r.0 (record { 0 = 0 })).0 + k }
+
+-- ---- ball devices
+
+-- whether two targets are the same
+abbrev pub is_target : BallTarget → BallTarget → Bool
+is_target targets.Playfield targets.Playfield = true
+is_target targets.Playfield (targets.Device r) = false
+is_target (targets.Device r) targets.Playfield = false
+is_target (targets.Device r) (targets.Device q) = r.0 == q.0
+
+-- where a device ejects balls to, if it is a ball device
+abbrev pub target_in : Settings → Option BallTarget
+target_in (BallDevice d) = Some d.target
+target_in _ = None
+
+-- where a ball device ejects balls to
+abbrev pub target_of : PlanView → RowId → BallTarget
+target_of plan r = unwrap_or (target_in (row_at plan r).settings) targets.Playfield
+
+-- whether a device ejects balls to the target
+abbrev pub feeds : BallTarget → Settings → Bool
+feeds target settings = option_map_or (is_target target) (target_in settings) false
+
+-- the ball devices that eject balls to the target, in row order
+abbrev pub feeders_of : PlanView → BallTarget → List RowId
+feeders_of plan target = filter (λ r. feeds target (row_at plan r).settings) (row_numbers plan)
+
+-- whether a device is a trough
+abbrev pub is_trough : Settings → Bool
+is_trough (BallDevice d) = d.trough
+is_trough _ = false
+
+-- the first trough, if there is one
+abbrev pub first_trough : PlanView → Option RowId
+first_trough plan = find (λ r. is_trough (row_at plan r).settings) (row_numbers plan)
+
+-- whether balls in a device are at home
+abbrev pub is_home : Settings → Bool
+is_home (BallDevice d) = d.home
+is_home _ = false
+
+-- the devices in which balls are at home
+abbrev pub home_rows : PlanView → List RowId
+home_rows plan = filter (λ r. is_home (row_at plan r).settings) (row_numbers plan)
+
+-- ---- coils
 
 -- the numbers of all coils
 abbrev pub coil_numbers : PlanView → List CoilId

@@ -1,11 +1,11 @@
 -- What holds of every plan: each number in it is that of an entry, no two entries of a table have one name, and no table is above its limit.
-use Rattle.std.specs.Prelude.{ℕ, ◌+◌, ◌≡◌, ◌<◌, ◌≤◌, ◌≢◌, Option, IsSome, IfSome, length}
+use Rattle.std.specs.Prelude.{ℕ, ◌+◌, ◌≡◌, ◌<◌, ◌≤◌, ◌≢◌, Bool, true, Option, IsSome, IfSome, length}
 use Rattle.std.specs.List.{All, AllPairs}
 use Rattle.plan_tables.specs.declared.entries.EventId.{EventId}
 use Rattle.plan_tables.specs.declared.entries.Owner.{Owner}
 use Rattle.plan_tables.specs.declared.entries.Owner.TheVariants.{Machine, Mode}
 use Rattle.plan_tables.specs.declared.entries.Action.{Action}
-use Rattle.plan_tables.specs.declared.entries.Action.TheVariants.{Post, Pulse, Enable, Disable, Change}
+use Rattle.plan_tables.specs.declared.entries.Action.TheVariants.{Post, Pulse, Enable, Disable, Change, Enter, Leave, Lose, Arrive}
 use Rattle.plan_tables.specs.declared.entries.Condition.{Condition}
 use Rattle.plan_tables.specs.declared.entries.GameEvent.{GameEvent}
 use Rattle.plan_tables.specs.declared.entries.GameRules.{GameRules}
@@ -17,11 +17,13 @@ use Rattle.plan_tables.specs.declared.entries.ModeEvent.{ModeEvent}
 use Rattle.plan_tables.specs.declared.entries.Work.{Work}
 use Rattle.plan_tables.specs.declared.entries.Work.TheVariants as work_kinds
 use Rattle.plan_tables.specs.declared.entries.Binding.{Binding}
+use Rattle.plan_tables.specs.declared.devices.BallTarget.{BallTarget}
+use Rattle.plan_tables.specs.declared.devices.BallTarget.TheVariants as targets
 use Rattle.plan_tables.specs.declared.devices.RowId.{RowId}
 use Rattle.plan_tables.specs.declared.table.Table.{Table}
 use Rattle.plan_tables.specs.Devices.{IsWithinLimits, list_count}
 use Rattle.plan_tables.specs.Limits.{entry_names}
-use Rattle.plan_tables.specs.PlanView.{PlanMode, PlanSwitch, PlanCoil, PlanView, game_event, list_of_row, mode_event, row_at, work_of}
+use Rattle.plan_tables.specs.PlanView.{PlanMode, PlanSwitch, PlanCoil, PlanView, game_event, list_of_row, mode_event, row_at, target_of, work_of}
 
 abbrev pub IsEventWithin : ℕ → EventId → Type 0
 IsEventWithin events e = e.0 < events
@@ -44,6 +46,10 @@ IsActionWithin plan (Pulse coil ms power) = coil.0 < length plan.coils
 IsActionWithin plan (Enable coil power) = coil.0 < length plan.coils
 IsActionWithin plan (Disable coil) = coil.0 < length plan.coils
 IsActionWithin plan (Change v action n e) = (v.0 < length plan.variables) × (e.0 < length plan.events)
+IsActionWithin plan (Enter r e drain) = (r.0 < length plan.rows) × (e.0 < length plan.events) × (drain ≡ true → HasGame plan)
+IsActionWithin plan (Leave r) = r.0 < length plan.rows
+IsActionWithin plan (Lose r) = r.0 < length plan.rows
+IsActionWithin plan (Arrive r) = r.0 < length plan.rows
 
 abbrev pub IsTargetWithin : PlanView → Target → Type 0
 IsTargetWithin plan (Run l) = l.0 < length plan.lists
@@ -84,10 +90,16 @@ pub record IsGameWithin (events : ℕ) (rules : GameRules) : Type 0 where
   pub some_player : 1 ≤ rules.max_players
   pub players : rules.max_players ≤ 4
 
--- a row is at its number, its owner is there, and it has its effect lists
+-- a target is the playfield, or a row of the plan
+abbrev pub IsTargetThere : ℕ → BallTarget → Type 0
+IsTargetThere rows targets.Playfield = Unit {0}
+IsTargetThere rows (targets.Device r) = r.0 < rows
+
+-- a row is at its number, its owner and its target are there, and it has its effect lists
 pub record IsRowWithin (plan : PlanView) (r : RowId) : Type 0 where
   pub number : (row_at plan r).number ≡ r
   pub owner : IsOwnerWithin plan (row_at plan r).owner
+  pub target : IsTargetThere (length plan.rows) (target_of plan r)
   pub lists : (list_of_row plan r 0).0 + list_count (row_at plan r).settings ≤ length plan.lists
 
 -- where an event has work, it is this event of a mode of the plan, or of its game

@@ -91,6 +91,22 @@ pub enum BallTarget {
     Device(RowId),
 }
 
+impl BallTarget {
+    ghost use Rattle.std.specs.Prelude.{◌≡◌};
+    ghost use Rattle.plan_tables.specs.PlanView.{is_target};
+
+    /// Whether the two are the same.
+    pub fn is(self, other: BallTarget) -> bool
+        ensures { result ≡ is_target self other }
+    {
+        match (self, other) {
+            (BallTarget::Playfield, BallTarget::Playfield) => true,
+            (BallTarget::Device(row), BallTarget::Device(another)) => row.0 == another.0,
+            _ => false,
+        }
+    }
+}
+
 /// A ball device, such as a trough or a plunger: it has room for a ball at each of its ball switches.
 #[derive(Clone, Copy)]
 pub struct BallSettings {
@@ -135,6 +151,47 @@ pub enum Settings {
 impl Settings {
     ghost use Rattle.std.specs.Prelude.{◌≡◌, ◌≤◌};
     ghost use Rattle.plan_tables.specs.Devices.{list_count};
+    ghost use Rattle.plan_tables.specs.PlanView.{target_in, feeds, is_trough, is_home};
+
+    /// Where a ball device ejects its balls to; none for another device.
+    pub fn target(self) -> Option<BallTarget>
+        ensures { result ≡ target_in self }
+    {
+        match self {
+            Settings::BallDevice(device) => Some(device.target),
+            _ => None,
+        }
+    }
+
+    /// Whether it is a ball device that ejects its balls to this target.
+    pub fn feeds(self, target: BallTarget) -> bool
+        ensures { result ≡ feeds target self }
+    {
+        match self.target() {
+            Some(own) => target.is(own),
+            None => false,
+        }
+    }
+
+    /// Whether it is a trough.
+    pub fn is_trough(self) -> bool
+        ensures { result ≡ is_trough self }
+    {
+        match self {
+            Settings::BallDevice(device) => device.trough,
+            _ => false,
+        }
+    }
+
+    /// Whether balls in it are at home.
+    pub fn is_home(self) -> bool
+        ensures { result ≡ is_home self }
+    {
+        match self {
+            Settings::BallDevice(device) => device.home,
+            _ => false,
+        }
+    }
 
     /// How many effect lists a row with these settings has: of a row of a plan at most 288.
     pub fn list_count(self) -> u32

@@ -257,6 +257,26 @@ pub enum Action {
         number: i64,
         event: EventId,
     },
+    /// A ball enters the ball device, and the event goes to the end of the queue. If the ball was on its
+    /// way there, the device that ejected it is told so. If it was not, `drain` holds and the game is in
+    /// phase Ball, `ball_drain` is posted.
+    Enter {
+        device: RowId,
+        event: EventId,
+        drain: bool,
+    },
+    /// The ball that the ball device ejects leaves it, and is on its way to the device's target.
+    Leave {
+        device: RowId,
+    },
+    /// A ball leaves the ball device without being ejected, and is on the playfield.
+    Lose {
+        device: RowId,
+    },
+    /// A ball on its way to the ball device's target is on the playfield.
+    Arrive {
+        device: RowId,
+    },
 }
 
 /// What a binding does when its turn comes.
@@ -320,6 +340,8 @@ pub struct SwitchEntry {
     pub kind: SwitchKind,
     /// The devices that listen to it, in the order of their rows.
     pub listeners: Vec<Listener>,
+    /// Whether a ball that presses it has arrived on the playfield: it is tagged `playfield_active`.
+    pub confirms_playfield: bool,
     /// What it posts, in order, when it becomes active.
     pub active: Vec<EventId>,
     /// What it posts, in order, when it becomes inactive.

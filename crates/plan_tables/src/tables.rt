@@ -202,6 +202,15 @@ impl Plan {
         self.tables.switches[switch.0 as usize].listeners.as_slice()
     }
 
+    /// Whether a ball that presses a switch of the plan has arrived on the playfield.
+    pub fn confirms_playfield(&self, switch: SwitchId) -> bool
+        requires { switch.0 < length self.now.switches }
+        ensures confirms { result ≡ (switch_at self.now switch).confirms_playfield }
+        ensures valid { IsValid self.now }
+    {
+        self.tables.switches[switch.0 as usize].confirms_playfield
+    }
+
     /// What a switch of the plan posts, in order, when it becomes active, or inactive.
     pub fn posts(&self, switch: SwitchId, active: bool) -> &[EventId]
         requires { switch.0 < length self.now.switches }

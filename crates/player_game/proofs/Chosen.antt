@@ -6,7 +6,7 @@ use Rattle.plan_tables.specs.declared.entries.GameEvent.TheVariants.{SwStart, Ga
 use Rattle.plan_tables.specs.declared.entries.GameRules.{GameRules}
 use Rattle.player_game.specs.Players.{PlayersState}
 use Rattle.player_game.specs.GameStep.{GameState, GameStep, can_begin, can_join, game_step, is_ball_on, is_over, leads_to}
-use Rattle.player_game.specs.Choices.{StepsAreChoices, choices, tells_scores}
+use Rattle.player_game.specs.Choices.{StepsAreChoices, choices, tells_scores, asks_for_ball}
 
 -- ---- places in a list
 
@@ -38,10 +38,10 @@ ends : (over : Bool) (g : GameState) (p q : PlayersState)
 ends true g p q = first (GameWillEnd ∷ []) ((PlayerTurnWillStart ∷ []) ∷ [])
 ends false g p q = second (GameWillEnd ∷ []) (PlayerTurnWillStart ∷ []) []
 
--- either way the scores are not told
-tells_none : (test : Bool) (x y : GameStep) → x.finals ≡ false → y.finals ≡ false → (if test then x else y).finals ≡ false
-tells_none true x y is is' = is
-tells_none false x y is is' = is'
+-- either way a flag is not set
+unset : (flag : GameStep → Bool) (test : Bool) (x y : GameStep) → flag x ≡ false → flag y ≡ false → flag (if test then x else y) ≡ false
+unset flag true x y is is' = is
+unset flag false x y is is' = is'
 
 posted : (rules : GameRules) (plan : PlanView) (which : GameEvent) (home : ℕ) (g : GameState) (p : PlayersState)
     → Contains (choices which) (game_step (Some rules) plan which home g p).posts
@@ -71,7 +71,7 @@ posted rules plan GameEnded home g p = first _ []
 told : (rules : GameRules) (plan : PlanView) (which : GameEvent) (home : ℕ) (g : GameState) (p : PlayersState)
     → (game_step (Some rules) plan which home g p).finals ≡ tells_scores which
 unfolding game_step
-told rules plan SwStart home g p = tells_none (can_begin rules home g) _ _ refl refl
+told rules plan SwStart home g p = unset (λ step. step.finals) (can_begin rules home g) _ _ refl refl
 told rules plan GameWillStart home g p = refl
 told rules plan GameStarting home g p = refl
 told rules plan PlayerAdded home g p = refl
@@ -82,16 +82,41 @@ told rules plan PlayerTurnStarted home g p = refl
 told rules plan BallWillStart home g p = refl
 told rules plan BallStarting home g p = refl
 told rules plan BallStarted home g p = refl
-told rules plan BallDrain home g p = tells_none (is_ball_on g.phase) _ _ (tells_none (g.balls - 1 == 0) _ _ refl refl) refl
+told rules plan BallDrain home g p = unset (λ step. step.finals) (is_ball_on g.phase) _ _ (unset (λ step. step.finals) (g.balls - 1 == 0) _ _ refl refl) refl
 told rules plan BallWillEnd home g p = refl
 told rules plan BallEnding home g p = refl
 told rules plan BallEnded home g p = refl
 told rules plan PlayerTurnWillEnd home g p = refl
 told rules plan PlayerTurnEnding home g p = refl
-told rules plan PlayerTurnEnded home g p = tells_none (is_over rules plan p) _ _ refl refl
+told rules plan PlayerTurnEnded home g p = unset (λ step. step.finals) (is_over rules plan p) _ _ refl refl
 told rules plan GameWillEnd home g p = refl
 told rules plan GameEnding home g p = refl
 told rules plan GameEnded home g p = refl
 
+asked : (rules : GameRules) (plan : PlanView) (which : GameEvent) (home : ℕ) (g : GameState) (p : PlayersState)
+    → (game_step (Some rules) plan which home g p).requests ≡ asks_for_ball which
+unfolding game_step
+asked rules plan SwStart home g p = unset (λ step. step.requests) (can_begin rules home g) _ _ refl refl
+asked rules plan GameWillStart home g p = refl
+asked rules plan GameStarting home g p = refl
+asked rules plan PlayerAdded home g p = refl
+asked rules plan GameStarted home g p = refl
+asked rules plan PlayerTurnWillStart home g p = refl
+asked rules plan PlayerTurnStarting home g p = refl
+asked rules plan PlayerTurnStarted home g p = refl
+asked rules plan BallWillStart home g p = refl
+asked rules plan BallStarting home g p = refl
+asked rules plan BallStarted home g p = refl
+asked rules plan BallDrain home g p = unset (λ step. step.requests) (is_ball_on g.phase) _ _ (unset (λ step. step.requests) (g.balls - 1 == 0) _ _ refl refl) refl
+asked rules plan BallWillEnd home g p = refl
+asked rules plan BallEnding home g p = refl
+asked rules plan BallEnded home g p = refl
+asked rules plan PlayerTurnWillEnd home g p = refl
+asked rules plan PlayerTurnEnding home g p = refl
+asked rules plan PlayerTurnEnded home g p = unset (λ step. step.requests) (is_over rules plan p) _ _ refl refl
+asked rules plan GameWillEnd home g p = refl
+asked rules plan GameEnding home g p = refl
+asked rules plan GameEnded home g p = refl
+
 pub steps_are_choices : StepsAreChoices
-steps_are_choices = record { posts = posted; finals = told }
+steps_are_choices = record { posts = posted; finals = told; requests = asked }

@@ -36,14 +36,22 @@ abbrev pub tells_scores : GameEvent → Bool
 tells_scores GameEnded = true
 tells_scores _ = false
 
+-- whether a ball is asked for at it
+abbrev pub asks_for_ball : GameEvent → Bool
+asks_for_ball BallStarting = true
+asks_for_ball _ = false
+
 -- ---- laws
 
--- what an event posts is one of its choices, or nothing; scores are told where it tells them
+-- what an event posts is one of its choices, or nothing; scores are told where it tells them, and a ball is asked for where
+-- it asks for one
 pub record StepsAreChoices : Type 0 where
   pub posts : (rules : GameRules) (plan : PlanView) (which : GameEvent) (home : ℕ) (g : GameState) (p : PlayersState)
       → Contains (choices which) (game_step (Some rules) plan which home g p).posts
   pub finals : (rules : GameRules) (plan : PlanView) (which : GameEvent) (home : ℕ) (g : GameState) (p : PlayersState)
       → (game_step (Some rules) plan which home g p).finals ≡ tells_scores which
+  pub requests : (rules : GameRules) (plan : PlanView) (which : GameEvent) (home : ℕ) (g : GameState) (p : PlayersState)
+      → (game_step (Some rules) plan which home g p).requests ≡ asks_for_ball which
 
 -- The players are no more than there can be, and the current one is one of them.
 pub record AreFew (plan : PlanView) (p : PlayersState) : Type 0 where

@@ -1,7 +1,7 @@
 //! What the events of the game can post, whatever the state of the game.
 
 ghost use Rattle.std.specs.Prelude.{◌≡◌, map};
-ghost use Rattle.player_game.specs.Choices.{choices, tells_scores};
+ghost use Rattle.player_game.specs.Choices.{asks_for_ball, choices, tells_scores};
 
 use plan_tables::GameEvent;
 
@@ -42,4 +42,11 @@ pub fn tells_scores(event: GameEvent) -> bool
     ensures { result ≡ tells_scores event }
 {
     matches!(event, GameEvent::GameEnded)
+}
+
+/// Whether a ball is asked for at an event of the game.
+pub fn asks_for_ball(event: GameEvent) -> bool
+    ensures { result ≡ asks_for_ball event }
+{
+    matches!(event, GameEvent::BallStarting)
 }

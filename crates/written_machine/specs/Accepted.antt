@@ -5,6 +5,7 @@ use Rattle.written_machine.specs.CheckedView.{CheckedView}
 use Rattle.written_machine.specs.FreePosts.{PostsAreFree}
 use Rattle.written_machine.specs.Devices.{ActsAreOwn}
 use Rattle.written_machine.specs.Allowed.{ActionsAreAllowed}
+use Rattle.written_machine.specs.BallRows.{BookingsAreRight}
 
 -- The plan is valid, nothing posts an event at which the machine itself does something, but that of the start button,
 -- bindings act on devices of their own owner alone and only the machine's devices listen to switches, each command to a
@@ -15,4 +16,5 @@ pub record IsAccepted (c : CheckedView) : Type 0 where
   pub free : PostsAreFree c.plan
   pub own : ActsAreOwn c.plan
   pub allowed : ActionsAreAllowed c.plan
+  pub bookings : BookingsAreRight c.plan
   pub verified : IsVerified c.plan c.weights c.bound

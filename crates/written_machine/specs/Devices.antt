@@ -33,7 +33,14 @@ IsOwnAct plan owner (Act r act) = (row_at plan r).owner ≡ owner
 abbrev pub IsOwnListener : PlanView → Listener → Type 0
 IsOwnListener plan l = (row_at plan l.row).owner ≡ Machine
 
--- Bindings act on devices of their own owner alone, and what the machine tells of its switches it tells to its own.
+-- a ball device is the machine's
+abbrev pub IsOwnBallDevice : Settings → Owner → Type 0
+IsOwnBallDevice (BallDevice d) owner = owner ≡ Machine
+IsOwnBallDevice _ owner = Unit {0}
+
+-- Bindings act on devices of their own owner alone, and what the machine tells of its switches and of balls it tells to
+-- its own.
 pub record ActsAreOwn (plan : PlanView) : Type 0 where
   pub bindings : All (λ b. IsOwnAct plan b.owner b.target) plan.bindings
   pub listeners : All (λ s. All (IsOwnListener plan) s.listeners) plan.switches
+  pub balls : All (λ row. IsOwnBallDevice row.settings row.owner) plan.rows

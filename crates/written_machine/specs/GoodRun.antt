@@ -67,6 +67,26 @@ pub record IsBounded (c : CheckedView) : Type 0 where
       (at : ℕ) → s.moment ≤ at → IsNoAlarmDueBy s at → (n : SwitchId) → n.0 < length c.plan.switches →
       active_at s.switches n ≡ accepted_level (switch_at c.plan n).kind at (raw_changes n (raw_at_rest (switch_at c.plan n).kind.contact) (switch_calls stimuli)))
 
+-- In every run of the plan the ledger says where the known balls are.
+pub record AreBallsKnown (c : CheckedView) : Type 0 where
+  -- Each of its numbers follows from what it has booked, and where each ball came from that entered a device follows from
+  -- what was booked before. Each known ball is in a device, on its way, or on the playfield.
+  pub booked : InEveryRun c.plan (λ stimuli trace s. HasBooked (bookings trace) s.ledger)
+  pub rows : InEveryRun c.plan (λ stimuli trace s. length s.ledger.counted ≡ length c.plan.rows)
+  pub origins : InEveryRun c.plan (λ stimuli trace s. AreOriginsRight trace)
+  pub somewhere : InEveryRun c.plan (λ stimuli trace s. IsBalanced s.ledger)
+  -- What a line says of all balls is what the ledger says when it has booked what the line tells.
+  pub told : InEveryRun c.plan (λ stimuli trace s. AreCountsRight c.plan trace)
+  -- As many balls are in transit to a target as devices are Away to it.
+  pub away : InEveryRun c.plan (λ stimuli trace s.
+      (target : BallTarget) → IsTargetThere (length c.plan.rows) target →
+      transit_to s.ledger target ≡ count_by (λ r. is_away (device_at s r)) (feeders_of c.plan target))
+  -- When nothing is due at or before a moment, as many balls are in a device as it has ball switches at which one counts.
+  pub counted : InEveryRun c.plan (λ stimuli trace s.
+      (at : ℕ) → s.moment ≤ at → IsNoAlarmDueBy s at → (r : RowId) (d : BallSettings) → r.0 < length c.plan.rows →
+      (row_at c.plan r).settings ≡ BallDevice d →
+      counted_in s.ledger r ≡ count_by (is_counted c.plan d at trace) (ball_switches c.plan r))
+
 -- Every run of the plan is good.
 pub record IsGood (c : CheckedView) : Type 0 where
   pub bounded : IsBounded c
@@ -88,3 +108,4 @@ pub record IsGood (c : CheckedView) : Type 0 where
   pub resting : InEveryRun c.plan (λ stimuli trace s.
       (m : ModeId) (r : RowId) (due : ℕ) → r.0 < length c.plan.rows → (row_at c.plan r).owner ≡ owners.Mode m →
       source_due s (device r) ≡ Some due → HasStarted c.plan m trace)
+  pub balls : AreBallsKnown c

@@ -1,7 +1,7 @@
 -- The machine's state, and what each thing does to it.
-use Rattle.std.specs.Prelude.{ℕ, ℤ, Bool, true, false, not, if◌then◌else◌, Option, Some, None, List, [], ◌∷◌, ◌++◌, length, map, slice_index_or, slice_set}
+use Rattle.std.specs.Prelude.{ℕ, ℤ, Bool, true, false, not, ◌&&◌, if◌then◌else◌, find, Option, Some, None, List, [], ◌∷◌, ◌++◌, length, map, slice_index_or, slice_set}
 use Rattle.std.specs.List.{range_with_len}
-use Rattle.plan_tables.specs.PlanView.{PlanView, act_of_listener, actions_at, binding_at, coil_numbers, game_event, list_of_row, listeners_of, mode_event, no_row, posts_of, row_at, rows_of}
+use Rattle.plan_tables.specs.PlanView.{PlanView, act_of_listener, actions_at, binding_at, coil_numbers, feeders_of, first_trough, game_event, home_rows, list_of_row, listeners_of, mode_event, no_row, posts_of, row_at, rows_of, switch_at, target_of}
 use Rattle.plan_tables.specs.declared.entries.EventId.{EventId}
 use Rattle.plan_tables.specs.declared.entries.SwitchId.{SwitchId}
 use Rattle.plan_tables.specs.declared.entries.ListId.{ListId}
@@ -9,12 +9,13 @@ use Rattle.plan_tables.specs.declared.entries.BindingId.{BindingId}
 use Rattle.plan_tables.specs.declared.entries.Owner.{Owner}
 use Rattle.plan_tables.specs.declared.entries.Owner.TheVariants as owners
 use Rattle.plan_tables.specs.declared.entries.Action.{Action}
-use Rattle.plan_tables.specs.declared.entries.Action.TheVariants.{Post, Pulse, Enable, Disable, Change}
+use Rattle.plan_tables.specs.declared.entries.Action.TheVariants.{Post, Pulse, Enable, Disable, Change, Enter, Leave, Lose, Arrive}
 use Rattle.plan_tables.specs.declared.entries.VariableId.{VariableId}
 use Rattle.plan_tables.specs.declared.entries.VariableAction.{VariableAction}
 use Rattle.plan_tables.specs.declared.entries.GameEvent.{GameEvent}
+use Rattle.plan_tables.specs.declared.entries.GameEvent.TheVariants.{BallDrain}
 use Rattle.player_game.specs.Players.{PlayersState, no_players, is_met, changed_to, after_change as players_after_change, score_of}
-use Rattle.player_game.specs.GameStep.{GameState, GameStep, no_game, game_step, is_none}
+use Rattle.player_game.specs.GameStep.{GameState, GameStep, no_game, game_step, is_none, is_ball_on}
 use Rattle.plan_tables.specs.declared.entries.CoilId.{CoilId}
 use Rattle.plan_tables.specs.declared.entries.Listener.{Listener}
 use Rattle.plan_tables.specs.declared.entries.Target.{Target}
@@ -23,11 +24,21 @@ use Rattle.plan_tables.specs.declared.entries.ModeId.{ModeId}
 use Rattle.plan_tables.specs.declared.entries.ModeEvent.TheVariants.{WillStart, Stopping}
 use Rattle.plan_tables.specs.declared.entries.Binding.{Binding}
 use Rattle.plan_tables.specs.declared.devices.RowId.{RowId}
+use Rattle.plan_tables.specs.declared.devices.BallTarget.{BallTarget}
+use Rattle.plan_tables.specs.declared.devices.BallTarget.TheVariants.{Playfield, Device}
+use Rattle.plan_tables.specs.declared.devices.Act.TheVariants.{Confirm, Request}
 use Rattle.device_objects.specs.declared.device.Call.{Call}
 use Rattle.device_objects.specs.declared.device.Call.TheVariants as calls
 use Rattle.device_objects.specs.declared.state.DeviceState.{DeviceState}
 use Rattle.device_objects.specs.declared.state.World.{World}
+use Rattle.device_objects.specs.declared.state.DeviceState.TheVariants as states
+use Rattle.device_objects.specs.BallDevice.{is_away}
 use Rattle.device_objects.specs.DeviceStep.{device_step, first_state}
+use Rattle.ball_devices.specs.declared.booking.Origin.{Origin}
+use Rattle.ball_devices.specs.declared.booking.Origin.TheVariants.{Awaited, Found, New}
+use Rattle.ball_devices.specs.Ledger.{Ledger, no_balls, counted_in, all_counted, all_in_transit, origin_of, total}
+use Rattle.ball_devices.specs.Bookings.{LedgerCall, after_call, booked, can_book}
+use Rattle.ball_devices.specs.Bookings as calls_of_ledger
 use Rattle.switch_core.specs.declared.change.Change.{Change as Acceptance}
 use Rattle.switch_core.specs.Switches.{SwitchesView, all_idle, after_change, reported_by_change, accept, reported}
 use Rattle.mode_stack.specs.declared.phase.ModeState.{ModeState}
@@ -36,6 +47,7 @@ use Rattle.mode_stack.specs.declared.phase.StopAnswer.TheVariants as answers
 use Rattle.mode_stack.specs.ModeStep.{starts, started, stopped, stop_answer}
 use Rattle.mode_stack.specs.Modes.{needs_game, mode_state}
 use Rattle.mode_stack.specs.Modes as modes
+use Rattle.written_machine.specs.declared.line.BallCounts.{BallCounts}
 use Rattle.written_machine.specs.declared.line.Line.{Line}
 use Rattle.written_machine.specs.declared.line.Happening.{Happening}
 use Rattle.written_machine.specs.declared.line.Happening.TheVariants as lines
@@ -60,6 +72,8 @@ pub record Machine : Type 0 where
   pub devices : List DeviceState
   -- what the guard of the coils remembers of each coil, by number
   pub coils : List CoilState
+  -- the ledger of balls
+  pub ledger : Ledger
   -- the players of the game, and the game
   pub players : PlayersState
   pub game : GameState
@@ -69,7 +83,7 @@ pub record Machine : Type 0 where
   pub lines : List Line
 
 -- At the beginning it is moment 0, all switches are inactive, all modes idle, all devices in their first states, all
--- coils off, there is no game, and nothing waits.
+-- coils off, no ball is known, there is no game, and nothing waits.
 abbrev pub initial : PlanView → Machine
 initial plan = record {
   moment = 0;
@@ -77,6 +91,7 @@ initial plan = record {
   modes = modes.all_idle (length plan.modes);
   devices = map (λ row. first_state row.settings) plan.rows;
   coils = all_off (limits_of plan);
+  ledger = no_balls plan;
   players = no_players;
   game = no_game;
   waiting = [];
@@ -102,6 +117,9 @@ set_device r state s = record s { devices = slice_set s.devices r.0 state }
 
 abbrev pub set_coils : List CoilState → Machine → Machine
 set_coils coils s = record s { coils = coils }
+
+abbrev pub set_ledger : Ledger → Machine → Machine
+set_ledger ledger s = record s { ledger = ledger }
 
 abbrev pub set_players : PlayersState → Machine → Machine
 set_players players s = record s { players = players }
@@ -178,17 +196,52 @@ change_variable plan owner v action n e s =
     let value = changed_to plan v action n s.players in
     tell_change owner s.players.current v e value (set_players (players_after_change plan v value s.players) s)
 
+-- ---- balls
+
+-- what the ledger says of all balls
+abbrev pub counts_of : Ledger → BallCounts
+counts_of l = record { known = l.known; counted = all_counted l; transit = all_in_transit l; playfield = l.playfield }
+
+-- The ledger books something, and there is a line. Where the ledger may not book it, nothing happens; in runs of accepted
+-- plans it always may.
+abbrev pub book : Owner → LedgerCall → Machine → Machine
+book owner call s =
+    if can_book call s.ledger
+    then write owner (lines.Balls (booked call s.ledger) (counts_of (after_call call s.ledger))) (set_ledger (after_call call s.ledger) s)
+    else s
+
+-- `ball_drain` is posted where `drain` holds and the game is in phase Ball
+abbrev pub drain_if : PlanView → Owner → Bool → Machine → Machine
+drain_if plan owner drain s = if drain && is_ball_on s.game.phase then post owner (game_event plan BallDrain) s else s
+
+-- After a ball has entered a device: where it was on its way there, that is confirmed; else it may have drained.
+abbrev pub after_entry : PlanView → (RowId → Machine → Machine) → Owner → RowId → Bool → Origin → Machine → Machine
+after_entry plan confirm owner r drain Awaited s = confirm r s
+after_entry plan confirm owner r drain Found s = drain_if plan owner drain s
+after_entry plan confirm owner r drain New s = drain_if plan owner drain s
+
+-- a ball enters a device: that is booked, its event is posted, and then what follows from where it came from
+abbrev pub enter_ball : PlanView → (RowId → Machine → Machine) → Owner → RowId → EventId → Bool → Machine → Machine
+enter_ball plan confirm owner r e drain s =
+    after_entry plan confirm owner r drain (origin_of r s.ledger) (post owner e (book owner (calls_of_ledger.Enter r) s))
+
 -- ---- effect lists
 
-abbrev pub do_action : PlanView → Owner → Action → Machine → Machine
-do_action plan owner (Post e) s = post owner e s
-do_action plan owner (Pulse coil ms power) s = ask_coil owner (commands.Pulse coil ms power) s
-do_action plan owner (Enable coil power) s = ask_coil owner (commands.Enable coil power) s
-do_action plan owner (Disable coil) s = ask_coil owner (commands.Disable coil) s
-do_action plan owner (Change v action n e) s = change_variable plan owner v action n e s
+-- An action, where `confirm` tells the device that has ejected a ball that it has entered the device of a row.
+abbrev pub do_action_by : PlanView → (RowId → Machine → Machine) → Owner → Action → Machine → Machine
+do_action_by plan confirm owner (Post e) s = post owner e s
+do_action_by plan confirm owner (Pulse coil ms power) s = ask_coil owner (commands.Pulse coil ms power) s
+do_action_by plan confirm owner (Enable coil power) s = ask_coil owner (commands.Enable coil power) s
+do_action_by plan confirm owner (Disable coil) s = ask_coil owner (commands.Disable coil) s
+do_action_by plan confirm owner (Change v action n e) s = change_variable plan owner v action n e s
+do_action_by plan confirm owner (Enter r e drain) s = enter_ball plan confirm owner r e drain s
+do_action_by plan confirm owner (Leave r) s = book owner (calls_of_ledger.Leave r (target_of plan r)) s
+do_action_by plan confirm owner (Lose r) s = book owner (calls_of_ledger.Lose r) s
+do_action_by plan confirm owner (Arrive r) s = book owner (calls_of_ledger.Arrive (target_of plan r)) s
 
-abbrev pub do_list : PlanView → Owner → ListId → Machine → Machine
-do_list plan owner l s = all_do (do_action plan owner) (actions_at plan l) s
+-- the actions of a list
+abbrev pub do_list_by : PlanView → (RowId → Machine → Machine) → Owner → ListId → Machine → Machine
+do_list_by plan confirm owner l s = all_do (do_action_by plan confirm owner) (actions_at plan l) s
 
 -- ---- devices
 
@@ -208,12 +261,52 @@ abbrev pub called : PlanView → Call → RowId → Machine → DeviceState × L
 called plan call r s = device_step (row_at plan r).settings call s.moment (world_of s) (device_at s r)
 
 -- effect lists of a row run, one after another, for the row's owner
-abbrev pub do_answer : PlanView → RowId → List ℕ → Machine → Machine
-do_answer plan r lists s = all_do (λ k. do_list plan (row_at plan r).owner (list_of_row plan r k)) lists s
+abbrev pub do_answer_by : PlanView → (RowId → Machine → Machine) → RowId → List ℕ → Machine → Machine
+do_answer_by plan confirm r lists s = all_do (λ k. do_list_by plan confirm (row_at plan r).owner (list_of_row plan r k)) lists s
 
 -- A device is called: it goes on to its next state, and what it answers is done.
+abbrev pub call_device_by : PlanView → (RowId → Machine → Machine) → Call → RowId → Machine → Machine
+call_device_by plan confirm call r s = do_answer_by plan confirm r (called plan call r s).1 (set_device r (called plan call r s).0 s)
+
+-- ---- balls that have arrived
+
+-- whether a device is Away: the ball that it has ejected is on its way
+abbrev pub is_device_away : DeviceState → Bool
+is_device_away (states.BallDevice s) = is_away s.eject
+is_device_away _ = false
+
+-- the first device that is Away to the target
+abbrev pub first_away : PlanView → BallTarget → Machine → Option RowId
+first_away plan target s = find (λ r. is_device_away (device_at s r)) (feeders_of plan target)
+
+-- nobody is told: the lists of a device that is told of an arrival confirm nothing
+abbrev pub no_confirm : RowId → Machine → Machine
+no_confirm r s = s
+
+-- a device is told that its ball has arrived
+abbrev pub confirm_of : PlanView → Option RowId → Machine → Machine
+confirm_of plan None s = s
+confirm_of plan (Some r) s = call_device_by plan no_confirm (calls.Act Confirm) r s
+
+-- The first device Away to the target is told that its ball has arrived. If there is none, nothing happens.
+abbrev pub confirm_first_away : PlanView → BallTarget → Machine → Machine
+confirm_first_away plan target s = confirm_of plan (first_away plan target s) s
+
+-- A ball has entered this device: the first device Away to it is told.
+abbrev pub confirm_entry : PlanView → RowId → Machine → Machine
+confirm_entry plan r s = confirm_first_away plan (Device r) s
+
+abbrev pub do_action : PlanView → Owner → Action → Machine → Machine
+do_action plan owner a s = do_action_by plan (confirm_entry plan) owner a s
+
+abbrev pub do_list : PlanView → Owner → ListId → Machine → Machine
+do_list plan owner l s = do_list_by plan (confirm_entry plan) owner l s
+
+abbrev pub do_answer : PlanView → RowId → List ℕ → Machine → Machine
+do_answer plan r lists s = do_answer_by plan (confirm_entry plan) r lists s
+
 abbrev pub call_device : PlanView → Call → RowId → Machine → Machine
-call_device plan call r s = do_answer plan r (called plan call r s).1 (set_device r (called plan call r s).0 s)
+call_device plan call r s = call_device_by plan (confirm_entry plan) call r s
 
 -- all devices of a mode are called, in the order of their rows
 abbrev pub call_devices : PlanView → Call → ModeId → Machine → Machine
@@ -237,9 +330,9 @@ do_handler plan place s = do_binding plan (binding_at plan place) s
 
 -- ---- the game
 
--- how many balls are at home: none are counted yet
-abbrev pub home_of : Machine → ℕ
-home_of s = 0
+-- how many balls are at home
+abbrev pub home_of : PlanView → Machine → ℕ
+home_of plan s = total (map (counted_in s.ledger) (home_rows plan))
 
 -- an event of the game is posted
 abbrev pub post_game : PlanView → GameEvent → Machine → Machine
@@ -254,12 +347,23 @@ abbrev pub write_finals : PlanView → Bool → Machine → Machine
 write_finals plan true s = all_do (write_final plan) (range_with_len 1 (length s.players.players)) s
 write_finals plan false s = s
 
+-- a trough is asked for one ball more, if there is one
+abbrev pub ask_trough : PlanView → Option RowId → Machine → Machine
+ask_trough plan None s = s
+ask_trough plan (Some r) s = call_device plan (calls.Act (Request 1)) r s
+
+-- Where `asks` holds, the first trough is asked for one ball more.
+abbrev pub ask_ball : PlanView → Bool → Machine → Machine
+ask_ball plan asks s = if asks then ask_trough plan (first_trough plan) s else s
+
 -- what an event of the game leads to is done
 abbrev pub do_step : PlanView → GameStep → Machine → Machine
-do_step plan step s = all_do (post_game plan) step.posts (write_finals plan step.finals (set_players step.players (set_game step.game s)))
+do_step plan step s =
+    all_do (post_game plan) step.posts
+    (ask_ball plan step.requests (write_finals plan step.finals (set_players step.players (set_game step.game s))))
 
 abbrev pub do_game : PlanView → GameEvent → Machine → Machine
-do_game plan which s = do_step plan (game_step plan.game plan which (home_of s) s.game s.players) s
+do_game plan which s = do_step plan (game_step plan.game plan which (home_of plan s) s.game s.players) s
 
 -- ---- switches
 
@@ -271,11 +375,16 @@ tell_listener plan active l s = call_device plan (calls.Act (act_of_listener act
 abbrev pub tell_listeners : PlanView → Acceptance → Machine → Machine
 tell_listeners plan a s = all_do (tell_listener plan a.active) (listeners_of plan a.switch) s
 
+-- A ball that presses a switch tagged `playfield_active` is on the playfield: the first device Away to it is told.
+abbrev pub confirm_on_playfield : PlanView → Acceptance → Machine → Machine
+confirm_on_playfield plan a s = if a.active && (switch_at plan a.switch).confirms_playfield then confirm_first_away plan Playfield s else s
+
 -- A switch was accepted as active or inactive: its line is written, the devices that listen to it are told, and then its
--- events are posted.
+-- events are posted. Before these a ball may have arrived on the playfield.
 abbrev pub do_accepted : PlanView → Acceptance → Machine → Machine
 do_accepted plan a s =
-    all_do (post owners.Machine) (posts_of plan a.switch a.active) (tell_listeners plan a (write owners.Machine (lines.Switch a.switch a.active) s))
+    all_do (post owners.Machine) (posts_of plan a.switch a.active)
+    (confirm_on_playfield plan a (tell_listeners plan a (write owners.Machine (lines.Switch a.switch a.active) s)))
 
 abbrev pub do_if_accepted : PlanView → Option Acceptance → Machine → Machine
 do_if_accepted plan None s = s

@@ -52,6 +52,8 @@ pub data Move : Type 0 where
   Turned : (call : Call) (r : RowId) → Move
   -- an owner asks for a command to a coil
   Asked : (owner : Owner) (command : Command) → Move
+  -- the ledger books something
+  Booked : (owner : Owner) (call : LedgerCall) → Move
   -- a variable of the current player has this value from now on, where there is one
   Varied : (v : VariableId) (value : Option ℤ) → Move
   -- the game goes on by one of its events
@@ -59,7 +61,7 @@ pub data Move : Type 0 where
 
 -- what an event of the game leads to
 abbrev pub step_now : PlanView → GameEvent → Machine → GameStep
-step_now plan which s = game_step plan.game plan which (home_of s) s.game s.players
+step_now plan which s = game_step plan.game plan which (home_of plan s) s.game s.players
 
 abbrev pub do_move : PlanView → Move → Machine → Machine
 do_move plan (Wrote owner what) s = write owner what s
@@ -70,6 +72,7 @@ do_move plan (Ended m) s = stop_mode plan m s
 do_move plan (Marked m state) s = set_mode m state s
 do_move plan (Turned call r) s = set_device r (called plan call r s).0 s
 do_move plan (Asked owner command) s = ask_coil owner command s
+do_move plan (Booked owner call) s = book owner call s
 do_move plan (Varied v value) s = set_players (after_change plan v value s.players) s
 do_move plan (Stepped which) s = set_players (step_now plan which s).players (set_game (step_now plan which s).game s)
 
@@ -82,6 +85,7 @@ cost_of_move plan (Ended m) = cost_of_post (mode_event plan m Stopping)
 cost_of_move plan (Marked m state) = Lines 0
 cost_of_move plan (Turned call r) = Lines 0
 cost_of_move plan (Asked owner command) = Lines 1
+cost_of_move plan (Booked owner call) = Lines 1
 cost_of_move plan (Varied v value) = Lines 0
 cost_of_move plan (Stepped which) = Lines 0
 
@@ -92,6 +96,7 @@ IsNoEvent (lines.Event e) = ⊥
 IsNoEvent (lines.Coil command) = Unit {0}
 IsNoEvent (lines.Skip command) = Unit {0}
 IsNoEvent (lines.Player player v value) = Unit {0}
+IsNoEvent (lines.Balls booking counts) = Unit {0}
 IsNoEvent (lines.Final player score) = Unit {0}
 
 -- nor that of a command: those come only as coils are asked
@@ -101,7 +106,13 @@ IsNoCommand (lines.Event e) = Unit {0}
 IsNoCommand (lines.Coil command) = ⊥
 IsNoCommand (lines.Skip command) = ⊥
 IsNoCommand (lines.Player player v value) = Unit {0}
+IsNoCommand (lines.Balls booking counts) = Unit {0}
 IsNoCommand (lines.Final player score) = Unit {0}
+
+-- nor that of a booking: those come only as the ledger books
+abbrev pub IsNoBooking : Happening → Type 0
+IsNoBooking (lines.Balls booking counts) = ⊥
+IsNoBooking _ = Unit {0}
 
 -- where it is a mode, an action of it enables the coil
 abbrev pub MayHold : PlanView → CoilId → Owner → Type 0
@@ -125,7 +136,7 @@ pub record Licence : Type 1 where
 -- What a licence allows. Where the plan's numbers are those of entries, only events and modes of the plan are touched.
 -- Owners are looked at where bindings act on devices of their own owner alone.
 abbrev pub MayDo : PlanView → Licence → Move → Type 0
-MayDo plan l (Wrote owner what) = (ActsAreOwn plan → l.by owner) × IsNoEvent what × IsNoCommand what
+MayDo plan l (Wrote owner what) = (ActsAreOwn plan → l.by owner) × IsNoEvent what × IsNoCommand what × IsNoBooking what
 MayDo plan l (Sent owner e) = (ActsAreOwn plan → l.by owner) × (HasEntries plan → e.0 < length plan.events) × l.posts e
 MayDo plan l (Switched n state) = l.switches
 MayDo plan l (Began m) = HasEntries plan → m.0 < length plan.modes
@@ -133,12 +144,14 @@ MayDo plan l (Ended m) = HasEntries plan → m.0 < length plan.modes
 MayDo plan l (Marked m state) = l.marks
 MayDo plan l (Turned call r) = ActsAreOwn plan → l.by (row_at plan r).owner
 MayDo plan l (Asked owner command) = (ActsAreOwn plan → l.by owner) × (ActionsAreAllowed plan → IsWithin (limits_of plan) command) × IsListed plan owner command
+MayDo plan l (Booked owner call) = ActsAreOwn plan → l.by owner
 MayDo plan l (Varied v value) = Unit {0}
 MayDo plan l (Stepped which) = Unit {0}
 
--- where nothing in the plan posts an event at which the machine itself does something, but the start button's, nor does this
+-- Where nothing in the plan posts an event at which the machine itself does something, but the start button's, this is
+-- none either, or it is that of a ball that drains.
 abbrev pub IsFreeThere : PlanView → EventId → Type 0
-IsFreeThere plan e = PostsAreFree plan → IsFree plan e
+IsFreeThere plan e = PostsAreFree plan → IsFree plan e ⊎ (work_of plan e ≡ Game BallDrain)
 
 -- From one state to another by moves that are allowed, and that cost at most this.
 pub data Does (plan : PlanView) (may : Move → Type 0) : Cost → Machine → Machine → Type 0 where
@@ -169,11 +182,11 @@ ordinary plan by switches = record { by = by; posts = IsFreeThere plan; switches
 abbrev pub MayHandle : PlanView → Machine → Move → Type 0
 MayHandle plan s = MayDo plan (ordinary plan (TakesPart s) ⊥)
 
--- who speaks at the beginning of a stimulus: at the alarm of a device the device's owner, else the machine
+-- who speaks at the beginning of a stimulus: the machine, and at the alarm of a device its owner too
 abbrev pub Begins : PlanView → Stimulus → Owner → Type 0
 Begins plan (Change at n level) owner = IsMachine owner
 Begins plan (Alarm at (switch n)) owner = IsMachine owner
-Begins plan (Alarm at (device r)) owner = owner ≡ (row_at plan r).owner
+Begins plan (Alarm at (device r)) owner = (owner ≡ (row_at plan r).owner) ⊎ IsMachine owner
 Begins plan (Wait at) owner = IsMachine owner
 
 -- what a stimulus may do

@@ -1,7 +1,20 @@
 //! The lines of a trace.
 
+use ball_devices::Booking;
 use coil_guard::Command;
 use plan_tables::entries::{EventId, Owner, SwitchId, VariableId};
+
+/// How many balls are known, and where they are.
+#[derive(Clone, Copy, Debug)]
+pub struct BallCounts {
+    pub known: u64,
+    /// How many lie in devices.
+    pub counted: u64,
+    /// How many are on their way from a device to its target.
+    pub transit: u64,
+    /// How many are on the playfield.
+    pub playfield: u64,
+}
 
 /// What a line says.
 #[derive(Clone, Copy, Debug)]
@@ -16,6 +29,8 @@ pub enum Happening {
     Skip(Command),
     /// A variable of the player of this number has changed to this value.
     Player(usize, VariableId, i64),
+    /// The ledger of balls has booked this.
+    Balls(Booking, BallCounts),
     /// The game has ended, and this is the score of the player of this number.
     Final(usize, i64),
 }

@@ -1,0 +1,84 @@
+-- What a trace says of balls: what the ledger has booked, and which ball switches count as holding one.
+use Rattle.std.specs.Prelude.{ℕ, ◌+◌, ◌==◌, Bool, false, if◌then◌else◌, nat_le, nat_lt, Option, None, Some, List, [], ◌∷◌, filter}
+use Rattle.std.specs.List.{flat_map, list_all, list_any, last_or}
+use Rattle.plan_tables.specs.PlanView.{PlanView, listeners_of, switch_at}
+use Rattle.plan_tables.specs.declared.devices.BallSettings.{BallSettings}
+use Rattle.plan_tables.specs.declared.devices.RowId.{RowId}
+use Rattle.plan_tables.specs.declared.entries.SwitchId.{SwitchId}
+use Rattle.cascade_rank.specs.Cost.{switches_of}
+use Rattle.ball_devices.specs.declared.booking.Booking.{Booking}
+use Rattle.device_objects.specs.BallDevice.{delay}
+use Rattle.written_machine.specs.declared.line.Line.{Line}
+use Rattle.written_machine.specs.declared.line.Happening.{Happening}
+use Rattle.written_machine.specs.declared.line.Happening.TheVariants as lines
+
+-- ---- bookings
+
+abbrev pub booked_at : Happening → List Booking
+booked_at (lines.Balls booking counts) = booking ∷ []
+booked_at _ = []
+
+-- all that the ledger has booked, in order
+abbrev pub bookings : List Line → List Booking
+bookings trace = flat_map (λ l. booked_at l.happening) trace
+
+-- Wherever a ball has entered a device in a trace, it came from where the bookings before it say.
+abbrev pub AreOriginsRight : List Line → Type 0
+AreOriginsRight trace =
+    (before : List Line) (line : Line) (after : List Line) (r : RowId) (origin : Origin) (counts : BallCounts)
+    → trace ≡ before ++ line ∷ after → line.happening ≡ lines.Balls (Entered r origin) counts → origin ≡ origin_after (bookings before) r
+
+-- Wherever a line tells of all balls, its counts are those of the bookings up to it.
+abbrev pub AreCountsRight : PlanView → List Line → Type 0
+AreCountsRight plan trace =
+    (before : List Line) (line : Line) (after : List Line) (booking : Booking) (counts : BallCounts)
+    → trace ≡ before ++ line ∷ after → line.happening ≡ lines.Balls booking counts
+    → (l : Ledger) → length l.counted ≡ length plan.rows → length l.to_devices ≡ length plan.rows
+    → HasBooked (bookings before ++ booking ∷ []) l → counts ≡ counts_of l
+
+-- ---- ball switches
+
+-- that a switch was accepted as active or inactive, and when
+pub record LevelChange : Type 0 where
+  pub at : ℕ
+  pub active : Bool
+
+abbrev pub change_at : SwitchId → ℕ → Happening → List LevelChange
+change_at n moment (lines.Switch m active) = if m.0 == n.0 then record { at = moment; active = active } ∷ [] else []
+change_at n moment _ = []
+
+-- the changes of a switch that a trace has, in order
+abbrev pub changes_of : SwitchId → List Line → List LevelChange
+changes_of n trace = flat_map (λ l. change_at n l.moment l.happening) trace
+
+-- when a change of a ball switch counts, if the switch stays as it is
+abbrev pub counts_from : BallSettings → LevelChange → ℕ
+counts_from d c = c.at + delay d c.active
+
+-- whether a later change comes too late to undo one that counts from this moment on: at that very moment a quick switch
+-- is late, since devices come before changes, and another is in time, since its own alarm comes before those of devices
+abbrev pub is_late : Bool → ℕ → LevelChange → Bool
+is_late quick moment later = if quick then nat_le moment later.at else nat_lt moment later.at
+
+-- of changes in their order those that stand: no later one undoes them before they count
+abbrev pub standing : BallSettings → Bool → List LevelChange → List LevelChange
+standing d quick [] = []
+standing d quick (c ∷ later) = if list_all (is_late quick (counts_from d c)) later then c ∷ standing d quick later else standing d quick later
+
+abbrev pub level_after : Option LevelChange → Bool
+level_after None = false
+level_after (Some c) = c.active
+
+-- Whether a ball counts at a ball switch at a moment: by the last of its changes that stand and count by then, and
+-- without one not.
+abbrev pub counted_level : BallSettings → Bool → ℕ → List LevelChange → Bool
+counted_level d quick moment changes =
+    level_after (last_or None (filter (λ c. nat_le (counts_from d c) moment) (standing d quick changes)))
+
+-- the ball switches of a device
+abbrev pub ball_switches : PlanView → RowId → List SwitchId
+ball_switches plan r = filter (λ n. list_any (λ l. l.row.0 == r.0) (listeners_of plan n)) (switches_of plan)
+
+-- whether a ball counts at one of them
+abbrev pub is_counted : PlanView → BallSettings → ℕ → List Line → SwitchId → Bool
+is_counted plan d moment trace n = counted_level d (switch_at plan n).kind.quick moment (changes_of n trace)
