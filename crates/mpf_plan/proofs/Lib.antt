@@ -19,6 +19,7 @@ pub mod RowOwners
 pub mod Owned
 pub mod GameNames
 pub mod GameMade
+pub mod BallActions
 pub mod SoundDraft
 pub mod ModesMade
 pub mod ModeWorks

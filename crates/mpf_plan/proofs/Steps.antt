@@ -89,6 +89,7 @@ switch_unchanged change names entries i past =
 pub record IsBlank (e : SwitchEntry) : Type 0 where
   pub kind : e.kind ≡ no_switch.kind
   pub listeners : e.listeners.items ≡ []
+  pub confirms : e.confirms_playfield ≡ false
   pub active : e.active.items ≡ []
   pub inactive : e.inactive.items ≡ []
 
@@ -97,7 +98,7 @@ blank_entries [] entries count all = refl
 blank_entries (n ∷ ns) [] count all = absurd (omega (arith, count))
 blank_entries (n ∷ ns) (e ∷ es) count all =
     let first = All-head IsBlank e es all in
-    λ i. record { name = n; kind = first.kind i; listeners = first.listeners i; active = first.active i; inactive = first.inactive i } ∷ blank_entries ns es (omega (arith, count)) (All-tail IsBlank e es all) i
+    λ i. record { name = n; kind = first.kind i; listeners = first.listeners i; confirms_playfield = first.confirms i; active = first.active i; inactive = first.inactive i } ∷ blank_entries ns es (omega (arith, count)) (All-tail IsBlank e es all) i
 
 -- ---- coils
 

@@ -29,7 +29,7 @@ use Rattle.plan_contributions.specs.Contributions.{Contribution, gives, reads, a
 use Rattle.mpf_plan.specs.Uses.{Names, names_from, number_among, lacks_name}
 use Rattle.mpf_plan.specs.ByName.{latest_limits, AreLimitsByName, ListenersAreOwn}
 use Rattle.plan_tables.specs.Limits.{entry_count, limit_of}
-use Rattle.mpf_plan.specs.PlanOf.{DraftView, action_of, first_of_last, next_row, next_list, with_one_more, with_contribution, blank, plan_from, plan_of, plan_at}
+use Rattle.mpf_plan.specs.PlanOf.{DraftView, action_of, last_row, first_of_last, next_row, next_list, with_one_more, with_contribution, blank, plan_from, plan_of, plan_at}
 use Rattle.mpf_plan.proofs.Counts.{named_of}
 use Rattle.mpf_plan.proofs.Drafted.{given_plan, names-from, count-bindings, count-rows, count-row_lists, count-lists, lists_few}
 use Rattle.mpf_plan.proofs.Judged.{plan_at-Ok, plan_at-complete}
@@ -176,7 +176,7 @@ IsLimitedRow row = IsWithinLimits row.settings
 module _ (names : Names) where
   fit_one : (n : ℕ) (f : ℕ → ℕ) (d : DraftView) (c : Contribution) → IsRoomy n f c → AreFit n f d.plan → AreFit (effects_after n c) (effects_in_after f c) (with_contribution names d c).plan
   fit_one n f d (gives t e) room fit = subst (AreFit n f) (sym (given_plan t (number_among (names t) e) d)) fit
-  fit_one n f d (reads kind) room fit = record { lists = fit.lists; last = fit.last; in_row = fit.in_row }
+  fit_one n f d (reads kind confirms) room fit = record { lists = fit.lists; last = fit.last; in_row = fit.in_row }
   fit_one n f d (active e) room fit = record { lists = fit.lists; last = fit.last; in_row = fit.in_row }
   fit_one n f d (inactive e) room fit = record { lists = fit.lists; last = fit.last; in_row = fit.in_row }
   fit_one n f d (mode e priority game) room fit = record { lists = fit.lists; last = fit.last; in_row = fit.in_row }
@@ -186,9 +186,9 @@ module _ (names : Names) where
   fit_one n f d (binds e place (Do act)) room fit = record { lists = fit.lists; last = fit.last; in_row = fit.in_row }
   fit_one n f d (binds e place (On r act)) room fit = record { lists = fit.lists; last = fit.last; in_row = fit.in_row }
   fit_one n f d (binds e place Run) room fit = let more = fit_more n f d.plan fit in record { lists = more.lists; last = more.last; in_row = more.in_row }
-  fit_one n f d (does e) room fit = fit_last n f d.plan fit (action_of names e) room
+  fit_one n f d (does e) room fit = fit_last n f d.plan fit (action_of names (last_row d.plan) e) room
   fit_one n f d (device place settings) room fit = fit_device n f d.plan fit (d.plan.rows ++ next_row d.plan place settings ∷ []) (list_count settings)
-  fit_one n f d (does_in k e) room fit = fit_in n f d.plan fit k (action_of names e) room
+  fit_one n f d (does_in k e) room fit = fit_in n f d.plan fit k (action_of names (last_row d.plan) e) room
   fit_one n f d (listens k e) room fit = record { lists = fit.lists; last = fit.last; in_row = fit.in_row }
   fit_one n f d (mentions t e) room fit = fit
   fit_one n f d unknown room fit = fit

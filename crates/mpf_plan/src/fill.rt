@@ -91,8 +91,8 @@ fn add(
 {
     match *contribution {
         Contribution::Gives(table, name) => add_given(names, text, draft, table, name),
-        Contribution::Reads(kind) => {
-            read_switch(draft, kind);
+        Contribution::Reads(kind, confirms) => {
+            read_switch(draft, kind, confirms);
             Ok(())
         }
         Contribution::Active(name) => add_active(names, text, draft, name),
@@ -161,13 +161,15 @@ fn define_switch(draft: &mut Draft, n: usize)
     draft.last = n;
 }
 
-/// The switch that came last is read so.
-fn read_switch(draft: &mut Draft, kind: SwitchKind)
-    ensures { (names : NameSetsValue) → draft_view names draft.new ≡ with_kind kind (draft_view names draft.old) }
+/// The switch that came last is read so, and this says whether a ball that presses it is on the playfield.
+fn read_switch(draft: &mut Draft, kind: SwitchKind, confirms: bool)
+    ensures { (names : NameSetsValue) → draft_view names draft.new ≡ with_kind kind confirms (draft_view names draft.old) }
 {
     let last = draft.last;
     if last < draft.switches.len() {
-        draft.switches[last].kind = kind;
+        let entry = &mut draft.switches[last];
+        entry.kind = kind;
+        entry.confirms_playfield = confirms;
     }
 }
 
@@ -464,16 +466,22 @@ fn add_effect(
     draft: &mut Draft,
     effect: Effect,
 ) -> Result<(), AllocError>
+    requires rows { length draft.old.rows.items ≤ 1024 }
     ensures { OnOk result (draft_view names.now draft.new ≡ with_contribution (name_sets_view names.now) (draft_view names.now draft.old) (does (effect_view effect.entry))) }
 {
-    let action = action_of(names, text, effect)?;
+    let action = action_of(names, text, last_row(draft), effect)?;
     push_action(&mut draft.lists, action)?;
     Ok(())
 }
 
-/// What an effect list does, by number.
-fn action_of(names: &NameSets, text: &mut Vec<u8>, effect: Effect) -> Result<Action, AllocError>
-    ensures { IfOk result (λ a. a ≡ action_of (name_sets_view names.now) (effect_view effect.entry)) }
+/// What an effect list does, by number. What happens with balls is of this row.
+fn action_of(
+    names: &NameSets,
+    text: &mut Vec<u8>,
+    row: RowId,
+    effect: Effect,
+) -> Result<Action, AllocError>
+    ensures { IfOk result (λ a. a ≡ action_of (name_sets_view names.now) row (effect_view effect.entry)) }
 {
     match effect {
         Effect::Post(name) => {
@@ -494,6 +502,17 @@ fn action_of(names: &NameSets, text: &mut Vec<u8>, effect: Effect) -> Result<Act
                 event,
             })
         }
+        Effect::Enter(name, drain) => {
+            let event = event_of(names, text, name)?;
+            Ok(Action::Enter {
+                device: row,
+                event,
+                drain,
+            })
+        }
+        Effect::Leave => Ok(Action::Leave { device: row }),
+        Effect::Lose => Ok(Action::Lose { device: row }),
+        Effect::Arrive => Ok(Action::Arrive { device: row }),
     }
 }
 
@@ -579,9 +598,10 @@ fn add_effect_in(
     number: u16,
     effect: Effect,
 ) -> Result<(), AllocError>
+    requires rows { length draft.old.rows.items ≤ 1024 }
     ensures { OnOk result (draft_view names.now draft.new ≡ with_contribution (name_sets_view names.now) (draft_view names.now draft.old) (does_in number (effect_view effect.entry))) }
 {
-    let action = action_of(names, text, effect)?;
+    let action = action_of(names, text, last_row(draft), effect)?;
     let place = first_of_last(&draft.row_lists).0 as usize + number as usize;
     push_action_at(&mut draft.lists, place, action)?;
     Ok(())
@@ -753,6 +773,7 @@ fn blank_switches(alloc: Global, count: usize) -> Result<Vec<SwitchEntry>, Alloc
                 quick: false,
             },
             listeners: Vec::new(alloc),
+            confirms_playfield: false,
             active: Vec::new(alloc),
             inactive: Vec::new(alloc),
         })?;
