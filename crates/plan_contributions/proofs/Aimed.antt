@@ -233,26 +233,26 @@ module _ (A : Place → Aim → Type 0) (plain : (own : Place) (aim : Aim) → I
   in_entry Mode section e = in_where A plain Mode (device_of section e)
 
   -- all that a section gives, or a text, where A holds of each act on a seat
-  module _ (place : Place) (seat : List ℕ → Option Seat) (seats : (name : List ℕ) → IfSome (seat name) (λ s. (act : Act) → A place (On s.row act))) where
+  module _ (place : Place) (seat : List ℕ → Option Seat) (to : List ℕ → Destination) (seats : (name : List ℕ) → IfSome (seat name) (λ s. (act : Act) → A place (On s.row act))) where
     abbrev R : Row → Type 0
     R r = All (IsOfText A place) (row_contributions rows.machine r)
 
-    of_entry : (section : List ℕ) (e : Entry) → R (entry_row rows place seat section e)
+    of_entry : (section : List ℕ) (e : Entry) → R (entry_row rows place seat to section e)
     of_entry section e =
         let own = shot_of e in
         let others = shot_group_of e in
         entry_such R rows place seat section e (in_shot A plain place own (seat own.name.text) (has_profile rows own.profile.text) (profile_of_name rows own.profile.text) (seats own.name.text))
         (in_group A plain place others (members_of rows others)) (in_entry place section e)
 
-    of_section : (section : List ℕ) (content : Content) → All R (rows_from rows place seat section content)
-    of_section section (entries es) = All-map R (entry_row rows place seat section) es (All-every (λ e. R (entry_row rows place seat section e)) (of_entry section) es)
+    of_section : (section : List ℕ) (content : Content) → All R (rows_from rows place seat to section content)
+    of_section section (entries es) = All-map R (entry_row rows place seat to section) es (All-every (λ e. R (entry_row rows place seat to section e)) (of_entry section) es)
     of_section section (players ps) = All-map R (player place section) ps (All-every (λ p. R (player place section p)) (in_player_entry A plain place rows.machine place section) ps)
     of_section section (sections.entry e) = All-cons R (alone place section e) [] (in_alone A plain place rows.machine place section e) (All-nil R)
     of_section section (sections.listed ws) = All-nil R
 
-    pub of_text : (ss : List SectionRows) → All (IsOfText A place) (given_by rows.machine (rows_in rows place seat ss))
+    pub of_text : (ss : List SectionRows) → All (IsOfText A place) (given_by rows.machine (rows_in rows place seat to ss))
     of_text ss =
-        All-flat_map (IsOfText A place) (row_contributions rows.machine) (rows_in rows place seat ss)
+        All-flat_map (IsOfText A place) (row_contributions rows.machine) (rows_in rows place seat to ss)
         (sections_each R (λ s. Unit {0}) rows place seat (λ s h. of_section s.name s.content) ss (All-every (λ s. Unit {0}) (λ s. tt) ss))
 
 -- ---- modes

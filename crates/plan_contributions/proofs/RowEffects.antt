@@ -27,7 +27,8 @@ use Rattle.plan_contributions.specs.declared.contribution.Aim.TheVariants.{Run, 
 use Rattle.plan_contributions.specs.CoilEntries.{limits_of_coil, item_effect, flipper_device, autofire_device}
 use Rattle.plan_contributions.specs.DeviceEntries.{Effect, posts}
 use Rattle.plan_contributions.specs.ShotEntries.{shot_lists, shot_acts, lone_device, group_device}
-use Rattle.plan_rows.specs.Seats.{Seat, seat_of}
+use Rattle.plan_rows.specs.declared.destination.Destination.{Destination}
+use Rattle.plan_rows.specs.Seats.{Seat, seat_of, destination_of}
 use Rattle.plan_rows.specs.Members.{members_of}
 use Rattle.plan_contributions.specs.Contributions.{Contribution, reads, active, inactive, mode, binds, does, device, mentions, coil, under, plays, under_where, bound, always, texts, events, kind_of, active_posts, inactive_posts, switch_contributions, player_contributions, coil_contributions, coil_player_contributions, item_contributions, variable_player_contributions, game_contributions, starter, stopper, stopper_where, later_events, controls, mode_contributions, Device, act_binding, listens_from, effects_from, device_contributions, device_of, where_device, machine_device, unknown_unless, shot_switch, act_at, seated, shot_contributions, group_contributions, machine_entry_contributions, entry_contributions, alone_contributions, player_entry_contributions, row_contributions, contributions_of}
 use Rattle.plan_rows.specs.Rows.{Row, entry, alone, player, of_mode, shot_row, group_row, entry_row, rows_from, rows_in, mode_rows, rows_of}
@@ -240,9 +241,9 @@ module _ (P : Effect → Type 0) (S L : List ℕ → Type 0) where
         All-map GivesDoing (player place s.name) ps (λ i d within. in_player_entry place s.name (get_or ps i d) (own i d within) (others i d within) (changing i d within))
 
     -- an entry of a section, where it is a shot, a group, or neither
-    in_entry_row : (place : Place) (seat : List ℕ → Option Seat) (section : List ℕ) (e : Entry) → Where (bytes_eq section shots_name) (IsShotDoing P S L rows (shot_of e)) → Where (bytes_eq section shot_groups_name) (IsShotGroupDoing P S L rows (shot_group_of e))
-        → All D (entry_contributions machine place section e) → GivesDoing (entry_row rows place seat section e)
-    in_entry_row place seat section e = by (bytes_eq section shots_name) (bytes_eq section shot_groups_name)
+    in_entry_row : (place : Place) (seat : List ℕ → Option Seat) (to : List ℕ → Destination) (section : List ℕ) (e : Entry) → Where (bytes_eq section shots_name) (IsShotDoing P S L rows (shot_of e)) → Where (bytes_eq section shot_groups_name) (IsShotGroupDoing P S L rows (shot_group_of e))
+        → All D (entry_contributions machine place section e) → GivesDoing (entry_row rows place seat to section e)
+    in_entry_row place seat to section e = by (bytes_eq section shots_name) (bytes_eq section shot_groups_name)
       where
         by : (s g : Bool) → Where s (IsShotDoing P S L rows (shot_of e)) → Where g (IsShotGroupDoing P S L rows (shot_group_of e)) → All D (entry_contributions machine place section e)
             → GivesDoing (if s then shot_row rows place seat (shot_of e) else (if g then group_row rows place seat (shot_group_of e) else entry place section e))
@@ -250,44 +251,45 @@ module _ (P : Effect → Type 0) (S L : List ℕ → Type 0) where
         by false true hs hg h = in_group rows place (shot_group_of e) hg
         by false false hs hg h = h
 
-    in_entries : (place : Place) (seat : List ℕ → Option Seat) (s : SectionRows) (es : List Entry) → All (IsShotDoing P S L rows) (map shot_of (if bytes_eq s.name shots_name then es else []))
-        → All (IsShotGroupDoing P S L rows) (map shot_group_of (if bytes_eq s.name shot_groups_name then es else [])) → All (λ e. All D (entry_contributions machine place s.name e)) es → All GivesDoing (map (entry_row rows place seat s.name) es)
-    in_entries place seat s es shots groups others =
+    in_entries : (place : Place) (seat : List ℕ → Option Seat) (to : List ℕ → Destination) (s : SectionRows) (es : List Entry) → All (IsShotDoing P S L rows) (map shot_of (if bytes_eq s.name shots_name then es else []))
+        → All (IsShotGroupDoing P S L rows) (map shot_group_of (if bytes_eq s.name shot_groups_name then es else [])) → All (λ e. All D (entry_contributions machine place s.name e)) es → All GivesDoing (map (entry_row rows place seat to s.name) es)
+    in_entries place seat to s es shots groups others =
         let own = where_named (IsShotDoing P S L rows) shot_of (bytes_eq s.name shots_name) es shots in
         let grouped = where_named (IsShotGroupDoing P S L rows) shot_group_of (bytes_eq s.name shot_groups_name) es groups in
-        All-map GivesDoing (entry_row rows place seat s.name) es (λ i d within. in_entry_row place seat s.name (get_or es i d) (own i d within) (grouped i d within) (others i d within))
+        All-map GivesDoing (entry_row rows place seat to s.name) es (λ i d within. in_entry_row place seat to s.name (get_or es i d) (own i d within) (grouped i d within) (others i d within))
 
     -- of a section of a mode
-    in_mode_content : (seat : List ℕ → Option Seat) (s : SectionRows) (content : Content) → IsDoing P S L rows (record { name = s.name; content = content }) → All GivesDoing (rows_from rows Mode seat s.name content)
+    in_mode_content : (seat : List ℕ → Option Seat) (to : List ℕ → Destination) (s : SectionRows) (content : Content) → IsDoing P S L rows (record { name = s.name; content = content }) → All GivesDoing (rows_from rows Mode seat to s.name content)
     unfolding event_players_in coil_players_in variable_players_in shots_in shot_groups_in entry_contributions
-    in_mode_content seat s (entries es) h = in_entries Mode seat s es h.shots h.groups (λ i d within. in_where Mode (device_of s.name (get_or es i d)) (h.devices i d within))
-    in_mode_content seat s (players ps) h = in_players Mode s ps h.players h.coil_players h.variable_players
-    in_mode_content seat s (sections.entry e) h = All-cons GivesDoing (alone Mode s.name e) [] (in_alone Mode s.name e) (All-nil GivesDoing)
-    in_mode_content seat s (sections.listed ws) h = All-nil GivesDoing
+    in_mode_content seat to s (entries es) h = in_entries Mode seat to s es h.shots h.groups (λ i d within. in_where Mode (device_of s.name (get_or es i d)) (h.devices i d within))
+    in_mode_content seat to s (players ps) h = in_players Mode s ps h.players h.coil_players h.variable_players
+    in_mode_content seat to s (sections.entry e) h = All-cons GivesDoing (alone Mode s.name e) [] (in_alone Mode s.name e) (All-nil GivesDoing)
+    in_mode_content seat to s (sections.listed ws) h = All-nil GivesDoing
 
     -- and of one of the machine
-    in_machine_content : (seat : List ℕ → Option Seat) (s : SectionRows) (content : Content) → IsMachineDoing P S L rows (record { name = s.name; content = content }) → All GivesDoing (rows_from rows Machine seat s.name content)
+    in_machine_content : (seat : List ℕ → Option Seat) (to : List ℕ → Destination) (s : SectionRows) (content : Content) → IsMachineDoing P S L rows (record { name = s.name; content = content }) → All GivesDoing (rows_from rows Machine seat to s.name content)
     unfolding switches_in event_players_in coil_players_in variable_players_in flippers_in autofires_in shots_in shot_groups_in entry_contributions
-    in_machine_content seat s (entries es) h =
+    in_machine_content seat to s (entries es) h =
         let switches = where_named (IsSwitchDoing P S L) switch_of (bytes_eq s.name switches_name) es h.switches in
         let flippers = where_named (λ f. IsDeviceDoing P S L (flipper_device machine f)) flipper_of (bytes_eq s.name flippers_name) es h.flippers in
         let autofires = where_named (λ a. IsDeviceDoing P S L (autofire_device machine a)) autofire_of (bytes_eq s.name autofire_coils_name) es h.autofires in
         let all : IsDoing P S L rows (record { name = s.name; content = entries es }) = h.all in
-        in_entries Machine seat s es all.shots all.groups (λ i d within.
+        in_entries Machine seat to s es all.shots all.groups (λ i d within.
         let e = get_or es i d in
         in_machine_entry s.name e (switches i d within) (in_machine_device s.name e (flippers i d within) (autofires i d within) (all.devices i d within)))
-    in_machine_content seat s (players ps) h = let all : IsDoing P S L rows (record { name = s.name; content = players ps }) = h.all in in_players Machine s ps all.players all.coil_players all.variable_players
-    in_machine_content seat s (sections.entry e) h = All-cons GivesDoing (alone Machine s.name e) [] (in_alone Machine s.name e) (All-nil GivesDoing)
-    in_machine_content seat s (sections.listed ws) h = All-nil GivesDoing
+    in_machine_content seat to s (players ps) h = let all : IsDoing P S L rows (record { name = s.name; content = players ps }) = h.all in in_players Machine s ps all.players all.coil_players all.variable_players
+    in_machine_content seat to s (sections.entry e) h = All-cons GivesDoing (alone Machine s.name e) [] (in_alone Machine s.name e) (All-nil GivesDoing)
+    in_machine_content seat to s (sections.listed ws) h = All-nil GivesDoing
 
     in_mode_rows : (n : ℕ) (m : ModeRows) → All (IsDoing P S L rows) m.sections → All GivesDoing (mode_rows rows n m)
     in_mode_rows n m h =
         let seat = seat_of Mode n m.sections in
-        All-cons GivesDoing (of_mode m.name (mode_settings m.sections)) (rows_in rows Mode seat m.sections) (in_mode m.name (mode_settings m.sections))
-        (sections_each GivesDoing (IsDoing P S L rows) rows Mode seat (λ s. in_mode_content seat s s.content) m.sections h)
+        let to = destination_of Mode n m.sections in
+        All-cons GivesDoing (of_mode m.name (mode_settings m.sections)) (rows_in rows Mode seat to m.sections) (in_mode m.name (mode_settings m.sections))
+        (sections_each GivesDoing (IsDoing P S L rows) rows Mode seat to (λ s. in_mode_content seat to s s.content) m.sections h)
 
   pub all_do : (rows : Rows) → AreDoing P S L rows → All (Does P S L) (contributions_of rows)
   all_do rows h =
       let IsModeDoing : ModeRows → Type 0 = λ m. All (IsDoing P S L rows) m.sections in
       All-flat_map D (row_contributions rows.machine) (rows_of rows)
-      (rows_each (GivesDoing rows) (IsMachineDoing P S L rows) IsModeDoing rows (λ seat s. in_machine_content rows seat s s.content) (in_mode_rows rows) h.machine h.modes)
+      (rows_each (GivesDoing rows) (IsMachineDoing P S L rows) IsModeDoing rows (λ seat to s. in_machine_content rows seat to s s.content) (in_mode_rows rows) h.machine h.modes)

@@ -40,7 +40,8 @@ use Rattle.plan_contributions.specs.VariableEntries.{item_change}
 use Rattle.plan_contributions.specs.CoilEntries.{limits_of_coil, defaults_called, own_pulse, own_hold, item_effect, flipper_on, flipper_off, flipper_device, autofire_device}
 use Rattle.plan_contributions.specs.DeviceEntries.{disable, Effect, posts, works, changes, events, device_of, acts, block_acts, block_mentions, block_event, or_own, block_lists, counter_device, step_acts, step_settings, step_device, controlled, timer_event, timer_endings, timer_device, always}
 use Rattle.plan_contributions.specs.ShotEntries.{shot_events, group_events, shot_acts, lone_device, group_device}
-use Rattle.plan_rows.specs.Seats.{Seat, seat_of, rows_after_text}
+use Rattle.plan_rows.specs.declared.destination.Destination.{Destination}
+use Rattle.plan_rows.specs.Seats.{Seat, seat_of, destination_of, rows_after_text}
 use Rattle.plan_rows.specs.Members.{flags, is_enabled, Members}
 use Rattle.plan_tables.specs.declared.entries.ModeEvent.{ModeEvent}
 use Rattle.plan_tables.specs.declared.entries.ModeEvent.TheVariants.{WillStart, Starting, Started, Stopping, Stopped}
@@ -884,9 +885,9 @@ all_placed machine (r ∷ rs) =
 -- ---- the rows of sections
 
 -- what holds of a row of a shot, of a group and of any other entry holds of each entry's row
-pub entry_such : (R : Row → Type 0) (rows : Rows) (place : Place) (seat : List ℕ → Option Seat) (section : List ℕ) (e : Entry) → R (shot_row rows place seat (shot_of e)) → R (group_row rows place seat (shot_group_of e))
-    → R (entry place section e) → R (entry_row rows place seat section e)
-entry_such R rows place seat section e of_shot of_group other = by (bytes_eq section shots_name) (bytes_eq section shot_groups_name)
+pub entry_such : (R : Row → Type 0) (rows : Rows) (place : Place) (seat : List ℕ → Option Seat) (to : List ℕ → Destination) (section : List ℕ) (e : Entry) → R (shot_row rows place seat (shot_of e)) → R (group_row rows place seat (shot_group_of e))
+    → R (entry place section e) → R (entry_row rows place seat to section e)
+entry_such R rows place seat to section e of_shot of_group other = by (bytes_eq section shots_name) (bytes_eq section shot_groups_name)
   where
     by : (s g : Bool) → R (if s then shot_row rows place seat (shot_of e) else (if g then group_row rows place seat (shot_group_of e) else entry place section e))
     by true g = of_shot
@@ -894,10 +895,10 @@ entry_such R rows place seat section e of_shot of_group other = by (bytes_eq sec
     by false false = other
 
 -- what holds of each row that stands in a section
-module _ (R : Row → Type 0) (S : SectionRows → Type 0) (rows : Rows) (place : Place) (seat : List ℕ → Option Seat) (each : (s : SectionRows) → S s → All R (rows_from rows place seat s.name s.content)) where
-  pub sections_each : (sections : List SectionRows) → All S sections → All R (rows_in rows place seat sections)
+module _ (R : Row → Type 0) (S : SectionRows → Type 0) (rows : Rows) (place : Place) (seat : List ℕ → Option Seat) (to : List ℕ → Destination) (each : (s : SectionRows) → S s → All R (rows_from rows place seat to s.name s.content)) where
+  pub sections_each : (sections : List SectionRows) → All S sections → All R (rows_in rows place seat to sections)
   sections_each sections h =
-      All-flat_map R (λ s. rows_from rows place seat s.name s.content) sections (All-weaker S (λ s. All R (rows_from rows place seat s.name s.content)) each sections h)
+      All-flat_map R (λ s. rows_from rows place seat to s.name s.content) sections (All-weaker S (λ s. All R (rows_from rows place seat to s.name s.content)) each sections h)
 
 -- what holds of each row of modes, one after the other
 module _ (R : Row → Type 0) (M : ModeRows → Type 0) (rows : Rows) (each : (n : ℕ) (m : ModeRows) → M m → All R (mode_rows rows n m)) where
@@ -908,26 +909,27 @@ module _ (R : Row → Type 0) (M : ModeRows → Type 0) (rows : Rows) (each : (n
       All-append R (mode_rows rows n m) (modes_rows rows after ms) (each n m (All-head M m ms h)) (modes_each after ms (All-tail M m ms h))
 
 -- what holds of each row of a configuration
-module _ (R : Row → Type 0) (S : SectionRows → Type 0) (M : ModeRows → Type 0) (rows : Rows) (first : (seat : List ℕ → Option Seat) (s : SectionRows) → S s → All R (rows_from rows Machine seat s.name s.content))
+module _ (R : Row → Type 0) (S : SectionRows → Type 0) (M : ModeRows → Type 0) (rows : Rows) (first : (seat : List ℕ → Option Seat) (to : List ℕ → Destination) (s : SectionRows) → S s → All R (rows_from rows Machine seat to s.name s.content))
     (each : (n : ℕ) (m : ModeRows) → M m → All R (mode_rows rows n m)) where
   pub rows_each : All S rows.machine → All M rows.modes → All R (rows_of rows)
   rows_each machine modes =
       let seat = seat_of Machine 0 rows.machine in
+      let to = destination_of Machine 0 rows.machine in
       let after = rows_after_text Machine 0 rows.machine in
-      All-append R (rows_in rows Machine seat rows.machine) (modes_rows rows after rows.modes) (sections_each R S rows Machine seat (first seat) rows.machine machine) (modes_each R M rows each after rows.modes modes)
+      All-append R (rows_in rows Machine seat to rows.machine) (modes_rows rows after rows.modes) (sections_each R S rows Machine seat to (first seat to) rows.machine machine) (modes_each R M rows each after rows.modes modes)
 
 module _ (rows : Rows) (machine : All IsNamed rows.machine) (modes : All IsNamedMode rows.modes) where
-  rows_named : (place : Place) (seat : List ℕ → Option Seat) (s : SectionRows) → IsNamed s → All IsNamedRow (rows_from rows place seat s.name s.content)
-  rows_named place seat s h = by s.content h
+  rows_named : (place : Place) (seat : List ℕ → Option Seat) (to : List ℕ → Destination) (s : SectionRows) → IsNamed s → All IsNamedRow (rows_from rows place seat to s.name s.content)
+  rows_named place seat to s h = by s.content h
     where
-      entry_named : (e : Entry) → IsNamedEntry e → IsNamedRow (entry_row rows place seat s.name e)
+      entry_named : (e : Entry) → IsNamedEntry e → IsNamedRow (entry_row rows place seat to s.name e)
       entry_named e k =
           let own = shot_of e in
           let others = shot_group_of e in
-          entry_such IsNamedRow rows place seat s.name e (shot_named e k, profile_named rows machine modes own.profile.text) (shot_group_named e k, members_named rows machine modes others) k
+          entry_such IsNamedRow rows place seat to s.name e (shot_named e k, profile_named rows machine modes own.profile.text) (shot_group_named e k, members_named rows machine modes others) k
 
-      by : (content : Content) → IsNamedContent content → All IsNamedRow (rows_from rows place seat s.name content)
-      by (entries es) k = All-map IsNamedRow (entry_row rows place seat s.name) es (All-weaker IsNamedEntry (λ e. IsNamedRow (entry_row rows place seat s.name e)) entry_named es k)
+      by : (content : Content) → IsNamedContent content → All IsNamedRow (rows_from rows place seat to s.name content)
+      by (entries es) k = All-map IsNamedRow (entry_row rows place seat to s.name) es (All-weaker IsNamedEntry (λ e. IsNamedRow (entry_row rows place seat to s.name e)) entry_named es k)
       by (players ps) k = All-map IsNamedRow (player place s.name) ps k
       by (sections.entry e) k = All-cons IsNamedRow (alone place s.name e) [] k (All-nil IsNamedRow)
       by (sections.listed ws) k = All-nil IsNamedRow
@@ -935,24 +937,25 @@ module _ (rows : Rows) (machine : All IsNamed rows.machine) (modes : All IsNamed
   mode_rows_named : (n : ℕ) (m : ModeRows) → IsNamedMode m → All IsNamedRow (mode_rows rows n m)
   mode_rows_named n m h =
       let seat = seat_of Mode n m.sections in
-      All-cons IsNamedRow (of_mode m.name (mode_settings m.sections)) (rows_in rows Mode seat m.sections) (h.name, mode_settings_named m.sections h.sections)
-      (sections_each IsNamedRow IsNamed rows Mode seat (rows_named Mode seat) m.sections h.sections)
+      let to = destination_of Mode n m.sections in
+      All-cons IsNamedRow (of_mode m.name (mode_settings m.sections)) (rows_in rows Mode seat to m.sections) (h.name, mode_settings_named m.sections h.sections)
+      (sections_each IsNamedRow IsNamed rows Mode seat to (rows_named Mode seat to) m.sections h.sections)
 
   all_rows_named : All IsNamedRow (rows_of rows)
   all_rows_named = rows_each IsNamedRow IsNamed IsNamedMode rows (rows_named Machine) mode_rows_named machine modes
 
 module _ (rows : Rows) where
-  rows_short : (place : Place) (seat : List ℕ → Option Seat) (s : SectionRows) → IsShortSection s → All IsShortRow (rows_from rows place seat s.name s.content)
-  rows_short place seat s h = by s.content h
+  rows_short : (place : Place) (seat : List ℕ → Option Seat) (to : List ℕ → Destination) (s : SectionRows) → IsShortSection s → All IsShortRow (rows_from rows place seat to s.name s.content)
+  rows_short place seat to s h = by s.content h
     where
-      entry_short : (e : Entry) → IsShortEntry 1024 e → IsShortRow (entry_row rows place seat s.name e)
+      entry_short : (e : Entry) → IsShortEntry 1024 e → IsShortRow (entry_row rows place seat to s.name e)
       entry_short e k =
           let own = shot_of e in
           let others = shot_group_of e in
-          entry_such IsShortRow rows place seat s.name e (profile_short rows own.profile.text) (members_short rows others (let short = shot_group_short e k in short.shots)) k
+          entry_such IsShortRow rows place seat to s.name e (profile_short rows own.profile.text) (members_short rows others (let short = shot_group_short e k in short.shots)) k
 
-      by : (content : Content) → IsShortContent content → All IsShortRow (rows_from rows place seat s.name content)
-      by (entries es) k = All-map IsShortRow (entry_row rows place seat s.name) es (All-weaker (IsShortEntry 1024) (λ e. IsShortRow (entry_row rows place seat s.name e)) entry_short es k.0)
+      by : (content : Content) → IsShortContent content → All IsShortRow (rows_from rows place seat to s.name content)
+      by (entries es) k = All-map IsShortRow (entry_row rows place seat to s.name) es (All-weaker (IsShortEntry 1024) (λ e. IsShortRow (entry_row rows place seat to s.name e)) entry_short es k.0)
       by (players ps) k = All-map IsShortRow (player place s.name) ps k.1
       by (sections.entry e) k = All-map IsShortRow (alone place s.name) (e ∷ []) k.2
       by (sections.listed ws) k = All-nil IsShortRow
@@ -960,24 +963,25 @@ module _ (rows : Rows) where
   mode_rows_short : (n : ℕ) (m : ModeRows) → IsShortMode m → All IsShortRow (mode_rows rows n m)
   mode_rows_short n m h =
       let seat = seat_of Mode n m.sections in
-      All-cons IsShortRow (of_mode m.name (mode_settings m.sections)) (rows_in rows Mode seat m.sections) tt (sections_each IsShortRow IsShortSection rows Mode seat (rows_short Mode seat) m.sections h)
+      let to = destination_of Mode n m.sections in
+      All-cons IsShortRow (of_mode m.name (mode_settings m.sections)) (rows_in rows Mode seat to m.sections) tt (sections_each IsShortRow IsShortSection rows Mode seat to (rows_short Mode seat to) m.sections h)
 
   all_rows_short : AreListsShort rows → All IsShortRow (rows_of rows)
   all_rows_short h = rows_each IsShortRow IsShortSection IsShortMode rows (rows_short Machine) mode_rows_short h.0 h.1
 
   -- each row of a place is open where the place is
-  rows_open : (n : ℕ) (place : Place) → IsOpenPlace n place → (seat : List ℕ → Option Seat) (name : List ℕ) (content : Content) → All (IsOpenRow n) (rows_from rows place seat name content)
-  rows_open n place opened seat name (entries es) =
-      All-map (IsOpenRow n) (entry_row rows place seat name) es (λ i d within. entry_such (IsOpenRow n) rows place seat name (get_or es i d) opened opened opened)
-  rows_open n place opened seat name (players ps) = All-map (IsOpenRow n) (player place name) ps (λ i d within. opened)
-  rows_open n place opened seat name (sections.entry e) = All-cons (IsOpenRow n) (alone place name e) [] opened (All-nil (IsOpenRow n))
-  rows_open n place opened seat name (sections.listed ws) = All-nil (IsOpenRow n)
+  rows_open : (n : ℕ) (place : Place) → IsOpenPlace n place → (seat : List ℕ → Option Seat) (to : List ℕ → Destination) (name : List ℕ) (content : Content) → All (IsOpenRow n) (rows_from rows place seat to name content)
+  rows_open n place opened seat to name (entries es) =
+      All-map (IsOpenRow n) (entry_row rows place seat to name) es (λ i d within. entry_such (IsOpenRow n) rows place seat to name (get_or es i d) opened opened opened)
+  rows_open n place opened seat to name (players ps) = All-map (IsOpenRow n) (player place name) ps (λ i d within. opened)
+  rows_open n place opened seat to name (sections.entry e) = All-cons (IsOpenRow n) (alone place name e) [] opened (All-nil (IsOpenRow n))
+  rows_open n place opened seat to name (sections.listed ws) = All-nil (IsOpenRow n)
 
   -- what rows of sections give
-  sections_open : (n : ℕ) (place : Place) → IsOpenPlace n place → (seat : List ℕ → Option Seat) (sections : List SectionRows) → AreOpened n (given_by rows.machine (rows_in rows place seat sections))
-  sections_open n place opened seat sections =
-      all_open rows.machine n (rows_in rows place seat sections)
-      (sections_each (IsOpenRow n) (λ s. Unit {0}) rows place seat (λ s h. rows_open n place opened seat s.name s.content) sections (λ i d within. tt))
+  sections_open : (n : ℕ) (place : Place) → IsOpenPlace n place → (seat : List ℕ → Option Seat) (to : List ℕ → Destination) (sections : List SectionRows) → AreOpened n (given_by rows.machine (rows_in rows place seat to sections))
+  sections_open n place opened seat to sections =
+      all_open rows.machine n (rows_in rows place seat to sections)
+      (sections_each (IsOpenRow n) (λ s. Unit {0}) rows place seat to (λ s h. rows_open n place opened seat to s.name s.content) sections (λ i d within. tt))
 
 -- ---- the rows of a bundle
 
@@ -1005,10 +1009,11 @@ unfolding mode_contributions
 mode_open rows n before m =
     let s = mode_settings m.sections in
     let seat = seat_of Mode before m.sections in
-    let rest = given_by rows.machine (rows_in rows Mode seat m.sections) in
+    let to = destination_of Mode before m.sections in
+    let rest = given_by rows.machine (rows_in rows Mode seat to m.sections) in
     let first = row_facts rows.machine (λ e. Unit {0}) any_name n (of_mode m.name s) in
     let some : 1 ≤ suc n = omega arith in
-    (tt, AreOpened-append (later_events m.name ++ controls s) rest 1 (suc n) some (first.modes tt).1 (sections_open rows 1 Mode (omega arith) seat m.sections))
+    (tt, AreOpened-append (later_events m.name ++ controls s) rest 1 (suc n) some (first.modes tt).1 (sections_open rows 1 Mode (omega arith) seat to m.sections))
 
 modes_open : (rows : Rows) (n before : ℕ) (ms : List ModeRows) → AreOpened n (given_by rows.machine (modes_rows rows before ms))
 modes_open rows n before [] = tt
@@ -1022,8 +1027,9 @@ modes_open rows n before (m ∷ ms) =
 pub rows_are_open : (rows : Rows) → AreOpened 0 (contributions_of rows)
 rows_are_open rows =
     let seat = seat_of Machine 0 rows.machine in
-    let first = rows_in rows Machine seat rows.machine in
+    let to = destination_of Machine 0 rows.machine in
+    let first = rows_in rows Machine seat to rows.machine in
     let after = rows_after_text Machine 0 rows.machine in
     let rest = modes_rows rows after rows.modes in
     subst (AreOpened 0) (sym (flat_map-append (row_contributions rows.machine) first rest))
-    (AreOpened-append (given_by rows.machine first) (given_by rows.machine rest) 0 0 (omega arith) (sections_open rows 0 Machine tt seat rows.machine) (modes_open rows 0 after rows.modes))
+    (AreOpened-append (given_by rows.machine first) (given_by rows.machine rest) 0 0 (omega arith) (sections_open rows 0 Machine tt seat to rows.machine) (modes_open rows 0 after rows.modes))

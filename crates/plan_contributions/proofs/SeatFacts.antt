@@ -37,7 +37,7 @@ row_given _ = []
 pub silent : IsSilent row_given
 silent = record {
   given = λ n. refl;
-  read = λ kind. refl;
+  read = λ kind confirms. refl;
   on = λ n. refl;
   off = λ n. refl;
   modes = λ n priority game. refl;
@@ -121,7 +121,7 @@ module _ (machine : List SectionRows) where
 -- ---- as many as are counted
 
 -- where those shots have seats that groups list
-module _ (rows : Rows) (place : Place) (grouped : List ℕ → Bool) (seat : List ℕ → Option Seat) (same : (name : List ℕ) → is_some (seat name) ≡ grouped name) where
+module _ (rows : Rows) (place : Place) (grouped : List ℕ → Bool) (seat : List ℕ → Option Seat) (to : List ℕ → Destination) (same : (name : List ℕ) → is_some (seat name) ≡ grouped name) where
   -- a shot has a row where it has no seat
   shot_count : (e : Entry) → length (told row_given silent rows.machine (shot_row rows place seat (shot_of e))) ≡ one_if (not (grouped e.name.text))
   unfolding shot_of
@@ -131,7 +131,7 @@ module _ (rows : Rows) (place : Place) (grouped : List ℕ → Bool) (seat : Lis
       by None is = ap (λ b. one_if (not b)) is
       by (Some s) is = ap (λ b. one_if (not b)) is
 
-  entry_count : (section : List ℕ) (e : Entry) → length (told row_given silent rows.machine (entry_row rows place seat section e)) ≡ one_if (has_row place grouped (section, e))
+  entry_count : (section : List ℕ) (e : Entry) → length (told row_given silent rows.machine (entry_row rows place seat to section e)) ≡ one_if (has_row place grouped (section, e))
   entry_count section e = by (bytes_eq section shots_name) (bytes_eq section shot_groups_name) refl
     where
       by : (s g : Bool) → bytes_eq section shot_groups_name ≡ g → length (told row_given silent rows.machine (if s then shot_row rows place seat (shot_of e) else (if g then group_row rows place seat (shot_group_of e) else entry place section e)))
@@ -148,11 +148,11 @@ module _ (rows : Rows) (place : Place) (grouped : List ℕ → Bool) (seat : Lis
   one_more n k true m is = omega (arith, is)
   one_more n k false m is = omega (arith, is)
 
-  entries_count : (section : List ℕ) (n : ℕ) (es : List Entry) → n + length (given (map (entry_row rows place seat section) es)) ≡ rows_after_all place grouped n (map (λ e. (section, e)) es)
+  entries_count : (section : List ℕ) (n : ℕ) (es : List Entry) → n + length (given (map (entry_row rows place seat to section) es)) ≡ rows_after_all place grouped n (map (λ e. (section, e)) es)
   entries_count section n [] = omega arith
   entries_count section n (e ∷ es) =
-      let here = told row_given silent rows.machine (entry_row rows place seat section e) in
-      let rest = given (map (entry_row rows place seat section) es) in
+      let here = told row_given silent rows.machine (entry_row rows place seat to section e) in
+      let rest = given (map (entry_row rows place seat to section) es) in
       ap (λ k. n + k) (length-append here rest)
       ∙ one_more n (length here) (has_row place grouped (section, e)) (length rest) (entry_count section e)
       ∙ entries_count section (rows_after place grouped n (section, e)) es
@@ -161,7 +161,7 @@ module _ (rows : Rows) (place : Place) (grouped : List ℕ → Bool) (seat : Lis
   players_give name [] = refl
   players_give name (p ∷ ps) = players_give name ps
 
-  content_count : (name : List ℕ) (content : Content) (n : ℕ) → n + length (given (rows_from rows place seat name content)) ≡ rows_after_all place grouped n (section_entries (record { name = name; content = content }))
+  content_count : (name : List ℕ) (content : Content) (n : ℕ) → n + length (given (rows_from rows place seat to name content)) ≡ rows_after_all place grouped n (section_entries (record { name = name; content = content }))
   content_count name (entries es) n = entries_count name n es
   content_count name (players ps) n = ap (λ l. n + length l) (players_give name ps) ∙ none n
     where
@@ -170,11 +170,11 @@ module _ (rows : Rows) (place : Place) (grouped : List ℕ → Bool) (seat : Lis
   content_count name (sections.entry e) n = omega arith
   content_count name (sections.listed ws) n = omega arith
 
-  text_count : (ss : List SectionRows) (n : ℕ) → n + length (given (rows_in rows place seat ss)) ≡ rows_after_all place grouped n (text_entries ss)
+  text_count : (ss : List SectionRows) (n : ℕ) → n + length (given (rows_in rows place seat to ss)) ≡ rows_after_all place grouped n (text_entries ss)
   text_count [] n = omega arith
   text_count (s ∷ ss) n =
-      let here = rows_from rows place seat s.name s.content in
-      let rest = rows_in rows place seat ss in
+      let here = rows_from rows place seat to s.name s.content in
+      let rest = rows_in rows place seat to ss in
       let first = content_count s.name s.content n in
       let all : n + length (given (here ++ rest)) ≡ (n + length (given here)) + length (given rest) =
       ap (λ (l : List Place). n + length l) (flat_map-append (told row_given silent rows.machine) here rest) ∙ split n (given here) (given rest) in

@@ -49,12 +49,17 @@ abbrev pub eject_pulse : List SectionRows → Option Written → List Effect
 eject_pulse machine None = []
 eject_pulse machine (Some w) = works w.text (own_pulse (defaults_called machine w.text)) ∷ []
 
+-- what it does when it attempts to eject a ball
+abbrev pub attempt_effects : List SectionRows → List ℕ → Option Written → List Effect
+attempt_effects machine name coil =
+    posts (ball_event name (codes "_ball_eject_attempt")) ∷ posts (ball_event name (codes "_ejecting_ball")) ∷ eject_pulse machine coil
+
 -- What is done when a ball enters it, when it attempts to eject one, when that one leaves, and when another is lost, when
 -- the ball that it has ejected is where it should be, when one on its way is on the playfield, and when an attempt fails.
 abbrev pub ball_lists : List SectionRows → BallDevice → List (List Effect)
 ball_lists machine d =
     (enters (ball_event d.name.text (codes "_ball_enter")) (drains machine d) ∷ [])
-    ∷ (posts (ball_event d.name.text (codes "_ball_eject_attempt")) ∷ posts (ball_event d.name.text (codes "_ejecting_ball")) ∷ eject_pulse machine d.eject_coil)
+    ∷ attempt_effects machine d.name.text d.eject_coil
     ∷ (leaves ∷ [])
     ∷ (loses ∷ [])
     ∷ (posts (ball_event d.name.text (codes "_ball_eject_success")) ∷ [])
@@ -62,10 +67,9 @@ ball_lists machine d =
     ∷ (posts (ball_event d.name.text (codes "_ball_eject_failed")) ∷ [])
     ∷ []
 
--- the events of its first list, in their order: that a ball has entered, and where it drains, that it has drained
-abbrev pub ball_mentions : List SectionRows → BallDevice → List (List ℕ)
-ball_mentions machine d =
-    ball_event d.name.text (codes "_ball_enter") ∷ (if drains machine d then codes "ball_drain" ∷ [] else [])
+-- the events of its first list, in their order: that a ball has entered, and where it may have drained, that it has
+abbrev pub entry_mentions : List ℕ → Bool → List (List ℕ)
+entry_mentions name drain = ball_event name (codes "_ball_enter") ∷ (if drain then codes "ball_drain" ∷ [] else [])
 
 -- ---- settings
 
@@ -103,7 +107,7 @@ ball_device_from machine d to = record {
   settings = ball_settings d to;
   listens = texts d.switches;
   handled = [];
-  mentioned = ball_mentions machine d;
+  mentioned = entry_mentions d.name.text (drains machine d);
   lists = ball_lists machine d;
 }
 

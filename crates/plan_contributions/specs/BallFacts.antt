@@ -8,6 +8,7 @@ use Rattle.plan_rows.specs.declared.place.Place.{Place}
 use Rattle.plan_rows.specs.declared.place.Place.TheVariants.{Machine}
 use Rattle.plan_tables.specs.declared.devices.Settings.{Settings}
 use Rattle.plan_tables.specs.declared.devices.Settings.TheVariants.{BallDevice}
+use Rattle.plan_tables.specs.Valid.{IsTargetThere}
 use Rattle.plan_contributions.specs.DeviceEntries.{Effect, posts, works, changes, enters, leaves, loses, arrives}
 use Rattle.plan_contributions.specs.Contributions.{Contribution, binds, does, device, does_in, listens, plays}
 
@@ -117,6 +118,15 @@ settings_given _ = []
 -- the settings of the rows, in turn
 abbrev pub row_settings : List Contribution → List Settings
 row_settings cs = flat_map settings_given cs
+
+-- where a ball device ejects its balls to is one of these rows, or the playfield
+abbrev pub IsTargetAmong : List Settings → Settings → Type 0
+IsTargetAmong rows (BallDevice d) = IsTargetThere (length rows) d.target
+IsTargetAmong rows _ = Unit {0}
+
+abbrev pub HasTarget : List Settings → Contribution → Type 0
+HasTarget rows (device place settings) = IsTargetAmong rows settings
+HasTarget rows _ = Unit {0}
 
 -- what acts on a row by its number acts on no ball device
 abbrev pub IsOffBalls : List Settings → Contribution → Type 0

@@ -98,9 +98,9 @@ contact_of written.NormallyClosed = NormallyClosed
 abbrev pub kind_of : List SectionRows → Switch → SwitchKind
 kind_of machine s = record { contact = contact_of s.contact; quick = is_quick machine s.name.text s.debounce }
 
--- whether a ball that presses a switch is on the playfield
-abbrev pub confirms : Switch → Bool
-confirms s = list_any (λ t. bytes_eq t.text (codes "playfield_active")) s.tags
+-- whether a ball that presses a switch with these tags is on the playfield
+abbrev pub confirms : List Written → Bool
+confirms tags = list_any (λ t. bytes_eq t.text (codes "playfield_active")) tags
 
 -- the event of a tag
 abbrev pub tag_event : Written → List ℕ
@@ -118,7 +118,7 @@ inactive_posts s = (s.name.text ++ codes "_inactive") ∷ texts s.deactivated
 -- a switch, with what it posts, whatever the order of its settings: first when it becomes active
 unfoldable pub switch_contributions : List SectionRows → Switch → List Contribution
 switch_contributions machine s =
-    gives Switches s.name.text ∷ reads (kind_of machine s) (confirms s) ∷ map active (active_posts s) ++ map inactive (inactive_posts s)
+    gives Switches s.name.text ∷ reads (kind_of machine s) (confirms s.tags) ∷ map active (active_posts s) ++ map inactive (inactive_posts s)
 
 -- ---- event_player
 

@@ -1,5 +1,5 @@
 -- What holds of the contributions of rows.
-use Rattle.std.specs.Prelude.{◌≡◌, ℕ, suc, ◌<◌, ◌≤◌, ◌==◌, if◌then◌else◌, List, [], ◌∷◌, ◌++◌, length, map, Option, None, Some, slice_get, codes}
+use Rattle.std.specs.Prelude.{◌≡◌, ℕ, suc, ◌<◌, ◌≤◌, ◌==◌, if◌then◌else◌, List, [], ◌∷◌, ◌++◌, map, Option, None, Some, slice_get, codes}
 use Rattle.std.specs.List.{All, flat_map}
 use Rattle.mpf_sections.specs.Named.{IsName}
 use Rattle.mpf_sections.specs.Rows.{SectionRows}
@@ -12,7 +12,6 @@ use Rattle.plan_rows.specs.declared.place.Place.TheVariants.{Machine, Control, M
 use Rattle.plan_tables.specs.Devices.{IsWithinLimits}
 use Rattle.plan_tables.specs.declared.devices.Settings.{Settings}
 use Rattle.plan_tables.specs.declared.devices.Settings.TheVariants.{Flipper, Autofire, BallDevice}
-use Rattle.plan_tables.specs.Valid.{IsTargetThere}
 use Rattle.plan_tables.specs.declared.entries.CoilLimits.{CoilLimits}
 use Rattle.plan_tables.specs.declared.entries.ModeEvent.{ModeEvent}
 use Rattle.plan_contributions.specs.DeviceEntries.{Deed, pulse, enable, disable, Effect, posts, works, changes, enters, leaves, loses, arrives, block_event, block_endings, timer_event, timer_endings}
@@ -177,14 +176,8 @@ abbrev pub IsAimedAt : List (Place × ℕ) → ℕ → Place → Aim → Type 0
 IsAimedAt rows n place (On r act) = slice_get rows r ≡ Some (place, n)
 IsAimedAt rows n place _ = Unit {0}
 
--- and where a ball device ejects its balls to is one of these rows, or the playfield
-abbrev pub IsTargetAt : List (Place × ℕ) → Settings → Type 0
-IsTargetAt rows (BallDevice d) = IsTargetThere (length rows) d.target
-IsTargetAt rows _ = Unit {0}
-
 abbrev pub IsAimed : List (Place × ℕ) → ℕ → Contribution → Type 0
 IsAimed rows n (binds e place aim) = IsAimedAt rows n place aim
-IsAimed rows n (device place settings) = IsTargetAt rows settings
 IsAimed rows n _ = Unit {0}
 
 abbrev pub AreAimed : List (Place × ℕ) → ℕ → List Contribution → Type 0

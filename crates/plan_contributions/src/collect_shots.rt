@@ -67,7 +67,10 @@ pub(crate) fn collect_group<'a>(
 }
 
 /// Something is unknown, unless all is known.
-fn collect_unknown(contributions: &mut Vec<Contribution<'_>>, known: bool) -> Result<(), AllocError>
+pub(crate) fn collect_unknown(
+    contributions: &mut Vec<Contribution<'_>>,
+    known: bool,
+) -> Result<(), AllocError>
     ensures { OnOk result (contributions_view contributions.new.items ≡ contributions_view contributions.old.items ++ unknown_unless known) }
 {
     if !known {
@@ -326,7 +329,7 @@ fn collect_group_list<'a>(
 }
 
 /// An effect list of the row posts the event.
-fn collect_post<'a>(
+pub(crate) fn collect_post<'a>(
     contributions: &mut Vec<Contribution<'a>>,
     number: u16,
     event: Parts<'a>,

@@ -6,6 +6,7 @@
 #![tactic(auto)]
 
 pub mod collect;
+mod collect_balls;
 mod collect_bound;
 mod collect_coils;
 mod collect_devices;
